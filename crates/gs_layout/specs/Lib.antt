@@ -1,0 +1,12 @@
+pub mod Name
+pub mod NameHeld
+pub mod Message
+pub mod Class
+pub mod Kind
+pub mod Spelling
+pub mod Header
+pub mod Pad
+pub mod Reading
+pub mod ParcelHeld
+pub mod Record
+pub mod View

@@ -1,0 +1,206 @@
+//! A message as bytes.
+
+ghost use Rattle.std.specs.Prelude.{◌≡◌, ◌+◌, ◌≤◌, ◌++◌, length, drop};
+ghost use Rattle.gs_layout.specs.Message.{tseq_of};
+ghost use Rattle.gs_layout.specs.Header.{numbered};
+ghost use Rattle.gs_layout.specs.Spelling.{cpu_of, facts_bytes, flags_of, header_of, kind_of, more_of, name_bytes, round_up, size_of, spelling, tid_of};
+
+use crate::facts::Facts;
+use crate::kind::Kind;
+use crate::message::{Change, Message};
+use byteorder::{ByteOrder, LittleEndian};
+
+/// How many bytes the header has.
+const HEADER: usize = 16;
+
+/// Stands for no CPU.
+const NO_CPU: u16 = 65_535;
+
+/// The numbers of a message's first 16 bytes.
+#[derive(Clone, Copy)]
+struct Header {
+    len: u16,
+    kind: u16,
+    tid: u32,
+    tseq: u32,
+    cpu: u16,
+    flags: u16,
+}
+
+/// How many bytes stand before a creation's name.
+const FACTS: usize = 26;
+
+/// How many bytes a creation has whose name has this many: 32, 40 or 48.
+pub fn creation_len(name_len: usize) -> usize
+    requires { name_len ≤ 16 }
+    ensures { result ≡ round_up (26 + name_len) }
+{
+    (FACTS + name_len + 7) / 8 * 8
+}
+
+fn tid(message: &Message) -> u32
+    ensures { result ≡ tid_of message.now }
+{
+    match message {
+        Message::Thread { tid, .. } => *tid,
+        Message::TimerTick { .. } => 0,
+    }
+}
+
+fn tseq(message: &Message) -> u32
+    ensures { result ≡ tseq_of message.now }
+{
+    match message {
+        Message::Thread { tseq, .. } => *tseq,
+        Message::TimerTick { .. } => 0,
+    }
+}
+
+fn kind(message: &Message) -> Kind
+    ensures { result ≡ kind_of message.now }
+{
+    match message {
+        Message::TimerTick { .. } => Kind::TimerTick,
+        Message::Thread { change, .. } => match change {
+            Change::Created { .. } => Kind::Created,
+            Change::Blocked { .. } => Kind::Blocked,
+            Change::Wakeup => Kind::Wakeup,
+            Change::Preempted { .. } => Kind::Preempted,
+            Change::Yield { .. } => Kind::Yield,
+            Change::Dead { .. } => Kind::Dead,
+            Change::Affinity { .. } => Kind::Affinity,
+        },
+    }
+}
+
+fn cpu(message: &Message) -> Option<u16>
+    ensures { result ≡ cpu_of message.now }
+{
+    match message {
+        Message::TimerTick { cpu } => Some(*cpu),
+        Message::Thread { change, .. } => match change {
+            Change::Created { .. } | Change::Wakeup => None,
+            Change::Blocked { cpu } | Change::Preempted { cpu } | Change::Yield { cpu } => Some(
+                *cpu,
+            ),
+            Change::Dead { cpu } | Change::Affinity { cpu, .. } => *cpu,
+        },
+    }
+}
+
+fn flags(message: &Message) -> u16
+    ensures { result ≡ flags_of message.now }
+{
+    match message {
+        Message::Thread {
+            change: Change::Created { facts },
+            ..
+        } => u16::from(facts.runnable),
+        Message::Thread {
+            change: Change::Affinity { off, .. },
+            ..
+        } => u16::from(*off),
+        _ => 0,
+    }
+}
+
+fn size(message: &Message) -> u16
+    ensures { result ≡ size_of message.now }
+{
+    match message {
+        Message::Thread {
+            change: Change::Created { facts },
+            ..
+        } => creation_len(facts.name.as_bytes().len()) as u16,
+        Message::Thread {
+            change: Change::Affinity { .. },
+            ..
+        } => 24,
+        _ => 16,
+    }
+}
+
+/// How many bytes the message has: 16 to 48, a multiple of 8.
+#[tactic(auto, using(crate::proofs::Spelled::spelled_length))]
+pub fn message_len(message: &Message) -> usize
+    ensures { result ≡ length (spelling message.now) }
+{
+    size(message) as usize
+}
+
+fn header_of(message: &Message) -> Header
+    ensures { numbered result ≡ header_of message.now }
+{
+    Header {
+        len: size(message),
+        kind: kind(message).number(),
+        tid: tid(message),
+        tseq: tseq(message),
+        cpu: cpu(message).unwrap_or(NO_CPU),
+        flags: flags(message),
+    }
+}
+
+/// Writes the first 16 bytes of a message.
+fn write_header(header: &Header, out: &mut [u8])
+    requires { 16 ≤ length out.old }
+    ensures { out.new ≡ numbered header.now ++ drop 16 out.old }
+{
+    LittleEndian::write_u16(out, header.len);
+    LittleEndian::write_u16(&mut out[2..], header.kind);
+    LittleEndian::write_u32(&mut out[4..], header.tid);
+    LittleEndian::write_u32(&mut out[8..], header.tseq);
+    LittleEndian::write_u16(&mut out[12..], header.cpu);
+    LittleEndian::write_u16(&mut out[14..], header.flags);
+}
+
+/// Writes a name and the zeros behind it.
+fn write_name(name: &[u8], out: &mut [u8])
+    requires short { length name.now ≤ 16 }
+    requires room { length (name_bytes name.now) ≤ length out.old }
+    ensures { out.new ≡ name_bytes name.now ++ drop (length (name_bytes name.now)) out.old }
+{
+    let end = creation_len(name.len()) - FACTS;
+    out[..name.len()].copy_from_slice(name);
+    out[name.len()..end].fill(0);
+}
+
+fn write_facts(facts: &Facts, out: &mut [u8])
+    requires { length (facts_bytes facts.now) ≤ length out.old }
+    ensures { out.new ≡ facts_bytes facts.now ++ drop (length (facts_bytes facts.now)) out.old }
+{
+    let name = facts.name.as_bytes();
+    LittleEndian::write_u64(out, facts.mask);
+    out[8..10].copy_from_slice(&[facts.class.number(), name.len() as u8]);
+    write_name(name, &mut out[10..]);
+}
+
+/// Writes the bytes behind the header.
+fn write_more(message: &Message, out: &mut [u8])
+    requires { length (more_of message.now) ≤ length out.old }
+    ensures { out.new ≡ more_of message.now ++ drop (length (more_of message.now)) out.old }
+{
+    match message {
+        Message::Thread {
+            change: Change::Created { facts },
+            ..
+        } => write_facts(facts, out),
+        Message::Thread {
+            change: Change::Affinity { mask, .. },
+            ..
+        } => LittleEndian::write_u64(out, *mask),
+        _ => {}
+    }
+}
+
+/// Writes the message at the front of `out` and leaves the rest as it was. It answers how many bytes
+/// it wrote, which is [`message_len`] of the message.
+pub fn encode_message(message: &Message, out: &mut [u8]) -> usize
+    requires { length (spelling message.now) ≤ length out.old }
+    ensures count { result ≡ length (spelling message.now) }
+    ensures written { out.new ≡ spelling message.now ++ drop (length (spelling message.now)) out.old }
+{
+    write_header(&header_of(message), out);
+    write_more(message, &mut out[HEADER..]);
+    message_len(message)
+}

@@ -1,0 +1,175 @@
+//! The fields of a message, read where they stand in its bytes.
+
+ghost use Rattle.std.specs.Prelude.{◌≡◌, ◌+◌, ◌<◌, ◌≤◌, length, option_copied, true, slice_index};
+ghost use Rattle.gs_layout.specs.declared.message.Message.{Message};
+ghost use Rattle.gs_layout.specs.declared.kind.Kind.TheVariants as kinds;
+ghost use Rattle.gs_layout.specs.Message.{tseq_of};
+ghost use Rattle.gs_layout.specs.Name.{is_name};
+ghost use Rattle.gs_layout.specs.Reading.{Begins, IsMessage, change_with, class_numbered, cpu_numbered, facts_in, least, name_in};
+ghost use Rattle.gs_layout.specs.Spelling.{class_of, cpu_of, flags_of, kind_of, mask_of, name_of, tid_of};
+
+use crate::facts::{Class, Facts};
+use crate::kind::Kind;
+use crate::message::{Change, Message};
+use crate::name::Name;
+use crate::number::{u16_at, u32_at, u64_at};
+
+fn cpu_numbered(number: u16) -> Option<u16>
+    ensures { result ≡ cpu_numbered number }
+{
+    match number {
+        65_535 => None,
+        cpu => Some(cpu),
+    }
+}
+
+/// The kind of the message that the bytes begin with.
+pub fn kind_of(bytes: &[u8]) -> Kind
+    requires { IsMessage bytes.now }
+    ensures { (m : Message) → Begins bytes.now m → result ≡ kind_of m }
+{
+    Kind::numbered(u16_at(bytes, 2)).unwrap()
+}
+
+/// The thread that the message is about, 0 for a tick.
+pub fn tid_of(bytes: &[u8]) -> u32
+    requires { IsMessage bytes.now }
+    ensures { (m : Message) → Begins bytes.now m → result ≡ tid_of m }
+{
+    u32_at(bytes, 4)
+}
+
+/// The message's sequence number, 0 for a tick.
+pub fn tseq_of(bytes: &[u8]) -> u32
+    requires { IsMessage bytes.now }
+    ensures { (m : Message) → Begins bytes.now m → result ≡ tseq_of m }
+{
+    u32_at(bytes, 8)
+}
+
+/// The CPU that the thread was on just before, or the CPU of a tick.
+pub fn cpu_of(bytes: &[u8]) -> Option<u16>
+    requires { IsMessage bytes.now }
+    ensures { (m : Message) → Begins bytes.now m → result ≡ cpu_of m }
+{
+    cpu_numbered(u16_at(bytes, 12))
+}
+
+/// The message's flags: bit 0 of a creation says that the thread is runnable, of a new mask that the
+/// thread was taken off its CPU. All else is 0.
+pub fn flags_of(bytes: &[u8]) -> u16
+    requires { IsMessage bytes.now }
+    ensures { (m : Message) → Begins bytes.now m → result ≡ flags_of m }
+{
+    u16_at(bytes, 14)
+}
+
+/// The mask of a creation or of a new mask.
+pub fn mask_of(bytes: &[u8]) -> Option<u64>
+    requires { IsMessage bytes.now }
+    ensures { (m : Message) → Begins bytes.now m → result ≡ mask_of m }
+{
+    match kind_of(bytes) {
+        Kind::Created | Kind::Affinity => Some(u64_at(bytes, 16)),
+        _ => None,
+    }
+}
+
+/// The class of a creation.
+pub fn class_of(bytes: &[u8]) -> Option<Class>
+    requires { IsMessage bytes.now }
+    ensures { (m : Message) → Begins bytes.now m → result ≡ class_of m }
+{
+    match kind_of(bytes) {
+        Kind::Created => Some(class_at(bytes)),
+        _ => None,
+    }
+}
+
+/// The name of a creation, where it stands in the bytes.
+pub fn name_of(bytes: &[u8]) -> Option<&[u8]>
+    requires { IsMessage bytes.now }
+    ensures { (m : Message) → Begins bytes.now m → option_copied result ≡ name_of m }
+{
+    match kind_of(bytes) {
+        Kind::Created => Some(name_at(bytes)),
+        _ => None,
+    }
+}
+
+fn class_at(bytes: &[u8]) -> Class
+    requires { 24 < length bytes.now }
+    ensures { result ≡ class_numbered (slice_index bytes.now 24) }
+{
+    if bytes[24] == 0 {
+        Class::Zero
+    } else {
+        Class::One
+    }
+}
+
+fn name_at(bytes: &[u8]) -> &[u8]
+    requires start { 25 < length bytes.now }
+    requires end { 26 + slice_index bytes.now 25 ≤ length bytes.now }
+    ensures { result.now ≡ name_in bytes.now }
+{
+    let len = bytes[25] as usize;
+    &bytes[26..26 + len]
+}
+
+fn facts_at(bytes: &[u8]) -> Facts
+    requires start { 26 ≤ length bytes.now }
+    requires end { 26 + slice_index bytes.now 25 ≤ length bytes.now }
+    requires name { is_name (name_in bytes.now) ≡ true }
+    ensures { result ≡ facts_in bytes.now }
+{
+    Facts {
+        runnable: u16_at(bytes, 14) == 1,
+        mask: u64_at(bytes, 16),
+        class: class_at(bytes),
+        name: Name::new(name_at(bytes)).unwrap(),
+    }
+}
+
+fn change_at(kind: Kind, bytes: &[u8]) -> Change
+    requires long { least kind ≤ length bytes.now }
+    requires end { kind ≡ kinds.Created → 26 + slice_index bytes.now 25 ≤ length bytes.now }
+    requires name { kind ≡ kinds.Created → is_name (name_in bytes.now) ≡ true }
+    ensures { result ≡ change_with kind bytes.now }
+{
+    let cpu = u16_at(bytes, 12);
+    match kind {
+        Kind::Created => Change::Created {
+            facts: facts_at(bytes),
+        },
+        Kind::Blocked => Change::Blocked { cpu },
+        Kind::Preempted => Change::Preempted { cpu },
+        Kind::Yield => Change::Yield { cpu },
+        Kind::Dead => Change::Dead {
+            cpu: cpu_numbered(cpu),
+        },
+        Kind::Affinity => Change::Affinity {
+            cpu: cpu_numbered(cpu),
+            off: u16_at(bytes, 14) == 1,
+            mask: u64_at(bytes, 16),
+        },
+        Kind::Wakeup | Kind::TimerTick => Change::Wakeup,
+    }
+}
+
+/// The message that the bytes begin with.
+pub fn message_of(bytes: &[u8]) -> Message
+    requires { IsMessage bytes.now }
+    ensures { (m : Message) → Begins bytes.now m → result ≡ m }
+{
+    match kind_of(bytes) {
+        Kind::TimerTick => Message::TimerTick {
+            cpu: u16_at(bytes, 12),
+        },
+        kind => Message::Thread {
+            tid: u32_at(bytes, 4),
+            tseq: u32_at(bytes, 8),
+            change: change_at(kind, bytes),
+        },
+    }
+}

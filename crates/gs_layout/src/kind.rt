@@ -1,0 +1,42 @@
+ghost use Rattle.std.specs.Prelude.{◌≡◌};
+
+/// The kinds of message. The layout numbers them from 1 to 8, in this order.
+#[derive(Clone, Copy, PartialEq, Eq, Debug)]
+pub enum Kind {
+    Created,
+    Blocked,
+    Wakeup,
+    Preempted,
+    Yield,
+    Dead,
+    Affinity,
+    TimerTick,
+}
+
+impl Kind {
+    ghost use Rattle.gs_layout.specs.Kind.{number};
+    ghost use Rattle.gs_layout.specs.Reading.{kind_numbered};
+
+    /// The kind's number in the layout.
+    pub fn number(self) -> u16
+        ensures { result ≡ number self }
+    {
+        self as u16 + 1
+    }
+    /// The kind of this number, or `None` where it is not from 1 to 8.
+    pub fn numbered(number: u16) -> Option<Kind>
+        ensures { result ≡ kind_numbered number }
+    {
+        match number {
+            1 => Some(Kind::Created),
+            2 => Some(Kind::Blocked),
+            3 => Some(Kind::Wakeup),
+            4 => Some(Kind::Preempted),
+            5 => Some(Kind::Yield),
+            6 => Some(Kind::Dead),
+            7 => Some(Kind::Affinity),
+            8 => Some(Kind::TimerTick),
+            _ => None,
+        }
+    }
+}

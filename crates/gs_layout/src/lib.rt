@@ -1,0 +1,37 @@
+//! The words that every part of the enclave speaks: threads' facts, messages, slots, refusals and
+//! outcomes, with the bytes of a message.
+#![tactic(auto)]
+
+mod encode;
+mod facts;
+mod fields;
+mod kind;
+mod known;
+mod law;
+mod message;
+mod name;
+mod number;
+mod outcome;
+mod parcel;
+mod record;
+mod refusal;
+mod slot;
+#[cfg(test)]
+mod tests;
+
+pub use encode::{creation_len, encode_message, message_len};
+pub use facts::{Class, Facts};
+pub use fields::{
+    class_of, cpu_of, flags_of, kind_of, mask_of, message_of, name_of, tid_of, tseq_of,
+};
+pub use kind::Kind;
+pub use known::{Known, Word};
+pub use law::one_spelling;
+pub use message::{Change, Message};
+pub use name::Name;
+pub use number::{u16_at, u32_at, u64_at};
+pub use outcome::Outcome;
+pub use parcel::Parcel;
+pub use record::Record;
+pub use refusal::Refusal;
+pub use slot::Slot;

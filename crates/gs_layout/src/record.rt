@@ -1,0 +1,64 @@
+ghost use Rattle.std.specs.Prelude.{◌≡◌};
+ghost use Rattle.gs_layout.specs.Record.{after, begun, changed};
+
+use crate::facts::Facts;
+use crate::message::{Change, Message};
+
+/// What a thread is: it never was, it is dead, or it lives.
+#[derive(Clone, Copy)]
+pub enum Record {
+    Absent,
+    Dead,
+    Live { facts: Facts },
+}
+
+impl Record {
+    /// The record after one more message about the thread. A timer tick leaves it.
+    pub fn after(self, message: &Message) -> Record
+        ensures { result ≡ after self message.now }
+    {
+        let Message::Thread { change, .. } = message else {
+            return self;
+        };
+        match self {
+            Record::Live { facts } => changed(facts, change),
+            Record::Dead => Record::Dead,
+            Record::Absent => begun(change),
+        }
+    }
+}
+
+/// What a change makes of a live thread.
+fn changed(facts: Facts, change: &Change) -> Record
+    ensures { result ≡ changed facts change.now }
+{
+    let facts = match change {
+        Change::Created { facts: fresh } => *fresh,
+        Change::Blocked { .. } => Facts {
+            runnable: false,
+            ..facts
+        },
+        Change::Wakeup => Facts {
+            runnable: true,
+            ..facts
+        },
+        Change::Preempted { .. } | Change::Yield { .. } => facts,
+        Change::Dead { .. } => return Record::Dead,
+        Change::Affinity { mask, .. } => Facts {
+            mask: *mask,
+            ..facts
+        },
+    };
+    Record::Live { facts }
+}
+
+/// What a change makes of a thread that never was.
+fn begun(change: &Change) -> Record
+    ensures { result ≡ begun change.now }
+{
+    match change {
+        Change::Created { facts } => Record::Live { facts: *facts },
+        Change::Dead { .. } => Record::Dead,
+        _ => Record::Absent,
+    }
+}

@@ -1,0 +1,9 @@
+pub mod Ranges
+pub mod Sound
+pub mod Front
+pub mod Again
+pub mod Pads
+pub mod Exact
+pub mod Refs
+pub mod Segments
+pub mod Rows

@@ -1,0 +1,109 @@
+-- What the tests of a message's fields say.
+use Rattle.std.proofs.Common.{◌≡◌, true, false, cond, ℕ, zero, suc, ◌^◌, ◌<◌, Option, None, Some, List, [], ◌∷◌, length, replicate, refl, ap, sym, subst, ◌∙◌, inl, inr, arith}
+use Rattle.std.specs.Prelude.{◌==◌, ◌&&◌, ◌||◌, not, nat_le, nat_lt, if◌then◌else◌, unwrap_or}
+use Rattle.std.specs.List.{list_all}
+use Rattle.std.proofs.lemmas.Bool.{and_from, and_parts, cases_Bool, cond-false, cond-true, eqb-true, leb-true, ltb-true, or_cases}
+use Rattle.std.proofs.lemmas.Bool.Decides.{nat_tests}
+use Rattle.gs_layout.specs.declared.kind.Kind.{Kind}
+use Rattle.gs_layout.specs.declared.kind.Kind.TheVariants as kinds
+use Rattle.gs_layout.specs.declared.message.Change.TheVariants.{Affinity}
+use Rattle.gs_layout.specs.Kind.{number}
+use Rattle.gs_layout.specs.Reading.{cpu_numbered, kind_numbered, number_at}
+use Rattle.gs_layout.specs.Spelling.{IsCpuOrNone, IsMask, IsNumbered, IsSpellableChange, cpu_number}
+use Rattle.gs_reader.specs.Reading.{cpu_fits, fields_fit, flags_fit, more_fits, numbers_fit}
+
+-- the four tests of a message
+pub record Fit (k : Kind) (text : List ℕ) : Type 0 where
+  pub numbers : numbers_fit k (number_at 4 4 text) (number_at 8 4 text) ≡ true
+  pub cpu : cpu_fits k (number_at 12 2 text) ≡ true
+  pub flags : flags_fit k (number_at 12 2 text) (number_at 14 2 text) ≡ true
+  pub more : more_fits k text ≡ true
+
+pub fit_parts : (k : Kind) (text : List ℕ) → fields_fit k text ≡ true → Fit k text
+fit_parts k text e =
+    let n = numbers_fit k (number_at 4 4 text) (number_at 8 4 text) in
+    let c = cpu_fits k (number_at 12 2 text) in
+    let f = flags_fit k (number_at 12 2 text) (number_at 14 2 text) in
+    let a = and_parts (n && c && f) (more_fits k text) e in
+    let b = and_parts (n && c) f a.0 in
+    let d = and_parts n c b.0 in
+    record { numbers = d.0; cpu = d.1; flags = b.1; more = a.1 }
+
+pub fit_from : (k : Kind) (text : List ℕ) → Fit k text → fields_fit k text ≡ true
+fit_from k text h =
+    let n = numbers_fit k (number_at 4 4 text) (number_at 8 4 text) in
+    let c = cpu_fits k (number_at 12 2 text) in
+    let f = flags_fit k (number_at 12 2 text) (number_at 14 2 text) in
+    and_from (n && c && f) (more_fits k text) (and_from (n && c) f (and_from n c h.numbers h.cpu) h.flags) h.more
+
+pub numbered_from : (t s : ℕ) → (nat_le 1 t && nat_le t 65536 && nat_le 1 s) ≡ true → s < 2 ^ 32 → IsNumbered t s
+numbered_from t s e high =
+    let a = and_parts (nat_le 1 t && nat_le t 65536) (nat_le 1 s) e in
+    let b = and_parts (nat_le 1 t) (nat_le t 65536) a.0 in
+    record { tid_low = leb-true 1 t b.0; tid_high = leb-true t 65536 b.1; tseq_low = leb-true 1 s a.1; tseq_high = high }
+
+chain : (n c : ℕ) (x k : Kind) (rest : Option Kind) → number x ≡ c → cond (n == c) (Some x) rest ≡ Some k → (rest ≡ Some k → n ≡ number k) → n ≡ number k
+chain n c x k rest is e more = elim (cases_Bool (n == c)) [
+  | inl same ↦ eqb-true n c same ∙ sym is ∙ ap (λ (o : Option Kind). number (unwrap_or o kinds.TimerTick)) (sym (cond-true (n == c) (Some x) rest same) ∙ e)
+  | inr other ↦ more (sym (cond-false (n == c) (Some x) rest other) ∙ e)
+]
+
+-- the number of a kind that a number stands for is that number
+pub numbered_is : (n : ℕ) (k : Kind) → kind_numbered n ≡ Some k → n ≡ number k
+numbered_is n k e =
+    chain n 1 kinds.Created k _ refl e (λ e. chain n 2 kinds.Blocked k _ refl e (λ e. chain n 3 kinds.Wakeup k _ refl e (λ e. chain n 4 kinds.Preempted k _ refl e (λ e. chain n 5 kinds.Yield k _ refl e (λ e. chain n 6 kinds.Dead k _ refl e (λ e. chain n 7 kinds.Affinity k _ refl e (λ e. chain n 8 kinds.TimerTick k _ refl e (λ e. absurd cc))))))))
+
+pub cpu_again : (n : ℕ) → cpu_number (cpu_numbered n) ≡ n
+cpu_again n = elim (cases_Bool (n == 65535)) [
+  | inl same ↦ ap cpu_number (cond-true (n == 65535) None (Some n) same) ∙ sym (eqb-true n 65535 same)
+  | inr other ↦ ap cpu_number (cond-false (n == 65535) None (Some n) other)
+]
+
+below : (n : ℕ) → (nat_lt n 64 || n == 65535) ≡ true → (n == 65535) ≡ false → n < 64
+below n e other = elim (or_cases (nat_lt n 64) (n == 65535) e) [
+  | inl lt ↦ ltb-true n 64 lt
+  | inr same ↦ absurd cc
+]
+
+pub cpu_or_none : (n : ℕ) → (nat_lt n 64 || n == 65535) ≡ true → IsCpuOrNone (cpu_numbered n)
+cpu_or_none n e = elim (cases_Bool (n == 65535)) [
+  | inl same ↦ subst IsCpuOrNone (sym (cond-true (n == 65535) None (Some n) same)) tt
+  | inr other ↦ subst IsCpuOrNone (sym (cond-false (n == 65535) None (Some n) other)) (below n e other)
+]
+
+-- a flag is 0 or 1
+pub flag_again : (f : ℕ) → f < 2 → (if f == 1 then 1 else 0) ≡ f
+flag_again f lt = elim (cases_Bool (f == 1)) [
+  | inl same ↦ cond-true (f == 1) 1 0 same ∙ sym (eqb-true f 1 same)
+  | inr other ↦ cond-false (f == 1) 1 0 other ∙ grind (arith, nat_tests)
+]
+
+-- the flag of a new mask
+pub flag_low : (n f : ℕ) → (f == 0 || (f == 1 && not (n == 65535))) ≡ true → f < 2
+flag_low n f e = elim (or_cases (f == 0) (f == 1 && not (n == 65535)) e) [
+  | inl none ↦ let z = eqb-true f 0 none in omega (arith, z)
+  | inr one ↦ let z = eqb-true f 1 (and_parts (f == 1) (not (n == 65535)) one).0 in omega (arith, z)
+]
+
+flag_none : (n f : ℕ) → (f == 0 || (f == 1 && not (n == 65535))) ≡ true → (n == 65535) ≡ true → (f == 1) ≡ false
+flag_none n f e same = elim (or_cases (f == 0) (f == 1 && not (n == 65535)) e) [
+  | inl none ↦ let z = eqb-true f 0 none in ap (λ (k : ℕ). k == 1) z
+  | inr one ↦ let unset = (and_parts (f == 1) (not (n == 65535)) one).1 in absurd (let g : not true ≡ true = sym (ap not same) ∙ unset in cc)
+]
+
+pub affinity_fits : (n f m : ℕ) → (nat_lt n 64 || n == 65535) ≡ true → (f == 0 || (f == 1 && not (n == 65535))) ≡ true → IsMask m → IsSpellableChange (Affinity (cpu_numbered n) (f == 1) m)
+affinity_fits n f m cpu flags mask = elim (cases_Bool (n == 65535)) [
+  | inl same ↦ subst (λ (c : Option ℕ). IsSpellableChange (Affinity c (f == 1) m)) (sym (cond-true (n == 65535) None (Some n) same)) (mask, flag_none n f flags same)
+  | inr other ↦ subst (λ (c : Option ℕ). IsSpellableChange (Affinity c (f == 1) m)) (sym (cond-false (n == 65535) None (Some n) other)) (mask, below n cpu other)
+]
+
+-- bytes that are all zero
+pub zeros_are : (xs : List ℕ) → list_all (λ b. b == 0) xs ≡ true → xs ≡ replicate (length xs) 0
+zeros_are [] e = refl
+zeros_are (x ∷ xs) e =
+    let p = and_parts (x == 0) (list_all (λ b. b == 0) xs) e in
+    λ i. eqb-true x 0 p.0 i ∷ zeros_are xs p.1 i
+
+pub zeros_pass : (n : ℕ) → list_all (λ b. b == 0) (replicate n 0) ≡ true
+zeros_pass zero = refl
+zeros_pass (suc n) = zeros_pass n

@@ -1,0 +1,232 @@
+-- Bytes whose fields are all in range are the spelling of the message that they name.
+use Rattle.std.proofs.Common.{◌≡◌, true, false, ℕ, zero, suc, ◌+◌, ◌-◌, ◌^◌, ◌<◌, ◌≤◌, Option, Some, List, [], ◌∷◌, ◌++◌, length, drop, replicate, refl, ap, sym, subst, ◌∙◌, arith}
+use Rattle.std.specs.Prelude.{◌==◌, ◌&&◌, ◌||◌, not, nat_le, nat_lt, slice_index, unwrap_or}
+use Rattle.std.specs.List.{list_all}
+use Rattle.std.proofs.Math.Seq.{drop-cons}
+use Rattle.std.proofs.lemmas.Bool.{and_parts, eqb-true, ltb-true}
+use Rattle.std.proofs.lemmas.Bool.Decides.{nat_tests}
+use Rattle.std.proofs.lemmas.List.{drop-drop, drop_all, length-drop, length-take, take-append-drop}
+use Rattle.byteorder.specs.Endian.{little_bytes}
+use Rattle.byteorder.specs.Numbers.{little_from-lt}
+use Rattle.gs_layout.specs.declared.kind.Kind.{Kind}
+use Rattle.gs_layout.specs.declared.kind.Kind.TheVariants as kinds
+use Rattle.gs_layout.specs.declared.message.Message.{Message}
+use Rattle.gs_layout.specs.Class.{class_number}
+use Rattle.gs_layout.specs.Kind.{number}
+use Rattle.gs_layout.specs.Message.{tseq_of}
+use Rattle.gs_layout.specs.Name.{is_name}
+use Rattle.gs_layout.specs.Reading.{class_numbered, facts_in, message_in, message_with, name_in, number_at}
+use Rattle.gs_layout.specs.Spelling.{IsMask, IsNumbered, IsSpellable, cpu_number, cpu_of, facts_bytes, flags_of, header_bytes, kind_of, more_of, name_bytes, padding, round_up, size_of, spelling, tid_of}
+use Rattle.gs_layout.proofs.NumberBytes.{IsBytes, IsBytes-drop, back_2, back_4, back_8}
+use Rattle.gs_reader.specs.Fault.{has_length, kind_number_in}
+use Rattle.gs_reader.specs.Reading.{IsWhole, fields_fit, name_fits, sizes_fit}
+use Rattle.gs_reader.specs.RefHeld.{IsRef}
+use Rattle.gs_reader.proofs.Ranges.{Fit, affinity_fits, cpu_again, cpu_or_none, fit_parts, flag_again, flag_low, numbered_from, numbered_is, zeros_are}
+
+pub at_2 : (p : ℕ) (xs : List ℕ) → p + 2 ≤ length xs → IsBytes xs → little_bytes 2 (number_at p 2 xs) ++ drop (p + 2) xs ≡ drop p xs
+at_2 p xs long fits =
+    ap (λ (ys : List ℕ). little_bytes 2 (number_at p 2 xs) ++ ys) (sym (drop-drop 2 p xs)) ∙ back_2 (drop p xs) (omega (arith, length-drop p xs)) (IsBytes-drop p xs fits)
+
+at_4 : (p : ℕ) (xs : List ℕ) → p + 4 ≤ length xs → IsBytes xs → little_bytes 4 (number_at p 4 xs) ++ drop (p + 4) xs ≡ drop p xs
+at_4 p xs long fits =
+    ap (λ (ys : List ℕ). little_bytes 4 (number_at p 4 xs) ++ ys) (sym (drop-drop 4 p xs)) ∙ back_4 (drop p xs) (omega (arith, length-drop p xs)) (IsBytes-drop p xs fits)
+
+at_8 : (p : ℕ) (xs : List ℕ) → p + 8 ≤ length xs → IsBytes xs → little_bytes 8 (number_at p 8 xs) ++ drop (p + 8) xs ≡ drop p xs
+at_8 p xs long fits =
+    ap (λ (ys : List ℕ). little_bytes 8 (number_at p 8 xs) ++ ys) (sym (drop-drop 8 p xs)) ∙ back_8 (drop p xs) (omega (arith, length-drop p xs)) (IsBytes-drop p xs fits)
+
+-- the first 16 bytes are those of the numbers that stand there
+header_back : (xs : List ℕ) → 16 ≤ length xs → IsBytes xs → header_bytes (number_at 0 2 xs) (number_at 2 2 xs) (number_at 4 4 xs) (number_at 8 4 xs) (number_at 12 2 xs) (number_at 14 2 xs) ++ drop 16 xs ≡ xs
+header_back xs long fits =
+    let a = little_bytes 2 (number_at 0 2 xs) in
+    let b = little_bytes 2 (number_at 2 2 xs) in
+    let c = little_bytes 4 (number_at 4 4 xs) in
+    let d = little_bytes 4 (number_at 8 4 xs) in
+    let e = little_bytes 2 (number_at 12 2 xs) in
+    ap (λ (r : List ℕ). a ++ (b ++ (c ++ (d ++ (e ++ r))))) (at_2 14 xs (omega arith) fits)
+    ∙ ap (λ (r : List ℕ). a ++ (b ++ (c ++ (d ++ r)))) (at_2 12 xs (omega arith) fits)
+    ∙ ap (λ (r : List ℕ). a ++ (b ++ (c ++ r))) (at_4 8 xs (omega arith) fits)
+    ∙ ap (λ (r : List ℕ). a ++ (b ++ r)) (at_4 4 xs (omega arith) fits)
+    ∙ ap (λ (r : List ℕ). a ++ r) (at_2 2 xs (omega arith) fits)
+    ∙ at_2 0 xs (omega arith) fits
+
+-- the fields of a message are those that stand in the bytes
+record Agrees (m : Message) (text : List ℕ) : Type 0 where
+  len : size_of m ≡ number_at 0 2 text
+  kind : number (kind_of m) ≡ number_at 2 2 text
+  tid : tid_of m ≡ number_at 4 4 text
+  tseq : tseq_of m ≡ number_at 8 4 text
+  cpu : cpu_number (cpu_of m) ≡ number_at 12 2 text
+  flags : flags_of m ≡ number_at 14 2 text
+  more : more_of m ≡ drop 16 text
+
+spelled_by : (m : Message) (text : List ℕ) → 16 ≤ length text → IsBytes text → Agrees m text → spelling m ≡ text
+spelled_by m text long fits h = (λ i. header_bytes (h.len i) (h.kind i) (h.tid i) (h.tseq i) (h.cpu i) (h.flags i) ++ h.more i) ∙ header_back text long fits
+
+-- what is to be shown of each kind
+abbrev pub IsSound : Kind → List ℕ → Type 0
+IsSound k text = (spelling (message_with k text) ≡ text) × IsSpellable (message_with k text)
+
+sixteen : (n : ℕ) → ((16 == n) || false) ≡ true → n ≡ 16
+sixteen n e = grind (arith, nat_tests)
+
+-- the class of a creation is 0 or 1
+class_again : (b : ℕ) → b < 2 → class_number (class_numbered b) ≡ b
+class_again zero lt = refl
+class_again (suc zero) lt = refl
+class_again (suc (suc b)) lt = absurd (omega arith)
+
+name_behind : (text : List ℕ) → 26 + slice_index text 25 ≤ length text → round_up (26 + slice_index text 25) ≡ length text → length (name_in text) ≡ slice_index text 25
+    → list_all (λ b. b == 0) (drop (26 + slice_index text 25) text) ≡ true → name_bytes (name_in text) ≡ drop 26 text
+name_behind text room whole len zeros =
+    let n = slice_index text 25 in
+    let rest : drop (26 + n) text ≡ drop n (drop 26 text) = sym (drop-drop n 26 text) in
+    let count : length (drop (26 + n) text) ≡ round_up (26 + n) - (26 + n) = omega (arith, length-drop (26 + n) text, whole) in
+    let zero_bytes : padding n ≡ drop (26 + n) text = sym (zeros_are (drop (26 + n) text) zeros ∙ ap (λ (k : ℕ). replicate k 0) count) in
+    ap (λ (k : ℕ). name_in text ++ padding k) len ∙ ap (λ (ys : List ℕ). name_in text ++ ys) (zero_bytes ∙ rest) ∙ take-append-drop n (drop 26 text)
+
+facts_behind : (text : List ℕ) → IsBytes text → 26 ≤ length text → slice_index text 24 < 2 → length (name_in text) ≡ slice_index text 25 → name_bytes (name_in text) ≡ drop 26 text
+    → facts_bytes (facts_in text) ≡ drop 16 text
+facts_behind text fits long class len name =
+    let a = drop-cons text 24 0 (omega arith) in
+    let b = drop-cons text 25 0 (omega arith) in
+    (λ i. little_bytes 8 (number_at 16 8 text) ++ (class_again (slice_index text 24) class i ∷ (len i ∷ name i)))
+    ∙ ap (λ (ys : List ℕ). little_bytes 8 (number_at 16 8 text) ++ (slice_index text 24 ∷ ys)) (sym b)
+    ∙ ap (λ (ys : List ℕ). little_bytes 8 (number_at 16 8 text) ++ ys) (sym a)
+    ∙ at_8 16 text (omega arith) fits
+
+-- what is known before the fields are looked at
+record Named (k : Kind) (text : List ℕ) : Type 0 where
+  fits : IsBytes text
+  kind : number k ≡ number_at 2 2 text
+  size : number_at 0 2 text ≡ length text
+  one : has_length (number k) (length text) ≡ true
+
+named : (k : Kind) (text : List ℕ) → IsBytes text → IsWhole (Some k) text → Named k text
+named k text fits w =
+    let e : kind_number_in text ≡ number k = numbered_is (kind_number_in text) k w.kind in
+    record {
+      fits = fits;
+      kind = sym e;
+      size = w.size;
+      one = subst (λ (n : ℕ). has_length n (length text) ≡ true) e w.one;
+    }
+
+tseq_high : (text : List ℕ) → IsBytes text → number_at 8 4 text < 2 ^ 32
+tseq_high text fits = little_from-lt 0 4 (drop 8 text) (IsBytes-drop 8 text fits)
+
+numbers : (text : List ℕ) → IsBytes text → (nat_le 1 (number_at 4 4 text) && nat_le (number_at 4 4 text) 65536 && nat_le 1 (number_at 8 4 text)) ≡ true
+    → IsNumbered (number_at 4 4 text) (number_at 8 4 text)
+numbers text fits e = numbered_from (number_at 4 4 text) (number_at 8 4 text) e (tseq_high text fits)
+
+mask_is : (text : List ℕ) → IsBytes text → not (number_at 16 8 text == 0) ≡ true → IsMask (number_at 16 8 text)
+mask_is text fits e =
+    let high : number_at 16 8 text < 2 ^ 64 = little_from-lt 0 8 (drop 16 text) (IsBytes-drop 16 text fits) in
+    let low : 0 < number_at 16 8 text = grind (arith, nat_tests) in
+    (low, high)
+
+short_more : (text : List ℕ) → length text ≡ 16 → [] ≡ drop 16 text
+short_more text n = sym (drop_all 16 text (omega arith))
+
+sound_blocked : (text : List ℕ) → Named kinds.Blocked text → Fit kinds.Blocked text → IsSound kinds.Blocked text
+sound_blocked text w f =
+    let n = sixteen (length text) w.one in (
+      spelled_by (message_with kinds.Blocked text) text (omega (arith, n)) w.fits (record { len = sym (w.size ∙ n); kind = w.kind; tid = refl; tseq = refl; cpu = refl; flags = sym (eqb-true (number_at 14 2 text) 0 f.flags); more = short_more text n }),
+      (numbers text w.fits f.numbers, ltb-true (number_at 12 2 text) 64 f.cpu),
+    )
+
+sound_preempted : (text : List ℕ) → Named kinds.Preempted text → Fit kinds.Preempted text → IsSound kinds.Preempted text
+sound_preempted text w f =
+    let n = sixteen (length text) w.one in (
+      spelled_by (message_with kinds.Preempted text) text (omega (arith, n)) w.fits (record { len = sym (w.size ∙ n); kind = w.kind; tid = refl; tseq = refl; cpu = refl; flags = sym (eqb-true (number_at 14 2 text) 0 f.flags); more = short_more text n }),
+      (numbers text w.fits f.numbers, ltb-true (number_at 12 2 text) 64 f.cpu),
+    )
+
+sound_yield : (text : List ℕ) → Named kinds.Yield text → Fit kinds.Yield text → IsSound kinds.Yield text
+sound_yield text w f =
+    let n = sixteen (length text) w.one in (
+      spelled_by (message_with kinds.Yield text) text (omega (arith, n)) w.fits (record { len = sym (w.size ∙ n); kind = w.kind; tid = refl; tseq = refl; cpu = refl; flags = sym (eqb-true (number_at 14 2 text) 0 f.flags); more = short_more text n }),
+      (numbers text w.fits f.numbers, ltb-true (number_at 12 2 text) 64 f.cpu),
+    )
+
+sound_wakeup : (text : List ℕ) → Named kinds.Wakeup text → Fit kinds.Wakeup text → IsSound kinds.Wakeup text
+sound_wakeup text w f =
+    let n = sixteen (length text) w.one in (
+      spelled_by (message_with kinds.Wakeup text) text (omega (arith, n)) w.fits (record { len = sym (w.size ∙ n); kind = w.kind; tid = refl; tseq = refl; cpu = sym (eqb-true (number_at 12 2 text) 65535 f.cpu); flags = sym (eqb-true (number_at 14 2 text) 0 f.flags); more = short_more text n }),
+      (numbers text w.fits f.numbers, tt),
+    )
+
+sound_dead : (text : List ℕ) → Named kinds.Dead text → Fit kinds.Dead text → IsSound kinds.Dead text
+sound_dead text w f =
+    let n = sixteen (length text) w.one in (
+      spelled_by (message_with kinds.Dead text) text (omega (arith, n)) w.fits (record { len = sym (w.size ∙ n); kind = w.kind; tid = refl; tseq = refl; cpu = cpu_again (number_at 12 2 text); flags = sym (eqb-true (number_at 14 2 text) 0 f.flags); more = short_more text n }),
+      (numbers text w.fits f.numbers, cpu_or_none (number_at 12 2 text) f.cpu),
+    )
+
+sound_tick : (text : List ℕ) → Named kinds.TimerTick text → Fit kinds.TimerTick text → IsSound kinds.TimerTick text
+sound_tick text w f =
+    let n = sixteen (length text) w.one in
+    let zeros = and_parts (number_at 4 4 text == 0) (number_at 8 4 text == 0) f.numbers in (
+      spelled_by (message_with kinds.TimerTick text) text (omega (arith, n)) w.fits (record { len = sym (w.size ∙ n); kind = w.kind; tid = sym (eqb-true (number_at 4 4 text) 0 zeros.0); tseq = sym (eqb-true (number_at 8 4 text) 0 zeros.1); cpu = refl; flags = sym (eqb-true (number_at 14 2 text) 0 f.flags); more = short_more text n }),
+      ltb-true (number_at 12 2 text) 64 f.cpu,
+    )
+
+twenty_four : (n : ℕ) → ((24 == n) || false) ≡ true → n ≡ 24
+twenty_four n e = grind (arith, nat_tests)
+
+sound_affinity : (text : List ℕ) → Named kinds.Affinity text → Fit kinds.Affinity text → IsSound kinds.Affinity text
+sound_affinity text w f =
+    let n = twenty_four (length text) w.one in
+    let flags : number_at 14 2 text < 2 = flag_low (number_at 12 2 text) (number_at 14 2 text) f.flags in
+    let more = at_8 16 text (omega (arith, n)) w.fits in
+    let none : drop 24 text ≡ [] = drop_all 24 text (omega (arith, n)) in
+    let mask : little_bytes 8 (number_at 16 8 text) ≡ drop 16 text = sym (ap (λ (ys : List ℕ). little_bytes 8 (number_at 16 8 text) ++ ys) none) ∙ more in (
+      spelled_by (message_with kinds.Affinity text) text (omega (arith, n)) w.fits (record { len = sym (w.size ∙ n); kind = w.kind; tid = refl; tseq = refl; cpu = cpu_again (number_at 12 2 text); flags = flag_again (number_at 14 2 text) flags; more = mask }),
+      (numbers text w.fits f.numbers, affinity_fits (number_at 12 2 text) (number_at 14 2 text) (number_at 16 8 text) f.cpu f.flags (mask_is text w.fits f.more)),
+    )
+
+creation_long : (n : ℕ) → ((32 == n) || ((40 == n) || ((48 == n) || false))) ≡ true → 32 ≤ n
+creation_long n e = grind (arith, nat_tests)
+
+sound_created : (text : List ℕ) → Named kinds.Created text → Fit kinds.Created text → IsSound kinds.Created text
+sound_created text w f =
+    let len = slice_index text 25 in
+    let long = creation_long (length text) w.one in
+    let mask_test = not (number_at 16 8 text == 0) in
+    let class_test = nat_lt (slice_index text 24) 2 in
+    let len_test = nat_le len 16 in
+    let size_test = round_up (26 + len) == length text in
+    let more = and_parts (sizes_fit text) (name_fits text) f.more in
+    let a = and_parts (mask_test && class_test && len_test) size_test more.0 in
+    let b = and_parts (mask_test && class_test) len_test a.0 in
+    let c = and_parts mask_test class_test b.0 in
+    let d = and_parts (is_name (name_in text)) (list_all (λ b. b == 0) (drop (26 + len) text)) more.1 in
+    let size : round_up (26 + len) ≡ length text = eqb-true (round_up (26 + len)) (length text) a.1 in
+    let room : 26 + len ≤ length text = omega (arith, size) in
+    let name_len : length (name_in text) ≡ len = omega (arith, length-take len (drop 26 text), length-drop 26 text, room) in
+    let name = name_behind text room size name_len d.1 in
+    let facts = facts_behind text w.fits (omega (arith, long)) (ltb-true (slice_index text 24) 2 c.1) name_len name in
+    let sized : round_up (26 + length (name_in text)) ≡ number_at 0 2 text = ap (λ (k : ℕ). round_up (26 + k)) name_len ∙ size ∙ sym w.size in (
+      spelled_by (message_with kinds.Created text) text (omega (arith, long)) w.fits (record { len = sized; kind = w.kind; tid = refl; tseq = refl; cpu = sym (eqb-true (number_at 12 2 text) 65535 f.cpu); flags = flag_again (number_at 14 2 text) (ltb-true (number_at 14 2 text) 2 f.flags); more = facts }),
+      (numbers text w.fits f.numbers, (mask_is text w.fits c.0, d.0)),
+    )
+
+sound_kind : (k : Kind) (text : List ℕ) → Named k text → Fit k text → IsSound k text
+sound_kind kinds.Created text w f = sound_created text w f
+sound_kind kinds.Blocked text w f = sound_blocked text w f
+sound_kind kinds.Wakeup text w f = sound_wakeup text w f
+sound_kind kinds.Preempted text w f = sound_preempted text w f
+sound_kind kinds.Yield text w f = sound_yield text w f
+sound_kind kinds.Dead text w f = sound_dead text w f
+sound_kind kinds.Affinity text w f = sound_affinity text w f
+sound_kind kinds.TimerTick text w f = sound_tick text w f
+
+-- bytes whose fields are in range are the spelling of the message that they name, which has a spelling
+pub sound : (k : Kind) (text : List ℕ) → IsBytes text → IsWhole (Some k) text → fields_fit k text ≡ true → IsRef text
+sound k text fits w e =
+    let is = sound_kind k text (named k text fits w) (fit_parts k text e) in
+    let made : message_with k text ≡ message_in text = ap (λ (o : Option Kind). message_with (unwrap_or o kinds.TimerTick) text) (sym w.kind) in
+    record {
+      spellable = subst IsSpellable made is.1;
+      whole = sym is.0 ∙ ap spelling made;
+    }

@@ -1,0 +1,4 @@
+pub mod RefHeld
+pub mod Fault
+pub mod Reading
+pub mod Records

@@ -1,0 +1,89 @@
+-- What bytes begin with.
+use Rattle.std.specs.Prelude.{◌≡◌, Bool, true, not, ◌==◌, ◌&&◌, ◌||◌, nat_lt, nat_le, ℕ, ◌+◌, ◌≤◌, Option, None, Some, Result, Ok, Err, List, length, take, drop, slice_index, if◌then◌else◌}
+use Rattle.std.specs.List.{list_all}
+use Rattle.gs_layout.specs.declared.kind.Kind.{Kind}
+use Rattle.gs_layout.specs.declared.kind.Kind.TheVariants as kinds
+use Rattle.gs_layout.specs.Name.{is_name}
+use Rattle.gs_layout.specs.Pad.{IsPadSize, pad}
+use Rattle.gs_layout.specs.Reading.{kind_numbered, message_in, name_in, number_at}
+use Rattle.gs_layout.specs.Spelling.{IsSpellable, round_up, spelling}
+use Rattle.gs_reader.specs.declared.fault.ReadFault.{ReadFault}
+use Rattle.gs_reader.specs.declared.fault.ReadFault.TheVariants.{BadField}
+use Rattle.gs_reader.specs.declared.item.Item.{Item}
+use Rattle.gs_reader.specs.declared.item.Item.TheVariants.{Message, Pad}
+use Rattle.gs_reader.specs.Fault.{front_fault, has_length, is_kind, kind_number_in, length_in}
+
+-- all of these bytes are the spelling of a message, or a PAD
+abbrev pub IsSpelled : Item → List ℕ → Type 0
+IsSpelled (Message m) text = IsSpellable m × (text ≡ spelling m)
+IsSpelled Pad text = IsPadSize (length text) × (text ≡ pad (length text))
+
+-- the first bytes are the spelling of an item, and how many they are
+abbrev pub IsRead : List ℕ → Item × ℕ → Type 0
+IsRead bytes read = (read.1 ≤ length bytes) × IsSpelled read.0 (take read.1 bytes)
+
+-- where each fault stands: the first that applies. A field is bad where all else is right and yet the
+-- bytes begin with no spelling.
+abbrev pub IsFault : List ℕ → ReadFault → Type 0
+IsFault bytes BadField = (front_fault bytes ≡ None) × ((read : Item × ℕ) → IsRead bytes read → ⊥)
+IsFault bytes f = front_fault bytes ≡ Some f
+
+abbrev pub numbers_fit : Kind → ℕ → ℕ → Bool
+numbers_fit kinds.TimerTick tid tseq = tid == 0 && tseq == 0
+numbers_fit _ tid tseq = nat_le 1 tid && nat_le tid 65536 && nat_le 1 tseq
+
+abbrev pub cpu_fits : Kind → ℕ → Bool
+cpu_fits kinds.Created cpu = cpu == 65535
+cpu_fits kinds.Wakeup cpu = cpu == 65535
+cpu_fits kinds.Dead cpu = nat_lt cpu 64 || cpu == 65535
+cpu_fits kinds.Affinity cpu = nat_lt cpu 64 || cpu == 65535
+cpu_fits _ cpu = nat_lt cpu 64
+
+abbrev pub flags_fit : Kind → ℕ → ℕ → Bool
+flags_fit kinds.Created cpu flags = nat_lt flags 2
+flags_fit kinds.Affinity cpu flags = flags == 0 || (flags == 1 && not (cpu == 65535))
+flags_fit _ cpu flags = flags == 0
+
+-- the mask, the class and the lengths of a creation
+abbrev pub sizes_fit : List ℕ → Bool
+sizes_fit text =
+    not (number_at 16 8 text == 0) && nat_lt (slice_index text 24) 2 && nat_le (slice_index text 25) 16 && round_up (26 + slice_index text 25) == length text
+
+-- the name of a creation, and the zeros behind it
+abbrev pub name_fits : List ℕ → Bool
+name_fits text = is_name (name_in text) && list_all (λ b. b == 0) (drop (26 + slice_index text 25) text)
+
+abbrev pub more_fits : Kind → List ℕ → Bool
+more_fits kinds.Created text = sizes_fit text && name_fits text
+more_fits kinds.Affinity text = not (number_at 16 8 text == 0)
+more_fits _ text = true
+
+-- whether each field of a message of this kind is in its range
+abbrev pub fields_fit : Kind → List ℕ → Bool
+fields_fit k text =
+    numbers_fit k (number_at 4 4 text) (number_at 8 4 text) && cpu_fits k (number_at 12 2 text) && flags_fit k (number_at 12 2 text) (number_at 14 2 text) && more_fits k text
+
+-- the item that all of these bytes are, which have the length that they name: a message of this kind, or a PAD
+abbrev pub item_in : Option Kind → List ℕ → Result Item ReadFault
+item_in None text = if list_all (λ b. b == 0) (drop 4 text) then Ok Pad else Err BadField
+item_in (Some k) text = if fields_fit k text then Ok (Message (message_in text)) else Err BadField
+
+-- these bytes have the length that they name, which is one of the kind's; they name the kind, or a PAD
+pub record IsWhole (o : Option Kind) (text : List ℕ) : Type 0 where
+  pub kind : kind_numbered (kind_number_in text) ≡ o
+  pub known : is_kind (kind_number_in text) ≡ true
+  pub size : length_in text ≡ length text
+  pub one : has_length (kind_number_in text) (length text) ≡ true
+
+abbrev pub with_length : ℕ → Result Item ReadFault → Result (Item × ℕ) ReadFault
+with_length len (Ok item) = Ok (item, len)
+with_length len (Err f) = Err f
+
+abbrev pub read_behind : Option ReadFault → List ℕ → Result (Item × ℕ) ReadFault
+read_behind (Some f) bytes = Err f
+read_behind None bytes = with_length (length_in bytes) (item_in (kind_numbered (kind_number_in bytes)) (take (length_in bytes) bytes))
+
+-- what the bytes begin with and how many bytes that has, or the first fault; `read_one` says that this
+-- is the spelling backwards
+abbrev pub read : List ℕ → Result (Item × ℕ) ReadFault
+read bytes = read_behind (front_fault bytes) bytes

@@ -1,0 +1,94 @@
+//! The ranges of a message's fields.
+
+ghost use Rattle.std.specs.Prelude.{◌≡◌, ◌==◌, ◌+◌, ◌≤◌, length, slice_index};
+ghost use Rattle.std.specs.Bool.{OnTrue};
+ghost use Rattle.std.specs.List.{list_all};
+ghost use Rattle.gs_layout.specs.Reading.{least};
+ghost use Rattle.gs_reader.specs.Reading.{cpu_fits, fields_fit, flags_fit, more_fits, name_fits, numbers_fit, sizes_fit};
+
+use gs_layout::{Kind, Name, creation_len, u16_at, u32_at, u64_at};
+
+/// Stands for no CPU.
+const NO_CPU: u16 = 65_535;
+
+/// The CPUs are numbered below this.
+const CPUS: u16 = 64;
+
+/// The greatest number of a thread.
+const LAST_TID: u32 = 65_536;
+
+fn numbers_fit(kind: Kind, tid: u32, tseq: u32) -> bool
+    ensures { result ≡ numbers_fit kind tid tseq }
+{
+    match kind {
+        Kind::TimerTick => tid == 0 && tseq == 0,
+        _ => 1 <= tid && tid <= LAST_TID && 1 <= tseq,
+    }
+}
+
+fn cpu_fits(kind: Kind, cpu: u16) -> bool
+    ensures { result ≡ cpu_fits kind cpu }
+{
+    match kind {
+        Kind::Created | Kind::Wakeup => cpu == NO_CPU,
+        Kind::Dead | Kind::Affinity => cpu < CPUS || cpu == NO_CPU,
+        _ => cpu < CPUS,
+    }
+}
+
+fn flags_fit(kind: Kind, cpu: u16, flags: u16) -> bool
+    ensures { result ≡ flags_fit kind cpu flags }
+{
+    match kind {
+        Kind::Created => flags < 2,
+        Kind::Affinity => flags == 0 || (flags == 1 && cpu != NO_CPU),
+        _ => flags == 0,
+    }
+}
+
+pub(crate) fn are_zeros(bytes: &[u8]) -> bool
+    ensures { result ≡ list_all (λ b. b == 0) bytes.now }
+{
+    bytes.iter().all(|byte| *byte == 0)
+}
+
+fn sizes_fit(text: &[u8]) -> bool
+    requires { 26 ≤ length text.now }
+    ensures value { result ≡ sizes_fit text.now }
+    ensures room { OnTrue result (26 + slice_index text.now 25 ≤ length text.now) }
+{
+    let name_len = text[25] as usize;
+    u64_at(text, 16) != 0 && text[24] < 2 && name_len <= 16 && creation_len(name_len) == text.len()
+}
+
+fn name_fits(text: &[u8]) -> bool
+    requires start { 26 ≤ length text.now }
+    requires room { 26 + slice_index text.now 25 ≤ length text.now }
+    ensures { result ≡ name_fits text.now }
+{
+    let end = 26 + text[25] as usize;
+    Name::is_name(&text[26..end]) && are_zeros(&text[end..])
+}
+
+fn more_fits(kind: Kind, text: &[u8]) -> bool
+    requires { least kind ≤ length text.now }
+    ensures { result ≡ more_fits kind text.now }
+{
+    match kind {
+        Kind::Created => sizes_fit(text) && name_fits(text),
+        Kind::Affinity => u64_at(text, 16) != 0,
+        _ => true,
+    }
+}
+
+/// Whether each field of a message of this kind is in its range.
+pub(crate) fn fields_fit(kind: Kind, text: &[u8]) -> bool
+    requires { least kind ≤ length text.now }
+    ensures { result ≡ fields_fit kind text.now }
+{
+    let cpu = u16_at(text, 12);
+    numbers_fit(kind, u32_at(text, 4), u32_at(text, 8))
+        && cpu_fits(kind, cpu)
+        && flags_fit(kind, cpu, u16_at(text, 14))
+        && more_fits(kind, text)
+}

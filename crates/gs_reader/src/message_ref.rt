@@ -1,0 +1,116 @@
+ghost use Rattle.std.specs.Prelude.{◌≡◌, option_copied};
+ghost use Rattle.gs_layout.specs.Message.{tseq_of};
+ghost use Rattle.gs_layout.specs.Reading.{message_in};
+ghost use Rattle.gs_reader.specs.RefHeld.{IsRef};
+ghost use Rattle.gs_layout.specs.Spelling.{IsSpellable, class_of, cpu_of, flags_of, kind_of, mask_of, name_of, spelling, tid_of};
+
+use gs_layout::{Class, Kind, Message, Parcel};
+use std::marker::Model;
+
+/// A message where it stands in its bytes. Clauses see it as the message.
+#[derive(Drop)]
+pub struct MessageRef<'a> {
+    bytes: &'a [u8],
+}
+
+impl<'a> Model for MessageRef<'a> {
+    ghost use Rattle.gs_layout.specs.declared.message.Message.{Message};
+    ghost use Rattle.gs_layout.specs.Reading.{message_in};
+
+    ghost Value = { Message };
+
+    ghost use Rattle.gs_reader.specs.RefHeld.{IsRef};
+
+    ghost view = { λ r. message_in r.bytes.now };
+
+    ghost invariant = { λ r. IsRef r.bytes.now };
+}
+
+impl<'a> MessageRef<'a> {
+    /// The message whose spelling these bytes are.
+    pub(crate) fn over(bytes: &'a [u8]) -> MessageRef<'a>
+        requires { IsRef bytes.now }
+        ensures { result ≡ message_in bytes.now }
+    {
+        MessageRef { bytes }
+    }
+
+    /// The bytes of the message, which are its spelling.
+    pub fn as_bytes(&self) -> &'a [u8]
+        ensures value { result.now ≡ spelling self.now }
+        ensures spellable { IsSpellable self.now }
+    {
+        self.bytes
+    }
+
+    /// What kind of message it is.
+    pub fn kind(&self) -> Kind
+        ensures { result ≡ kind_of self.now }
+    {
+        gs_layout::kind_of(self.bytes)
+    }
+
+    /// The thread that it is about, 0 for a tick.
+    pub fn tid(&self) -> u32
+        ensures { result ≡ tid_of self.now }
+    {
+        gs_layout::tid_of(self.bytes)
+    }
+
+    /// Its sequence number, 0 for a tick.
+    pub fn tseq(&self) -> u32
+        ensures { result ≡ tseq_of self.now }
+    {
+        gs_layout::tseq_of(self.bytes)
+    }
+
+    /// The CPU that the thread was on just before, or the CPU of a tick.
+    pub fn cpu(&self) -> Option<u16>
+        ensures { result ≡ cpu_of self.now }
+    {
+        gs_layout::cpu_of(self.bytes)
+    }
+
+    /// Bit 0 of a creation says that the thread is runnable, of a new mask that the thread was taken off
+    /// its CPU. All else is 0.
+    pub fn flags(&self) -> u16
+        ensures { result ≡ flags_of self.now }
+    {
+        gs_layout::flags_of(self.bytes)
+    }
+
+    /// The mask of a creation or of a new mask.
+    pub fn mask(&self) -> Option<u64>
+        ensures { result ≡ mask_of self.now }
+    {
+        gs_layout::mask_of(self.bytes)
+    }
+
+    /// The class of a creation.
+    pub fn class(&self) -> Option<Class>
+        ensures { result ≡ class_of self.now }
+    {
+        gs_layout::class_of(self.bytes)
+    }
+
+    /// The name of a creation, where it stands in the bytes.
+    pub fn name(&self) -> Option<&'a [u8]>
+        ensures { option_copied result ≡ name_of self.now }
+    {
+        gs_layout::name_of(self.bytes)
+    }
+
+    /// The message itself, with a name of its own.
+    pub fn message(&self) -> Message
+        ensures { result ≡ self.now }
+    {
+        gs_layout::message_of(self.as_bytes())
+    }
+
+    /// The message in a parcel.
+    pub fn in_parcel(parcel: &'a Parcel) -> MessageRef<'a>
+        ensures { result ≡ parcel.now }
+    {
+        MessageRef::over(parcel.as_bytes())
+    }
+}
