@@ -1,0 +1,5 @@
+pub mod Laws
+pub mod Past
+pub mod Folds
+pub mod Masks
+pub mod Rows

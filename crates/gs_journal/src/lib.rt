@@ -1,0 +1,15 @@
+//! The journal of an enclave: all that ever happened, the oldest first, and what follows from it.
+//!
+//! The queries here walk the journal. They say what is so, and are not meant to be fast.
+#![tactic(auto)]
+
+mod entry;
+mod journal;
+mod mask;
+mod query;
+#[cfg(test)]
+mod tests;
+
+pub use entry::Entry;
+pub use journal::Journal;
+pub use mask::Mask;

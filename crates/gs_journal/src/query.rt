@@ -1,0 +1,199 @@
+ghost use Rattle.std.specs.Prelude.{◌≡◌, ◌↔◌, ◌≤◌, ◌||◌, IsTrue, length};
+ghost use Rattle.gs_layout.specs.Message.{is_about, takes_off};
+ghost use Rattle.gs_journal.specs.Standing.{then_latest, then_stands};
+ghost use Rattle.gs_journal.specs.History.{active, at, ends_role, ends_run, is_torn, messages, on, placed_on, record_in, role_by, taken, taken_by, torn};
+ghost use Rattle.gs_journal.specs.Walk.{posts_about, record_then};
+
+use crate::entry::Entry;
+use gs_layout::{Change, Message, Record};
+
+/// Whether a message is about a thread. A tick is about none.
+fn is_about(tid: u32, message: &Message) -> bool
+    ensures { result ≡ is_about tid message.now }
+{
+    match message {
+        Message::Thread { tid: other, .. } => *other == tid,
+        Message::TimerTick { .. } => false,
+    }
+}
+
+/// A thread's record after one more entry.
+fn record_then(tid: u32, before: Record, entry: &Entry) -> Record
+    ensures { result ≡ record_then tid before entry.now }
+{
+    match entry {
+        Entry::Posted { message } if is_about(tid, message) => before.after(message),
+        _ => before,
+    }
+}
+
+/// A thread's record.
+#[tactic(auto, using(crate::proofs::Laws::record_more, crate::proofs::Laws::record_nil))]
+pub fn last_record(entries: &[Entry], tid: u32) -> Record
+    ensures { result ≡ record_in entries.now tid }
+{
+    let mut found = Record::Absent;
+    for entry in entries {
+        found = record_then(tid, found, entry);
+    }
+    found
+}
+
+/// Whether an entry is a message about a thread.
+fn posts_about(tid: u32, entry: &Entry) -> bool
+    ensures { result ≡ posts_about tid entry.now }
+{
+    match entry {
+        Entry::Posted { message } => is_about(tid, message),
+        _ => false,
+    }
+}
+
+/// How many messages about a thread were posted.
+#[tactic(auto, using(crate::proofs::Laws::count_is))]
+pub fn count_messages(entries: &[Entry], tid: u32) -> usize
+    ensures value { result ≡ length (messages entries.now tid) }
+    ensures within { result ≤ length entries.now }
+{
+    entries
+        .iter()
+        .filter(|entry| posts_about(tid, entry))
+        .count()
+}
+
+/// Whether a message takes a thread off its CPU.
+fn takes_off(tid: u32, message: &Message) -> bool
+    ensures { result ≡ takes_off tid message.now }
+{
+    match message {
+        Message::Thread {
+            tid: other,
+            change,
+            ..
+        } => match change {
+            Change::Blocked { .. }
+            | Change::Preempted { .. }
+            | Change::Yield { .. }
+            | Change::Dead { .. } => *other == tid,
+            Change::Affinity { off, .. } => *off && *other == tid,
+            Change::Created { .. } | Change::Wakeup => false,
+        },
+        Message::TimerTick { .. } => false,
+    }
+}
+
+/// Who is on a CPU after one more entry.
+fn thread_then(cpu: u16, before: Option<u32>, entry: &Entry) -> Option<u32>
+    ensures { result ≡ then_stands (placed_on cpu entry.now) ends_run entry.now before }
+{
+    match entry {
+        Entry::Placed {
+            tid,
+            cpu: there,
+            ..
+        } if *there == cpu => Some(*tid),
+        Entry::Posted { message } => before.filter(|tid| !takes_off(*tid, message)),
+        Entry::Torn => None,
+        _ => before,
+    }
+}
+
+/// Who is on a CPU.
+#[tactic(auto, using(crate::proofs::Laws::on_more, crate::proofs::Laws::on_nil))]
+pub fn thread_on(entries: &[Entry], cpu: u16) -> Option<u32>
+    ensures { result ≡ on entries.now cpu }
+{
+    let mut thread = None;
+    for entry in entries {
+        thread = thread_then(cpu, thread, entry);
+    }
+    thread
+}
+
+/// Whether a thread is on a CPU.
+fn is_on(entries: &[Entry], tid: u32, cpu: u16) -> bool
+    ensures { IsTrue result ↔ (on entries.now cpu ≡ Some tid) }
+{
+    match thread_on(entries, cpu) {
+        Some(other) => other == tid,
+        None => false,
+    }
+}
+
+/// The least CPU below the count that a thread is on.
+#[tactic(auto, using(crate::proofs::Laws::at_found, crate::proofs::Laws::at_not, crate::proofs::Laws::at_is))]
+pub fn cpu_of(entries: &[Entry], tid: u32, cpus: u16) -> Option<u16>
+    ensures { result ≡ at cpus entries.now tid }
+{
+    for cpu in 0..cpus {
+        if is_on(entries, tid, cpu) {
+            return Some(cpu);
+        }
+    }
+    None
+}
+
+/// The active agent after one more entry.
+fn role_then(before: Option<(u32, u16)>, entry: &Entry) -> Option<(u32, u16)>
+    ensures { result ≡ then_stands (role_by entry.now) ends_role entry.now before }
+{
+    match entry {
+        Entry::Role { generation, cpu } => Some((*generation, *cpu)),
+        Entry::Begin { .. } | Entry::Left | Entry::Torn => None,
+        _ => before,
+    }
+}
+
+/// The active agent: its generation and CPU.
+#[tactic(auto, using(crate::proofs::Laws::active_more, crate::proofs::Laws::active_nil))]
+pub fn active_agent(entries: &[Entry]) -> Option<(u32, u16)>
+    ensures { result ≡ active entries.now }
+{
+    let mut role = None;
+    for entry in entries {
+        role = role_then(role, entry);
+    }
+    role
+}
+
+/// What was last said of whether the other class holds a CPU, after one more entry.
+fn taken_then(cpu: u16, before: Option<bool>, entry: &Entry) -> Option<bool>
+    ensures { result ≡ then_latest (taken_by cpu entry.now) before }
+{
+    match entry {
+        Entry::Taken { cpu: there } if *there == cpu => Some(true),
+        Entry::Given { cpu: there } if *there == cpu => Some(false),
+        _ => before,
+    }
+}
+
+/// Whether the other class holds a CPU.
+#[tactic(auto, using(crate::proofs::Laws::taken_more, crate::proofs::Laws::taken_nil), unfolding(crate::specs::History::taken))]
+pub fn is_taken(entries: &[Entry], cpu: u16) -> bool
+    ensures { result ≡ taken entries.now cpu }
+{
+    let mut last = None;
+    for entry in entries {
+        last = taken_then(cpu, last, entry);
+    }
+    last.unwrap_or(false)
+}
+
+/// Whether the enclave is torn down after one more entry.
+fn torn_then(before: bool, entry: &Entry) -> bool
+    ensures { result ≡ (before || is_torn entry.now) }
+{
+    before || matches!(entry, Entry::Torn)
+}
+
+/// Whether the enclave was torn down.
+#[tactic(auto, using(crate::proofs::Laws::torn_more, crate::proofs::Laws::torn_nil))]
+pub fn was_torn(entries: &[Entry]) -> bool
+    ensures { result ≡ torn entries.now }
+{
+    let mut before = false;
+    for entry in entries {
+        before = torn_then(before, entry);
+    }
+    before
+}
