@@ -1,0 +1,3 @@
+pub mod Creations
+pub mod Kernels
+pub mod Placings

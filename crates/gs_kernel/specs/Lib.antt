@@ -1,0 +1,4 @@
+pub mod Settings
+pub mod Landing
+pub mod Kernel
+pub mod Inside
