@@ -1,0 +1,14 @@
+pub mod Told
+pub mod Faces
+pub mod Histories
+pub mod Growing
+pub mod Places
+pub mod Gaps
+pub mod Steps
+pub mod Whole
+pub mod Commits
+pub mod Draining
+pub mod Runs
+pub mod Serving
+pub mod Configs
+pub mod Rows

@@ -1,0 +1,172 @@
+-- Worked rows: the definitions compute.
+use Rattle.std.proofs.Common.{◌≡◌, refl, ℕ, Bool, true, false, None, Some, [], ◌∷◌, ◌++◌, codes}
+use Rattle.gs_layout.specs.declared.facts.Class.TheVariants.{Zero}
+use Rattle.gs_layout.specs.declared.facts.Facts.{Facts}
+use Rattle.gs_layout.specs.declared.message.Change.TheVariants.{Blocked}
+use Rattle.gs_layout.specs.declared.message.Message.TheVariants.{Thread}
+use Rattle.gs_layout.specs.declared.known.Known.{Known}
+use Rattle.gs_layout.specs.declared.refusal.Refusal.TheVariants as refusals
+use Rattle.gs_layout.specs.declared.outcome.Outcome.TheVariants as outcomes
+use Rattle.gs_layout.specs.View.{catch_up}
+use Rattle.gs_journal.specs.declared.entry.Entry.TheVariants.{Posted, Begin, Left}
+use Rattle.gs_journal.specs.Standing.{standing, last_of, latest}
+use Rattle.gs_journal.specs.Record.{record_of}
+use Rattle.gs_journal.specs.History.{posted, messages, created, seq, record_in, on, at, active, attaching, taken, last_taken, torn}
+use Rattle.gs_journal.specs.State.{state}
+use Rattle.gs_kernel.specs.declared.settings.Settings.{Settings}
+use Rattle.gs_kernel.specs.Landing.{verdict, landing}
+use Rattle.gs_core.specs.declared.event.Event.TheVariants as events
+use Rattle.gs_core.specs.declared.reply.Reply.{Reply}
+use Rattle.gs_core.specs.declared.reply.Reply.TheVariants as replies
+use Rattle.gs_core.specs.declared.config.Config.{Config}
+use Rattle.gs_core.specs.declared.config.ConfigFault.TheVariants as faults
+use Rattle.gs_core.specs.Config.{config_fault}
+use Rattle.gs_core.specs.Machine.{State, creates, stamps, commits, refusal, start, unread, view, attached}
+
+facts : Bool → ℕ → Facts
+facts r m = record { runnable = r; mask = m; class = Zero; name = codes "web" }
+
+two : Settings
+two = record { cpus = 2; first_tseq = 0; first_generation = 1; history = 100 }
+
+knows : Bool → ℕ → Known
+knows r m = record { facts = facts r m; tseq = 1 }
+
+-- a thread is created, drained, stamped and committed
+made : State
+made = (creates (start two) (facts true 3)).1
+
+drained : State
+drained = record made { consumed = 1; agent = Some (record { records = (1, knows true 3) ∷ []; next = None }) }
+
+fresh_view : catch_up (view made) (unread made) 1 ≡ Some (knows true 3)
+unfolding made posted created two facts knows
+fresh_view = refl
+
+same_state : state 0 made.history 1 ≡ Some (knows true 3)
+unfolding made posted created two facts knows state seq record_in record_of messages latest standing last_of
+same_state = refl
+
+stamped : Reply × State
+stamped = stamps drained 1 1
+
+first_stamp : stamped.0 ≡ replies.Stamped 1
+unfolding stamped drained made active standing last_of two facts knows
+first_stamp = refl
+
+committed : Reply × State
+committed = commits stamped.1 2
+
+first_commit : committed.0 ≡ replies.Landed (record { cpu = 1; tid = 1; outcome = outcomes.Placed; seen = 1; at = Some 1 } ∷ [])
+unfolding committed stamped drained made two facts knows posted created active standing last_of landing verdict taken last_taken torn latest on at seq messages record_in record_of
+first_commit = refl
+
+idle_afterwards : committed.1.slots ≡ None ∷ None ∷ []
+unfolding committed stamped drained made two facts knows active standing last_of
+idle_afterwards = refl
+
+-- the thread is on its CPU now: the same record stamped again finds it placed
+again : (commits (stamps committed.1 1 1).1 2).0 ≡ replies.Landed (record { cpu = 1; tid = 1; outcome = outcomes.AlreadyPlaced; seen = 1; at = Some 1 } ∷ [])
+unfolding committed stamped drained made two facts knows posted created active standing last_of landing verdict taken last_taken torn latest on at seq messages record_in record_of
+again = refl
+
+-- a message that was posted since makes the transaction stale, and no message was read
+newer : State
+newer = record stamped.1 { history = stamped.1.history ++ Posted (Thread 1 2 (Blocked 1)) ∷ [] }
+
+stale : (commits newer 2).0 ≡ replies.Landed (record { cpu = 1; tid = 1; outcome = outcomes.Stale; seen = 2; at = None } ∷ [])
+unfolding newer stamped drained made two facts knows posted created active standing last_of landing verdict taken last_taken torn latest on at seq messages record_in record_of
+stale = refl
+
+-- no agent is active: whatever was stamped is displaced
+left : State
+left = record stamped.1 { history = stamped.1.history ++ Left ∷ [] }
+
+displaced : (commits left 2).0 ≡ replies.Landed (record { cpu = 1; tid = 1; outcome = outcomes.Displaced; seen = 1; at = None } ∷ [])
+unfolding left stamped drained made two facts knows posted created active standing last_of landing verdict taken last_taken torn latest on at seq messages record_in record_of
+displaced = refl
+
+-- of two threads one may run on CPU 0 alone, and one is blocked
+both : State
+both = (creates (creates (start two) (facts true 1)).1 (facts false 2)).1
+
+known : State
+known = record both { consumed = 2; agent = Some (record { records = (1, knows true 1) ∷ (2, knows false 2) ∷ []; next = None }) }
+
+not_allowed : (commits (stamps known 1 1).1 2).0 ≡ replies.Landed (record { cpu = 1; tid = 1; outcome = outcomes.NotAllowed; seen = 1; at = None } ∷ [])
+unfolding known both two facts knows posted created active standing last_of landing verdict taken last_taken torn latest on at seq messages record_in record_of
+not_allowed = refl
+
+blocked : (commits (stamps known 1 2).1 2).0 ≡ replies.Landed (record { cpu = 1; tid = 2; outcome = outcomes.NotRunnable; seen = 1; at = None } ∷ [])
+unfolding known both two facts knows posted created active standing last_of landing verdict taken last_taken torn latest on at seq messages record_in record_of
+blocked = refl
+
+agent_there : (commits (stamps known 0 1).1 1).0 ≡ replies.Landed (record { cpu = 0; tid = 1; outcome = outcomes.CpuIsAgent; seen = 1; at = None } ∷ [])
+unfolding known both two facts knows posted created active standing last_of landing verdict taken last_taken torn latest on at seq messages record_in record_of
+agent_there = refl
+
+-- a commit of no CPU lands nothing
+empty_commit : (commits stamped.1 0).0 ≡ replies.Landed []
+unfolding stamped drained made two facts knows active standing last_of
+empty_commit = refl
+
+-- refusals in their order
+no_cpu : refusal drained (events.Stamp 2 9) ≡ Some refusals.BadCpu
+unfolding drained made two facts knows active standing last_of
+no_cpu = refl
+
+no_thread : refusal drained (events.Stamp 1 9) ≡ Some refusals.NoThread
+unfolding drained made two facts knows active standing last_of
+no_thread = refl
+
+open_slot : refusal stamped.1 (events.Stamp 1 1) ≡ Some refusals.SlotOpen
+unfolding stamped drained made two facts knows active standing last_of
+open_slot = refl
+
+past_the_last : refusal drained (events.Commit 4) ≡ Some refusals.EmptyMask
+unfolding drained made two facts knows active standing last_of
+past_the_last = refl
+
+nobody_drains : refusal left (events.Drain 1) ≡ Some refusals.NotActive
+unfolding left stamped drained made two facts knows active attaching standing last_of
+nobody_drains = refl
+
+-- an agent that attaches drains, and is attached once it needs no more pages
+begun : State
+begun = record left { history = left.history ++ Begin 2 ∷ []; agent = Some (record { records = []; next = Some 1 }) }
+
+drains_while_attaching : refusal begun (events.Drain 1) ≡ None
+unfolding begun left stamped drained made two facts knows active attaching standing last_of
+drains_while_attaching = refl
+
+not_yet : attached begun ≡ false
+unfolding begun left stamped drained made two facts knows active attaching standing last_of
+not_yet = refl
+
+attached_now : attached (record begun { agent = Some (record { records = []; next = None }) }) ≡ true
+unfolding begun left stamped drained made two facts knows active attaching standing last_of
+attached_now = refl
+
+-- faults in their order
+config : ℕ → ℕ → ℕ → ℕ → ℕ → Config
+config c b t g h = record { cpus = c; ring = b; first_tseq = t; first_generation = g; history = h }
+
+fits : config_fault (config 64 1048576 4294967294 4294967295 16777216) ≡ None
+unfolding config_fault config
+fits = refl
+
+cpus_first : config_fault (config 1 7 4294967295 0 1) ≡ Some faults.BadCpus
+unfolding config_fault config
+cpus_first = refl
+
+no_multiple : config_fault (config 2 132 4294967295 0 1) ≡ Some faults.BadRing
+unfolding config_fault config
+no_multiple = refl
+
+no_generation : config_fault (config 2 128 0 0 1) ≡ Some faults.BadFirst
+unfolding config_fault config
+no_generation = refl
+
+short_history : config_fault (config 2 128 0 1 1) ≡ Some faults.BadHistory
+unfolding config_fault config
+short_history = refl

@@ -1,0 +1,210 @@
+-- Each event keeps what the machine keeps.
+use Rattle.std.proofs.Common.{◌≡◌, refl, ap, sym, ◌∙◌, subst, ℕ, zero, suc, ◌+◌, ◌<◌, ◌⊎◌, inl, inr, ◌||◌, ◌&&◌, Bool, true, false, not, Option, None, Some, List, [], ◌∷◌, ◌++◌, length, take, arith, cond, slice_get, IsSome}
+use Rattle.std.specs.Option.{is_some}
+use Rattle.gs_layout.specs.declared.facts.Facts.{Facts}
+use Rattle.gs_layout.specs.declared.known.Known.{Known}
+use Rattle.gs_layout.specs.declared.slot.Slot.{Slot}
+use Rattle.gs_layout.specs.declared.refusal.Refusal.{Refusal}
+use Rattle.gs_layout.specs.View.{look_up, catch_up}
+use Rattle.gs_journal.specs.declared.entry.Entry.{Entry}
+use Rattle.gs_journal.specs.declared.entry.Entry.TheVariants.{Posted, Placed, Role, Begin, Left, Taken, Given, Torn}
+use Rattle.gs_journal.specs.Masks.{has}
+use Rattle.gs_journal.specs.History.{History, active, attaching}
+use Rattle.gs_journal.specs.State.{state, Was}
+use Rattle.gs_journal.proofs.Past.{same_view, was_once}
+use Rattle.gs_kernel.specs.declared.settings.Settings.{Settings}
+use Rattle.gs_kernel.specs.Kernel.{creation}
+use Rattle.gs_core.specs.declared.drained.Drained.{Drained}
+use Rattle.gs_core.specs.declared.transaction.Transaction.{Transaction}
+use Rattle.gs_core.specs.Machine.{State, Agent, view, records_of, page_of, unread, attached, creates, lands, collected, commits, stamps, stamps_with, stamp_of, idle_slots, Drains}
+use Rattle.gs_core.specs.Safe.{Safe, IsFaithful, IsIn, IsBacked}
+use Rattle.gs_core.specs.Good.{GoodHistory, Good, Faces, AreOf, is_given}
+use Rattle.gs_core.proofs.Told.{catch_up_at}
+use Rattle.gs_core.proofs.Gaps.{no_gap}
+use Rattle.gs_core.proofs.Places.{get_left, get_new, get_set, length_set, get_at_end}
+use Rattle.gs_core.proofs.Faces.{faces_drained}
+use Rattle.gs_core.proofs.Growing.{Both, SameRole, both_created, role_posted, all_landed, tail_of}
+
+-- of tests
+pub not_true : (b : Bool) → not b ≡ true → b ≡ false
+not_true false e = refl
+not_true true e = absurd cc
+
+pub none_is : {A : Type 0} (o : Option A) → is_some o ≡ false → o ≡ None
+none_is None e = refl
+none_is (Some a) e = absurd cc
+
+pub first_passed : (b : Bool) (r : Refusal) (o : Option Refusal) → cond b (Some r) o ≡ None → (b ≡ false) × (o ≡ None)
+first_passed false r o e = (refl, e)
+first_passed true r o e = absurd cc
+
+-- what is promised follows from what is kept
+agrees_at : (m : State) → Good m → (t : ℕ) → is_given (page_of m.agent) t ≡ true → catch_up (view m) (unread m) t ≡ state m.settings.first_tseq m.history t
+agrees_at m g t p = let f = g.faces in catch_up_at (view m) (unread m) t ∙ f.given t p
+
+pub role_there : (o : Option Agent) → page_of o ≡ None → IsSome o
+role_there None e = absurd cc
+role_there (Some a) e = refl
+
+last_given : (a b : Bool) (page : Option ℕ) → (a ≡ true → page ≡ None) → (a || (b && not (is_some page))) ≡ true → page ≡ None
+last_given true b page e p = e refl
+last_given false true page e p = none_is page (not_true (is_some page) p)
+last_given false false page e p = absurd cc
+
+pub attached_page : (m : State) → Good m → attached m ≡ true → page_of m.agent ≡ None
+attached_page m g p = last_given (is_some (active m.history)) (is_some (attaching m.history)) (page_of m.agent) g.when_active p
+
+pub safe_of : (m : State) → Good m → Safe m
+safe_of m g =
+    let h = g.history in
+    record {
+      backed = h.backed;
+      one = h.one;
+      agrees = λ p.
+          let last = attached_page m g p in
+          record { there = role_there m.agent last; same = λ t. agrees_at m g t (ap (λ o. is_given o t) last) };
+    }
+
+-- a history that grows
+abbrev pub BothOf : State → History → Type 0
+BothOf m h = Both m.settings m.transactions m.consumed (view m) (page_of m.agent) h
+
+pub both_of : (m : State) → Good m → BothOf m m.history
+both_of m g = record { good = g.history; faces = g.faces }
+
+grown_good : (m : State) (h : History) → BothOf m h → SameRole m.history h → Good m → Good (record m { history = h })
+grown_good m h b r g =
+    record {
+      history = b.good;
+      faces = b.faces;
+      slots = g.slots;
+      count = g.count;
+      when_active = λ p. g.when_active (sym (ap is_some r.active) ∙ p);
+      when_attaching = λ p. g.when_attaching (sym (ap is_some r.attaching) ∙ p);
+    }
+
+pub create_good : (m : State) (f : Facts) → Good m → Good (creates m f).1
+create_good m f g =
+    grown_good m _ (both_created m.settings m.transactions m.consumed (view m) (page_of m.agent) m.history f (both_of m g)) (role_posted m.history (creation m.settings.first_tseq m.history f)) g
+
+-- slots that are all idle
+pub idle : (n i : ℕ) (b : Slot) → slice_get (idle_slots n) i ≡ Some (Some b) → ⊥
+idle zero i b e = absurd cc
+idle (suc n) zero b e = absurd cc
+idle (suc n) (suc i) b e = idle n i b e
+
+pub idle_count : (n : ℕ) → length (idle_slots n) ≡ n
+idle_count zero = refl
+idle_count (suc n) = ap suc (idle_count n)
+
+-- a drain
+pub drain_good : (m : State) (max c : ℕ) (d : Drained) (a : Option Agent) → Good m
+    → Drains m max d (record m { consumed = c; agent = a }) → Good (record m { consumed = c; agent = a })
+drain_good m max c d a g r =
+    let takes = r.takes in
+    let h = g.history in
+    let f = faces_drained m.settings.first_tseq m.history m.consumed d.count (view m) (look_up (records_of a)) (page_of m.agent) h.numbered (omega (arith, takes.count)) (same_view _ _ takes.known) g.faces in
+    record {
+      history = g.history;
+      faces = subst (λ x. Faces m.settings.first_tseq m.history x (look_up (records_of a)) (page_of a)) (sym r.consumed)
+          (subst (Faces m.settings.first_tseq m.history (m.consumed + d.count) (look_up (records_of a))) (sym r.page) f);
+      slots = g.slots;
+      count = g.count;
+      when_active = λ p. r.page ∙ g.when_active p;
+      when_attaching = λ p. r.stays ∙ g.when_attaching p;
+    }
+
+-- a stamp
+in_more : (xs ys : List Transaction) (x : Transaction) → IsIn xs x → IsIn (xs ++ ys) x
+in_more xs ys x i = (i.0, get_left xs ys i.0 x i.1)
+
+backed_more : (s : Settings) (xs ys : List Transaction) (h : History) (e : Entry) → IsBacked s xs h e → IsBacked s (xs ++ ys) h e
+backed_more s xs ys h (Placed t q c g) b = (b.0, in_more xs ys b.0 b.1, b.2, b.3)
+backed_more s xs ys h (Posted m) b = tt
+backed_more s xs ys h (Role g c) b = tt
+backed_more s xs ys h (Begin g) b = tt
+backed_more s xs ys h Left b = tt
+backed_more s xs ys h (Taken c) b = tt
+backed_more s xs ys h (Given c) b = tt
+backed_more s xs ys h Torn b = tt
+
+stamped_good : (s : Settings) (xs : List Transaction) (y : Transaction) (h : History) → Was s.first_tseq h y.slot.tid (record { facts = y.facts; tseq = y.slot.tseq }) → y.cpu < s.cpus → GoodHistory s xs h → GoodHistory s (xs ++ y ∷ []) h
+stamped_good s xs y h w below g =
+    record {
+      backed = λ i e is. backed_more s xs (y ∷ []) (take i h) e (g.backed i e is);
+      one = g.one;
+      numbered = g.numbered;
+      fresh = g.fresh;
+      no_zero = g.no_zero;
+      on_cpus = g.on_cpus;
+      on_known = g.on_known;
+      stamped = λ x i. by_place x i.0 (get_new xs y x i.0 i.1);
+      within = λ x i. in_range x i.0 (get_new xs y x i.0 i.1);
+    }
+  where
+    by_place : (x : Transaction) (i : ℕ) → (slice_get xs i ≡ Some x) ⊎ (x ≡ y) → Was s.first_tseq h x.slot.tid (record { facts = x.facts; tseq = x.slot.tseq })
+    by_place x i (inl p) = g.stamped x (i, p)
+    by_place x i (inr p) = subst (λ (z : Transaction). Was s.first_tseq h z.slot.tid (record { facts = z.facts; tseq = z.slot.tseq })) (sym p) w
+
+    in_range : (x : Transaction) (i : ℕ) → (slice_get xs i ≡ Some x) ⊎ (x ≡ y) → x.cpu < s.cpus
+    in_range x i (inl p) = g.within x (i, p)
+    in_range x i (inr p) = subst (λ (z : Transaction). z.cpu < s.cpus) (sym p) below
+
+pub stamp_good_with : (m : State) (c t : ℕ) (a : Option (ℕ × ℕ)) (k : Option Known) → view m t ≡ k → c < m.settings.cpus → Good m → Good (stamps_with m c t a k).1
+stamp_good_with m c t None k e below g = g
+stamp_good_with m c t (Some a) None e below g = g
+stamp_good_with m c t (Some a) (Some k) e below g =
+    let b : Slot = stamp_of t a k in
+    let y : Transaction = record { cpu = c; slot = b; facts = k.facts } in
+    let f = g.faces in
+    record {
+      history = stamped_good m.settings m.transactions y m.history (f.known t k e) below g.history;
+      faces = g.faces;
+      slots = λ i z q. by_slot i z (get_set m.slots c i (Some b) (Some z) q);
+      count = length_set m.slots c (Some b) ∙ g.count;
+      when_active = g.when_active;
+      when_attaching = g.when_attaching;
+    }
+  where
+    by_slot : (i : ℕ) (z : Slot) → (slice_get m.slots i ≡ Some (Some z)) ⊎ ((i ≡ c) × (Some z ≡ Some (stamp_of t a k)))
+        → (x : Transaction) × IsIn (m.transactions ++ record { cpu = c; slot = stamp_of t a k; facts = k.facts } ∷ []) x × (x.slot ≡ z) × (x.cpu ≡ 0 + i)
+    by_slot i z (inl q) = let r = g.slots i z q in (r.0, in_more m.transactions _ r.0 r.1, r.2, r.3)
+    by_slot i z (inr q) = (record { cpu = c; slot = stamp_of t a k; facts = k.facts }, (length m.transactions, get_at_end m.transactions _), cc, omega (arith, q.0))
+
+pub stamp_good : (m : State) (c t : ℕ) → c < m.settings.cpus → Good m → Good (stamps m c t).1
+stamp_good m c t below g = stamp_good_with m c t (active m.history) (view m t) refl below g
+
+-- a commit
+collected_are : (xs : List Transaction) (mask : ℕ) (k : ℕ) (slots : List (Option Slot)) → AreOf xs k slots → AreOf xs k (collected mask k slots)
+collected_are xs mask k [] all i b e = all i b e
+collected_are xs mask k (z ∷ slots) all zero b e = by_mask (has mask k) e
+  where
+    by_mask : (m : Bool) → Some (cond m None z) ≡ Some (Some b) → (x : Transaction) × IsIn xs x × (x.slot ≡ b) × (x.cpu ≡ k + 0)
+    by_mask true e = absurd cc
+    by_mask false e = all 0 b e
+collected_are xs mask k (z ∷ slots) all (suc i) b e =
+    let r = collected_are xs mask (suc k) slots (tail_of xs k z slots all) i b e in
+    (r.0, r.1, r.2, omega (arith, r.3))
+
+collected_count : (mask : ℕ) (k : ℕ) (slots : List (Option Slot)) → length (collected mask k slots) ≡ length slots
+collected_count mask k [] = refl
+collected_count mask k (z ∷ slots) = ap suc (collected_count mask (suc k) slots)
+
+pub commit_good : (m : State) (mask : ℕ) → Good m → Good (commits m mask).1
+commit_good m mask g =
+    let h' : History = (lands m.settings mask 0 m.slots m.history).1 in
+    let l = all_landed m.settings m.transactions m.consumed (view m) (page_of m.agent) mask 0 m.slots m.history (both_of m g) g.slots (omega (arith, g.count)) in
+    let w = grown_good m h' l.both l.role g in
+    record {
+      history = w.history;
+      faces = w.faces;
+      slots = collected_are m.transactions mask 0 m.slots g.slots;
+      count = collected_count mask 0 m.slots ∙ g.count;
+      when_active = w.when_active;
+      when_attaching = w.when_attaching;
+    }
+
+pub faithful_of : (m : State) → Good m → IsFaithful m
+faithful_of m g =
+    let f = g.faces in
+    record { known = λ t k e. was_once m.settings.first_tseq m.history t k (f.known t k e); no_gap = no_gap m g }

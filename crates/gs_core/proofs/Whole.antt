@@ -1,0 +1,87 @@
+-- Each step keeps what the machine keeps, and the machine has it at the start.
+use Rattle.std.proofs.Common.{◌≡◌, refl, sym, subst, ℕ, zero, suc, ◌<◌, inl, inr, nat_le, true, false, Option, None, Some, [], ◌∷◌, arith}
+use Rattle.std.specs.Option.{is_some}
+use Rattle.std.proofs.lemmas.Bool.Decides.{nat_tests}
+use Rattle.gs_layout.specs.declared.refusal.Refusal.{Refusal}
+use Rattle.gs_journal.specs.declared.entry.Entry.TheVariants.{Role}
+use Rattle.gs_journal.specs.Standing.{standing, latest, last_of}
+use Rattle.gs_journal.specs.Record.{record_of}
+use Rattle.gs_journal.specs.History.{posted, messages, seq, record_in, on, attaching, AtEach, AtEachPrefix}
+use Rattle.gs_journal.specs.State.{state}
+use Rattle.gs_kernel.specs.declared.settings.Settings.{Settings}
+use Rattle.gs_core.specs.declared.transaction.Transaction.{Transaction}
+use Rattle.gs_core.specs.declared.reply.Reply.{Reply}
+use Rattle.gs_core.specs.Machine.{State, start, Drains}
+use Rattle.gs_core.specs.Safe.{IsIn, IsBacked, OnOne}
+use Rattle.gs_core.specs.Good.{Good}
+use Rattle.gs_core.specs.declared.event.Event.{Event}
+use Rattle.gs_core.specs.declared.event.Event.TheVariants as events
+use Rattle.gs_core.specs.Machine.{refusal, Does, Serves, Step}
+use Rattle.gs_core.proofs.Steps.{first_passed, create_good, drain_good, stamp_good, commit_good, idle, idle_count}
+
+pub below_count : (m : State) (c : ℕ) → nat_le m.settings.cpus c ≡ false → c < m.settings.cpus
+below_count m c e = grind (arith, nat_tests, e)
+
+-- an event that is not refused, and does what it says, keeps what the machine keeps
+does_good : (m : State) (e : Event) (r : Reply) (m' : State) → Good m → refusal m e ≡ None → Does m e r m' → Good m'
+does_good m (events.Create f) r m' g none d = subst Good (sym d.1) (create_good m f g)
+does_good m (events.Drain max) r m' g none d =
+    let drains = d.2 in
+    subst Good (sym drains.others) (drain_good m max m'.consumed d.0 m'.agent g (subst (Drains m max d.0) drains.others drains))
+does_good m (events.Stamp c t) r m' g none d = subst Good (sym d.1) (stamp_good m c t (below_count m c (first_passed _ _ _ (first_passed _ _ _ none).1).0) g)
+does_good m (events.Commit mask) r m' g none d = subst Good (sym d.1) (commit_good m mask g)
+
+serves_good : (f : Option Refusal) (m : State) (e : Event) (r : Reply) (m' : State) → Good m → refusal m e ≡ f → Serves f m e r m' → Good m'
+serves_good (Some f) m e r m' g is s = subst Good (sym s.1) g
+serves_good None m e r m' g is (inl d) = does_good m e r m' g is d
+serves_good None m e r m' g is (inr s) = subst Good (sym s.1) g
+
+pub step_good : (m : State) (e : Event) (r : Reply) (m' : State) → Good m → Step m e r m' → Good m'
+step_good m e r m' g s = serves_good (refusal m e) m e r m' g refl s
+
+-- the start
+role_only : (g c : ℕ) → (t d : ℕ) → on (Role g c ∷ []) d ≡ Some t → ⊥
+unfolding on standing last_of
+role_only g c t d e = absurd cc
+
+nothing_on : (t d : ℕ) → on [] d ≡ Some t → ⊥
+unfolding on standing last_of
+nothing_on t d e = absurd cc
+
+one_at_start : (g c : ℕ) → AtEachPrefix OnOne (Role g c ∷ [])
+one_at_start g c zero = λ t d e p q. absurd (nothing_on t d p)
+one_at_start g c (suc zero) = λ t d e p q. absurd (role_only g c t d p)
+one_at_start g c (suc (suc i)) = λ t d e p q. absurd (role_only g c t d p)
+
+backed_at_start : (s : Settings) (g c : ℕ) → AtEach (IsBacked s []) (Role g c ∷ [])
+backed_at_start s g c zero e is = subst (IsBacked s [] []) (let q : Role g c ≡ e = cc in q) tt
+backed_at_start s g c (suc i) e is = absurd cc
+
+no_transaction : (x : Transaction) → IsIn [] x → ⊥
+no_transaction x i = absurd (cc i.1)
+
+not_attaching : (g c : ℕ) → is_some (attaching (Role g c ∷ [])) ≡ true → ⊥
+unfolding attaching standing last_of
+not_attaching g c e = absurd cc
+
+pub start_good : (s : Settings) → Good (start s)
+unfolding state seq record_in record_of messages posted latest standing last_of
+start_good s =
+    record {
+      history = record {
+        backed = backed_at_start s s.first_generation 0;
+        one = one_at_start s.first_generation 0;
+        numbered = λ t. tt;
+        fresh = λ t p. refl;
+        no_zero = refl;
+        on_cpus = λ t c p. absurd (role_only s.first_generation 0 t c p);
+        on_known = λ t c p. absurd (role_only s.first_generation 0 t c p);
+        stamped = λ x i. absurd (no_transaction x i);
+        within = λ x i. absurd (no_transaction x i);
+      };
+      faces = record { consumed = omega arith; known = λ t k e. absurd cc; each = λ t. inl refl; given = λ t p. refl };
+      slots = λ i b e. absurd (idle s.cpus i b e);
+      count = idle_count s.cpus;
+      when_active = λ p. refl;
+      when_attaching = λ p. absurd (not_attaching s.first_generation 0 p);
+    }

@@ -1,0 +1,28 @@
+-- A drain that goes on.
+use Rattle.std.specs.Prelude.{false, ℕ, ◌+◌, ◌≤◌, ◌≡◌, None, List, length, if◌then◌else◌}
+use Rattle.std.specs.List.{list_any, count_by}
+use Rattle.gs_layout.specs.declared.message.Message.{Message}
+use Rattle.gs_layout.specs.declared.known.Word.{Word}
+use Rattle.gs_layout.specs.View.{Look, words, catch_up, is_gap, is_skipped, is_orphan}
+use Rattle.gs_core.specs.declared.drained.Drained.{Drained}
+
+-- one message more, which was this to the view
+abbrev pub count_word : Drained → Word → Drained
+count_word d w =
+    record {
+      count = d.count + 1;
+      skipped = d.skipped + (if is_skipped w then 1 else 0);
+      orphans = d.orphans + (if is_orphan w then 1 else 0);
+      stop = d.stop;
+    }
+
+-- these messages were all taken in so far
+pub record Took (v : Look) (ms : List Message) (d : Drained) (v' : Look) : Type 0 where
+  pub count : d.count ≡ length ms
+  pub stop : d.stop ≡ None
+  pub none_gap : list_any is_gap (words v ms) ≡ false
+  pub skipped : d.skipped ≡ count_by is_skipped (words v ms)
+  pub orphans : d.orphans ≡ count_by is_orphan (words v ms)
+  pub known : (t : ℕ) → v' t ≡ catch_up v ms t
+  pub few_skipped : d.skipped ≤ d.count
+  pub few_orphans : d.orphans ≤ d.count

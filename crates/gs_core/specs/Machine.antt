@@ -1,0 +1,202 @@
+-- The machine: what each event answers and leaves.
+use Rattle.std.specs.Prelude.{Bool, true, false, not, ◌||◌, ◌&&◌, ℕ, zero, suc, ◌+◌, ◌<◌, ◌≤◌, ◌≡◌, ◌⊎◌, nat_le, min, Option, None, Some, IsSome, List, [], ◌∷◌, ◌++◌, length, take, drop, slice_get, slice_set, if◌then◌else◌, is_some}
+use Rattle.std.specs.List.{list_any, count_by}
+use Rattle.gs_layout.specs.declared.facts.Facts.{Facts}
+use Rattle.gs_layout.specs.declared.message.Message.{Message}
+use Rattle.gs_layout.specs.declared.message.Message.TheVariants.{Thread, TimerTick}
+use Rattle.gs_layout.specs.Message.{is_creation}
+use Rattle.gs_layout.specs.declared.known.Known.{Known}
+use Rattle.gs_layout.specs.declared.slot.Slot.{Slot}
+use Rattle.gs_layout.specs.declared.refusal.Refusal.{Refusal}
+use Rattle.gs_layout.specs.declared.refusal.Refusal.TheVariants as refusals
+use Rattle.gs_layout.specs.View.{Look, look_up, words, catch_up, is_gap, is_skipped, is_orphan, gap_next}
+use Rattle.gs_journal.specs.declared.entry.Entry.{Entry}
+use Rattle.gs_journal.specs.declared.entry.Entry.TheVariants.{Role}
+use Rattle.gs_journal.specs.Masks.{has, has_past}
+use Rattle.gs_journal.specs.History.{History, active, attaching}
+use Rattle.gs_journal.specs.State.{unread_after}
+use Rattle.gs_kernel.specs.declared.settings.Settings.{Settings}
+use Rattle.gs_kernel.specs.declared.landing.Landing.{Landing}
+use Rattle.gs_kernel.specs.Landing.{landing, after_landing}
+use Rattle.gs_kernel.specs.Kernel.{refused_first, is_held, create_refusal, new_tid, after_creation}
+use Rattle.gs_core.specs.declared.drained.Drained.{Drained}
+use Rattle.gs_core.specs.declared.drained.Stop.TheVariants as stops
+use Rattle.gs_core.specs.declared.event.Event.{Event}
+use Rattle.gs_core.specs.declared.event.Event.TheVariants as events
+use Rattle.gs_core.specs.declared.reply.Reply.{Reply}
+use Rattle.gs_core.specs.declared.reply.Reply.TheVariants as replies
+use Rattle.gs_core.specs.declared.transaction.Transaction.{Transaction}
+
+-- what an agent keeps: its records by rising tid, and the tid where its next page begins, none where it needs no more pages
+pub record Agent : Type 0 where
+  pub records : List (ℕ × Known)
+  pub next : Option ℕ
+
+-- a machine: what happened, how many messages the agents consumed, the agent if there is one, each CPU's slot, and all that was ever stamped
+pub record State : Type 0 where
+  pub settings : Settings
+  pub history : List Entry
+  pub consumed : ℕ
+  pub agent : Option Agent
+  pub slots : List (Option Slot)
+  pub transactions : List Transaction
+
+abbrev pub records_of : Option Agent → List (ℕ × Known)
+records_of None = []
+records_of (Some a) = a.records
+
+-- where the next page begins: the first one, where there is no agent
+abbrev pub page_of : Option Agent → Option ℕ
+page_of None = Some 1
+page_of (Some a) = a.next
+
+-- what the agent knows of each thread
+abbrev pub view : State → Look
+view m = look_up (records_of m.agent)
+
+-- the messages that were posted and not yet consumed
+abbrev pub unread : State → List Message
+unread m = unread_after m.history m.consumed
+
+-- an agent is active, or one attaches that was given the last page
+abbrev pub attached : State → Bool
+attached m = is_some (active m.history) || (is_some (attaching m.history) && not (is_some (page_of m.agent)))
+
+-- whether the slot of a CPU is idle
+abbrev pub is_idle : Option (Option Slot) → Bool
+is_idle (Some None) = true
+is_idle (Some (Some b)) = false
+is_idle None = false
+
+-- the first refusal of an event whose condition holds
+abbrev pub refusal : State → Event → Option Refusal
+refusal m (events.Create f) = create_refusal m.settings m.history f
+refusal m (events.Drain max) = refused_first ((not (is_held m.history), refusals.NotActive) ∷ [])
+refusal m (events.Stamp c t) =
+    refused_first (
+    (not (is_some (active m.history)), refusals.NotActive)
+    ∷ (nat_le m.settings.cpus c, refusals.BadCpu)
+    ∷ (not (is_some (view m t)), refusals.NoThread)
+    ∷ (not (is_idle (slice_get m.slots c)), refusals.SlotOpen)
+    ∷ (nat_le m.settings.history (length m.transactions), refusals.HistoryFull)
+    ∷ []
+    )
+refusal m (events.Commit mask) =
+    refused_first ((not (is_some (active m.history)), refusals.NotActive) ∷ (has_past mask m.settings.cpus, refusals.EmptyMask) ∷ [])
+
+-- a thread is created
+abbrev pub creates : State → Facts → Reply × State
+creates m f =
+    (replies.Created (new_tid m.history) (m.settings.first_tseq + 1), record m { history = after_creation m.settings.first_tseq m.history f })
+
+-- what is stamped: the active generation, and the record's sequence number
+abbrev pub stamp_of : ℕ → (ℕ × ℕ) → Known → Slot
+stamp_of t a k = record { generation = a.0; tid = t; tseq = k.tseq }
+
+-- the record that the view has is stamped into the slot, and kept with the transaction
+abbrev pub stamps_with : State → ℕ → ℕ → Option (ℕ × ℕ) → Option Known → Reply × State
+stamps_with m c t (Some a) (Some k) = (
+  replies.Stamped (length m.transactions + 1),
+  record m {
+    slots = slice_set m.slots c (Some (stamp_of t a k));
+    transactions = m.transactions ++ record { cpu = c; slot = stamp_of t a k; facts = k.facts } ∷ [];
+  },
+)
+stamps_with m c t None k = (replies.Refused refusals.NotActive, m)
+stamps_with m c t (Some a) None = (replies.Refused refusals.NoThread, m)
+
+abbrev pub stamps : State → ℕ → ℕ → Reply × State
+stamps m c t = stamps_with m c t (active m.history) (view m t)
+
+-- the stamped slots of the mask land, by rising CPU from k on, each on the history that the one before left
+abbrev pub lands : Settings → ℕ → ℕ → List (Option Slot) → History → List Landing × History
+lands s mask k [] h = ([], h)
+lands s mask k (None ∷ slots) h = lands s mask (suc k) slots h
+lands s mask k ((Some b) ∷ slots) h =
+    if has mask k
+    then (landing s h k b ∷ (lands s mask (suc k) slots (after_landing s h k b)).0, (lands s mask (suc k) slots (after_landing s h k b)).1)
+    else lands s mask (suc k) slots h
+
+-- the slots of the mask are idle then
+abbrev pub collected : ℕ → ℕ → List (Option Slot) → List (Option Slot)
+collected mask k [] = []
+collected mask k (slot ∷ slots) = (if has mask k then None else slot) ∷ collected mask (suc k) slots
+
+abbrev pub commits : State → ℕ → Reply × State
+commits m mask = (
+  replies.Landed (lands m.settings mask 0 m.slots m.history).0,
+  record m { history = (lands m.settings mask 0 m.slots m.history).1; slots = collected mask 0 m.slots },
+)
+
+-- whether a message begins the record of a thread
+abbrev pub begins : Look → Message → Bool
+begins v (TimerTick c) = false
+begins v (Thread t s c) = is_creation (Thread t s c) && not (is_some (v t))
+
+-- whether the next of these messages begins a record
+abbrev pub begins_next : Look → List Message → Bool
+begins_next v [] = false
+begins_next v (m ∷ ms) = begins v m
+
+-- of these messages the first count were taken in, none of them a gap; a drain stops early where the next one is a gap, or where it
+-- begins a record and there is no memory for that
+pub record Takes (v : Look) (ms : List Message) (most : ℕ) (d : Drained) (v' : Look) : Type 0 where
+  pub count : d.count ≤ min most (length ms)
+  pub whole : d.stop ≡ None → d.count ≡ min most (length ms)
+  pub early : IsSome d.stop → d.count < min most (length ms)
+  pub gap : d.stop ≡ Some stops.Gap → gap_next (catch_up v (take d.count ms)) (drop d.count ms) ≡ true
+  pub memory : d.stop ≡ Some stops.Memory → begins_next (catch_up v (take d.count ms)) (drop d.count ms) ≡ true
+  pub none_gap : list_any is_gap (words v (take d.count ms)) ≡ false
+  pub skipped : d.skipped ≡ count_by is_skipped (words v (take d.count ms))
+  pub orphans : d.orphans ≡ count_by is_orphan (words v (take d.count ms))
+  pub known : (t : ℕ) → v' t ≡ catch_up v (take d.count ms) t
+
+-- a drain takes in unread messages, and changes nothing else
+pub record Drains (m : State) (max : ℕ) (d : Drained) (m' : State) : Type 0 where
+  pub takes : Takes (view m) (unread m) max d (view m')
+  pub consumed : m'.consumed ≡ m.consumed + d.count
+  pub others : m' ≡ record m { consumed = m'.consumed; agent = m'.agent }
+  pub stays : is_some m'.agent ≡ is_some m.agent
+  pub page : page_of m'.agent ≡ page_of m.agent
+
+-- what an event answers and leaves that is not refused and finds memory; a drain has its own word
+abbrev pub Does : State → Event → Reply → State → Type 0
+Does m (events.Create f) r m' = (r ≡ (creates m f).0) × (m' ≡ (creates m f).1)
+Does m (events.Drain max) r m' = (d : Drained) × (r ≡ replies.Drained d) × Drains m max d m'
+Does m (events.Stamp c t) r m' = (r ≡ (stamps m c t).0) × (m' ≡ (stamps m c t).1)
+Does m (events.Commit mask) r m' = (r ≡ (commits m mask).0) × (m' ≡ (commits m mask).1)
+
+-- want of memory refuses an event; a drain stops in place of that
+abbrev pub IsShort : Event → Reply → Type 0
+IsShort (events.Drain max) r = ⊥
+IsShort e r = r ≡ replies.Refused refusals.OutOfMemory
+
+-- what is refused changes nothing; what is not is done, or there was no memory and nothing changed
+abbrev pub Serves : Option Refusal → State → Event → Reply → State → Type 0
+Serves (Some f) m e r m' = (r ≡ replies.Refused f) × (m' ≡ m)
+Serves None m e r m' = Does m e r m' ⊎ (IsShort e r × (m' ≡ m))
+
+-- from m an event may answer r and leave m'
+abbrev pub Step : State → Event → Reply → State → Type 0
+Step m e r m' = Serves (refusal m e) m e r m'
+
+-- a transaction by its number, counted from 1
+abbrev pub transaction_of : List Transaction → ℕ → Option Transaction
+transaction_of xs zero = None
+transaction_of xs (suc n) = slice_get xs n
+
+-- the machine before the first event
+abbrev pub idle_slots : ℕ → List (Option Slot)
+idle_slots zero = []
+idle_slots (suc n) = None ∷ idle_slots n
+
+abbrev pub start : Settings → State
+start s =
+    record {
+      settings = s;
+      history = Role s.first_generation 0 ∷ [];
+      consumed = 0;
+      agent = Some (record { records = []; next = None });
+      slots = idle_slots s.cpus;
+      transactions = [];
+    }

@@ -1,0 +1,21 @@
+/// Why a drain stopped before its count.
+#[derive(Clone, Copy, PartialEq, Eq, Debug)]
+pub enum Stop {
+    /// The next message's number is more than one above the record's.
+    Gap,
+    /// The next message begins a record, and there was no memory for that.
+    Memory,
+}
+
+/// What a drain took in.
+#[derive(Clone, Copy, PartialEq, Eq, Debug)]
+pub struct Drained {
+    /// How many messages it consumed.
+    pub count: usize,
+    /// How many of these were skipped, as their numbers were not above the records'.
+    pub skipped: usize,
+    /// How many of these were about threads without a record, and no creations.
+    pub orphans: usize,
+    /// Why it stopped early, where it did.
+    pub stop: Option<Stop>,
+}

@@ -1,0 +1,226 @@
+ghost use Rattle.std.specs.Prelude.{◌≡◌, None, IfOk, IfErr, OnOk, OnErr};
+ghost use Rattle.gs_kernel.specs.Kernel.{IsRefusal};
+ghost use Rattle.gs_kernel.specs.Settings.{IsInRange};
+ghost use Rattle.gs_core.specs.Config.{config_fault, settings_of, IsFault};
+ghost use Rattle.gs_core.specs.Machine.{State, Step, start, refusal, stamps, transaction_of};
+ghost use Rattle.gs_core.specs.Safe.{Safe, IsFaithful, Run};
+
+use crate::commit::{collect, land_all};
+use crate::config::{Config, ConfigFault};
+use crate::drain::drain_into;
+use crate::event::Event;
+use crate::reply::{Landings, Reply};
+use crate::transaction::Transaction;
+use crate::view::View;
+use gs_journal::Mask;
+use gs_kernel::{Kernel, Settings};
+use gs_layout::{Facts, Refusal, Slot};
+use std::alloc::{AllocError, Global};
+use std::marker::Model;
+
+/// An enclave: the kernel, the global agent that the kernel tells of its threads, and the slots by
+/// which the agent tells the kernel its decisions (after the ghOSt paper, SOSP 2021).
+#[derive(Drop)]
+pub struct Machine {
+    alloc: Global,
+    kernel: Kernel,
+    consumed: usize,
+    view: View,
+    slots: Vec<Option<Slot>>,
+    transactions: Vec<Transaction>,
+}
+
+impl Model for Machine {
+    ghost use Rattle.gs_core.specs.Machine.{State};
+
+    ghost Value = { State };
+
+    ghost use Rattle.gs_core.specs.Held.{machine_view, IsMachine};
+
+    ghost view = { machine_view };
+
+    ghost invariant = { IsMachine };
+}
+
+impl Machine {
+    /// An enclave in which nothing happened but that the first agent is active on CPU 0.
+    ///
+    /// # Errors
+    ///
+    /// The first fault of the configuration, else `OutOfMemory` where memory runs out.
+    pub fn new(alloc: Global, config: Config) -> Result<Machine, ConfigFault>
+        ensures ok { IfOk result (λ m. m ≡ start (settings_of config)) }
+        ensures fits { IfOk result (λ _. config_fault config ≡ None) }
+        ensures fault { IfErr result (IsFault (config_fault config)) }
+        ensures safe { IfOk result Safe }
+        ensures faithful { IfOk result IsFaithful }
+    {
+        if let Some(fault) = config.fault() {
+            return Err(fault);
+        }
+        match Machine::open(alloc, config.settings()) {
+            Ok(machine) => Ok(machine),
+            Err(_) => Err(ConfigFault::OutOfMemory),
+        }
+    }
+
+    fn open(alloc: Global, settings: Settings) -> Result<Machine, AllocError>
+        requires { IsInRange settings }
+        ensures { IfOk result (λ m. m ≡ start settings) }
+    {
+        let slots = vec![in alloc; None; settings.cpus as usize]?;
+        Ok(Machine {
+            alloc,
+            kernel: Kernel::new(alloc, settings)?,
+            consumed: 0,
+            view: View::new(alloc),
+            slots,
+            transactions: Vec::new(alloc),
+        })
+    }
+
+    /// The kernel, to look at.
+    pub fn kernel(&self) -> &Kernel
+        ensures settings { result.now.settings ≡ self.now.settings }
+        ensures history { result.now.history ≡ self.now.history }
+    {
+        &self.kernel
+    }
+
+    /// A transaction by its number, counted from 1 by the stampings: the slot as it was stamped, and
+    /// the facts that it was stamped from.
+    pub fn transaction(&self, number: usize) -> Option<Transaction>
+        ensures { result ≡ transaction_of self.now.transactions number }
+    {
+        self.transactions.get(number.checked_sub(1)?).copied()
+    }
+
+    fn create(&mut self, facts: &Facts) -> Reply
+        ensures { Step self.old (Event.Create facts.now) result self.new }
+    {
+        match self.kernel.create(facts) {
+            Ok((tid, tseq)) => Reply::Created { tid, tseq },
+            Err(refusal) => Reply::Refused(refusal),
+        }
+    }
+
+    fn drain(&mut self, max: u32) -> Reply
+        ensures { Step self.old (Event.Drain max) result self.new }
+    {
+        if !self.kernel.is_held() {
+            return Reply::Refused(Refusal::NotActive);
+        }
+        let unread = &self.kernel.messages()[self.consumed..];
+        let drained = drain_into(&mut self.view, unread, max);
+        self.consumed += drained.count;
+        Reply::Drained(drained)
+    }
+
+    fn stamp(&mut self, cpu: u16, tid: u32) -> Reply
+        ensures { Step self.old (Event.Stamp cpu tid) result self.new }
+    {
+        match self.try_stamp(cpu, tid) {
+            Ok(number) => Reply::Stamped { number },
+            Err(refusal) => Reply::Refused(refusal),
+        }
+    }
+
+    /// Stamps the record that the view has of a thread into the slot of a CPU. Answers the
+    /// transaction's number.
+    #[tactic(auto, using(crate::proofs::Serving::slot_idle, crate::proofs::Serving::slot_stamped))]
+    fn try_stamp(&mut self, cpu: u16, tid: u32) -> Result<usize, Refusal>
+        ensures fits { IfOk result (λ _. refusal self.old (Event.Stamp cpu tid) ≡ None) }
+        ensures number { IfOk result (λ n. Reply.Stamped n ≡ (stamps self.old cpu tid).0) }
+        ensures ok { OnOk result (self.new ≡ (stamps self.old cpu tid).1) }
+        ensures refused { IfErr result (IsRefusal (refusal self.old (Event.Stamp cpu tid))) }
+        ensures unchanged { OnErr result (self.new ≡ self.old) }
+    {
+        let Some((generation, _)) = self.kernel.active() else {
+            return Err(Refusal::NotActive);
+        };
+        let place = cpu as usize;
+        if place >= self.slots.len() {
+            return Err(Refusal::BadCpu);
+        }
+        let Some(known) = self.view.get(tid) else {
+            return Err(Refusal::NoThread);
+        };
+        let None = self.slots[place] else {
+            return Err(Refusal::SlotOpen);
+        };
+        let number = self.transactions.len();
+        if number >= self.kernel.settings().history as usize {
+            return Err(Refusal::HistoryFull);
+        }
+        let slot = Slot {
+            generation,
+            tid,
+            tseq: known.tseq,
+        };
+        let transaction = Transaction {
+            cpu,
+            slot,
+            facts: known.facts,
+        };
+        if self.transactions.push(transaction).is_err() {
+            return Err(Refusal::OutOfMemory);
+        }
+        self.slots[place] = Some(slot);
+        Ok(number + 1)
+    }
+
+    fn commit(&mut self, mask: Mask) -> Reply
+        ensures { Step self.old (Event.Commit mask) result self.new }
+    {
+        if self.kernel.active().is_none() {
+            return Reply::Refused(Refusal::NotActive);
+        }
+        if mask.has_past(self.kernel.settings().cpus) {
+            return Reply::Refused(Refusal::EmptyMask);
+        }
+        let count = self.slots.len();
+        let Ok(mut landings) = Vec::with_capacity(self.alloc, count) else {
+            return Reply::Refused(Refusal::OutOfMemory);
+        };
+        if self.kernel.reserve(count).is_err() {
+            return Reply::Refused(Refusal::OutOfMemory);
+        }
+        land_all(&mut self.kernel, &self.slots, mask, &mut landings);
+        collect(&mut self.slots, mask);
+        Reply::Landed(Landings::new(landings))
+    }
+
+    /// One event. It is refused by the first refusal that applies, and changes nothing then.
+    pub fn step(&mut self, event: &Event) -> Reply
+        ensures step { Step self.old event.now result self.new }
+        ensures safe { Safe self.new }
+        ensures faithful { IsFaithful self.new }
+    {
+        let reply = match event {
+            Event::Create { facts } => self.create(facts),
+            Event::Drain { max } => self.drain(*max),
+            Event::Stamp { cpu, tid } => self.stamp(*cpu, *tid),
+            Event::Commit { mask } => self.commit(*mask),
+        };
+        // A look at a field, by which the proof has what the machine keeps.
+        let _consumed = &self.consumed;
+        reply
+    }
+
+    /// Events, one after another. Each machine on the way is safe.
+    ///
+    /// # Errors
+    ///
+    /// Where there is no memory for the replies. Then no event ran.
+    pub fn run(&mut self, events: &[Event]) -> Result<Vec<Reply>, AllocError>
+        ensures run { IfOk result (λ replies. Run self.old events.now replies.items self.new) }
+        ensures unchanged { OnErr result (self.new ≡ self.old) }
+    {
+        let mut replies = Vec::with_capacity(self.alloc, events.len())?;
+        for event in events {
+            let reply = self.step(event);
+            replies.push_reserved(reply);
+        }
+        Ok(replies)
+    }
+}

@@ -1,0 +1,177 @@
+use crate::{Config, ConfigFault, Drained, Event, Machine, Reply};
+use gs_journal::Mask;
+use gs_layout::{Class, Facts, Name, Outcome, Refusal};
+use std::process::Abort;
+use std::test::Fail;
+
+const TWO_CPUS: Config = Config {
+    cpus: 2,
+    ring: 128,
+    first_tseq: 0,
+    first_generation: 1,
+    history: 100,
+};
+
+fn thread(rt: &impl Abort, runnable: bool, mask: u64) -> Facts {
+    Facts {
+        runnable,
+        mask,
+        class: Class::Zero,
+        name: Name::new(b"web").expect(rt, "a name"),
+    }
+}
+
+/// Whether a commit landed just one slot, of this CPU and thread, with this outcome.
+fn is_landed(reply: &Reply, cpu: u16, tid: u32, outcome: Outcome, at: Option<u16>) -> bool {
+    match reply {
+        Reply::Landed(landings) => match landings.as_slice() {
+            [only] => {
+                only.cpu == cpu
+                    && only.tid == tid
+                    && only.outcome == outcome
+                    && only.seen == 1
+                    && only.at == at
+            }
+            _ => false,
+        },
+        _ => false,
+    }
+}
+
+#[test]
+fn first_path(rt: HostRuntime) -> Result<(), Fail> {
+    let mut machine = Machine::new(rt.alloc(), TWO_CPUS)?;
+    let events = [
+        Event::Create {
+            facts: thread(&rt, true, 3),
+        },
+        Event::Drain { max: 1 },
+        Event::Stamp { cpu: 1, tid: 1 },
+        Event::Commit { mask: Mask::new(2) },
+    ];
+    let replies = machine.run(&events)?;
+    assert_eq!(rt; replies.len(), 4);
+    assert!(rt; matches!(replies[0], Reply::Created { tid: 1, tseq: 1 }));
+    let whole = Drained {
+        count: 1,
+        skipped: 0,
+        orphans: 0,
+        stop: None,
+    };
+    assert!(rt; matches!(replies[1], Reply::Drained(drained) if drained == whole));
+    assert!(rt; matches!(replies[2], Reply::Stamped { number: 1 }));
+    assert!(rt; is_landed(&replies[3], 1, 1, Outcome::Placed, Some(1)));
+    assert_eq!(rt; machine.kernel().journal().on_cpu(3, 1), Some(1));
+    let transaction = machine.transaction(1).ok_or("a transaction")?;
+    assert_eq!(rt; (transaction.cpu, transaction.slot.generation), (1, 1));
+    assert_eq!(rt; (transaction.slot.tid, transaction.slot.tseq), (1, 1));
+    assert!(rt; machine.transaction(0).is_none());
+    assert!(rt; machine.transaction(2).is_none());
+    Ok(())
+}
+
+#[test]
+fn outcomes(rt: HostRuntime) -> Result<(), Fail> {
+    let mut machine = Machine::new(rt.alloc(), TWO_CPUS)?;
+    let first = machine.step(&Event::Create {
+        facts: thread(&rt, true, 1),
+    });
+    assert!(rt; matches!(first, Reply::Created { tid: 1, tseq: 1 }));
+    let second = machine.step(&Event::Create {
+        facts: thread(&rt, false, 2),
+    });
+    assert!(rt; matches!(second, Reply::Created { tid: 2, tseq: 1 }));
+    let early = machine.step(&Event::Stamp { cpu: 1, tid: 1 });
+    assert!(rt; matches!(early, Reply::Refused(Refusal::NoThread)));
+    let drained = machine.step(&Event::Drain { max: 9 });
+    assert!(rt; matches!(drained, Reply::Drained(Drained { count: 2, .. })));
+    for (cpu, tid, outcome) in [
+        (1, 1, Outcome::NotAllowed),
+        (1, 2, Outcome::NotRunnable),
+        (0, 1, Outcome::CpuIsAgent),
+    ] {
+        let _ = machine.step(&Event::Stamp { cpu, tid });
+        let again = machine.step(&Event::Stamp { cpu, tid });
+        assert!(rt; matches!(again, Reply::Refused(Refusal::SlotOpen)));
+        let reply = machine.step(&Event::Commit { mask: Mask::new(3) });
+        assert!(rt; is_landed(&reply, cpu, tid, outcome, None));
+    }
+    Ok(())
+}
+
+#[test]
+fn refusals(rt: HostRuntime) -> Result<(), Fail> {
+    let mut machine = Machine::new(
+        rt.alloc(),
+        Config {
+            history: 2,
+            ..TWO_CPUS
+        },
+    )?;
+    let empty = machine.step(&Event::Create {
+        facts: thread(&rt, true, 0),
+    });
+    assert!(rt; matches!(empty, Reply::Refused(Refusal::EmptyMask)));
+    let past = machine.step(&Event::Create {
+        facts: thread(&rt, true, 4),
+    });
+    assert!(rt; matches!(past, Reply::Refused(Refusal::EmptyMask)));
+    let _ = machine.step(&Event::Create {
+        facts: thread(&rt, true, 3),
+    });
+    let full = machine.step(&Event::Create {
+        facts: thread(&rt, true, 3),
+    });
+    assert!(rt; matches!(full, Reply::Refused(Refusal::HistoryFull)));
+    let bad = machine.step(&Event::Stamp { cpu: 2, tid: 1 });
+    assert!(rt; matches!(bad, Reply::Refused(Refusal::BadCpu)));
+    let mask = machine.step(&Event::Commit { mask: Mask::new(4) });
+    assert!(rt; matches!(mask, Reply::Refused(Refusal::EmptyMask)));
+    let _ = machine.step(&Event::Drain { max: 1 });
+    let _ = machine.step(&Event::Stamp { cpu: 1, tid: 1 });
+    let reply = machine.step(&Event::Commit { mask: Mask::new(2) });
+    assert!(rt; is_landed(&reply, 1, 1, Outcome::HistoryFull, None));
+    Ok(())
+}
+
+#[test]
+fn faults(rt: HostRuntime) {
+    for (config, wanted) in [
+        (
+            Config {
+                cpus: 65,
+                ring: 0,
+                ..TWO_CPUS
+            },
+            ConfigFault::BadCpus,
+        ),
+        (
+            Config {
+                ring: 132,
+                first_generation: 0,
+                ..TWO_CPUS
+            },
+            ConfigFault::BadRing,
+        ),
+        (
+            Config {
+                first_tseq: u32::MAX,
+                history: 1,
+                ..TWO_CPUS
+            },
+            ConfigFault::BadFirst,
+        ),
+        (
+            Config {
+                history: 16_777_217,
+                ..TWO_CPUS
+            },
+            ConfigFault::BadHistory,
+        ),
+    ] {
+        match Machine::new(rt.alloc(), config) {
+            Ok(_) => assert!(rt; false, "no fault at {wanted:?}"),
+            Err(fault) => assert_eq!(rt; fault, wanted),
+        }
+    }
+}
