@@ -1,0 +1,7 @@
+//! Tests that cross crates: scripts in at one end, reply lines out at the other.
+#![tactic(auto)]
+
+#[cfg(test)]
+mod hostile;
+#[cfg(test)]
+mod scripts;

@@ -1,0 +1,98 @@
+//! The program `ghost`: arguments, standard streams and exit status, and nothing else.
+#![tactic(auto)]
+
+ghost use Rattle.std.specs.Prelude.{◌≡◌};
+ghost use Rattle.ghost_cli.specs.Status.{ended_status, fault_status};
+
+use clap::error::ErrorKind;
+use gs_trace::{Command, Ended, TraceFault, run_script, settings};
+use std::io;
+use std::process::ExitCode;
+use thiserror::Error;
+
+/// Why the program did not do what it was called for.
+#[derive(Debug, Drop, Error)]
+enum Failure {
+    /// The arguments are wrong, or they ask for the help or the version.
+    #[error("{0}")]
+    Arguments(clap::Error),
+    #[error("ghost: the arguments are not text\n")]
+    NotText,
+    #[error("ghost: {0}\n")]
+    Script(TraceFault),
+}
+
+/// The exit status of a script that ended.
+fn ended_code(ended: Ended) -> u8
+    ensures { result ≡ ended_status ended }
+{
+    match ended {
+        Ended::Ran => 0,
+        Ended::Faulted => 2,
+    }
+}
+
+/// The exit status of a script that didn't end.
+fn fault_code(fault: TraceFault) -> u8
+    ensures { result ≡ fault_status fault }
+{
+    match fault {
+        TraceFault::OutOfMemory => 5,
+        TraceFault::ReadFailed | TraceFault::WriteFailed => 4,
+    }
+}
+
+/// Does what the arguments ask for.
+fn ghost_command(rt: &HostRuntime) -> Result<Ended, Failure> {
+    let arguments = std::env::args(rt).map_err(unread)?;
+    let mut words = Vec::new(rt.alloc());
+    for word in arguments {
+        if words.push(word).is_err() {
+            return Err(Failure::Script(TraceFault::OutOfMemory));
+        }
+    }
+    let Command::Run = settings(rt.alloc(), words.as_slice()).map_err(unsettled)?;
+    run_script(rt.alloc(), &mut rt.stdin(), &mut rt.stdout()).map_err(Failure::Script)
+}
+
+/// Why there are no arguments.
+fn unread(error: io::Error) -> Failure {
+    match error.kind() {
+        io::ErrorKind::OutOfMemory => Failure::Script(TraceFault::OutOfMemory),
+        _ => Failure::NotText,
+    }
+}
+
+/// Why the arguments give no command.
+fn unsettled(error: clap::Error) -> Failure {
+    match error.kind() {
+        ErrorKind::OutOfMemory => Failure::Script(TraceFault::OutOfMemory),
+        _ => Failure::Arguments(error),
+    }
+}
+
+/// Says what went wrong, and gives the exit status. The help and the version are no failure.
+fn report(rt: &HostRuntime, failure: &Failure) -> u8 {
+    match failure {
+        Failure::Arguments(error) if !error.use_stderr() => match error.print(rt) {
+            Ok(()) => 0,
+            Err(_) => 4,
+        },
+        Failure::Arguments(_) | Failure::NotText => {
+            let _ = eprint!(rt; "{failure}");
+            3
+        }
+        Failure::Script(fault) => {
+            let _ = eprint!(rt; "{failure}");
+            fault_code(*fault)
+        }
+    }
+}
+
+fn main(rt: HostRuntime) -> ExitCode {
+    let code = match ghost_command(&rt) {
+        Ok(ended) => ended_code(ended),
+        Err(failure) => report(&rt, &failure),
+    };
+    ExitCode::from(code)
+}

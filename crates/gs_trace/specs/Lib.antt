@@ -1,0 +1,9 @@
+pub mod Words
+pub mod Grammar
+pub mod Rows
+pub mod Header
+pub mod Script
+pub mod Held
+pub mod Lines
+pub mod Output
+pub mod Arguments

@@ -1,0 +1,87 @@
+-- The lines of replies.
+use Rattle.std.specs.Prelude.{ℕ, List, [], ◌∷◌, ◌++◌, codes, decimal, flat_map, if◌then◌else◌, ◌==◌, Option, None, Some}
+use Rattle.gs_layout.specs.declared.refusal.Refusal.{Refusal}
+use Rattle.gs_layout.specs.declared.refusal.Refusal.TheVariants as refusals
+use Rattle.gs_layout.specs.declared.outcome.Outcome.{Outcome}
+use Rattle.gs_layout.specs.declared.outcome.Outcome.TheVariants as outcomes
+use Rattle.gs_kernel.specs.declared.landing.Landing.{Landing}
+use Rattle.gs_core.specs.declared.drained.Drained.{Drained}
+use Rattle.gs_core.specs.declared.drained.Stop.{Stop}
+use Rattle.gs_core.specs.declared.drained.Stop.TheVariants as stops
+use Rattle.gs_core.specs.declared.reply.Reply.{Reply}
+use Rattle.gs_core.specs.declared.reply.Reply.TheVariants as replies
+
+-- each line ends with a newline
+abbrev pub line : List ℕ → List ℕ
+line text = text ++ 10 ∷ []
+
+-- the number and the name of a refusal
+abbrev pub refusal_text : Refusal → List ℕ
+refusal_text refusals.NoThread = codes "1 NoThread"
+refusal_text refusals.NotRunning = codes "2 NotRunning"
+refusal_text refusals.NotBlocked = codes "3 NotBlocked"
+refusal_text refusals.EmptyMask = codes "4 EmptyMask"
+refusal_text refusals.BadCpu = codes "5 BadCpu"
+refusal_text refusals.AgentThere = codes "6 AgentThere"
+refusal_text refusals.CpuTaken = codes "7 CpuTaken"
+refusal_text refusals.NotTaken = codes "8 NotTaken"
+refusal_text refusals.NotActive = codes "9 NotActive"
+refusal_text refusals.StillAttached = codes "10 StillAttached"
+refusal_text refusals.NotAttaching = codes "11 NotAttaching"
+refusal_text refusals.SeqSpent = codes "12 SeqSpent"
+refusal_text refusals.GenSpent = codes "13 GenSpent"
+refusal_text refusals.TidsSpent = codes "14 TidsSpent"
+refusal_text refusals.HistoryFull = codes "15 HistoryFull"
+refusal_text refusals.SlotOpen = codes "16 SlotOpen"
+refusal_text refusals.NoSuchTransaction = codes "17 NoSuchTransaction"
+refusal_text refusals.Gone = codes "18 Gone"
+refusal_text refusals.OutOfMemory = codes "19 OutOfMemory"
+
+-- the name of an outcome: its words, in lower case, put together
+abbrev pub outcome_text : Outcome → List ℕ
+outcome_text outcomes.Placed = codes "placed"
+outcome_text outcomes.Gone = codes "gone"
+outcome_text outcomes.Displaced = codes "displaced"
+outcome_text outcomes.NoThread = codes "nothread"
+outcome_text outcomes.Stale = codes "stale"
+outcome_text outcomes.NotRunnable = codes "notrunnable"
+outcome_text outcomes.AlreadyPlaced = codes "alreadyplaced"
+outcome_text outcomes.NotAllowed = codes "notallowed"
+outcome_text outcomes.CpuIsAgent = codes "cpuisagent"
+outcome_text outcomes.CpuTaken = codes "cputaken"
+outcome_text outcomes.CpuBusy = codes "cpubusy"
+outcome_text outcomes.SeqSpent = codes "seqspent"
+outcome_text outcomes.HistoryFull = codes "historyfull"
+outcome_text outcomes.Malformed = codes "malformed"
+
+abbrev pub landing_text : Landing → List ℕ
+landing_text a = codes "cpu " ++ decimal a.cpu ++ codes " " ++ outcome_text a.outcome ++ codes " " ++ decimal a.tid ++ codes " seq " ++ decimal a.seen
+
+-- a part that is only there where its number is not 0
+abbrev pub unless_zero : List ℕ → ℕ → List ℕ
+unless_zero text n = if n == 0 then [] else text ++ decimal n
+
+-- only a gap is told of: a drain that stopped for want of memory has no line
+abbrev pub stop_text : Option Stop → List ℕ
+stop_text None = []
+stop_text (Some stops.Gap) = codes " stopped gap"
+stop_text (Some stops.Memory) = []
+
+abbrev pub drained_text : Drained → List ℕ
+drained_text d = codes "drained " ++ decimal d.count ++ unless_zero (codes " skipped ") d.skipped ++ unless_zero (codes " orphans ") d.orphans ++ stop_text d.stop
+
+-- the lines of landings, one for each
+abbrev pub landing_lines : List Landing → List ℕ
+landing_lines landings = flat_map (λ a. line (landing_text a)) landings
+
+-- the lines of a reply: a commit has one for each landing, and any other reply has one
+abbrev pub reply_lines : Reply → List ℕ
+reply_lines (replies.Refused f) = line (codes "refused " ++ refusal_text f)
+reply_lines (replies.Created tid tseq) = line (codes "created " ++ decimal tid ++ codes " seq " ++ decimal tseq)
+reply_lines (replies.Drained d) = line (drained_text d)
+reply_lines (replies.Stamped number) = line (codes "stamped " ++ decimal number)
+reply_lines (replies.Landed landings) = landing_lines landings
+
+-- the lines of replies, in order
+abbrev pub lines : List Reply → List ℕ
+lines rs = flat_map reply_lines rs

@@ -1,0 +1,96 @@
+ghost use Rattle.std.specs.Prelude.{◌≡◌, ◌∷◌, []};
+ghost use Rattle.gs_trace.specs.Rows as rows;
+ghost use Rattle.gs_trace.specs.Rows.{shown, reads, event_of};
+
+use crate::fault::Reason;
+use crate::word::{name, number};
+use gs_core::Event;
+use gs_journal::Mask;
+use gs_layout::{Class, Facts};
+
+fn read_class(word: &str) -> Result<Class, Reason>
+    ensures { result ≡ rows.class_in word.now }
+{
+    match number(word, 0, 1)? {
+        0 => Ok(Class::Zero),
+        _ => Ok(Class::One),
+    }
+}
+
+/// Whether a word says that a thread is runnable.
+fn is_runnable(word: &str) -> Result<bool, Reason>
+    ensures { result ≡ rows.runnable_in word.now }
+{
+    match word {
+        "r" => Ok(true),
+        "b" => Ok(false),
+        _ => Err(Reason::BadWord),
+    }
+}
+
+fn create(mask: &str, class: &str, state: &str, text: &str) -> Result<Event, Reason>
+    ensures { result ≡ reads rows.create (mask.now ∷ class.now ∷ state.now ∷ text.now ∷ []) }
+{
+    let mask = number(mask, 0, u64::MAX)?;
+    let class = read_class(class)?;
+    let runnable = is_runnable(state)?;
+    let name = name(text)?;
+    let facts = Facts {
+        runnable,
+        mask,
+        class,
+        name,
+    };
+    Ok(Event::Create { facts })
+}
+
+fn drain(max: &str) -> Result<Event, Reason>
+    ensures { result ≡ reads rows.drain (max.now ∷ []) }
+{
+    let max = number(max, 0, u32::MAX as u64)? as u32;
+    Ok(Event::Drain { max })
+}
+
+fn stamp(cpu: &str, tid: &str) -> Result<Event, Reason>
+    ensures { result ≡ reads rows.stamp (cpu.now ∷ tid.now ∷ []) }
+{
+    let cpu = number(cpu, 0, u16::MAX as u64)? as u16;
+    let tid = number(tid, 0, u32::MAX as u64)? as u32;
+    Ok(Event::Stamp { cpu, tid })
+}
+
+fn commit(mask: &str) -> Result<Event, Reason>
+    ensures { result ≡ reads rows.commit (mask.now ∷ []) }
+{
+    let mask = Mask::new(number(mask, 0, u64::MAX)?);
+    Ok(Event::Commit { mask })
+}
+
+/// What an event line of these words says.
+#[tactic(auto, using(crate::proofs::Places::two_places, crate::proofs::Places::four_places))]
+pub(crate) fn event(words: &[&str]) -> Result<Event, Reason>
+    ensures { result ≡ event_of (shown words.now) }
+{
+    let Some((first, words)) = words.split_first() else {
+        return Err(Reason::BadWord);
+    };
+    match *first {
+        "create" => match words {
+            [mask, class, state, name] => create(mask, class, state, name),
+            _ => Err(Reason::BadCount),
+        },
+        "drain" => match words {
+            [max] => drain(max),
+            _ => Err(Reason::BadCount),
+        },
+        "stamp" => match words {
+            [cpu, tid] => stamp(cpu, tid),
+            _ => Err(Reason::BadCount),
+        },
+        "commit" => match words {
+            [mask] => commit(mask),
+            _ => Err(Reason::BadCount),
+        },
+        _ => Err(Reason::BadWord),
+    }
+}

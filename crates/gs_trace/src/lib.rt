@@ -1,0 +1,20 @@
+//! Scripts: an enclave's events as text, and the machine's replies as lines.
+#![tactic(auto)]
+
+mod arguments;
+mod event_line;
+mod fault;
+mod header;
+mod pipe;
+mod reply_line;
+mod run;
+mod script;
+mod word;
+
+pub use arguments::{Command, settings};
+pub use fault::{Reason, ScriptFault};
+pub use run::{Ended, TraceFault, run_script};
+pub use script::{Script, ScriptError, read_script};
+
+#[cfg(test)]
+mod tests;

@@ -1,0 +1,59 @@
+ghost use Rattle.std.specs.Prelude.{◌≡◌, ℕ, ◌≤◌, length, take, IfOk, OnOk, OnErr};
+ghost use Rattle.std.specs.Io.KnownBytes.{Consumes, Appends, IsAtEnd};
+
+use crate::script::MOST_BYTES;
+use std::alloc::Global;
+use std::io::{Read, Write};
+
+/// The most reads of an input. A reader that gives single bytes and has no end is given up on.
+const MOST_READS: usize = MOST_BYTES + 2;
+
+/// Why there is no input.
+#[derive(Clone, Copy, PartialEq, Eq, Debug)]
+pub(crate) enum InputError {
+    Failed,
+    OutOfMemory,
+}
+
+/// A writer took no more.
+#[derive(Clone, Copy, PartialEq, Eq, Debug)]
+pub(crate) struct WriteFailed;
+
+/// All bytes that a reader has, or more than a script may have.
+pub(crate) fn read_all<R: Read>(alloc: Global, reader: &mut R) -> Result<Vec<u8>, InputError>
+    ensures read { IfOk result (λ bytes. Consumes (R.remaining reader.old) (R.remaining reader.new) bytes.items) }
+    ensures all { IfOk result (λ bytes. length bytes.items ≤ MOST_BYTES → IsAtEnd (R.remaining reader.new)) }
+{
+    let mut bytes = Vec::new(alloc);
+    let mut buffer = [0; 4096];
+    for _read in 0..MOST_READS {
+        if bytes.len() > MOST_BYTES {
+            break;
+        }
+        let Ok(count) = reader.read(&mut buffer) else {
+            return Err(InputError::Failed);
+        };
+        if count == 0 {
+            break;
+        }
+        if bytes.extend_from_slice(&buffer[..count]).is_err() {
+            return Err(InputError::OutOfMemory);
+        }
+    }
+    Ok(bytes)
+}
+
+/// Writes the bytes, or a beginning of them.
+pub(crate) fn write_out<W: Write>(writer: &mut W, bytes: &[u8]) -> Result<(), WriteFailed>
+    ensures ok { OnOk result (Appends (W.contents writer.old) (W.contents writer.new) bytes.now) }
+    ensures err { OnErr result ((n : ℕ) × Appends (W.contents writer.old) (W.contents writer.new) (take n bytes.now)) }
+{
+    let mut written = 0;
+    while written < bytes.len() {
+        match writer.write(&bytes[written..]) {
+            Ok(count) if count > 0 => written += count,
+            _ => return Err(WriteFailed),
+        }
+    }
+    Ok(())
+}

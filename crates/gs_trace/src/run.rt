@@ -1,0 +1,152 @@
+ghost use Rattle.std.specs.Prelude.{◌≡◌, ◌≢◌, ◌≤◌, ℕ, List, length, take, IfOk, IfErr, IfSome, IsErrOf, string_bytes};
+ghost use Rattle.std.specs.List.{list_any};
+ghost use Rattle.std.specs.Io.KnownBytes.{Keeps, Appends, Consumes, IsAtEnd};
+ghost use Rattle.gs_trace.specs.Output.{IsOutput, fault_line, reason_text, wants_memory};
+ghost use Rattle.gs_trace.specs.declared.run.Ended.{Ended};
+
+use crate::fault::{Reason, ScriptFault};
+use crate::pipe::{InputError, read_all, write_out};
+use crate::reply_line::text_of;
+use crate::script::{ScriptError, read_script};
+use gs_core::{ConfigFault, Machine, Reply, Stop};
+use gs_layout::Refusal;
+use std::alloc::{AllocError, Global};
+use std::io::{Read, Write};
+use thiserror::Error;
+
+/// How a script ended.
+#[derive(Clone, Copy, PartialEq, Eq, Debug)]
+pub enum Ended {
+    /// Its events were run, and each was answered.
+    Ran,
+    /// It has a fault, and no event was run.
+    Faulted,
+}
+
+/// Why a script didn't end.
+#[derive(Clone, Copy, PartialEq, Eq, Debug, Error)]
+pub enum TraceFault {
+    /// A read failed. Nothing was written.
+    #[error("the script could not be read")]
+    ReadFailed,
+    /// Memory ran out, also where it did at an event. Nothing was written.
+    #[error("out of memory")]
+    OutOfMemory,
+    /// A write failed, or took no byte. A beginning of the output was written.
+    #[error("the output could not be written")]
+    WriteFailed,
+}
+
+/// What is to be written.
+#[derive(Drop)]
+struct Answer {
+    ended: Ended,
+    text: String,
+}
+
+/// The name of a reason.
+fn reason_name(reason: Reason) -> &'static str
+    ensures { result.now ≡ reason_text reason }
+{
+    match reason {
+        Reason::TooLong => "TooLong",
+        Reason::BadByte => "BadByte",
+        Reason::NoHeader => "NoHeader",
+        Reason::BadWord => "BadWord",
+        Reason::BadCount => "BadCount",
+        Reason::BadNumber => "BadNumber",
+        Reason::BadName => "BadName",
+    }
+}
+
+/// The line of a fault.
+fn fault_text(alloc: Global, fault: ScriptFault) -> Result<String, AllocError>
+    ensures { IfOk result (λ text. string_bytes text ≡ fault_line fault) }
+{
+    let ScriptFault { line, reason } = fault;
+    let name = reason_name(reason);
+    let mut text = format!(in alloc; "fault line {line} {name}")?;
+    text.push('\n')?;
+    Ok(text)
+}
+
+/// Whether a reply says that memory ran out.
+fn wants(reply: &Reply) -> bool
+    ensures { result ≡ wants_memory reply.now }
+{
+    match reply {
+        Reply::Refused(refusal) => *refusal == Refusal::OutOfMemory,
+        Reply::Drained(drained) => drained.stop == Some(Stop::Memory),
+        _ => false,
+    }
+}
+
+/// Whether some reply says that memory ran out.
+fn is_short(replies: &[Reply]) -> bool
+    ensures { result ≡ list_any wants_memory replies.now }
+{
+    replies.iter().any(wants)
+}
+
+/// What is to be written for an input. It fails only for want of memory.
+fn answer_to(alloc: Global, input: &[u8]) -> Result<Answer, AllocError>
+    ensures { IfOk result (λ answer. IsOutput input.now answer.ended (string_bytes answer.text)) }
+{
+    let script = match read_script(alloc, input) {
+        Ok(script) => script,
+        Err(ScriptError::OutOfMemory) => return Err(AllocError),
+        Err(ScriptError::Fault(fault)) => {
+            let text = fault_text(alloc, fault)?;
+            return Ok(Answer {
+                ended: Ended::Faulted,
+                text,
+            });
+        }
+    };
+    let mut machine = match Machine::new(alloc, script.config) {
+        Ok(machine) => machine,
+        Err(ConfigFault::OutOfMemory) => return Err(AllocError),
+        Err(_) => unreachable!(),
+    };
+    let replies = machine.run(&script.events)?;
+    if is_short(&replies) {
+        return Err(AllocError);
+    }
+    let text = text_of(alloc, &replies)?;
+    Ok(Answer {
+        ended: Ended::Ran,
+        text,
+    })
+}
+
+/// Reads a script to its end, or until it is too long, runs it, and writes its answer.
+///
+/// The reads end at the first that gives no byte, and are at most 1,048,578.
+pub fn run_script<R: Read, W: Write>(
+    alloc: Global,
+    reader: &mut R,
+    writer: &mut W,
+) -> Result<Ended, TraceFault>
+    ensures ended { IfOk result (λ ended. IfSome (R.remaining reader.old) (λ input.
+        (out : List ℕ) × IsOutput input ended out × Appends (W.contents writer.old) (W.contents writer.new) out)) }
+    ensures read { IfOk result (λ _. (bytes : List ℕ)
+        × Consumes (R.remaining reader.old) (R.remaining reader.new) bytes
+        × (length bytes ≤ 1048576 → IsAtEnd (R.remaining reader.new))) }
+    ensures unwritten { IfErr result (λ e. e ≢ TraceFault.WriteFailed → Keeps (W.contents writer.old) (W.contents writer.new)) }
+    ensures begun { IsErrOf result TraceFault.WriteFailed → IfSome (R.remaining reader.old) (λ input.
+        (ended : Ended) × (out : List ℕ) × (n : ℕ) × IsOutput input ended out
+        × Appends (W.contents writer.old) (W.contents writer.new) (take n out)) }
+{
+    let input = match read_all(alloc, reader) {
+        Ok(input) => input,
+        Err(InputError::Failed) => return Err(TraceFault::ReadFailed),
+        Err(InputError::OutOfMemory) => return Err(TraceFault::OutOfMemory),
+    };
+    let Ok(Answer { ended, text }) = answer_to(alloc, &input) else {
+        return Err(TraceFault::OutOfMemory);
+    };
+    match write_out(writer, text.as_bytes()) {
+        Ok(()) => Ok(ended),
+        Err(_) => Err(TraceFault::WriteFailed),
+    }
+}

@@ -1,0 +1,257 @@
+use crate::{
+    Command, Ended, Reason, ScriptError, ScriptFault, TraceFault, read_script, run_script, settings,
+};
+use clap::error::ErrorKind;
+use std::alloc::Global;
+use std::io;
+use std::io::{Read, Write};
+use std::test::Fail;
+
+/// A reader of so many bytes, one at a time, that fails at one of its reads. Reads count from 1.
+#[derive(Drop)]
+struct Slow<'a> {
+    left: &'a [u8],
+    reads: u64,
+    fails_at: u64,
+}
+
+impl Read for Slow<'_> {
+    fn read(&mut self, buffer: &mut [u8]) -> io::Result<usize> {
+        self.reads = self.reads.saturating_add(1);
+        if self.reads == self.fails_at {
+            return Err(io::Error::from(io::ErrorKind::Other));
+        }
+        let Some((first, rest)) = self.left.split_first() else {
+            return Ok(0);
+        };
+        if buffer.is_empty() {
+            return Ok(0);
+        }
+        buffer[0] = *first;
+        self.left = rest;
+        Ok(1)
+    }
+}
+
+/// A reader without an end, that gives one byte at a time and counts its reads.
+#[derive(Drop)]
+struct Endless {
+    reads: u64,
+}
+
+impl Read for Endless {
+    fn read(&mut self, buffer: &mut [u8]) -> io::Result<usize> {
+        self.reads = self.reads.saturating_add(1);
+        if buffer.is_empty() {
+            return Ok(0);
+        }
+        buffer[0] = b'#';
+        Ok(1)
+    }
+}
+
+/// A writer that takes so many bytes, at most three at a time, and then fails, or takes none.
+#[derive(Drop)]
+struct Narrow {
+    taken: Vec<u8>,
+    room: usize,
+    fails: bool,
+}
+
+impl Write for Narrow {
+    fn write(&mut self, bytes: &[u8]) -> io::Result<usize> {
+        let count = bytes.len().min(self.room).min(3);
+        if count == 0 && self.fails {
+            return Err(io::Error::from(io::ErrorKind::Other));
+        }
+        self.taken.extend_from_slice(&bytes[..count])?;
+        self.room -= count;
+        Ok(count)
+    }
+
+    fn flush(&mut self) -> io::Result<()> {
+        Ok(())
+    }
+}
+
+const FIRST_PATH: &str = "cpus 2 ring 128\ncreate 3 0 r web\ndrain 1\nstamp 1 1\ncommit 2\n";
+
+const FIRST_PATH_LINES: &str = "created 1 seq 1\ndrained 1\nstamped 1\ncpu 1 placed 1 seq 1\n";
+
+/// Scripts, and what is written for them.
+const ROWS: [(&str, &str); 14] = [
+    (FIRST_PATH, FIRST_PATH_LINES),
+    (
+        "cpus 2 ring 128\ncreate 1 0 r a\ncreate 2 0 b b\ndrain 9\nstamp 1 1\ncommit 2\nstamp 1 2\ncommit 2\nstamp 0 1\ncommit 1",
+        "created 1 seq 1\ncreated 2 seq 1\ndrained 2\nstamped 1\ncpu 1 notallowed 1 seq 1\nstamped 2\ncpu 1 notrunnable 2 seq 1\nstamped 3\ncpu 0 cpuisagent 1 seq 1\n",
+    ),
+    (
+        "# two CPUs\n\n  cpus 2 ring 128  first-tseq 4294967294\ncreate 0 0 r a\ncommit 4\ncommit 0\ndrain 0\nstamp 9 1\n",
+        "refused 4 EmptyMask\nrefused 4 EmptyMask\ndrained 0\nrefused 5 BadCpu\n",
+    ),
+    (
+        "cpus 2 ring 128 first-tseq 4294967294\ncreate 3 1 r -\ndrain 1\nstamp 1 1\nstamp 1 1",
+        "created 1 seq 4294967295\ndrained 1\nstamped 1\nrefused 16 SlotOpen\n",
+    ),
+    ("", "fault line 0 NoHeader\n"),
+    ("block 1\n", "fault line 1 NoHeader\n"),
+    ("cpus 2 ring 100\n", "fault line 1 BadNumber\n"),
+    ("cpus 2 ring 128\nblok 1\n", "fault line 2 BadWord\n"),
+    ("cpus 2 ring 128\ndrain\n", "fault line 2 BadCount\n"),
+    ("cpus 2 ring 128\ndrain 01\n", "fault line 2 BadNumber\n"),
+    (
+        "cpus 2 ring 128\ncreate\t3 0 r a\n",
+        "fault line 2 BadByte\n",
+    ),
+    ("cpus 2 ring 128\n\r\n", "fault line 2 BadByte\n"),
+    (
+        "cpus 2 ring 128\ncreate 3 0 r seventeenbyteslong\n",
+        "fault line 2 BadName\n",
+    ),
+    ("cpus 2 ring 128\nstamp 1 1 p\n", "fault line 2 BadCount\n"),
+];
+
+fn is_fault(output: &str) -> bool {
+    output.starts_with("fault")
+}
+
+/// The answer to a script, and how it ended.
+fn answered(alloc: Global, script: &[u8]) -> Result<(Vec<u8>, Result<Ended, TraceFault>), Fail> {
+    let mut reader = script;
+    let mut writer = Narrow {
+        taken: Vec::new(alloc),
+        room: usize::MAX,
+        fails: true,
+    };
+    let ended = run_script(alloc, &mut reader, &mut writer);
+    let Narrow { taken, .. } = writer;
+    Ok((taken, ended))
+}
+
+#[test]
+fn answers_scripts(rt: HostRuntime) -> Result<(), Fail> {
+    for (script, output) in ROWS {
+        let (taken, ended) = answered(rt.alloc(), script.as_bytes())?;
+        assert_eq!(rt; taken.as_slice(), output.as_bytes(), "of {script}");
+        let wanted = if is_fault(output) {
+            Ended::Faulted
+        } else {
+            Ended::Ran
+        };
+        assert_eq!(rt; ended, Ok(wanted), "of {script}");
+    }
+    Ok(())
+}
+
+#[test]
+fn takes_as_many_bytes_as_a_script_may_have(rt: HostRuntime) -> Result<(), Fail> {
+    let mut script = vec![in rt.alloc(); b'#'; 1_048_576]?;
+    let (taken, ended) = answered(rt.alloc(), &script)?;
+    assert_eq!(rt; taken.as_slice(), b"fault line 0 NoHeader\n".as_slice());
+    assert_eq!(rt; ended, Ok(Ended::Faulted));
+    script.push(b'#')?;
+    let (taken, ended) = answered(rt.alloc(), &script)?;
+    assert_eq!(rt; taken.as_slice(), b"fault line 0 TooLong\n".as_slice());
+    assert_eq!(rt; ended, Ok(Ended::Faulted));
+    Ok(())
+}
+
+#[test]
+fn gives_up_on_an_endless_reader(rt: HostRuntime) -> Result<(), Fail> {
+    let mut reader = Endless { reads: 0 };
+    let mut taken = Vec::new(rt.alloc());
+    let ended = run_script(rt.alloc(), &mut reader, &mut taken);
+    assert_eq!(rt; ended, Ok(Ended::Faulted));
+    assert_eq!(rt; taken.as_slice(), b"fault line 0 TooLong\n".as_slice());
+    assert!(rt; reader.reads <= 1_048_578, "{} reads", reader.reads);
+    Ok(())
+}
+
+#[test]
+fn writes_nothing_where_a_read_fails(rt: HostRuntime) -> Result<(), Fail> {
+    let script = FIRST_PATH.as_bytes();
+    for fails_at in 1..=script.len() as u64 + 2 {
+        let mut reader = Slow {
+            left: script,
+            reads: 0,
+            fails_at,
+        };
+        let mut taken = Vec::new(rt.alloc());
+        let ended = run_script(rt.alloc(), &mut reader, &mut taken);
+        if fails_at <= script.len() as u64 + 1 {
+            assert_eq!(rt; ended, Err(TraceFault::ReadFailed), "at read {fails_at}");
+            assert!(rt; taken.is_empty(), "at read {fails_at}");
+        } else {
+            assert_eq!(rt; ended, Ok(Ended::Ran));
+            assert_eq!(rt; taken.as_slice(), FIRST_PATH_LINES.as_bytes());
+        }
+    }
+    Ok(())
+}
+
+#[test]
+fn writes_a_beginning_where_a_write_fails(rt: HostRuntime) -> Result<(), Fail> {
+    let lines = FIRST_PATH_LINES.as_bytes();
+    for room in 0..lines.len() {
+        for fails in [true, false] {
+            let mut reader = FIRST_PATH.as_bytes();
+            let mut writer = Narrow {
+                taken: Vec::new(rt.alloc()),
+                room,
+                fails,
+            };
+            let ended = run_script(rt.alloc(), &mut reader, &mut writer);
+            assert_eq!(rt; ended, Err(TraceFault::WriteFailed), "after {room} bytes");
+            assert_eq!(rt;
+                writer.taken.as_slice(),
+                &lines[..room],
+                "after {room} bytes"
+            );
+        }
+    }
+    Ok(())
+}
+
+#[test]
+fn reads_a_script(rt: HostRuntime) -> Result<(), Fail> {
+    let script = read_script(rt.alloc(), FIRST_PATH.as_bytes())?;
+    assert_eq!(rt; script.events.len(), 4);
+    assert_eq!(rt; (script.config.cpus, script.config.ring), (2, 128));
+    assert_eq!(rt;
+        (script.config.first_tseq, script.config.first_generation),
+        (0, 1)
+    );
+    assert_eq!(rt; script.config.history, 16_777_216);
+    let fault = ScriptFault {
+        line: 3,
+        reason: Reason::BadNumber,
+    };
+    let error = read_script(rt.alloc(), b"#\ncpus 2 ring 128\ndrain 4294967296\n").err();
+    assert_eq!(rt; error, Some(ScriptError::Fault(fault)));
+    Ok(())
+}
+
+#[test]
+fn reads_arguments(rt: HostRuntime) -> Result<(), Fail> {
+    assert_eq!(rt; settings(rt.alloc(), &["ghost", "run"])?, Command::Run);
+    let none = settings(rt.alloc(), &["ghost"]).err().ok_or("none")?;
+    assert_eq!(rt; none.kind(), ErrorKind::MissingSubcommand);
+    let unknown = settings(rt.alloc(), &["ghost", "walk"])
+        .err()
+        .ok_or("unknown")?;
+    assert_eq!(rt; unknown.kind(), ErrorKind::InvalidSubcommand);
+    let more = settings(rt.alloc(), &["ghost", "run", "fast"])
+        .err()
+        .ok_or("more")?;
+    assert_eq!(rt; more.kind(), ErrorKind::UnknownArgument);
+    let help = settings(rt.alloc(), &["ghost", "--help"])
+        .err()
+        .ok_or("help")?;
+    assert_eq!(rt; help.kind(), ErrorKind::DisplayHelp);
+    let version = settings(rt.alloc(), &["ghost", "--version"])
+        .err()
+        .ok_or("version")?;
+    assert_eq!(rt; version.kind(), ErrorKind::DisplayVersion);
+    assert!(rt; !version.use_stderr() && unknown.use_stderr());
+    Ok(())
+}
