@@ -1,0 +1,71 @@
+-- How a ring's block holds its messages.
+use Rattle.std.specs.Prelude.{◌≡◌, ◌==◌, true, ℕ, zero, suc, ◌+◌, ◌-◌, ◌*◌, ◌%◌, ◌^◌, ◌≤◌, List, [], ◌∷◌, ◌++◌, length, take, drop, slice_index, All, if◌then◌else◌}
+use Rattle.gs_layout.specs.declared.message.Message.{Message}
+use Rattle.gs_layout.specs.Reading.{message_in, number_at}
+use Rattle.gs_layout.specs.Spelling.{IsSpellable, spelling}
+use Rattle.gs_ring.specs.Places.{bytes, is_capacity, pad_bytes, place_behind, record_len, record_of}
+use Rattle.gs_ring.specs.RingState.{RingState}
+
+-- so many bytes of a block from a place on, round its end
+abbrev pub seen : List ℕ → ℕ → ℕ → List ℕ
+seen block place zero = []
+seen block place (suc n) = slice_index block (place % length block) ∷ seen block (suc place) n
+
+-- the bytes behind a PAD, where there is one
+unfoldable pub behind_pad : List ℕ → List ℕ
+behind_pad text = if number_at 2 2 text == 9 then drop (number_at 0 2 text) text else text
+
+-- the message at the front
+unfoldable pub front_message : List ℕ → Message
+front_message text = message_in (behind_pad text)
+
+-- the bytes behind it
+unfoldable pub behind_front : List ℕ → List ℕ
+behind_front text = drop (record_len (front_message text)) (behind_pad text)
+
+-- the first messages, so many
+abbrev pub messages_in : ℕ → List ℕ → List Message
+messages_in zero text = []
+messages_in (suc n) text = front_message text ∷ messages_in n (behind_front text)
+
+-- these bytes over those at a place of the block
+abbrev pub put_at : ℕ → List ℕ → List ℕ → List ℕ
+put_at at more block = take at block ++ more ++ drop (at + length more) block
+
+-- a block after a message was written at a place, behind a PAD of so many bytes
+abbrev pub block_with : List ℕ → ℕ → ℕ → Message → List ℕ
+block_with block place pad m = put_at ((place + pad) % length block) (record_of m) (put_at (place % length block) (pad_bytes pad) block)
+
+-- where the record begins in the block that is read at a place: behind its PAD, where there is one
+unfoldable pub record_index : List ℕ → ℕ → ℕ
+record_index block place = if number_at 2 2 (drop (place % length block) block) == 9 then 0 else place % length block
+
+-- the record of this message lies whole in the block, and is read at this place
+pub record Lies (block : List ℕ) (place : ℕ) (m : Message) : Type 0 where
+  pub spellable : IsSpellable m
+  pub room : place % length block + 4 ≤ length block
+  pub more : List ℕ
+  pub front : drop (record_index block place) block ≡ spelling m ++ more
+  pub fits : record_index block place + record_len m ≤ length block
+
+-- the parts of a ring agree: each message that waits lies at its place
+pub record IsRing (block : List ℕ) (read written taken posts : ℕ) : Type 0 where
+  pub size : is_capacity (length block) ≡ true
+  pub order : taken ≤ posts
+  pub few : posts ≤ 2 ^ 24
+  pub whole : read % 8 ≡ 0
+  pub low : written ≤ 88 * posts
+  pub forward : read ≤ written
+  pub room : written ≤ read + length block
+  pub spellable : All IsSpellable (messages_in (posts - taken) (seen block read (written - read)))
+  pub behind : place_behind (length block) read (messages_in (posts - taken) (seen block read (written - read))) ≡ written
+  pub holds : seen block read (written - read) ≡ bytes (length block) read (messages_in (posts - taken) (seen block read (written - read)))
+
+-- what a ring of these parts is to its callers
+abbrev pub ring_of : List ℕ → ℕ → ℕ → ℕ → ℕ → RingState
+ring_of block read written taken posts = record {
+  capacity = length block;
+  taken = taken;
+  read = read;
+  unread = messages_in (posts - taken) (seen block read (written - read));
+}

@@ -1,0 +1,96 @@
+-- What was posted to a ring, and what passes from it.
+use Rattle.std.proofs.Common.{◌≡◌, ◌⊎◌, inl, inr, ⊎_elim, ℕ, ◌+◌, List, [], ◌∷◌, ◌++◌, length, take, drop, refl, ap, sym, ◌∙◌, append_assoc, arith, length-append}
+use Rattle.std.proofs.lemmas.List.{drop_at, take_at}
+use Rattle.gs_layout.specs.declared.message.Message.{Message}
+use Rattle.gs_ring.specs.Places.{free_after, need, place_behind, record_len, written}
+use Rattle.gs_ring.specs.RingState.{RingState, end, free, need_of, posts}
+use Rattle.gs_ring.specs.Splits.{two_splits}
+
+-- these were posted so far: the first of them were consumed, and the others wait
+pub record Posted (r : RingState) (xs : List Message) : Type 0 where
+  pub consumed : List Message
+  pub all : xs ≡ consumed ++ r.unread
+  pub count : length consumed ≡ r.taken
+  pub place : written r.capacity consumed ≡ r.read
+
+abbrev pub SameRing : RingState → RingState → Type 0
+SameRing a b = b.capacity ≡ a.capacity
+
+-- these passed from one state of a ring to a later one
+pub record Passed (a : RingState) (ms : List Message) (b : RingState) : Type 0 where
+  pub capacity : b.capacity ≡ a.capacity
+  pub unread : a.unread ≡ ms ++ b.unread
+  pub taken : b.taken ≡ a.taken + length ms
+  pub read : b.read ≡ place_behind a.capacity a.read ms
+
+-- these come next
+abbrev pub Ahead : RingState → List Message → Type 0
+Ahead r ms = (more : List Message) × (r.unread ≡ ms ++ more)
+
+-- nothing waits
+abbrev pub IsEmpty : RingState → Type 0
+IsEmpty r = r.unread ≡ []
+
+pub place_behind-append : (c w : ℕ) (xs ys : List Message) → place_behind c w (xs ++ ys) ≡ place_behind c (place_behind c w xs) ys
+place_behind-append c w [] ys = refl
+place_behind-append c w (x ∷ xs) ys = place_behind-append c (w + need c w (record_len x)) xs ys
+
+pub Posted-counted : (r : RingState) (xs : List Message) → Posted r xs → posts r ≡ length xs
+Posted-counted r xs h = omega (arith, ap length h.all, length-append h.consumed r.unread, h.count)
+
+pub Passed-none : (r : RingState) → Passed r [] r
+Passed-none r = record { capacity = refl; unread = refl; taken = omega arith; read = refl }
+
+pub Passed-join : (a b c : RingState) (xs ys : List Message) → Passed a xs b → Passed b ys c → Passed a (xs ++ ys) c
+Passed-join a b c xs ys p q = record {
+  capacity = q.capacity ∙ p.capacity;
+  unread = p.unread ∙ ap (λ l. xs ++ l) q.unread ∙ sym (append_assoc xs ys c.unread);
+  taken = omega (arith, p.taken, q.taken, length-append xs ys);
+  read = q.read
+      ∙ ap (λ n. place_behind n b.read ys) p.capacity
+      ∙ ap (λ n. place_behind a.capacity n ys) p.read
+      ∙ sym (place_behind-append a.capacity a.read xs ys);
+}
+
+pub Passed-agrees : (a b : RingState) (xs ys : List Message) → Passed a xs b → Ahead a ys → ((more : List Message) × (xs ++ more ≡ ys) × Ahead b more) ⊎ ((more : List Message) × (xs ≡ ys ++ more))
+Passed-agrees a b xs ys p h = ⊎_elim (λ s. inl (s.0, s.1, (h.0, s.2))) inr (two_splits xs b.unread ys h.0 (sym p.unread ∙ h.1))
+
+pub Posted-keeps : (a b : RingState) (xs ms : List Message) → Posted a xs → Passed a ms b → Posted b xs
+Posted-keeps a b xs ms h p = record {
+  consumed = h.consumed ++ ms;
+  all = h.all ∙ ap (λ l. h.consumed ++ l) p.unread ∙ sym (append_assoc h.consumed ms b.unread);
+  count = omega (arith, length-append h.consumed ms, h.count, p.taken);
+  place = ap (λ n. written n (h.consumed ++ ms)) p.capacity
+      ∙ place_behind-append a.capacity 0 h.consumed ms
+      ∙ ap (λ n. place_behind a.capacity n ms) h.place
+      ∙ sym p.read;
+}
+
+pub Passed-same : (a b : RingState) (ms : List Message) → Passed a ms b → SameRing a b
+Passed-same a b ms p = p.capacity
+
+pub Posted-passes : (a b : RingState) (xs ms : List Message) → Posted a xs → Passed a ms b → (b.taken ≡ a.taken + length ms) × (ms ≡ take (length ms) (drop a.taken xs))
+Posted-passes a b xs ms h p = (
+  p.taken,
+  sym (take_at ms b.unread (length ms) refl)
+      ∙ ap (λ l. take (length ms) l) (sym p.unread ∙ sym (drop_at h.consumed a.unread a.taken h.count) ∙ ap (λ l. drop a.taken l) (sym h.all)),
+)
+
+pub Posted-ends : (r : RingState) (xs : List Message) → Posted r xs → IsEmpty r → r.taken ≡ length xs
+Posted-ends r xs h e = omega (arith, Posted-counted r xs h, ap length e)
+
+-- the places of a ring are those of what was posted to it
+pub Posted-end : (r : RingState) (xs : List Message) → Posted r xs → end r ≡ written r.capacity xs
+Posted-end r xs h =
+    ap (λ n. place_behind r.capacity n r.unread) (sym h.place) ∙ sym (place_behind-append r.capacity 0 h.consumed r.unread) ∙ ap (written r.capacity) (sym h.all)
+
+pub Posted-read : (r : RingState) (xs : List Message) → Posted r xs → r.read ≡ written r.capacity (take r.taken xs)
+Posted-read r xs h = sym h.place ∙ ap (written r.capacity) (sym (take_at h.consumed r.unread r.taken h.count) ∙ ap (λ l. take r.taken l) (sym h.all))
+
+-- as many bytes are free as what was posted and consumed leaves
+pub Posted-free : (r : RingState) (xs : List Message) → Posted r xs → free r ≡ free_after r.capacity xs r.taken
+Posted-free r xs h = omega (arith, Posted-end r xs h, Posted-read r xs h)
+
+-- and a message takes up as many as it does behind what was posted
+pub Posted-need : (r : RingState) (xs : List Message) (m : Message) → Posted r xs → need_of r m ≡ need r.capacity (written r.capacity xs) (record_len m)
+Posted-need r xs m h = ap (λ n. need r.capacity n (record_len m)) (Posted-end r xs h)

@@ -1,0 +1,132 @@
+//! Records in a block of bytes.
+
+ghost use Rattle.std.specs.Prelude.{◌≡◌, ◌+◌, ◌-◌, ◌%◌, ◌<◌, ◌^◌, ◌≤◌, length};
+ghost use Rattle.gs_layout.specs.declared.message.Message.{Message};
+ghost use Rattle.gs_layout.specs.Pad.{pad};
+ghost use Rattle.gs_ring.specs.Block.{Lies, block_with, put_at, record_index};
+ghost use Rattle.gs_ring.specs.Peek.{message_of};
+ghost use Rattle.gs_ring.specs.Places.{is_capacity, pad_bytes, pad_len, record_len, record_of};
+
+use crate::peeked::Peeked;
+use byteorder::{ByteOrder, LittleEndian};
+use gs_layout::{Message, u16_at};
+
+/// The kind of a PAD.
+pub(crate) const PAD: u16 = 9;
+
+/// Where a place lies in a block of so many bytes.
+pub(crate) fn index_of(place: u64, capacity: usize) -> usize
+    requires { 0 < capacity }
+    ensures { result ≡ place % capacity }
+{
+    (place % capacity as u64) as usize
+}
+
+/// How many bytes of PAD stand before a record of so many bytes that is written at a place.
+#[tactic(auto, unfolding(crate::specs::Places::pad_len))]
+pub(crate) fn pad_len(place: u64, capacity: usize, len: usize) -> usize
+    requires { 0 < capacity }
+    ensures value { result ≡ pad_len capacity place len }
+    ensures within { result ≤ capacity }
+{
+    let rest = capacity - index_of(place, capacity);
+    if len <= rest { 0 } else { rest }
+}
+
+/// How many bytes the message has in a ring.
+#[tactic(auto, unfolding(crate::specs::Places::record_of))]
+pub(crate) fn record_len(message: &Message) -> usize
+    ensures { result ≡ record_len message.now }
+{
+    gs_layout::message_len(message)
+}
+
+/// Makes a PAD of all these bytes.
+fn fill_pad(out: &mut [u8])
+    requires least { 4 ≤ length out.old }
+    requires most { length out.old < 65536 }
+    ensures { out.new ≡ pad (length out.old) }
+{
+    let len = out.len();
+    LittleEndian::write_u16(out, len as u16);
+    LittleEndian::write_u16(&mut out[2..], PAD);
+    out[4..].fill(0);
+}
+
+/// Writes a PAD of so many bytes at an index of the block, where it is to have any.
+fn write_pad(block: &mut [u8], at: usize, len: usize)
+    requires fits { at + len ≤ length block.old }
+    requires whole { len % 8 ≡ 0 }
+    requires most { len < 65536 }
+    ensures { block.new ≡ put_at at (pad_bytes len) block.old }
+{
+    if len == 0 {
+        return;
+    }
+    fill_pad(&mut block[at..at + len]);
+}
+
+/// Writes a message at an index of the block.
+fn write_record(block: &mut [u8], at: usize, message: &Message)
+    requires { at + record_len message.now ≤ length block.old }
+    ensures { block.new ≡ put_at at (record_of message.now) block.old }
+{
+    gs_layout::encode_message(message, &mut block[at..]);
+}
+
+/// Writes a message at a place, behind a PAD of so many bytes.
+pub(crate) fn write(block: &mut [u8], place: u64, pad: usize, message: &Message)
+    requires size { 0 < length block.old }
+    requires fits { place % length block.old + pad ≤ length block.old }
+    requires whole { pad % 8 ≡ 0 }
+    requires most { pad < 65536 }
+    requires place { place + pad < 2 ^ 64 }
+    requires behind { (place + pad) % length block.old + record_len message.now ≤ length block.old }
+    ensures { block.new ≡ block_with block.old place pad message.now }
+{
+    let len = block.len();
+    write_pad(block, index_of(place, len), pad);
+    write_record(block, index_of(place + pad as u64, len), message);
+}
+
+/// Where the record begins in the block that is read at a place: behind its PAD, if it has one.
+#[tactic(auto, unfolding(crate::specs::Block::record_index))]
+fn record_index(block: &[u8], place: u64) -> usize
+    requires size { 0 < length block.now }
+    requires room { place % length block.now + 4 ≤ length block.now }
+    ensures value { result ≡ record_index block.now place }
+    ensures within { result < length block.now }
+{
+    let index = index_of(place, block.len());
+    if u16_at(&block[index..], 2) == PAD {
+        0
+    } else {
+        index
+    }
+}
+
+/// The message that is read at a place, where it lies in the block.
+pub(crate) fn message_at(block: &[u8], place: u64) -> Peeked<'_>
+    requires { (m : Message) × Lies block.now place m }
+    ensures { (m : Message) → Lies block.now place m → message_of result ≡ m }
+{
+    let start = record_index(block, place);
+    let len = u16_at(block, start) as usize;
+    Peeked::new(&block[start..start + len])
+}
+
+/// How many bytes the message has that is read at a place.
+pub(crate) fn len_at(block: &[u8], place: u64) -> usize
+    requires { (m : Message) × Lies block.now place m }
+    ensures value { (m : Message) → Lies block.now place m → result ≡ record_len m }
+    ensures most { result < 65536 }
+{
+    u16_at(block, record_index(block, place)) as usize
+}
+
+/// Whether a ring may have so many bytes.
+pub(crate) fn is_capacity(capacity: usize) -> bool
+    ensures { result ≡ is_capacity capacity }
+{
+    128 <= capacity && capacity <= 1_048_576 && capacity % 8 == 0
+}

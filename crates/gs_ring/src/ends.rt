@@ -1,0 +1,103 @@
+//! The two ends of a ring of messages.
+
+ghost use Rattle.std.specs.Prelude.{◌≡◌, ℕ, ◌+◌, ◌^◌, ◌<◌, List, [], ◌∷◌, ◌++◌, length, take, drop, OnOk, OnErr, IfNone, MatchOption, ◌⊎◌};
+ghost use Rattle.std.specs.Borrow.{sem};
+ghost use Rattle.std.specs.Io.BufRead.{Rests};
+ghost use Rattle.gs_layout.specs.Spelling.{IsSpellable};
+
+use crate::fault::Full;
+use crate::peeked::Peeked;
+use gs_layout::Message;
+
+/// The end that messages are posted to.
+///
+/// What was posted is a relation of the end and a list, since an end need not hold it.
+pub trait Poster {
+    ghost use Rattle.gs_layout.specs.declared.message.Message.{Message};
+
+    /// These are the messages that were posted so far.
+    ghost posted: { Self → List Message → Type 0 };
+
+    /// How many were posted.
+    ghost count: { Self → ℕ };
+
+    /// How many of them are known to be taken.
+    ghost taken: { Self → ℕ };
+
+    /// Where a message may be refused.
+    ghost tight: { Self → Message → Type 0 };
+
+    /// The same end of the same ring.
+    ghost same: { Self → Self → Type 0 };
+
+    /// Appends a message, whose fields are in their ranges. Fewer than 16,777,216 were posted before.
+    ///
+    /// # Errors
+    ///
+    /// `Full` where the message is refused. Nothing was posted.
+    fn post(&mut self, message: &Message) -> Result<(), Full>
+        requires few { count self.old < 2 ^ 24 }
+        requires spellable { IsSpellable message.now }
+        ensures ring { same self.old self.new }
+        ensures posts { OnOk result ((xs : List Message) → posted self.old xs → posted self.new (xs ++ message.now ∷ [])) }
+        ensures counts { OnOk result (count self.new ≡ count self.old + 1) }
+        ensures stays { taken self.new ≡ taken self.old }
+        ensures full { OnErr result (tight self.old message.now) }
+        ensures unchanged { OnErr result ((xs : List Message) → posted self.old xs → posted self.new xs) };
+
+    /// Laws.
+    ghost counted: { (p : Self) (xs : List Message) → posted p xs → count p ≡ length xs };
+
+    ghost same_refl: { (p : Self) → same p p };
+
+    ghost same_trans: { (p q r : Self) → same p q → same q r → same p r };
+}
+
+/// The end that messages are taken from, in the order in which they were posted.
+pub trait Taker {
+    ghost use Rattle.gs_layout.specs.declared.message.Message.{Message};
+    ghost use Rattle.gs_ring.specs.Peek.{message_of};
+
+    /// These messages passed from one state of the end to a later one.
+    ghost passed: { Self → List Message → Self → Type 0 };
+
+    /// These are known to come next.
+    ghost ahead: { Self → List Message → Type 0 };
+
+    /// Where none may be found.
+    ghost idle: { Self → Type 0 };
+
+    /// The next message, which stays.
+    fn peek(&mut self) -> Option<Peeked<'_>>
+        ensures none { IfNone result (idle self.old) }
+        ensures* after { sem 𝓛 (Rests Self.row self.entry (λ new. passed self.old [] new × MatchOption result ((m : Message) (ms : List Message) → ahead new (m ∷ ms) → ⊥) (λ p. ahead new (message_of p ∷ [])))) };
+
+    /// Takes the next message, which is known to come.
+    fn advance(&mut self)
+        requires { (m : Message) × ahead self.old (m ∷ []) }
+        ensures { (m : Message) → ahead self.old (m ∷ []) → passed self.old (m ∷ []) self.new };
+
+    /// Laws.
+    ghost passed_none: { (t : Self) → passed t [] t };
+
+    ghost passed_join: { (t u v : Self) (xs ys : List Message) → passed t xs u → passed u ys v → passed t (xs ++ ys) v };
+
+    /// What passes begins with what was known, or is a beginning of it, and then the rest is known still.
+    ghost agrees: { (t u : Self) (xs ys : List Message) → passed t xs u → ahead t ys → ((rest : List Message) × (xs ++ rest ≡ ys) × ahead u rest) ⊎ ((rest : List Message) × (xs ≡ ys ++ rest)) };
+}
+
+/// Both ends in one.
+pub trait Ring: Poster + Taker {
+    ghost use Rattle.gs_layout.specs.declared.message.Message.{Message};
+
+    /// What was posted stays posted when it is taken.
+    ghost keeps: { (p q : Self) (xs ms : List Message) → Self.posted p xs → Self.passed p ms q → Self.posted q xs };
+
+    ghost stays: { (p q : Self) (ms : List Message) → Self.passed p ms q → Self.same p q };
+
+    /// What passes is the next of what was posted.
+    ghost passes: { (p q : Self) (xs ms : List Message) → Self.posted p xs → Self.passed p ms q → (Self.taken q ≡ Self.taken p + length ms) × (ms ≡ take (length ms) (drop (Self.taken p) xs)) };
+
+    /// Where none was found, all was taken.
+    ghost ends: { (p : Self) (xs : List Message) → Self.posted p xs → Self.idle p → Self.taken p ≡ length xs };
+}

@@ -1,0 +1,15 @@
+use thiserror::Error;
+
+/// Why no ring can be made.
+#[derive(Clone, Copy, PartialEq, Eq, Debug, Error)]
+pub enum RingFault {
+    #[error("the capacity is not a multiple of 8 from 128 to 1048576")]
+    BadCapacity,
+    #[error("out of memory")]
+    OutOfMemory,
+}
+
+/// There is no room for the message. Nothing was posted.
+#[derive(Clone, Copy, PartialEq, Eq, Debug, Error)]
+#[error("the ring has no room for the message")]
+pub struct Full;

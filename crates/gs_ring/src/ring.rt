@@ -1,0 +1,236 @@
+ghost use Rattle.std.specs.Prelude.{◌≡◌, ◌↔◌, ◌+◌, ◌-◌, ◌^◌, ◌<◌, ◌≤◌, List, [], ◌∷◌, ◌++◌, length, min, true, false, IfOk, IsErr, IsErrOf, MatchOption, OnOk, OnErr};
+ghost use Rattle.gs_layout.specs.declared.message.Message.{Message};
+ghost use Rattle.gs_ring.specs.Ends.{Ahead, IsEmpty, Passed};
+ghost use Rattle.gs_ring.specs.Peek.{message_of};
+ghost use Rattle.gs_layout.specs.Spelling.{IsSpellable};
+ghost use Rattle.gs_ring.specs.Places.{bytes, is_capacity, need, place_behind, rest};
+ghost use Rattle.gs_ring.specs.RingState.{IsTight, empty, end, free, posts};
+
+use crate::block;
+use crate::ends::{Poster, Ring, Taker};
+use crate::fault::{Full, RingFault};
+use crate::peeked::Peeked;
+use gs_layout::Message;
+use std::alloc::Global;
+use std::marker::Model;
+
+/// Messages in a block of bytes of fixed size, in the order in which they were posted.
+///
+/// Each lies there as its bytes, and none is split over the end of the block: where the rest of the
+/// block is too short, a PAD fills it and the message stands at the block's start. Places are counted
+/// from 0 and never wrap. Nothing but `new` takes memory.
+#[derive(Drop)]
+pub struct ByteRing {
+    block: Vec<u8>,
+    /// The place of the first byte that was not consumed.
+    read: u64,
+    /// The place behind the last byte that was written.
+    written: u64,
+    /// How many messages were taken, and how many were posted.
+    taken: u64,
+    posts: u64,
+}
+
+impl Model for ByteRing {
+    ghost use Rattle.gs_ring.specs.RingState.{RingState};
+    ghost use Rattle.gs_ring.specs.Block.{IsRing, ring_of};
+
+    ghost Value = { RingState };
+
+    ghost view = { λ r. ring_of r.block.items r.read r.written r.taken r.posts };
+
+    ghost invariant = { λ r. IsRing r.block.items r.read r.written r.taken r.posts };
+}
+
+impl ByteRing {
+    /// A ring of so many bytes to which nothing was posted.
+    ///
+    /// # Errors
+    ///
+    /// `BadCapacity` where `capacity` is not a multiple of 8 from 128 to 1,048,576, and else
+    /// `OutOfMemory` where memory runs out.
+    pub fn new(alloc: Global, capacity: usize) -> Result<ByteRing, RingFault>
+        ensures made { IfOk result (λ r. r ≡ empty capacity) }
+        ensures bad { IsErrOf result RingFault.BadCapacity ↔ (is_capacity capacity ≡ false) }
+    {
+        if !block::is_capacity(capacity) {
+            return Err(RingFault::BadCapacity);
+        }
+        let Ok(block) = vec![in alloc; 0; capacity] else {
+            return Err(RingFault::OutOfMemory);
+        };
+        Ok(ByteRing {
+            block,
+            read: 0,
+            written: 0,
+            taken: 0,
+            posts: 0,
+        })
+    }
+
+    /// How many bytes the block has.
+    pub fn capacity(&self) -> usize
+        ensures value { result ≡ self.now.capacity }
+        ensures range { is_capacity result ≡ true }
+    {
+        self.block.len()
+    }
+
+    /// How many bytes are free.
+    pub fn free(&self) -> usize
+        ensures value { result ≡ free self.now }
+        ensures within { result ≤ self.now.capacity }
+    {
+        self.block.len() - (self.written - self.read) as usize
+    }
+
+    /// How many bytes a record of so many bytes takes up that is posted next, with its PAD.
+    pub fn need(&self, len: usize) -> usize
+        requires { len < 2 ^ 16 }
+        ensures { result ≡ need self.now.capacity (end self.now) len }
+    {
+        block::pad_len(self.written, self.block.len(), len) + len
+    }
+
+    /// Appends a message.
+    ///
+    /// # Errors
+    ///
+    /// `Full` exactly where the message needs more bytes than are free. The ring is as it was.
+    pub(crate) fn push(&mut self, message: &Message) -> Result<(), Full>
+        requires few { posts self.old < 2 ^ 24 }
+        requires spellable { IsSpellable message.now }
+        ensures exact { IsErr result ↔ IsTight self.old message.now }
+        ensures ok { OnOk result (self.new ≡ record self.old { unread = self.old.unread ++ message.now ∷ [] }) }
+        ensures full { OnErr result (self.new ≡ self.old) }
+    {
+        let len = block::record_len(message);
+        let capacity = self.block.len();
+        let pad = block::pad_len(self.written, capacity, len);
+        if pad + len > self.free() {
+            return Err(Full);
+        }
+        block::write(self.block.as_mut_slice(), self.written, pad, message);
+        self.written += (pad + len) as u64;
+        self.posts += 1;
+        Ok(())
+    }
+
+    /// The message that waits first, where it lies in the block.
+    pub fn first(&self) -> Option<Peeked<'_>>
+        ensures { MatchOption result (IsEmpty self.now) (λ p. Ahead self.now (message_of p ∷ [])) }
+    {
+        if self.taken == self.posts {
+            return None;
+        }
+        Some(block::message_at(self.block.as_slice(), self.read))
+    }
+
+    /// Takes the message that waits first.
+    pub(crate) fn pop(&mut self)
+        requires { 0 < length self.old.unread }
+        ensures { (m : Message) → Ahead self.old (m ∷ []) → Passed self.old (m ∷ []) self.new }
+    {
+        let len = block::len_at(self.block.as_slice(), self.read);
+        let pad = block::pad_len(self.read, self.block.len(), len);
+        self.read += (pad + len) as u64;
+        self.taken += 1;
+    }
+
+    /// The bytes that were not consumed: those up to the end of the block, then those from its start.
+    pub fn front(&self) -> (&[u8], &[u8])
+        ensures value { result.0.now ++ result.1.now ≡ bytes self.now.capacity self.now.read self.now.unread }
+        ensures all { end self.now ≡ self.now.read + (length result.0.now + length result.1.now) }
+        ensures first { length result.0.now ≡ min (end self.now - self.now.read) (rest self.now.capacity self.now.read) }
+    {
+        let block = self.block.as_slice();
+        let start = block::index_of(self.read, block.len());
+        let used = (self.written - self.read) as usize;
+        let first = used.min(block.len() - start);
+        (&block[start..start + first], &block[..used - first])
+    }
+
+    /// Takes the first messages, which take up so many bytes with their PADs.
+    pub fn consume(&mut self, n: usize)
+        requires { (ms : List Message) × Ahead self.old ms × (place_behind self.old.capacity self.old.read ms ≡ self.old.read + n) }
+        ensures { (ms : List Message) → Ahead self.old ms → place_behind self.old.capacity self.old.read ms ≡ self.old.read + n → Passed self.old ms self.new }
+    {
+        let end = self.read + n as u64;
+        while self.read < end {
+            self.pop();
+        }
+    }
+}
+
+impl Poster for ByteRing {
+    ghost use Rattle.std.proofs.Common.{refl, ◌∙◌};
+    ghost use Rattle.gs_ring.specs.Ends.{Posted, Posted-counted, SameRing};
+
+    ghost posted = { Posted };
+
+    ghost count = { posts };
+
+    ghost taken = { λ r. r.taken };
+
+    ghost tight = { IsTight };
+
+    ghost same = { SameRing };
+
+    fn post(&mut self, message: &Message) -> Result<(), Full>
+        requires few { posts self.old < 2 ^ 24 }
+        requires spellable { IsSpellable message.now }
+        ensures ring { SameRing self.old self.new }
+        ensures posts { OnOk result ((xs : List Message) → Posted self.old xs → Posted self.new (xs ++ message.now ∷ [])) }
+        ensures counts { OnOk result (posts self.new ≡ posts self.old + 1) }
+        ensures stays { self.new.taken ≡ self.old.taken }
+        ensures full { OnErr result (IsTight self.old message.now) }
+        ensures unchanged { OnErr result ((xs : List Message) → Posted self.old xs → Posted self.new xs) }
+        ensures exact { IsErr result ↔ IsTight self.old message.now }
+        ensures ok { OnOk result (self.new ≡ record self.old { unread = self.old.unread ++ message.now ∷ [] }) }
+        ensures same { OnErr result (self.new ≡ self.old) }
+    {
+        self.push(message)
+    }
+
+    ghost counted = { Posted-counted };
+
+    ghost same_refl = { λ p. refl };
+
+    ghost same_trans = { λ p q r e f. f ∙ e };
+}
+
+impl Taker for ByteRing {
+    ghost use Rattle.gs_ring.specs.Ends.{Passed-agrees, Passed-join, Passed-none};
+
+    ghost passed = { Passed };
+
+    ghost ahead = { Ahead };
+
+    ghost idle = { IsEmpty };
+
+    fn peek(&mut self) -> Option<Peeked<'_>> {
+        self.first()
+    }
+
+    fn advance(&mut self) {
+        self.pop();
+    }
+
+    ghost passed_none = { Passed-none };
+
+    ghost passed_join = { Passed-join };
+
+    ghost agrees = { Passed-agrees };
+}
+
+impl Ring for ByteRing {
+    ghost use Rattle.gs_ring.specs.Ends.{Passed-same, Posted-ends, Posted-keeps, Posted-passes};
+
+    ghost keeps = { Posted-keeps };
+
+    ghost stays = { Passed-same };
+
+    ghost passes = { Posted-passes };
+
+    ghost ends = { Posted-ends };
+}
