@@ -1,0 +1,92 @@
+use crate::StatusWord;
+use std::test::Fail;
+
+/// Words of a thread that runs, one that waits, and one that is dead, with what they show.
+const WORDS: [u64; 3] = [0x0000070100000001, 0x000003ff00000001, 0x000000ff00000002];
+
+fn running() -> StatusWord {
+    StatusWord {
+        tseq: 1,
+        cpu: Some(1),
+        runnable: true,
+        alive: true,
+    }
+}
+
+fn waiting() -> StatusWord {
+    StatusWord {
+        tseq: 1,
+        cpu: None,
+        runnable: true,
+        alive: true,
+    }
+}
+
+fn dead() -> StatusWord {
+    StatusWord {
+        tseq: 2,
+        cpu: None,
+        runnable: false,
+        alive: false,
+    }
+}
+
+#[test]
+fn packs(rt: HostRuntime) {
+    assert_eq!(rt; running().pack(), 0x0000070100000001);
+    assert_eq!(rt; waiting().pack(), 0x000003ff00000001);
+    assert_eq!(rt; dead().pack(), 0x000000ff00000002);
+}
+
+#[test]
+fn unpacks(rt: HostRuntime) {
+    assert_eq!(rt; StatusWord::unpack(0x0000070100000001), Some(running()));
+    assert_eq!(rt; StatusWord::unpack(0x000003ff00000001), Some(waiting()));
+    assert_eq!(rt; StatusWord::unpack(0x000000ff00000002), Some(dead()));
+}
+
+#[test]
+fn another_spelling_or_none(rt: HostRuntime) -> Result<(), Fail> {
+    let mut others: u32 = 0;
+    for word in WORDS {
+        for bit in 0..64u32 {
+            let changed = word ^ (1 << bit);
+            if let Some(status) = StatusWord::unpack(changed) {
+                assert_eq!(rt; status.pack(), changed, "bit {bit} of {word:x}");
+                assert_ne!(rt;
+                    Some(status),
+                    StatusWord::unpack(word),
+                    "bit {bit} of {word:x}"
+                );
+                others = others.wrapping_add(1);
+            }
+        }
+    }
+    // Each bit of the three sequence numbers, the six bits of the CPU that runs one, and the bits
+    // by which a waiting thread, a blocked one and a dead one differ.
+    assert_eq!(rt; others, 3 * 32 + 6 + 1 + 1);
+    Ok(())
+}
+
+#[test]
+fn no_word(rt: HostRuntime) {
+    for word in [
+        // on CPU 64
+        0x0000074000000001u64,
+        // on CPU 255
+        0x000007ff00000001,
+        // on CPU 1, and not told so
+        0x0000030100000001,
+        // blocked on CPU 1
+        0x0000060100000001,
+        // runnable and dead
+        0x000001ff00000001,
+        // bits 43 and 63
+        0x00000bff00000001,
+        0x800003ff00000001,
+        u64::MAX,
+        0,
+    ] {
+        assert_eq!(rt; StatusWord::unpack(word), None, "{word:x}");
+    }
+}

@@ -1,0 +1,9 @@
+pub mod Lookups
+pub mod Walks
+pub mod Entries
+pub mod Told
+pub mod Mirroring
+pub mod Placing
+pub mod Clearing
+pub mod Mirrored
+mod Rows

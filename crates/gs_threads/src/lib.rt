@@ -1,0 +1,14 @@
+//! The table of threads: one row for each thread that ever was, answered in constant time.
+//!
+//! A row is what the thread's messages make of it, its sequence number, and the CPU that it is on.
+#![tactic(auto)]
+
+mod live;
+mod row;
+mod table;
+#[cfg(test)]
+mod tests;
+
+pub use live::LiveRows;
+pub use row::ThreadRow;
+pub use table::ThreadTable;

@@ -1,0 +1,144 @@
+ghost use Rattle.std.specs.Prelude.{◌≡◌, ◌⊎◌, ◌==◌, ◌+◌, ◌^◌, ◌<◌, ◌≤◌, [], ◌∷◌, ◌++◌, length, MatchBool, OnOk, IsOk};
+ghost use Rattle.std.specs.Option.{option_copied};
+ghost use Rattle.gs_threads.specs.Rows.{new_row};
+ghost use Rattle.gs_threads.specs.Table.{row_of, rows_after, rows_placed};
+ghost use Rattle.gs_threads.specs.Live.{live_from};
+
+use crate::live::LiveRows;
+use crate::row::ThreadRow;
+use gs_layout::{Facts, Message};
+use std::alloc::{AllocError, Global};
+use std::marker::Model;
+
+/// One row for each thread that ever was, the dead too: thread 1 first.
+///
+/// Each call takes the same time for any number of threads, but for `reserve` where it grows the
+/// table (twofold), and for the walk of `live_from`, which passes over each row from its start on.
+#[derive(Drop)]
+pub struct ThreadTable {
+    rows: Vec<ThreadRow>,
+    first_tseq: u32,
+}
+
+impl Model for ThreadTable {
+    ghost use Rattle.std.specs.Prelude.{◌-◌, ◌<◌, ◌^◌, min, vec_len, vec_capacity};
+    ghost use Rattle.gs_threads.specs.Table.{TableState};
+
+    ghost Value = { TableState };
+
+    ghost view = { λ t. record {
+      rows = t.rows.items;
+      first_tseq = t.first_tseq;
+      room = min (vec_capacity t.rows - vec_len t.rows) (2 ^ 32 - 1 - vec_len t.rows);
+    } };
+
+    ghost invariant = { λ t. (vec_len t.rows < 2 ^ 32) × (t.first_tseq < 2 ^ 32 - 1) };
+}
+
+impl ThreadTable {
+    /// A table of no threads. The sequence number of a new thread is one above `first_tseq`. It
+    /// takes no memory.
+    pub fn new(alloc: Global, first_tseq: u32) -> ThreadTable
+        requires { first_tseq < u32.MAX }
+        ensures rows { result.rows ≡ [] }
+        ensures first_tseq { result.first_tseq ≡ first_tseq }
+    {
+        ThreadTable {
+            rows: Vec::new(alloc),
+            first_tseq,
+        }
+    }
+
+    /// How many threads there ever were. The next one is one above that.
+    pub fn len(&self) -> usize
+        ensures value { result ≡ length self.now.rows }
+        ensures within { result < 2 ^ 32 }
+    {
+        self.rows.len()
+    }
+
+    /// Whether there never was a thread.
+    pub fn is_empty(&self) -> bool
+        ensures { result ≡ (length self.now.rows == 0) }
+    {
+        self.rows.is_empty()
+    }
+
+    /// Makes room for one more row, which `create` then takes without fail.
+    ///
+    /// # Errors
+    ///
+    /// `AllocError` where memory runs out. No row changes, and room that was made before stays.
+    pub fn reserve(&mut self) -> Result<(), AllocError>
+        requires { length self.old.rows < u32.MAX }
+        ensures room { OnOk result (0 < self.new.room) }
+        ensures same { self.new ≡ record self.old { room = self.new.room } }
+        ensures kept { self.old.room ≤ self.new.room }
+        ensures enough { 0 < self.old.room → IsOk result }
+    {
+        self.rows.reserve(1)
+    }
+
+    /// Appends the row of the next thread, for which room was made before.
+    pub fn create(&mut self, facts: &Facts)
+        requires { 0 < self.old.room }
+        ensures rows { self.new.rows ≡ self.old.rows ++ new_row self.old.first_tseq facts.now ∷ [] }
+        ensures first_tseq { self.new.first_tseq ≡ self.old.first_tseq }
+        ensures room { self.old.room ≤ self.new.room + 1 }
+    {
+        let row = ThreadRow::new(self.first_tseq, facts);
+        // There is room, so it takes no memory and cannot fail.
+        self.rows.extend_from_slice(&[row]).unwrap();
+    }
+
+    /// The row of a thread, or `None` for one that never was.
+    #[tactic(auto, using(crate::proofs::Lookups::row_there, crate::proofs::Lookups::row_never))]
+    pub fn get(&self, tid: u32) -> Option<&ThreadRow>
+        ensures { option_copied result ≡ row_of self.now.rows tid }
+    {
+        if !self.has(tid) {
+            return None;
+        }
+        Some(&self.rows[tid as usize - 1])
+    }
+
+    /// Takes in a message: the row of its thread becomes what the message makes of it. A timer
+    /// tick changes nothing, nor does a message about a thread that never was.
+    #[tactic(auto, using(crate::proofs::Lookups::after_is, crate::proofs::Lookups::after_none, crate::proofs::Lookups::after_tick))]
+    pub fn apply(&mut self, message: &Message)
+        ensures { self.new ≡ record self.old { rows = rows_after self.old.rows message.now } }
+    {
+        let Message::Thread { tid, .. } = message else {
+            return;
+        };
+        if self.has(*tid) {
+            let row = &mut self.rows[*tid as usize - 1];
+            *row = row.after(message);
+        }
+    }
+
+    /// Puts a thread on a CPU, or takes it off with `None`. A thread that never was stays away.
+    #[tactic(auto, using(crate::proofs::Lookups::placed_is, crate::proofs::Lookups::placed_none))]
+    pub fn place(&mut self, tid: u32, cpu: Option<u16>)
+        ensures { self.new ≡ record self.old { rows = rows_placed self.old.rows tid cpu } }
+    {
+        if self.has(tid) {
+            self.rows[tid as usize - 1].cpu = cpu;
+        }
+    }
+
+    /// The live threads from `tid` on, by rising tid, each with its row.
+    pub fn live_from(&self, tid: u32) -> LiveRows<'_>
+        ensures { result ≡ live_from self.now.rows tid }
+    {
+        let passed = (tid as usize).saturating_sub(1).min(self.rows.len());
+        LiveRows::new(&self.rows[passed..], passed)
+    }
+
+    /// Whether a thread ever was.
+    fn has(&self, tid: u32) -> bool
+        ensures { MatchBool result (0 < tid × tid ≤ length self.now.rows) ((tid ≡ 0) ⊎ (length self.now.rows < tid)) }
+    {
+        0 < tid && tid as usize <= self.rows.len()
+    }
+}
