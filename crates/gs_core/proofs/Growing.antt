@@ -2,6 +2,7 @@
 use Rattle.std.proofs.Common.{◌≡◌, refl, ap, sym, ◌∙◌, subst, ℕ, suc, ◌+◌, ◌<◌, ◌≤◌, ◌⊎◌, inl, inr, Bool, true, false, Option, None, Some, List, [], ◌∷◌, ◌++◌, length, arith, cond}
 use Rattle.gs_layout.specs.declared.facts.Facts.{Facts}
 use Rattle.gs_layout.specs.declared.message.Message.{Message}
+use Rattle.gs_layout.specs.declared.message.Message.TheVariants.{TimerTick}
 use Rattle.gs_layout.specs.declared.slot.Slot.{Slot}
 use Rattle.gs_layout.specs.declared.outcome.Outcome.{Outcome}
 use Rattle.gs_layout.specs.declared.outcome.Outcome.TheVariants as outcomes
@@ -20,7 +21,7 @@ use Rattle.gs_core.specs.Machine.{lands}
 use Rattle.gs_core.specs.Safe.{IsIn}
 use Rattle.gs_core.specs.Good.{GoodHistory, Faces, AreOf}
 use Rattle.gs_core.proofs.Faces.{faces_posted, faces_same}
-use Rattle.gs_core.proofs.Histories.{good_created, good_placed}
+use Rattle.gs_core.proofs.Histories.{good_created, good_placed, good_tick}
 use Rattle.gs_journal.proofs.Laws.{same_posted, attaching-push}
 use Rattle.gs_kernel.proofs.Placings.{IsPlacing, placing_when}
 
@@ -32,6 +33,11 @@ pub both_created : (s : Settings) (xs : List Transaction) (n : ℕ) (v : Look) (
 both_created s xs n v page h f b =
     let g = good_created s xs h f b.good in
     record { good = g; faces = faces_posted s.first_tseq h n v page (creation s.first_tseq h f) g.numbered b.faces }
+
+pub both_tick : (s : Settings) (xs : List Transaction) (n : ℕ) (v : Look) (page : Option ℕ) (h : History) (c : ℕ) → Both s xs n v page h → Both s xs n v page (h ++ Posted (TimerTick c) ∷ [])
+both_tick s xs n v page h c b =
+    let g = good_tick s xs h c b.good in
+    record { good = g; faces = faces_posted s.first_tseq h n v page (TimerTick c) g.numbered b.faces }
 
 pub both_placed : (s : Settings) (xs : List Transaction) (n : ℕ) (v : Look) (page : Option ℕ) (h : History) (k : ℕ) (b : Slot) (x : Transaction) → IsIn xs x → x.slot ≡ b → x.cpu ≡ k → k < s.cpus → IsPlacing s h k b
     → Both s xs n v page h → Both s xs n v page (h ++ Placed b.tid b.tseq k b.generation ∷ [])

@@ -7,6 +7,7 @@ use Rattle.std.proofs.lemmas.Bool.Decides.{nat_tests}
 use Rattle.std.proofs.lemmas.Bool.{cases_lt, false≢true}
 use Rattle.gs_layout.specs.declared.facts.Facts.{Facts}
 use Rattle.gs_layout.specs.declared.message.Message.{Message}
+use Rattle.gs_layout.specs.declared.message.Message.TheVariants.{TimerTick}
 use Rattle.gs_layout.specs.declared.record.Record.TheVariants.{Live}
 use Rattle.gs_layout.specs.declared.slot.Slot.{Slot}
 use Rattle.gs_layout.specs.Message.{is_about}
@@ -66,6 +67,15 @@ pub good_created : (s : Settings) (xs : List Transaction) (h : History) (f : Fac
 good_created s xs h f g =
     let apart : (new_tid h == 0) ≡ false = grind (arith, nat_tests) in
     good_posted s xs h (creation s.first_tseq h f) g (numbered_created s.first_tseq h f g.numbered g.fresh) (fresh_created s.first_tseq h f g.fresh) (others s.first_tseq h f 0 apart ∙ g.no_zero)
+
+-- a tick
+tick_messages : (h : History) (c t : ℕ) → messages (h ++ Posted (TimerTick c) ∷ []) t ≡ messages h t
+tick_messages h c t = messages-push h (Posted (TimerTick c)) t ∙ append-nil (messages h t)
+
+pub good_tick : (s : Settings) (xs : List Transaction) (h : History) (c : ℕ) → GoodHistory s xs h → GoodHistory s xs (h ++ Posted (TimerTick c) ∷ [])
+good_tick s xs h c g =
+    good_posted s xs h (TimerTick c) g (λ u. subst (Numbered s.first_tseq 0) (sym (tick_messages h c u)) (g.numbered u))
+    (λ u lt. tick_messages h c u ∙ g.fresh u (omega (arith, ap length (created-push h (Posted (TimerTick c)) ∙ append-nil (created h))))) (tick_messages h c 0 ∙ g.no_zero)
 
 Some≢None : {A : Type 0} {a : A} → Some a ≡ None → ⊥
 Some≢None {a = a} e = elim_bool (ap is_some e)

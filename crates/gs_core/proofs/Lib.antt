@@ -4,6 +4,7 @@ pub mod Histories
 pub mod Growing
 pub mod Places
 pub mod Gaps
+pub mod Tears
 pub mod Steps
 pub mod Whole
 pub mod Commits
