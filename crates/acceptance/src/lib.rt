@@ -2,6 +2,10 @@
 #![tactic(auto)]
 
 #[cfg(test)]
+mod fixed_places;
+#[cfg(test)]
 mod hostile;
 #[cfg(test)]
 mod scripts;
+#[cfg(test)]
+mod two_rings;

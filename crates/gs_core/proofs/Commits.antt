@@ -1,11 +1,12 @@
 -- A commit, one slot at a time.
-use Rattle.std.proofs.Common.{◌≡◌, refl, ap, sym, ◌∙◌, ℕ, suc, ◌+◌, ◌-◌, ◌<◌, ◌≤◌, min, Bool, true, false, Option, None, Some, List, [], ◌∷◌, ◌++◌, length, take, drop, arith, cond, length-append, append_assoc}
+use Rattle.std.proofs.Common.{◌≡◌, refl, ap, sym, ◌∙◌, ℕ, suc, ◌+◌, ◌-◌, ◌<◌, ◌≤◌, ◌⊎◌, inl, inr, min, Bool, true, false, Option, None, Some, List, [], ◌∷◌, ◌++◌, length, take, drop, arith, cond, length-append, append_assoc}
 use Rattle.gs_layout.specs.declared.slot.Slot.{Slot}
 use Rattle.gs_layout.specs.declared.outcome.Outcome.{Outcome}
 use Rattle.gs_layout.specs.declared.outcome.Outcome.TheVariants as outcomes
 use Rattle.gs_journal.specs.declared.entry.Entry.TheVariants.{Placed}
-use Rattle.gs_journal.specs.Masks.{has}
-use Rattle.gs_journal.specs.History.{History}
+use Rattle.gs_status.specs.Masks.{has}
+use Rattle.gs_journal.specs.History.{History, posted}
+use Rattle.gs_journal.proofs.Laws.{same_posted}
 use Rattle.gs_kernel.specs.declared.settings.Settings.{Settings}
 use Rattle.gs_kernel.specs.declared.landing.Landing.{Landing}
 use Rattle.gs_kernel.specs.Landing.{verdict, landing, after_outcome, after_landing}
@@ -15,6 +16,7 @@ use Rattle.gs_kernel.proofs.Placings.{placing_when}
 use Rattle.std.proofs.Common.{get_or, set, length-take, drop-cons}
 use Rattle.std.proofs.lemmas.List.{take_more}
 use Rattle.gs_core.specs.Machine.{lands, collected}
+use Rattle.gs_core.proofs.Growing.{nothing_placed}
 
 abbrev pub joined : List Landing × History → (History → List Landing × History) → List Landing × History
 joined p f = (p.0 ++ (f p.1).0, (f p.1).1)
@@ -99,3 +101,24 @@ landed_length s h k b = by_outcome (verdict s h k b)
     by_outcome outcomes.SeqSpent = (omega arith, omega arith)
     by_outcome outcomes.HistoryFull = (omega arith, omega arith)
     by_outcome outcomes.Malformed = (omega arith, omega arith)
+
+-- landings post nothing
+posted_landed : (s : Settings) (h : History) (k : ℕ) (b : Slot) → posted (after_landing s h k b) ≡ posted h
+posted_landed s h k b = by_outcome (nothing_placed h (verdict s h k b) k b)
+  where
+    by_outcome : (verdict s h k b ≡ outcomes.Placed) ⊎ (after_outcome h (verdict s h k b) k b ≡ h) → posted (after_outcome h (verdict s h k b) k b) ≡ posted h
+    by_outcome (inl e) = ap (λ o. posted (after_outcome h o k b)) e ∙ same_posted h (Placed b.tid b.tseq k b.generation) refl
+    by_outcome (inr e) = ap posted e
+
+pub posted_lands : (s : Settings) (mask : ℕ) (k : ℕ) (slots : List (Option Slot)) (h h' : History) → h' ≡ (lands s mask k slots h).1 → posted h' ≡ posted h
+posted_lands s mask k slots h h' e = ap posted e ∙ all k slots h
+  where
+    all : (k : ℕ) (slots : List (Option Slot)) (h : History) → posted (lands s mask k slots h).1 ≡ posted h
+    all k [] h = refl
+    all k (None ∷ slots) h = all (suc k) slots h
+    all k ((Some b) ∷ slots) h = by_mask (has mask k) (all (suc k) slots h) (all (suc k) slots (after_landing s h k b) ∙ posted_landed s h k b)
+      where
+        by_mask : (m : Bool) → posted (lands s mask (suc k) slots h).1 ≡ posted h → posted (lands s mask (suc k) slots (after_landing s h k b)).1 ≡ posted h
+            → posted (cond m (landing s h k b ∷ (lands s mask (suc k) slots (after_landing s h k b)).0, (lands s mask (suc k) slots (after_landing s h k b)).1) (lands s mask (suc k) slots h)).1 ≡ posted h
+        by_mask true p q = q
+        by_mask false p q = p

@@ -1,19 +1,11 @@
 -- Numbers without a fault are in range.
-use Rattle.std.proofs.Common.{◌≡◌, ℕ, ◌≤◌, ◌==◌, Bool, true, false, ◌||◌, nat_lt, cond, Option, None, Some, arith}
+use Rattle.std.proofs.Common.{◌≡◌, ℕ, ◌≤◌, ◌==◌, Bool, true, false, not, nat_lt, None, arith}
 use Rattle.std.proofs.lemmas.Bool.Decides.{nat_tests}
 use Rattle.gs_kernel.specs.Settings.{IsInRange}
+use Rattle.gs_kernel.proofs.Refusals.{first_passed, neither}
+use Rattle.gs_ring.specs.Places.{is_capacity}
 use Rattle.gs_core.specs.declared.config.Config.{Config}
-use Rattle.gs_core.specs.declared.config.ConfigFault.{ConfigFault}
-use Rattle.gs_core.specs.declared.config.ConfigFault.TheVariants.{BadCpus, BadRing, BadFirst, BadHistory}
 use Rattle.gs_core.specs.Config.{config_fault, settings_of}
-
-passed : (b : Bool) (f : ConfigFault) (o : Option ConfigFault) → cond b (Some f) o ≡ None → (b ≡ false) × (o ≡ None)
-passed false f o e = (cc, e)
-passed true f o e = absurd cc
-
-neither : (a b : Bool) → (a || b) ≡ false → (a ≡ false) × (b ≡ false)
-neither false b e = (cc, e)
-neither true b e = absurd cc
 
 not_below : (m n : ℕ) → nat_lt m n ≡ false → n ≤ m
 not_below m n e = grind (arith, nat_tests)
@@ -24,10 +16,10 @@ not_zero n e = grind (arith, nat_tests)
 pub in_range : (c : Config) → config_fault c ≡ None → IsInRange (settings_of c)
 unfolding config_fault
 in_range c none =
-    let p1 = passed _ BadCpus _ none in
-    let p2 = passed _ BadRing _ p1.1 in
-    let p3 = passed _ BadFirst _ p2.1 in
-    let p4 = passed _ BadHistory _ p3.1 in
+    let p1 = first_passed _ _ _ none in
+    let p2 = first_passed _ _ _ p1.1 in
+    let p3 = first_passed _ _ _ p2.1 in
+    let p4 = first_passed _ _ _ p3.1 in
     let cpus = neither _ _ p1.0 in
     let first = neither _ _ p3.0 in
     let history = neither _ _ p4.0 in
@@ -39,3 +31,14 @@ in_range c none =
       some_history = not_below _ _ history.0;
       most_history = not_below _ _ history.1;
     }
+
+not_not : (b : Bool) → not b ≡ false → b ≡ true
+not_not true e = cc
+not_not false e = absurd cc
+
+pub ring_fits : (c : Config) → config_fault c ≡ None → is_capacity c.ring ≡ true
+unfolding config_fault
+ring_fits c none =
+    let p1 = first_passed _ _ _ none in
+    let p2 = first_passed _ _ _ p1.1 in
+    not_not _ p2.0

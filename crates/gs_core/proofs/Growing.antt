@@ -10,7 +10,7 @@ use Rattle.gs_layout.specs.View.{Look}
 use Rattle.gs_journal.specs.declared.entry.Entry.{Entry}
 use Rattle.gs_journal.specs.declared.entry.Entry.TheVariants.{Posted, Placed}
 use Rattle.gs_journal.specs.Standing.{then_stands}
-use Rattle.gs_journal.specs.Masks.{has}
+use Rattle.gs_status.specs.Masks.{has}
 use Rattle.gs_journal.specs.History.{History, active, attaching, ends_role, ends_begin}
 use Rattle.gs_journal.proofs.Laws.{active-push}
 use Rattle.gs_kernel.specs.declared.settings.Settings.{Settings}
@@ -83,7 +83,7 @@ pub record Lands (s : Settings) (xs : List Transaction) (n : ℕ) (v : Look) (pa
   pub role : SameRole h h'
 
 -- a landing places, or leaves the history
-nothing_placed : (h : History) (o : Outcome) (k : ℕ) (b : Slot) → (o ≡ outcomes.Placed) ⊎ (after_outcome h o k b ≡ h)
+pub nothing_placed : (h : History) (o : Outcome) (k : ℕ) (b : Slot) → (o ≡ outcomes.Placed) ⊎ (after_outcome h o k b ≡ h)
 nothing_placed h outcomes.Placed k b = inl refl
 nothing_placed h outcomes.Gone k b = inr refl
 nothing_placed h outcomes.Displaced k b = inr refl

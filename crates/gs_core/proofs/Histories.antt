@@ -14,15 +14,16 @@ use Rattle.gs_layout.specs.Message.{is_about}
 use Rattle.gs_journal.specs.declared.entry.Entry.{Entry}
 use Rattle.gs_journal.specs.declared.entry.Entry.TheVariants.{Posted, Placed}
 use Rattle.gs_journal.specs.Standing.{then_stands}
-use Rattle.gs_journal.specs.Masks.{has}
+use Rattle.gs_status.specs.Masks.{has}
 use Rattle.gs_journal.specs.History.{History, messages, created, seq, record_in, on, ends_run, at, at_below, is_thread, active, AtEachPrefix}
 use Rattle.gs_journal.specs.State.{Numbered, IsNumbered}
 use Rattle.gs_journal.proofs.Laws.{messages-push, on-push, AtEach-push, AtEachPrefix-push}
 use Rattle.gs_journal.proofs.Past.{Was-mono, Was-now}
 use Rattle.gs_kernel.specs.declared.settings.Settings.{Settings}
-use Rattle.gs_kernel.specs.Landing.{is_generation, is_runnable, may_run_on}
-use Rattle.gs_kernel.specs.Kernel.{creation, new_tid, after_creation}
-use Rattle.gs_kernel.proofs.Creations.{others, numbered_created, fresh_created}
+use Rattle.gs_kernel.specs.Landing.{is_generation}
+use Rattle.gs_kernel.specs.Threads.{is_runnable, may_run_on}
+use Rattle.gs_kernel.specs.Kernel.{creation, new_tid}
+use Rattle.gs_core.proofs.Creations.{after_creation, others, numbered_created, fresh_created}
 use Rattle.gs_kernel.proofs.Placings.{IsPlacing}
 use Rattle.gs_journal.proofs.Laws.{created-push}
 use Rattle.gs_core.specs.declared.transaction.Transaction.{Transaction}

@@ -1,3 +1,4 @@
+pub mod Creations
 pub mod Told
 pub mod Faces
 pub mod Histories
@@ -6,10 +7,13 @@ pub mod Places
 pub mod Gaps
 pub mod Tears
 pub mod Steps
+pub mod Happens
+pub mod Taking
 pub mod Whole
 pub mod Commits
 pub mod Draining
 pub mod Runs
+pub mod Posting
 pub mod Serving
 pub mod Configs
 pub mod Rows

@@ -2,39 +2,45 @@
 use Rattle.std.proofs.Common.{◌≡◌, refl, ℕ, Bool, true, false, None, Some, [], ◌∷◌, ◌++◌, codes}
 use Rattle.gs_layout.specs.declared.facts.Class.TheVariants.{Zero}
 use Rattle.gs_layout.specs.declared.facts.Facts.{Facts}
-use Rattle.gs_layout.specs.declared.message.Change.TheVariants.{Blocked}
-use Rattle.gs_layout.specs.declared.message.Message.TheVariants.{Thread}
+use Rattle.gs_layout.specs.declared.message.Change.TheVariants.{Blocked, Created}
+use Rattle.gs_layout.specs.declared.message.Message.TheVariants.{Thread, TimerTick}
 use Rattle.gs_layout.specs.declared.known.Known.{Known}
 use Rattle.gs_layout.specs.declared.refusal.Refusal.TheVariants as refusals
 use Rattle.gs_layout.specs.declared.outcome.Outcome.TheVariants as outcomes
 use Rattle.gs_layout.specs.View.{catch_up}
-use Rattle.gs_journal.specs.declared.entry.Entry.TheVariants.{Posted, Begin, Left}
+use Rattle.gs_journal.specs.declared.entry.Entry.TheVariants.{Posted, Role, Begin, Left, Torn}
 use Rattle.gs_journal.specs.Standing.{standing, last_of, latest}
 use Rattle.gs_journal.specs.Record.{record_of}
 use Rattle.gs_journal.specs.History.{posted, messages, created, seq, record_in, on, at, active, attaching, taken, last_taken, torn}
 use Rattle.gs_journal.specs.State.{state}
-use Rattle.gs_kernel.specs.declared.settings.Settings.{Settings}
 use Rattle.gs_kernel.specs.Landing.{verdict, landing}
+use Rattle.gs_kernel.specs.Kernel.{create_refusal, tick_refusal}
 use Rattle.gs_core.specs.declared.event.Event.TheVariants as events
 use Rattle.gs_core.specs.declared.reply.Reply.{Reply}
 use Rattle.gs_core.specs.declared.reply.Reply.TheVariants as replies
 use Rattle.gs_core.specs.declared.config.Config.{Config}
 use Rattle.gs_core.specs.declared.config.ConfigFault.TheVariants as faults
 use Rattle.gs_core.specs.Config.{config_fault}
-use Rattle.gs_core.specs.Machine.{State, creates, stamps, commits, refusal, start, unread, view, attached}
+use Rattle.gs_ring.specs.Places as places
+use Rattle.gs_ring.specs.Places.{need, pad_len}
+use Rattle.gs_core.specs.Machine.{State, creates, ticks, fits, stamps, commits, refusal, start, unread, view, attached}
 
 facts : Bool → ℕ → Facts
 facts r m = record { runnable = r; mask = m; class = Zero; name = codes "web" }
 
-two : Settings
-two = record { cpus = 2; first_tseq = 0; first_generation = 1; history = 100 }
+two : Config
+two = record { cpus = 2; ring = 128; first_tseq = 0; first_generation = 1; history = 100 }
 
 knows : Bool → ℕ → Known
 knows r m = record { facts = facts r m; tseq = 1 }
 
 -- a thread is created, drained, stamped and committed
 made : State
-made = (creates (start two) (facts true 3)).1
+made = record (start two) { history = Role 1 0 ∷ Posted (Thread 1 1 (Created (facts true 3))) ∷ [] }
+
+is_made : creates (start two) (facts true 3) ≡ (replies.Created 1 1, made)
+unfolding made posted created two facts need pad_len places.record_of
+is_made = refl
 
 drained : State
 drained = record made { consumed = 1; agent = Some (record { records = (1, knows true 3) ∷ []; next = None }) }
@@ -88,7 +94,7 @@ displaced = refl
 
 -- of two threads one may run on CPU 0 alone, and one is blocked
 both : State
-both = (creates (creates (start two) (facts true 1)).1 (facts false 2)).1
+both = record (start two) { history = Role 1 0 ∷ Posted (Thread 1 1 (Created (facts true 1))) ∷ Posted (Thread 2 1 (Created (facts false 2))) ∷ [] }
 
 known : State
 known = record both { consumed = 2; agent = Some (record { records = (1, knows true 1) ∷ (2, knows false 2) ∷ []; next = None }) }
@@ -112,23 +118,23 @@ empty_commit = refl
 
 -- refusals in their order
 no_cpu : refusal drained (events.Stamp 2 9) ≡ Some refusals.BadCpu
-unfolding drained made two facts knows active standing last_of
+unfolding drained made two facts knows active torn standing last_of
 no_cpu = refl
 
 no_thread : refusal drained (events.Stamp 1 9) ≡ Some refusals.NoThread
-unfolding drained made two facts knows active standing last_of
+unfolding drained made two facts knows active torn standing last_of
 no_thread = refl
 
 open_slot : refusal stamped.1 (events.Stamp 1 1) ≡ Some refusals.SlotOpen
-unfolding stamped drained made two facts knows active standing last_of
+unfolding stamped drained made two facts knows active torn standing last_of
 open_slot = refl
 
 past_the_last : refusal drained (events.Commit 4) ≡ Some refusals.EmptyMask
-unfolding drained made two facts knows active standing last_of
+unfolding drained made two facts knows active torn standing last_of
 past_the_last = refl
 
 nobody_drains : refusal left (events.Drain 1) ≡ Some refusals.NotActive
-unfolding left stamped drained made two facts knows active attaching standing last_of
+unfolding left stamped drained made two facts knows active torn attaching standing last_of
 nobody_drains = refl
 
 -- an agent that attaches drains, and is attached once it needs no more pages
@@ -136,7 +142,7 @@ begun : State
 begun = record left { history = left.history ++ Begin 2 ∷ []; agent = Some (record { records = []; next = Some 1 }) }
 
 drains_while_attaching : refusal begun (events.Drain 1) ≡ None
-unfolding begun left stamped drained made two facts knows active attaching standing last_of
+unfolding begun left stamped drained made two facts knows active torn attaching standing last_of
 drains_while_attaching = refl
 
 not_yet : attached begun ≡ false
@@ -151,9 +157,9 @@ attached_now = refl
 config : ℕ → ℕ → ℕ → ℕ → ℕ → Config
 config c b t g h = record { cpus = c; ring = b; first_tseq = t; first_generation = g; history = h }
 
-fits : config_fault (config 64 1048576 4294967294 4294967295 16777216) ≡ None
+no_fault : config_fault (config 64 1048576 4294967294 4294967295 16777216) ≡ None
 unfolding config_fault config
-fits = refl
+no_fault = refl
 
 cpus_first : config_fault (config 1 7 4294967295 0 1) ≡ Some faults.BadCpus
 unfolding config_fault config
@@ -170,3 +176,46 @@ no_generation = refl
 short_history : config_fault (config 2 128 0 1 1) ≡ Some faults.BadHistory
 unfolding config_fault config
 short_history = refl
+
+-- four creations of 32 bytes fill a ring of 128, and a tick tears the enclave down
+full : State
+full = record (start two) { history = Role 1 0 ∷ Posted (Thread 1 1 (Created (facts true 3))) ∷ Posted (Thread 2 1 (Created (facts true 3))) ∷ Posted (Thread 3 1 (Created (facts true 3))) ∷ Posted (Thread 4 1 (Created (facts true 3))) ∷ [] }
+
+no_room : fits full (TimerTick 1) ≡ false
+unfolding full posted two facts need pad_len places.record_of
+no_room = refl
+
+tears : ticks full 1 ≡ (replies.Torn, record full { history = full.history ++ Torn ∷ [] })
+unfolding full posted two facts need pad_len places.record_of
+tears = refl
+
+-- where one of them was consumed, there is room for two ticks and for no third
+room_again : fits (record full { consumed = 1 }) (TimerTick 1) ≡ true
+unfolding full posted two facts need pad_len places.record_of
+room_again = refl
+
+last_room : fits (record full { history = full.history ++ Posted (TimerTick 1) ∷ []; consumed = 1 }) (TimerTick 1) ≡ true
+unfolding full posted two facts need pad_len places.record_of
+last_room = refl
+
+third : fits (record full { history = full.history ++ Posted (TimerTick 1) ∷ Posted (TimerTick 1) ∷ []; consumed = 1 }) (TimerTick 1) ≡ false
+unfolding full posted two facts need pad_len places.record_of
+third = refl
+
+-- after that every event is refused
+torn_down : State
+torn_down = record full { history = full.history ++ Torn ∷ [] }
+
+all_gone : (refusal torn_down (events.Create (facts true 0)) ∷ refusal torn_down (events.Tick 9) ∷ refusal torn_down (events.Drain 1) ∷ refusal torn_down (events.Stamp 9 9) ∷ refusal torn_down (events.Commit 99) ∷ refusal torn_down events.Unread ∷ [])
+    ≡ Some refusals.Gone ∷ Some refusals.Gone ∷ Some refusals.Gone ∷ Some refusals.Gone ∷ Some refusals.Gone ∷ Some refusals.Gone ∷ []
+unfolding torn_down full two facts torn create_refusal tick_refusal
+all_gone = refl
+
+no_tick : refusal made (events.Tick 2) ≡ Some refusals.BadCpu
+unfolding made two facts torn tick_refusal
+no_tick = refl
+
+-- what waits is shown
+waits : unread full ≡ Thread 1 1 (Created (facts true 3)) ∷ Thread 2 1 (Created (facts true 3)) ∷ Thread 3 1 (Created (facts true 3)) ∷ Thread 4 1 (Created (facts true 3)) ∷ []
+unfolding full posted two facts
+waits = refl

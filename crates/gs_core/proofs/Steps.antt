@@ -4,26 +4,28 @@ use Rattle.std.specs.Option.{is_some}
 use Rattle.gs_layout.specs.declared.facts.Facts.{Facts}
 use Rattle.gs_layout.specs.declared.known.Known.{Known}
 use Rattle.gs_layout.specs.declared.slot.Slot.{Slot}
-use Rattle.gs_layout.specs.declared.refusal.Refusal.{Refusal}
+use Rattle.gs_layout.specs.declared.message.Message.{Message}
+use Rattle.gs_layout.specs.declared.message.Message.TheVariants.{TimerTick}
 use Rattle.gs_layout.specs.View.{look_up, catch_up}
 use Rattle.gs_journal.specs.declared.entry.Entry.{Entry}
 use Rattle.gs_journal.specs.declared.entry.Entry.TheVariants.{Posted, Placed, Role, Begin, Left, Taken, Given, Torn}
-use Rattle.gs_journal.specs.Masks.{has}
+use Rattle.gs_status.specs.Masks.{has}
 use Rattle.gs_journal.specs.History.{History, active, attaching}
 use Rattle.gs_journal.specs.State.{state, Was}
 use Rattle.gs_journal.proofs.Past.{same_view, was_once}
 use Rattle.gs_kernel.specs.declared.settings.Settings.{Settings}
-use Rattle.gs_kernel.specs.Kernel.{creation}
+use Rattle.gs_kernel.specs.Kernel.{creation, after_post}
 use Rattle.gs_core.specs.declared.drained.Drained.{Drained}
 use Rattle.gs_core.specs.declared.transaction.Transaction.{Transaction}
-use Rattle.gs_core.specs.Machine.{State, Agent, view, records_of, page_of, unread, attached, creates, lands, collected, commits, stamps, stamps_with, stamp_of, idle_slots, Drains}
+use Rattle.gs_core.specs.Machine.{State, Agent, view, records_of, page_of, unread, attached, creates, ticks, fits, lands, collected, commits, stamps, stamps_with, stamp_of, idle_slots, Drains}
 use Rattle.gs_core.specs.Safe.{Safe, IsFaithful, IsIn, IsBacked}
 use Rattle.gs_core.specs.Good.{GoodHistory, Good, Faces, AreOf, is_given}
 use Rattle.gs_core.proofs.Told.{catch_up_at}
 use Rattle.gs_core.proofs.Gaps.{no_gap}
 use Rattle.gs_core.proofs.Places.{get_left, get_new, get_set, length_set, get_at_end}
 use Rattle.gs_core.proofs.Faces.{faces_drained}
-use Rattle.gs_core.proofs.Growing.{Both, SameRole, both_created, role_posted, all_landed, tail_of}
+use Rattle.gs_core.proofs.Tears.{tear_good}
+use Rattle.gs_core.proofs.Growing.{Both, SameRole, both_created, both_tick, role_posted, all_landed, tail_of}
 
 -- of tests
 pub not_true : (b : Bool) → not b ≡ true → b ≡ false
@@ -33,10 +35,6 @@ not_true true e = absurd cc
 pub none_is : {A : Type 0} (o : Option A) → is_some o ≡ false → o ≡ None
 none_is None e = refl
 none_is (Some a) e = absurd cc
-
-pub first_passed : (b : Bool) (r : Refusal) (o : Option Refusal) → cond b (Some r) o ≡ None → (b ≡ false) × (o ≡ None)
-first_passed false r o e = (refl, e)
-first_passed true r o e = absurd cc
 
 -- what is promised follows from what is kept
 agrees_at : (m : State) → Good m → (t : ℕ) → is_given (page_of m.agent) t ≡ true → catch_up (view m) (unread m) t ≡ state m.settings.first_tseq m.history t
@@ -83,9 +81,22 @@ grown_good m h b r g =
       when_attaching = λ p. g.when_attaching (sym (ap is_some r.attaching) ∙ p);
     }
 
+-- a message is posted, or tears the enclave down
+pub post_good : (m : State) (k : Message) (b : Bool) → BothOf m (m.history ++ Posted k ∷ []) → Good m → Good (record m { history = after_post b m.history k })
+post_good m k true both g = grown_good m _ both (role_posted m.history k) g
+post_good m k false both g = tear_good m g
+
+pub both_creation : (m : State) (f : Facts) → Good m → BothOf m (m.history ++ Posted (creation m.settings.first_tseq m.history f) ∷ [])
+both_creation m f g = both_created m.settings m.transactions m.consumed (view m) (page_of m.agent) m.history f (both_of m g)
+
 pub create_good : (m : State) (f : Facts) → Good m → Good (creates m f).1
-create_good m f g =
-    grown_good m _ (both_created m.settings m.transactions m.consumed (view m) (page_of m.agent) m.history f (both_of m g)) (role_posted m.history (creation m.settings.first_tseq m.history f)) g
+create_good m f g = post_good m (creation m.settings.first_tseq m.history f) (fits m (creation m.settings.first_tseq m.history f)) (both_creation m f g) g
+
+pub both_ticked : (m : State) (c : ℕ) → Good m → BothOf m (m.history ++ Posted (TimerTick c) ∷ [])
+both_ticked m c g = both_tick m.settings m.transactions m.consumed (view m) (page_of m.agent) m.history c (both_of m g)
+
+pub tick_good : (m : State) (c : ℕ) → Good m → Good (ticks m c).1
+tick_good m c g = post_good m (TimerTick c) (fits m (TimerTick c)) (both_ticked m c g) g
 
 -- slots that are all idle
 pub idle : (n i : ℕ) (b : Slot) → slice_get (idle_slots n) i ≡ Some (Some b) → ⊥
@@ -113,6 +124,9 @@ drain_good m max c d a g r =
       when_active = λ p. r.page ∙ g.when_active p;
       when_attaching = λ p. r.stays ∙ g.when_attaching p;
     }
+
+pub drain_kept : (m : State) (max : ℕ) (d : Drained) (m' : State) → Good m → Drains m max d m' → Good m'
+drain_kept m max d m' g r = subst Good (sym r.others) (drain_good m max m'.consumed d m'.agent g (subst (Drains m max d) r.others r))
 
 -- a stamp
 in_more : (xs ys : List Transaction) (x : Transaction) → IsIn xs x → IsIn (xs ++ ys) x

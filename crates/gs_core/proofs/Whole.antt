@@ -1,35 +1,47 @@
 -- Each step keeps what the machine keeps, and the machine has it at the start.
-use Rattle.std.proofs.Common.{◌≡◌, refl, sym, subst, ℕ, zero, suc, ◌<◌, inl, inr, nat_le, true, false, Option, None, Some, [], ◌∷◌, arith}
+use Rattle.std.proofs.Common.{◌≡◌, refl, sym, subst, ℕ, zero, suc, ◌<◌, inl, inr, nat_le, not, true, false, Option, None, Some, [], ◌∷◌, arith}
 use Rattle.std.specs.Option.{is_some}
 use Rattle.std.proofs.lemmas.Bool.Decides.{nat_tests}
 use Rattle.gs_layout.specs.declared.refusal.Refusal.{Refusal}
+use Rattle.gs_layout.specs.declared.refusal.Refusal.TheVariants as refusals
 use Rattle.gs_journal.specs.declared.entry.Entry.TheVariants.{Role}
 use Rattle.gs_journal.specs.Standing.{standing, latest, last_of}
 use Rattle.gs_journal.specs.Record.{record_of}
-use Rattle.gs_journal.specs.History.{posted, messages, seq, record_in, on, attaching, AtEach, AtEachPrefix}
+use Rattle.gs_journal.specs.History.{posted, messages, seq, record_in, on, active, attaching, torn, AtEach, AtEachPrefix}
 use Rattle.gs_journal.specs.State.{state}
 use Rattle.gs_kernel.specs.declared.settings.Settings.{Settings}
 use Rattle.gs_core.specs.declared.transaction.Transaction.{Transaction}
 use Rattle.gs_core.specs.declared.reply.Reply.{Reply}
-use Rattle.gs_core.specs.Machine.{State, start, Drains}
+use Rattle.gs_core.specs.Machine.{State, start}
 use Rattle.gs_core.specs.Safe.{IsIn, IsBacked, OnOne}
 use Rattle.gs_core.specs.Good.{Good}
+use Rattle.gs_core.specs.declared.config.Config.{Config}
+use Rattle.gs_core.specs.Config.{settings_of}
 use Rattle.gs_core.specs.declared.event.Event.{Event}
 use Rattle.gs_core.specs.declared.event.Event.TheVariants as events
 use Rattle.gs_core.specs.Machine.{refusal, Does, Serves, Step}
-use Rattle.gs_core.proofs.Steps.{first_passed, create_good, drain_good, stamp_good, commit_good, idle, idle_count}
+use Rattle.gs_kernel.proofs.Refusals.{first_passed}
+use Rattle.gs_core.proofs.Steps.{create_good, tick_good, drain_kept, stamp_good, commit_good, idle, idle_count}
 
 pub below_count : (m : State) (c : ℕ) → nat_le m.settings.cpus c ≡ false → c < m.settings.cpus
 below_count m c e = grind (arith, nat_tests, e)
 
+-- a stamp that is not refused is of a CPU
+stamps_on_cpu : (m : State) (c t : ℕ) → refusal m (events.Stamp c t) ≡ None → nat_le m.settings.cpus c ≡ false
+stamps_on_cpu m c t none =
+    let p1 = first_passed (torn m.history) refusals.Gone _ none in
+    let p2 = first_passed (not (is_some (active m.history))) refusals.NotActive _ p1.1 in
+    let p3 = first_passed (nat_le m.settings.cpus c) refusals.BadCpu _ p2.1 in
+    p3.0
+
 -- an event that is not refused, and does what it says, keeps what the machine keeps
 does_good : (m : State) (e : Event) (r : Reply) (m' : State) → Good m → refusal m e ≡ None → Does m e r m' → Good m'
 does_good m (events.Create f) r m' g none d = subst Good (sym d.1) (create_good m f g)
-does_good m (events.Drain max) r m' g none d =
-    let drains = d.2 in
-    subst Good (sym drains.others) (drain_good m max m'.consumed d.0 m'.agent g (subst (Drains m max d.0) drains.others drains))
-does_good m (events.Stamp c t) r m' g none d = subst Good (sym d.1) (stamp_good m c t (below_count m c (first_passed _ _ _ (first_passed _ _ _ none).1).0) g)
+does_good m (events.Tick c) r m' g none d = subst Good (sym d.1) (tick_good m c g)
+does_good m (events.Drain max) r m' g none d = drain_kept m max d.0 m' g d.2
+does_good m (events.Stamp c t) r m' g none d = subst Good (sym d.1) (stamp_good m c t (below_count m c (stamps_on_cpu m c t none)) g)
 does_good m (events.Commit mask) r m' g none d = subst Good (sym d.1) (commit_good m mask g)
+does_good m events.Unread r m' g none d = subst Good (sym d.1) g
 
 serves_good : (f : Option Refusal) (m : State) (e : Event) (r : Reply) (m' : State) → Good m → refusal m e ≡ f → Serves f m e r m' → Good m'
 serves_good (Some f) m e r m' g is s = subst Good (sym s.1) g
@@ -64,9 +76,10 @@ not_attaching : (g c : ℕ) → is_some (attaching (Role g c ∷ [])) ≡ true �
 unfolding attaching standing last_of
 not_attaching g c e = absurd cc
 
-pub start_good : (s : Settings) → Good (start s)
+pub start_good : (c : Config) → Good (start c)
 unfolding state seq record_in record_of messages posted latest standing last_of
-start_good s =
+start_good c =
+    let s = settings_of c in
     record {
       history = record {
         backed = backed_at_start s s.first_generation 0;
@@ -74,8 +87,8 @@ start_good s =
         numbered = λ t. tt;
         fresh = λ t p. refl;
         no_zero = refl;
-        on_cpus = λ t c p. absurd (role_only s.first_generation 0 t c p);
-        on_known = λ t c p. absurd (role_only s.first_generation 0 t c p);
+        on_cpus = λ t d p. absurd (role_only s.first_generation 0 t d p);
+        on_known = λ t d p. absurd (role_only s.first_generation 0 t d p);
         stamped = λ x i. absurd (no_transaction x i);
         within = λ x i. absurd (no_transaction x i);
       };

@@ -1,5 +1,5 @@
--- A drain that goes on.
-use Rattle.std.specs.Prelude.{false, ℕ, ◌+◌, ◌≤◌, ◌≡◌, None, List, length, if◌then◌else◌}
+-- What a drain took in.
+use Rattle.std.specs.Prelude.{false, ℕ, ◌+◌, ◌≤◌, ◌≡◌, List, length, if◌then◌else◌}
 use Rattle.std.specs.List.{list_any, count_by}
 use Rattle.gs_layout.specs.declared.message.Message.{Message}
 use Rattle.gs_layout.specs.declared.known.Word.{Word}
@@ -16,10 +16,9 @@ count_word d w =
       stop = d.stop;
     }
 
--- these messages were all taken in so far
+-- these messages were all taken in, none of them a gap
 pub record Took (v : Look) (ms : List Message) (d : Drained) (v' : Look) : Type 0 where
   pub count : d.count ≡ length ms
-  pub stop : d.stop ≡ None
   pub none_gap : list_any is_gap (words v ms) ≡ false
   pub skipped : d.skipped ≡ count_by is_skipped (words v ms)
   pub orphans : d.orphans ≡ count_by is_orphan (words v ms)

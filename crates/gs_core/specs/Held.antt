@@ -1,5 +1,7 @@
 -- How the machine keeps its state.
 use Rattle.std.specs.Prelude.{None, Some}
+use Rattle.gs_journal.specs.History.{posted}
+use Rattle.gs_ring.specs.Ends.{Posted}
 use Rattle.gs_core.specs.Machine.{State}
 use Rattle.gs_core.specs.Good.{Good}
 use Rattle.gs_core.specs.declared.machine.Machine.TheInside.{Inside}
@@ -8,12 +10,15 @@ abbrev pub machine_view : Inside → State
 machine_view k =
     record {
       settings = k.kernel.settings;
+      ring = k.kernel.poster.capacity;
       history = k.kernel.history;
-      consumed = k.consumed;
+      consumed = k.kernel.poster.taken;
       agent = Some (record { records = k.view; next = None });
       slots = k.slots.items;
       transactions = k.transactions.items;
     }
 
-abbrev pub IsMachine : Inside → Type 0
-IsMachine k = Good (machine_view k)
+-- what the machine keeps is good, and what was posted went through its ring
+pub record IsMachine (k : Inside) : Type 0 where
+  pub good : Good (machine_view k)
+  pub told : Posted k.kernel.poster (posted k.kernel.history)

@@ -12,13 +12,17 @@ use Rattle.gs_layout.specs.declared.refusal.Refusal.TheVariants as refusals
 use Rattle.gs_layout.specs.View.{Look, look_up, words, catch_up, is_gap, is_skipped, is_orphan, gap_next}
 use Rattle.gs_journal.specs.declared.entry.Entry.{Entry}
 use Rattle.gs_journal.specs.declared.entry.Entry.TheVariants.{Role}
-use Rattle.gs_journal.specs.Masks.{has, has_past}
-use Rattle.gs_journal.specs.History.{History, active, attaching}
+use Rattle.gs_status.specs.Masks.{has, has_past}
+use Rattle.gs_journal.specs.History.{History, posted, active, attaching, torn}
 use Rattle.gs_journal.specs.State.{unread_after}
 use Rattle.gs_kernel.specs.declared.settings.Settings.{Settings}
 use Rattle.gs_kernel.specs.declared.landing.Landing.{Landing}
 use Rattle.gs_kernel.specs.Landing.{landing, after_landing}
-use Rattle.gs_kernel.specs.Kernel.{refused_first, is_held, create_refusal, new_tid, after_creation}
+use Rattle.gs_kernel.specs.First.{first_that}
+use Rattle.gs_kernel.specs.Kernel.{has_agent, create_refusal, tick_refusal, creation, new_tid, after_post}
+use Rattle.gs_ring.specs.Places.{free_after, need, record_len, written}
+use Rattle.gs_core.specs.declared.config.Config.{Config}
+use Rattle.gs_core.specs.Config.{settings_of}
 use Rattle.gs_core.specs.declared.drained.Drained.{Drained}
 use Rattle.gs_core.specs.declared.drained.Stop.TheVariants as stops
 use Rattle.gs_core.specs.declared.event.Event.{Event}
@@ -27,14 +31,16 @@ use Rattle.gs_core.specs.declared.reply.Reply.{Reply}
 use Rattle.gs_core.specs.declared.reply.Reply.TheVariants as replies
 use Rattle.gs_core.specs.declared.transaction.Transaction.{Transaction}
 
--- what an agent keeps: its records by rising tid, and the tid where its next page begins, none where it needs no more pages
+-- what an agent keeps: its records, of which the first about a thread counts, and the tid where its next page begins, none where it needs no more pages
 pub record Agent : Type 0 where
   pub records : List (ℕ × Known)
   pub next : Option ℕ
 
--- a machine: what happened, how many messages the agents consumed, the agent if there is one, each CPU's slot, and all that was ever stamped
+-- a machine: the kernel's numbers, how many bytes the ring has, what happened, how many messages the agents consumed, the agent if there is
+-- one, each CPU's slot, and all that was ever stamped
 pub record State : Type 0 where
   pub settings : Settings
+  pub ring : ℕ
   pub history : List Entry
   pub consumed : ℕ
   pub agent : Option Agent
@@ -71,23 +77,42 @@ is_idle None = false
 -- the first refusal of an event whose condition holds
 abbrev pub refusal : State → Event → Option Refusal
 refusal m (events.Create f) = create_refusal m.settings m.history f
-refusal m (events.Drain max) = refused_first ((not (is_held m.history), refusals.NotActive) ∷ [])
+refusal m (events.Tick c) = tick_refusal m.settings m.history c
+refusal m (events.Drain max) = first_that ((torn m.history, Some refusals.Gone) ∷ (not (has_agent m.history), Some refusals.NotActive) ∷ []) None
 refusal m (events.Stamp c t) =
-    refused_first (
-    (not (is_some (active m.history)), refusals.NotActive)
-    ∷ (nat_le m.settings.cpus c, refusals.BadCpu)
-    ∷ (not (is_some (view m t)), refusals.NoThread)
-    ∷ (not (is_idle (slice_get m.slots c)), refusals.SlotOpen)
-    ∷ (nat_le m.settings.history (length m.transactions), refusals.HistoryFull)
+    first_that (
+    (torn m.history, Some refusals.Gone)
+    ∷ (not (is_some (active m.history)), Some refusals.NotActive)
+    ∷ (nat_le m.settings.cpus c, Some refusals.BadCpu)
+    ∷ (not (is_some (view m t)), Some refusals.NoThread)
+    ∷ (not (is_idle (slice_get m.slots c)), Some refusals.SlotOpen)
+    ∷ (nat_le m.settings.history (length m.transactions), Some refusals.HistoryFull)
     ∷ []
-    )
+    ) None
 refusal m (events.Commit mask) =
-    refused_first ((not (is_some (active m.history)), refusals.NotActive) ∷ (has_past mask m.settings.cpus, refusals.EmptyMask) ∷ [])
+    first_that (
+    (torn m.history, Some refusals.Gone)
+    ∷ (not (is_some (active m.history)), Some refusals.NotActive)
+    ∷ (has_past mask m.settings.cpus, Some refusals.EmptyMask)
+    ∷ []
+    ) None
+refusal m events.Unread = first_that ((torn m.history, Some refusals.Gone) ∷ []) None
+
+-- whether a message fits into the ring: it takes up no more bytes, with its PAD, than are free
+abbrev pub fits : State → Message → Bool
+fits m k = nat_le (need m.ring (written m.ring (posted m.history)) (record_len k)) (free_after m.ring (posted m.history) m.consumed)
+
+-- a message is posted and answered, or does not fit and tears the enclave down
+abbrev pub posts : State → Message → Reply → Reply × State
+posts m k r = (if fits m k then r else replies.Torn, record m { history = after_post (fits m k) m.history k })
 
 -- a thread is created
 abbrev pub creates : State → Facts → Reply × State
-creates m f =
-    (replies.Created (new_tid m.history) (m.settings.first_tseq + 1), record m { history = after_creation m.settings.first_tseq m.history f })
+creates m f = posts m (creation m.settings.first_tseq m.history f) (replies.Created (new_tid m.history) (m.settings.first_tseq + 1))
+
+-- the timer of a CPU ticks
+abbrev pub ticks : State → ℕ → Reply × State
+ticks m c = posts m (TimerTick c) (replies.Ticked c)
 
 -- what is stamped: the active generation, and the record's sequence number
 abbrev pub stamp_of : ℕ → (ℕ × ℕ) → Known → Slot
@@ -162,9 +187,11 @@ pub record Drains (m : State) (max : ℕ) (d : Drained) (m' : State) : Type 0 wh
 -- what an event answers and leaves that is not refused and finds memory; a drain has its own word
 abbrev pub Does : State → Event → Reply → State → Type 0
 Does m (events.Create f) r m' = (r ≡ (creates m f).0) × (m' ≡ (creates m f).1)
+Does m (events.Tick c) r m' = (r ≡ (ticks m c).0) × (m' ≡ (ticks m c).1)
 Does m (events.Drain max) r m' = (d : Drained) × (r ≡ replies.Drained d) × Drains m max d m'
 Does m (events.Stamp c t) r m' = (r ≡ (stamps m c t).0) × (m' ≡ (stamps m c t).1)
 Does m (events.Commit mask) r m' = (r ≡ (commits m mask).0) × (m' ≡ (commits m mask).1)
+Does m events.Unread r m' = (r ≡ replies.Unread (unread m)) × (m' ≡ m)
 
 -- want of memory refuses an event; a drain stops in place of that
 abbrev pub IsShort : Event → Reply → Type 0
@@ -190,13 +217,14 @@ abbrev pub idle_slots : ℕ → List (Option Slot)
 idle_slots zero = []
 idle_slots (suc n) = None ∷ idle_slots n
 
-abbrev pub start : Settings → State
-start s =
+abbrev pub start : Config → State
+start c =
     record {
-      settings = s;
-      history = Role s.first_generation 0 ∷ [];
+      settings = settings_of c;
+      ring = c.ring;
+      history = Role c.first_generation 0 ∷ [];
       consumed = 0;
       agent = Some (record { records = []; next = None });
-      slots = idle_slots s.cpus;
+      slots = idle_slots c.cpus;
       transactions = [];
     }

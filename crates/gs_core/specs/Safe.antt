@@ -5,7 +5,7 @@ use Rattle.gs_layout.specs.declared.known.Known.{Known}
 use Rattle.gs_layout.specs.View.{catch_up, gap_next}
 use Rattle.gs_journal.specs.declared.entry.Entry.{Entry}
 use Rattle.gs_journal.specs.declared.entry.Entry.TheVariants.{Placed}
-use Rattle.gs_journal.specs.Masks.{has}
+use Rattle.gs_status.specs.Masks.{has}
 use Rattle.gs_journal.specs.History.{History, seq, record_in, on, active, AtEach, AtEachPrefix}
 use Rattle.gs_journal.specs.State.{state, WasOnce}
 use Rattle.gs_kernel.specs.declared.settings.Settings.{Settings}

@@ -1,13 +1,14 @@
 ghost use Rattle.std.specs.Prelude.{◌≡◌, ◌+◌, ◌-◌, ◌<◌, ◌≤◌, ◌++◌, ◌∷◌, [], length, min, vec_len, vec_capacity};
 ghost use Rattle.gs_core.specs.Machine.{lands, collected};
 
-use gs_journal::Mask;
 use gs_kernel::{Kernel, Landing};
 use gs_layout::Slot;
+use gs_ring::Poster;
+use gs_status::Mask;
 
 /// The stamped slots of a mask land, by rising CPU.
-pub fn land_all(
-    kernel: &mut Kernel,
+pub fn land_all<P: Poster>(
+    kernel: &mut Kernel<P>,
     slots: &[Option<Slot>],
     mask: Mask,
     landings: &mut Vec<Landing>,
@@ -18,6 +19,7 @@ pub fn land_all(
     requires room { vec_len landings.old + length slots.now ≤ vec_capacity landings.old }
     ensures landings { landings.new.items ≡ landings.old.items ++ (lands kernel.old.settings mask 0 slots.now kernel.old.history).0 }
     ensures history { kernel.new.history ≡ (lands kernel.old.settings mask 0 slots.now kernel.old.history).1 }
+    ensures ring { kernel.new.poster ≡ kernel.old.poster }
     ensures settings { kernel.new.settings ≡ kernel.old.settings }
 {
     let mut cpu = 0;
@@ -28,8 +30,8 @@ pub fn land_all(
 }
 
 /// The slot of a CPU lands, where it is stamped and in the mask.
-fn land_one(
-    kernel: &mut Kernel,
+fn land_one<P: Poster>(
+    kernel: &mut Kernel<P>,
     cpu: u16,
     slot: Option<Slot>,
     mask: Mask,
@@ -40,6 +42,7 @@ fn land_one(
     requires room { vec_len landings.old < vec_capacity landings.old }
     ensures landings { landings.new.items ≡ landings.old.items ++ (lands kernel.old.settings mask cpu (slot ∷ []) kernel.old.history).0 }
     ensures history { kernel.new.history ≡ (lands kernel.old.settings mask cpu (slot ∷ []) kernel.old.history).1 }
+    ensures ring { kernel.new.poster ≡ kernel.old.poster }
     ensures settings { kernel.new.settings ≡ kernel.old.settings }
     ensures entries { kernel.old.room + length kernel.old.history ≤ kernel.new.room + length kernel.new.history }
     ensures grown { length kernel.old.history ≤ length kernel.new.history }

@@ -1,8 +1,10 @@
-ghost use Rattle.std.specs.Prelude.{◌≡◌, None};
+ghost use Rattle.std.specs.Prelude.{◌≡◌, None, true};
+ghost use Rattle.gs_ring.specs.Places.{is_capacity};
 ghost use Rattle.gs_core.specs.Config.{config_fault, settings_of};
 ghost use Rattle.gs_kernel.specs.Settings.{IsInRange};
 
 use gs_kernel::Settings;
+use gs_ring::ByteRing;
 use thiserror::Error;
 
 /// What an enclave is opened with.
@@ -44,7 +46,7 @@ impl Config {
         if self.cpus < 2 || self.cpus > 64 {
             return Some(ConfigFault::BadCpus);
         }
-        if self.ring < 128 || self.ring > 1_048_576 || self.ring % 8 != 0 {
+        if !ByteRing::is_capacity(self.ring as usize) {
             return Some(ConfigFault::BadRing);
         }
         if self.first_tseq > 4_294_967_294 || self.first_generation == 0 {
@@ -61,6 +63,7 @@ impl Config {
         requires { config_fault self.now ≡ None }
         ensures value { result ≡ settings_of self.now }
         ensures in_range { IsInRange result }
+        ensures ring { is_capacity self.now.ring ≡ true }
     {
         Settings {
             cpus: self.cpus,

@@ -9,13 +9,14 @@ mod event;
 mod machine;
 mod reply;
 mod transaction;
+mod unread;
 mod view;
 
 pub use config::{Config, ConfigFault};
 pub use drained::{Drained, Stop};
 pub use event::Event;
 pub use machine::Machine;
-pub use reply::{Landings, Reply};
+pub use reply::{Items, Reply};
 pub use transaction::Transaction;
 
 #[cfg(test)]

@@ -1,20 +1,21 @@
-ghost use Rattle.std.specs.Prelude.{◌≡◌, None, IfOk, IfErr, OnOk, OnErr};
+ghost use Rattle.std.specs.Prelude.{◌≡◌, None, IfOk, IfErr, IfSome, OnOk, OnErr};
 ghost use Rattle.gs_kernel.specs.Kernel.{IsRefusal};
-ghost use Rattle.gs_kernel.specs.Settings.{IsInRange};
-ghost use Rattle.gs_core.specs.Config.{config_fault, settings_of, IsFault};
-ghost use Rattle.gs_core.specs.Machine.{State, Step, start, refusal, stamps, transaction_of};
+ghost use Rattle.gs_core.specs.Config.{config_fault, IsFault};
+ghost use Rattle.gs_core.specs.Machine.{State, Step, idle_slots, start, refusal, stamps, transaction_of, unread};
 ghost use Rattle.gs_core.specs.Safe.{Safe, IsFaithful, Run};
 
 use crate::commit::{collect, land_all};
 use crate::config::{Config, ConfigFault};
 use crate::drain::drain_into;
 use crate::event::Event;
-use crate::reply::{Landings, Reply};
+use crate::reply::{Items, Reply};
 use crate::transaction::Transaction;
+use crate::unread::waiting;
 use crate::view::View;
-use gs_journal::Mask;
-use gs_kernel::{Kernel, Settings};
+use gs_kernel::Kernel;
 use gs_layout::{Facts, Refusal, Slot};
+use gs_ring::ByteRing;
+use gs_status::Mask;
 use std::alloc::{AllocError, Global};
 use std::marker::Model;
 
@@ -23,8 +24,7 @@ use std::marker::Model;
 #[derive(Drop)]
 pub struct Machine {
     alloc: Global,
-    kernel: Kernel,
-    consumed: usize,
+    kernel: Kernel<ByteRing>,
     view: View,
     slots: Vec<Option<Slot>>,
     transactions: Vec<Transaction>,
@@ -49,7 +49,7 @@ impl Machine {
     ///
     /// The first fault of the configuration, else `OutOfMemory` where memory runs out.
     pub fn new(alloc: Global, config: Config) -> Result<Machine, ConfigFault>
-        ensures ok { IfOk result (λ m. m ≡ start (settings_of config)) }
+        ensures ok { IfOk result (λ m. m ≡ start config) }
         ensures fits { IfOk result (λ _. config_fault config ≡ None) }
         ensures fault { IfErr result (IsFault (config_fault config)) }
         ensures safe { IfOk result Safe }
@@ -58,21 +58,30 @@ impl Machine {
         if let Some(fault) = config.fault() {
             return Err(fault);
         }
-        match Machine::open(alloc, config.settings()) {
-            Ok(machine) => Ok(machine),
-            Err(_) => Err(ConfigFault::OutOfMemory),
+        match Machine::open(alloc, &config) {
+            Some(machine) => Ok(machine),
+            None => Err(ConfigFault::OutOfMemory),
         }
     }
 
-    fn open(alloc: Global, settings: Settings) -> Result<Machine, AllocError>
-        requires { IsInRange settings }
-        ensures { IfOk result (λ m. m ≡ start settings) }
+    /// An enclave with these numbers, where memory does not run out.
+    fn open(alloc: Global, config: &Config) -> Option<Machine>
+        requires { config_fault config.now ≡ None }
+        ensures { IfSome result (λ m. m ≡ start config.now) }
     {
-        let slots = vec![in alloc; None; settings.cpus as usize]?;
-        Ok(Machine {
+        let settings = config.settings();
+        let Ok(slots) = idle_slots(alloc, settings.cpus) else {
+            return None;
+        };
+        let Ok(ring) = ByteRing::new(alloc, config.ring as usize) else {
+            return None;
+        };
+        let Ok(kernel) = Kernel::new(alloc, settings, ring) else {
+            return None;
+        };
+        Some(Machine {
             alloc,
-            kernel: Kernel::new(alloc, settings)?,
-            consumed: 0,
+            kernel,
             view: View::new(alloc),
             slots,
             transactions: Vec::new(alloc),
@@ -80,9 +89,12 @@ impl Machine {
     }
 
     /// The kernel, to look at.
-    pub fn kernel(&self) -> &Kernel
+    pub fn kernel(&self) -> &Kernel<ByteRing>
         ensures settings { result.now.settings ≡ self.now.settings }
         ensures history { result.now.history ≡ self.now.history }
+        ensures ring { result.now.poster.capacity ≡ self.now.ring }
+        ensures consumed { result.now.poster.taken ≡ self.now.consumed }
+        ensures unread { result.now.poster.unread ≡ unread self.now }
     {
         &self.kernel
     }
@@ -99,7 +111,18 @@ impl Machine {
         ensures { Step self.old (Event.Create facts.now) result self.new }
     {
         match self.kernel.create(facts) {
-            Ok((tid, tseq)) => Reply::Created { tid, tseq },
+            Ok(Some((tid, tseq))) => Reply::Created { tid, tseq },
+            Ok(None) => Reply::Torn,
+            Err(refusal) => Reply::Refused(refusal),
+        }
+    }
+
+    fn tick(&mut self, cpu: u16) -> Reply
+        ensures { Step self.old (Event.Tick cpu) result self.new }
+    {
+        match self.kernel.tick(cpu) {
+            Ok(true) => Reply::Ticked { cpu },
+            Ok(false) => Reply::Torn,
             Err(refusal) => Reply::Refused(refusal),
         }
     }
@@ -107,13 +130,26 @@ impl Machine {
     fn drain(&mut self, max: u32) -> Reply
         ensures { Step self.old (Event.Drain max) result self.new }
     {
-        if !self.kernel.is_held() {
+        if self.kernel.is_torn() {
+            return Reply::Refused(Refusal::Gone);
+        }
+        if !self.kernel.has_agent() {
             return Reply::Refused(Refusal::NotActive);
         }
-        let unread = &self.kernel.messages()[self.consumed..];
-        let drained = drain_into(&mut self.view, unread, max);
-        self.consumed += drained.count;
-        Reply::Drained(drained)
+        let mut head = self.kernel.taker();
+        Reply::Drained(drain_into(&mut self.view, &mut head, max))
+    }
+
+    fn unread(&self) -> Reply
+        ensures { Step self.now Event.Unread result self.now }
+    {
+        if self.kernel.is_torn() {
+            return Reply::Refused(Refusal::Gone);
+        }
+        match waiting(self.alloc, self.kernel.poster()) {
+            Ok(messages) => Reply::Unread(Items::new(messages)),
+            Err(_) => Reply::Refused(Refusal::OutOfMemory),
+        }
     }
 
     fn stamp(&mut self, cpu: u16, tid: u32) -> Reply
@@ -135,6 +171,9 @@ impl Machine {
         ensures refused { IfErr result (IsRefusal (refusal self.old (Event.Stamp cpu tid))) }
         ensures unchanged { OnErr result (self.new ≡ self.old) }
     {
+        if self.kernel.is_torn() {
+            return Err(Refusal::Gone);
+        }
         let Some((generation, _)) = self.kernel.active() else {
             return Err(Refusal::NotActive);
         };
@@ -172,6 +211,9 @@ impl Machine {
     fn commit(&mut self, mask: Mask) -> Reply
         ensures { Step self.old (Event.Commit mask) result self.new }
     {
+        if self.kernel.is_torn() {
+            return Reply::Refused(Refusal::Gone);
+        }
         if self.kernel.active().is_none() {
             return Reply::Refused(Refusal::NotActive);
         }
@@ -187,7 +229,7 @@ impl Machine {
         }
         land_all(&mut self.kernel, &self.slots, mask, &mut landings);
         collect(&mut self.slots, mask);
-        Reply::Landed(Landings::new(landings))
+        Reply::Landed(Items::new(landings))
     }
 
     /// One event. It is refused by the first refusal that applies, and changes nothing then.
@@ -198,12 +240,14 @@ impl Machine {
     {
         let reply = match event {
             Event::Create { facts } => self.create(facts),
+            Event::Tick { cpu } => self.tick(*cpu),
             Event::Drain { max } => self.drain(*max),
             Event::Stamp { cpu, tid } => self.stamp(*cpu, *tid),
             Event::Commit { mask } => self.commit(*mask),
+            Event::Unread => self.unread(),
         };
         // A look at a field, by which the proof has what the machine keeps.
-        let _consumed = &self.consumed;
+        let _slots = &self.slots;
         reply
     }
 
@@ -223,4 +267,12 @@ impl Machine {
         }
         Ok(replies)
     }
+}
+
+/// The slots of so many CPUs, each idle.
+fn idle_slots(alloc: Global, cpus: u16) -> Result<Vec<Option<Slot>>, AllocError>
+    ensures { IfOk result (λ slots. slots.items ≡ idle_slots cpus) }
+{
+    let slots = vec![in alloc; None; cpus as usize]?;
+    Ok(slots)
 }

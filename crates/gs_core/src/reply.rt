@@ -2,34 +2,33 @@ ghost use Rattle.std.specs.Prelude.{◌≡◌};
 
 use crate::drained::Drained;
 use gs_kernel::Landing;
-use gs_layout::Refusal;
+use gs_layout::{Message, Refusal};
 use std::marker::Model;
 
-/// The landings of a commit, in order. Clauses see them as a list.
+/// Items of a reply, in order. Clauses see them as a list.
 #[derive(Drop)]
-pub struct Landings {
-    items: Vec<Landing>,
+pub struct Items<T> {
+    items: Vec<T>,
 }
 
-impl Model for Landings {
+impl<T> Model for Items<T> {
     ghost use Rattle.std.specs.Prelude.{List};
-    ghost use Rattle.gs_kernel.specs.declared.landing.Landing.{Landing};
 
-    ghost Value = { List Landing };
+    ghost Value = { List T };
 
-    ghost view = { λ landings. landings.items.items };
+    ghost view = { λ i. i.items.items };
 }
 
-impl Landings {
-    /// These landings.
-    pub fn new(items: Vec<Landing>) -> Landings
+impl<T> Items<T> {
+    /// These items.
+    pub fn new(items: Vec<T>) -> Items<T>
         ensures { result ≡ items.items }
     {
-        Landings { items }
+        Items { items }
     }
 
-    /// The landings, in order.
-    pub fn as_slice(&self) -> &[Landing]
+    /// The items, in order.
+    pub fn as_slice(&self) -> &[T]
         ensures { result.now ≡ self.now }
     {
         &self.items
@@ -41,11 +40,17 @@ impl Landings {
 pub enum Reply {
     /// The event was refused and changed nothing.
     Refused(Refusal),
+    /// The event's message did not fit into the ring, and the enclave was torn down.
+    Torn,
     /// The new thread, with its first sequence number.
     Created { tid: u32, tseq: u32 },
+    /// The timer of the CPU ticked.
+    Ticked { cpu: u16 },
     Drained(Drained),
     /// The number of the new transaction, counted from 1.
     Stamped { number: usize },
     /// What became of each slot that landed.
-    Landed(Landings),
+    Landed(Items<Landing>),
+    /// The messages that wait, in order.
+    Unread(Items<Message>),
 }

@@ -1,6 +1,6 @@
 use crate::{Config, ConfigFault, Drained, Event, Machine, Reply};
-use gs_journal::Mask;
-use gs_layout::{Class, Facts, Name, Outcome, Refusal};
+use gs_layout::{Change, Class, Facts, Message, Name, Outcome, Refusal};
+use gs_status::Mask;
 use std::process::Abort;
 use std::test::Fail;
 
@@ -174,4 +174,82 @@ fn faults(rt: HostRuntime) {
             Err(fault) => assert_eq!(rt; fault, wanted),
         }
     }
+}
+
+/// Four creations of 32 bytes fill the ring of 128, and the fifth message tears the enclave down.
+#[test]
+fn tears_down(rt: HostRuntime) -> Result<(), Fail> {
+    let mut machine = Machine::new(rt.alloc(), TWO_CPUS)?;
+    let facts = thread(&rt, true, 3);
+    for _ in 0..4 {
+        let made = machine.step(&Event::Create { facts });
+        assert!(rt; matches!(made, Reply::Created { tseq: 1, .. }));
+    }
+    let torn = machine.step(&Event::Tick { cpu: 1 });
+    assert!(rt; matches!(torn, Reply::Torn));
+    assert!(rt; machine.kernel().is_torn());
+    assert_eq!(rt; machine.kernel().journal().len(), 6);
+    for event in [
+        Event::Create { facts },
+        Event::Tick { cpu: 9 },
+        Event::Drain { max: 1 },
+        Event::Stamp { cpu: 9, tid: 9 },
+        Event::Commit { mask: Mask::new(4) },
+        Event::Unread,
+    ] {
+        let gone = machine.step(&event);
+        assert!(rt; matches!(gone, Reply::Refused(Refusal::Gone)));
+    }
+    assert_eq!(rt; machine.kernel().journal().len(), 6);
+    Ok(())
+}
+
+/// A message that needs as many bytes as are free fits.
+#[test]
+fn fills_the_ring(rt: HostRuntime) -> Result<(), Fail> {
+    let mut machine = Machine::new(rt.alloc(), TWO_CPUS)?;
+    for _ in 0..8 {
+        let ticked = machine.step(&Event::Tick { cpu: 1 });
+        assert!(rt; matches!(ticked, Reply::Ticked { cpu: 1 }));
+    }
+    let past = machine.step(&Event::Tick { cpu: 2 });
+    assert!(rt; matches!(past, Reply::Refused(Refusal::BadCpu)));
+    let drained = machine.step(&Event::Drain { max: 3 });
+    assert!(rt;
+        matches!(
+            drained,
+            Reply::Drained(Drained {
+                count: 3,
+                skipped: 0,
+                orphans: 0,
+                stop: None
+            })
+        )
+    );
+    let shown = machine.step(&Event::Unread);
+    let Reply::Unread(items) = &shown else {
+        return Err(Fail::from("what waits"));
+    };
+    assert_eq!(rt; items.as_slice().len(), 5);
+    assert!(rt; matches!(items.as_slice()[0], Message::TimerTick { cpu: 1 }));
+    let made = machine.step(&Event::Create {
+        facts: thread(&rt, true, 3),
+    });
+    assert!(rt; matches!(made, Reply::Created { tid: 1, tseq: 1 }));
+    let again = machine.step(&Event::Unread);
+    let Reply::Unread(items) = &again else {
+        return Err(Fail::from("what waits"));
+    };
+    assert_eq!(rt; items.as_slice().len(), 6);
+    assert!(rt;
+        matches!(
+            items.as_slice()[5],
+            Message::Thread {
+                tid: 1,
+                tseq: 1,
+                change: Change::Created { .. }
+            }
+        )
+    );
+    Ok(())
 }

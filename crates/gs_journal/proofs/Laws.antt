@@ -1,5 +1,5 @@
 -- What one more entry changes.
-use Rattle.std.proofs.Common.{◌≡◌, refl, ap, sym, ◌∙◌, subst, ℕ, zero, suc, ◌+◌, ◌-◌, ◌<◌, ◌⊎◌, inl, inr, ◌==◌, Bool, true, false, Option, None, Some, List, [], ◌∷◌, ◌++◌, length, take, get_or, arith, cond, slice_get, ◌||◌, length-append, unwrap_or, count_by}
+use Rattle.std.proofs.Common.{◌≡◌, refl, ap, sym, ◌∙◌, subst, ℕ, zero, suc, ◌+◌, ◌-◌, ◌<◌, ◌≤◌, ◌⊎◌, inl, inr, ◌==◌, Bool, true, false, Option, None, Some, List, [], ◌∷◌, ◌++◌, length, take, get_or, arith, cond, slice_get, ◌||◌, length-append, unwrap_or, count_by}
 use Rattle.std.specs.List.{list_any, filter, flat_map}
 use Rattle.std.proofs.lemmas.List.Folds.{list_any-append}
 use Rattle.std.proofs.lemmas.List.{append-nil, take_more}
@@ -136,13 +136,29 @@ created-push h e = rw posted-push (filter-append is_creation (posted h) (posted_
 pub same_posted : (h : History) (e : Entry) → posted_by e ≡ [] → posted (h ++ e ∷ []) ≡ posted h
 same_posted h e q = posted-push h e ∙ (ap (λ w. posted h ++ w) q ∙ append-nil (posted h))
 
-pub same_messages : (h : History) (e : Entry) (t : ℕ) → posted_by e ≡ [] → messages (h ++ e ∷ []) t ≡ messages h t
-unfolding messages
-same_messages h e t q = ap (filter (is_about t)) (same_posted h e q)
+-- an entry that posts nothing about a thread
+pub same_messages : (h : History) (e : Entry) (t : ℕ) → filter (is_about t) (posted_by e) ≡ [] → messages (h ++ e ∷ []) t ≡ messages h t
+same_messages h e t q = messages-push h e t ∙ (ap (λ w. messages h t ++ w) q ∙ append-nil (messages h t))
 
-pub same_created : (h : History) (e : Entry) → posted_by e ≡ [] → created (h ++ e ∷ []) ≡ created h
-unfolding created
-same_created h e q = ap (filter is_creation) (same_posted h e q)
+-- an entry that creates nothing
+pub same_created : (h : History) (e : Entry) → filter is_creation (posted_by e) ≡ [] → created (h ++ e ∷ []) ≡ created h
+same_created h e q = created-push h e ∙ (ap (λ w. created h ++ w) q ∙ append-nil (created h))
+
+-- an entry posts one message at the most
+pub posted-length : (h : History) → length (posted h) ≤ length h
+unfolding posted
+posted-length [] = omega arith
+posted-length (e ∷ h) = omega (arith, length-append (posted_by e) (flat_map posted_by h), at_most_one e, posted-length h)
+  where
+    at_most_one : (e : Entry) → length (posted_by e) ≤ 1
+    at_most_one (Posted m) = omega arith
+    at_most_one (Placed t s c g) = omega arith
+    at_most_one (Role g c) = omega arith
+    at_most_one (Begin g) = omega arith
+    at_most_one Left = omega arith
+    at_most_one (Taken c) = omega arith
+    at_most_one (Given c) = omega arith
+    at_most_one Torn = omega arith
 
 -- each place of a longer list is one of the shorter, or the end
 at_push : {A : Type 0} (h : List A) (e x : A) (i : ℕ) → slice_get (h ++ e ∷ []) i ≡ Some x
@@ -255,16 +271,16 @@ pub torn_nil : torn [] ≡ false
 unfolding torn
 torn_nil = refl
 
-torn_push : (h : History) (e : Entry) → torn (h ++ e ∷ []) ≡ (torn h || is_torn e)
+pub torn-push : (h : History) (e : Entry) → torn (h ++ e ∷ []) ≡ (torn h || is_torn e)
 unfolding torn
-torn_push h e = list_any-append is_torn h (e ∷ []) ∙ ap (λ b. list_any is_torn h || b) (or_none (is_torn e))
+torn-push h e = list_any-append is_torn h (e ∷ []) ∙ ap (λ b. list_any is_torn h || b) (or_none (is_torn e))
   where
     or_none : (b : Bool) → (b || false) ≡ b
     or_none true = refl
     or_none false = refl
 
 pub torn_more : (es : History) (i : ℕ) (d : Entry) → i < length es → torn (take (i + 1) es) ≡ (torn (take i es) || is_torn (get_or es i d))
-torn_more es i d lt = more torn (λ e b. b || is_torn e) torn_push es i d lt
+torn_more es i d lt = more torn (λ e b. b || is_torn e) torn-push es i d lt
 
 -- the least CPU that a thread is on, found from below
 pub at_is : (n : ℕ) (h : History) (t : ℕ) → at n h t ≡ at_below n h t

@@ -1,5 +1,5 @@
 -- Worked rows: the definitions compute.
-use Rattle.std.proofs.Common.{◌≡◌, refl, ℕ, ◌^◌, Bool, true, false, None, Some, [], ◌∷◌, take}
+use Rattle.std.proofs.Common.{◌≡◌, refl, ℕ, Bool, true, false, None, Some, [], ◌∷◌, take}
 use Rattle.gs_layout.specs.declared.facts.Facts.{Facts}
 use Rattle.gs_layout.specs.declared.facts.Class.TheVariants.{Zero}
 use Rattle.gs_layout.specs.declared.message.Change.TheVariants.{Created, Blocked, Wakeup, Preempted, Yield, Dead, Affinity}
@@ -11,7 +11,6 @@ use Rattle.gs_journal.specs.Record.{record_of}
 use Rattle.gs_journal.specs.History.{History, posted, messages, created, seq, record_in, on, at, active, attaching, generation, taken, last_taken, torn}
 use Rattle.gs_journal.specs.Holder.{holder, Agent, OtherClass, Thread as ThreadThere, Nobody}
 use Rattle.gs_journal.specs.State.{state}
-use Rattle.gs_journal.specs.Masks.{has, has_past, has_none}
 
 facts : Bool → ℕ → Facts
 facts may mask = record { runnable = may; mask = mask; class = Zero; name = 119 ∷ 101 ∷ 98 ∷ [] }
@@ -273,27 +272,3 @@ holder_both = refl
 holder_thread : holder (take 3 life) 1 ≡ ThreadThere 1
 unfolding holder active taken last_taken latest on standing last_of life
 holder_thread = refl
-
-has_lowest : has 5 0 ≡ true
-has_lowest = refl
-
-has_not : has 5 1 ≡ false
-has_not = refl
-
-has_highest : has (2 ^ 63) 63 ≡ true
-has_highest = refl
-
-has_beyond : has (2 ^ 63) 64 ≡ false
-has_beyond = refl
-
-past_two : has_past 4 2 ≡ true
-past_two = refl
-
-below_two : has_past 3 2 ≡ false
-below_two = refl
-
-below_all : has_past (2 ^ 63) 64 ≡ false
-below_all = refl
-
-has_nobody : has_none 0 ≡ true
-has_nobody = refl

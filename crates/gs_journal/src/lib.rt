@@ -5,11 +5,9 @@
 
 mod entry;
 mod journal;
-mod mask;
 mod query;
 #[cfg(test)]
 mod tests;
 
 pub use entry::Entry;
 pub use journal::Journal;
-pub use mask::Mask;

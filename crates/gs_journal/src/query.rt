@@ -70,14 +70,7 @@ fn takes_off(tid: u32, message: &Message) -> bool
             tid: other,
             change,
             ..
-        } => match change {
-            Change::Blocked { .. }
-            | Change::Preempted { .. }
-            | Change::Yield { .. }
-            | Change::Dead { .. } => *other == tid,
-            Change::Affinity { off, .. } => *off && *other == tid,
-            Change::Created { .. } | Change::Wakeup => false,
-        },
+        } => change.takes_off_cpu() && *other == tid,
         Message::TimerTick { .. } => false,
     }
 }

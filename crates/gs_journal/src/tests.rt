@@ -1,4 +1,4 @@
-use crate::{Entry, Journal, Mask};
+use crate::{Entry, Journal};
 use gs_layout::{Change, Class, Facts, Message, Name, Record, Refusal};
 use std::test::Fail;
 
@@ -138,22 +138,4 @@ fn agents_and_the_other_class(rt: HostRuntime) -> Result<(), Fail> {
     assert!(rt; !journal.is_torn(6));
     assert!(rt; journal.is_torn(7));
     Ok(())
-}
-
-#[test]
-fn sets_of_cpus(rt: HostRuntime) {
-    let five = Mask::new(5);
-    assert_eq!(rt; five.bits(), 5);
-    assert!(rt; !five.is_empty());
-    assert!(rt; Mask::new(0).is_empty());
-    for (cpu, is_in) in [(0, true), (1, false), (2, true), (64, false)] {
-        assert_eq!(rt; five.has(cpu), is_in, "CPU {cpu}");
-    }
-    assert!(rt; five.has_past(2));
-    assert!(rt; !five.has_past(3));
-    assert!(rt; !five.has_past(64));
-    let highest = Mask::new(1 << 63);
-    assert!(rt; highest.has(63));
-    assert!(rt; highest.has_past(63));
-    assert!(rt; !highest.has_past(64));
 }

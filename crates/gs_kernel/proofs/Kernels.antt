@@ -1,73 +1,222 @@
 -- What a kernel keeps.
-use Rattle.std.proofs.Common.{◌≡◌, ℕ, ◌+◌, ◌^◌, ◌<◌, ◌++◌, ◌∷◌, List, [], length, Bool, true, false, ◌||◌, nat_le, cond, None, Some, refl, ap, sym, subst, ◌∙◌, arith}
-use Rattle.std.specs.Option.{is_some}
+use Rattle.std.proofs.Common.{◌≡◌, ℕ, ◌+◌, ◌<◌, ◌≤◌, ◌++◌, ◌∷◌, List, [], length, Bool, true, false, ◌||◌, ◌==◌, Option, None, Some, IsSome, slice_get, slice_set, replicate, refl, ap, sym, subst, ◌∙◌, length-append, arith}
+use Rattle.std.specs.Prelude.{MatchOption}
+use Rattle.std.specs.Option.{is_some, option_copied}
 use Rattle.std.proofs.lemmas.Bool.Decides.{nat_tests}
+use Rattle.std.proofs.lemmas.List.{get_or-replicate, length-replicate}
+use Rattle.std.proofs.lemmas.Option.{slice_get-get_or}
+use denote.Ref.{Bor}
 use Rattle.gs_layout.specs.declared.facts.Facts.{Facts}
+use Rattle.gs_layout.specs.declared.message.Change.TheVariants.{Created}
 use Rattle.gs_layout.specs.declared.message.Message.{Message}
-use Rattle.gs_layout.specs.declared.refusal.Refusal.TheVariants as refusals
+use Rattle.gs_layout.specs.declared.message.Message.TheVariants.{Thread, TimerTick}
+use Rattle.gs_layout.specs.declared.slot.Slot.{Slot}
+use Rattle.gs_layout.specs.Message.{takes_off}
 use Rattle.gs_journal.specs.declared.entry.Entry.{Entry}
-use Rattle.gs_journal.specs.declared.entry.Entry.TheVariants.{Posted, Placed, Role}
-use Rattle.gs_journal.specs.Standing.{standing, last_of, then_stands}
-use Rattle.gs_journal.specs.History.{History, posted, created, messages, seq, seq_after, active, attaching, begin_by, ends_begin}
-use Rattle.gs_journal.proofs.Laws.{posted-push, attaching-push, same_posted, same_messages, same_created}
+use Rattle.gs_journal.specs.declared.entry.Entry.TheVariants.{Posted, Placed, Role, Torn}
+use Rattle.gs_status.specs.Masks.{has}
+use Rattle.gs_journal.specs.Standing.{standing, latest, last_of, then_stands}
+use Rattle.gs_journal.specs.History.{History, posted, created, on, record_in, active, attaching, taken, last_taken, torn, ends_run}
+use Rattle.gs_journal.proofs.Laws.{on-push}
+use Rattle.gs_threads.specs.declared.row.ThreadRow.{ThreadRow}
+use Rattle.gs_threads.specs.Rows.{new_row}
+use Rattle.gs_threads.specs.Table.{TableState, row_of, rows_placed}
+use Rattle.gs_threads.specs.Mirrors.{Mirrors}
+use Rattle.gs_threads.proofs.Lookups.{after_tick}
+use Rattle.gs_threads.proofs.Entries.{on_still}
+use Rattle.gs_threads.proofs.Mirroring.{mirrors_posted, mirrors_created}
+use Rattle.gs_threads.proofs.Placing.{mirrors_placed, mirrors_quiet, on_here, on_elsewhere, length-rows_placed}
+use Rattle.gs_threads.proofs.Clearing.{IsClearedBelow, mirrors_torn}
+use Rattle.gs_threads.proofs.Mirrored.{mirrors_row, mirrors_never, mirrors_none, mirrors_at}
 use Rattle.gs_kernel.specs.declared.settings.Settings.{Settings}
-use Rattle.gs_kernel.specs.Settings.{IsInRange}
-use Rattle.gs_kernel.specs.Kernel.{create_refusal, is_bad_mask, is_full, is_held, creation, after_creation}
+use Rattle.gs_kernel.specs.Kernel.{has_agent, creation}
 use Rattle.gs_kernel.specs.Inside.{IsKept}
-use Rattle.gs_kernel.proofs.Creations.{one_more, fresh_created, fits_created}
+use Rattle.gs_kernel.specs.Threads.{IsRow, IsNever, is_runnable}
+use Rattle.gs_kernel.proofs.Entries.{beside_posted, beside_placed, active_none, attaching_none, taken_torn, torn_now}
+use Rattle.gs_kernel.proofs.Placings.{IsPlacing}
+use Rattle.gs_kernel.proofs.Seats.{get_same, get_other, length_set}
 
-unspent : (s : Settings) (h : History) (f : Facts) → create_refusal s h f ≡ None → length (created h) < 65536
-unfolding create_refusal
-unspent s h f e = by_tests (is_bad_mask s f.mask) (nat_le 65536 (length (created h))) refl (is_full s h 1) e
+-- what the row of a thread says
+pub row_is : (s : Settings) (h : History) (t : TableState) (running : List (Option ℕ)) (held : ℕ) (a : Option (ℕ × ℕ)) (down : Bool) (u : ℕ) (o : Option (Bor ThreadRow)) → IsKept s h t running held a down
+    → option_copied o ≡ row_of t.rows u → MatchOption o (IsNever s h u) (λ row. IsRow s h u row.now)
+row_is s h t running held a down u None k e =
+    let m = mirrors_never s.first_tseq h t.rows s.cpus u k.rows (λ c q. k.below u c q) (sym e) in
+    record { no_record = m.0; no_number = m.1; no_place = m.2 }
+row_is s h t running held a down u (Some row) k e =
+    let m = mirrors_row s.first_tseq h t.rows s.cpus u row.now k.rows (λ c q. k.below u c q) (sym e) in
+    record { same_record = m.0; same_number = m.1; same_place = m.2 }
+
+-- a message that takes nobody off a CPU
+kept_still : (s : Settings) (h : History) (t t' : TableState) (running : List (Option ℕ)) (held : ℕ) (a : Option (ℕ × ℕ)) (down : Bool) (m : Message) → IsKept s h t running held a down
+    → Mirrors s.first_tseq (h ++ Posted m ∷ []) t'.rows → t'.first_tseq ≡ t.first_tseq → length t'.rows ≤ 65536 → ((u : ℕ) → takes_off u m ≡ false) → IsKept s (h ++ Posted m ∷ []) t' running held a down
+kept_still s h t t' running held a down m k rows first few still =
+    let b = beside_posted h m in
+    let same : (c : ℕ) → on (h ++ Posted m ∷ []) c ≡ on h c = λ c. on_still h m c (λ u q. still u) in
+    record {
+      rows = rows;
+      first = first ∙ k.first;
+      few = few;
+      count = k.count;
+      runs = λ c lt. k.runs c lt ∙ ap Some (sym (same c));
+      below = λ u c q. k.below u c (sym (same c) ∙ q);
+      held_by_other = λ c. k.held_by_other c ∙ sym (b.taken c);
+      agent = k.agent ∙ sym b.active;
+      never_begun = b.attaching ∙ k.never_begun;
+      down_when_torn = k.down_when_torn ∙ sym b.torn;
+    }
+
+-- a thread more
+pub kept_created : (s : Settings) (h : History) (t t' : TableState) (running : List (Option ℕ)) (held : ℕ) (a : Option (ℕ × ℕ)) (down : Bool) (f : Facts) → IsKept s h t running held a down → length (created h) < 65536
+    → t'.rows ≡ t.rows ++ new_row t.first_tseq f ∷ [] → t'.first_tseq ≡ t.first_tseq → IsKept s (h ++ Posted (creation s.first_tseq h f) ∷ []) t' running held a down
+kept_created s h t t' running held a down f k few rows first =
+    let n : length t.rows ≡ length (created h) = k.rows.count in
+    let now : t'.rows ≡ t.rows ++ new_row s.first_tseq f ∷ [] = rows ∙ ap (λ x. t.rows ++ new_row x f ∷ []) k.first in
+    kept_still s h t t' running held a down (creation s.first_tseq h f) k
+    (subst (Mirrors s.first_tseq (h ++ Posted (creation s.first_tseq h f) ∷ [])) (sym now)
+    (subst (λ x. Mirrors s.first_tseq (h ++ Posted (Thread (x + 1) (s.first_tseq + 1) (Created f)) ∷ []) (t.rows ++ new_row s.first_tseq f ∷ [])) n (mirrors_created s.first_tseq h t.rows f k.rows)))
+    first
+    (omega (arith, ap length rows, length-append t.rows (new_row t.first_tseq f ∷ []), n, few))
+    (λ u. refl)
+
+-- a tick
+pub kept_tick : (s : Settings) (h : History) (t : TableState) (running : List (Option ℕ)) (held : ℕ) (a : Option (ℕ × ℕ)) (down : Bool) (c : ℕ) → IsKept s h t running held a down → IsKept s (h ++ Posted (TimerTick c) ∷ []) t running held a down
+kept_tick s h t running held a down c k =
+    kept_still s h t t running held a down (TimerTick c) k (subst (Mirrors s.first_tseq (h ++ Posted (TimerTick c) ∷ [])) (after_tick t.rows c) (mirrors_posted s.first_tseq h t.rows (TimerTick c) k.rows tt)) refl k.few (λ u. refl)
+
+-- a tear-down: everybody was taken off, and no agent is active
+pub record IsCleared (t t' : TableState) (running running' : List (Option ℕ)) : Type 0 where
+  pub cleared : IsClearedBelow (length running) t.rows t'.rows
+  pub first : t'.first_tseq ≡ t.first_tseq
+  pub nobody : (c : ℕ) → c < length running → slice_get running' c ≡ Some None
+  pub count : length running' ≡ length running
+
+-- as the calls say that they cleared both
+pub cleared_by : (t t0 t' : TableState) (running running0 new running' : List (Option ℕ)) → t0.rows ≡ t.rows → t0.first_tseq ≡ t.first_tseq → running0 ≡ running → running' ≡ new
+    → IsClearedBelow (length running0) t0.rows t'.rows → t'.first_tseq ≡ t0.first_tseq → ((c : ℕ) → c < length running0 → slice_get new c ≡ Some None) → length new ≡ length running0 → IsCleared t t' running running'
+cleared_by t t0 t' running running0 new running' rows first same is cleared first' nobody count =
+    record {
+      cleared = subst (λ (x : List ThreadRow). IsClearedBelow (length running) x t'.rows) rows (subst (λ (x : List (Option ℕ)). IsClearedBelow (length x) t0.rows t'.rows) same cleared);
+      first = first' ∙ first;
+      nobody = λ c lt. ap (λ (x : List (Option ℕ)). slice_get x c) is ∙ nobody c (omega (arith, lt, ap length same));
+      count = ap length is ∙ (count ∙ ap length same);
+    }
+
+torn_off : (h : History) (c : ℕ) → on (h ++ Torn ∷ []) c ≡ None
+torn_off h c = on-push h Torn c ∙ ended (on h c)
   where
-    by_tests : (a b : Bool) → nat_le 65536 (length (created h)) ≡ b → (c : Bool) → cond a (Some refusals.EmptyMask) (cond b (Some refusals.TidsSpent) (cond c (Some refusals.HistoryFull) None)) ≡ None → length (created h) < 65536
-    by_tests true b q c e = absurd cc
-    by_tests false true q c e = absurd cc
-    by_tests false false q c e = grind (arith, nat_tests)
+    ended : (o : Option ℕ) → then_stands None ends_run Torn o ≡ None
+    ended None = refl
+    ended (Some u) = refl
 
--- where no agent attaches and the entry begins none, none attaches
-still_none : (h : History) (e : Entry) → begin_by e ≡ None → attaching h ≡ None → attaching (h ++ e ∷ []) ≡ None
-still_none h e none before = attaching-push h e ∙ (ap (λ o. then_stands o ends_begin e (attaching h)) none ∙ ap (λ o. then_stands None ends_begin e o) before)
+pub kept_torn : (s : Settings) (h : History) (t t' : TableState) (running running' : List (Option ℕ)) (held : ℕ) (a a' : Option (ℕ × ℕ)) (down down' : Bool) → IsKept s h t running held a down → IsCleared t t' running running'
+    → a' ≡ None → down' ≡ true → IsKept s (h ++ Torn ∷ []) t' running' held a' down'
+kept_torn s h t t' running running' held a a' down down' k x gone is_down =
+    record {
+      rows = mirrors_torn s.first_tseq h t.rows t'.rows s.cpus k.rows (subst (λ n. IsClearedBelow n t.rows t'.rows) k.count x.cleared) k.below;
+      first = x.first ∙ k.first;
+      few = omega (arith, k.few, x.cleared.same.count);
+      count = x.count ∙ k.count;
+      runs = λ c lt. x.nobody c (omega (arith, lt, k.count)) ∙ ap Some (sym (torn_off h c));
+      below = λ u c q. let z : None ≡ Some u = sym (torn_off h c) ∙ q in absurd cc;
+      held_by_other = λ c. k.held_by_other c ∙ sym (taken_torn h c);
+      agent = gone ∙ sym (active_none h);
+      never_begun = attaching_none h;
+      down_when_torn = is_down ∙ sym (torn_now h);
+    }
 
-pub kept_created : (s : Settings) (h h' : History) (ms ms' : List Message) (n n' : ℕ) (f : Facts) → IsInRange s → create_refusal s h f ≡ None → IsKept s h ms n
-    → h' ≡ after_creation s.first_tseq h f → ms' ≡ ms ++ creation s.first_tseq h f ∷ [] → n' ≡ n + 1 → IsKept s h' ms' n'
-kept_created s h h' ms ms' n n' f r none k is_h is_ms is_n =
-    let more = one_more s.first_tseq h f in
-    let after : IsKept s (after_creation s.first_tseq h f) ms' n' = record {
-      told = is_ms ∙ (ap (λ w. w ++ creation s.first_tseq h f ∷ []) k.told ∙ sym (posted-push h (Posted (creation s.first_tseq h f))));
-      counted = omega (arith, is_n, k.counted, more);
-      few = omega (arith, unspent s h f none, is_n, k.counted);
-      fresh = fresh_created s.first_tseq h f k.fresh;
-      fits = fits_created s.first_tseq h f k.fresh r.first_tseq k.fits;
-      never_begun = still_none h (Posted (creation s.first_tseq h f)) refl k.never_begun;
-    } in
-    subst (λ (x : History). IsKept s x ms' n') (sym is_h) after
+-- a thread that may run has a row
+has_row : (s : Settings) (h : History) (t : TableState) (running : List (Option ℕ)) (held : ℕ) (a : Option (ℕ × ℕ)) (down : Bool) (u : ℕ) → IsKept s h t running held a down → is_runnable (record_in h u) ≡ true → IsSome (row_of t.rows u)
+has_row s h t running held a down u k runs = by_row (row_of t.rows u) refl
+  where
+    by_row : (o : Option ThreadRow) → row_of t.rows u ≡ o → IsSome (row_of t.rows u)
+    by_row (Some row) e = subst (λ (x : Option ThreadRow). IsSome x) (sym e) refl
+    by_row None e =
+        let m = mirrors_never s.first_tseq h t.rows s.cpus u k.rows (λ c q. k.below u c q) e in
+        let z : false ≡ true = ap is_runnable (sym m.0) ∙ runs in absurd cc
 
-seq_same : (first : ℕ) (h h' : History) (t : ℕ) → messages h' t ≡ messages h t → seq first h' t ≡ seq first h t
-unfolding seq
-seq_same first h h' t e = ap (λ (ms : List Message). seq_after first (length ms)) e
+pub kept_placed : (s : Settings) (h : History) (t : TableState) (running : List (Option ℕ)) (held : ℕ) (a : Option (ℕ × ℕ)) (down : Bool) (c : ℕ) (b : Slot) → IsKept s h t running held a down → IsPlacing s h c b → c < s.cpus
+    → IsKept s (h ++ Placed b.tid b.tseq c b.generation ∷ []) (record t { rows = rows_placed t.rows b.tid (Some c) }) (slice_set running c (Some b.tid)) held a down
+kept_placed s h t running held a down c b k p lt =
+    let e : Entry = Placed b.tid b.tseq c b.generation in
+    let w = beside_placed h b.tid b.tseq c b.generation in
+    record {
+      rows = mirrors_placed s.first_tseq h t.rows b.tid b.tseq c b.generation k.rows (has_row s h t running held a down b.tid k p.runnable) (mirrors_at s.first_tseq h t.rows s.cpus b.tid k.rows (λ d q. k.below b.tid d q) ∙ p.nowhere) p.free;
+      first = k.first;
+      few = omega (arith, k.few, length-rows_placed t.rows b.tid (Some c));
+      count = length_set running c (Some b.tid) ∙ k.count;
+      runs = λ d less. by_cpu_runs d less (c == d) refl;
+      below = λ u d q. by_cpu_below u d q (c == d) refl;
+      held_by_other = λ d. k.held_by_other d ∙ sym (w.taken d);
+      agent = k.agent ∙ sym w.active;
+      never_begun = w.attaching ∙ k.never_begun;
+      down_when_torn = k.down_when_torn ∙ sym w.torn;
+    }
+  where
+    by_cpu_runs : (d : ℕ) → d < s.cpus → (x : Bool) → (c == d) ≡ x → slice_get (slice_set running c (Some b.tid)) d ≡ Some (on (h ++ Placed b.tid b.tseq c b.generation ∷ []) d)
+    by_cpu_runs d less true q =
+        let e : c ≡ d = grind (arith, nat_tests) in
+        ap (slice_get (slice_set running c (Some b.tid))) (sym e) ∙ (get_same running c (Some b.tid) (omega (arith, lt, k.count)) ∙ ap Some (sym (on_here h b.tid b.tseq c b.generation d e)))
+    by_cpu_runs d less false q =
+        get_other running c d (Some b.tid) (λ e. let z : (c == d) ≡ true = grind (arith, nat_tests) in let y : false ≡ true = sym q ∙ z in absurd cc)
+        ∙ (k.runs d less ∙ ap Some (sym (on_elsewhere h b.tid b.tseq c b.generation d q)))
 
-pub kept_placed : (s : Settings) (h h' : History) (ms : List Message) (n t q c g : ℕ) → IsKept s h ms n → h' ≡ h ++ Placed t q c g ∷ [] → IsKept s h' ms n
-kept_placed s h h' ms n t q c g k is_h =
-    let e : Entry = Placed t q c g in
-    let after : IsKept s (h ++ e ∷ []) ms n = record {
-      told = k.told ∙ sym (same_posted h e refl);
-      counted = k.counted ∙ sym (ap length (same_created h e refl));
-      few = k.few;
-      fresh = λ u above. same_messages h e u refl ∙ k.fresh u (subst (λ (ms : List Message). length ms < u) (same_created h e refl) above);
-      fits = λ u. subst (λ m. m < 2 ^ 32) (sym (seq_same s.first_tseq h (h ++ e ∷ []) u (same_messages h e u refl))) (k.fits u);
-      never_begun = still_none h e refl k.never_begun;
-    } in
-    subst (λ (x : History). IsKept s x ms n) (sym is_h) after
+    by_cpu_below : (u d : ℕ) → on (h ++ Placed b.tid b.tseq c b.generation ∷ []) d ≡ Some u → (x : Bool) → (c == d) ≡ x → d < s.cpus
+    by_cpu_below u d q true z = let e : c ≡ d = grind (arith, nat_tests) in omega (arith, e, lt)
+    by_cpu_below u d q false z = k.below u d (sym (on_elsewhere h b.tid b.tseq c b.generation d z) ∙ q)
 
-pub kept_new : (s : Settings) (g c : ℕ) → IsKept s (Role g c ∷ []) [] 0
-unfolding posted created messages seq attaching standing last_of
-kept_new s g c = record { told = refl; counted = refl; few = omega arith; fresh = λ t p. refl; fits = λ t. omega arith; never_begun = refl }
+-- a new kernel
+nobody_on : (g c d : ℕ) → on (Role g c ∷ []) d ≡ None
+unfolding on standing last_of
+nobody_on g c d = refl
+
+none_held : (g c d : ℕ) → taken (Role g c ∷ []) d ≡ false
+unfolding taken last_taken latest standing last_of
+none_held g c d = refl
+
+agent_of : (g c : ℕ) → active (Role g c ∷ []) ≡ Some (g, c)
+unfolding active standing last_of
+agent_of g c = refl
+
+none_attaches : (g c : ℕ) → attaching (Role g c ∷ []) ≡ None
+unfolding attaching standing last_of
+none_attaches g c = refl
+
+stands : (g c : ℕ) → torn (Role g c ∷ []) ≡ false
+unfolding torn
+stands g c = refl
+
+nobody_there : Option ℕ
+nobody_there = None
+
+seat_of : (n c : ℕ) → c < n → slice_get (replicate n None) c ≡ Some nobody_there
+unfolding nobody_there
+seat_of n c lt = slice_get-get_or (replicate n None) c None (omega (arith, lt, length-replicate n nobody_there)) ∙ ap Some (get_or-replicate n c None None lt)
+
+pub kept_new : (s : Settings) (t : TableState) (running : List (Option ℕ)) (held : ℕ) (g c : ℕ) → t.rows ≡ [] → t.first_tseq ≡ s.first_tseq → running ≡ replicate s.cpus None → ((d : ℕ) → has held d ≡ false)
+    → IsKept s (Role g c ∷ []) t running held (Some (g, c)) false
+unfolding nobody_there
+kept_new s t running held g c rows first seats none =
+    record {
+      rows = subst (Mirrors s.first_tseq (Role g c ∷ [])) (sym rows) (mirrors_quiet s.first_tseq [] [] (Role g c) (mirrors_none s.first_tseq) refl);
+      first = first;
+      few = omega (arith, ap length rows);
+      count = ap length seats ∙ length-replicate s.cpus None;
+      runs = λ d lt. ap (λ (x : List (Option ℕ)). slice_get x d) seats ∙ (seat_of s.cpus d lt ∙ ap Some (sym (nobody_on g c d)));
+      below = λ u d q. let z : None ≡ Some u = sym (nobody_on g c d) ∙ q in absurd cc;
+      held_by_other = λ d. none d ∙ sym (none_held g c d);
+      agent = sym (agent_of g c);
+      never_begun = none_attaches g c;
+      down_when_torn = sym (stands g c);
+    }
+
+pub posted_new : (g c : ℕ) → posted (Role g c ∷ []) ≡ []
+unfolding posted
+posted_new g c = refl
+
+or_none : (b : Bool) → (b || false) ≡ b
+or_none true = refl
+or_none false = refl
 
 -- with nobody attaching, an agent is there where one is active
-pub held_by_active : (h : History) → attaching h ≡ None → is_held h ≡ is_some (active h)
-held_by_active h none = ap (λ o. is_some (active h) || is_some o) none ∙ or_none (is_some (active h))
-  where
-    or_none : (b : Bool) → (b || false) ≡ b
-    or_none true = refl
-    or_none false = refl
+pub agent_by_active : (h : History) → attaching h ≡ None → has_agent h ≡ is_some (active h)
+agent_by_active h none = ap (λ o. is_some (active h) || is_some o) none ∙ or_none (is_some (active h))

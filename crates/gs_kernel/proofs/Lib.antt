@@ -1,3 +1,7 @@
-pub mod Creations
-pub mod Kernels
 pub mod Placings
+pub mod Refusals
+pub mod Entries
+pub mod Seats
+pub mod Kernels
+pub mod Abouts
+pub mod OtherClass

@@ -6,9 +6,10 @@ use Rattle.std.proofs.lemmas.Bool.Decides.{nat_tests}
 use Rattle.gs_layout.specs.declared.slot.Slot.{Slot}
 use Rattle.gs_layout.specs.declared.outcome.Outcome.{Outcome}
 use Rattle.gs_layout.specs.declared.outcome.Outcome.TheVariants as outcomes
-use Rattle.gs_journal.specs.History.{History, seq, record_in, at, active}
+use Rattle.gs_journal.specs.History.{History, seq, record_in, on, at, active}
 use Rattle.gs_kernel.specs.declared.settings.Settings.{Settings}
-use Rattle.gs_kernel.specs.Landing.{verdict, cpu_verdict, is_generation, is_runnable, may_run_on}
+use Rattle.gs_kernel.specs.Landing.{verdict, cpu_verdict, is_generation}
+use Rattle.gs_kernel.specs.Threads.{is_runnable, may_run_on}
 
 is_placed : Outcome → Bool
 is_placed outcomes.Placed = true
@@ -31,14 +32,14 @@ passed false o p other e = (refl, e)
 not_le : (m n : ℕ) → nat_le m n ≡ false → n < m
 not_le m n e = grind (arith, nat_tests)
 
-cpu_placed : (s : Settings) (h : History) (agent : Option (ℕ × ℕ)) (k : ℕ) → cpu_verdict s h agent k ≡ outcomes.Placed → length h < s.history
+cpu_placed : (s : Settings) (h : History) (k : ℕ) → cpu_verdict s h k ≡ outcomes.Placed → (on h k ≡ None) × (length h < s.history)
 unfolding is_placed
-cpu_placed s h agent k e =
+cpu_placed s h k e =
     let p1 = passed _ outcomes.CpuIsAgent _ refl e in
     let p2 = passed _ outcomes.CpuTaken _ refl p1.1 in
     let p3 = passed _ outcomes.CpuBusy _ refl p2.1 in
     let p4 = passed _ outcomes.HistoryFull _ refl p3.1 in
-    not_le s.history (length h) p4.0
+    (none_of _ p3.0, not_le s.history (length h) p4.0)
 
 -- what holds where the outcome is Placed
 pub record IsPlacing (s : Settings) (h : History) (k : ℕ) (b : Slot) : Type 0 where
@@ -47,6 +48,7 @@ pub record IsPlacing (s : Settings) (h : History) (k : ℕ) (b : Slot) : Type 0 
   pub runnable : is_runnable (record_in h b.tid) ≡ true
   pub nowhere : at s.cpus h b.tid ≡ None
   pub allowed : may_run_on k (record_in h b.tid) ≡ true
+  pub free : on h k ≡ None
   pub fits : length h < s.history
 
 pub placing_when : (s : Settings) (h : History) (k : ℕ) (b : Slot) → verdict s h k b ≡ outcomes.Placed → IsPlacing s h k b
@@ -65,5 +67,6 @@ placing_when s h k b e =
       runnable = not_false _ p5.0;
       nowhere = none_of _ p6.0;
       allowed = not_false _ p7.0;
-      fits = cpu_placed s h (active h) k p7.1;
+      free = (cpu_placed s h k p7.1).0;
+      fits = (cpu_placed s h k p7.1).1;
     }

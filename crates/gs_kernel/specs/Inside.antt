@@ -1,27 +1,38 @@
 -- How the kernel keeps what it has.
-use Rattle.std.specs.Prelude.{ℕ, ◌^◌, ◌<◌, ◌≤◌, ◌≡◌, None, List, [], length}
+use Rattle.std.specs.Prelude.{Bool, true, false, ℕ, ◌<◌, ◌≤◌, ◌≡◌, Option, None, Some, List, length, slice_get, slice_set}
 use Rattle.gs_layout.specs.declared.message.Message.{Message}
-use Rattle.gs_journal.specs.History.{History, posted, created, messages, seq, attaching}
+use Rattle.gs_status.specs.Masks.{has}
+use Rattle.gs_journal.specs.History.{History, posted, on, active, attaching, taken, torn}
+use Rattle.gs_journal.specs.JournalState.{JournalState}
+use Rattle.gs_threads.specs.Table.{TableState}
+use Rattle.gs_threads.specs.Mirrors.{Mirrors}
 use Rattle.gs_kernel.specs.declared.settings.Settings.{Settings}
-use Rattle.gs_kernel.specs.Kernel.{KernelState}
 use Rattle.gs_kernel.specs.Settings.{IsInRange}
-use Rattle.gs_kernel.specs.declared.kernel.Kernel.TheInside.{Inside}
 
--- the messages and the count of threads are the history's; no thread has messages beyond the count, or numbers beyond 32 bits; no agent
--- ever attached
-pub record IsKept (s : Settings) (h : History) (ms : List Message) (n : ℕ) : Type 0 where
-  pub told : ms ≡ posted h
-  pub counted : n ≡ length (created h)
-  pub few : n ≤ 65536
-  pub fresh : (t : ℕ) → length (created h) < t → messages h t ≡ []
-  pub fits : (t : ℕ) → seq s.first_tseq h t < 2 ^ 32
+-- the rows of threads mirror the history; there is a seat for each CPU, with the thread that is on it; the mask has the CPUs that the
+-- other class holds; the agent is the active one; no agent ever attached
+pub record IsKept (s : Settings) (h : History) (t : TableState) (running : List (Option ℕ)) (held : ℕ) (a : Option (ℕ × ℕ)) (down : Bool) : Type 0 where
+  pub rows : Mirrors s.first_tseq h t.rows
+  pub first : t.first_tseq ≡ s.first_tseq
+  pub few : length t.rows ≤ 65536
+  pub count : length running ≡ s.cpus
+  pub runs : (c : ℕ) → c < s.cpus → slice_get running c ≡ Some (on h c)
+  pub below : (t c : ℕ) → on h c ≡ Some t → c < s.cpus
+  pub held_by_other : (c : ℕ) → has held c ≡ taken h c
+  pub agent : a ≡ active h
   pub never_begun : attaching h ≡ None
+  pub down_when_torn : down ≡ torn h
 
-pub record IsKernel (k : Inside) : Type 0 where
-  pub in_range : IsInRange k.settings
-  pub limit : k.journal.limit ≡ k.settings.history
-  pub first : k.journal.first_tseq ≡ k.settings.first_tseq
-  pub kept : IsKept k.settings k.journal.entries k.messages.items k.created
+-- the seats after a message about a thread that was on this CPU, if any
+abbrev pub vacated : List (Option ℕ) → Option ℕ → Bool → List (Option ℕ)
+vacated running None off = running
+vacated running (Some c) true = slice_set running c None
+vacated running (Some c) false = running
 
-abbrev pub kernel_view : Inside → KernelState
-kernel_view k = record { settings = k.settings; history = k.journal.entries; room = k.journal.room }
+-- what was sent to the ring is what was posted
+pub record IsKernel (sent : List Message → Type 0) (s : Settings) (j : JournalState) (t : TableState) (running : List (Option ℕ)) (held : ℕ) (a : Option (ℕ × ℕ)) (down : Bool) : Type 0 where
+  pub in_range : IsInRange s
+  pub limit : j.limit ≡ s.history
+  pub first : j.first_tseq ≡ s.first_tseq
+  pub told : sent (posted j.entries)
+  pub kept : IsKept s j.entries t running held a down

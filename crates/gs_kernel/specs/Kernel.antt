@@ -1,27 +1,38 @@
 -- What the kernel answers, and what it leaves.
-use Rattle.std.specs.Prelude.{Bool, ◌||◌, ℕ, ◌+◌, ◌≡◌, nat_le, Option, None, Some, List, [], ◌∷◌, ◌++◌, length, if◌then◌else◌, is_some}
+use Rattle.std.specs.Prelude.{Bool, true, false, not, ◌||◌, ℕ, ◌+◌, ◌≡◌, nat_le, Option, None, Some, List, [], ◌∷◌, ◌++◌, length, if◌then◌else◌, is_some, unwrap_or}
+use Rattle.std.specs.Option.{option_map}
 use Rattle.gs_layout.specs.declared.facts.Facts.{Facts}
-use Rattle.gs_layout.specs.declared.message.Change.TheVariants.{Created}
+use Rattle.gs_layout.specs.declared.message.Change.{Change}
+use Rattle.gs_layout.specs.declared.message.Change.TheVariants.{Created, Blocked, Wakeup, Preempted, Yield, Dead, Affinity}
 use Rattle.gs_layout.specs.declared.message.Message.{Message}
 use Rattle.gs_layout.specs.declared.message.Message.TheVariants.{Thread}
 use Rattle.gs_layout.specs.declared.refusal.Refusal.{Refusal}
 use Rattle.gs_layout.specs.declared.refusal.Refusal.TheVariants as refusals
 use Rattle.gs_journal.specs.declared.entry.Entry.{Entry}
-use Rattle.gs_journal.specs.declared.entry.Entry.TheVariants.{Posted}
-use Rattle.gs_journal.specs.Masks.{has_past, has_none}
-use Rattle.gs_journal.specs.History.{History, created, active, attaching}
+use Rattle.gs_journal.specs.declared.entry.Entry.TheVariants.{Posted, Taken, Given, Torn}
+use Rattle.gs_status.specs.Masks.{has, has_past, has_none}
+use Rattle.gs_journal.specs.History.{History, created, seq, record_in, on, at, active, attaching, taken, torn}
+use Rattle.gs_journal.specs.Holder.{is_agent_on}
 use Rattle.gs_kernel.specs.declared.settings.Settings.{Settings}
+use Rattle.gs_kernel.specs.declared.thread_event.ThreadEvent.{ThreadEvent}
+use Rattle.gs_kernel.specs.declared.thread_event.ThreadEvent.TheVariants as happens
+use Rattle.gs_kernel.specs.First.{first_that}
+use Rattle.gs_threads.specs.Rows.{is_live}
+use Rattle.gs_kernel.specs.Threads.{is_runnable}
 
--- what a kernel is to its callers: its numbers, its history, and how many more entries may be appended without more memory
-pub record KernelState : Type 0 where
+-- what a kernel is to its callers: its numbers, its history, how many more entries may be appended without more memory, and the end of the
+-- ring that it posts to
+pub record KernelOf (P : Type 0) : Type 0 where
   pub settings : Settings
   pub history : List Entry
   pub room : ℕ
+  pub poster : P
 
--- the first refusal whose condition holds
-abbrev pub refused_first : List (Bool × Refusal) → Option Refusal
-refused_first [] = None
-refused_first (p ∷ ps) = if p.0 then Some p.1 else refused_first ps
+-- the kernels are the same, their rings aside
+pub record SameKernel {P : Type 0} (a b : KernelOf P) : Type 0 where
+  pub settings : b.settings ≡ a.settings
+  pub history : b.history ≡ a.history
+  pub room : b.room ≡ a.room
 
 -- a mask that names no CPU, or one past the last
 abbrev pub is_bad_mask : Settings → ℕ → Bool
@@ -34,12 +45,98 @@ is_full s h n = nat_le (s.history + 1) (length h + n)
 -- the refusals of a creation, in order
 unfoldable pub create_refusal : Settings → History → Facts → Option Refusal
 create_refusal s h f =
-    refused_first (
-    (is_bad_mask s f.mask, refusals.EmptyMask)
-    ∷ (nat_le 65536 (length (created h)), refusals.TidsSpent)
-    ∷ (is_full s h 1, refusals.HistoryFull)
+    first_that (
+    (torn h, Some refusals.Gone)
+    ∷ (is_bad_mask s f.mask, Some refusals.EmptyMask)
+    ∷ (nat_le 65536 (length (created h)), Some refusals.TidsSpent)
+    ∷ (is_full s h 1, Some refusals.HistoryFull)
     ∷ []
-    )
+    ) None
+
+-- the refusals of a tick of a CPU, in order
+unfoldable pub tick_refusal : Settings → History → ℕ → Option Refusal
+tick_refusal s h c = first_that ((torn h, Some refusals.Gone) ∷ (nat_le s.cpus c, Some refusals.BadCpu) ∷ (is_full s h 1, Some refusals.HistoryFull) ∷ []) None
+
+-- a thread lives
+abbrev pub lives : History → ℕ → Bool
+lives h t = is_live (record_in h t)
+
+-- a thread whose sequence number is the last one: no message about it can be numbered
+abbrev pub is_spent : Settings → History → ℕ → Bool
+is_spent s h t = nat_le 4294967295 (seq s.first_tseq h t)
+
+-- the refusal that one kind of event has of its own
+abbrev pub own_refusal : Settings → History → ℕ → ThreadEvent → Option Refusal
+own_refusal s h t happens.Block = if is_some (at s.cpus h t) then None else Some refusals.NotRunning
+own_refusal s h t happens.Wake = if is_runnable (record_in h t) then Some refusals.NotBlocked else None
+own_refusal s h t happens.Yield = if is_some (at s.cpus h t) then None else Some refusals.NotRunning
+own_refusal s h t happens.Die = None
+own_refusal s h t (happens.Affinity mask) = if is_bad_mask s mask then Some refusals.EmptyMask else None
+
+-- the first of two refusals, if either applies
+abbrev pub or_else : Option Refusal → Option Refusal → Option Refusal
+or_else (Some r) later = Some r
+or_else None later = later
+
+-- the refusals of what happens to a thread, in order
+unfoldable pub thread_refusal : Settings → History → ℕ → ThreadEvent → Option Refusal
+thread_refusal s h t e =
+    first_that ((torn h, Some refusals.Gone) ∷ (not (lives h t), Some refusals.NoThread) ∷ [])
+    (or_else (own_refusal s h t e) (first_that ((is_spent s h t, Some refusals.SeqSpent) ∷ (is_full s h 1, Some refusals.HistoryFull) ∷ []) None))
+
+-- whether a thread on this CPU, if any, has to leave it under a new mask
+abbrev pub must_leave : Option ℕ → ℕ → Bool
+must_leave None mask = false
+must_leave (Some c) mask = not (has mask c)
+
+-- what the message of an event says of a thread that is on this CPU, if any
+abbrev pub change_by : Option ℕ → ThreadEvent → Change
+change_by there happens.Block = Blocked (unwrap_or there 0)
+change_by there happens.Wake = Wakeup
+change_by there happens.Yield = Yield (unwrap_or there 0)
+change_by there happens.Die = Dead there
+change_by there (happens.Affinity mask) = Affinity there (must_leave there mask) mask
+
+-- the next message about a thread
+abbrev pub next_about : Settings → History → ℕ → Change → Message
+next_about s h t c = Thread t (seq s.first_tseq h t + 1) c
+
+-- the message of an event
+abbrev pub happening : Settings → History → ℕ → ThreadEvent → Message
+happening s h t e = next_about s h t (change_by (at s.cpus h t) e)
+
+-- whether the thread on a CPU, if there is one, can have no more messages
+abbrev pub is_spent_there : Settings → History → Option ℕ → Bool
+is_spent_there s h None = false
+is_spent_there s h (Some t) = is_spent s h t
+
+-- the refusals of the other class's taking a CPU, in order: there has to be room for the message of a thread there too
+unfoldable pub take_refusal : Settings → History → ℕ → Option Refusal
+take_refusal s h c =
+    first_that (
+    (torn h, Some refusals.Gone)
+    ∷ (nat_le s.cpus c, Some refusals.BadCpu)
+    ∷ (is_agent_on c (active h), Some refusals.AgentThere)
+    ∷ (taken h c, Some refusals.CpuTaken)
+    ∷ (is_spent_there s h (on h c), Some refusals.SeqSpent)
+    ∷ (is_full s h 2, Some refusals.HistoryFull)
+    ∷ []
+    ) None
+
+-- and of its giving a CPU back
+unfoldable pub give_refusal : Settings → History → ℕ → Option Refusal
+give_refusal s h c =
+    first_that (
+    (torn h, Some refusals.Gone)
+    ∷ (nat_le s.cpus c, Some refusals.BadCpu)
+    ∷ (not (taken h c), Some refusals.NotTaken)
+    ∷ (is_full s h 1, Some refusals.HistoryFull)
+    ∷ []
+    ) None
+
+-- the message to a thread on a CPU, if there is one, that it was taken off
+abbrev pub preemption : Settings → History → ℕ → Option Message
+preemption s h c = option_map (λ t. next_about s h t (Preempted c)) (on h c)
 
 -- the tid of the next thread: one more than the count of creations
 abbrev pub new_tid : History → ℕ
@@ -49,12 +146,27 @@ new_tid h = length (created h) + 1
 abbrev pub creation : ℕ → History → Facts → Message
 creation first h f = Thread (new_tid h) (first + 1) (Created f)
 
-abbrev pub after_creation : ℕ → History → Facts → History
-after_creation first h f = h ++ Posted (creation first h f) ∷ []
+-- the history after a message that fits, or that does not fit and tears the enclave down
+abbrev pub after_post : Bool → History → Message → History
+after_post fits h m = h ++ (if fits then Posted m else Torn) ∷ []
+
+-- the history after the thread on a CPU, if there is one, was told that it was taken off
+abbrev pub after_preemption : Bool → History → Option Message → History
+after_preemption fits h None = h
+after_preemption fits h (Some m) = after_post fits h m
+
+-- the history after the other class took a CPU: the thread there is told first, and where that message does not fit, nothing more happens
+abbrev pub after_take : Bool → History → Option Message → ℕ → History
+after_take fits h None c = h ++ Taken c ∷ []
+after_take true h (Some m) c = h ++ Posted m ∷ Taken c ∷ []
+after_take false h (Some m) c = h ++ Torn ∷ []
+
+abbrev pub after_give : History → ℕ → History
+after_give h c = h ++ Given c ∷ []
 
 -- an agent is active, or one attaches
-abbrev pub is_held : History → Bool
-is_held h = is_some (active h) || is_some (attaching h)
+abbrev pub has_agent : History → Bool
+has_agent h = is_some (active h) || is_some (attaching h)
 
 -- what an Err says: the first refusal whose condition holds, or want of memory where none holds
 abbrev pub IsRefusal : Option Refusal → Refusal → Type 0

@@ -1,43 +1,26 @@
 -- What a landing answers, and what it adds to the history.
-use Rattle.std.specs.Prelude.{Bool, true, false, not, ℕ, ◌==◌, nat_le, Option, None, Some, List, [], ◌∷◌, ◌++◌, length, if◌then◌else◌, is_some}
+use Rattle.std.specs.Prelude.{Bool, false, not, ℕ, ◌==◌, nat_le, Option, None, Some, [], ◌∷◌, ◌++◌, length, is_some}
 use Rattle.gs_layout.specs.declared.slot.Slot.{Slot}
 use Rattle.gs_layout.specs.declared.outcome.Outcome.{Outcome}
 use Rattle.gs_layout.specs.declared.outcome.Outcome.TheVariants as outcomes
-use Rattle.gs_layout.specs.declared.record.Record.{Record}
-use Rattle.gs_layout.specs.declared.record.Record.TheVariants.{Live}
 use Rattle.gs_journal.specs.declared.entry.Entry.TheVariants.{Placed}
-use Rattle.gs_journal.specs.Masks.{has}
 use Rattle.gs_journal.specs.History.{History, seq, record_in, on, at, active, taken, torn}
 use Rattle.gs_journal.specs.Holder.{is_agent_on}
 use Rattle.gs_kernel.specs.declared.settings.Settings.{Settings}
 use Rattle.gs_kernel.specs.declared.landing.Landing.{Landing}
-
--- the answer of the first test that holds
-abbrev pub first_that : {A : Type 0} → List (Bool × A) → A → A
-first_that [] otherwise = otherwise
-first_that (p ∷ ps) otherwise = if p.0 then p.1 else first_that ps otherwise
+use Rattle.gs_kernel.specs.First.{first_that}
+use Rattle.gs_threads.specs.Rows.{is_live}
+use Rattle.gs_kernel.specs.Threads.{is_runnable, may_run_on}
 
 abbrev pub is_generation : ℕ → Option (ℕ × ℕ) → Bool
 is_generation g None = false
 is_generation g (Some a) = a.0 == g
 
-abbrev pub is_live : Record → Bool
-is_live (Live f) = true
-is_live _ = false
-
-abbrev pub is_runnable : Record → Bool
-is_runnable (Live f) = f.runnable
-is_runnable _ = false
-
-abbrev pub may_run_on : ℕ → Record → Bool
-may_run_on c (Live f) = has f.mask c
-may_run_on c _ = false
-
--- whether a thread may be put on CPU k, where this agent is active: the first that applies
-abbrev pub cpu_verdict : Settings → History → Option (ℕ × ℕ) → ℕ → Outcome
-cpu_verdict s h agent k =
+-- whether a thread may be put on CPU k: the first that applies
+abbrev pub cpu_verdict : Settings → History → ℕ → Outcome
+cpu_verdict s h k =
     first_that (
-    (is_agent_on k agent, outcomes.CpuIsAgent)
+    (is_agent_on k (active h), outcomes.CpuIsAgent)
     ∷ (taken h k, outcomes.CpuTaken)
     ∷ (is_some (on h k), outcomes.CpuBusy)
     ∷ (nat_le s.history (length h), outcomes.HistoryFull)
@@ -57,7 +40,7 @@ verdict s h k b =
     ∷ (is_some (at s.cpus h b.tid), outcomes.AlreadyPlaced)
     ∷ (not (may_run_on k (record_in h b.tid)), outcomes.NotAllowed)
     ∷ []
-    ) (cpu_verdict s h (active h) k)
+    ) (cpu_verdict s h k)
 
 -- the history after a landing with this outcome: only a placing appends
 abbrev pub after_outcome : History → Outcome → ℕ → Slot → History

@@ -1,4 +1,6 @@
 pub mod Settings
+pub mod First
+pub mod Threads
 pub mod Landing
 pub mod Kernel
 pub mod Inside

@@ -2,10 +2,21 @@
 //! agent's transactions. It keeps a journal of all that happens.
 #![tactic(auto)]
 
+mod calls;
+mod happen;
+mod head;
 mod kernel;
+mod land;
 mod landing;
+mod other_class;
+mod preempt;
 mod settings;
+mod tear;
+mod thread_event;
+mod threads;
 
+pub use head::Head;
 pub use kernel::Kernel;
 pub use landing::Landing;
 pub use settings::Settings;
+pub use thread_event::ThreadEvent;

@@ -18,7 +18,7 @@ use Rattle.gs_layout.specs.Class.{class_number}
 use Rattle.gs_layout.specs.Kind.{number}
 use Rattle.gs_layout.specs.Message.{tseq_of}
 use Rattle.gs_layout.specs.Name.{is_name}
-use Rattle.gs_layout.specs.Spelling.{IsCpuOrNone, IsNumbered, IsSpellable, IsSpellableChange, cpu_number, cpu_of, cpu_of_change, flags_of, flags_of_change, kind_of, kind_of_change, padding, size_of, size_of_change, spelling, tid_of}
+use Rattle.gs_layout.specs.Spelling.{IsCpuOrNone, AreNumbers, IsSpellable, IsSpellableChange, cpu_number, cpu_of, cpu_of_change, flags_of, flags_of_change, kind_of, kind_of_change, padding, size_of, size_of_change, spelling, tid_of}
 use Rattle.gs_layout.specs.Reading.{Begins, change_with, class_numbered, cpu_in, cpu_numbered, facts_in, kind_in, kind_numbered, least, message_in, message_with, name_in, number_at}
 use Rattle.gs_layout.proofs.Spelled.{spelled_length}
 
@@ -54,7 +54,7 @@ facts_back t s f rest fits = λ i. record {
   name = name_back f.name rest i;
 }
 
-change_back : (t s : ℕ) (c : Change) (rest : List ℕ) → IsNumbered t s → IsSpellableChange c → message_in (spelling (Thread t s c) ++ rest) ≡ Thread t s c
+change_back : (t s : ℕ) (c : Change) (rest : List ℕ) → AreNumbers t s → IsSpellableChange c → message_in (spelling (Thread t s c) ++ rest) ≡ Thread t s c
 change_back t s (Created f) rest n fits = λ i. Thread (reads 4 t (omega (arith, n.tid_high)) i) (reads 4 s n.tseq_high i) (Created (facts_back t s f rest fits i))
 change_back t s (Blocked c) rest n fits = λ i. Thread (reads 4 t (omega (arith, n.tid_high)) i) (reads 4 s n.tseq_high i) (Blocked (reads 2 c (omega arith) i))
 change_back t s Wakeup rest n fits = λ i. Thread (reads 4 t (omega (arith, n.tid_high)) i) (reads 4 s n.tseq_high i) Wakeup

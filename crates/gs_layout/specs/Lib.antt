@@ -10,3 +10,4 @@ pub mod Reading
 pub mod ParcelHeld
 pub mod Record
 pub mod View
+pub mod Outcome

@@ -146,7 +146,7 @@ IsSpellableChange (Affinity None off m) = IsMask m × (off ≡ false)
 IsSpellableChange (Affinity (Some c) off m) = IsMask m × (c < 64)
 
 -- a thread's number, and the number of a message about it
-pub record IsNumbered (tid tseq : ℕ) : Type 0 where
+pub record AreNumbers (tid tseq : ℕ) : Type 0 where
   pub tid_low : 1 ≤ tid
   pub tid_high : tid ≤ 65536
   pub tseq_low : 1 ≤ tseq
@@ -154,5 +154,5 @@ pub record IsNumbered (tid tseq : ℕ) : Type 0 where
 
 -- what has a spelling: the ranges of the layout
 abbrev pub IsSpellable : Message → Type 0
-IsSpellable (Thread t s c) = IsNumbered t s × IsSpellableChange c
+IsSpellable (Thread t s c) = AreNumbers t s × IsSpellableChange c
 IsSpellable (TimerTick c) = c < 64

@@ -1,12 +1,10 @@
 //! A message as bytes.
 
 ghost use Rattle.std.specs.Prelude.{◌≡◌, ◌+◌, ◌≤◌, ◌++◌, length, drop};
-ghost use Rattle.gs_layout.specs.Message.{tseq_of};
 ghost use Rattle.gs_layout.specs.Header.{numbered};
-ghost use Rattle.gs_layout.specs.Spelling.{cpu_of, facts_bytes, flags_of, header_of, kind_of, more_of, name_bytes, round_up, size_of, spelling, tid_of};
+ghost use Rattle.gs_layout.specs.Spelling.{facts_bytes, flags_of, header_of, more_of, name_bytes, round_up, size_of, spelling};
 
 use crate::facts::Facts;
-use crate::kind::Kind;
 use crate::message::{Change, Message};
 use byteorder::{ByteOrder, LittleEndian};
 
@@ -36,56 +34,6 @@ pub fn creation_len(name_len: usize) -> usize
     ensures { result ≡ round_up (26 + name_len) }
 {
     (FACTS + name_len + 7) / 8 * 8
-}
-
-fn tid(message: &Message) -> u32
-    ensures { result ≡ tid_of message.now }
-{
-    match message {
-        Message::Thread { tid, .. } => *tid,
-        Message::TimerTick { .. } => 0,
-    }
-}
-
-fn tseq(message: &Message) -> u32
-    ensures { result ≡ tseq_of message.now }
-{
-    match message {
-        Message::Thread { tseq, .. } => *tseq,
-        Message::TimerTick { .. } => 0,
-    }
-}
-
-fn kind(message: &Message) -> Kind
-    ensures { result ≡ kind_of message.now }
-{
-    match message {
-        Message::TimerTick { .. } => Kind::TimerTick,
-        Message::Thread { change, .. } => match change {
-            Change::Created { .. } => Kind::Created,
-            Change::Blocked { .. } => Kind::Blocked,
-            Change::Wakeup => Kind::Wakeup,
-            Change::Preempted { .. } => Kind::Preempted,
-            Change::Yield { .. } => Kind::Yield,
-            Change::Dead { .. } => Kind::Dead,
-            Change::Affinity { .. } => Kind::Affinity,
-        },
-    }
-}
-
-fn cpu(message: &Message) -> Option<u16>
-    ensures { result ≡ cpu_of message.now }
-{
-    match message {
-        Message::TimerTick { cpu } => Some(*cpu),
-        Message::Thread { change, .. } => match change {
-            Change::Created { .. } | Change::Wakeup => None,
-            Change::Blocked { cpu } | Change::Preempted { cpu } | Change::Yield { cpu } => Some(
-                *cpu,
-            ),
-            Change::Dead { cpu } | Change::Affinity { cpu, .. } => *cpu,
-        },
-    }
 }
 
 fn flags(message: &Message) -> u16
@@ -133,10 +81,10 @@ fn header_of(message: &Message) -> Header
 {
     Header {
         len: size(message),
-        kind: kind(message).number(),
-        tid: tid(message),
-        tseq: tseq(message),
-        cpu: cpu(message).unwrap_or(NO_CPU),
+        kind: message.kind().number(),
+        tid: message.tid(),
+        tseq: message.tseq(),
+        cpu: message.cpu().unwrap_or(NO_CPU),
         flags: flags(message),
     }
 }

@@ -1,4 +1,9 @@
+ghost use Rattle.std.specs.Prelude.{◌≡◌};
+ghost use Rattle.gs_layout.specs.Message.{takes_off_cpu, tseq_of};
+ghost use Rattle.gs_layout.specs.Spelling.{cpu_of, kind_of, tid_of};
+
 use crate::facts::Facts;
+use crate::kind::Kind;
 
 /// What happened to a thread. `cpu` is the CPU that it was on just before.
 #[derive(Clone, Copy)]
@@ -27,6 +32,22 @@ pub enum Change {
     },
 }
 
+impl Change {
+    /// Whether it takes its thread off its CPU.
+    pub fn takes_off_cpu(&self) -> bool
+        ensures { result ≡ takes_off_cpu self.now }
+    {
+        match self {
+            Change::Blocked { .. }
+            | Change::Preempted { .. }
+            | Change::Yield { .. }
+            | Change::Dead { .. } => true,
+            Change::Affinity { off, .. } => *off,
+            Change::Created { .. } | Change::Wakeup => false,
+        }
+    }
+}
+
 /// What the kernel tells the agent, after the messages of the ghOSt paper (SOSP 2021).
 #[derive(Clone, Copy)]
 pub enum Message {
@@ -34,4 +55,60 @@ pub enum Message {
     Thread { tid: u32, tseq: u32, change: Change },
     /// A timer tick of a CPU. It is about no thread.
     TimerTick { cpu: u16 },
+}
+
+impl Message {
+    /// What kind of message it is.
+    pub fn kind(&self) -> Kind
+        ensures { result ≡ kind_of self.now }
+    {
+        match self {
+            Message::TimerTick { .. } => Kind::TimerTick,
+            Message::Thread { change, .. } => match change {
+                Change::Created { .. } => Kind::Created,
+                Change::Blocked { .. } => Kind::Blocked,
+                Change::Wakeup => Kind::Wakeup,
+                Change::Preempted { .. } => Kind::Preempted,
+                Change::Yield { .. } => Kind::Yield,
+                Change::Dead { .. } => Kind::Dead,
+                Change::Affinity { .. } => Kind::Affinity,
+            },
+        }
+    }
+
+    /// The thread that it is about, 0 for a tick.
+    pub fn tid(&self) -> u32
+        ensures { result ≡ tid_of self.now }
+    {
+        match self {
+            Message::Thread { tid, .. } => *tid,
+            Message::TimerTick { .. } => 0,
+        }
+    }
+
+    /// Its sequence number, 0 for a tick.
+    pub fn tseq(&self) -> u32
+        ensures { result ≡ tseq_of self.now }
+    {
+        match self {
+            Message::Thread { tseq, .. } => *tseq,
+            Message::TimerTick { .. } => 0,
+        }
+    }
+
+    /// The CPU that the thread was on just before, or the CPU of a tick.
+    pub fn cpu(&self) -> Option<u16>
+        ensures { result ≡ cpu_of self.now }
+    {
+        match self {
+            Message::TimerTick { cpu } => Some(*cpu),
+            Message::Thread { change, .. } => match change {
+                Change::Created { .. } | Change::Wakeup => None,
+                Change::Blocked { cpu } | Change::Preempted { cpu } | Change::Yield { cpu } => {
+                    Some(*cpu)
+                }
+                Change::Dead { cpu } | Change::Affinity { cpu, .. } => *cpu,
+            },
+        }
+    }
 }

@@ -1,5 +1,8 @@
+ghost use Rattle.std.specs.Prelude.{◌≡◌};
+
 /// What becomes of a transaction: the first that applies when it lands, `Malformed` before all, then
-/// the others in the order in which they stand here, and `Placed` where none applies.
+/// the others in the order in which they stand here, and `Placed` where none applies. The layout
+/// numbers them from 0 to 13, in this order.
 #[derive(Clone, Copy, PartialEq, Eq, Debug)]
 pub enum Outcome {
     /// The thread is on the CPU now.
@@ -30,4 +33,38 @@ pub enum Outcome {
     HistoryFull,
     /// The bytes are no slot of this CPU.
     Malformed,
+}
+
+impl Outcome {
+    ghost use Rattle.gs_layout.specs.Outcome.{number, outcome_numbered};
+
+    /// The outcome's number in the layout.
+    pub fn number(self) -> u16
+        ensures { result ≡ number self }
+    {
+        self as u16
+    }
+
+    /// The outcome of this number, or `None` where it is above 13.
+    pub fn numbered(number: u16) -> Option<Outcome>
+        ensures { result ≡ outcome_numbered number }
+    {
+        match number {
+            0 => Some(Outcome::Placed),
+            1 => Some(Outcome::Gone),
+            2 => Some(Outcome::Displaced),
+            3 => Some(Outcome::NoThread),
+            4 => Some(Outcome::Stale),
+            5 => Some(Outcome::NotRunnable),
+            6 => Some(Outcome::AlreadyPlaced),
+            7 => Some(Outcome::NotAllowed),
+            8 => Some(Outcome::CpuIsAgent),
+            9 => Some(Outcome::CpuTaken),
+            10 => Some(Outcome::CpuBusy),
+            11 => Some(Outcome::SeqSpent),
+            12 => Some(Outcome::HistoryFull),
+            13 => Some(Outcome::Malformed),
+            _ => None,
+        }
+    }
 }

@@ -20,7 +20,7 @@ use Rattle.gs_layout.specs.Class.{class_number}
 use Rattle.gs_layout.specs.Kind.{number}
 use Rattle.gs_layout.specs.Name.{is_name, is_name_byte}
 use Rattle.gs_layout.specs.Reading.{Begins, kind_numbered, message_in, name_in, number_at}
-use Rattle.gs_layout.specs.Spelling.{IsMask, IsNumbered, IsSpellable, IsSpellableChange, kind_of, kind_of_change, padding, round_up, size_of, size_of_change, spelling}
+use Rattle.gs_layout.specs.Spelling.{IsMask, AreNumbers, IsSpellable, IsSpellableChange, kind_of, kind_of_change, padding, round_up, size_of, size_of_change, spelling}
 use Rattle.gs_layout.proofs.Parcels.{spelled_begins}
 use Rattle.gs_layout.proofs.ReadBack.{begun_is, kind_begun}
 use Rattle.gs_layout.proofs.Spelled.{spelled_length}
@@ -42,12 +42,12 @@ reads_as bytes n o text front len kind same =
     ∙ (λ i. with_length (len i) (item_in (kind i) (take (len i) bytes)))
     ∙ ap (λ (t : List ℕ). with_length n (item_in o t)) same
 
-thread_numbers : (t s : ℕ) → IsNumbered t s → (nat_le 1 t && nat_le t 65536 && nat_le 1 s) ≡ true
+thread_numbers : (t s : ℕ) → AreNumbers t s → (nat_le 1 t && nat_le t 65536 && nat_le 1 s) ≡ true
 thread_numbers t s h =
     and_from (nat_le 1 t && nat_le t 65536) (nat_le 1 s) (and_from (nat_le 1 t) (nat_le t 65536) (le-leb 1 t h.tid_low) (le-leb t 65536 h.tid_high)) (le-leb 1 s h.tseq_low)
 
 -- the numbers of a thread's message, in its spelling
-numbers_again : (t s : ℕ) (c : Change) → IsNumbered t s
+numbers_again : (t s : ℕ) (c : Change) → AreNumbers t s
     → (nat_le 1 (number_at 4 4 (spelling (Thread t s c))) && nat_le (number_at 4 4 (spelling (Thread t s c))) 65536 && nat_le 1 (number_at 8 4 (spelling (Thread t s c)))) ≡ true
 numbers_again t s c h =
     let a : number_at 4 4 (spelling (Thread t s c)) ≡ t = reads 4 t (omega (arith, h.tid_high)) in
@@ -105,7 +105,7 @@ name_again t s f fits =
     let zeros : drop (26 + n) text ≡ padding n = sym (drop-drop n 26 text) ∙ drop_at f.name (padding n) n refl in
     and_from (is_name (name_in text)) (list_all (λ b. b == 0) (drop (26 + n) text)) (ap is_name name ∙ fits.1) (ap (list_all (λ b. b == 0)) zeros ∙ zeros_pass (round_up (26 + n) - (26 + n)))
 
-fit_change : (t s : ℕ) (c : Change) → IsNumbered t s → IsSpellableChange c → Fit (kind_of_change c) (spelling (Thread t s c))
+fit_change : (t s : ℕ) (c : Change) → AreNumbers t s → IsSpellableChange c → Fit (kind_of_change c) (spelling (Thread t s c))
 fit_change t s (Created f) h fits = record {
   numbers = numbers_again t s (Created f) h;
   cpu = refl;

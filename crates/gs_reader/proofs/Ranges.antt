@@ -9,7 +9,7 @@ use Rattle.gs_layout.specs.declared.kind.Kind.TheVariants as kinds
 use Rattle.gs_layout.specs.declared.message.Change.TheVariants.{Affinity}
 use Rattle.gs_layout.specs.Kind.{number}
 use Rattle.gs_layout.specs.Reading.{cpu_numbered, kind_numbered, number_at}
-use Rattle.gs_layout.specs.Spelling.{IsCpuOrNone, IsMask, IsNumbered, IsSpellableChange, cpu_number}
+use Rattle.gs_layout.specs.Spelling.{IsCpuOrNone, IsMask, AreNumbers, IsSpellableChange, cpu_number}
 use Rattle.gs_reader.specs.Reading.{cpu_fits, fields_fit, flags_fit, more_fits, numbers_fit}
 
 -- the four tests of a message
@@ -36,7 +36,7 @@ fit_from k text h =
     let f = flags_fit k (number_at 12 2 text) (number_at 14 2 text) in
     and_from (n && c && f) (more_fits k text) (and_from (n && c) f (and_from n c h.numbers h.cpu) h.flags) h.more
 
-pub numbered_from : (t s : ℕ) → (nat_le 1 t && nat_le t 65536 && nat_le 1 s) ≡ true → s < 2 ^ 32 → IsNumbered t s
+pub numbered_from : (t s : ℕ) → (nat_le 1 t && nat_le t 65536 && nat_le 1 s) ≡ true → s < 2 ^ 32 → AreNumbers t s
 numbered_from t s e high =
     let a = and_parts (nat_le 1 t && nat_le t 65536) (nat_le 1 s) e in
     let b = and_parts (nat_le 1 t) (nat_le t 65536) a.0 in

@@ -16,7 +16,7 @@ use Rattle.gs_layout.specs.Kind.{number}
 use Rattle.gs_layout.specs.Message.{tseq_of}
 use Rattle.gs_layout.specs.Name.{is_name}
 use Rattle.gs_layout.specs.Reading.{class_numbered, facts_in, message_in, message_with, name_in, number_at}
-use Rattle.gs_layout.specs.Spelling.{IsMask, IsNumbered, IsSpellable, cpu_number, cpu_of, facts_bytes, flags_of, header_bytes, kind_of, more_of, name_bytes, padding, round_up, size_of, spelling, tid_of}
+use Rattle.gs_layout.specs.Spelling.{IsMask, AreNumbers, IsSpellable, cpu_number, cpu_of, facts_bytes, flags_of, header_bytes, kind_of, more_of, name_bytes, padding, round_up, size_of, spelling, tid_of}
 use Rattle.gs_layout.proofs.NumberBytes.{IsBytes, IsBytes-drop, back_2, back_4, back_8}
 use Rattle.gs_reader.specs.Fault.{has_length, kind_number_in}
 use Rattle.gs_reader.specs.Reading.{IsWhole, fields_fit, name_fits, sizes_fit}
@@ -116,7 +116,7 @@ tseq_high : (text : List ℕ) → IsBytes text → number_at 8 4 text < 2 ^ 32
 tseq_high text fits = little_from-lt 0 4 (drop 8 text) (IsBytes-drop 8 text fits)
 
 numbers : (text : List ℕ) → IsBytes text → (nat_le 1 (number_at 4 4 text) && nat_le (number_at 4 4 text) 65536 && nat_le 1 (number_at 8 4 text)) ≡ true
-    → IsNumbered (number_at 4 4 text) (number_at 8 4 text)
+    → AreNumbers (number_at 4 4 text) (number_at 8 4 text)
 numbers text fits e = numbered_from (number_at 4 4 text) (number_at 8 4 text) e (tseq_high text fits)
 
 mask_is : (text : List ℕ) → IsBytes text → not (number_at 16 8 text == 0) ≡ true → IsMask (number_at 16 8 text)

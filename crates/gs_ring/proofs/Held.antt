@@ -6,6 +6,7 @@ use Rattle.std.proofs.lemmas.List.Elements.{All-head, All-nil, All-push, All-tai
 use Rattle.gs_layout.specs.declared.message.Message.{Message}
 use Rattle.gs_layout.specs.Spelling.{IsSpellable}
 use Rattle.gs_ring.specs.Block.{IsRing, block_with, messages_in, put_at, ring_of, seen}
+use Rattle.gs_ring.specs.Ends.{place_behind-grows}
 use Rattle.gs_ring.specs.Places.{bytes, is_capacity, need, pad_bytes, pad_len, place_behind, record_len, record_of}
 use Rattle.gs_ring.specs.RingState.{RingState, end, free, posts}
 use Rattle.gs_ring.proofs.Pads.{IsWide, length-pad_bytes, need_is, pad_fits, record_fits, wide}
@@ -40,15 +41,11 @@ pub waiting_is : (b : List ℕ) (r w n : ℕ) (ms : List Message) → IsWide (le
 waiting_is b r w n ms wide s count =
     ap (λ t. messages_in n t) s.holds ∙ ap (λ k. messages_in k (bytes (length b) r ms)) count ∙ messages_again (length b) r ms wide s.whole s.spellable
 
-pub grows : (c w : ℕ) (ms : List Message) → w ≤ place_behind c w ms
-grows c w [] = omega arith
-grows c w (m ∷ ms) = omega (arith, grows c (w + need c w (record_len m)) ms)
-
 pub ring_from : (b : List ℕ) (r w t p : ℕ) (ms : List Message) → is_capacity (length b) ≡ true → t ≤ p → p ≤ 2 ^ 24 → w ≤ 88 * p → Shows b r w ms → p - t ≡ length ms → IsRing b r w t p
 ring_from b r w t p ms size order few low s count =
     let e : ms ≡ waiting b r w (p - t) = sym (waiting_is b r w (p - t) ms (wide (length b) size) s count) in
     let f = subst (λ xs. Shows b r w xs) e s in
-    record { size = size; order = order; few = few; whole = s.whole; low = low; forward = omega (arith, s.behind, grows (length b) r ms); room = s.room; spellable = f.spellable; behind = f.behind; holds = f.holds }
+    record { size = size; order = order; few = few; whole = s.whole; low = low; forward = omega (arith, s.behind, place_behind-grows (length b) r ms); room = s.room; spellable = f.spellable; behind = f.behind; holds = f.holds }
 
 pub place_behind-push : (c w : ℕ) (ms : List Message) (m : Message) → place_behind c w (ms ++ m ∷ []) ≡ place_behind c w ms + need c (place_behind c w ms) (record_len m)
 place_behind-push c w [] m = refl
@@ -80,7 +77,7 @@ shows_more b r w ms m wide s fits room =
     let pos : 0 < c = omega (arith, wide.least) in
     let even : w % 8 ≡ 0 = subst (λ n. n % 8 ≡ 0) s.behind (place_whole c r ms wide s.whole s.spellable) in
     let z = sizes_of c w m wide even fits in
-    let order : r ≤ w = omega (arith, s.behind, grows c r ms) in
+    let order : r ≤ w = omega (arith, s.behind, place_behind-grows c r ms) in
     let pads : length (pad_bytes k) ≡ k = length-pad_bytes k z.whole in
     let b1 = put_at (w % c) (pad_bytes k) b in
     let fits1 : w % c + length (pad_bytes k) ≤ c = omega (arith, pads, pad_fits c w (record_len m) pos) in
@@ -121,7 +118,7 @@ shows_rest b r w m ms wide s =
     let z = sizes_of c r m wide s.whole (All-head IsSpellable m ms s.spellable) in
     let n = need c r (record_len m) in
     let front = pad_bytes (pad_len c r (record_len m)) ++ record_of m in
-    let order : r + n ≤ w = omega (arith, s.behind, grows c (r + n) ms) in
+    let order : r + n ≤ w = omega (arith, s.behind, place_behind-grows c (r + n) ms) in
     let count : w - r ≡ n + (w - (r + n)) = omega (arith, order) in
     let split : seen b r n ++ seen b (r + n) (w - (r + n)) ≡ front ++ bytes c (r + n) ms =
     sym (ap (λ k. seen b r k) count ∙ seen-split b r n (w - (r + n))) ∙ s.holds in

@@ -5,3 +5,4 @@ pub mod ReadAgain
 pub mod Rows
 pub mod Held
 pub mod Next
+pub mod Waits

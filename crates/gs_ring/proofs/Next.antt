@@ -14,11 +14,11 @@ use Rattle.gs_layout.specs.Reading.{number_at}
 use Rattle.gs_layout.specs.Spelling.{IsSpellable, size_of, size_of_change, spelling}
 use Rattle.gs_layout.proofs.Spelled.{spelled_length}
 use Rattle.gs_ring.specs.Block.{IsRing, Lies, behind_front, front_message, messages_in, record_index, ring_of, seen}
-use Rattle.gs_ring.specs.Ends.{Ahead, Passed, Passed-join, Passed-none, place_behind-append}
+use Rattle.gs_ring.specs.Ends.{Ahead, Passed, Passed-join, Passed-none, place_behind-append, place_behind-grows}
 use Rattle.gs_ring.specs.Places.{bytes, need, pad_bytes, pad_len, place_behind, record_len, record_of, rest}
 use Rattle.gs_ring.specs.RingState.{RingState, end}
 use Rattle.gs_ring.proofs.Around.{mod_round, mod_whole}
-use Rattle.gs_ring.proofs.Held.{Shows, grows, length-messages_in, length-seen, ring_from, shown, shows_rest, waiting, waiting_is}
+use Rattle.gs_ring.proofs.Held.{Shows, length-messages_in, length-seen, ring_from, shown, shows_rest, waiting, waiting_is}
 use Rattle.gs_ring.proofs.Pads.{IsWide, need_is, pad_bytes_none, pad_bytes_some, pad_cases, record_is, record_size, wide}
 use Rattle.gs_ring.proofs.ReadAgain.{message_kind, pad_kind, sizes_of}
 use Rattle.gs_ring.proofs.Written.{seen-row, seen-split}
@@ -186,8 +186,8 @@ need_some c w m = omega (arith, need_is c w (record_len m), ap length (record_is
 -- of two fronts of one list that end at the same place both are the same
 pub same_place : (c w : ℕ) (xs b ys d : List Message) → xs ++ b ≡ ys ++ d → place_behind c w xs ≡ place_behind c w ys → xs ≡ ys
 same_place c w [] b [] d e f = refl
-same_place c w [] b (y ∷ ys) d e f = absurd (omega (arith, f, grows c (w + need c w (record_len y)) ys, need_some c w y))
-same_place c w (x ∷ xs) b [] d e f = absurd (omega (arith, f, grows c (w + need c w (record_len x)) xs, need_some c w x))
+same_place c w [] b (y ∷ ys) d e f = absurd (omega (arith, f, place_behind-grows c (w + need c w (record_len y)) ys, need_some c w y))
+same_place c w (x ∷ xs) b [] d e f = absurd (omega (arith, f, place_behind-grows c (w + need c w (record_len x)) xs, need_some c w x))
 same_place c w (x ∷ xs) b (y ∷ ys) d e f =
     let p : x ≡ y = cc in
     let q : xs ++ b ≡ ys ++ d = cc in
@@ -197,7 +197,7 @@ same_place c w (x ∷ xs) b (y ∷ ys) d e f =
 -- what comes next ends before the ring's end
 pub within_end : (v : RingState) (ms : List Message) → Ahead v ms → place_behind v.capacity v.read ms ≤ end v
 within_end v ms h =
-    omega (arith, ap (place_behind v.capacity v.read) h.1, place_behind-append v.capacity v.read ms h.0, grows v.capacity (place_behind v.capacity v.read ms) h.0)
+    omega (arith, ap (place_behind v.capacity v.read) h.1, place_behind-append v.capacity v.read ms h.0, place_behind-grows v.capacity (place_behind v.capacity v.read ms) h.0)
 
 pub end_in : (b : List ℕ) (r w t p : ℕ) (v : RingState) → IsRing b r w t p → ring_of b r w t p ≡ v → end v ≡ w
 end_in b r w t p v h view = ap end (sym view) ∙ h.behind
@@ -227,12 +227,12 @@ take_one u v w place h lt pops =
     ap (λ n. place_behind n w.read s.1) p.capacity ∙ ap (λ n. place_behind v.capacity n s.1) p.read ∙ s.3 in (
       (h.0 ++ m ∷ [], Passed-join u v w h.0 (m ∷ []) h.1 p, (s.1, (h.2.1.0, left), next)),
       omega (arith, p.read, need_some v.capacity v.read m),
-      omega (arith, next, grows w.capacity w.read s.1),
+      omega (arith, next, place_behind-grows w.capacity w.read s.1),
     )
 
 pub all_taken : (u v : RingState) (place : ℕ) → IsTaking u v place → place ≤ v.read → (ms : List Message) → Ahead u ms → place_behind u.capacity u.read ms ≡ place → Passed u ms v
 all_taken u v place h past ms ahead at =
-    let low = grows v.capacity v.read h.2.0 in
+    let low = place_behind-grows v.capacity v.read h.2.0 in
     let there : v.read ≡ place = omega (arith, low, h.2.2, past) in
     let same : h.0 ≡ ms = same_place u.capacity u.read h.0 v.unread ms ahead.0 (sym h.1.unread ∙ ahead.1) (sym h.1.read ∙ there ∙ sym at) in
     subst (λ (xs : List Message). Passed u xs v) same h.1

@@ -1,8 +1,8 @@
 -- Messages are read back from their bytes in a ring.
-use Rattle.std.proofs.Common.{◌≡◌, Bool, true, false, cond, ℕ, ◌+◌, ◌%◌, ◌<◌, ◌≤◌, ◌⊎◌, inl, inr, ⊎_elim, List, [], ◌∷◌, ◌++◌, length, drop, refl, ap, ◌∙◌, append_assoc, arith, length-append}
+use Rattle.std.proofs.Common.{◌≡◌, Bool, true, false, cond, ℕ, ◌+◌, ◌%◌, ◌<◌, ◌≤◌, ◌⊎◌, inl, inr, ⊎_elim, List, [], ◌∷◌, ◌++◌, length, drop, refl, ap, sym, suc, ◌∙◌, append_assoc, arith, length-append}
 use Rattle.std.specs.Prelude.{All, ◌==◌}
 use Rattle.std.proofs.lemmas.Bool.{cases_lt}
-use Rattle.std.proofs.lemmas.List.{drop_at}
+use Rattle.std.proofs.lemmas.List.{append-nil, drop_at}
 use Rattle.std.proofs.lemmas.List.Elements.{All-head, All-tail}
 use Rattle.byteorder.specs.Endian.{little_bytes, little_number}
 use Rattle.byteorder.specs.Numbers.{little_number-reads_back}
@@ -93,15 +93,19 @@ sizes_of c w m wide even fits =
       count = omega (arith, both, length-append (pad_bytes k) (record_of m), length-pad_bytes k whole);
     }
 
--- messages are read again from the bytes that they make
-pub messages_again : (c w : ℕ) (ms : List Message) → IsWide c → w % 8 ≡ 0 → All IsSpellable ms → messages_in (length ms) (bytes c w ms) ≡ ms
-messages_again c w [] wide even fits = refl
-messages_again c w (m ∷ ms) wide even fits =
+-- messages are read again from the bytes that they make, whatever comes behind them
+pub messages_before : (c w : ℕ) (ms : List Message) (more : List ℕ) → IsWide c → w % 8 ≡ 0 → All IsSpellable ms → messages_in (length ms) (bytes c w ms ++ more) ≡ ms
+messages_before c w [] more wide even fits = refl
+messages_before c w (m ∷ ms) more wide even fits =
     let here = All-head IsSpellable m ms fits in
     let s = sizes_of c w m wide even here in
-    let more = bytes c (w + need c w (record_len m)) ms in
     let k = pad_len c w (record_len m) in
+    let rest = bytes c (w + need c w (record_len m)) ms in
     let lt : k < 65536 = omega (arith, s.small, s.record_.most) in
-    ap (λ x. x ∷ messages_in (length ms) (behind_front ((pad_bytes k ++ record_of m) ++ more))) (front_is k m more s.whole lt here)
-    ∙ ap (λ t. m ∷ messages_in (length ms) t) (rest_is k m more s.whole lt here)
-    ∙ ap (λ t. m ∷ t) (messages_again c (w + need c w (record_len m)) ms wide s.next (All-tail IsSpellable m ms fits))
+    ap (λ t. messages_in (suc (length ms)) t) (append_assoc (pad_bytes k ++ record_of m) rest more)
+    ∙ ap (λ x. x ∷ messages_in (length ms) (behind_front ((pad_bytes k ++ record_of m) ++ (rest ++ more)))) (front_is k m (rest ++ more) s.whole lt here)
+    ∙ ap (λ t. m ∷ messages_in (length ms) t) (rest_is k m (rest ++ more) s.whole lt here)
+    ∙ ap (λ t. m ∷ t) (messages_before c (w + need c w (record_len m)) ms more wide s.next (All-tail IsSpellable m ms fits))
+
+pub messages_again : (c w : ℕ) (ms : List Message) → IsWide c → w % 8 ≡ 0 → All IsSpellable ms → messages_in (length ms) (bytes c w ms) ≡ ms
+messages_again c w ms wide even fits = ap (λ t. messages_in (length ms) t) (sym (append-nil (bytes c w ms))) ∙ messages_before c w ms [] wide even fits

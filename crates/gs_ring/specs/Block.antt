@@ -69,3 +69,13 @@ ring_of block read written taken posts = record {
   read = read;
   unread = messages_in (posts - taken) (seen block read (written - read));
 }
+
+-- so many messages wait in the block of a ring from a place on, and are the last that wait there
+pub record IsRest (block : List ℕ) (read left : ℕ) : Type 0 where
+  pub written : ℕ
+  pub taken : ℕ
+  pub ring : IsRing block read written taken (taken + left)
+
+-- the messages that are read in the block from a place on, so many: they lie within one lap
+abbrev pub messages_from : List ℕ → ℕ → ℕ → List Message
+messages_from block place n = messages_in n (seen block place (length block))

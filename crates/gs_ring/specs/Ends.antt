@@ -1,17 +1,18 @@
 -- What was posted to a ring, and what passes from it.
-use Rattle.std.proofs.Common.{◌≡◌, ◌⊎◌, inl, inr, ⊎_elim, ℕ, ◌+◌, List, [], ◌∷◌, ◌++◌, length, take, drop, refl, ap, sym, ◌∙◌, append_assoc, arith, length-append}
-use Rattle.std.proofs.lemmas.List.{drop_at, take_at}
+use Rattle.std.proofs.Common.{◌≡◌, ◌⊎◌, inl, inr, ⊎_elim, ℕ, ◌+◌, ◌≤◌, List, [], ◌∷◌, ◌++◌, length, take, drop, refl, ap, sym, subst, ◌∙◌, append_assoc, arith, length-append}
+use Rattle.std.proofs.lemmas.List.{drop_at, take_at, take-append-le}
 use Rattle.gs_layout.specs.declared.message.Message.{Message}
 use Rattle.gs_ring.specs.Places.{free_after, need, place_behind, record_len, written}
-use Rattle.gs_ring.specs.RingState.{RingState, end, free, need_of, posts}
+use Rattle.gs_ring.specs.RingState.{RingState, empty, end, free, need_of, posts}
 use Rattle.gs_ring.specs.Splits.{two_splits}
 
--- these were posted so far: the first of them were consumed, and the others wait
+-- these were posted so far: the first of them were consumed, and the others wait and have room
 pub record Posted (r : RingState) (xs : List Message) : Type 0 where
   pub consumed : List Message
   pub all : xs ≡ consumed ++ r.unread
   pub count : length consumed ≡ r.taken
   pub place : written r.capacity consumed ≡ r.read
+  pub room : end r ≤ r.read + r.capacity
 
 abbrev pub SameRing : RingState → RingState → Type 0
 SameRing a b = b.capacity ≡ a.capacity
@@ -35,6 +36,11 @@ pub place_behind-append : (c w : ℕ) (xs ys : List Message) → place_behind c 
 place_behind-append c w [] ys = refl
 place_behind-append c w (x ∷ xs) ys = place_behind-append c (w + need c w (record_len x)) xs ys
 
+-- a place behind messages is no lower
+pub place_behind-grows : (c w : ℕ) (xs : List Message) → w ≤ place_behind c w xs
+place_behind-grows c w [] = omega arith
+place_behind-grows c w (x ∷ xs) = let i = place_behind-grows c (w + need c w (record_len x)) xs in omega (arith, i)
+
 pub Posted-counted : (r : RingState) (xs : List Message) → Posted r xs → posts r ≡ length xs
 Posted-counted r xs h = omega (arith, ap length h.all, length-append h.consumed r.unread, h.count)
 
@@ -55,6 +61,19 @@ Passed-join a b c xs ys p q = record {
 pub Passed-agrees : (a b : RingState) (xs ys : List Message) → Passed a xs b → Ahead a ys → ((more : List Message) × (xs ++ more ≡ ys) × Ahead b more) ⊎ ((more : List Message) × (xs ≡ ys ++ more))
 Passed-agrees a b xs ys p h = ⊎_elim (λ s. inl (s.0, s.1, (h.0, s.2))) inr (two_splits xs b.unread ys h.0 (sym p.unread ∙ h.1))
 
+-- a message that has room is posted behind them
+pub Posted-posts : (r r' : RingState) (xs : List Message) (m : Message) → r' ≡ record r { unread = r.unread ++ m ∷ [] } → need_of r m ≤ free r → Posted r xs → Posted r' (xs ++ m ∷ [])
+Posted-posts r r' xs m is fits h =
+    let q : RingState = record r { unread = r.unread ++ m ∷ [] } in
+    let last : end q ≡ end r + need_of r m = place_behind-append r.capacity r.read r.unread (m ∷ []) in
+    subst (λ (x : RingState). Posted x (xs ++ m ∷ [])) (sym is) (record {
+      consumed = h.consumed;
+      all = ap (λ l. l ++ m ∷ []) h.all ∙ append_assoc h.consumed r.unread (m ∷ []);
+      count = h.count;
+      place = h.place;
+      room = omega (arith, last, fits, h.room, place_behind-grows r.capacity r.read r.unread);
+    })
+
 pub Posted-keeps : (a b : RingState) (xs ms : List Message) → Posted a xs → Passed a ms b → Posted b xs
 Posted-keeps a b xs ms h p = record {
   consumed = h.consumed ++ ms;
@@ -64,17 +83,30 @@ Posted-keeps a b xs ms h p = record {
       ∙ place_behind-append a.capacity 0 h.consumed ms
       ∙ ap (λ n. place_behind a.capacity n ms) h.place
       ∙ sym p.read;
+  room =
+      let same : end b ≡ end a = ap (λ n. place_behind n b.read b.unread) p.capacity
+      ∙ ap (λ w. place_behind a.capacity w b.unread) p.read
+      ∙ sym (place_behind-append a.capacity a.read ms b.unread)
+      ∙ ap (place_behind a.capacity a.read) (sym p.unread) in
+      omega (arith, same, h.room, p.capacity, p.read, place_behind-grows a.capacity a.read ms);
 }
 
 pub Passed-same : (a b : RingState) (ms : List Message) → Passed a ms b → SameRing a b
 Passed-same a b ms p = p.capacity
 
+-- behind what was consumed come those that wait
+pub Posted-unread : (r : RingState) (xs : List Message) → Posted r xs → drop r.taken xs ≡ r.unread
+Posted-unread r xs h = ap (λ l. drop r.taken l) h.all ∙ drop_at h.consumed r.unread r.taken h.count
+
 pub Posted-passes : (a b : RingState) (xs ms : List Message) → Posted a xs → Passed a ms b → (b.taken ≡ a.taken + length ms) × (ms ≡ take (length ms) (drop a.taken xs))
 Posted-passes a b xs ms h p = (
   p.taken,
-  sym (take_at ms b.unread (length ms) refl)
-      ∙ ap (λ l. take (length ms) l) (sym p.unread ∙ sym (drop_at h.consumed a.unread a.taken h.count) ∙ ap (λ l. drop a.taken l) (sym h.all)),
+  sym (take_at ms b.unread (length ms) refl) ∙ ap (λ l. take (length ms) l) (sym p.unread ∙ sym (Posted-unread a xs h)),
 )
+
+-- a new ring
+pub Posted-empty : (capacity : ℕ) → Posted (empty capacity) []
+Posted-empty capacity = record { consumed = []; all = refl; count = refl; place = refl; room = omega arith }
 
 pub Posted-ends : (r : RingState) (xs : List Message) → Posted r xs → IsEmpty r → r.taken ≡ length xs
 Posted-ends r xs h e = omega (arith, Posted-counted r xs h, ap length e)
@@ -94,3 +126,17 @@ Posted-free r xs h = omega (arith, Posted-end r xs h, Posted-read r xs h)
 -- and a message takes up as many as it does behind what was posted
 pub Posted-need : (r : RingState) (xs : List Message) (m : Message) → Posted r xs → need_of r m ≡ need r.capacity (written r.capacity xs) (record_len m)
 Posted-need r xs m h = ap (λ n. need r.capacity n (record_len m)) (Posted-end r xs h)
+
+-- where a message was posted behind others, nothing taken, it had room
+pub Posted-fits : (r r' : RingState) (xs : List Message) (m : Message) → SameRing r r' → r'.taken ≡ r.taken → Posted r xs → Posted r' (xs ++ m ∷ [])
+    → need r.capacity (written r.capacity xs) (record_len m) ≤ free_after r.capacity xs r.taken
+Posted-fits r r' xs m ring taken h h' =
+    let few : r.taken ≤ length xs = omega (arith, ap length h.all, length-append h.consumed r.unread, h.count) in
+    let read : r'.read ≡ written r.capacity (take r.taken xs) = Posted-read r' (xs ++ m ∷ []) h'
+    ∙ ap (λ c. written c (take r'.taken (xs ++ m ∷ []))) ring
+    ∙ ap (λ n. written r.capacity (take n (xs ++ m ∷ []))) taken
+    ∙ ap (written r.capacity) (take-append-le r.taken xs (m ∷ []) few) in
+    let last : end r' ≡ written r.capacity xs + need r.capacity (written r.capacity xs) (record_len m) = Posted-end r' (xs ++ m ∷ []) h'
+    ∙ ap (λ c. written c (xs ++ m ∷ [])) ring
+    ∙ place_behind-append r.capacity 0 xs (m ∷ []) in
+    omega (arith, read, last, h'.room, ring, Posted-read r xs h, Posted-end r xs h, place_behind-grows r.capacity r.read r.unread)

@@ -5,7 +5,7 @@ ghost use Rattle.gs_layout.specs.declared.message.Message.{Message};
 ghost use Rattle.gs_layout.specs.Pad.{pad};
 ghost use Rattle.gs_ring.specs.Block.{Lies, block_with, put_at, record_index};
 ghost use Rattle.gs_ring.specs.Peek.{message_of};
-ghost use Rattle.gs_ring.specs.Places.{is_capacity, pad_bytes, pad_len, record_len, record_of};
+ghost use Rattle.gs_ring.specs.Places.{is_capacity, need, pad_bytes, pad_len, record_len, record_of};
 
 use crate::peeked::Peeked;
 use byteorder::{ByteOrder, LittleEndian};
@@ -115,13 +115,13 @@ pub(crate) fn message_at(block: &[u8], place: u64) -> Peeked<'_>
     Peeked::new(&block[start..start + len])
 }
 
-/// How many bytes the message has that is read at a place.
-pub(crate) fn len_at(block: &[u8], place: u64) -> usize
+/// How many bytes the message takes up that is read at a place, with its PAD.
+pub(crate) fn span_at(block: &[u8], place: u64) -> usize
     requires { (m : Message) × Lies block.now place m }
-    ensures value { (m : Message) → Lies block.now place m → result ≡ record_len m }
-    ensures most { result < 65536 }
+    ensures { (m : Message) → Lies block.now place m → result ≡ need (length block.now) place (record_len m) }
 {
-    u16_at(block, record_index(block, place)) as usize
+    let len = u16_at(block, record_index(block, place)) as usize;
+    pad_len(place, block.len(), len) + len
 }
 
 /// Whether a ring may have so many bytes.

@@ -8,11 +8,11 @@ mod fault;
 mod peeked;
 mod ring;
 #[cfg(test)]
-mod slots;
-#[cfg(test)]
 mod tests;
+mod waiting;
 
 pub use ends::{Poster, Ring, Taker};
 pub use fault::{Full, RingFault};
 pub use peeked::Peeked;
 pub use ring::ByteRing;
+pub use waiting::Waiting;

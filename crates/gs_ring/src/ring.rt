@@ -10,6 +10,7 @@ use crate::block;
 use crate::ends::{Poster, Ring, Taker};
 use crate::fault::{Full, RingFault};
 use crate::peeked::Peeked;
+use crate::waiting::Waiting;
 use gs_layout::Message;
 use std::alloc::Global;
 use std::marker::Model;
@@ -53,7 +54,7 @@ impl ByteRing {
         ensures made { IfOk result (λ r. r ≡ empty capacity) }
         ensures bad { IsErrOf result RingFault.BadCapacity ↔ (is_capacity capacity ≡ false) }
     {
-        if !block::is_capacity(capacity) {
+        if !ByteRing::is_capacity(capacity) {
             return Err(RingFault::BadCapacity);
         }
         let Ok(block) = vec![in alloc; 0; capacity] else {
@@ -66,6 +67,13 @@ impl ByteRing {
             taken: 0,
             posts: 0,
         })
+    }
+
+    /// Whether a ring may have so many bytes: a multiple of 8 from 128 to 1,048,576.
+    pub fn is_capacity(capacity: usize) -> bool
+        ensures { result ≡ is_capacity capacity }
+    {
+        block::is_capacity(capacity)
     }
 
     /// How many bytes the block has.
@@ -126,14 +134,20 @@ impl ByteRing {
         Some(block::message_at(self.block.as_slice(), self.read))
     }
 
+    /// The messages that wait, in order, each where it lies in the block. None is taken.
+    pub fn waiting(&self) -> Waiting<'_>
+        ensures { result ≡ self.now.unread }
+    {
+        let left = (self.posts - self.taken) as usize;
+        Waiting::new(self.block.as_slice(), self.read, left)
+    }
+
     /// Takes the message that waits first.
     pub(crate) fn pop(&mut self)
         requires { 0 < length self.old.unread }
         ensures { (m : Message) → Ahead self.old (m ∷ []) → Passed self.old (m ∷ []) self.new }
     {
-        let len = block::len_at(self.block.as_slice(), self.read);
-        let pad = block::pad_len(self.read, self.block.len(), len);
-        self.read += (pad + len) as u64;
+        self.read += block::span_at(self.block.as_slice(), self.read) as u64;
         self.taken += 1;
     }
 

@@ -1,11 +1,11 @@
-ghost use Rattle.std.specs.Prelude.{◌≡◌, ◌+◌, ◌^◌, ◌<◌, ◌≤◌, List, [], ◌∷◌, length, IfSome};
+ghost use Rattle.std.specs.Prelude.{◌≡◌, ◌+◌, ◌<◌, ◌≤◌, List, ◌∷◌, length, IfOk, IfSome};
 ghost use Rattle.gs_layout.specs.declared.message.Message.{Message};
 ghost use Rattle.gs_layout.specs.Spelling.{IsSpellable};
 ghost use Rattle.gs_ring.specs.RingState.{posts};
 
-use crate::slots::Slots;
 use crate::*;
 use gs_layout::{Change, Class, Facts, Message, Name};
+use std::alloc::{AllocError, Global};
 use std::test::Fail;
 
 /// Takes at most so many messages from whatever ring, and says how many.
@@ -23,19 +23,6 @@ fn take_some<T: Taker>(taker: &mut T, max: usize) -> usize
         count += 1;
     }
     count
-}
-
-/// A message about a thread, with this number.
-fn woken(tid: u32, tseq: u32) -> Message
-    requires tid { (1 ≤ tid) × (tid ≤ 65536) }
-    requires tseq { 1 ≤ tseq }
-    ensures { IsSpellable result }
-{
-    Message::Thread {
-        tid,
-        tseq,
-        change: Change::Wakeup,
-    }
 }
 
 /// The creation of a thread with a name of 16 bytes, which has 48.
@@ -149,14 +136,59 @@ fn fills_to_the_last_byte(rt: HostRuntime) -> Result<(), Fail> {
     Ok(())
 }
 
-/// The same calls over the second ring.
+/// The messages that wait in a ring, each with a name of its own.
+fn all_of(alloc: Global, ring: &ByteRing) -> Result<Vec<Message>, AllocError>
+    ensures { IfOk result (λ v. v.items ≡ ring.now.unread) }
+{
+    let waiting = ring.waiting();
+    let count = waiting.len();
+    let mut all = Vec::with_capacity(alloc, count)?;
+    for message in waiting {
+        all.push_reserved(message.message());
+    }
+    prove!(all.as_slice().len() == count);
+    Ok(all)
+}
+
+/// Whether it is the creation that `created` makes of this thread.
+fn is_created(message: &Message, tid: u32) -> bool {
+    let Message::Thread {
+        tid: of,
+        tseq: 1,
+        change: Change::Created { facts },
+    } = message
+    else {
+        return false;
+    };
+    *of == tid
+        && facts.runnable
+        && facts.mask == 3
+        && facts.class == Class::Zero
+        && facts.name.as_bytes() == b"abcdefghijklmnop".as_slice()
+}
+
+/// The second creation lies before the end of the block, and the third behind a PAD, at its start.
 #[test]
-fn serves_two_rings(rt: HostRuntime) -> Result<(), Fail> {
-    let mut slots = Slots::new(rt.alloc(), 2)?;
-    assert!(rt; slots.post(&woken(1, 2)).is_ok());
-    assert_eq!(rt; take_some(&mut slots, 9), 1);
-    assert!(rt; slots.post(&woken(1, 3)).is_ok());
-    assert!(rt; slots.post(&woken(1, 4)).is_err());
-    assert_eq!(rt; take_some(&mut slots, 9), 1);
+fn shows_what_waits(rt: HostRuntime) -> Result<(), Fail> {
+    let mut ring = ByteRing::new(rt.alloc(), 128).ok().ok_or("a ring")?;
+    assert!(rt; all_of(rt.alloc(), &ring)?.is_empty());
+    assert!(rt; ring.post(&created(1).ok_or("a message")?).is_ok());
+    assert!(rt; ring.post(&created(2).ok_or("a message")?).is_ok());
+    assert_eq!(rt; take_some(&mut ring, 1), 1);
+    assert!(rt; ring.post(&created(3).ok_or("a message")?).is_ok());
+    let all = all_of(rt.alloc(), &ring)?;
+    assert_eq!(rt; all.len(), 2);
+    assert!(rt; is_created(&all[0], 2));
+    assert!(rt; is_created(&all[1], 3));
+    let mut waiting = ring.waiting();
+    assert_eq!(rt; waiting.next().ok_or("a message")?.tid(), 2);
+    assert_eq!(rt; waiting.len(), 1);
+    let third = waiting.next().ok_or("a message")?;
+    assert_eq!(rt; third.as_bytes(), THIRD.as_slice());
+    assert!(rt; waiting.next().is_none());
+    // None was taken.
+    assert_eq!(rt; ring.free(), 0);
+    assert_eq!(rt; take_some(&mut ring, 9), 2);
+    assert!(rt; ring.waiting().next().is_none());
     Ok(())
 }

@@ -1,6 +1,7 @@
--- Worked rows: words of threads in each state.
-use Rattle.std.proofs.Common.{◌≡◌, refl, true, false, None, Some}
+-- Worked rows: words of threads in each state, and what is in a mask.
+use Rattle.std.proofs.Common.{◌≡◌, ◌^◌, refl, true, false, None, Some}
 use Rattle.gs_status.specs.Status.{spelling}
+use Rattle.gs_status.specs.Masks.{has, has_past, has_none}
 
 running : spelling (record { tseq = 1; cpu = Some 1; runnable = true; alive = true }) ≡ 0x0000070100000001
 running = refl
@@ -20,3 +21,34 @@ on_the_first = refl
 
 on_the_last : spelling (record { tseq = 3; cpu = Some 63; runnable = true; alive = true }) ≡ 0x0000073f00000003
 on_the_last = refl
+
+-- the set of CPUs 0 and 2
+has_lowest : has 5 0 ≡ true
+has_lowest = refl
+
+has_not : has 5 1 ≡ false
+has_not = refl
+
+has_upper : has 5 2 ≡ true
+has_upper = refl
+
+has_highest : has (2 ^ 63) 63 ≡ true
+has_highest = refl
+
+has_beyond : has (2 ^ 63) 64 ≡ false
+has_beyond = refl
+
+past_two : has_past 4 2 ≡ true
+past_two = refl
+
+below_two : has_past 3 2 ≡ false
+below_two = refl
+
+below_all : has_past (2 ^ 63) 64 ≡ false
+below_all = refl
+
+has_nobody : has_none 0 ≡ true
+has_nobody = refl
+
+has_somebody : has_none (2 ^ 63) ≡ false
+has_somebody = refl

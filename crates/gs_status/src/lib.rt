@@ -1,8 +1,10 @@
-//! Status words: what the kernel shows of one thread, in 64 bits.
+//! Masks and status words: a set of CPUs, and what the kernel shows of one thread, each in 64 bits.
 #![tactic(auto)]
 
+mod mask;
 mod status;
 #[cfg(test)]
 mod tests;
 
+pub use mask::Mask;
 pub use status::StatusWord;

@@ -1,4 +1,4 @@
-use crate::StatusWord;
+use crate::{Mask, StatusWord};
 use std::test::Fail;
 
 /// Words of a thread that runs, one that waits, and one that is dead, with what they show.
@@ -88,5 +88,50 @@ fn no_word(rt: HostRuntime) {
         0,
     ] {
         assert_eq!(rt; StatusWord::unpack(word), None, "{word:x}");
+    }
+}
+
+#[test]
+fn sets_of_cpus(rt: HostRuntime) {
+    let five = Mask::new(5);
+    assert_eq!(rt; five.bits(), 5);
+    assert!(rt; !five.is_empty());
+    assert!(rt; Mask::new(0).is_empty());
+    for (cpu, is_in) in [(0, true), (1, false), (2, true), (64, false)] {
+        assert_eq!(rt; five.has(cpu), is_in, "CPU {cpu}");
+    }
+    assert!(rt; five.has_past(2));
+    assert!(rt; !five.has_past(3));
+    assert!(rt; !five.has_past(64));
+    let highest = Mask::new(1 << 63);
+    assert!(rt; highest.has(63));
+    assert!(rt; highest.has_past(63));
+    assert!(rt; !highest.has_past(64));
+}
+
+#[test]
+fn sets_grow_and_shrink(rt: HostRuntime) {
+    assert_eq!(rt; Mask::none().bits(), 0);
+    assert_eq!(rt; Mask::none().with(2).with(0).bits(), 5);
+    assert_eq!(rt; Mask::none().with(63).bits(), 1 << 63);
+    for (bits, cpu, with, without) in [
+        (5, 0, 5, 4),
+        (5, 1, 7, 5),
+        (5, 2, 5, 1),
+        (5, 63, 0x8000_0000_0000_0005, 5),
+        (u64::MAX, 63, u64::MAX, 0x7fff_ffff_ffff_ffff),
+        (u64::MAX, 0, u64::MAX, 0xffff_ffff_ffff_fffe),
+        (0, 31, 0x8000_0000, 0),
+    ] {
+        assert_eq!(rt;
+            Mask::new(bits).with(cpu).bits(),
+            with,
+            "{bits:x} with CPU {cpu}"
+        );
+        assert_eq!(rt;
+            Mask::new(bits).without(cpu).bits(),
+            without,
+            "{bits:x} without CPU {cpu}"
+        );
     }
 }

@@ -2,6 +2,8 @@
 use Rattle.std.proofs.Common.{◌≡◌, refl, ap, sym, ◌∙◌, subst, ℕ, ◌==◌, Bool, true, false, ◌⊎◌, inl, inr, ◌↔◌, cond, Option, None, Some, List, [], ◌∷◌, ◌++◌, length, IsSome}
 use Rattle.std.specs.Option.{option_map, option_map_or}
 use Rattle.gs_layout.specs.declared.record.Record.TheVariants.{Absent}
+use Rattle.std.specs.List.{filter}
+use Rattle.gs_layout.specs.Message.{is_about, is_creation}
 use Rattle.gs_journal.specs.declared.entry.Entry.{Entry}
 use Rattle.gs_journal.specs.declared.entry.Entry.TheVariants.{Posted, Placed, Role, Begin, Left, Taken, Given, Torn}
 use Rattle.gs_journal.specs.Standing.{then_stands}
@@ -174,6 +176,6 @@ on_quiet h e d quiet = on-push h e d ∙ quiet_on e d (on h d) quiet
 
 pub mirrors_quiet : (first : ℕ) (h : History) (rows : List ThreadRow) (e : Entry) → Mirrors first h rows → is_quiet e ≡ true → Mirrors first (h ++ e ∷ []) rows
 mirrors_quiet first h rows e was quiet =
-    same_facts first h (h ++ e ∷ []) rows rows was (same_rows rows) (λ u. same_messages h e u (posts_nothing e quiet)) (same_created h e (posts_nothing e quiet)) (λ u d.
+    same_facts first h (h ++ e ∷ []) rows rows was (same_rows rows) (λ u. same_messages h e u (ap (filter (is_about u)) (posts_nothing e quiet))) (same_created h e (ap (filter is_creation) (posts_nothing e quiet))) (λ u d.
     let k = on_quiet h e d quiet in
     (λ x. k ∙ (was.same_place u d).0 x, λ x. (was.same_place u d).1 (sym k ∙ x)))

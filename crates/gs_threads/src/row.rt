@@ -1,8 +1,7 @@
 ghost use Rattle.std.specs.Prelude.{◌≡◌, ◌<◌};
-ghost use Rattle.gs_layout.specs.Message.{takes_off_cpu};
 ghost use Rattle.gs_threads.specs.Rows.{is_live, new_row, row_after};
 
-use gs_layout::{Change, Facts, Message, Record};
+use gs_layout::{Facts, Message, Record};
 
 /// What the kernel has of one thread.
 #[derive(Clone, Copy)]
@@ -13,20 +12,6 @@ pub struct ThreadRow {
     pub tseq: u32,
     /// The CPU that the thread is on.
     pub cpu: Option<u16>,
-}
-
-/// Whether a change takes its thread off its CPU.
-fn takes_off_cpu(change: &Change) -> bool
-    ensures { result ≡ takes_off_cpu change.now }
-{
-    match change {
-        Change::Blocked { .. }
-        | Change::Preempted { .. }
-        | Change::Yield { .. }
-        | Change::Dead { .. } => true,
-        Change::Affinity { off, .. } => *off,
-        Change::Created { .. } | Change::Wakeup => false,
-    }
 }
 
 impl ThreadRow {
@@ -51,7 +36,7 @@ impl ThreadRow {
             Message::Thread { tseq, change, .. } => ThreadRow {
                 record: self.record.after(message),
                 tseq: *tseq,
-                cpu: if takes_off_cpu(change) {
+                cpu: if change.takes_off_cpu() {
                     None
                 } else {
                     self.cpu

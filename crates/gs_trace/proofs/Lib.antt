@@ -12,3 +12,6 @@ pub mod Worked
 pub mod Known
 pub mod Given
 pub mod WorkedLines
+pub mod Corners
+pub mod One
+pub mod WorkedRuns

@@ -1,12 +1,14 @@
 -- What `parse` gives at a word is the number that the word writes.
-use Rattle.std.proofs.Common.{◌≡◌, ◌≢◌, ℕ, ◌^◌, ◌<◌, ◌≤◌, length, Bool, true, false, cond, not, nat_eq, List, get_or, arith, refl, sym, ap, subst, Result, Ok, Err, slice_index}
+use Rattle.std.proofs.Common.{◌≡◌, ◌≢◌, ℕ, ◌^◌, ◌<◌, ◌≤◌, length, Bool, true, false, cond, not, nat_eq, List, [], ◌∷◌, ◌==◌, get_or, arith, refl, sym, ap, subst, Result, Ok, Err, slice_index}
 use Rattle.std.proofs.lemmas.Bool.{and_parts, and_from}
 use Rattle.std.proofs.lemmas.Bool.Decides.{nat_tests}
 use Rattle.std.proofs.lemmas.Str.Parse.{IsNumeralModel, parse_plain, numerals_by_value, tells_all_ascii_digits}
+use Rattle.std.specs.Char.{is_ascii_digit}
 use Rattle.std.specs.Str.{all_ascii_digits}
 use Rattle.std.specs.Str.Parse.{ParsesUnsigned, digits_value}
 use Rattle.gs_trace.specs.declared.fault.Reason.TheVariants.{BadNumber}
-use Rattle.gs_trace.specs.Words.{begins_plainly, number}
+use Rattle.gs_trace.specs.Words.{number}
+use Rattle.gs_trace.specs.Held.{begins_plainly}
 use Rattle.gs_trace.specs.Grammar.{Number, takes}
 use Rattle.gs_trace.specs.Rows.{number_between}
 
@@ -19,6 +21,11 @@ no_sign word h = let p = (and_parts (not (nat_eq (slice_index word 0) 43)) _ h).
 untaken : {A : Type 0} (b : Bool) (x y : A) → (b ≡ true → ⊥) → cond b x y ≡ y
 untaken true x y h = absurd (h refl)
 untaken false x y h = refl
+
+-- digits have no plus among them
+no_plus : (word : List ℕ) → all_ascii_digits word ≡ true → not (slice_index word 0 == 43) ≡ true
+no_plus [] h = refl
+no_plus (c ∷ cs) h = let d = (and_parts (is_ascii_digit c) _ h).0 in grind (arith, nat_tests)
 
 record Taken (least most : ℕ) (word : List ℕ) : Type 0 where
   some : 0 < length word
@@ -36,7 +43,7 @@ taken low high word h =
     record {
       some = let e = d.0 in grind (arith, nat_tests);
       digits = d.1;
-      plain = c.1;
+      plain = and_from _ _ (no_plus word d.1) c.1;
       low = let e = b.1 in grind (arith, nat_tests);
       high = let e = a.1 in grind (arith, nat_tests);
     }
@@ -45,7 +52,7 @@ takes_it : (low high : ℕ) (word : List ℕ) → Taken low high word → takes 
 takes_it low high word t =
     and_from _ _
     (and_from _ _
-    (and_from _ _ (and_from _ _ (let e = t.some in grind (arith, nat_tests)) t.digits) t.plain)
+    (and_from _ _ (and_from _ _ (let e = t.some in grind (arith, nat_tests)) t.digits) (and_parts _ _ t.plain).1)
     (let e = t.low in grind (arith, nat_tests)))
     (let e = t.high in grind (arith, nat_tests))
 

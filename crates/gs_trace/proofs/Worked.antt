@@ -88,6 +88,42 @@ committed = refl
 committed_past : event_of (words_of (codes "commit 18446744073709551616")) ≡ Err BadNumber
 committed_past = refl
 
+ticked : event_of (words_of (codes "tick 1")) ≡ Ok (events.Tick 1)
+ticked = refl
+
+tick_least : event_of (words_of (codes "tick 0")) ≡ Ok (events.Tick 0)
+tick_least = refl
+
+tick_most : event_of (words_of (codes "tick 65535")) ≡ Ok (events.Tick 65535)
+tick_most = refl
+
+tick_past : event_of (words_of (codes "tick 65536")) ≡ Err BadNumber
+tick_past = refl
+
+tick_zero_first : event_of (words_of (codes "tick 01")) ≡ Err BadNumber
+tick_zero_first = refl
+
+tick_alone : event_of (words_of (codes "tick")) ≡ Err BadCount
+tick_alone = refl
+
+tick_two : event_of (words_of (codes "tick x 2")) ≡ Err BadCount
+tick_two = refl
+
+looked : event_of (words_of (codes " unread ")) ≡ Ok events.Unread
+looked = refl
+
+look_behind : event_of (words_of (codes "unread 1")) ≡ Err BadCount
+look_behind = refl
+
+look_comment : event_of (words_of (codes "unread #")) ≡ Err BadCount
+look_comment = refl
+
+look_other : event_of (words_of (codes "unreads")) ≡ Err BadWord
+look_other = refl
+
+events_in_order : script_of (says (codes "unread" ++ 10 ∷ codes "tick 1" ++ 10 ∷ codes "unread" ++ 10 ∷ codes "tick")) ≡ Err (fault 5 BadCount)
+events_in_order = refl
+
 -- the parts behind the sizes
 abbrev of : List ℕ → Option Reason
 of text = first_fault parts (words_of text)

@@ -1,10 +1,13 @@
 -- The lines of some replies.
-use Rattle.std.proofs.Common.{◌≡◌, [], ◌∷◌, ◌++◌, codes, refl, Some, None}
+use Rattle.std.proofs.Common.{◌≡◌, [], ◌∷◌, ◌++◌, codes, refl, true, false, Some, None}
 use Rattle.std.specs.Fmt.{digits}
 use Rattle.gs_layout.specs.declared.refusal.Refusal.TheVariants as refusals
 use Rattle.gs_layout.specs.declared.outcome.Outcome.TheVariants as outcomes
 use Rattle.gs_core.specs.declared.drained.Stop.TheVariants.{Gap}
-use Rattle.gs_core.specs.declared.reply.Reply.TheVariants.{Refused, Created, Drained, Stamped, Landed}
+use Rattle.gs_core.specs.declared.reply.Reply.TheVariants.{Refused, Torn, Created, Ticked, Drained, Stamped, Landed, Unread}
+use Rattle.gs_layout.specs.declared.facts.Class.TheVariants.{Zero}
+use Rattle.gs_layout.specs.declared.message.Change.TheVariants as changes
+use Rattle.gs_layout.specs.declared.message.Message.TheVariants.{Thread, TimerTick}
 use Rattle.gs_trace.specs.declared.fault.Reason.TheVariants.{NoHeader}
 use Rattle.gs_trace.specs.Script.{fault}
 use Rattle.gs_trace.specs.Lines.{lines, line}
@@ -31,6 +34,56 @@ landed_nowhere = refl
 landed : lines (Landed (record { cpu = 1; tid = 1; outcome = outcomes.Placed; seen = 1; at = Some 1 } ∷ record { cpu = 2; tid = 65536; outcome = outcomes.CpuIsAgent; seen = 0; at = None } ∷ []) ∷ []) ≡ line (codes "cpu 1 placed 1 seq 1") ++ line (codes "cpu 2 cpuisagent 65536 seq 0")
 unfolding digits
 landed = refl
+
+torn : lines (Torn ∷ []) ≡ line (codes "torn")
+torn = refl
+
+ticked : lines (Ticked 0 ∷ Ticked 63 ∷ Torn ∷ []) ≡ line (codes "tick 0") ++ line (codes "tick 63") ++ line (codes "torn")
+unfolding digits
+ticked = refl
+
+nothing_waits : lines (Unread [] ∷ []) ≡ []
+nothing_waits = refl
+
+-- one line for each message, in order, of every kind
+waits : lines (
+    Unread (
+    Thread 1 1 (changes.Created (record { runnable = true; mask = 3; class = Zero; name = codes "web" }))
+    ∷ Thread 7 3 (changes.Blocked 2)
+    ∷ Thread 7 4 changes.Wakeup
+    ∷ TimerTick 0
+    ∷ Thread 9 5 (changes.Preempted 0)
+    ∷ Thread 9 6 (changes.Yield 63)
+    ∷ []
+    )
+    ∷ []
+    ) ≡ line (codes "unread created 1 seq 1 cpu -")
+    ++ line (codes "unread blocked 7 seq 3 cpu 2")
+    ++ line (codes "unread wakeup 7 seq 4 cpu -")
+    ++ line (codes "unread tick 0 seq 0 cpu 0")
+    ++ line (codes "unread preempted 9 seq 5 cpu 0")
+    ++ line (codes "unread yield 9 seq 6 cpu 63")
+unfolding digits
+waits = refl
+
+-- a death and a new mask, of a thread that was on a CPU and of one that was on none
+waits_anywhere : lines (
+    Unread (
+    Thread 65536 4294967295 (changes.Dead (Some 1))
+    ∷ Thread 2 2 (changes.Dead None)
+    ∷ Thread 1 2 (changes.Affinity (Some 1) true 1)
+    ∷ Thread 1 3 (changes.Affinity None false 2)
+    ∷ TimerTick 63
+    ∷ []
+    )
+    ∷ []
+    ) ≡ line (codes "unread dead 65536 seq 4294967295 cpu 1")
+    ++ line (codes "unread dead 2 seq 2 cpu -")
+    ++ line (codes "unread affinity 1 seq 2 cpu 1")
+    ++ line (codes "unread affinity 1 seq 3 cpu -")
+    ++ line (codes "unread tick 0 seq 0 cpu 63")
+unfolding digits
+waits_anywhere = refl
 
 faulted : fault_line (fault 0 NoHeader) ≡ line (codes "fault line 0 NoHeader")
 unfolding digits

@@ -1,5 +1,5 @@
 -- What a function returned, against what is read.
-use Rattle.std.specs.Prelude.{ℕ, ◌≡◌, Result, Ok, Err}
+use Rattle.std.specs.Prelude.{ℕ, ◌≡◌, List, Bool, not, ◌&&◌, ◌==◌, slice_index, Result, Ok, Err}
 use Rattle.gs_trace.specs.declared.fault.Reason.{Reason as TheReason}
 use Rattle.gs_trace.specs.declared.fault.ScriptFault.{ScriptFault}
 use Rattle.gs_trace.specs.declared.script.Script.{Script as TheScript}
@@ -7,7 +7,12 @@ use Rattle.gs_trace.specs.declared.script.ScriptError.{ScriptError}
 use Rattle.gs_trace.specs.declared.script.ScriptError.TheVariants as errors
 use Rattle.gs_trace.specs.declared.script.LineError.{LineError}
 use Rattle.gs_trace.specs.declared.script.LineError.TheVariants as lines
+use Rattle.gs_trace.specs.Words.{is_shortest}
 use Rattle.gs_trace.specs.Script.{Script, fault}
+
+-- a word that `parse` reads as a number is one, where this holds: a plus in front is no digit, though `parse` takes it
+abbrev pub begins_plainly : List ℕ → Bool
+begins_plainly word = not (slice_index word 0 == 43) && is_shortest word
 
 -- a line is read so, unless memory ran out
 abbrev pub Gives : {A : Type 0} → Result A LineError → Result A TheReason → Type 0

@@ -4,6 +4,11 @@ use Rattle.gs_layout.specs.declared.refusal.Refusal.{Refusal}
 use Rattle.gs_layout.specs.declared.refusal.Refusal.TheVariants as refusals
 use Rattle.gs_layout.specs.declared.outcome.Outcome.{Outcome}
 use Rattle.gs_layout.specs.declared.outcome.Outcome.TheVariants as outcomes
+use Rattle.gs_layout.specs.declared.kind.Kind.{Kind}
+use Rattle.gs_layout.specs.declared.kind.Kind.TheVariants as kinds
+use Rattle.gs_layout.specs.declared.message.Message.{Message}
+use Rattle.gs_layout.specs.Message.{tseq_of}
+use Rattle.gs_layout.specs.Spelling.{kind_of, tid_of, cpu_of}
 use Rattle.gs_kernel.specs.declared.landing.Landing.{Landing}
 use Rattle.gs_core.specs.declared.drained.Drained.{Drained}
 use Rattle.gs_core.specs.declared.drained.Stop.{Stop}
@@ -74,13 +79,40 @@ drained_text d = codes "drained " ++ decimal d.count ++ unless_zero (codes " ski
 abbrev pub landing_lines : List Landing → List ℕ
 landing_lines landings = flat_map (λ a. line (landing_text a)) landings
 
--- the lines of a reply: a commit has one for each landing, and any other reply has one
+-- the name of a kind of message: its word, in lower case
+abbrev pub kind_text : Kind → List ℕ
+kind_text kinds.Created = codes "created"
+kind_text kinds.Blocked = codes "blocked"
+kind_text kinds.Wakeup = codes "wakeup"
+kind_text kinds.Preempted = codes "preempted"
+kind_text kinds.Yield = codes "yield"
+kind_text kinds.Dead = codes "dead"
+kind_text kinds.Affinity = codes "affinity"
+kind_text kinds.TimerTick = codes "tick"
+
+-- a CPU, or `-` for none
+abbrev pub cpu_text : Option ℕ → List ℕ
+cpu_text None = codes "-"
+cpu_text (Some c) = decimal c
+
+-- a message that waits: what it is about is 0 for a tick, as is its sequence number
+abbrev pub message_text : Message → List ℕ
+message_text m = codes "unread " ++ kind_text (kind_of m) ++ codes " " ++ decimal (tid_of m) ++ codes " seq " ++ decimal (tseq_of m) ++ codes " cpu " ++ cpu_text (cpu_of m)
+
+-- the lines of messages that wait, one for each, in order
+abbrev pub message_lines : List Message → List ℕ
+message_lines messages = flat_map (λ m. line (message_text m)) messages
+
+-- the lines of a reply: a commit has one for each landing, a look at what waits one for each message, and any other reply has one
 abbrev pub reply_lines : Reply → List ℕ
 reply_lines (replies.Refused f) = line (codes "refused " ++ refusal_text f)
+reply_lines replies.Torn = line (codes "torn")
 reply_lines (replies.Created tid tseq) = line (codes "created " ++ decimal tid ++ codes " seq " ++ decimal tseq)
+reply_lines (replies.Ticked cpu) = line (codes "tick " ++ decimal cpu)
 reply_lines (replies.Drained d) = line (drained_text d)
 reply_lines (replies.Stamped number) = line (codes "stamped " ++ decimal number)
 reply_lines (replies.Landed landings) = landing_lines landings
+reply_lines (replies.Unread messages) = message_lines messages
 
 -- the lines of replies, in order
 abbrev pub lines : List Reply → List ℕ

@@ -6,7 +6,6 @@ use Rattle.gs_core.specs.declared.drained.Stop.{Stop}
 use Rattle.gs_core.specs.declared.drained.Stop.TheVariants.{Memory}
 use Rattle.gs_core.specs.declared.reply.Reply.{Reply}
 use Rattle.gs_core.specs.declared.reply.Reply.TheVariants.{Refused, Drained}
-use Rattle.gs_core.specs.Config.{settings_of}
 use Rattle.gs_core.specs.Machine.{State, start}
 use Rattle.gs_core.specs.Safe.{Run}
 use Rattle.gs_trace.specs.declared.fault.ScriptFault.{ScriptFault}
@@ -44,7 +43,7 @@ wants_memory _ = false
 pub record Answers (s : Script) (out : List ℕ) : Type 0 where
   pub replies : List Reply
   pub left : State
-  pub run : Run (start (settings_of s.config)) s.events replies left
+  pub run : Run (start s.config) s.events replies left
   pub sufficed : list_any wants_memory replies ≡ false
   pub lines : out ≡ lines replies
 

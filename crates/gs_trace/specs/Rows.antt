@@ -48,6 +48,9 @@ create =
       event = λ ws. events.Create (record { runnable = is (at 2 ws) (codes "r"); mask = number (at 0 ws); class = class_of (number (at 1 ws)); name = name_of (at 3 ws) });
     }
 
+abbrev pub tick : Row
+tick = record { word = codes "tick"; forms = (u16s ∷ []) ∷ []; event = λ ws. events.Tick (number (at 0 ws)) }
+
 abbrev pub drain : Row
 drain = record { word = codes "drain"; forms = (u32s ∷ []) ∷ []; event = λ ws. events.Drain (number (at 0 ws)) }
 
@@ -58,8 +61,12 @@ stamp =
 abbrev pub commit : Row
 commit = record { word = codes "commit"; forms = (u64s ∷ []) ∷ []; event = λ ws. events.Commit (number (at 0 ws)) }
 
+-- a form without words: nothing stands behind the first word
+abbrev pub unread : Row
+unread = record { word = codes "unread"; forms = [] ∷ []; event = λ ws. events.Unread }
+
 abbrev pub rows : List Row
-rows = create ∷ drain ∷ stamp ∷ commit ∷ []
+rows = create ∷ tick ∷ drain ∷ stamp ∷ commit ∷ unread ∷ []
 
 -- what a row reads in the words after its first
 abbrev pub reads : Row → List (List ℕ) → Result Event Reason

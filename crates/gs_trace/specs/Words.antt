@@ -19,13 +19,13 @@ is_word part = not (length part == 0)
 abbrev pub words_of : List ℕ → List (List ℕ)
 words_of line = filter is_word (slice_split (λ b. b == 32) line)
 
--- no sign in front, and no zero but 0 itself
-abbrev pub begins_plainly : List ℕ → Bool
-begins_plainly word = not (slice_index word 0 == 43) && (nat_lt (length word) 2 || not (slice_index word 0 == 48))
+-- no zero in front but 0 itself
+abbrev pub is_shortest : List ℕ → Bool
+is_shortest word = nat_lt (length word) 2 || not (slice_index word 0 == 48)
 
--- decimal digits, with no leading zero but of 0 itself
+-- decimal digits, and no more of them than the number needs
 abbrev pub is_number : List ℕ → Bool
-is_number word = is_word word && all_ascii_digits word && begins_plainly word
+is_number word = is_word word && all_ascii_digits word && is_shortest word
 
 -- the number that the digits write
 abbrev pub number : List ℕ → ℕ

@@ -1,5 +1,6 @@
 ghost use Rattle.std.specs.Prelude.{◌≡◌, ℕ, List, Some, [], ◌∷◌, map, codes, IfOk, IfErr, option_and_then, option_map};
 ghost use Rattle.clap.specs.Words.{app_of, kind_of};
+ghost use Rattle.clap.specs.Kinds.{HasKind};
 ghost use Rattle.clap.specs.Faults.{fault_of};
 ghost use Rattle.gs_trace.specs.Arguments.{ghost_program, command_named, command_in};
 
@@ -42,10 +43,12 @@ fn command_of(name: Option<&str>) -> Option<Command>
 /// Reads the arguments. The first word is the name that the program was called by.
 ///
 /// An error is clap's own: its text says what is wrong, or is the help or the version that was asked
-/// for, and its kind says which.
+/// for. Its kind says which: it is that of the words' fault, or that no command is given, or that memory
+/// ran out. The help and the version are answered only where the words ask for them.
 pub fn settings<'a, S: AsStr>(alloc: Global, words: &'a [S]) -> Result<Command, clap::Error>
     ensures given { IfOk result (λ command. command_in (map S.text words.entry.now) ≡ Some command) }
     ensures faultless { IfOk result (λ _. fault_of ghost_program (map S.text words.entry.now) ≡ []) }
+    ensures failed { IfErr result (HasKind (ErrorKind.MissingSubcommand ∷ fault_of ghost_program (map S.text words.entry.now))) }
     ensures run { (name : List ℕ) → map S.text words.entry.now ≡ name ∷ codes "run" ∷ [] → IfErr result (λ e. kind_of e ≡ ErrorKind.OutOfMemory) }
 {
     let mut command_line = program(alloc)?;

@@ -5,8 +5,22 @@ ghost use Rattle.gs_trace.specs.Rows.{shown, reads, event_of};
 use crate::fault::Reason;
 use crate::word::{name, number};
 use gs_core::Event;
-use gs_journal::Mask;
 use gs_layout::{Class, Facts};
+use gs_status::Mask;
+
+/// The number of a CPU, also of one that is not there.
+fn cpu_number(word: &str) -> Result<u16, Reason>
+    ensures { result ≡ rows.number_between 0 65535 word.now }
+{
+    Ok(number(word, 0, u16::MAX as u64)? as u16)
+}
+
+/// A number of 32 bits: a thread's, or a count.
+fn u32_number(word: &str) -> Result<u32, Reason>
+    ensures { result ≡ rows.number_between 0 4294967295 word.now }
+{
+    Ok(number(word, 0, u32::MAX as u64)? as u32)
+}
 
 fn read_class(word: &str) -> Result<Class, Reason>
     ensures { result ≡ rows.class_in word.now }
@@ -44,18 +58,25 @@ fn create(mask: &str, class: &str, state: &str, text: &str) -> Result<Event, Rea
     Ok(Event::Create { facts })
 }
 
+fn tick(cpu: &str) -> Result<Event, Reason>
+    ensures { result ≡ reads rows.tick (cpu.now ∷ []) }
+{
+    let cpu = cpu_number(cpu)?;
+    Ok(Event::Tick { cpu })
+}
+
 fn drain(max: &str) -> Result<Event, Reason>
     ensures { result ≡ reads rows.drain (max.now ∷ []) }
 {
-    let max = number(max, 0, u32::MAX as u64)? as u32;
+    let max = u32_number(max)?;
     Ok(Event::Drain { max })
 }
 
 fn stamp(cpu: &str, tid: &str) -> Result<Event, Reason>
     ensures { result ≡ reads rows.stamp (cpu.now ∷ tid.now ∷ []) }
 {
-    let cpu = number(cpu, 0, u16::MAX as u64)? as u16;
-    let tid = number(tid, 0, u32::MAX as u64)? as u32;
+    let cpu = cpu_number(cpu)?;
+    let tid = u32_number(tid)?;
     Ok(Event::Stamp { cpu, tid })
 }
 
@@ -79,6 +100,10 @@ pub(crate) fn event(words: &[&str]) -> Result<Event, Reason>
             [mask, class, state, name] => create(mask, class, state, name),
             _ => Err(Reason::BadCount),
         },
+        "tick" => match words {
+            [cpu] => tick(cpu),
+            _ => Err(Reason::BadCount),
+        },
         "drain" => match words {
             [max] => drain(max),
             _ => Err(Reason::BadCount),
@@ -89,6 +114,10 @@ pub(crate) fn event(words: &[&str]) -> Result<Event, Reason>
         },
         "commit" => match words {
             [mask] => commit(mask),
+            _ => Err(Reason::BadCount),
+        },
+        "unread" => match words {
+            [] => Ok(Event::Unread),
             _ => Err(Reason::BadCount),
         },
         _ => Err(Reason::BadWord),

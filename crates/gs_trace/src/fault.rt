@@ -1,7 +1,10 @@
 use thiserror::Error;
 
-/// Why a script can't be read. Of the reasons that apply the earliest line's counts, and in a line
-/// the first of this order, its words from left to right.
+/// Why a script can't be read. Its length is tested first; then the earliest line that has a fault
+/// counts. In a line the first of these counts: a bad byte, in a comment too; where the header is to
+/// stand, a first word that isn't `cpus`; a first word that no event has; a count of words that no
+/// form of the line has, for a header only one under four; then the words, from left to right. A line
+/// that ends inside a part of it, and words behind all that may stand there, are `BadCount`.
 #[derive(Clone, Copy, PartialEq, Eq, Debug, Error)]
 pub enum Reason {
     #[error("the script has over 1048576 bytes")]

@@ -5,6 +5,8 @@ mod arguments;
 mod event_line;
 mod fault;
 mod header;
+mod law;
+mod message_line;
 mod pipe;
 mod reply_line;
 mod run;
@@ -13,6 +15,7 @@ mod word;
 
 pub use arguments::{Command, settings};
 pub use fault::{Reason, ScriptFault};
+pub use law::one_output;
 pub use run::{Ended, TraceFault, run_script};
 pub use script::{Script, ScriptError, read_script};
 

@@ -129,9 +129,10 @@ pub fn run_script<R: Read, W: Write>(
 ) -> Result<Ended, TraceFault>
     ensures ended { IfOk result (λ ended. IfSome (R.remaining reader.old) (λ input.
         (out : List ℕ) × IsOutput input ended out × Appends (W.contents writer.old) (W.contents writer.new) out)) }
-    ensures read { IfOk result (λ _. (bytes : List ℕ)
+    ensures read { IfOk result (λ ended. (bytes : List ℕ) × (out : List ℕ)
         × Consumes (R.remaining reader.old) (R.remaining reader.new) bytes
-        × (length bytes ≤ 1048576 → IsAtEnd (R.remaining reader.new))) }
+        × (length bytes ≤ 1048576 → IsAtEnd (R.remaining reader.new))
+        × IsOutput bytes ended out × Appends (W.contents writer.old) (W.contents writer.new) out) }
     ensures unwritten { IfErr result (λ e. e ≢ TraceFault.WriteFailed → Keeps (W.contents writer.old) (W.contents writer.new)) }
     ensures begun { IsErrOf result TraceFault.WriteFailed → IfSome (R.remaining reader.old) (λ input.
         (ended : Ended) × (out : List ℕ) × (n : ℕ) × IsOutput input ended out

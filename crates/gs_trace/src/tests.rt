@@ -1,7 +1,10 @@
+use crate::reply_line::text_of;
 use crate::{
     Command, Ended, Reason, ScriptError, ScriptFault, TraceFault, read_script, run_script, settings,
 };
 use clap::error::ErrorKind;
+use gs_core::{Items, Reply};
+use gs_layout::{Change, Message};
 use std::alloc::Global;
 use std::io;
 use std::io::{Read, Write};
@@ -79,7 +82,7 @@ const FIRST_PATH: &str = "cpus 2 ring 128\ncreate 3 0 r web\ndrain 1\nstamp 1 1\
 const FIRST_PATH_LINES: &str = "created 1 seq 1\ndrained 1\nstamped 1\ncpu 1 placed 1 seq 1\n";
 
 /// Scripts, and what is written for them.
-const ROWS: [(&str, &str); 14] = [
+const ROWS: [(&str, &str); 22] = [
     (FIRST_PATH, FIRST_PATH_LINES),
     (
         "cpus 2 ring 128\ncreate 1 0 r a\ncreate 2 0 b b\ndrain 9\nstamp 1 1\ncommit 2\nstamp 1 2\ncommit 2\nstamp 0 1\ncommit 1",
@@ -109,6 +112,69 @@ const ROWS: [(&str, &str); 14] = [
         "fault line 2 BadName\n",
     ),
     ("cpus 2 ring 128\nstamp 1 1 p\n", "fault line 2 BadCount\n"),
+    (
+        "cpus 2 ring 128\ntick 0\ncreate 3 0 r a\ntick 1\nunread\ndrain 1\nunread\ndrain 9\nunread\n",
+        "tick 0\ncreated 1 seq 1\ntick 1\nunread tick 0 seq 0 cpu 0\nunread created 1 seq 1 cpu -\nunread tick 0 seq 0 cpu 1\ndrained 1\nunread created 1 seq 1 cpu -\nunread tick 0 seq 0 cpu 1\ndrained 2\n",
+    ),
+    (
+        "cpus 2 ring 128\ncreate 3 0 r a\ncreate 3 0 r b\ncreate 3 0 r c\ncreate 3 0 r d\ntick 1\ndrain 1\nunread\ncreate 0 0 r a\ntick 9\n",
+        "created 1 seq 1\ncreated 2 seq 1\ncreated 3 seq 1\ncreated 4 seq 1\ntorn\nrefused 18 Gone\nrefused 18 Gone\nrefused 18 Gone\nrefused 18 Gone\n",
+    ),
+    (
+        "cpus 2 ring 128\ntick 2\ntick 65535\n  unread  \n",
+        "refused 5 BadCpu\nrefused 5 BadCpu\n",
+    ),
+    ("cpus 2 ring 128\ntick\n", "fault line 2 BadCount\n"),
+    ("cpus 2 ring 128\ntick 65536\n", "fault line 2 BadNumber\n"),
+    ("cpus 2 ring 128\nticks 1\n", "fault line 2 BadWord\n"),
+    ("cpus 2 ring 128\nunread 1\n", "fault line 2 BadCount\n"),
+    ("cpus 2 ring 128\nUnread\n", "fault line 2 BadWord\n"),
+];
+
+/// Changes that no script makes, of which thread and with which number, and what is written where a
+/// message about them waits.
+const CHANGES: [(u32, u32, Change, &str); 7] = [
+    (
+        7,
+        3,
+        Change::Blocked { cpu: 2 },
+        "unread blocked 7 seq 3 cpu 2\n",
+    ),
+    (7, 4, Change::Wakeup, "unread wakeup 7 seq 4 cpu -\n"),
+    (
+        65_536,
+        u32::MAX,
+        Change::Preempted { cpu: 0 },
+        "unread preempted 65536 seq 4294967295 cpu 0\n",
+    ),
+    (
+        1,
+        2,
+        Change::Yield { cpu: 63 },
+        "unread yield 1 seq 2 cpu 63\n",
+    ),
+    (
+        1,
+        3,
+        Change::Dead { cpu: None },
+        "unread dead 1 seq 3 cpu -\n",
+    ),
+    (
+        2,
+        9,
+        Change::Dead { cpu: Some(1) },
+        "unread dead 2 seq 9 cpu 1\n",
+    ),
+    (
+        3,
+        5,
+        Change::Affinity {
+            cpu: Some(4),
+            off: true,
+            mask: 1,
+        },
+        "unread affinity 3 seq 5 cpu 4\n",
+    ),
 ];
 
 fn is_fault(output: &str) -> bool {
@@ -140,6 +206,21 @@ fn answers_scripts(rt: HostRuntime) -> Result<(), Fail> {
         };
         assert_eq!(rt; ended, Ok(wanted), "of {script}");
     }
+    Ok(())
+}
+
+#[test]
+fn shows_each_kind(rt: HostRuntime) -> Result<(), Fail> {
+    let mut messages = Vec::new(rt.alloc());
+    let mut lines = String::new(rt.alloc());
+    for (tid, tseq, change, line) in CHANGES {
+        messages.push(Message::Thread { tid, tseq, change })?;
+        lines.push_str(line)?;
+    }
+    let mut replies = Vec::new(rt.alloc());
+    replies.push(Reply::Unread(Items::new(messages)))?;
+    let written = text_of(rt.alloc(), &replies)?;
+    assert_eq!(rt; written.as_str(), lines.as_str());
     Ok(())
 }
 

@@ -1,6 +1,7 @@
 ghost use Rattle.std.specs.Prelude.{◌≡◌, ◌≤◌, IfOk, MatchOption, true, false, map};
-ghost use Rattle.gs_trace.specs.Words.{is_text, words_of, begins_plainly};
+ghost use Rattle.gs_trace.specs.Words.{is_text, words_of};
 ghost use Rattle.gs_trace.specs.Rows.{number_between, name_in};
+ghost use Rattle.gs_trace.specs.Held.{begins_plainly};
 
 use crate::fault::Reason;
 use gs_layout::Name;

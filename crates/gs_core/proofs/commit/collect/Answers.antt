@@ -1,6 +1,6 @@
 use Rattle.std.proofs.Common.{◌≡◌, cond, set, arith, None}
 use Rattle.std.proofs.lemmas.Grind.{common_steps}
-use Rattle.gs_journal.specs.Masks.{has}
+use Rattle.gs_status.specs.Masks.{has}
 use Rattle.gs_core.proofs.Commits.{collect_more}
 use Rattle.gs_core.proofs.commit.collect.Goals as goal
 use Rattle.gs_core.proofs.commit.collect.Goals.{then-has, else-has}

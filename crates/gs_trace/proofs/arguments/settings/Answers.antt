@@ -1,12 +1,27 @@
-use Rattle.std.proofs.Common.{rules, ◌≡◌, Some, None, [], ◌∷◌, map, codes, sym, ◌∙◌, ap, ap₂}
+use Rattle.std.proofs.Common.{rules, ◌≡◌, inl, inr, subst, Some, None, [], ◌∷◌, map, codes, sym, ◌∙◌, ap, ap₂}
 use Rattle.std.specs.Prelude.{option_and_then}
-use Rattle.clap.specs.Words.{kind_of, is_simple, takes, subcommand_of}
+use Rattle.clap.specs.Words.{App, kind_of, is_simple, takes, subcommand_of}
+use Rattle.clap.specs.Kinds.{Kinds, HasKind}
+use Rattle.clap.specs.declared.error.Error.{Error}
+use Rattle.clap.specs.declared.error.kind.ErrorKind.{ErrorKind}
 use Rattle.clap.specs.Faults.{fault_of, is_simple_and_free}
-use Rattle.clap.specs.declared.error.kind.ErrorKind.TheVariants.{OutOfMemory}
+use Rattle.clap.specs.declared.error.kind.ErrorKind.TheVariants.{OutOfMemory, MissingSubcommand}
 use Rattle.gs_trace.specs.declared.arguments.Command.TheVariants.{Run}
-use Rattle.gs_trace.specs.Arguments.{command_named}
+use Rattle.gs_trace.specs.Arguments.{ghost_program, command_named}
 use Rattle.gs_trace.proofs.Given.{run_taken, run_is_run, command_is, ghost_is_simple, ghost_is_free}
 use Rattle.gs_trace.proofs.arguments.settings.Goals as goal
+
+or_one_more : (k : ErrorKind) (kinds : Kinds) (e : Error) → HasKind kinds e → HasKind (k ∷ kinds) e
+or_one_more k kinds e (inl h) = inl h
+or_one_more k kinds e (inr h) = inr (inr h)
+
+pub returns-in_err-matches-clause-failed : goal.returns-in_err-matches-clause-failed
+returns-in_err-matches-clause-failed g c =
+    let words = map g.S.AsStr.text c.args.words.now in
+    let e = c.in_err-matches.field-0.0 in
+    let had : HasKind (fault_of ghost_program words) e = subst (λ (app : App). HasKind (fault_of app words) e) c.in_ok-command_line.ensures (c.in_err-matches.ensures.kinds (ap is_simple_and_free c.in_ok-command_line.ensures ∙ ghost_is_free)) in
+    let more : HasKind (MissingSubcommand ∷ fault_of ghost_program words) e = or_one_more MissingSubcommand (fault_of ghost_program words) e had in
+    search (rules, more)
 
 pub returns-in_err-matches-clause-run : goal.returns-in_err-matches-clause-run
 returns-in_err-matches-clause-run g c name h =

@@ -1,14 +1,42 @@
-use Rattle.std.proofs.Common.{subst, sym, rules}
+use Rattle.std.proofs.Common.{◌≡◌, List, ◌∷◌, [], ap, subst, sym, ◌∙◌}
+use Rattle.gs_layout.specs.declared.message.Message.{Message}
+use Rattle.gs_journal.specs.declared.entry.Entry.TheVariants.{Role}
+use Rattle.gs_journal.specs.History.{posted}
+use Rattle.gs_kernel.proofs.Kernels.{posted_new}
+use Rattle.gs_ring.specs.RingState.{RingState, empty}
+use Rattle.gs_ring.specs.Ends.{Posted, Posted-empty}
+use Rattle.gs_kernel.specs.declared.settings.Settings.{Settings}
+use Rattle.gs_core.specs.Config.{settings_of}
 use Rattle.gs_core.specs.Good.{Good}
+use Rattle.gs_core.specs.Machine.{idle_slots}
 use Rattle.gs_core.proofs.Serving.{starts}
 use Rattle.gs_core.proofs.Whole.{start_good}
 use Rattle.gs_core.proofs.machine.Machine.open.Goals as goal
 
 pub invariant_of-result : goal.invariant_of-result
 invariant_of-result c =
-    let e = starts c.args.settings _ _ _ _ _ c.in_ok-new.ensures.settings c.in_ok-new.ensures.history (c.in_ok-slots.ensures.items_if_clones_equal (λ y p. search rules)) c.new-2.ensures c.new-3.ensures.items in
-    subst Good (sym e) (start_good c.args.settings)
+    let f = c.args.config.now in
+    let k = c.in-Ok-new-2.kernel in
+    let is = c.settings-settings.ensures.value in
+    let e = c.in-Ok-new-2.ensures in
+    let settings : k.settings ≡ settings_of f = e.settings ∙ is in
+    let ring : k.poster ≡ empty f.ring = e.poster ∙ c.in-Ok-new.ensures.made in
+    let history : k.history ≡ Role f.first_generation 0 ∷ [] = e.history ∙ ap (λ (x : Settings). Role x.first_generation 0 ∷ []) is in
+    let slots : c.in-Ok.slots.items ≡ idle_slots f.cpus = c.in-Ok.ensures ∙ ap (λ (x : Settings). idle_slots x.cpus) is in
+    record {
+      good = subst Good (sym (starts f k.settings k.poster k.history c.in-Ok.slots.items c.new-3.result c.new-4.result.items settings ring history slots c.new-3.ensures c.new-4.ensures.items)) (start_good f);
+      told = subst (λ (r : RingState). Posted r (posted k.history)) (sym ring)
+          (subst (λ (ms : List Message). Posted (empty f.ring) ms) (sym (ap posted history ∙ posted_new f.first_generation 0)) (Posted-empty f.ring));
+    }
 
 pub returns : goal.returns
 returns c =
-    starts c.args.settings _ _ _ _ _ c.in_ok-new.ensures.settings c.in_ok-new.ensures.history (c.in_ok-slots.ensures.items_if_clones_equal (λ y p. search rules)) c.new-2.ensures c.new-3.ensures.items
+    let f = c.args.config.now in
+    let k = c.in-Ok-new-2.kernel in
+    let is = c.settings-settings.ensures.value in
+    let e = c.in-Ok-new-2.ensures in
+    let settings : k.settings ≡ settings_of f = e.settings ∙ is in
+    let ring : k.poster ≡ empty f.ring = e.poster ∙ c.in-Ok-new.ensures.made in
+    let history : k.history ≡ Role f.first_generation 0 ∷ [] = e.history ∙ ap (λ (x : Settings). Role x.first_generation 0 ∷ []) is in
+    let slots : c.in-Ok.slots.items ≡ idle_slots f.cpus = c.in-Ok.ensures ∙ ap (λ (x : Settings). idle_slots x.cpus) is in
+    starts f k.settings k.poster k.history c.in-Ok.slots.items c.new-3.result c.new-4.result.items settings ring history slots c.new-3.ensures c.new-4.ensures.items

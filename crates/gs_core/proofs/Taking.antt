@@ -1,0 +1,141 @@
+-- An entry that concerns no thread keeps what the machine keeps, and so do taking a CPU and giving it back.
+use Rattle.std.proofs.Common.{◌≡◌, refl, ap, sym, ◌∙◌, subst, ℕ, ◌<◌, Bool, true, false, Option, None, Some, List, [], ◌∷◌, ◌++◌, length, arith, cond, append_assoc}
+use Rattle.std.specs.List.{filter}
+use Rattle.std.specs.Option.{is_some, option_map}
+use Rattle.std.proofs.lemmas.List.{append-nil, take_all}
+use Rattle.gs_layout.specs.declared.message.Change.TheVariants.{Preempted}
+use Rattle.gs_layout.specs.declared.message.Message.{Message}
+use Rattle.gs_layout.specs.Message.{is_about, is_creation}
+use Rattle.gs_journal.specs.declared.entry.Entry.{Entry}
+use Rattle.gs_journal.specs.declared.entry.Entry.TheVariants.{Posted, Placed, Role, Begin, Left, Taken, Given, Torn}
+use Rattle.gs_journal.specs.Standing.{then_stands}
+use Rattle.gs_journal.specs.History.{History, messages, posted_by, on, ends_run, placed_on, active, attaching, ends_role, ends_begin, AtEachPrefix}
+use Rattle.gs_journal.specs.State.{Numbered}
+use Rattle.gs_journal.proofs.Laws.{on-push, active-push, attaching-push, same_posted, same_messages, same_created, AtEach-push, AtEachPrefix-push}
+use Rattle.gs_journal.proofs.Past.{Was-mono}
+use Rattle.gs_threads.specs.Mirrors.{is_quiet}
+use Rattle.gs_kernel.specs.declared.settings.Settings.{Settings}
+use Rattle.gs_kernel.specs.Kernel.{next_about, preemption, after_take}
+use Rattle.gs_core.specs.declared.transaction.Transaction.{Transaction}
+use Rattle.gs_core.specs.Machine.{State, view, page_of}
+use Rattle.gs_core.specs.Safe.{IsBacked, OnOne}
+use Rattle.gs_core.specs.Good.{GoodHistory, Good}
+use Rattle.gs_core.proofs.Faces.{faces_same}
+use Rattle.gs_core.proofs.Tears.{tear_good}
+use Rattle.gs_core.proofs.Growing.{SameRole}
+use Rattle.gs_core.proofs.Steps.{BothOf, post_good}
+use Rattle.gs_core.proofs.Happens.{both_about}
+
+-- an entry that concerns no thread
+stays : {A : Type 0} (ends : A → Entry → Bool) (e : Entry) (o : Option A) → ((a : A) → ends a e ≡ false) → then_stands None ends e o ≡ o
+stays ends e None never = refl
+stays ends e (Some a) never = ap (λ b. cond b None (Some a)) (never a)
+
+still : (h : History) (e : Entry) (c : ℕ) → is_quiet e ≡ true → on (h ++ e ∷ []) c ≡ on h c
+still h e c quiet = on-push h e c ∙ by_entry e quiet (on h c)
+  where
+    by_entry : (e : Entry) → is_quiet e ≡ true → (o : Option ℕ) → then_stands (placed_on c e) ends_run e o ≡ o
+    by_entry (Posted m) q o = absurd cc
+    by_entry (Placed t s d g) q o = absurd cc
+    by_entry Torn q o = absurd cc
+    by_entry (Role g d) q o = stays ends_run (Role g d) o (λ t. refl)
+    by_entry (Begin g) q o = stays ends_run (Begin g) o (λ t. refl)
+    by_entry Left q o = stays ends_run Left o (λ t. refl)
+    by_entry (Taken d) q o = stays ends_run (Taken d) o (λ t. refl)
+    by_entry (Given d) q o = stays ends_run (Given d) o (λ t. refl)
+
+posts_none : (e : Entry) → is_quiet e ≡ true → posted_by e ≡ []
+posts_none (Posted m) q = absurd cc
+posts_none (Placed t s d g) q = absurd cc
+posts_none Torn q = absurd cc
+posts_none (Role g d) q = refl
+posts_none (Begin g) q = refl
+posts_none Left q = refl
+posts_none (Taken d) q = refl
+posts_none (Given d) q = refl
+
+needs_none : (s : Settings) (xs : List Transaction) (h : History) (e : Entry) → is_quiet e ≡ true → IsBacked s xs h e
+needs_none s xs h (Posted m) q = tt
+needs_none s xs h (Placed t n d g) q = absurd cc
+needs_none s xs h Torn q = tt
+needs_none s xs h (Role g d) q = tt
+needs_none s xs h (Begin g) q = tt
+needs_none s xs h Left q = tt
+needs_none s xs h (Taken d) q = tt
+needs_none s xs h (Given d) q = tt
+
+pub good_quiet : (s : Settings) (xs : List Transaction) (h : History) (e : Entry) → is_quiet e ≡ true → GoodHistory s xs h → GoodHistory s xs (h ++ e ∷ [])
+good_quiet s xs h e quiet g =
+    record {
+      backed = AtEach-push (IsBacked s xs) h e g.backed (needs_none s xs h e quiet);
+      one = AtEachPrefix-push OnOne h e g.one (λ u c d p q. whole_one g.one u c d (stood c u p) (stood d u q));
+      numbered = λ u. subst (Numbered s.first_tseq 0) (sym (same u)) (g.numbered u);
+      fresh = λ u above. same u ∙ g.fresh u (omega (arith, ap length (same_created h e (ap (filter is_creation) (posts_none e quiet))), above));
+      no_zero = same 0 ∙ g.no_zero;
+      on_cpus = λ u c p. g.on_cpus u c (stood c u p);
+      on_known = λ u c p. subst (λ (z : List Message). 0 < length z) (sym (same u)) (g.on_known u c (stood c u p));
+      stamped = λ x i. Was-mono s.first_tseq h (h ++ e ∷ []) x.slot.tid _ [] (same x.slot.tid ∙ sym (append-nil _)) (g.stamped x i);
+      within = g.within;
+    }
+  where
+    same : (u : ℕ) → messages (h ++ e ∷ []) u ≡ messages h u
+    same u = same_messages h e u (ap (filter (is_about u)) (posts_none e quiet))
+
+    stood : (c u : ℕ) → on (h ++ e ∷ []) c ≡ Some u → on h c ≡ Some u
+    stood c u p = sym (still h e c quiet) ∙ p
+
+    whole_one : AtEachPrefix OnOne h → OnOne h
+    whole_one all = subst OnOne (take_all (length h) h (omega arith)) (all (length h))
+
+pub both_quiet : (m : State) (e : Entry) → is_quiet e ≡ true → Good m → BothOf m (m.history ++ e ∷ [])
+both_quiet m e quiet g =
+    record {
+      good = good_quiet m.settings m.transactions m.history e quiet g.history;
+      faces = faces_same m.settings.first_tseq m.history (m.history ++ e ∷ []) m.consumed (view m) (page_of m.agent) (same_posted m.history e (posts_none e quiet)) g.faces;
+    }
+
+pub quiet_good : (m : State) (e : Entry) → is_quiet e ≡ true → SameRole m.history (m.history ++ e ∷ []) → Good m → Good (record m { history = m.history ++ e ∷ [] })
+quiet_good m e quiet role g =
+    let b = both_quiet m e quiet g in
+    record {
+      history = b.good;
+      faces = b.faces;
+      slots = g.slots;
+      count = g.count;
+      when_active = λ p. g.when_active (sym (ap is_some role.active) ∙ p);
+      when_attaching = λ p. g.when_attaching (sym (ap is_some role.attaching) ∙ p);
+    }
+
+-- the other class takes a CPU, or gives it back
+role_taken : (h : History) (c : ℕ) → SameRole h (h ++ Taken c ∷ [])
+role_taken h c =
+    record {
+      active = active-push h (Taken c) ∙ stays ends_role (Taken c) (active h) (λ a. refl);
+      attaching = attaching-push h (Taken c) ∙ stays ends_begin (Taken c) (attaching h) (λ a. refl);
+    }
+
+role_given : (h : History) (c : ℕ) → SameRole h (h ++ Given c ∷ [])
+role_given h c =
+    record {
+      active = active-push h (Given c) ∙ stays ends_role (Given c) (active h) (λ a. refl);
+      attaching = attaching-push h (Given c) ∙ stays ends_begin (Given c) (attaching h) (λ a. refl);
+    }
+
+pub taken_good : (m : State) (c : ℕ) → Good m → Good (record m { history = m.history ++ Taken c ∷ [] })
+taken_good m c g = quiet_good m (Taken c) refl (role_taken m.history c) g
+
+pub give_good : (m : State) (c : ℕ) → Good m → Good (record m { history = m.history ++ Given c ∷ [] })
+give_good m c g = quiet_good m (Given c) refl (role_given m.history c) g
+
+pub take_good : (m : State) (c : ℕ) (b : Bool) → Good m → Good (record m { history = after_take b m.history (preemption m.settings m.history c) c })
+take_good m c b g = by_who (on m.history c) refl b
+  where
+    by_who : (o : Option ℕ) → on m.history c ≡ o → (b : Bool) → Good (record m { history = after_take b m.history (option_map (λ t. next_about m.settings m.history t (Preempted c)) o) c })
+    by_who None e b = taken_good m c g
+    by_who (Some t) e false = tear_good m g
+    by_who (Some t) e true =
+        let k : Message = next_about m.settings m.history t (Preempted c) in
+        let told : Good (record m { history = m.history ++ Posted k ∷ [] }) =
+        post_good m k true (both_about m t (Preempted c) refl (g.history.on_known t c e) g) g in
+        subst (λ h. Good (record m { history = h })) (append_assoc m.history (Posted k ∷ []) (Taken c ∷ []))
+        (taken_good (record m { history = m.history ++ Posted k ∷ [] }) c told)

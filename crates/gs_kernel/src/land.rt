@@ -1,0 +1,133 @@
+//! Landings: what becomes of what was stamped.
+
+ghost use Rattle.std.specs.Prelude.{◌≡◌, ◌+◌, ◌<◌, ◌≤◌, IfOk, OnOk, OnErr, length};
+ghost use Rattle.gs_journal.specs.Holder.{is_agent_on};
+ghost use Rattle.gs_kernel.specs.Landing.{landing, after_landing, after_outcome, verdict, cpu_verdict, is_generation};
+
+use crate::kernel::Kernel;
+use crate::landing::Landing;
+use gs_journal::Entry;
+use gs_layout::{Outcome, Slot};
+use gs_ring::Poster;
+use std::alloc::AllocError;
+
+impl<P: Poster> Kernel<P> {
+    /// What becomes of what was stamped into the slot of a CPU.
+    #[tactic(auto, unfolding(crate::specs::Landing::verdict))]
+    fn verdict(&self, cpu: u16, slot: &Slot) -> Outcome
+        requires { cpu < self.now.settings.cpus }
+        ensures { result ≡ verdict self.now.settings self.now.history cpu slot.now }
+    {
+        if self.torn {
+            return Outcome::Gone;
+        }
+        if !is_generation(slot.generation, self.agent) {
+            return Outcome::Displaced;
+        }
+        if !self.is_live(slot.tid) {
+            return Outcome::NoThread;
+        }
+        if slot.tseq != self.seq(slot.tid) {
+            return Outcome::Stale;
+        }
+        if !self.is_runnable(slot.tid) {
+            return Outcome::NotRunnable;
+        }
+        if self.at(slot.tid).is_some() {
+            return Outcome::AlreadyPlaced;
+        }
+        if !self.may_run_on(cpu, slot.tid) {
+            return Outcome::NotAllowed;
+        }
+        self.cpu_verdict(cpu)
+    }
+
+    /// Whether a CPU may be given to a thread.
+    fn cpu_verdict(&self, cpu: u16) -> Outcome
+        requires { cpu < self.now.settings.cpus }
+        ensures { result ≡ cpu_verdict self.now.settings self.now.history cpu }
+    {
+        if is_agent_on(cpu, self.agent) {
+            return Outcome::CpuIsAgent;
+        }
+        if self.taken.has(cpu) {
+            return Outcome::CpuTaken;
+        }
+        if self.running[cpu as usize].is_some() {
+            return Outcome::CpuBusy;
+        }
+        if self.journal.len() >= self.settings.history as usize {
+            return Outcome::HistoryFull;
+        }
+        Outcome::Placed
+    }
+
+    /// What was stamped into the slot of a CPU lands, and takes effect where its outcome is
+    /// [`Outcome::Placed`].
+    ///
+    /// # Errors
+    ///
+    /// Where it would take effect, no room was reserved, and memory runs out. Then nothing changes.
+    #[tactic(auto, unfolding(crate::specs::Landing::landing))]
+    pub fn land(&mut self, cpu: u16, slot: &Slot) -> Result<Landing, AllocError>
+        requires { cpu < self.old.settings.cpus }
+        ensures landing { IfOk result (λ l. l ≡ landing self.old.settings self.old.history cpu slot.now) }
+        ensures history { OnOk result (self.new.history ≡ after_landing self.old.settings self.old.history cpu slot.now) }
+        ensures unchanged { OnErr result (self.new.history ≡ self.old.history) }
+        ensures memory { OnErr result (verdict self.old.settings self.old.history cpu slot.now ≡ Outcome.Placed) }
+        ensures reserved { OnErr result (self.old.room ≡ 0) }
+        ensures ring { self.new.poster ≡ self.old.poster }
+        ensures settings { self.new.settings ≡ self.old.settings }
+        ensures room { self.old.room + length self.old.history ≤ self.new.room + length self.new.history }
+    {
+        let outcome = self.verdict(cpu, slot);
+        let seen = self.seq(slot.tid);
+        if let Outcome::Placed = outcome {
+            self.place(cpu, slot)?;
+        }
+        Ok(Landing {
+            cpu,
+            tid: slot.tid,
+            outcome,
+            seen,
+            at: self.at(slot.tid),
+        })
+    }
+
+    /// Appends that a thread was placed.
+    fn place(&mut self, cpu: u16, slot: &Slot) -> Result<(), AllocError>
+        requires cpu { cpu < self.old.settings.cpus }
+        requires placed { verdict self.old.settings self.old.history cpu slot.now ≡ Outcome.Placed }
+        ensures placed { OnOk result (self.new.history ≡ after_outcome self.old.history Outcome.Placed cpu slot.now) }
+        ensures unchanged { OnErr result (self.new.history ≡ self.old.history) }
+        ensures reserved { OnErr result (self.old.room ≡ 0) }
+        ensures ring { self.new.poster ≡ self.old.poster }
+        ensures settings { self.new.settings ≡ self.old.settings }
+        ensures room { self.old.room + length self.old.history ≤ self.new.room + length self.new.history }
+    {
+        if self.journal.reserve(1).is_err() {
+            return Err(AllocError);
+        }
+        self.journal.append(Entry::Placed {
+            tid: slot.tid,
+            tseq: slot.tseq,
+            cpu,
+            generation: slot.generation,
+        });
+        self.threads.place(slot.tid, Some(cpu));
+        self.running[cpu as usize] = Some(slot.tid);
+        Ok(())
+    }
+}
+
+fn is_generation(generation: u32, active: Option<(u32, u16)>) -> bool
+    ensures { result ≡ is_generation generation active }
+{
+    active.is_some_and(|(current, _)| current == generation)
+}
+
+pub(crate) fn is_agent_on(cpu: u16, active: Option<(u32, u16)>) -> bool
+    ensures { result ≡ is_agent_on cpu active }
+{
+    active.is_some_and(|(_, there)| there == cpu)
+}

@@ -1,0 +1,4 @@
+pub mod Lent
+pub mod ReadBack
+pub mod Written
+mod Rows

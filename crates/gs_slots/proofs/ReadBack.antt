@@ -1,0 +1,63 @@
+-- What is spelt in the bytes of a slot is read back from them.
+use Rattle.std.proofs.Common.{◌≡◌, Bool, true, false, cond, ℕ, ◌^◌, ◌<◌, Option, None, Some, List, [], ◌++◌, replicate, refl, ap, ◌∙◌, arith}
+use Rattle.std.specs.Prelude.{◌==◌, if◌then◌else◌, unwrap_or}
+use Rattle.std.proofs.lemmas.Bool.Decides.{nat_tests}
+use Rattle.byteorder.specs.Endian.{little_bytes, little_number}
+use Rattle.byteorder.specs.Numbers.{little_number-reads_back}
+use Rattle.gs_layout.specs.declared.outcome.Outcome.{Outcome}
+use Rattle.gs_layout.specs.declared.outcome.Outcome.TheVariants as outcomes
+use Rattle.gs_layout.specs.Outcome.{number, outcome_numbered}
+use Rattle.gs_layout.specs.Reading.{cpu_numbered}
+use Rattle.gs_layout.specs.Spelling.{IsCpuOrNone, cpu_number}
+use Rattle.gs_slots.specs.declared.state.SlotState.{SlotState}
+use Rattle.gs_slots.specs.declared.state.SlotState.TheVariants.{Idle, Stamped, Done}
+use Rattle.gs_slots.specs.declared.state.Stamp.{Stamp}
+use Rattle.gs_slots.specs.Reading.{stamp_in, state_in}
+use Rattle.gs_slots.specs.Spelling.{IsSpellable, IsSpellableStamp, result_bytes, spelling, stamp_bytes}
+
+-- a number is read from its bytes
+reads : (n x : ℕ) → x < 256 ^ n → little_number n (little_bytes n x ++ []) ≡ x
+reads n x lt = little_number-reads_back n x [] lt
+
+flag_back : (b : Bool) → ((if b then 1 else 0) == 1) ≡ b
+flag_back true = refl
+flag_back false = refl
+
+cpu_below : (c : ℕ) → c < 64 → cpu_numbered c ≡ Some c
+cpu_below c lt =
+    let other : (c == 65535) ≡ false = grind (arith, nat_tests) in
+    ap (λ (b : Bool). cond b None (Some c)) other
+
+cpu_back : (o : Option ℕ) → IsCpuOrNone o → cpu_numbered (little_number 2 (little_bytes 2 (cpu_number o) ++ [])) ≡ o
+cpu_back None fits = refl
+cpu_back (Some c) fits = ap cpu_numbered (reads 2 c (omega arith)) ∙ cpu_below c fits
+
+outcome_back : (o : Outcome) → unwrap_or (outcome_numbered (little_number 2 (little_bytes 2 (number o) ++ []))) outcomes.Malformed ≡ o
+outcome_back outcomes.Placed = refl
+outcome_back outcomes.Gone = refl
+outcome_back outcomes.Displaced = refl
+outcome_back outcomes.NoThread = refl
+outcome_back outcomes.Stale = refl
+outcome_back outcomes.NotRunnable = refl
+outcome_back outcomes.AlreadyPlaced = refl
+outcome_back outcomes.NotAllowed = refl
+outcome_back outcomes.CpuIsAgent = refl
+outcome_back outcomes.CpuTaken = refl
+outcome_back outcomes.CpuBusy = refl
+outcome_back outcomes.SeqSpent = refl
+outcome_back outcomes.HistoryFull = refl
+outcome_back outcomes.Malformed = refl
+
+stamp_back : (kind cpu : ℕ) (s : Stamp) (rest : List ℕ) → IsSpellableStamp s → stamp_in (stamp_bytes kind cpu s ++ rest) ≡ s
+stamp_back kind cpu s rest fits = λ i. record {
+  generation = reads 4 s.generation fits.generation i;
+  tid = reads 4 s.tid fits.tid i;
+  tseq = reads 4 s.tseq fits.tseq i;
+  preempt = flag_back s.preempt i;
+}
+
+-- a state is read back from its spelling
+pub read_back : (cpu : ℕ) (s : SlotState) → IsSpellable s → state_in (spelling cpu s) ≡ s
+read_back cpu Idle fits = refl
+read_back cpu (Stamped s) fits = λ i. Stamped (stamp_back 1 cpu s (replicate 16 0) fits i)
+read_back cpu (Done s outcome at seen) fits = λ i. Done (stamp_back 2 cpu s (result_bytes outcome at seen ++ replicate 8 0) fits.0 i) (outcome_back outcome i) (cpu_back at fits.1.within i) (reads 4 seen fits.1.fits i)

@@ -1,0 +1,5 @@
+pub mod State
+pub mod Spelling
+pub mod Reading
+pub mod SlotMut
+pub mod Lending

@@ -1,0 +1,50 @@
+ghost use Rattle.std.specs.Prelude.{◌≡◌, ◌≤◌, ◌+◌, [], ◌∷◌, ◌++◌, length, MatchOption};
+ghost use Rattle.std.specs.Borrow.{sem};
+ghost use Rattle.gs_slots.specs.Lending.{LendsNext, LendsParts};
+
+use crate::cell::SlotCell;
+
+/// Slots of a region that are lent, by rising CPU.
+///
+/// Take it apart to go on with `rest`: a slot's cell and the rest behind it, or two parts, are lent
+/// together.
+#[derive(Drop)]
+pub struct Slots<'a> {
+    /// The cells of the slots.
+    pub rest: &'a mut [SlotCell],
+    /// The CPU of the first of them.
+    pub first: u16,
+}
+
+impl<'a> Slots<'a> {
+    /// Slots whose first is that of a CPU.
+    pub fn over(rest: &'a mut [SlotCell], first: u16) -> Slots<'a>
+        ensures same_reference { result.rest.ghost_name ≡ rest.entry.ghost_name }
+        ensures slots { result.rest.now ≡ rest.old }
+        ensures first { result.first ≡ first }
+    {
+        Slots { rest, first }
+    }
+
+    /// The first slot, and the rest behind it, whose first CPU is one above; or `None` where none is
+    /// left. The slots that were taken before stay lent.
+    pub fn next(rest: &mut [SlotCell]) -> Option<(&mut SlotCell, &mut [SlotCell])>
+        ensures* writes_back { sem 𝓛 (LendsNext rest.entry result) }
+        ensures parts { MatchOption result (rest.old ≡ []) (λ p. rest.old ≡ p.0.now ∷ p.1.now) }
+    {
+        rest.split_first_mut()
+    }
+
+    /// The slots of the CPUs below one, and those from there on, where the first is that of CPU
+    /// `first`.
+    pub fn split(rest: &mut [SlotCell], first: u16, cpu: u16) -> (&mut [SlotCell], &mut [SlotCell])
+        requires low { first ≤ cpu }
+        requires high { cpu ≤ first + length rest.old }
+        ensures* writes_back { sem 𝓛 (LendsParts rest.entry result) }
+        ensures whole { rest.old ≡ result.0.now ++ result.1.now }
+        ensures below { first + length result.0.now ≡ cpu }
+    {
+        let count = (cpu - first) as usize;
+        rest.split_at_mut(count)
+    }
+}

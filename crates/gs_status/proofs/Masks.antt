@@ -1,0 +1,94 @@
+-- A shift says which bits are left, and a bit that is set or cleared says which CPUs are in the mask.
+use Rattle.std.proofs.Common.{◌≡◌, ◌≢◌, ℕ, ◌+◌, ◌*◌, ◌^◌, ◌/◌, ◌%◌, ◌<◌, ◌≤◌, ◌⊎◌, inl, inr, Bool, true, false, ap, ◌∙◌, sym, subst, refl, arith, min, bit_or, w64}
+use Rattle.std.specs.Prelude.{nat_le, not, ◌==◌, bit_and}
+use Rattle.std.specs.Int.{bit_at, bit_not}
+use Rattle.std.proofs.lemmas.Bool.{cases_lt}
+use Rattle.std.proofs.lemmas.Bool.Decides.{nat_tests}
+use Rattle.std.proofs.lemmas.Nat.{pow_pos}
+use Rattle.std.proofs.lemmas.Nat.Bits.{shr_and_one, bit_at-zero, bit_at_above, bit_at_and, bit_at_set_same, bit_at_set_other, bit_at_clear_same, bit_at_clear_other}
+use Rattle.std.proofs.Math.Nat.{div-eq_of_lt, lt-div-mul-add}
+use Rattle.std.proofs.Math.Pow.{pow_mono}
+use Rattle.gs_status.specs.Masks.{has, has_past}
+
+shifted_by : (n b : ℕ) → 0 < b → (n < b) ⊎ (b ≤ n) → not (n / b == 0) ≡ nat_le b n
+shifted_by n b pos (inl l) =
+    let z : n / b ≡ 0 = div-eq_of_lt l in
+    let le : nat_le b n ≡ false = grind (arith, nat_tests) in
+    ap (λ k. not (k == 0)) z ∙ sym le
+shifted_by n b pos (inr l) =
+    let le : nat_le b n ≡ true = grind (arith, nat_tests) in
+    by_zero (n / b == 0) refl ∙ sym le
+  where
+    by_zero : (t : Bool) → (n / b == 0) ≡ t → not (n / b == 0) ≡ true
+    by_zero false e = ap not e
+    by_zero true e =
+        let z : n / b ≡ 0 = grind (arith, nat_tests) in
+        let up : n < n / b * b + b = lt-div-mul-add pos in
+        let up' : n < 0 * b + b = subst (λ k. n < k * b + b) z up in
+        absurd (omega (arith, up', l))
+
+pub shifted_out : (n c : ℕ) → not (n / 2 ^ c == 0) ≡ has_past n c
+shifted_out n c = shifted_by n (2 ^ c) (pow_pos c) (cases_lt n (2 ^ c))
+
+-- 64 bits are below each power from the 64th on
+below_past : (n c : ℕ) → n < 2 ^ 64 → 64 ≤ c → n < 2 ^ c
+below_past n c small past =
+    let p : 2 ^ 64 ≤ 2 ^ c = pow_mono past in
+    omega (arith, p, small)
+
+pub past_all : (n c : ℕ) → n < 2 ^ 64 → 64 ≤ c → has_past n c ≡ false
+past_all n c small past =
+    let lt = below_past n c small past in
+    grind (arith, nat_tests, lt)
+
+pub has_none_past : (n c : ℕ) → n < 2 ^ 64 → 64 ≤ c → has n c ≡ false
+has_none_past n c small past = ap (λ k. bit_and k 1 == 1) (div-eq_of_lt (below_past n c small past))
+
+-- a CPU is in a mask where its bit is one
+has_by_bit : (n c : ℕ) → has n c ≡ (bit_at n c == 1)
+has_by_bit n c = ap (λ (k : ℕ). k == 1) (shr_and_one n c)
+
+-- two masks with the same bit
+has_same : (n m c : ℕ) → bit_at n c ≡ bit_at m c → has n c ≡ has m c
+has_same n m c e = has_by_bit n c ∙ (ap (λ (k : ℕ). k == 1) e ∙ sym (has_by_bit m c))
+
+pub nobody : (c : ℕ) → has 0 c ≡ false
+nobody c = has_by_bit 0 c ∙ ap (λ (k : ℕ). k == 1) (bit_at-zero c)
+
+-- a mask with the bit of CPU c set
+abbrev pub with_bit : ℕ → ℕ → ℕ
+with_bit n c = bit_or n (1 * 2 ^ c % 2 ^ 64)
+
+pub with_here : (n c : ℕ) → c < 64 → has (with_bit n c) c ≡ true
+with_here n c within = has_by_bit (with_bit n c) c ∙ ap (λ (k : ℕ). k == 1) (bit_at_set_same w64 n c within)
+
+pub with_others : (n c : ℕ) → c < 64 → (i : ℕ) → i ≢ c → has (with_bit n c) i ≡ has n i
+with_others n c within i other = has_same (with_bit n c) n i (bit_at_set_other w64 n c within i other)
+
+-- a mask with the bit of CPU c cleared
+abbrev pub without_bit : ℕ → ℕ → ℕ
+without_bit n c = bit_and n (bit_not w64 (1 * 2 ^ c % 2 ^ 64))
+
+pub without_here : (n c : ℕ) → c < 64 → has (without_bit n c) c ≡ false
+without_here n c within = has_by_bit (without_bit n c) c ∙ ap (λ (k : ℕ). k == 1) (bit_at_clear_same w64 n c within)
+
+-- a bit from the 64th on is zero before and after
+pub without_others : (n c : ℕ) → n < 2 ^ 64 → c < 64 → (i : ℕ) → i ≢ c → has (without_bit n c) i ≡ has n i
+without_others n c small within i other = has_same (without_bit n c) n i (by_place (cases_lt i 64))
+  where
+    fits : n < 2 ^ 64
+    fits = small
+
+    inside : c < 64
+    inside = within
+
+    differs : i ≢ c
+    differs = other
+
+    by_place : (i < 64) ⊎ (64 ≤ i) → bit_at (without_bit n c) i ≡ bit_at n i
+    by_place (inl below) = bit_at_clear_other w64 n c inside i below differs
+    by_place (inr past) =
+        let before : bit_at n i ≡ 0 = bit_at_above n 64 i fits past in
+        let after : bit_at (without_bit n c) i ≡ min (bit_at n i) (bit_at (bit_not w64 (1 * 2 ^ c % 2 ^ 64)) i) =
+        bit_at_and n (bit_not w64 (1 * 2 ^ c % 2 ^ 64)) i in
+        omega (arith, before, after)

@@ -1,0 +1,94 @@
+ghost use Rattle.std.specs.Prelude.{◌≡◌, ◌≢◌, ◌<◌, ◌≤◌, ℕ, true, false};
+ghost use Rattle.gs_status.specs.Masks.{has, has_past, has_none};
+
+use std::marker::Model;
+
+/// A set of CPUs: CPU c is in it where bit c is set. Clauses see it as its bits.
+#[derive(Clone, Copy)]
+pub struct Mask {
+    bits: u64,
+}
+
+impl Model for Mask {
+    ghost use Rattle.std.specs.Prelude.{ℕ};
+
+    ghost Value = { ℕ };
+
+    ghost view = { λ m. m.bits };
+
+    ghost inverse = { λ n. record { bits = n } };
+}
+
+impl Mask {
+    /// The set of these bits.
+    pub const fn new(bits: u64) -> Mask
+        ensures { result ≡ bits }
+    {
+        Mask { bits }
+    }
+
+    /// The set of no CPU.
+    #[tactic(auto, using(crate::proofs::Masks::nobody))]
+    pub const fn none() -> Mask
+        ensures bits { result ≡ 0 }
+        ensures empty { (c : ℕ) → has result c ≡ false }
+    {
+        Mask { bits: 0 }
+    }
+
+    /// The bits of the set: bit c is set where CPU c is in it.
+    pub const fn bits(self) -> u64
+        ensures { result ≡ self }
+    {
+        self.bits
+    }
+
+    /// Whether no CPU is in the set.
+    pub fn is_empty(self) -> bool
+        ensures { result ≡ has_none self }
+    {
+        self.bits == 0
+    }
+
+    /// Whether a CPU is in the set. No CPU from 64 on is in any.
+    #[tactic(auto, using(crate::proofs::Masks::has_none_past))]
+    pub fn has(self, cpu: u16) -> bool
+        ensures { result ≡ has self cpu }
+    {
+        let bits = self.bits;
+        cpu < 64 && (bits >> cpu) & 1 == 1
+    }
+
+    /// Whether a CPU that is not below the count is in the set.
+    #[tactic(auto, using(crate::proofs::Masks::shifted_out, crate::proofs::Masks::past_all))]
+    pub fn has_past(self, cpus: u16) -> bool
+        ensures { result ≡ has_past self cpus }
+    {
+        let bits = self.bits;
+        cpus < 64 && bits >> cpus != 0
+    }
+
+    /// The set with one CPU more, or the same set where it has that CPU. A CPU is from 0 to 63.
+    #[tactic(auto, using(crate::proofs::Masks::with_here, crate::proofs::Masks::with_others))]
+    pub fn with(self, cpu: u16) -> Mask
+        requires { cpu < 64 }
+        ensures here { has result cpu ≡ true }
+        ensures others { (c : ℕ) → c ≢ cpu → has result c ≡ has self c }
+    {
+        Mask {
+            bits: self.bits | 1 << cpu,
+        }
+    }
+
+    /// The set without a CPU, or the same set where it lacks that CPU. A CPU is from 0 to 63.
+    #[tactic(auto, using(crate::proofs::Masks::without_here, crate::proofs::Masks::without_others))]
+    pub fn without(self, cpu: u16) -> Mask
+        requires { cpu < 64 }
+        ensures here { has result cpu ≡ false }
+        ensures others { (c : ℕ) → c ≢ cpu → has result c ≡ has self c }
+    {
+        Mask {
+            bits: self.bits & !(1 << cpu),
+        }
+    }
+}

@@ -1,0 +1,208 @@
+-- An input has one output: where memory suffices, each event of a run has one reply.
+use Rattle.std.proofs.Common.{◌≡◌, refl, ap, sym, ◌∙◌, subst, ℕ, ◌+◌, ◌⊎◌, inl, inr, ◌||◌, Bool, true, false, not, nat_le, Option, None, Some, List, [], ◌∷◌, length, take, drop, Result, Ok, Err, slice_get}
+use Rattle.std.specs.List.{list_any, count_by}
+use Rattle.std.specs.Option.{is_some}
+use Rattle.gs_layout.specs.declared.message.Message.{Message}
+use Rattle.gs_layout.specs.declared.known.Known.{Known}
+use Rattle.gs_layout.specs.declared.refusal.Refusal.{Refusal}
+use Rattle.gs_layout.specs.declared.refusal.Refusal.TheVariants as refusals
+use Rattle.gs_layout.specs.View.{Look, look_up, words, catch_up, is_skipped, is_orphan, gap_next}
+use Rattle.gs_journal.specs.History.{posted, active, torn}
+use Rattle.gs_journal.proofs.Past.{same_view}
+use Rattle.gs_kernel.specs.First.{first_that}
+use Rattle.gs_core.specs.declared.drained.Drained.{Drained}
+use Rattle.gs_core.specs.declared.drained.Stop.{Stop}
+use Rattle.gs_core.specs.declared.drained.Stop.TheVariants.{Gap, Memory}
+use Rattle.gs_core.specs.declared.event.Event.{Event}
+use Rattle.gs_core.specs.declared.event.Event.TheVariants.{Create, Tick, Drain, Stamp, Commit, Unread}
+use Rattle.gs_core.specs.declared.reply.Reply.{Reply}
+use Rattle.gs_core.specs.declared.reply.Reply.TheVariants as replies
+use Rattle.gs_core.specs.Machine.{State, Agent, records_of, view, unread, is_idle, refusal, Serves, Step, Does, IsShort, Takes, Drains, creates, ticks, stamps, stamps_with, commits}
+use Rattle.gs_core.specs.Safe.{IsFaithful, Run}
+use Rattle.gs_core.proofs.Faces.{drop_drop}
+use Rattle.gs_trace.specs.declared.fault.ScriptFault.{ScriptFault}
+use Rattle.gs_trace.specs.declared.run.Ended.{Ended}
+use Rattle.gs_trace.specs.Script.{Script, script_of}
+use Rattle.gs_trace.specs.Lines.{lines}
+use Rattle.gs_trace.specs.Output.{wants_memory, is_memory, IsOutput, IsOutputOf}
+
+-- machines that differ at most in how their agents list what they know
+abbrev Alike : State → State → Type 0
+Alike m n = (a : Option Agent) × (n ≡ record m { agent = a }) × (look_up (records_of a) ≡ view m)
+
+alike_at : (m n x : State) (a : Option Agent) → m ≡ x → n ≡ record x { agent = a } → look_up (records_of a) ≡ view x → Alike m n
+alike_at m n x a e k same = (a, k ∙ ap (λ (s : State). record s { agent = a }) (sym e), same ∙ ap view (sym e))
+
+-- one refusal
+stamp_refusal : State → ℕ → ℕ → Look → Option Refusal
+stamp_refusal m c t v =
+    first_that (
+    (torn m.history, Some refusals.Gone)
+    ∷ (not (is_some (active m.history)), Some refusals.NotActive)
+    ∷ (nat_le m.settings.cpus c, Some refusals.BadCpu)
+    ∷ (not (is_some (v t)), Some refusals.NoThread)
+    ∷ (not (is_idle (slice_get m.slots c)), Some refusals.SlotOpen)
+    ∷ (nat_le m.settings.history (length m.transactions), Some refusals.HistoryFull)
+    ∷ []
+    ) None
+
+one_refusal : (m : State) (a : Option Agent) → look_up (records_of a) ≡ view m → (e : Event) → refusal (record m { agent = a }) e ≡ refusal m e
+unfolding stamp_refusal
+one_refusal m a same (Create f) = refl
+one_refusal m a same (Tick c) = refl
+one_refusal m a same (Drain max) = refl
+one_refusal m a same (Stamp c t) = ap (stamp_refusal m c t) same
+one_refusal m a same (Commit mask) = refl
+one_refusal m a same Unread = refl
+
+-- one drain: with memory none stops early, as the view that it leaves meets no gap
+left_unread : (m m' : State) (max : ℕ) (d : Drained) → Drains m max d m' → unread m' ≡ drop d.count (unread m)
+left_unread m m' max d x =
+    ap (λ (s : State). drop m'.consumed (posted s.history)) x.others
+    ∙ ap (λ n. drop n (posted m.history)) x.consumed
+    ∙ drop_drop m.consumed d.count (posted m.history)
+
+no_stop : (m m' : State) (max : ℕ) (d : Drained) → Drains m max d m' → IsFaithful m' → is_memory d.stop ≡ false → d.stop ≡ None
+no_stop m m' max d x f enough = by_stop d.stop refl
+  where
+    unstopped : gap_next (catch_up (view m) (take d.count (unread m))) (drop d.count (unread m)) ≡ false
+    unstopped =
+        sym (ap (λ (v : Look). gap_next v (drop d.count (unread m))) (same_view _ _ x.takes.known))
+        ∙ sym (ap (gap_next (view m')) (left_unread m m' max d x))
+        ∙ f.no_gap
+
+    by_stop : (o : Option Stop) → d.stop ≡ o → d.stop ≡ None
+    by_stop None e = e
+    by_stop (Some Memory) e = let k = sym enough ∙ ap is_memory e in absurd (cc)
+    by_stop (Some Gap) e = let k = sym unstopped ∙ x.takes.gap e in absurd (cc)
+
+drained_same : (d e : Drained) → d.count ≡ e.count → d.skipped ≡ e.skipped → d.orphans ≡ e.orphans → d.stop ≡ e.stop → d ≡ e
+drained_same d e a b c s = λ i. record { count = a i; skipped = b i; orphans = c i; stop = s i }
+
+record OneTaken (d e : Drained) (v w : Look) : Type 0 where
+  told : d ≡ e
+  known : v ≡ w
+
+one_taken : (v : Look) (ms : List Message) (max : ℕ) (d e : Drained) (w w' : Look) → Takes v ms max d w → Takes v ms max e w' → d.stop ≡ None → e.stop ≡ None → OneTaken d e w w'
+one_taken v ms max d e w w' x y p q =
+    let count : d.count ≡ e.count = x.whole p ∙ sym (y.whole q) in
+    record {
+      told = drained_same d e count
+          (x.skipped ∙ ap (λ n. count_by is_skipped (words v (take n ms))) count ∙ sym y.skipped)
+          (x.orphans ∙ ap (λ n. count_by is_orphan (words v (take n ms))) count ∙ sym y.orphans)
+          (p ∙ sym q);
+      known = same_view _ _ x.known ∙ ap (λ n. catch_up v (take n ms)) count ∙ sym (same_view _ _ y.known);
+    }
+
+-- one reply, and machines alike
+record One (r r' : Reply) (m n : State) : Type 0 where
+  reply : r ≡ r'
+  left : Alike m n
+
+one_drain : (m : State) (a : Option Agent) → look_up (records_of a) ≡ view m → (max : ℕ) (d e : Drained) (m' n' : State)
+    → Drains m max d m' → Drains (record m { agent = a }) max e n' → IsFaithful m' → IsFaithful n' → is_memory d.stop ≡ false → is_memory e.stop ≡ false → One (replies.Drained d) (replies.Drained e) m' n'
+one_drain m a same max d e m' n' x y f g p q =
+    let t = one_taken (view m) (unread m) max d e (view m') (view n') x.takes (subst (λ (v : Look). Takes v (unread m) max e (view n')) same y.takes) (no_stop m m' max d x f p) (no_stop (record m { agent = a }) n' max e y g q) in
+    record {
+      reply = ap replies.Drained t.told;
+      left = (
+        n'.agent,
+        y.others
+            ∙ ap (λ c. record m { consumed = c; agent = n'.agent }) (y.consumed ∙ ap (λ (z : Drained). m.consumed + z.count) (sym t.told) ∙ sym x.consumed)
+            ∙ sym (ap (λ (s : State). record s { agent = n'.agent }) x.others),
+        sym t.known,
+      );
+    }
+
+-- one stamp
+stamps_reply : (m : State) (a : Option Agent) (c t : ℕ) (o : Option (ℕ × ℕ)) (k : Option Known) → (stamps_with (record m { agent = a }) c t o k).0 ≡ (stamps_with m c t o k).0
+stamps_reply m a c t None k = refl
+stamps_reply m a c t (Some b) None = refl
+stamps_reply m a c t (Some b) (Some k) = refl
+
+stamps_left : (m : State) (a : Option Agent) (c t : ℕ) (o : Option (ℕ × ℕ)) (k : Option Known) → (stamps_with (record m { agent = a }) c t o k).1 ≡ record ((stamps_with m c t o k).1) { agent = a }
+stamps_left m a c t None k = refl
+stamps_left m a c t (Some b) None = refl
+stamps_left m a c t (Some b) (Some k) = refl
+
+stamps_view : (m : State) (c t : ℕ) (o : Option (ℕ × ℕ)) (k : Option Known) → view m ≡ view ((stamps_with m c t o k).1)
+stamps_view m c t None k = refl
+stamps_view m c t (Some b) None = refl
+stamps_view m c t (Some b) (Some k) = refl
+
+one_stamp : (m : State) (a : Option Agent) → look_up (records_of a) ≡ view m → (c t : ℕ) (r r' : Reply) (m' n' : State) → Does m (Stamp c t) r m' → Does (record m { agent = a }) (Stamp c t) r' n' → One r r' m' n'
+one_stamp m a same c t r r' m' n' x y =
+    let o = active m.history in
+    let known : stamps (record m { agent = a }) c t ≡ stamps_with (record m { agent = a }) c t o (view m t) = ap (λ (v : Look). stamps_with (record m { agent = a }) c t o (v t)) same in
+    record {
+      reply = x.0 ∙ sym (y.0 ∙ ap (λ p. p.0) known ∙ stamps_reply m a c t o (view m t));
+      left = alike_at m' n' (stamps m c t).1 a x.1 (y.1 ∙ ap (λ p. p.1) known ∙ stamps_left m a c t o (view m t)) (same ∙ stamps_view m c t o (view m t));
+    }
+
+-- one step
+refused_is : (r : Reply) → wants_memory r ≡ false → r ≡ replies.Refused refusals.OutOfMemory → ⊥
+refused_is r p e = let k = sym p ∙ ap wants_memory e in absurd (cc)
+
+one_done : (m : State) (a : Option Agent) → look_up (records_of a) ≡ view m → (e : Event) (r r' : Reply) (m' n' : State)
+    → Does m e r m' ⊎ (IsShort e r × (m' ≡ m)) → Does (record m { agent = a }) e r' n' ⊎ (IsShort e r' × (n' ≡ record m { agent = a }))
+    → IsFaithful m' → IsFaithful n' → wants_memory r ≡ false → wants_memory r' ≡ false → One r r' m' n'
+one_done m a same (Create f) r r' m' n' (inl x) (inl y) g h p q = record { reply = x.0 ∙ sym y.0; left = alike_at m' n' (creates m f).1 a x.1 y.1 same }
+one_done m a same (Create f) r r' m' n' (inr x) y g h p q = absurd (refused_is r p x.0)
+one_done m a same (Create f) r r' m' n' (inl x) (inr y) g h p q = absurd (refused_is r' q y.0)
+one_done m a same (Tick c) r r' m' n' (inl x) (inl y) g h p q = record { reply = x.0 ∙ sym y.0; left = alike_at m' n' (ticks m c).1 a x.1 y.1 same }
+one_done m a same (Tick c) r r' m' n' (inr x) y g h p q = absurd (refused_is r p x.0)
+one_done m a same (Tick c) r r' m' n' (inl x) (inr y) g h p q = absurd (refused_is r' q y.0)
+one_done m a same (Drain max) r r' m' n' (inl x) (inl y) g h p q =
+    let o = one_drain m a same max x.0 y.0 m' n' x.2 y.2 g h (sym (ap wants_memory x.1) ∙ p) (sym (ap wants_memory y.1) ∙ q) in
+    record { reply = x.1 ∙ o.reply ∙ sym y.1; left = o.left }
+one_done m a same (Drain max) r r' m' n' (inr x) y g h p q = absurd x.0
+one_done m a same (Drain max) r r' m' n' (inl x) (inr y) g h p q = absurd y.0
+one_done m a same (Stamp c t) r r' m' n' (inl x) (inl y) g h p q = one_stamp m a same c t r r' m' n' x y
+one_done m a same (Stamp c t) r r' m' n' (inr x) y g h p q = absurd (refused_is r p x.0)
+one_done m a same (Stamp c t) r r' m' n' (inl x) (inr y) g h p q = absurd (refused_is r' q y.0)
+one_done m a same (Commit mask) r r' m' n' (inl x) (inl y) g h p q = record { reply = x.0 ∙ sym y.0; left = alike_at m' n' (commits m mask).1 a x.1 y.1 same }
+one_done m a same (Commit mask) r r' m' n' (inr x) y g h p q = absurd (refused_is r p x.0)
+one_done m a same (Commit mask) r r' m' n' (inl x) (inr y) g h p q = absurd (refused_is r' q y.0)
+one_done m a same Unread r r' m' n' (inl x) (inl y) g h p q = record { reply = x.0 ∙ sym y.0; left = alike_at m' n' m a x.1 y.1 same }
+one_done m a same Unread r r' m' n' (inr x) y g h p q = absurd (refused_is r p x.0)
+one_done m a same Unread r r' m' n' (inl x) (inr y) g h p q = absurd (refused_is r' q y.0)
+
+one_served : (o : Option Refusal) (m : State) (a : Option Agent) → look_up (records_of a) ≡ view m → (e : Event) (r r' : Reply) (m' n' : State)
+    → Serves o m e r m' → Serves o (record m { agent = a }) e r' n' → IsFaithful m' → IsFaithful n' → wants_memory r ≡ false → wants_memory r' ≡ false → One r r' m' n'
+one_served (Some f) m a same e r r' m' n' x y g h p q = record { reply = x.0 ∙ sym y.0; left = alike_at m' n' m a x.1 y.1 same }
+one_served None m a same e r r' m' n' x y g h p q = one_done m a same e r r' m' n' x y g h p q
+
+one_step : (m n : State) → Alike m n → (e : Event) (r r' : Reply) (m' n' : State) → Step m e r m' → Step n e r' n' → IsFaithful m' → IsFaithful n' → wants_memory r ≡ false → wants_memory r' ≡ false → One r r' m' n'
+one_step m n alike e r r' m' n' x y g h p q =
+    let a = alike.0 in
+    let z : Step (record m { agent = a }) e r' n' = subst (λ (s : State). Step s e r' n') alike.1 y in
+    one_served (refusal m e) m a alike.2 e r r' m' n' x
+    (subst (λ (o : Option Refusal). Serves o (record m { agent = a }) e r' n') (one_refusal m a alike.2 e) z) g h p q
+
+-- one list of replies
+neither : (a b : Bool) → (a || b) ≡ false → (a ≡ false) × (b ≡ false)
+neither false b e = (refl, e)
+neither true b e = absurd cc
+
+one_run : (es : List Event) (m n : State) → Alike m n → (rs rs' : List Reply) (l l' : State) → Run m es rs l → Run n es rs' l' → list_any wants_memory rs ≡ false → list_any wants_memory rs' ≡ false → rs ≡ rs'
+one_run [] m n alike [] [] l l' x y p q = refl
+one_run [] m n alike (r ∷ rs) rs' l l' x y p q = absurd x
+one_run [] m n alike [] (r ∷ rs') l l' x y p q = absurd y
+one_run (e ∷ es) m n alike [] rs' l l' x y p q = absurd x
+one_run (e ∷ es) m n alike (r ∷ rs) [] l l' x y p q = absurd y
+one_run (e ∷ es) m n alike (r ∷ rs) (r' ∷ rs') l l' x y p q =
+    let b = neither _ _ p in
+    let c = neither _ _ q in
+    let o = one_step m n alike e r r' x.0 y.0 x.1 y.1 x.3 y.3 b.0 c.0 in
+    let others : rs ≡ rs' = one_run es x.0 y.0 o.left rs rs' l l' x.4 y.4 b.1 c.1 in
+    λ i. o.reply i ∷ others i
+
+one_of : (s : Result Script ScriptFault) (ended ended' : Ended) (out out' : List ℕ) → IsOutputOf s ended out → IsOutputOf s ended' out' → (ended ≡ ended') × (out ≡ out')
+one_of (Ok s) ended ended' out out' x y = (
+  x.0 ∙ sym y.0,
+  x.1.lines ∙ ap lines (one_run s.events _ _ (_, refl, refl) x.1.replies y.1.replies x.1.left y.1.left x.1.run y.1.run x.1.sufficed y.1.sufficed) ∙ sym y.1.lines,
+)
+one_of (Err f) ended ended' out out' x y = (x.0 ∙ sym y.0, x.1 ∙ sym y.1)
+
+pub one_output : (input : List ℕ) (ended ended' : Ended) (out out' : List ℕ) → IsOutput input ended out → IsOutput input ended' out' → (ended ≡ ended') × (out ≡ out')
+one_output input ended ended' out out' x y = one_of (script_of input) ended ended' out out' x y

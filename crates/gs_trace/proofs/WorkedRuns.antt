@@ -1,0 +1,122 @@
+-- Whole scripts, and what is written for them.
+use Rattle.std.proofs.Common.{refl, inl, ℕ, true, List, [], ◌∷◌, ◌++◌, map, take, codes}
+use Rattle.std.specs.Fmt.{digits}
+use Rattle.gs_layout.specs.declared.facts.Class.TheVariants.{Zero}
+use Rattle.gs_layout.specs.declared.facts.Facts.{Facts}
+use Rattle.gs_layout.specs.declared.message.Change.TheVariants.{Created}
+use Rattle.gs_layout.specs.declared.message.Message.{Message}
+use Rattle.gs_layout.specs.declared.message.Message.TheVariants.{Thread, TimerTick}
+use Rattle.gs_layout.specs.declared.refusal.Refusal.TheVariants as refusals
+use Rattle.gs_journal.specs.declared.entry.Entry.TheVariants.{Posted, Role, Torn}
+use Rattle.gs_journal.specs.History.{posted, created, torn}
+use Rattle.gs_kernel.specs.Kernel.{create_refusal, tick_refusal}
+use Rattle.gs_ring.specs.Places as places
+use Rattle.gs_ring.specs.Places.{need, pad_len}
+use Rattle.gs_core.specs.declared.config.Config.{Config}
+use Rattle.gs_core.specs.declared.event.Event.{Event}
+use Rattle.gs_core.specs.declared.event.Event.TheVariants as events
+use Rattle.gs_core.specs.declared.reply.Reply.{Reply}
+use Rattle.gs_core.specs.declared.reply.Reply.TheVariants as replies
+use Rattle.gs_core.specs.Machine.{State, Step, start}
+use Rattle.gs_core.specs.Safe.{Run}
+use Rattle.gs_core.proofs.Steps.{safe_of, faithful_of}
+use Rattle.gs_core.proofs.Whole.{start_good, step_good}
+use Rattle.gs_trace.specs.declared.run.Ended.TheVariants.{Ran}
+use Rattle.gs_trace.specs.Lines.{line}
+use Rattle.gs_trace.specs.Output.{IsOutput}
+
+two : Config
+two = record { cpus = 2; ring = 128; first_tseq = 0; first_generation = 1; history = 16777216 }
+
+-- a thread of both CPUs
+facts : List ℕ → Facts
+facts name = record { runnable = true; mask = 3; class = Zero; name = name }
+
+made : ℕ → List ℕ → Message
+made t name = Thread t 1 (Created (facts name))
+
+-- the machine after these messages were posted
+abbrev after : List Message → State
+after ms = record (start two) { history = Role 1 0 ∷ map Posted ms }
+
+abbrev torn_after : List Message → State
+torn_after ms = record (start two) { history = Role 1 0 ∷ (map Posted ms ++ Torn ∷ []) }
+
+-- a tick waits until it is drained
+abbrev seen : List Reply
+seen = replies.Ticked 1 ∷ replies.Unread (TimerTick 1 ∷ []) ∷ []
+
+seen_tick : Step (start two) (events.Tick 1) (replies.Ticked 1) (after (TimerTick 1 ∷ []))
+unfolding two torn tick_refusal posted need pad_len places.record_of
+seen_tick = inl (refl, refl)
+
+seen_look : Step (after (TimerTick 1 ∷ [])) events.Unread (replies.Unread (TimerTick 1 ∷ [])) (after (TimerTick 1 ∷ []))
+unfolding two torn posted
+seen_look = inl (refl, refl)
+
+seen_run : Run (start two) (events.Tick 1 ∷ events.Unread ∷ []) seen (after (TimerTick 1 ∷ []))
+seen_run =
+    let g = step_good _ (events.Tick 1) (replies.Ticked 1) _ (start_good two) seen_tick in
+    (after (TimerTick 1 ∷ []), seen_tick, safe_of _ g, faithful_of _ g, (after (TimerTick 1 ∷ []), seen_look, safe_of _ g, faithful_of _ g, refl))
+
+seen_written : IsOutput (codes "cpus 2 ring 128" ++ 10 ∷ codes "tick 1" ++ 10 ∷ codes "unread") Ran (line (codes "tick 1") ++ line (codes "unread tick 0 seq 0 cpu 1"))
+unfolding two digits
+seen_written = (refl, record { replies = seen; left = after (TimerTick 1 ∷ []); run = seen_run; sufficed = refl; lines = refl })
+
+-- four creations of 32 bytes fill a ring of 128, the tick tears the enclave down, and what comes then is refused
+abbrev four : List Message
+four = made 1 (codes "a") ∷ made 2 (codes "b") ∷ made 3 (codes "c") ∷ made 4 (codes "d") ∷ []
+
+abbrev torn_replies : List Reply
+torn_replies = replies.Created 1 1 ∷ replies.Created 2 1 ∷ replies.Created 3 1 ∷ replies.Created 4 1 ∷ replies.Torn ∷ replies.Refused refusals.Gone ∷ []
+
+first : Step (start two) (events.Create (facts (codes "a"))) (replies.Created 1 1) (after (take 1 four))
+unfolding two facts made torn create_refusal created posted need pad_len places.record_of
+first = inl (refl, refl)
+
+second : Step (after (take 1 four)) (events.Create (facts (codes "b"))) (replies.Created 2 1) (after (take 2 four))
+unfolding two facts made torn create_refusal created posted need pad_len places.record_of
+second = inl (refl, refl)
+
+third : Step (after (take 2 four)) (events.Create (facts (codes "c"))) (replies.Created 3 1) (after (take 3 four))
+unfolding two facts made torn create_refusal created posted need pad_len places.record_of
+third = inl (refl, refl)
+
+fourth : Step (after (take 3 four)) (events.Create (facts (codes "d"))) (replies.Created 4 1) (after four)
+unfolding two facts made torn create_refusal created posted need pad_len places.record_of
+fourth = inl (refl, refl)
+
+tears : Step (after four) (events.Tick 1) replies.Torn (torn_after four)
+unfolding two facts made torn tick_refusal posted need pad_len places.record_of
+tears = inl (refl, refl)
+
+gone : Step (torn_after four) (events.Drain 1) (replies.Refused refusals.Gone) (torn_after four)
+unfolding two facts made torn
+gone = (refl, refl)
+
+abbrev torn_events : List Event
+torn_events = events.Create (facts (codes "a")) ∷ events.Create (facts (codes "b")) ∷ events.Create (facts (codes "c")) ∷ events.Create (facts (codes "d")) ∷ events.Tick 1 ∷ events.Drain 1 ∷ []
+
+torn_run : Run (start two) torn_events torn_replies (torn_after four)
+torn_run =
+    let g1 = step_good _ (events.Create (facts (codes "a"))) (replies.Created 1 1) _ (start_good two) first in
+    let g2 = step_good _ (events.Create (facts (codes "b"))) (replies.Created 2 1) _ g1 second in
+    let g3 = step_good _ (events.Create (facts (codes "c"))) (replies.Created 3 1) _ g2 third in
+    let g4 = step_good _ (events.Create (facts (codes "d"))) (replies.Created 4 1) _ g3 fourth in
+    let g5 = step_good _ (events.Tick 1) replies.Torn _ g4 tears in
+    let end : Run (torn_after four) (events.Drain 1 ∷ []) (replies.Refused refusals.Gone ∷ []) (torn_after four) = (torn_after four, gone, safe_of _ g5, faithful_of _ g5, refl) in
+    (after (take 1 four), first, safe_of _ g1, faithful_of _ g1, (after (take 2 four), second, safe_of _ g2, faithful_of _ g2, (after (take 3 four), third, safe_of _ g3, faithful_of _ g3, (after four, fourth, safe_of _ g4, faithful_of _ g4, (torn_after four, tears, safe_of _ g5, faithful_of _ g5, end)))))
+
+abbrev torn_script : List ℕ
+torn_script =
+    codes "cpus 2 ring 128"
+    ++ 10 ∷ codes "create 3 0 r a"
+    ++ 10 ∷ codes "create 3 0 r b"
+    ++ 10 ∷ codes "create 3 0 r c"
+    ++ 10 ∷ codes "create 3 0 r d"
+    ++ 10 ∷ codes "tick 1"
+    ++ 10 ∷ codes "drain 1"
+
+torn_written : IsOutput torn_script Ran (line (codes "created 1 seq 1") ++ line (codes "created 2 seq 1") ++ line (codes "created 3 seq 1") ++ line (codes "created 4 seq 1") ++ line (codes "torn") ++ line (codes "refused 18 Gone"))
+unfolding two facts digits
+torn_written = (refl, record { replies = torn_replies; left = torn_after four; run = torn_run; sufficed = refl; lines = refl })
