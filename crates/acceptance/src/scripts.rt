@@ -24,7 +24,7 @@ fn with_newlines(alloc: Global, text: &str) -> Result<String, AllocError> {
 }
 
 /// The first script that is not answered as wanted, or does not end so, and what it wrote.
-fn first_wrong(
+pub(crate) fn first_wrong(
     alloc: Global,
     rows: &[(&str, &str)],
     wanted_end: Ended,

@@ -1,10 +1,10 @@
 -- Whether a message fits, by the ring as it is.
-use Rattle.std.proofs.Common.{◌≡◌, ◌<◌, ◌≤◌, Bool, true, false, cond, inl, inr, Option, None, Some, Result, Ok, Err, IfOk, IfErr, OnErr, List, [], ◌∷◌, ◌++◌, refl, ap, sym, subst, ◌∙◌, arith}
+use Rattle.std.proofs.Common.{ℕ, ◌≡◌, ◌<◌, ◌≤◌, Bool, true, false, cond, inl, inr, Option, None, Some, Result, Ok, Err, IfOk, IfErr, OnOk, OnErr, List, [], ◌∷◌, ◌++◌, refl, ap, sym, subst, ◌∙◌, append_assoc, arith}
 use Rattle.std.proofs.lemmas.Bool.Decides.{nat_tests}
 use Rattle.gs_layout.specs.declared.message.Message.{Message}
-use Rattle.gs_journal.specs.declared.entry.Entry.TheVariants.{Posted}
+use Rattle.gs_journal.specs.declared.entry.Entry.TheVariants.{Posted, Taken}
 use Rattle.gs_journal.specs.History.{posted}
-use Rattle.gs_journal.proofs.Laws.{posted-push}
+use Rattle.gs_journal.proofs.Laws.{posted-push, same_posted}
 use Rattle.gs_ring.specs.Places.{free_after, need, record_len, written}
 use Rattle.gs_ring.specs.RingState.{RingState, IsTight}
 use Rattle.gs_ring.specs.Ends.{Posted as Sent, SameRing, Posted-free, Posted-need, Posted-fits}
@@ -12,11 +12,12 @@ use Rattle.gs_layout.specs.declared.refusal.Refusal.{Refusal}
 use Rattle.gs_layout.specs.declared.refusal.Refusal.TheVariants as refusals
 use Rattle.gs_journal.specs.declared.entry.Entry.{Entry}
 use Rattle.gs_kernel.specs.declared.settings.Settings.{Settings}
-use Rattle.gs_kernel.specs.Kernel.{after_post, IsRefusal}
+use Rattle.gs_kernel.specs.Kernel.{after_post, after_take, after_give, preemption, take_refusal, give_refusal, IsRefusal}
 use Rattle.gs_core.specs.declared.event.Event.{Event}
+use Rattle.gs_core.specs.declared.event.Event.TheVariants as events
 use Rattle.gs_core.specs.declared.reply.Reply.{Reply}
 use Rattle.gs_core.specs.declared.reply.Reply.TheVariants as replies
-use Rattle.gs_core.specs.Machine.{State, fits, posts, refusal, Does, IsShort, Serves, Step}
+use Rattle.gs_core.specs.Machine.{State, fits, fits_if_any, posts, refusal, Does, IsShort, Serves, Step}
 
 -- the ring that a machine shows
 pub record IsRingOf (m : State) (r : RingState) : Type 0 where
@@ -86,3 +87,40 @@ post_step m e k r (Ok x) b rep s r0 r1 h does short i same stays told is_s none 
     (does (rep x) (with_kernel m s r1 h) (posted_does m (with_kernel m s r1 h) k r (rep x) r0 r1 (b x) i same stays (subst (λ (y : List Entry). Sent r1 (posted y)) is_h told) tight now is_rep))
 post_step m e k r (Err f) b rep s r0 r1 h does short i same stays told is_s none tight is_h is_rep refusal_is unchanged =
     refused (refusal m e) f m e (replies.Refused f) (with_kernel m s r1 h) refusal_is refl (short (replies.Refused f)) (same_beside m s r1 h m.history is_s (same ∙ i.ring) (stays ∙ i.consumed) unchanged)
+
+-- the other class took a CPU
+takes_does : (m m' : State) (c : ℕ) (o : Option Message) (reply : Reply) (r0 r1 : RingState) (b : Bool) → IsRingOf m r0 → SameRing r0 r1 → r1.taken ≡ r0.taken → Sent r1 (posted (after_take b m.history o c))
+    → (b ≡ false → (k : Message) × (o ≡ Some k) × IsTight r0 k) → m' ≡ record m { history = after_take b m.history o c } → reply ≡ cond b (replies.Taken c) replies.Torn
+    → (reply ≡ cond (fits_if_any m o) (replies.Taken c) replies.Torn) × (m' ≡ record m { history = after_take (fits_if_any m o) m.history o c })
+takes_does m m' c None reply r0 r1 true i same stays told tight is_m is_r = (is_r, is_m)
+takes_does m m' c None reply r0 r1 false i same stays told tight is_m is_r = let x = tight refl in let z : None ≡ Some x.0 = x.1 in absurd cc
+takes_does m m' c (Some k) reply r0 r1 true i same stays told tight is_m is_r =
+    let split : posted (after_take true m.history (Some k) c) ≡ posted (m.history ++ Posted k ∷ []) =
+    ap posted (sym (append_assoc m.history (Posted k ∷ []) (Taken c ∷ []))) ∙ same_posted (m.history ++ Posted k ∷ []) (Taken c) refl in
+    let e = fits_then m r0 r1 k i same stays (subst (Sent r1) split told) in
+    (is_r ∙ ap (λ x. cond x (replies.Taken c) replies.Torn) (sym e), is_m ∙ ap (λ x. record m { history = after_take x m.history (Some k) c }) (sym e))
+takes_does m m' c (Some k) reply r0 r1 false i same stays told tight is_m is_r =
+    let x = tight refl in
+    let z : k ≡ x.0 = cc in
+    let e = fits_not m r0 k i (subst (IsTight r0) (sym z) x.2) in
+    (is_r ∙ ap (λ y. cond y (replies.Taken c) replies.Torn) (sym e), is_m ∙ ap (λ y. record m { history = after_take y m.history (Some k) c }) (sym e))
+
+pub take_step : (m : State) (c : ℕ) (q : Result Bool Refusal) (rep : Bool → Reply) (s : Settings) (r0 r1 : RingState) (h : List Entry) → IsRingOf m r0 → SameRing r0 r1 → r1.taken ≡ r0.taken → Sent r1 (posted h) → s ≡ m.settings
+    → IfOk q (λ b. take_refusal m.settings m.history c ≡ None) → IfOk q (λ b. b ≡ false → (k : Message) × (preemption m.settings m.history c ≡ Some k) × IsTight r0 k) → IfOk q (λ b. h ≡ after_take b m.history (preemption m.settings m.history c) c)
+    → ((b : Bool) → rep b ≡ cond b (replies.Taken c) replies.Torn) → IfErr q (IsRefusal (take_refusal m.settings m.history c)) → OnErr q (h ≡ m.history) → Step m (events.Take c) (reply_of rep q) (with_kernel m s r1 h)
+take_step m c (Ok b) rep s r0 r1 h i same stays told is_s none tight is_h is_rep refusal_is unchanged =
+    let now : with_kernel m s r1 h ≡ record m { history = after_take b m.history (preemption m.settings m.history c) c } = same_beside m s r1 h _ is_s (same ∙ i.ring) (stays ∙ i.consumed) is_h in
+    done (refusal m (events.Take c)) m (events.Take c) (rep b) (with_kernel m s r1 h) none
+    (takes_does m (with_kernel m s r1 h) c (preemption m.settings m.history c) (rep b) r0 r1 b i same stays (subst (λ (y : List Entry). Sent r1 (posted y)) is_h told) tight now (is_rep b))
+take_step m c (Err f) rep s r0 r1 h i same stays told is_s none tight is_h is_rep refusal_is unchanged =
+    refused (refusal m (events.Take c)) f m (events.Take c) (replies.Refused f) (with_kernel m s r1 h) refusal_is refl (λ p. p) (same_beside m s r1 h m.history is_s (same ∙ i.ring) (stays ∙ i.consumed) unchanged)
+
+pub give_step : (m : State) (c : ℕ) (q : Result (Unit {0}) Refusal) (rep : Unit {0} → Reply) (s : Settings) (r0 r1 : RingState) (h : List Entry) → IsRingOf m r0 → r1 ≡ r0 → s ≡ m.settings
+    → IfOk q (λ u. give_refusal m.settings m.history c ≡ None) → OnOk q (h ≡ after_give m.history c) → ((u : Unit {0}) → rep u ≡ replies.Given c) → IfErr q (IsRefusal (give_refusal m.settings m.history c)) → OnErr q (h ≡ m.history)
+    → Step m (events.Give c) (reply_of rep q) (with_kernel m s r1 h)
+give_step m c (Ok u) rep s r0 r1 h i same is_s none is_h is_rep refusal_is unchanged =
+    done (refusal m (events.Give c)) m (events.Give c) (rep u) (with_kernel m s r1 h) none
+    (is_rep u, same_beside m s r1 h _ is_s (ap (λ (r : RingState). r.capacity) same ∙ i.ring) (ap (λ (r : RingState). r.taken) same ∙ i.consumed) is_h)
+give_step m c (Err f) rep s r0 r1 h i same is_s none is_h is_rep refusal_is unchanged =
+    refused (refusal m (events.Give c)) f m (events.Give c) (replies.Refused f) (with_kernel m s r1 h) refusal_is refl (λ p. p)
+    (same_beside m s r1 h m.history is_s (ap (λ (r : RingState). r.capacity) same ∙ i.ring) (ap (λ (r : RingState). r.taken) same ∙ i.consumed) unchanged)

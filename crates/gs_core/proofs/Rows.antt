@@ -3,27 +3,31 @@ use Rattle.std.proofs.Common.{◌≡◌, refl, ℕ, Bool, true, false, None, Som
 use Rattle.gs_layout.specs.declared.facts.Class.TheVariants.{Zero}
 use Rattle.gs_layout.specs.declared.facts.Facts.{Facts}
 use Rattle.gs_layout.specs.declared.message.Change.TheVariants.{Blocked, Created}
+use Rattle.gs_layout.specs.declared.message.Change.TheVariants as changes
 use Rattle.gs_layout.specs.declared.message.Message.TheVariants.{Thread, TimerTick}
 use Rattle.gs_layout.specs.declared.known.Known.{Known}
 use Rattle.gs_layout.specs.declared.refusal.Refusal.TheVariants as refusals
 use Rattle.gs_layout.specs.declared.outcome.Outcome.TheVariants as outcomes
 use Rattle.gs_layout.specs.View.{catch_up}
-use Rattle.gs_journal.specs.declared.entry.Entry.TheVariants.{Posted, Role, Begin, Left, Torn}
+use Rattle.gs_journal.specs.declared.entry.Entry.TheVariants.{Posted, Placed, Role, Begin, Left, Taken, Torn}
 use Rattle.gs_journal.specs.Standing.{standing, last_of, latest}
 use Rattle.gs_journal.specs.Record.{record_of}
 use Rattle.gs_journal.specs.History.{posted, messages, created, seq, record_in, on, at, active, attaching, taken, last_taken, torn}
 use Rattle.gs_journal.specs.State.{state}
 use Rattle.gs_kernel.specs.Landing.{verdict, landing}
-use Rattle.gs_kernel.specs.Kernel.{create_refusal, tick_refusal}
+use Rattle.gs_kernel.specs.declared.settings.Settings.{Settings}
+use Rattle.gs_kernel.specs.declared.thread_event.ThreadEvent.TheVariants as threads
+use Rattle.gs_kernel.specs.Kernel.{create_refusal, tick_refusal, thread_refusal, take_refusal, give_refusal}
+use Rattle.gs_kernel.specs.Shown.{live_threads, status}
 use Rattle.gs_core.specs.declared.event.Event.TheVariants as events
 use Rattle.gs_core.specs.declared.reply.Reply.{Reply}
 use Rattle.gs_core.specs.declared.reply.Reply.TheVariants as replies
 use Rattle.gs_core.specs.declared.config.Config.{Config}
 use Rattle.gs_core.specs.declared.config.ConfigFault.TheVariants as faults
-use Rattle.gs_core.specs.Config.{config_fault}
+use Rattle.gs_core.specs.Config.{config_fault, settings_of}
 use Rattle.gs_ring.specs.Places as places
 use Rattle.gs_ring.specs.Places.{need, pad_len}
-use Rattle.gs_core.specs.Machine.{State, creates, ticks, fits, stamps, commits, refusal, start, unread, view, attached}
+use Rattle.gs_core.specs.Machine.{State, creates, happens, takes, ticks, fits, stamps, commits, refusal, start, unread, view, attached}
 
 facts : Bool → ℕ → Facts
 facts r m = record { runnable = r; mask = m; class = Zero; name = codes "web" }
@@ -219,3 +223,59 @@ no_tick = refl
 waits : unread full ≡ Thread 1 1 (Created (facts true 3)) ∷ Thread 2 1 (Created (facts true 3)) ∷ Thread 3 1 (Created (facts true 3)) ∷ Thread 4 1 (Created (facts true 3)) ∷ []
 unfolding full posted two facts
 waits = refl
+
+-- what happens to a thread on CPU 1: it blocks, yields, dies, and a new mask takes it off or leaves it
+running : State
+running = record made { history = Role 1 0 ∷ Posted (Thread 1 1 (Created (facts true 3))) ∷ Placed 1 1 1 1 ∷ []; consumed = 1 }
+
+blocks : (happens running 1 threads.Block).0 ≡ replies.Posted (Thread 1 2 (Blocked 1))
+unfolding running made posted messages created seq on at standing last_of two facts need pad_len places.record_of
+blocks = refl
+
+yields : (happens running 1 threads.Yield).0 ≡ replies.Posted (Thread 1 2 (changes.Yield 1))
+unfolding running made posted messages created seq on at standing last_of two facts need pad_len places.record_of
+yields = refl
+
+dies : (happens running 1 threads.Die).0 ≡ replies.Posted (Thread 1 2 (changes.Dead (Some 1)))
+unfolding running made posted messages created seq on at standing last_of two facts need pad_len places.record_of
+dies = refl
+
+moves : (happens running 1 (threads.Affinity 1)).0 ≡ replies.Posted (Thread 1 2 (changes.Affinity (Some 1) true 1))
+unfolding running made posted messages created seq on at standing last_of two facts need pad_len places.record_of
+moves = refl
+
+stays_there : (happens running 1 (threads.Affinity 2)).0 ≡ replies.Posted (Thread 1 2 (changes.Affinity (Some 1) false 2))
+unfolding running made posted messages created seq on at standing last_of two facts need pad_len places.record_of
+stays_there = refl
+
+-- and what is refused
+no_happening : (refusal running (events.Thread 2 threads.Die) ∷ refusal running (events.Thread 1 threads.Wake) ∷ refusal running (events.Thread 1 (threads.Affinity 4)) ∷ refusal made (events.Thread 1 threads.Block) ∷ [])
+    ≡ Some refusals.NoThread ∷ Some refusals.NotBlocked ∷ Some refusals.EmptyMask ∷ Some refusals.NotRunning ∷ []
+unfolding running made posted messages created seq record_in record_of latest on at standing last_of two facts torn thread_refusal
+no_happening = refl
+
+-- the other class takes the CPU: the thread there is told first
+takes_one : takes running 1 ≡ (replies.Taken 1, record running { history = running.history ++ Posted (Thread 1 2 (changes.Preempted 1)) ∷ Taken 1 ∷ [] })
+unfolding running made posted messages created seq on at standing last_of two facts need pad_len places.record_of
+takes_one = refl
+
+takes_free : takes made 1 ≡ (replies.Taken 1, record made { history = made.history ++ Taken 1 ∷ [] })
+unfolding made posted messages created seq on at standing last_of two facts need pad_len places.record_of
+takes_free = refl
+
+no_taking : (refusal running (events.Take 0) ∷ refusal running (events.Take 2) ∷ refusal running (events.Give 1) ∷ refusal (takes running 1).1 (events.Take 1) ∷ [])
+    ≡ Some refusals.AgentThere ∷ Some refusals.BadCpu ∷ Some refusals.NotTaken ∷ Some refusals.CpuTaken ∷ []
+unfolding running made posted messages created seq on at active taken last_taken latest standing last_of two facts torn take_refusal give_refusal need pad_len places.record_of
+no_taking = refl
+
+two_cpus : Settings
+two_cpus = settings_of two
+
+-- the threads that live
+lives_there : live_threads two_cpus running.history ≡ record { tid = 1; known = knows true 3; cpu = Some 1 } ∷ []
+unfolding two_cpus running made posted messages created seq record_in record_of latest on at standing last_of two facts knows state live_threads
+lives_there = refl
+
+status_there : status two_cpus running.history 1 ∷ status two_cpus running.history 2 ∷ [] ≡ Some (record { tseq = 1; cpu = Some 1; runnable = true; alive = true }) ∷ None ∷ []
+unfolding two_cpus running made posted messages created seq record_in record_of latest on at standing last_of two facts
+status_there = refl

@@ -13,7 +13,7 @@ use Rattle.gs_core.specs.declared.drained.Drained.{Drained}
 use Rattle.gs_core.specs.declared.transaction.Transaction.{Transaction}
 use Rattle.gs_core.specs.Machine.{State, view, page_of, unread, lands, collected, stamp_of, idle_slots, start}
 use Rattle.gs_core.specs.Good.{Good}
-use Rattle.std.proofs.Common.{get_or, replicate, Result, Ok, Err, IfOk, OnErr}
+use Rattle.std.proofs.Common.{get_or, replicate, Result, Ok, Err, IfOk, OnOk, OnErr}
 use Rattle.std.proofs.lemmas.Option.{slice_get-get_or}
 use Rattle.gs_kernel.specs.Kernel.{after_post}
 use Rattle.gs_layout.specs.declared.message.Message.{Message}
@@ -24,6 +24,10 @@ use Rattle.gs_layout.specs.declared.refusal.Refusal.TheVariants as refusals
 use Rattle.gs_core.specs.declared.event.Event.TheVariants as events
 use Rattle.gs_core.specs.Machine.{is_idle, refusal, Takes, Drains}
 use Rattle.gs_core.proofs.Posting.{with_kernel}
+use Rattle.gs_kernel.specs.declared.thread_event.ThreadEvent.{ThreadEvent}
+use Rattle.gs_kernel.specs.Kernel.{thread_refusal, happening, preemption, after_take, after_give}
+use Rattle.gs_core.proofs.Happens.{happen_good}
+use Rattle.gs_core.proofs.Taking.{take_good, give_good}
 use Rattle.gs_core.proofs.Steps.{BothOf, post_good, stamp_good_with, commit_good}
 
 -- a kernel that is as good as before
@@ -50,6 +54,22 @@ drains_as m max s r h d v there last is_s is_r is_n is_h t =
       stays = sym there;
       page = sym last;
     }
+
+-- a call that posts what happens to a thread, or does not
+pub happen_kept : (m : State) (t : ℕ) (e : ThreadEvent) (q : Result (Option Message) Refusal) (s : Settings) (r : RingState) (h : List Entry) → Good m → IfOk q (λ o. thread_refusal m.settings m.history t e ≡ None)
+    → IfOk q (λ o. h ≡ after_post (is_some o) m.history (happening m.settings m.history t e)) → OnErr q (h ≡ m.history) → s ≡ m.settings → r.capacity ≡ m.ring → r.taken ≡ m.consumed → Good (with_kernel m s r h)
+happen_kept m t e (Ok o) s r h g none ok err is_s is_r is_n = kernel_kept m s r _ h is_s is_r is_n ok (happen_good m t e (is_some o) none g)
+happen_kept m t e (Err f) s r h g none ok err is_s is_r is_n = kernel_kept m s r m.history h is_s is_r is_n err g
+
+-- a call by which the other class takes a CPU, or does not
+pub take_kept : (m : State) (c : ℕ) (q : Result Bool Refusal) (s : Settings) (r : RingState) (h : List Entry) → Good m → IfOk q (λ b. h ≡ after_take b m.history (preemption m.settings m.history c) c) → OnErr q (h ≡ m.history) → s ≡ m.settings → r.capacity ≡ m.ring
+    → r.taken ≡ m.consumed → Good (with_kernel m s r h)
+take_kept m c (Ok b) s r h g ok err is_s is_r is_n = kernel_kept m s r _ h is_s is_r is_n ok (take_good m c b g)
+take_kept m c (Err f) s r h g ok err is_s is_r is_n = kernel_kept m s r m.history h is_s is_r is_n err g
+
+pub give_kept : (m : State) (c : ℕ) (q : Result (Unit {0}) Refusal) (s : Settings) (r : RingState) (h : List Entry) → Good m → OnOk q (h ≡ after_give m.history c) → OnErr q (h ≡ m.history) → s ≡ m.settings → r.capacity ≡ m.ring → r.taken ≡ m.consumed → Good (with_kernel m s r h)
+give_kept m c (Ok u) s r h g ok err is_s is_r is_n = kernel_kept m s r _ h is_s is_r is_n ok (give_good m c g)
+give_kept m c (Err f) s r h g ok err is_s is_r is_n = kernel_kept m s r m.history h is_s is_r is_n err g
 
 pub idle_replicate : (n : ℕ) → replicate n None ≡ idle_slots n
 idle_replicate zero = refl

@@ -21,6 +21,10 @@ use Rattle.gs_core.specs.declared.event.Event.{Event}
 use Rattle.gs_core.specs.declared.event.Event.TheVariants as events
 use Rattle.gs_core.specs.Machine.{refusal, Does, Serves, Step}
 use Rattle.gs_kernel.proofs.Refusals.{first_passed}
+use Rattle.gs_kernel.specs.Kernel.{happening, preemption}
+use Rattle.gs_core.specs.Machine.{fits, fits_if_any}
+use Rattle.gs_core.proofs.Happens.{happen_good}
+use Rattle.gs_core.proofs.Taking.{take_good, give_good}
 use Rattle.gs_core.proofs.Steps.{create_good, tick_good, drain_kept, stamp_good, commit_good, idle, idle_count}
 
 pub below_count : (m : State) (c : ℕ) → nat_le m.settings.cpus c ≡ false → c < m.settings.cpus
@@ -37,10 +41,14 @@ stamps_on_cpu m c t none =
 -- an event that is not refused, and does what it says, keeps what the machine keeps
 does_good : (m : State) (e : Event) (r : Reply) (m' : State) → Good m → refusal m e ≡ None → Does m e r m' → Good m'
 does_good m (events.Create f) r m' g none d = subst Good (sym d.1) (create_good m f g)
+does_good m (events.Thread t e) r m' g none d = subst Good (sym d.1) (happen_good m t e (fits m (happening m.settings m.history t e)) none g)
+does_good m (events.Take c) r m' g none d = subst Good (sym d.1) (take_good m c (fits_if_any m (preemption m.settings m.history c)) g)
+does_good m (events.Give c) r m' g none d = subst Good (sym d.1) (give_good m c g)
 does_good m (events.Tick c) r m' g none d = subst Good (sym d.1) (tick_good m c g)
 does_good m (events.Drain max) r m' g none d = drain_kept m max d.0 m' g d.2
 does_good m (events.Stamp c t) r m' g none d = subst Good (sym d.1) (stamp_good m c t (below_count m c (stamps_on_cpu m c t none)) g)
 does_good m (events.Commit mask) r m' g none d = subst Good (sym d.1) (commit_good m mask g)
+does_good m events.State r m' g none d = subst Good (sym d.1) g
 does_good m events.Unread r m' g none d = subst Good (sym d.1) g
 
 serves_good : (f : Option Refusal) (m : State) (e : Event) (r : Reply) (m' : State) → Good m → refusal m e ≡ f → Serves f m e r m' → Good m'

@@ -18,8 +18,10 @@ use Rattle.gs_journal.specs.State.{unread_after}
 use Rattle.gs_kernel.specs.declared.settings.Settings.{Settings}
 use Rattle.gs_kernel.specs.declared.landing.Landing.{Landing}
 use Rattle.gs_kernel.specs.Landing.{landing, after_landing}
+use Rattle.gs_kernel.specs.declared.thread_event.ThreadEvent.{ThreadEvent}
 use Rattle.gs_kernel.specs.First.{first_that}
-use Rattle.gs_kernel.specs.Kernel.{has_agent, create_refusal, tick_refusal, creation, new_tid, after_post}
+use Rattle.gs_kernel.specs.Kernel.{has_agent, create_refusal, tick_refusal, thread_refusal, take_refusal, give_refusal, creation, new_tid, happening, preemption, after_post, after_take, after_give}
+use Rattle.gs_kernel.specs.Shown.{live_threads}
 use Rattle.gs_ring.specs.Places.{free_after, need, record_len, written}
 use Rattle.gs_core.specs.declared.config.Config.{Config}
 use Rattle.gs_core.specs.Config.{settings_of}
@@ -77,6 +79,9 @@ is_idle None = false
 -- the first refusal of an event whose condition holds
 abbrev pub refusal : State → Event → Option Refusal
 refusal m (events.Create f) = create_refusal m.settings m.history f
+refusal m (events.Thread t e) = thread_refusal m.settings m.history t e
+refusal m (events.Take c) = take_refusal m.settings m.history c
+refusal m (events.Give c) = give_refusal m.settings m.history c
 refusal m (events.Tick c) = tick_refusal m.settings m.history c
 refusal m (events.Drain max) = first_that ((torn m.history, Some refusals.Gone) ∷ (not (has_agent m.history), Some refusals.NotActive) ∷ []) None
 refusal m (events.Stamp c t) =
@@ -96,6 +101,7 @@ refusal m (events.Commit mask) =
     ∷ (has_past mask m.settings.cpus, Some refusals.EmptyMask)
     ∷ []
     ) None
+refusal m events.State = first_that ((torn m.history, Some refusals.Gone) ∷ []) None
 refusal m events.Unread = first_that ((torn m.history, Some refusals.Gone) ∷ []) None
 
 -- whether a message fits into the ring: it takes up no more bytes, with its PAD, than are free
@@ -109,6 +115,26 @@ posts m k r = (if fits m k then r else replies.Torn, record m { history = after_
 -- a thread is created
 abbrev pub creates : State → Facts → Reply × State
 creates m f = posts m (creation m.settings.first_tseq m.history f) (replies.Created (new_tid m.history) (m.settings.first_tseq + 1))
+
+-- something happens to a thread
+abbrev pub happens : State → ℕ → ThreadEvent → Reply × State
+happens m t e = posts m (happening m.settings m.history t e) (replies.Posted (happening m.settings m.history t e))
+
+-- whether a message fits, where there is one
+abbrev pub fits_if_any : State → Option Message → Bool
+fits_if_any m None = true
+fits_if_any m (Some k) = fits m k
+
+-- the other class takes a CPU: the thread there is told first
+abbrev pub takes : State → ℕ → Reply × State
+takes m c = (
+  if fits_if_any m (preemption m.settings m.history c) then replies.Taken c else replies.Torn,
+  record m { history = after_take (fits_if_any m (preemption m.settings m.history c)) m.history (preemption m.settings m.history c) c },
+)
+
+-- and gives a CPU back
+abbrev pub gives : State → ℕ → Reply × State
+gives m c = (replies.Given c, record m { history = after_give m.history c })
 
 -- the timer of a CPU ticks
 abbrev pub ticks : State → ℕ → Reply × State
@@ -187,10 +213,14 @@ pub record Drains (m : State) (max : ℕ) (d : Drained) (m' : State) : Type 0 wh
 -- what an event answers and leaves that is not refused and finds memory; a drain has its own word
 abbrev pub Does : State → Event → Reply → State → Type 0
 Does m (events.Create f) r m' = (r ≡ (creates m f).0) × (m' ≡ (creates m f).1)
+Does m (events.Thread t e) r m' = (r ≡ (happens m t e).0) × (m' ≡ (happens m t e).1)
+Does m (events.Take c) r m' = (r ≡ (takes m c).0) × (m' ≡ (takes m c).1)
+Does m (events.Give c) r m' = (r ≡ (gives m c).0) × (m' ≡ (gives m c).1)
 Does m (events.Tick c) r m' = (r ≡ (ticks m c).0) × (m' ≡ (ticks m c).1)
 Does m (events.Drain max) r m' = (d : Drained) × (r ≡ replies.Drained d) × Drains m max d m'
 Does m (events.Stamp c t) r m' = (r ≡ (stamps m c t).0) × (m' ≡ (stamps m c t).1)
 Does m (events.Commit mask) r m' = (r ≡ (commits m mask).0) × (m' ≡ (commits m mask).1)
+Does m events.State r m' = (r ≡ replies.State (live_threads m.settings m.history)) × (m' ≡ m)
 Does m events.Unread r m' = (r ≡ replies.Unread (unread m)) × (m' ≡ m)
 
 -- want of memory refuses an event; a drain stops in place of that

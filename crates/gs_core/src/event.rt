@@ -1,3 +1,4 @@
+use gs_kernel::ThreadEvent;
 use gs_layout::Facts;
 use gs_status::Mask;
 
@@ -6,6 +7,12 @@ use gs_status::Mask;
 pub enum Event {
     /// A thread with these facts is created.
     Create { facts: Facts },
+    /// Something happens to a thread.
+    Thread { tid: u32, event: ThreadEvent },
+    /// The other class takes a CPU.
+    Take { cpu: u16 },
+    /// The other class gives a CPU back.
+    Give { cpu: u16 },
     /// The timer of a CPU ticks.
     Tick { cpu: u16 },
     /// The agent takes in the messages that wait, at most `max`.
@@ -14,6 +21,8 @@ pub enum Event {
     Stamp { cpu: u16, tid: u32 },
     /// The stamped slots of the mask land, and are idle then.
     Commit { mask: Mask },
+    /// The threads that live are shown. Nothing changes.
+    State,
     /// The messages that wait are shown. Nothing changes.
     Unread,
 }

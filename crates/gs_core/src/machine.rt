@@ -12,7 +12,7 @@ use crate::reply::{Items, Reply};
 use crate::transaction::Transaction;
 use crate::unread::waiting;
 use crate::view::View;
-use gs_kernel::Kernel;
+use gs_kernel::{Kernel, ThreadEvent};
 use gs_layout::{Facts, Refusal, Slot};
 use gs_ring::ByteRing;
 use gs_status::Mask;
@@ -127,6 +127,35 @@ impl Machine {
         }
     }
 
+    fn happen(&mut self, tid: u32, event: ThreadEvent) -> Reply
+        ensures { Step self.old (Event.Thread tid event) result self.new }
+    {
+        match self.kernel.happen(tid, event) {
+            Ok(Some(message)) => Reply::Posted(message),
+            Ok(None) => Reply::Torn,
+            Err(refusal) => Reply::Refused(refusal),
+        }
+    }
+
+    fn take(&mut self, cpu: u16) -> Reply
+        ensures { Step self.old (Event.Take cpu) result self.new }
+    {
+        match self.kernel.take(cpu) {
+            Ok(true) => Reply::Taken { cpu },
+            Ok(false) => Reply::Torn,
+            Err(refusal) => Reply::Refused(refusal),
+        }
+    }
+
+    fn give(&mut self, cpu: u16) -> Reply
+        ensures { Step self.old (Event.Give cpu) result self.new }
+    {
+        match self.kernel.give(cpu) {
+            Ok(()) => Reply::Given { cpu },
+            Err(refusal) => Reply::Refused(refusal),
+        }
+    }
+
     fn drain(&mut self, max: u32) -> Reply
         ensures { Step self.old (Event.Drain max) result self.new }
     {
@@ -138,6 +167,18 @@ impl Machine {
         }
         let mut head = self.kernel.taker();
         Reply::Drained(drain_into(&mut self.view, &mut head, max))
+    }
+
+    fn state(&self) -> Reply
+        ensures { Step self.now Event.State result self.now }
+    {
+        if self.kernel.is_torn() {
+            return Reply::Refused(Refusal::Gone);
+        }
+        match self.kernel.live_threads(self.alloc) {
+            Ok(threads) => Reply::State(Items::new(threads)),
+            Err(_) => Reply::Refused(Refusal::OutOfMemory),
+        }
     }
 
     fn unread(&self) -> Reply
@@ -240,10 +281,14 @@ impl Machine {
     {
         let reply = match event {
             Event::Create { facts } => self.create(facts),
+            Event::Thread { tid, event } => self.happen(*tid, *event),
+            Event::Take { cpu } => self.take(*cpu),
+            Event::Give { cpu } => self.give(*cpu),
             Event::Tick { cpu } => self.tick(*cpu),
             Event::Drain { max } => self.drain(*max),
             Event::Stamp { cpu, tid } => self.stamp(*cpu, *tid),
             Event::Commit { mask } => self.commit(*mask),
+            Event::State => self.state(),
             Event::Unread => self.unread(),
         };
         // A look at a field, by which the proof has what the machine keeps.

@@ -1,7 +1,7 @@
 ghost use Rattle.std.specs.Prelude.{◌≡◌};
 
 use crate::drained::Drained;
-use gs_kernel::Landing;
+use gs_kernel::{Landing, LiveThread};
 use gs_layout::{Message, Refusal};
 use std::marker::Model;
 
@@ -44,6 +44,12 @@ pub enum Reply {
     Torn,
     /// The new thread, with its first sequence number.
     Created { tid: u32, tseq: u32 },
+    /// The message about the thread that was posted.
+    Posted(Message),
+    /// The other class took the CPU.
+    Taken { cpu: u16 },
+    /// The other class gave the CPU back.
+    Given { cpu: u16 },
     /// The timer of the CPU ticked.
     Ticked { cpu: u16 },
     Drained(Drained),
@@ -51,6 +57,8 @@ pub enum Reply {
     Stamped { number: usize },
     /// What became of each slot that landed.
     Landed(Items<Landing>),
+    /// The threads that live, by rising tid.
+    State(Items<LiveThread>),
     /// The messages that wait, in order.
     Unread(Items<Message>),
 }

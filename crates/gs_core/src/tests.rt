@@ -1,6 +1,8 @@
 use crate::{Config, ConfigFault, Drained, Event, Machine, Reply};
+use gs_kernel::ThreadEvent;
 use gs_layout::{Change, Class, Facts, Message, Name, Outcome, Refusal};
 use gs_status::Mask;
+use std::alloc::Global;
 use std::process::Abort;
 use std::test::Fail;
 
@@ -191,10 +193,17 @@ fn tears_down(rt: HostRuntime) -> Result<(), Fail> {
     assert_eq!(rt; machine.kernel().journal().len(), 6);
     for event in [
         Event::Create { facts },
+        Event::Thread {
+            tid: 1,
+            event: ThreadEvent::Die,
+        },
+        Event::Take { cpu: 9 },
+        Event::Give { cpu: 9 },
         Event::Tick { cpu: 9 },
         Event::Drain { max: 1 },
         Event::Stamp { cpu: 9, tid: 9 },
         Event::Commit { mask: Mask::new(4) },
+        Event::State,
         Event::Unread,
     ] {
         let gone = machine.step(&event);
@@ -250,6 +259,91 @@ fn fills_the_ring(rt: HostRuntime) -> Result<(), Fail> {
                 change: Change::Created { .. }
             }
         )
+    );
+    Ok(())
+}
+
+/// What a message of this number that was posted about thread 1 says.
+fn posted(reply: &Reply, number: u32) -> Option<Change> {
+    match reply {
+        Reply::Posted(
+            Message::Thread {
+                tid: 1,
+                tseq,
+                change,
+            },
+        ) if *tseq == number => Some(*change),
+        _ => None,
+    }
+}
+
+/// A machine in which thread 1 runs on CPU 1.
+fn running(rt: &impl Abort, alloc: Global) -> Result<Machine, Fail> {
+    let mut machine = Machine::new(alloc, TWO_CPUS)?;
+    let events = [
+        Event::Create {
+            facts: thread(rt, true, 3),
+        },
+        Event::Drain { max: 1 },
+        Event::Stamp { cpu: 1, tid: 1 },
+        Event::Commit { mask: Mask::new(2) },
+    ];
+    let replies = machine.run(&events)?;
+    assert!(rt; is_landed(&replies[3], 1, 1, Outcome::Placed, Some(1)));
+    Ok(machine)
+}
+
+#[test]
+fn happens_to_threads(rt: HostRuntime) -> Result<(), Fail> {
+    let mut machine = running(&rt, rt.alloc())?;
+    let runs = machine.step(&Event::Thread {
+        tid: 1,
+        event: ThreadEvent::Wake,
+    });
+    assert!(rt; matches!(runs, Reply::Refused(Refusal::NotBlocked)));
+    let blocked = machine.step(&Event::Thread {
+        tid: 1,
+        event: ThreadEvent::Block,
+    });
+    assert!(rt; matches!(posted(&blocked, 2), Some(Change::Blocked { cpu: 1 })));
+    let dead = machine.step(&Event::Thread {
+        tid: 1,
+        event: ThreadEvent::Die,
+    });
+    assert!(rt; matches!(posted(&dead, 3), Some(Change::Dead { cpu: None })));
+    assert_eq!(rt; machine.kernel().status(1), Some(0x0000_00ff_0000_0003));
+    Ok(())
+}
+
+#[test]
+fn other_class(rt: HostRuntime) -> Result<(), Fail> {
+    let mut machine = running(&rt, rt.alloc())?;
+    assert_eq!(rt; machine.kernel().status(1), Some(0x0000_0701_0000_0001));
+    assert_eq!(rt; machine.kernel().status(2), None);
+    let taken = machine.step(&Event::Take { cpu: 1 });
+    assert!(rt; matches!(taken, Reply::Taken { cpu: 1 }));
+    assert!(rt; machine.kernel().taken().has(1));
+    assert_eq!(rt; machine.kernel().status(1), Some(0x0000_03ff_0000_0002));
+    let given = machine.step(&Event::Give { cpu: 1 });
+    assert!(rt; matches!(given, Reply::Given { cpu: 1 }));
+    assert!(rt; !machine.kernel().taken().has(1));
+    Ok(())
+}
+
+#[test]
+fn shows_the_living(rt: HostRuntime) -> Result<(), Fail> {
+    let mut machine = running(&rt, rt.alloc())?;
+    let shown = machine.step(&Event::State);
+    let Reply::State(threads) = &shown else {
+        return Err(Fail::from("the living"));
+    };
+    let [only] = threads.as_slice() else {
+        return Err(Fail::from("one thread"));
+    };
+    assert_eq!(rt; (only.tid, only.known.tseq, only.cpu), (1, 1, Some(1)));
+    assert_eq!(rt;
+        (only.known.facts.runnable, only.known.facts.mask),
+        (true, 3)
     );
     Ok(())
 }

@@ -1,18 +1,22 @@
 -- What a kernel keeps when something happens to a thread.
 use Rattle.std.proofs.Common.{◌≡◌, ℕ, ◌+◌, ◌^◌, ◌<◌, ◌≤◌, ◌++◌, ◌∷◌, List, [], length, Bool, true, false, ◌==◌, ◌⊎◌, inl, inr, cond, Option, None, Some, IsSome, slice_get, slice_set, refl, ap, sym, subst, ◌∙◌, unwrap_or, arith}
 use Rattle.std.specs.Option.{is_some}
+use Rattle.std.specs.Cmp.Derive.{both_true}
 use Rattle.std.proofs.lemmas.Bool.{cases_lt}
 use Rattle.std.proofs.lemmas.Bool.Decides.{nat_tests}
 use Rattle.gs_layout.specs.declared.refusal.Refusal.{Refusal}
 use Rattle.gs_layout.specs.declared.message.Change.{Change}
-use Rattle.gs_layout.specs.declared.message.Change.TheVariants.{Dead, Affinity}
+use Rattle.gs_layout.specs.declared.message.Change.TheVariants.{Wakeup, Dead, Affinity}
 use Rattle.gs_layout.specs.declared.message.Message.{Message}
 use Rattle.gs_layout.specs.declared.message.Message.TheVariants.{Thread}
 use Rattle.gs_layout.specs.Message.{is_creation, takes_off, takes_off_cpu}
+use Rattle.gs_layout.specs.declared.record.Record.{Record}
+use Rattle.gs_layout.specs.declared.record.Record.TheVariants as records
+use Rattle.gs_layout.specs.Record.{after}
 use Rattle.gs_layout.specs.Spelling.{IsSpellableChange, IsMask}
 use Rattle.gs_journal.specs.declared.entry.Entry.TheVariants.{Posted}
 use Rattle.gs_journal.specs.History.{History, on, at, record_in, seq}
-use Rattle.gs_status.specs.Masks.{has_none, has_past}
+use Rattle.gs_status.specs.Masks.{has, has_none, has_past}
 use Rattle.gs_threads.specs.declared.row.ThreadRow.{ThreadRow}
 use Rattle.gs_threads.specs.Rows.{is_live}
 use Rattle.gs_threads.specs.Table.{TableState, row_of, rows_after, place_at}
@@ -20,7 +24,7 @@ use Rattle.gs_threads.specs.Mirrors.{Mirrors}
 use Rattle.gs_journal.specs.History.{ends_run}
 use Rattle.gs_journal.specs.Standing.{then_stands}
 use Rattle.gs_journal.proofs.Laws.{on-push}
-use Rattle.gs_threads.proofs.Entries.{on_off, on_still, eqb_same}
+use Rattle.gs_threads.proofs.Entries.{on_off, on_still, eqb_same, messages_about, record_more}
 use Rattle.gs_threads.proofs.Lookups.{row_never}
 use Rattle.gs_threads.proofs.Told.{length-rows_after}
 use Rattle.gs_threads.proofs.Mirroring.{mirrors_posted}
@@ -29,10 +33,11 @@ use Rattle.gs_kernel.specs.declared.settings.Settings.{Settings}
 use Rattle.gs_kernel.specs.declared.thread_event.ThreadEvent.{ThreadEvent}
 use Rattle.gs_kernel.specs.declared.thread_event.ThreadEvent.TheVariants as happens
 use Rattle.gs_kernel.specs.Kernel.{change_by, next_about, own_refusal, must_leave, is_bad_mask}
-use Rattle.gs_kernel.specs.Threads.{NamesMask}
+use Rattle.gs_kernel.specs.Threads.{NamesMask, may_be_on}
 use Rattle.gs_kernel.specs.Inside.{IsKept, vacated}
 use Rattle.gs_kernel.proofs.Entries.{SameBeside, beside_posted}
-use Rattle.gs_kernel.proofs.Refusals.{neither}
+use Rattle.gs_kernel.proofs.Refusals.{neither, both_hold, not_not}
+use Rattle.gs_kernel.proofs.Kernels.{record_other}
 use Rattle.gs_kernel.proofs.Seats.{get_same, get_other, length_set}
 
 -- no event is a creation
@@ -74,8 +79,9 @@ length_vacated running (Some c) false = refl
 
 pub kept_about : (s : Settings) (h : History) (t t' : TableState) (running : List (Option ℕ)) (held : ℕ) (a : Option (ℕ × ℕ)) (down : Bool) (u : ℕ) (c : Change) (there : Option ℕ) → IsKept s h t running held a down
     → IsSome (row_of t.rows u) → is_creation (next_about s h u c) ≡ false → there ≡ at s.cpus h u → t'.rows ≡ rows_after t.rows (next_about s h u c) → t'.first_tseq ≡ t.first_tseq
+    → ((d : ℕ) → on h d ≡ Some u → takes_off_cpu c ≡ false → may_be_on d (after (record_in h u) (next_about s h u c)) ≡ true)
     → IsKept s (h ++ Posted (next_about s h u c) ∷ []) t' (vacated running there (takes_off_cpu c)) held a down
-kept_about s h t t' running held a down u c there k some none is rows first =
+kept_about s h t t' running held a down u c there k some none is rows first stays =
     record {
       rows = subst (λ (x : List ThreadRow). Mirrors s.first_tseq (h ++ Posted m ∷ []) x) (sym rows) (mirrors_posted s.first_tseq h t.rows m k.rows (some, none, refl));
       first = first ∙ k.first;
@@ -83,6 +89,7 @@ kept_about s h t t' running held a down u c there k some none is rows first =
       count = length_vacated running there (takes_off_cpu c) ∙ k.count;
       runs = λ d lt. seats d lt there refl (takes_off_cpu c) refl;
       below = λ v d q. k.below v d (was_on v d q);
+      allowed = λ v d q. still_allowed v d q (u == v) refl;
       held_by_other = λ d. k.held_by_other d ∙ sym (b.taken d);
       agent = k.agent ∙ sym b.active;
       never_begun = b.attaching ∙ k.never_begun;
@@ -118,6 +125,24 @@ kept_about s h t t' running held a down u c there k some none is rows first =
         by_thread v q true e = absurd (other (q ∙ ap Some (sym (eqb_same u v e))))
         by_thread v q false e = about_off u (seq s.first_tseq h u + 1) v c e
 
+    still_allowed : (v d : ℕ) → on (h ++ Posted m ∷ []) d ≡ Some v → (x : Bool) → (u == v) ≡ x → may_be_on d (record_in (h ++ Posted m ∷ []) v) ≡ true
+    still_allowed v d q false e = ap (may_be_on d) (record_other h m v e) ∙ k.allowed v d (was_on v d q)
+    still_allowed v d q true e = by_off (takes_off_cpu c) refl
+      where
+        is_it : u ≡ v
+        is_it = eqb_same u v e
+
+        was : on h d ≡ Some u
+        was = was_on v d q ∙ ap Some (sym is_it)
+
+        now : record_in (h ++ Posted m ∷ []) v ≡ after (record_in h u) m
+        now = record_more h (h ++ Posted m ∷ []) m v (messages_about h m v e) ∙ ap (λ x. after (record_in h x) m) (sym is_it)
+
+        by_off : (x : Bool) → takes_off_cpu c ≡ x → may_be_on d (record_in (h ++ Posted m ∷ []) v) ≡ true
+        by_off false r = ap (may_be_on d) now ∙ stays d was r
+        by_off true r =
+            let z : None ≡ Some v = sym (on_off h m u d was (comes_off u (seq s.first_tseq h u + 1) c r)) ∙ q in absurd cc
+
     seats : (d : ℕ) → d < s.cpus → (o : Option ℕ) → there ≡ o → (off : Bool) → takes_off_cpu c ≡ off → slice_get (vacated running o off) d ≡ Some (on (h ++ Posted m ∷ []) d)
     seats d lt None e off q = k.runs d lt ∙ ap Some (sym (same d (λ r. let z : place_at t.rows u ≡ Some d = (k.rows.same_place u d).1 r in let y : None ≡ Some d = sym (place ∙ e) ∙ z in absurd cc)))
     seats d lt (Some f) e false q = k.runs d lt ∙ ap Some (sym (on_still h m d (λ v r. stays_on u (seq s.first_tseq h u + 1) v c q)))
@@ -135,6 +160,28 @@ kept_about s h t t' running held a down u c there k some none is rows first =
             let apart : f ≡ d → ⊥ = λ z. let y : (f == d) ≡ true = grind (arith, nat_tests) in let x : false ≡ true = sym r ∙ y in absurd cc in
             get_other running f d None apart
             ∙ (k.runs d lt ∙ ap Some (sym (same d (λ w. apart (mirrors_one s.first_tseq h t.rows u f d k.rows here w)))))
+
+-- a thread that an event leaves on its CPU may still be there
+woken_stays : (d u s : ℕ) (r : Record) → may_be_on d r ≡ true → may_be_on d (after r (Thread u s Wakeup)) ≡ true
+woken_stays d u s records.Absent e = absurd cc
+woken_stays d u s records.Dead e = absurd cc
+woken_stays d u s (records.Live f) e = (both_hold _ _ e).1
+
+moved_stays : (d u s mask : ℕ) (o : Option ℕ) (off : Bool) (r : Record) → may_be_on d r ≡ true → has mask d ≡ true → may_be_on d (after r (Thread u s (Affinity o off mask))) ≡ true
+moved_stays d u s mask o off records.Absent e p = absurd cc
+moved_stays d u s mask o off records.Dead e p = absurd cc
+moved_stays d u s mask o off (records.Live f) e p = both_true (both_hold _ _ e).0 p
+
+left_on : (mask d : ℕ) (o : Option ℕ) → o ≡ Some d → must_leave o mask ≡ false → has mask d ≡ true
+left_on mask d None e q = absurd cc
+left_on mask d (Some x) e q = let z : x ≡ d = cc in ap (has mask) (sym z) ∙ not_not _ q
+
+pub stays_allowed : (s : Settings) (h : History) (u d : ℕ) (there : Option ℕ) (e : ThreadEvent) → may_be_on d (record_in h u) ≡ true → there ≡ Some d → takes_off_cpu (change_by there e) ≡ false → may_be_on d (after (record_in h u) (next_about s h u (change_by there e))) ≡ true
+stays_allowed s h u d there happens.Block may is off = absurd cc
+stays_allowed s h u d there happens.Wake may is off = woken_stays d u (seq s.first_tseq h u + 1) (record_in h u) may
+stays_allowed s h u d there happens.Yield may is off = absurd cc
+stays_allowed s h u d there happens.Die may is off = absurd cc
+stays_allowed s h u d there (happens.Affinity mask) may is off = moved_stays d u (seq s.first_tseq h u + 1) mask there (must_leave there mask) (record_in h u) may (left_on mask d there is off)
 
 -- a thread is on a CPU of the enclave
 pub on_cpu_below : (s : Settings) (h : History) (t : TableState) (running : List (Option ℕ)) (held : ℕ) (a : Option (ℕ × ℕ)) (down : Bool) (u d : ℕ) → IsKept s h t running held a down → at s.cpus h u ≡ Some d → d < s.cpus

@@ -1,7 +1,8 @@
 -- What a kernel keeps.
-use Rattle.std.proofs.Common.{◌≡◌, ℕ, ◌+◌, ◌<◌, ◌≤◌, ◌++◌, ◌∷◌, List, [], length, Bool, true, false, ◌||◌, ◌==◌, Option, None, Some, IsSome, slice_get, slice_set, replicate, refl, ap, sym, subst, ◌∙◌, length-append, arith}
+use Rattle.std.proofs.Common.{◌≡◌, ℕ, ◌+◌, ◌<◌, ◌≤◌, ◌++◌, ◌∷◌, List, [], length, Bool, true, false, ◌||◌, ◌==◌, inr, Option, None, Some, IsSome, slice_get, slice_set, replicate, refl, ap, sym, subst, ◌∙◌, length-append, arith}
 use Rattle.std.specs.Prelude.{MatchOption}
 use Rattle.std.specs.Option.{is_some, option_copied}
+use Rattle.std.specs.Cmp.Derive.{both_true}
 use Rattle.std.proofs.lemmas.Bool.Decides.{nat_tests}
 use Rattle.std.proofs.lemmas.List.{get_or-replicate, length-replicate}
 use Rattle.std.proofs.lemmas.Option.{slice_get-get_or}
@@ -11,19 +12,20 @@ use Rattle.gs_layout.specs.declared.message.Change.TheVariants.{Created}
 use Rattle.gs_layout.specs.declared.message.Message.{Message}
 use Rattle.gs_layout.specs.declared.message.Message.TheVariants.{Thread, TimerTick}
 use Rattle.gs_layout.specs.declared.slot.Slot.{Slot}
-use Rattle.gs_layout.specs.Message.{takes_off}
+use Rattle.gs_layout.specs.Message.{is_about, takes_off}
 use Rattle.gs_journal.specs.declared.entry.Entry.{Entry}
 use Rattle.gs_journal.specs.declared.entry.Entry.TheVariants.{Posted, Placed, Role, Torn}
 use Rattle.gs_status.specs.Masks.{has}
 use Rattle.gs_journal.specs.Standing.{standing, latest, last_of, then_stands}
 use Rattle.gs_journal.specs.History.{History, posted, created, on, record_in, active, attaching, taken, last_taken, torn, ends_run}
-use Rattle.gs_journal.proofs.Laws.{on-push}
+use Rattle.gs_journal.proofs.Laws.{on-push, same_messages}
 use Rattle.gs_threads.specs.declared.row.ThreadRow.{ThreadRow}
 use Rattle.gs_threads.specs.Rows.{new_row}
-use Rattle.gs_threads.specs.Table.{TableState, row_of, rows_placed}
+use Rattle.gs_threads.specs.Table.{TableState, row_of, place_at, rows_placed}
 use Rattle.gs_threads.specs.Mirrors.{Mirrors}
-use Rattle.gs_threads.proofs.Lookups.{after_tick}
-use Rattle.gs_threads.proofs.Entries.{on_still}
+use Rattle.gs_threads.proofs.Lookups.{after_tick, row_never}
+use Rattle.gs_threads.proofs.Told.{place_row}
+use Rattle.gs_threads.proofs.Entries.{on_still, messages_other, record_by}
 use Rattle.gs_threads.proofs.Mirroring.{mirrors_posted, mirrors_created}
 use Rattle.gs_threads.proofs.Placing.{mirrors_placed, mirrors_quiet, on_here, on_elsewhere, length-rows_placed}
 use Rattle.gs_threads.proofs.Clearing.{IsClearedBelow, mirrors_torn}
@@ -31,25 +33,38 @@ use Rattle.gs_threads.proofs.Mirrored.{mirrors_row, mirrors_never, mirrors_none,
 use Rattle.gs_kernel.specs.declared.settings.Settings.{Settings}
 use Rattle.gs_kernel.specs.Kernel.{has_agent, creation}
 use Rattle.gs_kernel.specs.Inside.{IsKept}
-use Rattle.gs_kernel.specs.Threads.{IsRow, IsNever, is_runnable}
+use Rattle.gs_kernel.specs.Threads.{IsRow, IsNever, is_runnable, may_be_on}
 use Rattle.gs_kernel.proofs.Entries.{beside_posted, beside_placed, active_none, attaching_none, taken_torn, torn_now}
 use Rattle.gs_kernel.proofs.Placings.{IsPlacing}
 use Rattle.gs_kernel.proofs.Seats.{get_same, get_other, length_set}
 
+-- a message about another thread
+pub record_other : (h : History) (m : Message) (u : ℕ) → is_about u m ≡ false → record_in (h ++ Posted m ∷ []) u ≡ record_in h u
+record_other h m u e = record_by h (h ++ Posted m ∷ []) u (messages_other h m u e)
+
 -- what the row of a thread says
-pub row_is : (s : Settings) (h : History) (t : TableState) (running : List (Option ℕ)) (held : ℕ) (a : Option (ℕ × ℕ)) (down : Bool) (u : ℕ) (o : Option (Bor ThreadRow)) → IsKept s h t running held a down
+pub row_is : (s : Settings) (h : History) (t : TableState) (running : List (Option ℕ)) (held : ℕ) (a : Option (ℕ × ℕ)) (down : Bool) (u : ℕ) (o : Option (Bor ThreadRow)) → s.cpus ≤ 64 → IsKept s h t running held a down
     → option_copied o ≡ row_of t.rows u → MatchOption o (IsNever s h u) (λ row. IsRow s h u row.now)
-row_is s h t running held a down u None k e =
+row_is s h t running held a down u None most k e =
     let m = mirrors_never s.first_tseq h t.rows s.cpus u k.rows (λ c q. k.below u c q) (sym e) in
     record { no_record = m.0; no_number = m.1; no_place = m.2 }
-row_is s h t running held a down u (Some row) k e =
+row_is s h t running held a down u (Some row) most k e =
     let m = mirrors_row s.first_tseq h t.rows s.cpus u row.now k.rows (λ c q. k.below u c q) (sym e) in
-    record { same_record = m.0; same_number = m.1; same_place = m.2 }
+    let place : place_at t.rows u ≡ row.now.cpu = place_row t.rows u (Some row.now) (sym e) in
+    record {
+      same_record = m.0;
+      same_number = m.1;
+      same_place = m.2;
+      allowed = λ c q.
+          let there : on h c ≡ Some u = (k.rows.same_place u c).0 (place ∙ q) in
+          (omega (arith, k.below u c there, most), sym (ap (may_be_on c) m.0) ∙ k.allowed u c there);
+    }
 
--- a message that takes nobody off a CPU
+-- a message about nobody on a CPU, that takes nobody off
 kept_still : (s : Settings) (h : History) (t t' : TableState) (running : List (Option ℕ)) (held : ℕ) (a : Option (ℕ × ℕ)) (down : Bool) (m : Message) → IsKept s h t running held a down
-    → Mirrors s.first_tseq (h ++ Posted m ∷ []) t'.rows → t'.first_tseq ≡ t.first_tseq → length t'.rows ≤ 65536 → ((u : ℕ) → takes_off u m ≡ false) → IsKept s (h ++ Posted m ∷ []) t' running held a down
-kept_still s h t t' running held a down m k rows first few still =
+    → Mirrors s.first_tseq (h ++ Posted m ∷ []) t'.rows → t'.first_tseq ≡ t.first_tseq → length t'.rows ≤ 65536 → ((u : ℕ) → takes_off u m ≡ false)
+    → ((u c : ℕ) → on h c ≡ Some u → is_about u m ≡ false) → IsKept s (h ++ Posted m ∷ []) t' running held a down
+kept_still s h t t' running held a down m k rows first few still others =
     let b = beside_posted h m in
     let same : (c : ℕ) → on (h ++ Posted m ∷ []) c ≡ on h c = λ c. on_still h m c (λ u q. still u) in
     record {
@@ -59,6 +74,7 @@ kept_still s h t t' running held a down m k rows first few still =
       count = k.count;
       runs = λ c lt. k.runs c lt ∙ ap Some (sym (same c));
       below = λ u c q. k.below u c (sym (same c) ∙ q);
+      allowed = λ u c q. let was : on h c ≡ Some u = sym (same c) ∙ q in ap (may_be_on c) (record_other h m u (others u c was)) ∙ k.allowed u c was;
       held_by_other = λ c. k.held_by_other c ∙ sym (b.taken c);
       agent = k.agent ∙ sym b.active;
       never_begun = b.attaching ∙ k.never_begun;
@@ -77,11 +93,21 @@ kept_created s h t t' running held a down f k few rows first =
     first
     (omega (arith, ap length rows, length-append t.rows (new_row t.first_tseq f ∷ []), n, few))
     (λ u. refl)
+    (λ u c there. by_new u c there (length (created h) + 1 == u) refl)
+  where
+    -- the new thread is on no CPU
+    by_new : (u c : ℕ) → on h c ≡ Some u → (b : Bool) → (length (created h) + 1 == u) ≡ b → b ≡ false
+    by_new u c there false e = refl
+    by_new u c there true e =
+        let is : length (created h) + 1 ≡ u = grind (arith, nat_tests) in
+        let n : length t.rows ≡ length (created h) = k.rows.count in
+        let no_row = place_row t.rows u None (row_never t.rows u (inr (omega (arith, is, n)))) in
+        let z : None ≡ Some c = sym no_row ∙ (k.rows.same_place u c).1 there in absurd cc
 
 -- a tick
 pub kept_tick : (s : Settings) (h : History) (t : TableState) (running : List (Option ℕ)) (held : ℕ) (a : Option (ℕ × ℕ)) (down : Bool) (c : ℕ) → IsKept s h t running held a down → IsKept s (h ++ Posted (TimerTick c) ∷ []) t running held a down
 kept_tick s h t running held a down c k =
-    kept_still s h t t running held a down (TimerTick c) k (subst (Mirrors s.first_tseq (h ++ Posted (TimerTick c) ∷ [])) (after_tick t.rows c) (mirrors_posted s.first_tseq h t.rows (TimerTick c) k.rows tt)) refl k.few (λ u. refl)
+    kept_still s h t t running held a down (TimerTick c) k (subst (Mirrors s.first_tseq (h ++ Posted (TimerTick c) ∷ [])) (after_tick t.rows c) (mirrors_posted s.first_tseq h t.rows (TimerTick c) k.rows tt)) refl k.few (λ u. refl) (λ u d there. refl)
 
 -- a tear-down: everybody was taken off, and no agent is active
 pub record IsCleared (t t' : TableState) (running running' : List (Option ℕ)) : Type 0 where
@@ -118,6 +144,7 @@ kept_torn s h t t' running running' held a a' down down' k x gone is_down =
       count = x.count ∙ k.count;
       runs = λ c lt. x.nobody c (omega (arith, lt, k.count)) ∙ ap Some (sym (torn_off h c));
       below = λ u c q. let z : None ≡ Some u = sym (torn_off h c) ∙ q in absurd cc;
+      allowed = λ u c q. let z : None ≡ Some u = sym (torn_off h c) ∙ q in absurd cc;
       held_by_other = λ c. k.held_by_other c ∙ sym (taken_torn h c);
       agent = gone ∙ sym (active_none h);
       never_begun = attaching_none h;
@@ -146,6 +173,7 @@ kept_placed s h t running held a down c b k p lt =
       count = length_set running c (Some b.tid) ∙ k.count;
       runs = λ d less. by_cpu_runs d less (c == d) refl;
       below = λ u d q. by_cpu_below u d q (c == d) refl;
+      allowed = λ u d q. by_cpu_allowed u d q (c == d) refl;
       held_by_other = λ d. k.held_by_other d ∙ sym (w.taken d);
       agent = k.agent ∙ sym w.active;
       never_begun = w.attaching ∙ k.never_begun;
@@ -163,6 +191,19 @@ kept_placed s h t running held a down c b k p lt =
     by_cpu_below : (u d : ℕ) → on (h ++ Placed b.tid b.tseq c b.generation ∷ []) d ≡ Some u → (x : Bool) → (c == d) ≡ x → d < s.cpus
     by_cpu_below u d q true z = let e : c ≡ d = grind (arith, nat_tests) in omega (arith, e, lt)
     by_cpu_below u d q false z = k.below u d (sym (on_elsewhere h b.tid b.tseq c b.generation d z) ∙ q)
+
+    same_record : (u : ℕ) → record_in (h ++ Placed b.tid b.tseq c b.generation ∷ []) u ≡ record_in h u
+    same_record u = record_by h (h ++ Placed b.tid b.tseq c b.generation ∷ []) u (same_messages h (Placed b.tid b.tseq c b.generation) u refl)
+
+    by_cpu_allowed : (u d : ℕ) → on (h ++ Placed b.tid b.tseq c b.generation ∷ []) d ≡ Some u → (x : Bool) → (c == d) ≡ x → may_be_on d (record_in (h ++ Placed b.tid b.tseq c b.generation ∷ []) u) ≡ true
+    by_cpu_allowed u d q true z =
+        let e : c ≡ d = grind (arith, nat_tests) in
+        let who : Some b.tid ≡ Some u = sym (on_here h b.tid b.tseq c b.generation d e) ∙ q in
+        let is : b.tid ≡ u = cc in
+        subst (λ x. may_be_on d (record_in (h ++ Placed b.tid b.tseq c b.generation ∷ []) x) ≡ true) is
+        (subst (λ x. may_be_on x (record_in (h ++ Placed b.tid b.tseq c b.generation ∷ []) b.tid) ≡ true) e
+        (ap (may_be_on c) (same_record b.tid) ∙ both_true p.runnable p.allowed))
+    by_cpu_allowed u d q false z = ap (may_be_on d) (same_record u) ∙ k.allowed u d (sym (on_elsewhere h b.tid b.tseq c b.generation d z) ∙ q)
 
 -- a new kernel
 nobody_on : (g c d : ℕ) → on (Role g c ∷ []) d ≡ None
@@ -203,6 +244,7 @@ kept_new s t running held g c rows first seats none =
       count = ap length seats ∙ length-replicate s.cpus None;
       runs = λ d lt. ap (λ (x : List (Option ℕ)). slice_get x d) seats ∙ (seat_of s.cpus d lt ∙ ap Some (sym (nobody_on g c d)));
       below = λ u d q. let z : None ≡ Some u = sym (nobody_on g c d) ∙ q in absurd cc;
+      allowed = λ u d q. let z : None ≡ Some u = sym (nobody_on g c d) ∙ q in absurd cc;
       held_by_other = λ d. none d ∙ sym (none_held g c d);
       agent = sym (agent_of g c);
       never_begun = none_attaches g c;

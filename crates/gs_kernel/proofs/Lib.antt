@@ -5,3 +5,4 @@ pub mod Seats
 pub mod Kernels
 pub mod Abouts
 pub mod OtherClass
+pub mod Living

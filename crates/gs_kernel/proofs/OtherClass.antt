@@ -10,17 +10,21 @@ use Rattle.gs_journal.specs.declared.entry.Entry.TheVariants.{Posted, Taken, Giv
 use Rattle.gs_journal.specs.Standing.{then_latest}
 use Rattle.gs_journal.specs.History.{History, on, at, seq, taken, last_taken, active, attaching, torn}
 use Rattle.gs_journal.specs.Holder.{is_agent_on}
-use Rattle.gs_journal.proofs.Laws.{last_taken-push, taken_is}
+use Rattle.gs_journal.proofs.Laws.{last_taken-push, same_messages, taken_is}
 use Rattle.gs_status.specs.Masks.{has}
 use Rattle.gs_threads.specs.declared.row.ThreadRow.{ThreadRow}
 use Rattle.gs_threads.specs.Mirrors.{is_quiet}
 use Rattle.gs_threads.specs.Table.{TableState, row_of, rows_after}
 use Rattle.gs_threads.proofs.Told.{place_row}
-use Rattle.gs_threads.proofs.Placing.{mirrors_quiet, on_quiet}
+use Rattle.gs_threads.proofs.Placing.{mirrors_quiet, on_quiet, posts_nothing}
+use Rattle.gs_threads.proofs.Entries.{record_by}
+use Rattle.gs_layout.specs.Message.{is_about}
+use Rattle.std.specs.List.{filter}
 use Rattle.gs_threads.proofs.Mirrored.{mirrors_at}
 use Rattle.gs_kernel.specs.declared.settings.Settings.{Settings}
 use Rattle.gs_kernel.specs.Kernel.{take_refusal, give_refusal, is_spent_there, is_full, next_about, preemption}
 use Rattle.gs_kernel.specs.Inside.{IsKept}
+use Rattle.gs_kernel.specs.Threads.{may_be_on}
 use Rattle.gs_kernel.proofs.Abouts.{kept_about}
 use Rattle.gs_kernel.proofs.Entries.{beside_quiet}
 use Rattle.gs_kernel.proofs.Refusals.{first_passed}
@@ -59,6 +63,7 @@ kept_held s h t running held held' a down e quiet same_active same_attaching sam
       count = k.count;
       runs = λ c lt. k.runs c lt ∙ ap Some (sym (on_quiet h e c quiet));
       below = λ u c q. k.below u c (sym (on_quiet h e c quiet) ∙ q);
+      allowed = λ u c q. ap (may_be_on c) (record_by h (h ++ e ∷ []) u (same_messages h e u (ap (filter (is_about u)) (posts_nothing e quiet)))) ∙ k.allowed u c (sym (on_quiet h e c quiet) ∙ q);
       held_by_other = holds;
       agent = k.agent ∙ sym same_active;
       never_begun = same_attaching ∙ k.never_begun;
@@ -92,7 +97,7 @@ seated_row s h t running held a down u c k there = by_row (row_of t.rows u) refl
 pub kept_preempted : (s : Settings) (h : History) (t t' : TableState) (running : List (Option ℕ)) (held : ℕ) (a : Option (ℕ × ℕ)) (down : Bool) (u c : ℕ) → IsKept s h t running held a down → on h c ≡ Some u → t'.rows ≡ rows_after t.rows (next_about s h u (Preempted c))
     → t'.first_tseq ≡ t.first_tseq → IsKept s (h ++ Posted (next_about s h u (Preempted c)) ∷ []) t' (slice_set running c None) held a down
 kept_preempted s h t t' running held a down u c k there rows first =
-    kept_about s h t t' running held a down u (Preempted c) (Some c) k (seated_row s h t running held a down u c k there) refl (sym (seated_at s h t running held a down u c k there)) rows first
+    kept_about s h t t' running held a down u (Preempted c) (Some c) k (seated_row s h t running held a down u c k there) refl (sym (seated_at s h t running held a down u c k there)) rows first (λ d q off. absurd cc)
 
 -- what holds where a taking is not refused
 pub record Takes (s : Settings) (h : History) (c : ℕ) : Type 0 where

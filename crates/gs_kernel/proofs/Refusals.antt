@@ -1,5 +1,5 @@
 -- What holds where an event is not refused.
-use Rattle.std.proofs.Common.{◌≡◌, ℕ, ◌+◌, ◌^◌, ◌<◌, ◌==◌, length, Bool, true, false, not, ◌||◌, nat_le, cond, Option, None, Some, refl, arith}
+use Rattle.std.proofs.Common.{◌≡◌, ℕ, ◌+◌, ◌^◌, ◌<◌, ◌==◌, length, Bool, true, false, not, ◌||◌, ◌&&◌, nat_le, cond, Option, None, Some, refl, arith}
 use Rattle.std.proofs.lemmas.Bool.Decides.{nat_tests}
 use Rattle.gs_layout.specs.declared.facts.Facts.{Facts}
 use Rattle.gs_journal.specs.History.{History, created, seq, record_in, torn}
@@ -13,6 +13,10 @@ use Rattle.gs_kernel.specs.Kernel.{create_refusal, tick_refusal, thread_refusal,
 pub first_passed : {A : Type 0} (b : Bool) (x : A) (o : Option A) → cond b (Some x) o ≡ None → (b ≡ false) × (o ≡ None)
 first_passed false x o e = (cc, e)
 first_passed true x o e = absurd cc
+
+pub both_hold : (a b : Bool) → (a && b) ≡ true → (a ≡ true) × (b ≡ true)
+both_hold true b e = (refl, e)
+both_hold false b e = absurd cc
 
 pub neither : (a b : Bool) → (a || b) ≡ false → (a ≡ false) × (b ≡ false)
 neither false b e = (cc, e)
@@ -77,7 +81,7 @@ neither_refuses : (a b : Option Refusal) → or_else a b ≡ None → (a ≡ Non
 neither_refuses None b e = (refl, e)
 neither_refuses (Some r) b e = absurd cc
 
-not_not : (b : Bool) → not b ≡ false → b ≡ true
+pub not_not : (b : Bool) → not b ≡ false → b ≡ true
 not_not true e = refl
 not_not false e = absurd cc
 

@@ -3,4 +3,5 @@ pub mod First
 pub mod Threads
 pub mod Landing
 pub mod Kernel
+pub mod Shown
 pub mod Inside

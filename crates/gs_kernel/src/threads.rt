@@ -13,7 +13,7 @@ use gs_threads::ThreadRow;
 
 impl<P: Poster> Kernel<P> {
     /// A thread's row, which says of it what the history says.
-    fn row(&self, tid: u32) -> Option<&ThreadRow>
+    pub(crate) fn row(&self, tid: u32) -> Option<&ThreadRow>
         ensures { MatchOption result (IsNever self.now.settings self.now.history tid) (λ row. IsRow self.now.settings self.now.history tid row.now) }
     {
         self.threads.get(tid)

@@ -14,10 +14,11 @@ use Rattle.gs_core.specs.declared.drained.Drained.{Drained}
 use Rattle.gs_core.specs.declared.drained.Stop.{Stop}
 use Rattle.gs_core.specs.declared.drained.Stop.TheVariants.{Gap, Memory}
 use Rattle.gs_core.specs.declared.event.Event.{Event}
-use Rattle.gs_core.specs.declared.event.Event.TheVariants.{Create, Tick, Drain, Stamp, Commit, Unread}
+use Rattle.gs_core.specs.declared.event.Event.TheVariants.{Create, Thread, Take, Give, Tick, Drain, Stamp, Commit, Unread}
+use Rattle.gs_core.specs.declared.event.Event.TheVariants as events
 use Rattle.gs_core.specs.declared.reply.Reply.{Reply}
 use Rattle.gs_core.specs.declared.reply.Reply.TheVariants as replies
-use Rattle.gs_core.specs.Machine.{State, Agent, records_of, view, unread, is_idle, refusal, Serves, Step, Does, IsShort, Takes, Drains, creates, ticks, stamps, stamps_with, commits}
+use Rattle.gs_core.specs.Machine.{State, Agent, records_of, view, unread, is_idle, refusal, Serves, Step, Does, IsShort, Takes, Drains, creates, happens, takes, gives, ticks, stamps, stamps_with, commits}
 use Rattle.gs_core.specs.Safe.{IsFaithful, Run}
 use Rattle.gs_core.proofs.Faces.{drop_drop}
 use Rattle.gs_trace.specs.declared.fault.ScriptFault.{ScriptFault}
@@ -49,10 +50,14 @@ stamp_refusal m c t v =
 one_refusal : (m : State) (a : Option Agent) → look_up (records_of a) ≡ view m → (e : Event) → refusal (record m { agent = a }) e ≡ refusal m e
 unfolding stamp_refusal
 one_refusal m a same (Create f) = refl
+one_refusal m a same (Thread t e) = refl
+one_refusal m a same (Take c) = refl
+one_refusal m a same (Give c) = refl
 one_refusal m a same (Tick c) = refl
 one_refusal m a same (Drain max) = refl
 one_refusal m a same (Stamp c t) = ap (stamp_refusal m c t) same
 one_refusal m a same (Commit mask) = refl
+one_refusal m a same events.State = refl
 one_refusal m a same Unread = refl
 
 -- one drain: with memory none stops early, as the view that it leaves meets no gap
@@ -149,6 +154,15 @@ one_done : (m : State) (a : Option Agent) → look_up (records_of a) ≡ view m 
 one_done m a same (Create f) r r' m' n' (inl x) (inl y) g h p q = record { reply = x.0 ∙ sym y.0; left = alike_at m' n' (creates m f).1 a x.1 y.1 same }
 one_done m a same (Create f) r r' m' n' (inr x) y g h p q = absurd (refused_is r p x.0)
 one_done m a same (Create f) r r' m' n' (inl x) (inr y) g h p q = absurd (refused_is r' q y.0)
+one_done m a same (Thread t e) r r' m' n' (inl x) (inl y) g h p q = record { reply = x.0 ∙ sym y.0; left = alike_at m' n' (happens m t e).1 a x.1 y.1 same }
+one_done m a same (Thread t e) r r' m' n' (inr x) y g h p q = absurd (refused_is r p x.0)
+one_done m a same (Thread t e) r r' m' n' (inl x) (inr y) g h p q = absurd (refused_is r' q y.0)
+one_done m a same (Take c) r r' m' n' (inl x) (inl y) g h p q = record { reply = x.0 ∙ sym y.0; left = alike_at m' n' (takes m c).1 a x.1 y.1 same }
+one_done m a same (Take c) r r' m' n' (inr x) y g h p q = absurd (refused_is r p x.0)
+one_done m a same (Take c) r r' m' n' (inl x) (inr y) g h p q = absurd (refused_is r' q y.0)
+one_done m a same (Give c) r r' m' n' (inl x) (inl y) g h p q = record { reply = x.0 ∙ sym y.0; left = alike_at m' n' (gives m c).1 a x.1 y.1 same }
+one_done m a same (Give c) r r' m' n' (inr x) y g h p q = absurd (refused_is r p x.0)
+one_done m a same (Give c) r r' m' n' (inl x) (inr y) g h p q = absurd (refused_is r' q y.0)
 one_done m a same (Tick c) r r' m' n' (inl x) (inl y) g h p q = record { reply = x.0 ∙ sym y.0; left = alike_at m' n' (ticks m c).1 a x.1 y.1 same }
 one_done m a same (Tick c) r r' m' n' (inr x) y g h p q = absurd (refused_is r p x.0)
 one_done m a same (Tick c) r r' m' n' (inl x) (inr y) g h p q = absurd (refused_is r' q y.0)
@@ -163,6 +177,9 @@ one_done m a same (Stamp c t) r r' m' n' (inl x) (inr y) g h p q = absurd (refus
 one_done m a same (Commit mask) r r' m' n' (inl x) (inl y) g h p q = record { reply = x.0 ∙ sym y.0; left = alike_at m' n' (commits m mask).1 a x.1 y.1 same }
 one_done m a same (Commit mask) r r' m' n' (inr x) y g h p q = absurd (refused_is r p x.0)
 one_done m a same (Commit mask) r r' m' n' (inl x) (inr y) g h p q = absurd (refused_is r' q y.0)
+one_done m a same events.State r r' m' n' (inl x) (inl y) g h p q = record { reply = x.0 ∙ sym y.0; left = alike_at m' n' m a x.1 y.1 same }
+one_done m a same events.State r r' m' n' (inr x) y g h p q = absurd (refused_is r p x.0)
+one_done m a same events.State r r' m' n' (inl x) (inr y) g h p q = absurd (refused_is r' q y.0)
 one_done m a same Unread r r' m' n' (inl x) (inl y) g h p q = record { reply = x.0 ∙ sym y.0; left = alike_at m' n' m a x.1 y.1 same }
 one_done m a same Unread r r' m' n' (inr x) y g h p q = absurd (refused_is r p x.0)
 one_done m a same Unread r r' m' n' (inl x) (inr y) g h p q = absurd (refused_is r' q y.0)

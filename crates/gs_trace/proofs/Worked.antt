@@ -2,6 +2,7 @@
 use Rattle.std.proofs.Common.{◌≡◌, ℕ, List, [], ◌∷◌, ◌++◌, codes, refl, Ok, Err, true, false, Option, Some, None}
 use Rattle.gs_layout.specs.declared.facts.Class.TheVariants.{Zero, One}
 use Rattle.gs_core.specs.declared.event.Event.TheVariants as events
+use Rattle.gs_kernel.specs.declared.thread_event.ThreadEvent.TheVariants as threads
 use Rattle.gs_trace.specs.declared.fault.Reason.{Reason}
 use Rattle.gs_trace.specs.declared.fault.Reason.TheVariants.{NoHeader, BadWord, BadCount, BadNumber, BadName, BadByte}
 use Rattle.gs_trace.specs.Words.{words_of}
@@ -166,3 +167,34 @@ defaults = refl
 
 all_given : header_of (words_of (codes "cpus 64 ring 1048576 first-tseq 7 first-gen 8 history 9")) ≡ Ok (record { cpus = 64; ring = 1048576; first_tseq = 7; first_generation = 8; history = 9 })
 all_given = refl
+
+-- what happens to a thread and to a CPU
+blocks : event_of (words_of (codes "block 65536")) ≡ Ok (events.Thread 65536 threads.Block)
+blocks = refl
+
+wakes : event_of (words_of (codes "wake 0")) ≡ Ok (events.Thread 0 threads.Wake)
+wakes = refl
+
+yields : event_of (words_of (codes " yield  4294967295")) ≡ Ok (events.Thread 4294967295 threads.Yield)
+yields = refl
+
+dies : event_of (words_of (codes "die 4294967296")) ≡ Err BadNumber
+dies = refl
+
+moves : event_of (words_of (codes "affinity 1 18446744073709551615")) ≡ Ok (events.Thread 1 (threads.Affinity 18446744073709551615))
+moves = refl
+
+moves_alone : event_of (words_of (codes "affinity x")) ≡ Err BadCount
+moves_alone = refl
+
+taken : event_of (words_of (codes "take 65535")) ≡ Ok (events.Take 65535)
+taken = refl
+
+given : event_of (words_of (codes "give 65536")) ≡ Err BadNumber
+given = refl
+
+looked_at_all : event_of (words_of (codes "state")) ≡ Ok events.State
+looked_at_all = refl
+
+state_behind : event_of (words_of (codes "state 1")) ≡ Err BadCount
+state_behind = refl

@@ -4,8 +4,8 @@ use Rattle.std.specs.Fmt.{digits}
 use Rattle.gs_layout.specs.declared.refusal.Refusal.TheVariants as refusals
 use Rattle.gs_layout.specs.declared.outcome.Outcome.TheVariants as outcomes
 use Rattle.gs_core.specs.declared.drained.Stop.TheVariants.{Gap}
-use Rattle.gs_core.specs.declared.reply.Reply.TheVariants.{Refused, Torn, Created, Ticked, Drained, Stamped, Landed, Unread}
-use Rattle.gs_layout.specs.declared.facts.Class.TheVariants.{Zero}
+use Rattle.gs_core.specs.declared.reply.Reply.TheVariants.{Refused, Torn, Created, Posted, Taken, Given, Ticked, Drained, Stamped, Landed, State, Unread}
+use Rattle.gs_layout.specs.declared.facts.Class.TheVariants.{Zero, One}
 use Rattle.gs_layout.specs.declared.message.Change.TheVariants as changes
 use Rattle.gs_layout.specs.declared.message.Message.TheVariants.{Thread, TimerTick}
 use Rattle.gs_trace.specs.declared.fault.Reason.TheVariants.{NoHeader}
@@ -88,3 +88,40 @@ waits_anywhere = refl
 faulted : fault_line (fault 0 NoHeader) ≡ line (codes "fault line 0 NoHeader")
 unfolding digits
 faulted = refl
+
+-- what happened to a thread
+happened : lines (
+    Posted (Thread 1 2 (changes.Blocked 1))
+    ∷ Posted (Thread 1 3 changes.Wakeup)
+    ∷ Posted (Thread 1 4 (changes.Yield 1))
+    ∷ Posted (Thread 1 5 (changes.Affinity (Some 1) true 1))
+    ∷ Posted (Thread 1 6 (changes.Affinity (Some 1) false 3))
+    ∷ Posted (Thread 1 7 (changes.Affinity None false 3))
+    ∷ Posted (Thread 1 8 (changes.Dead None))
+    ∷ Taken 1
+    ∷ Given 63
+    ∷ []
+    ) ≡ line (codes "blocked 1 seq 2")
+    ++ line (codes "woken 1 seq 3")
+    ++ line (codes "yielded 1 seq 4")
+    ++ line (codes "affinity 1 seq 5 off 1")
+    ++ line (codes "affinity 1 seq 6")
+    ++ line (codes "affinity 1 seq 7")
+    ++ line (codes "dead 1 seq 8")
+    ++ line (codes "taken 1")
+    ++ line (codes "given 63")
+unfolding digits
+happened = refl
+
+-- one line for each thread that lives
+live : lines (
+    State (
+    record { tid = 1; known = record { facts = record { runnable = true; mask = 1; class = Zero; name = codes "web" }; tseq = 2 }; cpu = None }
+    ∷ record { tid = 65536; known = record { facts = record { runnable = false; mask = 18446744073709551615; class = One; name = [] }; tseq = 4294967295 }; cpu = Some 63 }
+    ∷ []
+    )
+    ∷ []
+    ) ≡ line (codes "state 1 seq 2 r mask 1 class 0 name web cpu -")
+    ++ line (codes "state 65536 seq 4294967295 b mask 18446744073709551615 class 1 name - cpu 63")
+unfolding digits
+live = refl

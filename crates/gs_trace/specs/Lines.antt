@@ -1,15 +1,24 @@
 -- The lines of replies.
-use Rattle.std.specs.Prelude.{ℕ, List, [], ◌∷◌, ◌++◌, codes, decimal, flat_map, if◌then◌else◌, ◌==◌, Option, None, Some}
+use Rattle.std.specs.Prelude.{Bool, true, false, ℕ, List, [], ◌∷◌, ◌++◌, codes, decimal, flat_map, if◌then◌else◌, ◌==◌, Option, None, Some}
 use Rattle.gs_layout.specs.declared.refusal.Refusal.{Refusal}
 use Rattle.gs_layout.specs.declared.refusal.Refusal.TheVariants as refusals
 use Rattle.gs_layout.specs.declared.outcome.Outcome.{Outcome}
 use Rattle.gs_layout.specs.declared.outcome.Outcome.TheVariants as outcomes
+use Rattle.gs_layout.specs.declared.facts.Facts.{Facts}
+use Rattle.gs_layout.specs.declared.facts.Class.{Class}
+use Rattle.gs_layout.specs.declared.facts.Class.TheVariants.{Zero, One}
+use Rattle.gs_layout.specs.declared.known.Known.{Known}
+use Rattle.gs_layout.specs.declared.name.Name.{Name}
 use Rattle.gs_layout.specs.declared.kind.Kind.{Kind}
 use Rattle.gs_layout.specs.declared.kind.Kind.TheVariants as kinds
+use Rattle.gs_layout.specs.declared.message.Change.{Change}
+use Rattle.gs_layout.specs.declared.message.Change.TheVariants.{Created, Blocked, Wakeup, Preempted, Yield, Dead, Affinity}
 use Rattle.gs_layout.specs.declared.message.Message.{Message}
+use Rattle.gs_layout.specs.declared.message.Message.TheVariants.{Thread, TimerTick}
 use Rattle.gs_layout.specs.Message.{tseq_of}
 use Rattle.gs_layout.specs.Spelling.{kind_of, tid_of, cpu_of}
 use Rattle.gs_kernel.specs.declared.landing.Landing.{Landing}
+use Rattle.gs_kernel.specs.declared.live_thread.LiveThread.{LiveThread}
 use Rattle.gs_core.specs.declared.drained.Drained.{Drained}
 use Rattle.gs_core.specs.declared.drained.Stop.{Stop}
 use Rattle.gs_core.specs.declared.drained.Stop.TheVariants as stops
@@ -103,15 +112,67 @@ message_text m = codes "unread " ++ kind_text (kind_of m) ++ codes " " ++ decima
 abbrev pub message_lines : List Message → List ℕ
 message_lines messages = flat_map (λ m. line (message_text m)) messages
 
--- the lines of a reply: a commit has one for each landing, a look at what waits one for each message, and any other reply has one
+-- what is said to have happened to a thread, by its message
+abbrev pub change_text : Change → List ℕ
+change_text (Created f) = codes "created"
+change_text (Blocked c) = codes "blocked"
+change_text Wakeup = codes "woken"
+change_text (Preempted c) = codes "preempted"
+change_text (Yield c) = codes "yielded"
+change_text (Dead c) = codes "dead"
+change_text (Affinity c off m) = codes "affinity"
+
+-- the CPU that a thread was taken off by a new mask
+abbrev pub off_text : Change → List ℕ
+off_text (Affinity (Some c) true m) = codes " off " ++ decimal c
+off_text _ = []
+
+abbrev pub posted_text : Message → List ℕ
+posted_text (Thread t s c) = change_text c ++ codes " " ++ decimal t ++ codes " seq " ++ decimal s ++ off_text c
+posted_text (TimerTick c) = codes "tick " ++ decimal c
+
+-- whether a thread may run
+abbrev pub runnable_text : Bool → List ℕ
+runnable_text true = codes "r"
+runnable_text false = codes "b"
+
+abbrev pub class_text : Class → List ℕ
+class_text Zero = codes "0"
+class_text One = codes "1"
+
+-- a name, or `-` for the empty one
+abbrev pub name_text : Name → List ℕ
+name_text [] = codes "-"
+name_text (b ∷ name) = b ∷ name
+
+abbrev pub facts_text : Facts → List ℕ
+facts_text f = runnable_text f.runnable ++ codes " mask " ++ decimal f.mask ++ codes " class " ++ class_text f.class ++ codes " name " ++ name_text f.name
+
+-- what is known of a thread
+abbrev pub known_text : ℕ → Known → List ℕ
+known_text t k = decimal t ++ codes " seq " ++ decimal k.tseq ++ codes " " ++ facts_text k.facts
+
+-- a thread that lives
+abbrev pub live_text : LiveThread → List ℕ
+live_text a = codes "state " ++ known_text a.tid a.known ++ codes " cpu " ++ cpu_text a.cpu
+
+-- the lines of threads that live, one for each
+abbrev pub live_lines : List LiveThread → List ℕ
+live_lines threads = flat_map (λ a. line (live_text a)) threads
+
+-- the lines of a reply: a commit has one for each landing, a look one for each thread or message that it shows, and any other reply has one
 abbrev pub reply_lines : Reply → List ℕ
 reply_lines (replies.Refused f) = line (codes "refused " ++ refusal_text f)
 reply_lines replies.Torn = line (codes "torn")
 reply_lines (replies.Created tid tseq) = line (codes "created " ++ decimal tid ++ codes " seq " ++ decimal tseq)
+reply_lines (replies.Posted m) = line (posted_text m)
+reply_lines (replies.Taken cpu) = line (codes "taken " ++ decimal cpu)
+reply_lines (replies.Given cpu) = line (codes "given " ++ decimal cpu)
 reply_lines (replies.Ticked cpu) = line (codes "tick " ++ decimal cpu)
 reply_lines (replies.Drained d) = line (drained_text d)
 reply_lines (replies.Stamped number) = line (codes "stamped " ++ decimal number)
 reply_lines (replies.Landed landings) = landing_lines landings
+reply_lines (replies.State threads) = live_lines threads
 reply_lines (replies.Unread messages) = message_lines messages
 
 -- the lines of replies, in order

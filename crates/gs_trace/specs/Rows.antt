@@ -4,6 +4,8 @@ use denote.Ref.{Bor}
 use Rattle.gs_layout.specs.declared.facts.Class.{Class}
 use Rattle.gs_layout.specs.declared.facts.Class.TheVariants.{Zero, One}
 use Rattle.gs_layout.specs.declared.name.Name.{Name as TheName}
+use Rattle.gs_kernel.specs.declared.thread_event.ThreadEvent.{ThreadEvent}
+use Rattle.gs_kernel.specs.declared.thread_event.ThreadEvent.TheVariants as happens
 use Rattle.gs_core.specs.declared.event.Event.{Event}
 use Rattle.gs_core.specs.declared.event.Event.TheVariants as events
 use Rattle.gs_trace.specs.declared.fault.Reason.{Reason}
@@ -48,6 +50,31 @@ create =
       event = λ ws. events.Create (record { runnable = is (at 2 ws) (codes "r"); mask = number (at 0 ws); class = class_of (number (at 1 ws)); name = name_of (at 3 ws) });
     }
 
+-- a line that says what happens to a thread
+abbrev pub to_thread : List ℕ → ThreadEvent → Row
+to_thread word e = record { word = word; forms = (u32s ∷ []) ∷ []; event = λ ws. events.Thread (number (at 0 ws)) e }
+
+abbrev pub block : Row
+block = to_thread (codes "block") happens.Block
+
+abbrev pub wake : Row
+wake = to_thread (codes "wake") happens.Wake
+
+abbrev pub yield : Row
+yield = to_thread (codes "yield") happens.Yield
+
+abbrev pub die : Row
+die = to_thread (codes "die") happens.Die
+
+abbrev pub affinity : Row
+affinity = record { word = codes "affinity"; forms = (u32s ∷ u64s ∷ []) ∷ []; event = λ ws. events.Thread (number (at 0 ws)) (happens.Affinity (number (at 1 ws))) }
+
+abbrev pub take : Row
+take = record { word = codes "take"; forms = (u16s ∷ []) ∷ []; event = λ ws. events.Take (number (at 0 ws)) }
+
+abbrev pub give : Row
+give = record { word = codes "give"; forms = (u16s ∷ []) ∷ []; event = λ ws. events.Give (number (at 0 ws)) }
+
 abbrev pub tick : Row
 tick = record { word = codes "tick"; forms = (u16s ∷ []) ∷ []; event = λ ws. events.Tick (number (at 0 ws)) }
 
@@ -62,11 +89,14 @@ abbrev pub commit : Row
 commit = record { word = codes "commit"; forms = (u64s ∷ []) ∷ []; event = λ ws. events.Commit (number (at 0 ws)) }
 
 -- a form without words: nothing stands behind the first word
+abbrev pub state : Row
+state = record { word = codes "state"; forms = [] ∷ []; event = λ ws. events.State }
+
 abbrev pub unread : Row
 unread = record { word = codes "unread"; forms = [] ∷ []; event = λ ws. events.Unread }
 
 abbrev pub rows : List Row
-rows = create ∷ tick ∷ drain ∷ stamp ∷ commit ∷ unread ∷ []
+rows = create ∷ block ∷ wake ∷ yield ∷ die ∷ affinity ∷ take ∷ give ∷ tick ∷ drain ∷ stamp ∷ commit ∷ state ∷ unread ∷ []
 
 -- what a row reads in the words after its first
 abbrev pub reads : Row → List (List ℕ) → Result Event Reason

@@ -5,6 +5,7 @@ ghost use Rattle.gs_trace.specs.Rows.{shown, reads, event_of};
 use crate::fault::Reason;
 use crate::word::{name, number};
 use gs_core::Event;
+use gs_kernel::ThreadEvent;
 use gs_layout::{Class, Facts};
 use gs_status::Mask;
 
@@ -58,6 +59,39 @@ fn create(mask: &str, class: &str, state: &str, text: &str) -> Result<Event, Rea
     Ok(Event::Create { facts })
 }
 
+/// What happens to the thread of this number.
+fn to_thread(tid: &str, event: ThreadEvent) -> Result<Event, Reason>
+    ensures { result ≡ reads (rows.to_thread [] event) (tid.now ∷ []) }
+{
+    let tid = u32_number(tid)?;
+    Ok(Event::Thread { tid, event })
+}
+
+fn affinity(tid: &str, mask: &str) -> Result<Event, Reason>
+    ensures { result ≡ reads rows.affinity (tid.now ∷ mask.now ∷ []) }
+{
+    let tid = u32_number(tid)?;
+    let mask = number(mask, 0, u64::MAX)?;
+    Ok(Event::Thread {
+        tid,
+        event: ThreadEvent::Affinity { mask },
+    })
+}
+
+fn take(cpu: &str) -> Result<Event, Reason>
+    ensures { result ≡ reads rows.take (cpu.now ∷ []) }
+{
+    let cpu = cpu_number(cpu)?;
+    Ok(Event::Take { cpu })
+}
+
+fn give(cpu: &str) -> Result<Event, Reason>
+    ensures { result ≡ reads rows.give (cpu.now ∷ []) }
+{
+    let cpu = cpu_number(cpu)?;
+    Ok(Event::Give { cpu })
+}
+
 fn tick(cpu: &str) -> Result<Event, Reason>
     ensures { result ≡ reads rows.tick (cpu.now ∷ []) }
 {
@@ -100,6 +134,34 @@ pub(crate) fn event(words: &[&str]) -> Result<Event, Reason>
             [mask, class, state, name] => create(mask, class, state, name),
             _ => Err(Reason::BadCount),
         },
+        "block" => match words {
+            [tid] => to_thread(tid, ThreadEvent::Block),
+            _ => Err(Reason::BadCount),
+        },
+        "wake" => match words {
+            [tid] => to_thread(tid, ThreadEvent::Wake),
+            _ => Err(Reason::BadCount),
+        },
+        "yield" => match words {
+            [tid] => to_thread(tid, ThreadEvent::Yield),
+            _ => Err(Reason::BadCount),
+        },
+        "die" => match words {
+            [tid] => to_thread(tid, ThreadEvent::Die),
+            _ => Err(Reason::BadCount),
+        },
+        "affinity" => match words {
+            [tid, mask] => affinity(tid, mask),
+            _ => Err(Reason::BadCount),
+        },
+        "take" => match words {
+            [cpu] => take(cpu),
+            _ => Err(Reason::BadCount),
+        },
+        "give" => match words {
+            [cpu] => give(cpu),
+            _ => Err(Reason::BadCount),
+        },
         "tick" => match words {
             [cpu] => tick(cpu),
             _ => Err(Reason::BadCount),
@@ -114,6 +176,10 @@ pub(crate) fn event(words: &[&str]) -> Result<Event, Reason>
         },
         "commit" => match words {
             [mask] => commit(mask),
+            _ => Err(Reason::BadCount),
+        },
+        "state" => match words {
+            [] => Ok(Event::State),
             _ => Err(Reason::BadCount),
         },
         "unread" => match words {

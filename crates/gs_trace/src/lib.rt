@@ -11,6 +11,7 @@ mod pipe;
 mod reply_line;
 mod run;
 mod script;
+mod thread_line;
 mod word;
 
 pub use arguments::{Command, settings};

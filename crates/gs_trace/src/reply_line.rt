@@ -1,7 +1,8 @@
 ghost use Rattle.std.specs.Prelude.{◌≡◌, ◌++◌, IfOk, OnOk, string_bytes};
 ghost use Rattle.gs_trace.specs.Lines.{refusal_text, outcome_text, drained_text, unless_zero, stop_text, line, landing_text, landing_lines, reply_lines, lines};
 
-use crate::message_line::write_messages;
+use crate::message_line::{write_messages, write_posted};
+use crate::thread_line::write_threads;
 use gs_core::{Drained, Reply, Stop};
 use gs_kernel::Landing;
 use gs_layout::{Outcome, Refusal};
@@ -130,10 +131,14 @@ fn write_reply(out: &mut String, reply: &Reply) -> Result<(), AllocError>
         }
         Reply::Torn => out.push_str("torn\n"),
         Reply::Created { tid, tseq } => write!(out, "created {tid} seq {tseq}\n"),
+        Reply::Posted(message) => write_posted(out, message),
+        Reply::Taken { cpu } => write!(out, "taken {cpu}\n"),
+        Reply::Given { cpu } => write!(out, "given {cpu}\n"),
         Reply::Ticked { cpu } => write!(out, "tick {cpu}\n"),
         Reply::Drained(drained) => write_drained(out, drained),
         Reply::Stamped { number } => write!(out, "stamped {number}\n"),
         Reply::Landed(landings) => write_landings(out, landings.as_slice()),
+        Reply::State(threads) => write_threads(out, threads.as_slice()),
         Reply::Unread(messages) => write_messages(out, messages.as_slice()),
     }
 }

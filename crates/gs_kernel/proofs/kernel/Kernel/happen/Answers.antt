@@ -1,14 +1,17 @@
-use Rattle.std.proofs.Common.{◌≡◌, ℕ, ◌+◌, ◌<◌, ◌++◌, ◌∷◌, [], List, Option, length, false, None, Some, refl, ap, sym, subst, ◌∙◌, arith}
+use Rattle.std.proofs.Common.{◌≡◌, ℕ, ◌+◌, ◌<◌, ◌++◌, ◌∷◌, [], List, Option, length, true, false, None, Some, refl, ap, sym, subst, ◌∙◌, arith}
 use Rattle.std.proofs.lemmas.Grind.{common_steps}
 use Rattle.std.specs.Vec.{with_items}
 use Rattle.std.proofs.lemmas.List.{with_items_is}
 use Rattle.gs_layout.specs.declared.message.Change.{Change}
 use Rattle.gs_layout.specs.Spelling.{IsSpellableChange}
 use Rattle.gs_journal.specs.declared.entry.Entry.TheVariants.{Posted, Torn}
-use Rattle.gs_journal.specs.History.{History, posted, at, seq}
+use Rattle.gs_journal.specs.History.{History, posted, on, at, record_in, seq}
+use Rattle.gs_layout.specs.Record.{after}
+use Rattle.gs_kernel.specs.Threads.{may_be_on}
+use Rattle.gs_kernel.proofs.OtherClass.{seated_at}
 use Rattle.gs_journal.proofs.Laws.{posted-length}
 use Rattle.gs_kernel.specs.Kernel.{thread_refusal, change_by, next_about}
-use Rattle.gs_kernel.proofs.Abouts.{kept_about, length_vacated, live_row, no_creation, on_cpu_below, row_number, spells_change}
+use Rattle.gs_kernel.proofs.Abouts.{kept_about, length_vacated, live_row, no_creation, on_cpu_below, row_number, spells_change, stays_allowed}
 use Rattle.gs_layout.specs.declared.message.Message.{Message}
 use Rattle.gs_layout.specs.declared.message.Message.TheVariants.{Thread}
 use Rattle.gs_layout.specs.Message.{is_creation, takes_off_cpu}
@@ -98,6 +101,9 @@ invariant_of-self-2 g c =
     let first : c.apply.new.self.first_tseq ≡ k.threads.first_tseq = ap (λ (t : TableState). t.first_tseq) c.apply.ensures in
     let no_new : is_creation (next_about k.settings h u ch) ≡ false =
     subst (λ (x : Change). is_creation (next_about k.settings h u x) ≡ false) (sym c.change_by-change.ensures.value) (no_creation u (seq k.settings.first_tseq h u + 1) c.at-there.result c.args.event) in
+    let stays : (d : ℕ) → on h d ≡ Some u → takes_off_cpu ch ≡ false → may_be_on d (after (record_in h u) (next_about k.settings h u ch)) ≡ true =
+    subst (λ (x : Change). (d : ℕ) → on h d ≡ Some u → takes_off_cpu x ≡ false → may_be_on d (after (record_in h u) (next_about k.settings h u x)) ≡ true) (sym c.change_by-change.ensures.value)
+    (λ d q off. stays_allowed k.settings h u d c.at-there.result c.args.event (i.kept.allowed u d q) (there ∙ seated_at k.settings h k.threads k.running.items k.taken k.agent k.torn u d i.kept q) off) in
     let new = c.vacate.new.running in
     let count : length new ≡ k.running.len =
     ap length c.vacate.ensures ∙ (length_vacated c.deref_mut-2.result.now c.at-there.result c.takes_off_cpu.result ∙ (ap length c.deref_mut-2.ensures.value ∙ sym k.running.ok.0)) in
@@ -105,7 +111,7 @@ invariant_of-self-2 g c =
     with_items_is k.running new count
     ∙ (c.vacate.ensures
     ∙ (ap (λ (x : List (Option ℕ)). vacated x c.at-there.result c.takes_off_cpu.result) c.deref_mut-2.ensures.value ∙ ap (vacated k.running.items c.at-there.result) c.takes_off_cpu.ensures)) in
-    let kept = kept_about k.settings h k.threads c.apply.new.self k.running.items k.taken k.agent k.torn u ch c.at-there.result i.kept row no_new there rows first in
+    let kept = kept_about k.settings h k.threads c.apply.new.self k.running.items k.taken k.agent k.torn u ch c.at-there.result i.kept row no_new there rows first stays in
     record {
       in_range = i.in_range;
       limit = grind (arith, common_steps);

@@ -1,0 +1,40 @@
+use Rattle.std.proofs.Common.{◌≡◌, ℕ, Bool, cond, refl, ap, sym, subst, ◌∙◌}
+use Rattle.gs_core.specs.declared.event.Event.TheVariants as events
+use Rattle.gs_core.specs.declared.reply.Reply.{Reply}
+use Rattle.gs_core.specs.declared.reply.Reply.TheVariants as replies
+use Rattle.gs_core.specs.Machine.{State, Step}
+use Rattle.gs_core.specs.Held.{machine_view}
+use Rattle.gs_core.proofs.Posting.{take_step, reply_of, with_kernel}
+use Rattle.gs_core.proofs.Serving.{take_kept}
+use Rattle.gs_core.proofs.machine.Machine.take.Goals as goal
+use Rattle.gs_core.proofs.machine.Machine.take.Goals.{in-Ok-true, in-Ok-false, in-Err}
+
+pub invariant_of-self : goal.invariant_of-self
+invariant_of-self c =
+    let m = machine_view c.self.inside in
+    let i = c.self.invariant in
+    let e = c.take.ensures in
+    let k = c.take.new.self in
+    record {
+      good = take_kept m c.args.cpu c.take.result k.settings k.poster k.history i.good e.history e.unchanged e.settings e.ring e.stays;
+      told = e.told;
+    }
+
+-- what is answered where the kernel answers so
+abbrev answers : ℕ → Bool → Reply
+answers c b = cond b (replies.Taken c) replies.Torn
+
+pub returns : goal.returns
+returns c =
+    let m : State = machine_view c.self.inside in
+    let e = c.take.ensures in
+    let k = c.take.new.self in
+    let reply : c.match-take.result ≡ reply_of (answers c.args.cpu) c.take.result = elim c.match-take.branch [
+      | in-Ok-true w ↦ w.result-is ∙ (ap (answers c.args.cpu) (sym w.in-Ok-true.field-0-test) ∙ ap (reply_of (answers c.args.cpu)) (sym w.in-Ok-true.is))
+      | in-Ok-false w ↦ w.result-is ∙ (ap (answers c.args.cpu) (sym w.in-Ok-false.field-0-test) ∙ ap (reply_of (answers c.args.cpu)) (sym w.in-Ok-false.is))
+      | in-Err w ↦ w.result-is ∙ ap (reply_of (answers c.args.cpu)) (sym w.in-Err.is)
+    ] in
+    let step = take_step m c.args.cpu c.take.result (answers c.args.cpu) k.settings c.self.inside.kernel.poster k.poster k.history (record { ring = refl; consumed = refl; told = c.self.invariant.told }) e.ring e.stays e.told e.settings e.fits e.tight e.history
+    (λ b. refl) e.refused e.unchanged in
+    subst (λ (x : State). Step x (events.Take c.args.cpu) c.match-take.result (with_kernel m k.settings k.poster k.history)) c.self.view_is
+    (subst (λ (x : Reply). Step m (events.Take c.args.cpu) x (with_kernel m k.settings k.poster k.history)) (sym reply) step)
