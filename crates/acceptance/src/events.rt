@@ -58,6 +58,27 @@ fn cpus(rt: HostRuntime) -> Result<(), Fail> {
     Ok(())
 }
 
+/// What the agent knows is what it has drained, and not what the kernel knows.
+#[test]
+fn views(rt: HostRuntime) -> Result<(), Fail> {
+    let rows = [
+        (
+            "cpus 2 ring 128/create 3 0 r a/drain 1/stamp 1 1/stamp 1 1/commit 2/stamp 1 1/view",
+            "created 1 seq 1/drained 1/stamped 1/refused 16 SlotOpen/cpu 1 placed 1 seq 1/stamped 2/view 1 seq 1 r mask 3 class 0 name a/",
+        ),
+        (
+            "cpus 2 ring 256/view/create 1 1 b -/create 3 0 r web/drain 1/view/wake 1/view/drain 9/view/die 1/drain 1/view/state",
+            "created 1 seq 1/created 2 seq 1/drained 1/view 1 seq 1 b mask 1 class 1 name -/woken 1 seq 2/view 1 seq 1 b mask 1 class 1 name -/drained 2/view 1 seq 2 r mask 1 class 1 name -/view 2 seq 1 r mask 3 class 0 name web/dead 1 seq 3/drained 1/view 2 seq 1 r mask 3 class 0 name web/state 2 seq 1 r mask 3 class 0 name web cpu -/",
+        ),
+        (
+            "cpus 2 ring 128/create 3 0 r a/create 3 0 r b/create 3 0 r c/create 3 0 r d/tick 1/view",
+            "created 1 seq 1/created 2 seq 1/created 3 seq 1/created 4 seq 1/torn/refused 18 Gone/",
+        ),
+    ];
+    assert_eq!(rt; first_wrong(rt.alloc(), &rows, Ended::Ran)?, None);
+    Ok(())
+}
+
 #[test]
 fn refusals(rt: HostRuntime) -> Result<(), Fail> {
     let rows = [
@@ -173,6 +194,7 @@ fn faults(rt: HostRuntime) -> Result<(), Fail> {
         ("cpus 2 ring 128/take 65536", "fault line 2 BadNumber/"),
         ("cpus 2 ring 128/give -1", "fault line 2 BadNumber/"),
         ("cpus 2 ring 128/state 1", "fault line 2 BadCount/"),
+        ("cpus 2 ring 128/view 1", "fault line 2 BadCount/"),
         ("cpus 2 ring 128/State", "fault line 2 BadWord/"),
     ];
     assert_eq!(rt; first_wrong(rt.alloc(), &rows, Ended::Faulted)?, None);

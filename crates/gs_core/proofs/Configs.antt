@@ -2,7 +2,7 @@
 use Rattle.std.proofs.Common.{◌≡◌, ℕ, ◌≤◌, ◌==◌, Bool, true, false, not, nat_lt, None, arith}
 use Rattle.std.proofs.lemmas.Bool.Decides.{nat_tests}
 use Rattle.gs_kernel.specs.Settings.{IsInRange}
-use Rattle.gs_kernel.proofs.Refusals.{first_passed, neither}
+use Rattle.gs_kernel.proofs.Refusals.{first_passed, neither, not_not}
 use Rattle.gs_ring.specs.Places.{is_capacity}
 use Rattle.gs_core.specs.declared.config.Config.{Config}
 use Rattle.gs_core.specs.Config.{config_fault, settings_of}
@@ -31,10 +31,6 @@ in_range c none =
       some_history = not_below _ _ history.0;
       most_history = not_below _ _ history.1;
     }
-
-not_not : (b : Bool) → not b ≡ false → b ≡ true
-not_not true e = cc
-not_not false e = absurd cc
 
 pub ring_fits : (c : Config) → config_fault c ≡ None → is_capacity c.ring ≡ true
 unfolding config_fault

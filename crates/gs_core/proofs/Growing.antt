@@ -3,7 +3,9 @@ use Rattle.std.proofs.Common.{◌≡◌, refl, ap, sym, ◌∙◌, subst, ℕ, s
 use Rattle.gs_layout.specs.declared.facts.Facts.{Facts}
 use Rattle.gs_layout.specs.declared.message.Message.{Message}
 use Rattle.gs_layout.specs.declared.message.Message.TheVariants.{TimerTick}
-use Rattle.gs_layout.specs.declared.slot.Slot.{Slot}
+use Rattle.gs_slots.specs.declared.state.Stamp.{Stamp}
+use Rattle.gs_slots.specs.declared.state.SlotState.{SlotState}
+use Rattle.gs_slots.specs.declared.state.SlotState.TheVariants.{Idle, Stamped, Done}
 use Rattle.gs_layout.specs.declared.outcome.Outcome.{Outcome}
 use Rattle.gs_layout.specs.declared.outcome.Outcome.TheVariants as outcomes
 use Rattle.gs_layout.specs.View.{Look}
@@ -14,10 +16,10 @@ use Rattle.gs_status.specs.Masks.{has}
 use Rattle.gs_journal.specs.History.{History, active, attaching, ends_role, ends_begin}
 use Rattle.gs_journal.proofs.Laws.{active-push}
 use Rattle.gs_kernel.specs.declared.settings.Settings.{Settings}
-use Rattle.gs_kernel.specs.Landing.{verdict, landing, after_outcome, after_landing}
+use Rattle.gs_kernel.specs.Landing.{verdict, after_outcome, after_landing}
 use Rattle.gs_kernel.specs.Kernel.{creation}
 use Rattle.gs_core.specs.declared.transaction.Transaction.{Transaction}
-use Rattle.gs_core.specs.Machine.{lands}
+use Rattle.gs_kernel.specs.Commit.{lands, one_lands}
 use Rattle.gs_core.specs.Safe.{IsIn}
 use Rattle.gs_core.specs.Good.{GoodHistory, Faces, AreOf}
 use Rattle.gs_core.proofs.Faces.{faces_posted, faces_same}
@@ -39,7 +41,7 @@ both_tick s xs n v page h c b =
     let g = good_tick s xs h c b.good in
     record { good = g; faces = faces_posted s.first_tseq h n v page (TimerTick c) g.numbered b.faces }
 
-pub both_placed : (s : Settings) (xs : List Transaction) (n : ℕ) (v : Look) (page : Option ℕ) (h : History) (k : ℕ) (b : Slot) (x : Transaction) → IsIn xs x → x.slot ≡ b → x.cpu ≡ k → k < s.cpus → IsPlacing s h k b
+pub both_placed : (s : Settings) (xs : List Transaction) (n : ℕ) (v : Look) (page : Option ℕ) (h : History) (k : ℕ) (b : Stamp) (x : Transaction) → IsIn xs x → x.slot ≡ b → x.cpu ≡ k → k < s.cpus → IsPlacing s h k b
     → Both s xs n v page h → Both s xs n v page (h ++ Placed b.tid b.tseq k b.generation ∷ [])
 both_placed s xs n v page h k b x i slot cpu below p both =
     record {
@@ -83,7 +85,7 @@ pub record Lands (s : Settings) (xs : List Transaction) (n : ℕ) (v : Look) (pa
   pub role : SameRole h h'
 
 -- a landing places, or leaves the history
-pub nothing_placed : (h : History) (o : Outcome) (k : ℕ) (b : Slot) → (o ≡ outcomes.Placed) ⊎ (after_outcome h o k b ≡ h)
+pub nothing_placed : (h : History) (o : Outcome) (k : ℕ) (b : Stamp) → (o ≡ outcomes.Placed) ⊎ (after_outcome h o k b ≡ h)
 nothing_placed h outcomes.Placed k b = inl refl
 nothing_placed h outcomes.Gone k b = inr refl
 nothing_placed h outcomes.Displaced k b = inr refl
@@ -99,7 +101,7 @@ nothing_placed h outcomes.SeqSpent k b = inr refl
 nothing_placed h outcomes.HistoryFull k b = inr refl
 nothing_placed h outcomes.Malformed k b = inr refl
 
-pub landed : (s : Settings) (xs : List Transaction) (n : ℕ) (v : Look) (page : Option ℕ) (h : History) (k : ℕ) (b : Slot) (x : Transaction) → IsIn xs x → x.slot ≡ b → x.cpu ≡ k → k < s.cpus
+pub landed : (s : Settings) (xs : List Transaction) (n : ℕ) (v : Look) (page : Option ℕ) (h : History) (k : ℕ) (b : Stamp) (x : Transaction) → IsIn xs x → x.slot ≡ b → x.cpu ≡ k → k < s.cpus
     → Both s xs n v page h → Lands s xs n v page h (after_landing s h k b)
 landed s xs n v page h k b x i slot cpu below both = by_outcome (nothing_placed h (verdict s h k b) k b)
   where
@@ -112,20 +114,20 @@ landed s xs n v page h k b x i slot cpu below both = by_outcome (nothing_placed 
 then_lands : (s : Settings) (xs : List Transaction) (n : ℕ) (v : Look) (page : Option ℕ) (h h' h'' : History) → Lands s xs n v page h h' → Lands s xs n v page h' h'' → Lands s xs n v page h h''
 then_lands s xs n v page h h' h'' p q = record { both = q.both; role = role_then h h' h'' p.role q.role }
 
-pub tail_of : (xs : List Transaction) (k : ℕ) (z : Option Slot) (slots : List (Option Slot)) → AreOf xs k (z ∷ slots) → AreOf xs (suc k) slots
+pub tail_of : (xs : List Transaction) (k : ℕ) (z : SlotState) (slots : List SlotState) → AreOf xs k (z ∷ slots) → AreOf xs (suc k) slots
 tail_of xs k z slots all i b e = let r = all (suc i) b e in (r.0, r.1, r.2, omega (arith, r.3))
 
-pub all_landed : (s : Settings) (xs : List Transaction) (n : ℕ) (v : Look) (page : Option ℕ) (mask : ℕ) (k : ℕ) (slots : List (Option Slot)) (h : History) → Both s xs n v page h → AreOf xs k slots → k + length slots ≤ s.cpus
-    → Lands s xs n v page h (lands s mask k slots h).1
+one_landed : (s : Settings) (xs : List Transaction) (n : ℕ) (v : Look) (page : Option ℕ) (wanted : Bool) (k : ℕ) (z : SlotState) (h : History) → Both s xs n v page h → ((b : Stamp) → z ≡ Stamped b → (x : Transaction) × IsIn xs x × (x.slot ≡ b) × (x.cpu ≡ k))
+    → k < s.cpus → Lands s xs n v page h (one_lands s wanted k z h).history
+one_landed s xs n v page false k z h g of below = record { both = g; role = role_refl h }
+one_landed s xs n v page true k Idle h g of below = record { both = g; role = role_refl h }
+one_landed s xs n v page true k (Done b o a m) h g of below = record { both = g; role = role_refl h }
+one_landed s xs n v page true k (Stamped b) h g of below = let r = of b refl in landed s xs n v page h k b r.0 r.1 r.2 r.3 below g
+
+pub all_landed : (s : Settings) (xs : List Transaction) (n : ℕ) (v : Look) (page : Option ℕ) (mask : ℕ) (k : ℕ) (slots : List SlotState) (h : History) → Both s xs n v page h → AreOf xs k slots → k + length slots ≤ s.cpus
+    → Lands s xs n v page h (lands s mask k slots h).history
 all_landed s xs n v page mask k [] h g all fit = record { both = g; role = role_refl h }
-all_landed s xs n v page mask k (None ∷ slots) h g all fit = all_landed s xs n v page mask (suc k) slots h g (tail_of xs k None slots all) (omega arith)
-all_landed s xs n v page mask k ((Some b) ∷ slots) h g all fit =
-    by_mask (has mask k) (all_landed s xs n v page mask (suc k) slots h g (tail_of xs k (Some b) slots all) (omega arith))
-    (let r = all 0 b refl in
-    let one = landed s xs n v page h k b r.0 r.1 r.2 (omega (arith, r.3)) (omega arith) g in
-    then_lands s xs n v page h (after_landing s h k b) _ one (all_landed s xs n v page mask (suc k) slots (after_landing s h k b) one.both (tail_of xs k (Some b) slots all) (omega arith)))
-  where
-    by_mask : (m : Bool) → Lands s xs n v page h (lands s mask (suc k) slots h).1 → Lands s xs n v page h (lands s mask (suc k) slots (after_landing s h k b)).1
-        → Lands s xs n v page h (cond m (landing s h k b ∷ (lands s mask (suc k) slots (after_landing s h k b)).0, (lands s mask (suc k) slots (after_landing s h k b)).1) (lands s mask (suc k) slots h)).1
-    by_mask true p q = q
-    by_mask false p q = p
+all_landed s xs n v page mask k (z ∷ slots) h g all fit =
+    let one = one_landed s xs n v page (has mask k) k z h g (λ b e. let r = all 0 b (ap Some e) in (r.0, r.1, r.2, omega (arith, r.3))) (omega arith) in
+    let h' : History = (one_lands s (has mask k) k z h).history in
+    then_lands s xs n v page h h' _ one (all_landed s xs n v page mask (suc k) slots h' one.both (tail_of xs k z slots all) (omega arith))

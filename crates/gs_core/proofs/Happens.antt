@@ -18,7 +18,7 @@ use Rattle.gs_kernel.specs.declared.settings.Settings.{Settings}
 use Rattle.gs_kernel.specs.declared.thread_event.ThreadEvent.{ThreadEvent}
 use Rattle.gs_kernel.specs.declared.thread_event.ThreadEvent.TheVariants as happens
 use Rattle.gs_kernel.specs.Kernel.{thread_refusal, change_by, next_about, happening, after_post}
-use Rattle.gs_kernel.proofs.Refusals.{first_passed}
+use Rattle.gs_kernel.proofs.Refusals.{happens_when}
 use Rattle.gs_core.specs.declared.transaction.Transaction.{Transaction}
 use Rattle.gs_core.specs.Machine.{State, view, page_of}
 use Rattle.gs_core.specs.Good.{GoodHistory, Good}
@@ -103,21 +103,10 @@ no_creation t s there happens.Yield = refl
 no_creation t s there happens.Die = refl
 no_creation t s there (happens.Affinity mask) = refl
 
--- what is not refused happens to a thread that lives
-pub lives_when : (s : Settings) (h : History) (t : ℕ) (e : ThreadEvent) → thread_refusal s h t e ≡ None → is_live (record_in h t) ≡ true
-unfolding thread_refusal
-lives_when s h t e r =
-    let up = first_passed _ _ _ r in
-    not_false _ (first_passed _ _ _ up.1).0
-  where
-    not_false : (b : Bool) → not b ≡ false → b ≡ true
-    not_false true e = refl
-    not_false false e = absurd cc
-
 pub both_happening : (m : State) (t : ℕ) (e : ThreadEvent) → thread_refusal m.settings m.history t e ≡ None → Good m → BothOf m (m.history ++ Posted (happening m.settings m.history t e) ∷ [])
 both_happening m t e r g =
     let there : Option ℕ = at m.settings.cpus m.history t in
-    both_about m t (change_by there e) (no_creation t 0 there e) (live_has m.history t (lives_when m.settings m.history t e r)) g
+    both_about m t (change_by there e) (no_creation t 0 there e) (live_has m.history t ((happens_when m.settings m.history t e r).live)) g
 
 pub happen_good : (m : State) (t : ℕ) (e : ThreadEvent) (b : Bool) → thread_refusal m.settings m.history t e ≡ None → Good m → Good (record m { history = after_post b m.history (happening m.settings m.history t e) })
 happen_good m t e b r g = post_good m (happening m.settings m.history t e) b (both_happening m t e r g) g

@@ -9,7 +9,7 @@ use Rattle.gs_layout.specs.declared.facts.Facts.{Facts}
 use Rattle.gs_layout.specs.declared.message.Message.{Message}
 use Rattle.gs_layout.specs.declared.message.Message.TheVariants.{TimerTick}
 use Rattle.gs_layout.specs.declared.record.Record.TheVariants.{Live}
-use Rattle.gs_layout.specs.declared.slot.Slot.{Slot}
+use Rattle.gs_slots.specs.declared.state.Stamp.{Stamp}
 use Rattle.gs_layout.specs.Message.{is_about}
 use Rattle.gs_journal.specs.declared.entry.Entry.{Entry}
 use Rattle.gs_journal.specs.declared.entry.Entry.TheVariants.{Posted, Placed}
@@ -125,24 +125,24 @@ placed_stood k t q g false None u p = absurd cc
 placed_stood k t q g false (Some v) u p = inr (refl, p)
 
 -- a stamp that is Placed
-pub good_placed : (s : Settings) (xs : List Transaction) (h : History) (k : ℕ) (b : Slot) (x : Transaction) → GoodHistory s xs h
+pub good_placed : (s : Settings) (xs : List Transaction) (h : History) (k : ℕ) (b : Stamp) (x : Transaction) → GoodHistory s xs h
     → IsIn xs x → x.slot ≡ b → x.cpu ≡ k → k < s.cpus → IsPlacing s h k b
     → GoodHistory s xs (h ++ Placed b.tid b.tseq k b.generation ∷ [])
 good_placed s xs h k b x g i slot cpu below p =
     let e : Entry = Placed b.tid b.tseq k b.generation in
     let same : seq s.first_tseq h b.tid ≡ b.tseq = grind (arith, nat_tests, p.current) in
     let live : record_in h x.slot.tid ≡ Live x.facts =
-    Was-now s.first_tseq h x.slot.tid _ (g.stamped x i) (ap (λ (z : Slot). seq s.first_tseq h z.tid) slot ∙ (same ∙ ap (λ (z : Slot). z.tseq) (sym slot))) in
-    let live' : record_in h b.tid ≡ Live x.facts = ap (λ (z : Slot). record_in h z.tid) (sym slot) ∙ live in
+    Was-now s.first_tseq h x.slot.tid _ (g.stamped x i) (ap (λ (z : Stamp). seq s.first_tseq h z.tid) slot ∙ (same ∙ ap (λ (z : Stamp). z.tseq) (sym slot))) in
+    let live' : record_in h b.tid ≡ Live x.facts = ap (λ (z : Stamp). record_in h z.tid) (sym slot) ∙ live in
     let timely : IsTimely s h x = record {
-      generation = ap (λ (z : Slot). is_generation z.generation (active h)) slot ∙ p.generation;
-      current = ap (λ (z : Slot). seq s.first_tseq h z.tid) slot ∙ (same ∙ ap (λ (z : Slot). z.tseq) (sym slot));
+      generation = ap (λ (z : Stamp). is_generation z.generation (active h)) slot ∙ p.generation;
+      current = ap (λ (z : Stamp). seq s.first_tseq h z.tid) slot ∙ (same ∙ ap (λ (z : Stamp). z.tseq) (sym slot));
       facts = live;
       runnable = ap is_runnable (sym live') ∙ p.runnable;
       allowed = ap (has x.facts.mask) cpu ∙ (ap (may_run_on k) (sym live') ∙ p.allowed);
     } in
     record {
-      backed = AtEach-push (IsBacked s xs) h e g.backed (x, i, record { tid = ap (λ (z : Slot). z.tid) slot; tseq = ap (λ (z : Slot). z.tseq) slot; cpu = cpu; generation = ap (λ (z : Slot). z.generation) slot }, timely);
+      backed = AtEach-push (IsBacked s xs) h e g.backed (x, i, record { tid = ap (λ (z : Stamp). z.tid) slot; tseq = ap (λ (z : Stamp). z.tseq) slot; cpu = cpu; generation = ap (λ (z : Stamp). z.generation) slot }, timely);
       one = AtEachPrefix-push OnOne h e g.one (λ u c d q r. both u c d (stands c u q) (stands d u r));
       numbered = λ u. subst (Numbered s.first_tseq 0) (sym (same_messages u)) (g.numbered u);
       fresh = λ u above. same_messages u ∙ g.fresh u (omega (arith, ap length same_created));
@@ -169,7 +169,7 @@ good_placed s xs h k b x g i slot cpu below p =
     was_there : (u c : ℕ) → (((k == c) ≡ true) × (u ≡ b.tid)) ⊎ (((k == c) ≡ false) × (on h c ≡ Some u)) → 0 < length (messages h u)
     was_there u c (inl q) =
         let w = g.stamped x i in
-        subst (λ z. 0 < length (messages h z)) (ap (λ (z : Slot). z.tid) slot ∙ sym q.1) (omega (arith, w.above, w.reached))
+        subst (λ z. 0 < length (messages h z)) (ap (λ (z : Stamp). z.tid) slot ∙ sym q.1) (omega (arith, w.above, w.reached))
     was_there u c (inr q) = g.on_known u c q.1
 
     nowhere : (c u : ℕ) → u ≡ b.tid → on h c ≡ Some u → ⊥

@@ -12,6 +12,7 @@ pub mod Taking
 pub mod Whole
 pub mod Commits
 pub mod Draining
+pub mod Roles
 pub mod Runs
 pub mod Posting
 pub mod Serving

@@ -19,6 +19,8 @@ use Rattle.gs_kernel.specs.declared.settings.Settings.{Settings}
 use Rattle.gs_kernel.specs.declared.thread_event.ThreadEvent.TheVariants as threads
 use Rattle.gs_kernel.specs.Kernel.{create_refusal, tick_refusal, thread_refusal, take_refusal, give_refusal}
 use Rattle.gs_kernel.specs.Shown.{live_threads, status}
+use Rattle.gs_kernel.specs.Commit.{commit_refusal}
+use Rattle.gs_slots.specs.declared.state.SlotState.TheVariants.{Idle}
 use Rattle.gs_core.specs.declared.event.Event.TheVariants as events
 use Rattle.gs_core.specs.declared.reply.Reply.{Reply}
 use Rattle.gs_core.specs.declared.reply.Reply.TheVariants as replies
@@ -71,8 +73,8 @@ first_commit : committed.0 ≡ replies.Landed (record { cpu = 1; tid = 1; outcom
 unfolding committed stamped drained made two facts knows posted created active standing last_of landing verdict taken last_taken torn latest on at seq messages record_in record_of
 first_commit = refl
 
-idle_afterwards : committed.1.slots ≡ None ∷ None ∷ []
-unfolding committed stamped drained made two facts knows active standing last_of
+idle_afterwards : committed.1.slots ≡ Idle ∷ Idle ∷ []
+unfolding committed stamped drained made two facts knows posted created active standing last_of landing verdict taken last_taken torn latest on at seq messages record_in record_of
 idle_afterwards = refl
 
 -- the thread is on its CPU now: the same record stamped again finds it placed
@@ -134,7 +136,7 @@ unfolding stamped drained made two facts knows active torn standing last_of
 open_slot = refl
 
 past_the_last : refusal drained (events.Commit 4) ≡ Some refusals.EmptyMask
-unfolding drained made two facts knows active torn standing last_of
+unfolding drained made two facts knows active torn standing last_of commit_refusal
 past_the_last = refl
 
 nobody_drains : refusal left (events.Drain 1) ≡ Some refusals.NotActive
@@ -212,7 +214,7 @@ torn_down = record full { history = full.history ++ Torn ∷ [] }
 
 all_gone : (refusal torn_down (events.Create (facts true 0)) ∷ refusal torn_down (events.Tick 9) ∷ refusal torn_down (events.Drain 1) ∷ refusal torn_down (events.Stamp 9 9) ∷ refusal torn_down (events.Commit 99) ∷ refusal torn_down events.Unread ∷ [])
     ≡ Some refusals.Gone ∷ Some refusals.Gone ∷ Some refusals.Gone ∷ Some refusals.Gone ∷ Some refusals.Gone ∷ Some refusals.Gone ∷ []
-unfolding torn_down full two facts torn create_refusal tick_refusal
+unfolding torn_down full two facts torn create_refusal tick_refusal commit_refusal
 all_gone = refl
 
 no_tick : refusal made (events.Tick 2) ≡ Some refusals.BadCpu

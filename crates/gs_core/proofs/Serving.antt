@@ -1,20 +1,23 @@
 -- What the machine keeps where a part of it serves an event.
-use Rattle.std.proofs.Common.{◌≡◌, refl, ap, sym, ◌∙◌, subst, ℕ, zero, suc, ◌+◌, ◌<◌, nat_le, Bool, true, false, not, Option, None, Some, List, [], ◌∷◌, ◌++◌, length, cond, slice_get, slice_set, IsSome}
-use Rattle.std.specs.Option.{is_some}
+use Rattle.std.proofs.Common.{◌≡◌, ap, sym, ◌∙◌, subst, ℕ, ◌+◌, ◌<◌, nat_le, Bool, true, false, not, Option, None, Some, List, [], ◌∷◌, ◌++◌, length, map, cond, slice_get, slice_set, IsSome}
+use Rattle.std.specs.Option.{is_some, option_map}
+use Rattle.gs_agent.specs.Role.{stamp_refusal}
 use Rattle.gs_layout.specs.declared.known.Known.{Known}
-use Rattle.gs_layout.specs.declared.slot.Slot.{Slot}
+use Rattle.gs_slots.specs.declared.state.SlotState.{SlotState}
+use Rattle.gs_slots.specs.declared.state.SlotState.TheVariants.{Idle, Stamped}
 use Rattle.gs_layout.specs.declared.refusal.Refusal.{Refusal}
 use Rattle.gs_layout.specs.View.{look_up}
 use Rattle.gs_journal.specs.declared.entry.Entry.{Entry}
 use Rattle.gs_journal.specs.declared.entry.Entry.TheVariants.{Posted, Role}
 use Rattle.gs_journal.specs.History.{active, torn}
 use Rattle.gs_kernel.specs.declared.settings.Settings.{Settings}
-use Rattle.gs_core.specs.declared.drained.Drained.{Drained}
+use Rattle.gs_agent.specs.declared.drained.Drained.{Drained}
 use Rattle.gs_core.specs.declared.transaction.Transaction.{Transaction}
-use Rattle.gs_core.specs.Machine.{State, view, page_of, unread, lands, collected, stamp_of, idle_slots, start}
+use Rattle.gs_core.specs.Machine.{State, view, page_of, unread, stamp_of, start}
+use Rattle.gs_slots.specs.State.{collected}
+use Rattle.gs_kernel.specs.Commit.{lands}
 use Rattle.gs_core.specs.Good.{Good}
-use Rattle.std.proofs.Common.{get_or, replicate, Result, Ok, Err, IfOk, OnOk, OnErr}
-use Rattle.std.proofs.lemmas.Option.{slice_get-get_or}
+use Rattle.std.proofs.Common.{replicate, Result, Ok, Err, IfOk, IfErr, OnOk, OnErr}
 use Rattle.gs_kernel.specs.Kernel.{after_post}
 use Rattle.gs_layout.specs.declared.message.Message.{Message}
 use Rattle.gs_ring.specs.RingState.{RingState, empty}
@@ -71,44 +74,29 @@ pub give_kept : (m : State) (c : ℕ) (q : Result (Unit {0}) Refusal) (s : Setti
 give_kept m c (Ok u) s r h g ok err is_s is_r is_n = kernel_kept m s r _ h is_s is_r is_n ok (give_good m c g)
 give_kept m c (Err f) s r h g ok err is_s is_r is_n = kernel_kept m s r m.history h is_s is_r is_n err g
 
-pub idle_replicate : (n : ℕ) → replicate n None ≡ idle_slots n
-idle_replicate zero = refl
-idle_replicate (suc n) = ap (λ w. None ∷ w) (idle_replicate n)
-
 -- the parts of a new machine
-pub starts : (c : Config) (s : Settings) (r : RingState) (h : List Entry) (slots : List (Option Slot)) (v : List (ℕ × Known)) (xs : List Transaction) → s ≡ settings_of c → r ≡ empty c.ring → h ≡ Role c.first_generation 0 ∷ []
-    → slots ≡ idle_slots c.cpus → v ≡ [] → xs ≡ []
+pub starts : (c : Config) (s : Settings) (r : RingState) (h : List Entry) (slots : List SlotState) (v : List (ℕ × Known)) (xs : List Transaction) → s ≡ settings_of c → r ≡ empty c.ring → h ≡ Role c.first_generation 0 ∷ []
+    → slots ≡ replicate c.cpus Idle → v ≡ [] → xs ≡ []
     → record { settings = s; ring = r.capacity; history = h; consumed = r.taken; agent = Some (record { records = v; next = None }); slots = slots; transactions = xs } ≡ start c
 starts c s r h slots v xs is_s is_r is_h is_slots is_v is_xs =
     λ i. record { settings = is_s i; ring = (is_r i).capacity; history = is_h i; consumed = (is_r i).taken; agent = Some (record { records = is_v i; next = None }); slots = is_slots i; transactions = is_xs i }
 
-pub slot_idle : (xs : List (Option Slot)) (i : ℕ) (d : Option Slot) → i < length xs → get_or xs i d ≡ None → is_idle (slice_get xs i) ≡ true
-slot_idle xs i d lt e = ap is_idle (slice_get-get_or xs i d lt ∙ ap Some e)
-
-pub slot_stamped : (xs : List (Option Slot)) (i : ℕ) (d : Option Slot) (b : Slot) → i < length xs → get_or xs i d ≡ Some b → is_idle (slice_get xs i) ≡ false
-slot_stamped xs i d b lt e = ap is_idle (slice_get-get_or xs i d lt ∙ ap Some e)
-
-pub stamp_kept : (m : State) (c t : ℕ) (a : ℕ × ℕ) (k : Known) (slots : List (Option Slot)) (xs : List Transaction) → Good m → view m t ≡ Some k → c < m.settings.cpus
-    → slots ≡ slice_set m.slots c (Some (stamp_of t a k)) → xs ≡ m.transactions ++ record { cpu = c; slot = stamp_of t a k; facts = k.facts } ∷ [] → Good (record m { slots = slots; transactions = xs })
+pub stamp_kept : (m : State) (c t : ℕ) (a : ℕ × ℕ) (k : Known) (slots : List SlotState) (xs : List Transaction) → Good m → view m t ≡ Some k → c < m.settings.cpus
+    → slots ≡ slice_set m.slots c (Stamped (stamp_of t a k)) → xs ≡ m.transactions ++ record { cpu = c; slot = stamp_of t a k; facts = k.facts } ∷ [] → Good (record m { slots = slots; transactions = xs })
 stamp_kept m c t a k slots xs g e below q r =
-    subst (λ (x : List (Option Slot)). Good (record m { slots = x; transactions = xs })) (sym q) (subst (λ (x : List Transaction). Good (record m { slots = slice_set m.slots c (Some (stamp_of t a k)); transactions = x })) (sym r) (stamp_good_with m c t (Some a) (Some k) e below g))
+    subst (λ (x : List SlotState). Good (record m { slots = x; transactions = xs })) (sym q) (subst (λ (x : List Transaction). Good (record m { slots = slice_set m.slots c (Stamped (stamp_of t a k)); transactions = x })) (sym r) (stamp_good_with m c t (Some a) (Some k) e below g))
 
-pub commit_kept : (m : State) (mask : ℕ) (s : Settings) (r : RingState) (h : List Entry) (slots : List (Option Slot)) → Good m → s ≡ m.settings → r.capacity ≡ m.ring → r.taken ≡ m.consumed
-    → h ≡ (lands m.settings mask 0 m.slots m.history).1 → slots ≡ collected mask 0 m.slots → Good (record (with_kernel m s r h) { slots = slots })
+pub commit_kept : (m : State) (mask : ℕ) (s : Settings) (r : RingState) (h : List Entry) (slots : List SlotState) → Good m → s ≡ m.settings → r.capacity ≡ m.ring → r.taken ≡ m.consumed
+    → h ≡ (lands m.settings mask 0 m.slots m.history).history → slots ≡ map collected (lands m.settings mask 0 m.slots m.history).slots → Good (record (with_kernel m s r h) { slots = slots })
 commit_kept m mask s r h slots g is_s is_r is_n is_h is_slots =
     subst Good (λ i. record { settings = sym is_s i; ring = sym is_r i; history = sym is_h i; consumed = sym is_n i; agent = m.agent; slots = sym is_slots i; transactions = m.transactions }) (commit_good m mask g)
 
--- why a stamp is refused, where an agent is active, there is such a CPU, the thread is known and the slot is idle
-pub stamp_full : (m : State) (c t : ℕ) → torn m.history ≡ false → is_some (active m.history) ≡ true → nat_le m.settings.cpus c ≡ false → is_some (view m t) ≡ true → is_idle (slice_get m.slots c) ≡ true → (b : Bool)
-    → nat_le m.settings.history (length m.transactions) ≡ b → refusal m (events.Stamp c t) ≡ cond b (Some refusals.HistoryFull) None
-stamp_full m c t up active below known idle b full =
-    by_tests (torn m.history) (is_some _) (nat_le m.settings.cpus c) (is_some _) (is_idle _) (nat_le m.settings.history (length m.transactions)) up active below known idle full
-  where
-    by_tests : (u p q r s f : Bool) → u ≡ false → p ≡ true → q ≡ false → r ≡ true → s ≡ true → f ≡ b
-        → cond u (Some refusals.Gone) (cond (not p) (Some refusals.NotActive) (cond q (Some refusals.BadCpu) (cond (not r) (Some refusals.NoThread) (cond (not s) (Some refusals.SlotOpen) (cond f (Some refusals.HistoryFull) None))))) ≡ cond b (Some refusals.HistoryFull) None
-    by_tests false true false true true f z a b c d e = ap (λ x. cond x (Some refusals.HistoryFull) None) e
-    by_tests false false q r s f z a b c d e = absurd cc
-    by_tests false true true r s f z a b c d e = absurd cc
-    by_tests false true false false s f z a b c d e = absurd cc
-    by_tests false true false true false f z a b c d e = absurd cc
-    by_tests true p q r s f z a b c d e = absurd cc
+-- what a role stamps of a thread that it knows into an idle slot
+pub stamped_is : (q : Result ℕ Refusal) (o : Option Known) (k : Known) (g t : ℕ) (z z' : SlotState) → o ≡ Some k → z ≡ Idle → IfErr q (λ r. stamp_refusal o z ≡ Some r) → IfOk q (λ n. option_map (λ (x : Known). x.tseq) o ≡ Some n)
+    → IfOk q (λ n. z' ≡ Stamped (record { generation = g; tid = t; tseq = n; preempt = false })) → z' ≡ Stamped (record { generation = g; tid = t; tseq = k.tseq; preempt = false })
+stamped_is (Err f) o k g t z z' known idle none number stamped =
+    let e : stamp_refusal (Some k) Idle ≡ Some f = sym (λ i. stamp_refusal (known i) (idle i)) ∙ none in absurd cc
+stamped_is (Ok n) o k g t z z' known idle none number stamped =
+    let e : Some k.tseq ≡ Some n = sym (ap (option_map (λ (x : Known). x.tseq)) known) ∙ number in
+    let same : n ≡ k.tseq = cc in
+    stamped ∙ ap (λ m. Stamped (record { generation = g; tid = t; tseq = m; preempt = false })) same

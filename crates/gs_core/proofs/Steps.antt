@@ -1,9 +1,12 @@
 -- Each event keeps what the machine keeps.
-use Rattle.std.proofs.Common.{◌≡◌, refl, ap, sym, ◌∙◌, subst, ℕ, zero, suc, ◌+◌, ◌<◌, ◌⊎◌, inl, inr, ◌||◌, ◌&&◌, Bool, true, false, not, Option, None, Some, List, [], ◌∷◌, ◌++◌, length, take, arith, cond, slice_get, IsSome}
+use Rattle.std.proofs.Common.{◌≡◌, refl, ap, sym, ◌∙◌, subst, ℕ, zero, suc, ◌+◌, ◌<◌, ◌⊎◌, inl, inr, ◌||◌, ◌&&◌, Bool, true, false, not, Option, None, Some, List, [], ◌∷◌, ◌++◌, length, map, replicate, take, arith, slice_get, IsSome}
+use Rattle.std.proofs.lemmas.List.{length-map}
 use Rattle.std.specs.Option.{is_some}
 use Rattle.gs_layout.specs.declared.facts.Facts.{Facts}
 use Rattle.gs_layout.specs.declared.known.Known.{Known}
-use Rattle.gs_layout.specs.declared.slot.Slot.{Slot}
+use Rattle.gs_slots.specs.declared.state.Stamp.{Stamp}
+use Rattle.gs_slots.specs.declared.state.SlotState.{SlotState}
+use Rattle.gs_slots.specs.declared.state.SlotState.TheVariants.{Idle, Stamped, Done}
 use Rattle.gs_layout.specs.declared.message.Message.{Message}
 use Rattle.gs_layout.specs.declared.message.Message.TheVariants.{TimerTick}
 use Rattle.gs_layout.specs.View.{look_up, catch_up}
@@ -15,17 +18,20 @@ use Rattle.gs_journal.specs.State.{state, Was}
 use Rattle.gs_journal.proofs.Past.{same_view, was_once}
 use Rattle.gs_kernel.specs.declared.settings.Settings.{Settings}
 use Rattle.gs_kernel.specs.Kernel.{creation, after_post}
-use Rattle.gs_core.specs.declared.drained.Drained.{Drained}
+use Rattle.gs_agent.specs.declared.drained.Drained.{Drained}
 use Rattle.gs_core.specs.declared.transaction.Transaction.{Transaction}
-use Rattle.gs_core.specs.Machine.{State, Agent, view, records_of, page_of, unread, attached, creates, ticks, fits, lands, collected, commits, stamps, stamps_with, stamp_of, idle_slots, Drains}
+use Rattle.gs_core.specs.Machine.{State, Agent, view, records_of, page_of, unread, attached, creates, ticks, fits, commits, stamps, stamps_with, stamp_of, Drains}
+use Rattle.gs_slots.specs.State.{collected}
+use Rattle.gs_kernel.specs.Commit.{lands, one_lands, slot_after, history_after}
+use Rattle.gs_kernel.proofs.Commits.{slots_count}
 use Rattle.gs_core.specs.Safe.{Safe, IsFaithful, IsIn, IsBacked}
-use Rattle.gs_core.specs.Good.{GoodHistory, Good, Faces, AreOf, is_given}
+use Rattle.gs_core.specs.Good.{GoodHistory, Good, Faces, is_given}
 use Rattle.gs_core.proofs.Told.{catch_up_at}
 use Rattle.gs_core.proofs.Gaps.{no_gap}
 use Rattle.gs_core.proofs.Places.{get_left, get_new, get_set, length_set, get_at_end}
 use Rattle.gs_core.proofs.Faces.{faces_drained}
 use Rattle.gs_core.proofs.Tears.{tear_good}
-use Rattle.gs_core.proofs.Growing.{Both, SameRole, both_created, both_tick, role_posted, all_landed, tail_of}
+use Rattle.gs_core.proofs.Growing.{Both, SameRole, both_created, both_tick, role_posted, all_landed}
 
 -- of tests
 pub not_true : (b : Bool) → not b ≡ true → b ≡ false
@@ -99,14 +105,10 @@ pub tick_good : (m : State) (c : ℕ) → Good m → Good (ticks m c).1
 tick_good m c g = post_good m (TimerTick c) (fits m (TimerTick c)) (both_ticked m c g) g
 
 -- slots that are all idle
-pub idle : (n i : ℕ) (b : Slot) → slice_get (idle_slots n) i ≡ Some (Some b) → ⊥
+pub idle : (n i : ℕ) (b : Stamp) → slice_get (replicate n Idle) i ≡ Some (Stamped b) → ⊥
 idle zero i b e = absurd cc
 idle (suc n) zero b e = absurd cc
 idle (suc n) (suc i) b e = idle n i b e
-
-pub idle_count : (n : ℕ) → length (idle_slots n) ≡ n
-idle_count zero = refl
-idle_count (suc n) = ap suc (idle_count n)
 
 -- a drain
 pub drain_good : (m : State) (max c : ℕ) (d : Drained) (a : Option Agent) → Good m
@@ -168,19 +170,19 @@ pub stamp_good_with : (m : State) (c t : ℕ) (a : Option (ℕ × ℕ)) (k : Opt
 stamp_good_with m c t None k e below g = g
 stamp_good_with m c t (Some a) None e below g = g
 stamp_good_with m c t (Some a) (Some k) e below g =
-    let b : Slot = stamp_of t a k in
+    let b : Stamp = stamp_of t a k in
     let y : Transaction = record { cpu = c; slot = b; facts = k.facts } in
     let f = g.faces in
     record {
       history = stamped_good m.settings m.transactions y m.history (f.known t k e) below g.history;
       faces = g.faces;
-      slots = λ i z q. by_slot i z (get_set m.slots c i (Some b) (Some z) q);
-      count = length_set m.slots c (Some b) ∙ g.count;
+      slots = λ i z q. by_slot i z (get_set m.slots c i (Stamped b) (Stamped z) q);
+      count = length_set m.slots c (Stamped b) ∙ g.count;
       when_active = g.when_active;
       when_attaching = g.when_attaching;
     }
   where
-    by_slot : (i : ℕ) (z : Slot) → (slice_get m.slots i ≡ Some (Some z)) ⊎ ((i ≡ c) × (Some z ≡ Some (stamp_of t a k)))
+    by_slot : (i : ℕ) (z : Stamp) → (slice_get m.slots i ≡ Some (Stamped z)) ⊎ ((i ≡ c) × (Stamped z ≡ Stamped (stamp_of t a k)))
         → (x : Transaction) × IsIn (m.transactions ++ record { cpu = c; slot = stamp_of t a k; facts = k.facts } ∷ []) x × (x.slot ≡ z) × (x.cpu ≡ 0 + i)
     by_slot i z (inl q) = let r = g.slots i z q in (r.0, in_more m.transactions _ r.0 r.1, r.2, r.3)
     by_slot i z (inr q) = (record { cpu = c; slot = stamp_of t a k; facts = k.facts }, (length m.transactions, get_at_end m.transactions _), cc, omega (arith, q.0))
@@ -188,32 +190,38 @@ stamp_good_with m c t (Some a) (Some k) e below g =
 pub stamp_good : (m : State) (c t : ℕ) → c < m.settings.cpus → Good m → Good (stamps m c t).1
 stamp_good m c t below g = stamp_good_with m c t (active m.history) (view m t) refl below g
 
--- a commit
-collected_are : (xs : List Transaction) (mask : ℕ) (k : ℕ) (slots : List (Option Slot)) → AreOf xs k slots → AreOf xs k (collected mask k slots)
-collected_are xs mask k [] all i b e = all i b e
-collected_are xs mask k (z ∷ slots) all zero b e = by_mask (has mask k) e
-  where
-    by_mask : (m : Bool) → Some (cond m None z) ≡ Some (Some b) → (x : Transaction) × IsIn xs x × (x.slot ≡ b) × (x.cpu ≡ k + 0)
-    by_mask true e = absurd cc
-    by_mask false e = all 0 b e
-collected_are xs mask k (z ∷ slots) all (suc i) b e =
-    let r = collected_are xs mask (suc k) slots (tail_of xs k z slots all) i b e in
-    (r.0, r.1, r.2, omega (arith, r.3))
+-- a commit: what is still stamped was so before
+still_stamped : (z : SlotState) (b : Stamp) → collected z ≡ Stamped b → z ≡ Stamped b
+still_stamped Idle b e = absurd cc
+still_stamped (Done x o a n) b e = absurd cc
+still_stamped (Stamped x) b e = e
 
-collected_count : (mask : ℕ) (k : ℕ) (slots : List (Option Slot)) → length (collected mask k slots) ≡ length slots
-collected_count mask k [] = refl
-collected_count mask k (z ∷ slots) = ap suc (collected_count mask (suc k) slots)
+not_landed : (s : Settings) (h : History) (k : ℕ) (z : SlotState) (b : Stamp) → collected (slot_after s h k z) ≡ Stamped b → ⊥
+not_landed s h k Idle b e = absurd cc
+not_landed s h k (Done x o a n) b e = absurd cc
+not_landed s h k (Stamped x) b e = absurd cc
+
+left_stamped : (s : Settings) (mask k : ℕ) (slots : List SlotState) (h : History) (i : ℕ) (b : Stamp) → slice_get (map collected (lands s mask k slots h).slots) i ≡ Some (Stamped b) → slice_get slots i ≡ Some (Stamped b)
+left_stamped s mask k [] h i b e = e
+left_stamped s mask k (z ∷ slots) h i b e = by_mask (has mask k) i e (λ h' j. left_stamped s mask (suc k) slots h' j b)
+  where
+    by_mask : (m : Bool) (i : ℕ) → slice_get (map collected ((one_lands s m k z h).slots ++ (lands s mask (suc k) slots (one_lands s m k z h).history).slots)) i ≡ Some (Stamped b)
+        → ((h' : History) (j : ℕ) → slice_get (map collected (lands s mask (suc k) slots h').slots) j ≡ Some (Stamped b) → slice_get slots j ≡ Some (Stamped b)) → slice_get (z ∷ slots) i ≡ Some (Stamped b)
+    by_mask false zero e rest = let q : collected z ≡ Stamped b = cc in ap Some (still_stamped z b q)
+    by_mask true zero e rest = let q : collected (slot_after s h k z) ≡ Stamped b = cc in absurd (not_landed s h k z b q)
+    by_mask false (suc i) e rest = rest h i e
+    by_mask true (suc i) e rest = rest (history_after s h k z) i e
 
 pub commit_good : (m : State) (mask : ℕ) → Good m → Good (commits m mask).1
 commit_good m mask g =
-    let h' : History = (lands m.settings mask 0 m.slots m.history).1 in
+    let h' : History = (lands m.settings mask 0 m.slots m.history).history in
     let l = all_landed m.settings m.transactions m.consumed (view m) (page_of m.agent) mask 0 m.slots m.history (both_of m g) g.slots (omega (arith, g.count)) in
     let w = grown_good m h' l.both l.role g in
     record {
       history = w.history;
       faces = w.faces;
-      slots = collected_are m.transactions mask 0 m.slots g.slots;
-      count = collected_count mask 0 m.slots ∙ g.count;
+      slots = λ i b e. g.slots i b (left_stamped m.settings mask 0 m.slots m.history i b e);
+      count = length-map (lands m.settings mask 0 m.slots m.history).slots collected ∙ (slots_count m.settings mask 0 m.slots m.history ∙ g.count);
       when_active = w.when_active;
       when_attaching = w.when_attaching;
     }

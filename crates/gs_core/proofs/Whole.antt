@@ -25,7 +25,9 @@ use Rattle.gs_kernel.specs.Kernel.{happening, preemption}
 use Rattle.gs_core.specs.Machine.{fits, fits_if_any}
 use Rattle.gs_core.proofs.Happens.{happen_good}
 use Rattle.gs_core.proofs.Taking.{take_good, give_good}
-use Rattle.gs_core.proofs.Steps.{create_good, tick_good, drain_kept, stamp_good, commit_good, idle, idle_count}
+use Rattle.gs_core.proofs.Steps.{create_good, tick_good, drain_kept, stamp_good, commit_good, idle}
+use Rattle.gs_slots.specs.declared.state.SlotState.TheVariants.{Idle}
+use Rattle.std.proofs.lemmas.List.{length-replicate}
 
 pub below_count : (m : State) (c : ℕ) → nat_le m.settings.cpus c ≡ false → c < m.settings.cpus
 below_count m c e = grind (arith, nat_tests, e)
@@ -48,6 +50,7 @@ does_good m (events.Tick c) r m' g none d = subst Good (sym d.1) (tick_good m c 
 does_good m (events.Drain max) r m' g none d = drain_kept m max d.0 m' g d.2
 does_good m (events.Stamp c t) r m' g none d = subst Good (sym d.1) (stamp_good m c t (below_count m c (stamps_on_cpu m c t none)) g)
 does_good m (events.Commit mask) r m' g none d = subst Good (sym d.1) (commit_good m mask g)
+does_good m events.View r m' g none d = subst Good (sym d.1) g
 does_good m events.State r m' g none d = subst Good (sym d.1) g
 does_good m events.Unread r m' g none d = subst Good (sym d.1) g
 
@@ -102,7 +105,7 @@ start_good c =
       };
       faces = record { consumed = omega arith; known = λ t k e. absurd cc; each = λ t. inl refl; given = λ t p. refl };
       slots = λ i b e. absurd (idle s.cpus i b e);
-      count = idle_count s.cpus;
+      count = length-replicate s.cpus Idle;
       when_active = λ p. refl;
       when_attaching = λ p. absurd (not_attaching s.first_generation 0 p);
     }

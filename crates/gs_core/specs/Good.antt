@@ -3,7 +3,9 @@ use Rattle.std.specs.Prelude.{Bool, true, ℕ, ◌+◌, ◌<◌, ◌≤◌, ◌�
 use Rattle.std.specs.List.{filter}
 use Rattle.gs_layout.specs.declared.message.Message.{Message}
 use Rattle.gs_layout.specs.declared.known.Known.{Known}
-use Rattle.gs_layout.specs.declared.slot.Slot.{Slot}
+use Rattle.gs_slots.specs.declared.state.Stamp.{Stamp}
+use Rattle.gs_slots.specs.declared.state.SlotState.{SlotState}
+use Rattle.gs_slots.specs.declared.state.SlotState.TheVariants.{Stamped}
 use Rattle.gs_layout.specs.Message.{is_about}
 use Rattle.gs_layout.specs.View.{Look, next_known}
 use Rattle.gs_journal.specs.History.{History, posted, messages, created, on, active, attaching, AtEach, AtEachPrefix}
@@ -26,8 +28,8 @@ pub record GoodHistory (s : Settings) (xs : List Transaction) (h : History) : Ty
   pub within : (x : Transaction) → IsIn xs x → x.cpu < s.cpus
 
 -- a stamped slot is that of a transaction
-abbrev pub AreOf : List Transaction → ℕ → List (Option Slot) → Type 0
-AreOf xs from slots = (i : ℕ) (b : Slot) → slice_get slots i ≡ Some (Some b) → (x : Transaction) × IsIn xs x × (x.slot ≡ b) × (x.cpu ≡ from + i)
+abbrev pub AreOf : List Transaction → ℕ → List SlotState → Type 0
+AreOf xs from slots = (i : ℕ) (b : Stamp) → slice_get slots i ≡ Some (Stamped b) → (x : Transaction) × IsIn xs x × (x.slot ≡ b) × (x.cpu ≡ from + i)
 
 -- the messages about a thread that were consumed, and those that were not
 abbrev pub read_of : History → ℕ → ℕ → List Message

@@ -1,32 +1,35 @@
 -- The machine: what each event answers and leaves.
-use Rattle.std.specs.Prelude.{Bool, true, false, not, ◌||◌, ◌&&◌, ℕ, zero, suc, ◌+◌, ◌<◌, ◌≤◌, ◌≡◌, ◌⊎◌, nat_le, min, Option, None, Some, IsSome, List, [], ◌∷◌, ◌++◌, length, take, drop, slice_get, slice_set, if◌then◌else◌, is_some}
+use Rattle.std.specs.Prelude.{Bool, true, false, not, ◌||◌, ◌&&◌, ℕ, zero, suc, ◌+◌, ◌<◌, ◌≤◌, ◌≡◌, ◌⊎◌, nat_le, min, Option, None, Some, IsSome, List, [], ◌∷◌, ◌++◌, length, take, drop, slice_get, slice_set, map, replicate, if◌then◌else◌, is_some}
 use Rattle.std.specs.List.{list_any, count_by}
 use Rattle.gs_layout.specs.declared.facts.Facts.{Facts}
 use Rattle.gs_layout.specs.declared.message.Message.{Message}
-use Rattle.gs_layout.specs.declared.message.Message.TheVariants.{Thread, TimerTick}
-use Rattle.gs_layout.specs.Message.{is_creation}
+use Rattle.gs_layout.specs.declared.message.Message.TheVariants.{TimerTick}
 use Rattle.gs_layout.specs.declared.known.Known.{Known}
-use Rattle.gs_layout.specs.declared.slot.Slot.{Slot}
+use Rattle.gs_slots.specs.declared.state.Stamp.{Stamp}
+use Rattle.gs_slots.specs.declared.state.SlotState.{SlotState}
+use Rattle.gs_slots.specs.declared.state.SlotState.TheVariants.{Idle, Stamped, Done}
 use Rattle.gs_layout.specs.declared.refusal.Refusal.{Refusal}
 use Rattle.gs_layout.specs.declared.refusal.Refusal.TheVariants as refusals
 use Rattle.gs_layout.specs.View.{Look, look_up, words, catch_up, is_gap, is_skipped, is_orphan, gap_next}
 use Rattle.gs_journal.specs.declared.entry.Entry.{Entry}
 use Rattle.gs_journal.specs.declared.entry.Entry.TheVariants.{Role}
-use Rattle.gs_status.specs.Masks.{has, has_past}
-use Rattle.gs_journal.specs.History.{History, posted, active, attaching, torn}
+use Rattle.gs_journal.specs.History.{posted, active, attaching, torn}
 use Rattle.gs_journal.specs.State.{unread_after}
 use Rattle.gs_kernel.specs.declared.settings.Settings.{Settings}
-use Rattle.gs_kernel.specs.declared.landing.Landing.{Landing}
-use Rattle.gs_kernel.specs.Landing.{landing, after_landing}
+use Rattle.gs_slots.specs.State.{collected}
+use Rattle.gs_kernel.specs.Commit.{commit_refusal, lands}
 use Rattle.gs_kernel.specs.declared.thread_event.ThreadEvent.{ThreadEvent}
 use Rattle.gs_kernel.specs.First.{first_that}
 use Rattle.gs_kernel.specs.Kernel.{has_agent, create_refusal, tick_refusal, thread_refusal, take_refusal, give_refusal, creation, new_tid, happening, preemption, after_post, after_take, after_give}
 use Rattle.gs_kernel.specs.Shown.{live_threads}
 use Rattle.gs_ring.specs.Places.{free_after, need, record_len, written}
+use Rattle.gs_view.specs.Begins.{begins}
+use Rattle.gs_view.specs.Shown.{tids}
+use Rattle.std.specs.List.Sorted.{IsStrictlyIncreasing}
 use Rattle.gs_core.specs.declared.config.Config.{Config}
 use Rattle.gs_core.specs.Config.{settings_of}
-use Rattle.gs_core.specs.declared.drained.Drained.{Drained}
-use Rattle.gs_core.specs.declared.drained.Stop.TheVariants as stops
+use Rattle.gs_agent.specs.declared.drained.Drained.{Drained}
+use Rattle.gs_agent.specs.declared.drained.Stop.TheVariants as stops
 use Rattle.gs_core.specs.declared.event.Event.{Event}
 use Rattle.gs_core.specs.declared.event.Event.TheVariants as events
 use Rattle.gs_core.specs.declared.reply.Reply.{Reply}
@@ -46,7 +49,7 @@ pub record State : Type 0 where
   pub history : List Entry
   pub consumed : ℕ
   pub agent : Option Agent
-  pub slots : List (Option Slot)
+  pub slots : List SlotState
   pub transactions : List Transaction
 
 abbrev pub records_of : Option Agent → List (ℕ × Known)
@@ -71,9 +74,10 @@ abbrev pub attached : State → Bool
 attached m = is_some (active m.history) || (is_some (attaching m.history) && not (is_some (page_of m.agent)))
 
 -- whether the slot of a CPU is idle
-abbrev pub is_idle : Option (Option Slot) → Bool
-is_idle (Some None) = true
-is_idle (Some (Some b)) = false
+abbrev pub is_idle : Option SlotState → Bool
+is_idle (Some Idle) = true
+is_idle (Some (Stamped b)) = false
+is_idle (Some (Done b o a n)) = false
 is_idle None = false
 
 -- the first refusal of an event whose condition holds
@@ -94,13 +98,8 @@ refusal m (events.Stamp c t) =
     ∷ (nat_le m.settings.history (length m.transactions), Some refusals.HistoryFull)
     ∷ []
     ) None
-refusal m (events.Commit mask) =
-    first_that (
-    (torn m.history, Some refusals.Gone)
-    ∷ (not (is_some (active m.history)), Some refusals.NotActive)
-    ∷ (has_past mask m.settings.cpus, Some refusals.EmptyMask)
-    ∷ []
-    ) None
+refusal m (events.Commit mask) = commit_refusal m.settings m.history mask
+refusal m events.View = first_that ((torn m.history, Some refusals.Gone) ∷ (not (has_agent m.history), Some refusals.NotActive) ∷ []) None
 refusal m events.State = first_that ((torn m.history, Some refusals.Gone) ∷ []) None
 refusal m events.Unread = first_that ((torn m.history, Some refusals.Gone) ∷ []) None
 
@@ -141,15 +140,15 @@ abbrev pub ticks : State → ℕ → Reply × State
 ticks m c = posts m (TimerTick c) (replies.Ticked c)
 
 -- what is stamped: the active generation, and the record's sequence number
-abbrev pub stamp_of : ℕ → (ℕ × ℕ) → Known → Slot
-stamp_of t a k = record { generation = a.0; tid = t; tseq = k.tseq }
+abbrev pub stamp_of : ℕ → (ℕ × ℕ) → Known → Stamp
+stamp_of t a k = record { generation = a.0; tid = t; tseq = k.tseq; preempt = false }
 
 -- the record that the view has is stamped into the slot, and kept with the transaction
 abbrev pub stamps_with : State → ℕ → ℕ → Option (ℕ × ℕ) → Option Known → Reply × State
 stamps_with m c t (Some a) (Some k) = (
   replies.Stamped (length m.transactions + 1),
   record m {
-    slots = slice_set m.slots c (Some (stamp_of t a k));
+    slots = slice_set m.slots c (Stamped (stamp_of t a k));
     transactions = m.transactions ++ record { cpu = c; slot = stamp_of t a k; facts = k.facts } ∷ [];
   },
 )
@@ -159,30 +158,12 @@ stamps_with m c t (Some a) None = (replies.Refused refusals.NoThread, m)
 abbrev pub stamps : State → ℕ → ℕ → Reply × State
 stamps m c t = stamps_with m c t (active m.history) (view m t)
 
--- the stamped slots of the mask land, by rising CPU from k on, each on the history that the one before left
-abbrev pub lands : Settings → ℕ → ℕ → List (Option Slot) → History → List Landing × History
-lands s mask k [] h = ([], h)
-lands s mask k (None ∷ slots) h = lands s mask (suc k) slots h
-lands s mask k ((Some b) ∷ slots) h =
-    if has mask k
-    then (landing s h k b ∷ (lands s mask (suc k) slots (after_landing s h k b)).0, (lands s mask (suc k) slots (after_landing s h k b)).1)
-    else lands s mask (suc k) slots h
-
--- the slots of the mask are idle then
-abbrev pub collected : ℕ → ℕ → List (Option Slot) → List (Option Slot)
-collected mask k [] = []
-collected mask k (slot ∷ slots) = (if has mask k then None else slot) ∷ collected mask (suc k) slots
-
+-- a commit: its slots land, and what is done is idle then
 abbrev pub commits : State → ℕ → Reply × State
 commits m mask = (
-  replies.Landed (lands m.settings mask 0 m.slots m.history).0,
-  record m { history = (lands m.settings mask 0 m.slots m.history).1; slots = collected mask 0 m.slots },
+  replies.Landed (lands m.settings mask 0 m.slots m.history).answers,
+  record m { history = (lands m.settings mask 0 m.slots m.history).history; slots = map collected (lands m.settings mask 0 m.slots m.history).slots },
 )
-
--- whether a message begins the record of a thread
-abbrev pub begins : Look → Message → Bool
-begins v (TimerTick c) = false
-begins v (Thread t s c) = is_creation (Thread t s c) && not (is_some (v t))
 
 -- whether the next of these messages begins a record
 abbrev pub begins_next : Look → List Message → Bool
@@ -210,7 +191,16 @@ pub record Drains (m : State) (max : ℕ) (d : Drained) (m' : State) : Type 0 wh
   pub stays : is_some m'.agent ≡ is_some m.agent
   pub page : page_of m'.agent ≡ page_of m.agent
 
--- what an event answers and leaves that is not refused and finds memory; a drain has its own word
+-- all that is known, by rising tid
+pub record IsListOf (v : Look) (xs : List (ℕ × Known)) : Type 0 where
+  pub rising : IsStrictlyIncreasing (tids xs)
+  pub all : (t : ℕ) → look_up xs t ≡ v t
+
+-- a look at a view answers all that is known
+abbrev pub Shows : Look → Reply → Type 0
+Shows v r = (xs : List (ℕ × Known)) × (r ≡ replies.View xs) × IsListOf v xs
+
+-- what an event answers and leaves that is not refused and finds memory; a drain and a look at the view have their own words
 abbrev pub Does : State → Event → Reply → State → Type 0
 Does m (events.Create f) r m' = (r ≡ (creates m f).0) × (m' ≡ (creates m f).1)
 Does m (events.Thread t e) r m' = (r ≡ (happens m t e).0) × (m' ≡ (happens m t e).1)
@@ -220,6 +210,7 @@ Does m (events.Tick c) r m' = (r ≡ (ticks m c).0) × (m' ≡ (ticks m c).1)
 Does m (events.Drain max) r m' = (d : Drained) × (r ≡ replies.Drained d) × Drains m max d m'
 Does m (events.Stamp c t) r m' = (r ≡ (stamps m c t).0) × (m' ≡ (stamps m c t).1)
 Does m (events.Commit mask) r m' = (r ≡ (commits m mask).0) × (m' ≡ (commits m mask).1)
+Does m events.View r m' = Shows (view m) r × (m' ≡ m)
 Does m events.State r m' = (r ≡ replies.State (live_threads m.settings m.history)) × (m' ≡ m)
 Does m events.Unread r m' = (r ≡ replies.Unread (unread m)) × (m' ≡ m)
 
@@ -243,10 +234,6 @@ transaction_of xs zero = None
 transaction_of xs (suc n) = slice_get xs n
 
 -- the machine before the first event
-abbrev pub idle_slots : ℕ → List (Option Slot)
-idle_slots zero = []
-idle_slots (suc n) = None ∷ idle_slots n
-
 abbrev pub start : Config → State
 start c =
     record {
@@ -255,6 +242,6 @@ start c =
       history = Role c.first_generation 0 ∷ [];
       consumed = 0;
       agent = Some (record { records = []; next = None });
-      slots = idle_slots c.cpus;
+      slots = replicate c.cpus Idle;
       transactions = [];
     }

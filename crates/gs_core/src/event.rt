@@ -21,6 +21,8 @@ pub enum Event {
     Stamp { cpu: u16, tid: u32 },
     /// The stamped slots of the mask land, and are idle then.
     Commit { mask: Mask },
+    /// What the agent knows of each thread is shown. Nothing changes.
+    View,
     /// The threads that live are shown. Nothing changes.
     State,
     /// The messages that wait are shown. Nothing changes.

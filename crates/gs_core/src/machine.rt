@@ -1,20 +1,21 @@
 ghost use Rattle.std.specs.Prelude.{◌≡◌, None, IfOk, IfErr, IfSome, OnOk, OnErr};
 ghost use Rattle.gs_kernel.specs.Kernel.{IsRefusal};
 ghost use Rattle.gs_core.specs.Config.{config_fault, IsFault};
-ghost use Rattle.gs_core.specs.Machine.{State, Step, idle_slots, start, refusal, stamps, transaction_of, unread};
+ghost use Rattle.gs_layout.specs.View.{look_up};
+ghost use Rattle.gs_core.specs.Machine.{State, Step, start, refusal, stamps, transaction_of, unread, view};
 ghost use Rattle.gs_core.specs.Safe.{Safe, IsFaithful, Run};
 
-use crate::commit::{collect, land_all};
 use crate::config::{Config, ConfigFault};
-use crate::drain::drain_into;
 use crate::event::Event;
+use crate::known::known_threads;
 use crate::reply::{Items, Reply};
 use crate::transaction::Transaction;
 use crate::unread::waiting;
-use crate::view::View;
+use gs_agent::Role;
 use gs_kernel::{Kernel, ThreadEvent};
-use gs_layout::{Facts, Refusal, Slot};
+use gs_layout::{Facts, Refusal};
 use gs_ring::ByteRing;
+use gs_slots::{Region, SlotState, Stamp};
 use gs_status::Mask;
 use std::alloc::{AllocError, Global};
 use std::marker::Model;
@@ -25,8 +26,8 @@ use std::marker::Model;
 pub struct Machine {
     alloc: Global,
     kernel: Kernel<ByteRing>,
-    view: View,
-    slots: Vec<Option<Slot>>,
+    role: Role,
+    region: Region,
     transactions: Vec<Transaction>,
 }
 
@@ -70,7 +71,7 @@ impl Machine {
         ensures { IfSome result (λ m. m ≡ start config.now) }
     {
         let settings = config.settings();
-        let Ok(slots) = idle_slots(alloc, settings.cpus) else {
+        let Ok(region) = Region::new(alloc, settings.cpus) else {
             return None;
         };
         let Ok(ring) = ByteRing::new(alloc, config.ring as usize) else {
@@ -82,10 +83,24 @@ impl Machine {
         Some(Machine {
             alloc,
             kernel,
-            view: View::new(alloc),
-            slots,
+            role: Role::new(alloc, settings.first_generation),
+            region,
             transactions: Vec::new(alloc),
         })
+    }
+
+    /// The role of the agent, to look at.
+    pub fn role(&self) -> &Role
+        ensures view { look_up result.now.records ≡ view self.now }
+    {
+        &self.role
+    }
+
+    /// The slots of all CPUs, to look at.
+    pub fn region(&self) -> &Region
+        ensures { result.now ≡ self.now.slots }
+    {
+        &self.region
     }
 
     /// The kernel, to look at.
@@ -166,7 +181,23 @@ impl Machine {
             return Reply::Refused(Refusal::NotActive);
         }
         let mut head = self.kernel.taker();
-        Reply::Drained(drain_into(&mut self.view, &mut head, max))
+        Reply::Drained(self.role.drain(&mut head, max))
+    }
+
+    fn view(&self) -> Reply
+        ensures { Step self.now Event.View result self.now }
+    {
+        if self.kernel.is_torn() {
+            return Reply::Refused(Refusal::Gone);
+        }
+        let has_agent = self.kernel.has_agent();
+        if !has_agent {
+            return Reply::Refused(Refusal::NotActive);
+        }
+        match known_threads(self.alloc, self.role.view()) {
+            Ok(threads) => Reply::View(Items::new(threads)),
+            Err(_) => Reply::Refused(Refusal::OutOfMemory),
+        }
     }
 
     fn state(&self) -> Reply
@@ -202,9 +233,7 @@ impl Machine {
         }
     }
 
-    /// Stamps the record that the view has of a thread into the slot of a CPU. Answers the
-    /// transaction's number.
-    #[tactic(auto, using(crate::proofs::Serving::slot_idle, crate::proofs::Serving::slot_stamped))]
+    /// Stamps what the view has of a thread into the slot of a CPU. Answers the transaction's number.
     fn try_stamp(&mut self, cpu: u16, tid: u32) -> Result<usize, Refusal>
         ensures fits { IfOk result (λ _. refusal self.old (Event.Stamp cpu tid) ≡ None) }
         ensures number { IfOk result (λ n. Reply.Stamped n ≡ (stamps self.old cpu tid).0) }
@@ -215,62 +244,48 @@ impl Machine {
         if self.kernel.is_torn() {
             return Err(Refusal::Gone);
         }
-        let Some((generation, _)) = self.kernel.active() else {
+        if self.kernel.active().is_none() {
             return Err(Refusal::NotActive);
-        };
-        let place = cpu as usize;
-        if place >= self.slots.len() {
+        }
+        if cpu >= self.region.cpus() {
             return Err(Refusal::BadCpu);
         }
-        let Some(known) = self.view.get(tid) else {
+        let Some((facts, tseq)) = self.role.view().get(tid) else {
             return Err(Refusal::NoThread);
         };
-        let None = self.slots[place] else {
+        let facts = *facts;
+        let Ok(SlotState::Idle) = self.region.state(cpu) else {
             return Err(Refusal::SlotOpen);
         };
         let number = self.transactions.len();
         if number >= self.kernel.settings().history as usize {
             return Err(Refusal::HistoryFull);
         }
-        let slot = Slot {
-            generation,
+        let slot = Stamp {
+            generation: self.role.generation(),
             tid,
-            tseq: known.tseq,
+            tseq,
+            preempt: false,
         };
-        let transaction = Transaction {
-            cpu,
-            slot,
-            facts: known.facts,
-        };
+        let transaction = Transaction { cpu, slot, facts };
         if self.transactions.push(transaction).is_err() {
             return Err(Refusal::OutOfMemory);
         }
-        self.slots[place] = Some(slot);
+        // The slot is idle, and the view knows the thread.
+        self.role.stamp(self.region.slot(cpu), tid, false).unwrap();
         Ok(number + 1)
     }
 
     fn commit(&mut self, mask: Mask) -> Reply
         ensures { Step self.old (Event.Commit mask) result self.new }
     {
-        if self.kernel.is_torn() {
-            return Reply::Refused(Refusal::Gone);
+        match self.kernel.txns_commit(self.alloc, &mut self.region, mask) {
+            Ok(landings) => {
+                self.role.collect(&mut self.region);
+                Reply::Landed(Items::new(landings))
+            }
+            Err(refusal) => Reply::Refused(refusal),
         }
-        if self.kernel.active().is_none() {
-            return Reply::Refused(Refusal::NotActive);
-        }
-        if mask.has_past(self.kernel.settings().cpus) {
-            return Reply::Refused(Refusal::EmptyMask);
-        }
-        let count = self.slots.len();
-        let Ok(mut landings) = Vec::with_capacity(self.alloc, count) else {
-            return Reply::Refused(Refusal::OutOfMemory);
-        };
-        if self.kernel.reserve(count).is_err() {
-            return Reply::Refused(Refusal::OutOfMemory);
-        }
-        land_all(&mut self.kernel, &self.slots, mask, &mut landings);
-        collect(&mut self.slots, mask);
-        Reply::Landed(Items::new(landings))
     }
 
     /// One event. It is refused by the first refusal that applies, and changes nothing then.
@@ -288,11 +303,12 @@ impl Machine {
             Event::Drain { max } => self.drain(*max),
             Event::Stamp { cpu, tid } => self.stamp(*cpu, *tid),
             Event::Commit { mask } => self.commit(*mask),
+            Event::View => self.view(),
             Event::State => self.state(),
             Event::Unread => self.unread(),
         };
         // A look at a field, by which the proof has what the machine keeps.
-        let _slots = &self.slots;
+        let _region = &self.region;
         reply
     }
 
@@ -312,12 +328,4 @@ impl Machine {
         }
         Ok(replies)
     }
-}
-
-/// The slots of so many CPUs, each idle.
-fn idle_slots(alloc: Global, cpus: u16) -> Result<Vec<Option<Slot>>, AllocError>
-    ensures { IfOk result (λ slots. slots.items ≡ idle_slots cpus) }
-{
-    let slots = vec![in alloc; None; cpus as usize]?;
-    Ok(slots)
 }

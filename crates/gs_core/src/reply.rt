@@ -1,8 +1,8 @@
 ghost use Rattle.std.specs.Prelude.{◌≡◌};
 
-use crate::drained::Drained;
+use gs_agent::Drained;
 use gs_kernel::{Landing, LiveThread};
-use gs_layout::{Message, Refusal};
+use gs_layout::{Known, Message, Refusal};
 use std::marker::Model;
 
 /// Items of a reply, in order. Clauses see them as a list.
@@ -57,6 +57,8 @@ pub enum Reply {
     Stamped { number: usize },
     /// What became of each slot that landed.
     Landed(Items<Landing>),
+    /// What the agent knows of each thread, by rising tid.
+    View(Items<(u32, Known)>),
     /// The threads that live, by rising tid.
     State(Items<LiveThread>),
     /// The messages that wait, in order.

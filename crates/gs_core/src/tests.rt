@@ -1,6 +1,8 @@
-use crate::{Config, ConfigFault, Drained, Event, Machine, Reply};
+use crate::{Config, ConfigFault, Event, Machine, Reply};
+use gs_agent::Drained;
 use gs_kernel::ThreadEvent;
 use gs_layout::{Change, Class, Facts, Message, Name, Outcome, Refusal};
+use gs_slots::SlotState;
 use gs_status::Mask;
 use std::alloc::Global;
 use std::process::Abort;
@@ -203,6 +205,7 @@ fn tears_down(rt: HostRuntime) -> Result<(), Fail> {
         Event::Drain { max: 1 },
         Event::Stamp { cpu: 9, tid: 9 },
         Event::Commit { mask: Mask::new(4) },
+        Event::View,
         Event::State,
         Event::Unread,
     ] {
@@ -345,5 +348,26 @@ fn shows_the_living(rt: HostRuntime) -> Result<(), Fail> {
         (only.known.facts.runnable, only.known.facts.mask),
         (true, 3)
     );
+    Ok(())
+}
+
+#[test]
+fn shows_the_view(rt: HostRuntime) -> Result<(), Fail> {
+    let mut machine = running(&rt, rt.alloc())?;
+    let _ = machine.step(&Event::Thread {
+        tid: 1,
+        event: ThreadEvent::Block,
+    });
+    let shown = machine.step(&Event::View);
+    let Reply::View(known) = &shown else {
+        return Err(Fail::from("the view"));
+    };
+    let [(tid, known)] = known.as_slice() else {
+        return Err(Fail::from("one thread"));
+    };
+    assert_eq!(rt; (*tid, known.tseq, known.facts.runnable), (1, 1, true));
+    assert_eq!(rt; machine.role().view().len(), 1);
+    assert_eq!(rt; machine.region().cpus(), 2);
+    assert_eq!(rt; machine.region().state(1), Ok(SlotState::Idle));
     Ok(())
 }

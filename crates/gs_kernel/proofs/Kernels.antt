@@ -11,7 +11,7 @@ use Rattle.gs_layout.specs.declared.facts.Facts.{Facts}
 use Rattle.gs_layout.specs.declared.message.Change.TheVariants.{Created}
 use Rattle.gs_layout.specs.declared.message.Message.{Message}
 use Rattle.gs_layout.specs.declared.message.Message.TheVariants.{Thread, TimerTick}
-use Rattle.gs_layout.specs.declared.slot.Slot.{Slot}
+use Rattle.gs_slots.specs.declared.state.Stamp.{Stamp}
 use Rattle.gs_layout.specs.Message.{is_about, takes_off}
 use Rattle.gs_journal.specs.declared.entry.Entry.{Entry}
 use Rattle.gs_journal.specs.declared.entry.Entry.TheVariants.{Posted, Placed, Role, Torn}
@@ -161,7 +161,7 @@ has_row s h t running held a down u k runs = by_row (row_of t.rows u) refl
         let m = mirrors_never s.first_tseq h t.rows s.cpus u k.rows (λ c q. k.below u c q) e in
         let z : false ≡ true = ap is_runnable (sym m.0) ∙ runs in absurd cc
 
-pub kept_placed : (s : Settings) (h : History) (t : TableState) (running : List (Option ℕ)) (held : ℕ) (a : Option (ℕ × ℕ)) (down : Bool) (c : ℕ) (b : Slot) → IsKept s h t running held a down → IsPlacing s h c b → c < s.cpus
+pub kept_placed : (s : Settings) (h : History) (t : TableState) (running : List (Option ℕ)) (held : ℕ) (a : Option (ℕ × ℕ)) (down : Bool) (c : ℕ) (b : Stamp) → IsKept s h t running held a down → IsPlacing s h c b → c < s.cpus
     → IsKept s (h ++ Placed b.tid b.tseq c b.generation ∷ []) (record t { rows = rows_placed t.rows b.tid (Some c) }) (slice_set running c (Some b.tid)) held a down
 kept_placed s h t running held a down c b k p lt =
     let e : Entry = Placed b.tid b.tseq c b.generation in

@@ -6,3 +6,4 @@ pub mod Kernels
 pub mod Abouts
 pub mod OtherClass
 pub mod Living
+pub mod Commits

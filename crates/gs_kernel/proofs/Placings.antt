@@ -1,23 +1,20 @@
 -- What holds where a landing is placed.
-use Rattle.std.proofs.Common.{◌≡◌, ℕ, ◌<◌, ◌==◌, length, Bool, true, false, not, nat_le, cond, Option, None, Some, refl, ap, sym, ◌∙◌, arith}
+use Rattle.std.proofs.Common.{◌≡◌, ℕ, ◌<◌, ◌==◌, length, Bool, true, false, nat_le, cond, Option, None, Some, refl, ap, sym, ◌∙◌, arith}
 use Rattle.std.specs.Option.{is_some}
 use Rattle.std.proofs.lemmas.Bool.{false≢true}
 use Rattle.std.proofs.lemmas.Bool.Decides.{nat_tests}
-use Rattle.gs_layout.specs.declared.slot.Slot.{Slot}
+use Rattle.gs_slots.specs.declared.state.Stamp.{Stamp}
 use Rattle.gs_layout.specs.declared.outcome.Outcome.{Outcome}
 use Rattle.gs_layout.specs.declared.outcome.Outcome.TheVariants as outcomes
 use Rattle.gs_journal.specs.History.{History, seq, record_in, on, at, active}
 use Rattle.gs_kernel.specs.declared.settings.Settings.{Settings}
 use Rattle.gs_kernel.specs.Landing.{verdict, cpu_verdict, is_generation}
 use Rattle.gs_kernel.specs.Threads.{is_runnable, may_run_on}
+use Rattle.gs_kernel.proofs.Refusals.{not_not}
 
 is_placed : Outcome → Bool
 is_placed outcomes.Placed = true
 is_placed _ = false
-
-not_false : (b : Bool) → not b ≡ false → b ≡ true
-not_false true e = refl
-not_false false e = absurd cc
 
 none_of : {A : Type 0} (o : Option A) → is_some o ≡ false → o ≡ None
 none_of None e = refl
@@ -42,7 +39,7 @@ cpu_placed s h k e =
     (none_of _ p3.0, not_le s.history (length h) p4.0)
 
 -- what holds where the outcome is Placed
-pub record IsPlacing (s : Settings) (h : History) (k : ℕ) (b : Slot) : Type 0 where
+pub record IsPlacing (s : Settings) (h : History) (k : ℕ) (b : Stamp) : Type 0 where
   pub generation : is_generation b.generation (active h) ≡ true
   pub current : (b.tseq == seq s.first_tseq h b.tid) ≡ true
   pub runnable : is_runnable (record_in h b.tid) ≡ true
@@ -51,7 +48,7 @@ pub record IsPlacing (s : Settings) (h : History) (k : ℕ) (b : Slot) : Type 0 
   pub free : on h k ≡ None
   pub fits : length h < s.history
 
-pub placing_when : (s : Settings) (h : History) (k : ℕ) (b : Slot) → verdict s h k b ≡ outcomes.Placed → IsPlacing s h k b
+pub placing_when : (s : Settings) (h : History) (k : ℕ) (b : Stamp) → verdict s h k b ≡ outcomes.Placed → IsPlacing s h k b
 unfolding verdict is_placed
 placing_when s h k b e =
     let p1 = passed _ outcomes.Gone _ refl e in
@@ -62,11 +59,11 @@ placing_when s h k b e =
     let p6 = passed _ outcomes.AlreadyPlaced _ refl p5.1 in
     let p7 = passed _ outcomes.NotAllowed _ refl p6.1 in
     record {
-      generation = not_false _ p2.0;
-      current = not_false _ p4.0;
-      runnable = not_false _ p5.0;
+      generation = not_not _ p2.0;
+      current = not_not _ p4.0;
+      runnable = not_not _ p5.0;
       nowhere = none_of _ p6.0;
-      allowed = not_false _ p7.0;
+      allowed = not_not _ p7.0;
       free = (cpu_placed s h k p7.1).0;
       fits = (cpu_placed s h k p7.1).1;
     }

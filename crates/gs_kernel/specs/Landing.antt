@@ -1,6 +1,6 @@
 -- What a landing answers, and what it adds to the history.
 use Rattle.std.specs.Prelude.{Bool, false, not, ℕ, ◌==◌, nat_le, Option, None, Some, [], ◌∷◌, ◌++◌, length, is_some}
-use Rattle.gs_layout.specs.declared.slot.Slot.{Slot}
+use Rattle.gs_slots.specs.declared.state.Stamp.{Stamp}
 use Rattle.gs_layout.specs.declared.outcome.Outcome.{Outcome}
 use Rattle.gs_layout.specs.declared.outcome.Outcome.TheVariants as outcomes
 use Rattle.gs_journal.specs.declared.entry.Entry.TheVariants.{Placed}
@@ -29,7 +29,7 @@ cpu_verdict s h k =
 
 -- what becomes of what was stamped into the slot of CPU k: the first that applies to the history as it is, of the transaction and
 -- then of the CPU
-unfoldable pub verdict : Settings → History → ℕ → Slot → Outcome
+unfoldable pub verdict : Settings → History → ℕ → Stamp → Outcome
 verdict s h k b =
     first_that (
     (torn h, outcomes.Gone)
@@ -43,15 +43,15 @@ verdict s h k b =
     ) (cpu_verdict s h k)
 
 -- the history after a landing with this outcome: only a placing appends
-abbrev pub after_outcome : History → Outcome → ℕ → Slot → History
+abbrev pub after_outcome : History → Outcome → ℕ → Stamp → History
 after_outcome h outcomes.Placed k b = h ++ Placed b.tid b.tseq k b.generation ∷ []
 after_outcome h _ k b = h
 
-abbrev pub after_landing : Settings → History → ℕ → Slot → History
+abbrev pub after_landing : Settings → History → ℕ → Stamp → History
 after_landing s h k b = after_outcome h (verdict s h k b) k b
 
 -- what a landing answers
-unfoldable pub landing : Settings → History → ℕ → Slot → Landing
+unfoldable pub landing : Settings → History → ℕ → Stamp → Landing
 landing s h k b =
     record {
       cpu = k;

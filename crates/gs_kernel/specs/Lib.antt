@@ -2,6 +2,7 @@ pub mod Settings
 pub mod First
 pub mod Threads
 pub mod Landing
+pub mod Commit
 pub mod Kernel
 pub mod Shown
 pub mod Inside

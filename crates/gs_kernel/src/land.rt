@@ -1,22 +1,28 @@
 //! Landings: what becomes of what was stamped.
 
-ghost use Rattle.std.specs.Prelude.{◌≡◌, ◌+◌, ◌<◌, ◌≤◌, IfOk, OnOk, OnErr, length};
+ghost use Rattle.std.specs.Prelude.{◌≡◌, ◌+◌, ◌<◌, ◌≤◌, IfOk, OnOk, OnErr, Some, false, length, option_map};
+ghost use Rattle.gs_layout.specs.Spelling.{IsCpuOrNone};
+ghost use Rattle.gs_slots.specs.State.{is_malformed};
+ghost use Rattle.gs_slots.specs.SlotMut.{cpu_of, left_in, state_of};
+ghost use Rattle.gs_kernel.specs.Commit.{history_after, landing_in, slot_after};
 ghost use Rattle.gs_journal.specs.Holder.{is_agent_on};
 ghost use Rattle.gs_kernel.specs.Landing.{landing, after_landing, after_outcome, verdict, cpu_verdict, is_generation};
 
 use crate::kernel::Kernel;
 use crate::landing::Landing;
 use gs_journal::Entry;
-use gs_layout::{Outcome, Slot};
+use gs_layout::Outcome;
 use gs_ring::Poster;
+use gs_slots::{SlotMut, SlotState, Stamp};
 use std::alloc::AllocError;
 
 impl<P: Poster> Kernel<P> {
     /// What becomes of what was stamped into the slot of a CPU.
     #[tactic(auto, unfolding(crate::specs::Landing::verdict))]
-    fn verdict(&self, cpu: u16, slot: &Slot) -> Outcome
+    fn verdict(&self, cpu: u16, slot: &Stamp) -> Outcome
         requires { cpu < self.now.settings.cpus }
-        ensures { result ≡ verdict self.now.settings self.now.history cpu slot.now }
+        ensures value { result ≡ verdict self.now.settings self.now.history cpu slot.now }
+        ensures known { is_malformed result ≡ false }
     {
         if self.torn {
             return Outcome::Gone;
@@ -45,7 +51,8 @@ impl<P: Poster> Kernel<P> {
     /// Whether a CPU may be given to a thread.
     fn cpu_verdict(&self, cpu: u16) -> Outcome
         requires { cpu < self.now.settings.cpus }
-        ensures { result ≡ cpu_verdict self.now.settings self.now.history cpu }
+        ensures value { result ≡ cpu_verdict self.now.settings self.now.history cpu }
+        ensures known { is_malformed result ≡ false }
     {
         if is_agent_on(cpu, self.agent) {
             return Outcome::CpuIsAgent;
@@ -62,16 +69,49 @@ impl<P: Poster> Kernel<P> {
         Outcome::Placed
     }
 
-    /// What was stamped into the slot of a CPU lands, and takes effect where its outcome is
-    /// [`Outcome::Placed`].
+    /// The slot of a CPU lands: what is stamped in it takes effect where its outcome is
+    /// [`Outcome::Placed`], and the slot is done then, with the outcome, the CPU that the thread is on
+    /// afterwards, and the thread's sequence number before. Answers `None` for a slot that is idle or
+    /// done, and leaves it. The slot is that of a CPU of the enclave.
+    ///
+    /// # Errors
+    ///
+    /// Where the transaction would take effect, no room was reserved, and memory runs out. Then nothing
+    /// changes.
+    #[tactic(auto, unfolding(crate::specs::Landing::landing))]
+    pub fn land(&mut self, slot: SlotMut<'_>) -> Result<Option<Landing>, AllocError>
+        requires { cpu_of slot < self.old.settings.cpus }
+        ensures landing { IfOk result (λ l. l ≡ landing_in self.old.settings self.old.history (cpu_of slot.entry) (state_of slot.entry)) }
+        ensures history { OnOk result (self.new.history ≡ history_after self.old.settings self.old.history (cpu_of slot.entry) (state_of slot.entry)) }
+        ensures slot { OnOk result (left_in slot.exit ≡ slot_after self.old.settings self.old.history (cpu_of slot.entry) (state_of slot.entry)) }
+        ensures unchanged { OnErr result (self.new.history ≡ self.old.history) }
+        ensures kept { OnErr result (left_in slot.exit ≡ state_of slot.entry) }
+        ensures memory { OnErr result (option_map (λ l. l.outcome) (landing_in self.old.settings self.old.history (cpu_of slot.entry) (state_of slot.entry)) ≡ Some Outcome.Placed) }
+        ensures reserved { OnErr result (self.old.room ≡ 0) }
+        ensures ring { self.new.poster ≡ self.old.poster }
+        ensures settings { self.new.settings ≡ self.old.settings }
+        ensures room { self.old.room + length self.old.history ≤ self.new.room + length self.new.history }
+    {
+        let cpu = slot.cpu();
+        let Ok(SlotState::Stamped { stamp }) = slot.state() else {
+            return Ok(None);
+        };
+        let landing = self.land_stamp(cpu, &stamp)?;
+        slot.finish(landing.outcome, landing.at, landing.seen);
+        Ok(Some(landing))
+    }
+
+    /// What is stamped into the slot of a CPU lands.
     ///
     /// # Errors
     ///
     /// Where it would take effect, no room was reserved, and memory runs out. Then nothing changes.
     #[tactic(auto, unfolding(crate::specs::Landing::landing))]
-    pub fn land(&mut self, cpu: u16, slot: &Slot) -> Result<Landing, AllocError>
+    fn land_stamp(&mut self, cpu: u16, slot: &Stamp) -> Result<Landing, AllocError>
         requires { cpu < self.old.settings.cpus }
         ensures landing { IfOk result (λ l. l ≡ landing self.old.settings self.old.history cpu slot.now) }
+        ensures known { IfOk result (λ l. is_malformed l.outcome ≡ false) }
+        ensures below { IfOk result (λ l. IsCpuOrNone l.at) }
         ensures history { OnOk result (self.new.history ≡ after_landing self.old.settings self.old.history cpu slot.now) }
         ensures unchanged { OnErr result (self.new.history ≡ self.old.history) }
         ensures memory { OnErr result (verdict self.old.settings self.old.history cpu slot.now ≡ Outcome.Placed) }
@@ -95,7 +135,7 @@ impl<P: Poster> Kernel<P> {
     }
 
     /// Appends that a thread was placed.
-    fn place(&mut self, cpu: u16, slot: &Slot) -> Result<(), AllocError>
+    fn place(&mut self, cpu: u16, slot: &Stamp) -> Result<(), AllocError>
         requires cpu { cpu < self.old.settings.cpus }
         requires placed { verdict self.old.settings self.old.history cpu slot.now ≡ Outcome.Placed }
         ensures placed { OnOk result (self.new.history ≡ after_outcome self.old.history Outcome.Placed cpu slot.now) }

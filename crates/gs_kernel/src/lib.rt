@@ -3,6 +3,7 @@
 #![tactic(auto)]
 
 mod calls;
+mod commit;
 mod happen;
 mod head;
 mod kernel;

@@ -1,4 +1,4 @@
-//! The words that every part of the enclave speaks: threads' facts, messages, slots, refusals and
+//! The words that every part of the enclave speaks: threads' facts, messages, refusals and
 //! outcomes, with the bytes of a message.
 #![tactic(auto)]
 
@@ -15,7 +15,6 @@ mod outcome;
 mod parcel;
 mod record;
 mod refusal;
-mod slot;
 #[cfg(test)]
 mod tests;
 
@@ -34,4 +33,3 @@ pub use outcome::Outcome;
 pub use parcel::Parcel;
 pub use record::Record;
 pub use refusal::Refusal;
-pub use slot::Slot;

@@ -6,8 +6,9 @@ use Rattle.gs_layout.specs.declared.refusal.Refusal.TheVariants as refusals
 use Rattle.gs_core.specs.declared.config.Config.{Config}
 use Rattle.gs_core.specs.declared.event.Event.{Event}
 use Rattle.gs_core.specs.declared.event.Event.TheVariants as events
-use Rattle.gs_core.specs.declared.drained.Stop.TheVariants as stops
+use Rattle.gs_agent.specs.declared.drained.Stop.TheVariants as stops
 use Rattle.gs_core.specs.declared.reply.Reply.TheVariants as replies
+use Rattle.gs_kernel.specs.Commit.{commit_refusal}
 use Rattle.gs_trace.specs.declared.fault.Reason.{Reason}
 use Rattle.gs_trace.specs.declared.fault.Reason.TheVariants.{TooLong, NoHeader, BadWord, BadCount, BadNumber, BadName, BadByte}
 use Rattle.gs_trace.specs.Words.{lines_of, words_of, is_text, is_number, number}
@@ -408,7 +409,7 @@ first_config : Config
 first_config = record { cpus = 2; ring = 128; first_tseq = 0; first_generation = 1; history = 16777216 }
 
 refused_runs : IsOutput (codes "cpus 2 ring 128" ++ 10 ∷ codes "commit 4") Ran (line (codes "refused 4 EmptyMask"))
-unfolding first_config digits active standing last_of torn
+unfolding first_config digits active standing last_of torn commit_refusal
 refused_runs = (
   refl,
   record {

@@ -13,5 +13,6 @@ pub mod Known
 pub mod Given
 pub mod WorkedLines
 pub mod Corners
-pub mod One
+pub mod Lists
+mod One
 pub mod WorkedRuns

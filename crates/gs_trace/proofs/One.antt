@@ -10,9 +10,9 @@ use Rattle.gs_layout.specs.View.{Look, look_up, words, catch_up, is_skipped, is_
 use Rattle.gs_journal.specs.History.{posted, active, torn}
 use Rattle.gs_journal.proofs.Past.{same_view}
 use Rattle.gs_kernel.specs.First.{first_that}
-use Rattle.gs_core.specs.declared.drained.Drained.{Drained}
-use Rattle.gs_core.specs.declared.drained.Stop.{Stop}
-use Rattle.gs_core.specs.declared.drained.Stop.TheVariants.{Gap, Memory}
+use Rattle.gs_agent.specs.declared.drained.Drained.{Drained}
+use Rattle.gs_agent.specs.declared.drained.Stop.{Stop}
+use Rattle.gs_agent.specs.declared.drained.Stop.TheVariants.{Gap, Memory}
 use Rattle.gs_core.specs.declared.event.Event.{Event}
 use Rattle.gs_core.specs.declared.event.Event.TheVariants.{Create, Thread, Take, Give, Tick, Drain, Stamp, Commit, Unread}
 use Rattle.gs_core.specs.declared.event.Event.TheVariants as events
@@ -25,6 +25,7 @@ use Rattle.gs_trace.specs.declared.fault.ScriptFault.{ScriptFault}
 use Rattle.gs_trace.specs.declared.run.Ended.{Ended}
 use Rattle.gs_trace.specs.Script.{Script, script_of}
 use Rattle.gs_trace.specs.Lines.{lines}
+use Rattle.gs_trace.proofs.Lists.{one_list}
 use Rattle.gs_trace.specs.Output.{wants_memory, is_memory, IsOutput, IsOutputOf}
 
 -- machines that differ at most in how their agents list what they know
@@ -57,6 +58,7 @@ one_refusal m a same (Tick c) = refl
 one_refusal m a same (Drain max) = refl
 one_refusal m a same (Stamp c t) = ap (stamp_refusal m c t) same
 one_refusal m a same (Commit mask) = refl
+one_refusal m a same events.View = refl
 one_refusal m a same events.State = refl
 one_refusal m a same Unread = refl
 
@@ -177,6 +179,11 @@ one_done m a same (Stamp c t) r r' m' n' (inl x) (inr y) g h p q = absurd (refus
 one_done m a same (Commit mask) r r' m' n' (inl x) (inl y) g h p q = record { reply = x.0 ∙ sym y.0; left = alike_at m' n' (commits m mask).1 a x.1 y.1 same }
 one_done m a same (Commit mask) r r' m' n' (inr x) y g h p q = absurd (refused_is r p x.0)
 one_done m a same (Commit mask) r r' m' n' (inl x) (inr y) g h p q = absurd (refused_is r' q y.0)
+one_done m a same events.View r r' m' n' (inl x) (inl y) g h p q =
+    let lists : x.0.0 ≡ y.0.0 = one_list x.0.0 y.0.0 x.0.2.rising y.0.2.rising (λ t. x.0.2.all t ∙ (ap (λ (v : Look). v t) (sym same) ∙ sym (y.0.2.all t))) in
+    record { reply = x.0.1 ∙ (ap replies.View lists ∙ sym y.0.1); left = alike_at m' n' m a x.1 y.1 same }
+one_done m a same events.View r r' m' n' (inr x) y g h p q = absurd (refused_is r p x.0)
+one_done m a same events.View r r' m' n' (inl x) (inr y) g h p q = absurd (refused_is r' q y.0)
 one_done m a same events.State r r' m' n' (inl x) (inl y) g h p q = record { reply = x.0 ∙ sym y.0; left = alike_at m' n' m a x.1 y.1 same }
 one_done m a same events.State r r' m' n' (inr x) y g h p q = absurd (refused_is r p x.0)
 one_done m a same events.State r r' m' n' (inl x) (inr y) g h p q = absurd (refused_is r' q y.0)

@@ -198,3 +198,6 @@ looked_at_all = refl
 
 state_behind : event_of (words_of (codes "state 1")) ≡ Err BadCount
 state_behind = refl
+
+looked_at_the_view : event_of (words_of (codes "view")) ≡ Ok events.View
+looked_at_the_view = refl

@@ -3,8 +3,8 @@ use Rattle.std.proofs.Common.{◌≡◌, [], ◌∷◌, ◌++◌, codes, refl, t
 use Rattle.std.specs.Fmt.{digits}
 use Rattle.gs_layout.specs.declared.refusal.Refusal.TheVariants as refusals
 use Rattle.gs_layout.specs.declared.outcome.Outcome.TheVariants as outcomes
-use Rattle.gs_core.specs.declared.drained.Stop.TheVariants.{Gap}
-use Rattle.gs_core.specs.declared.reply.Reply.TheVariants.{Refused, Torn, Created, Posted, Taken, Given, Ticked, Drained, Stamped, Landed, State, Unread}
+use Rattle.gs_agent.specs.declared.drained.Stop.TheVariants.{Gap}
+use Rattle.gs_core.specs.declared.reply.Reply.TheVariants.{Refused, Torn, Created, Posted, Taken, Given, Ticked, Drained, Stamped, Landed, View, State, Unread}
 use Rattle.gs_layout.specs.declared.facts.Class.TheVariants.{Zero, One}
 use Rattle.gs_layout.specs.declared.message.Change.TheVariants as changes
 use Rattle.gs_layout.specs.declared.message.Message.TheVariants.{Thread, TimerTick}
@@ -125,3 +125,8 @@ live : lines (
     ++ line (codes "state 65536 seq 4294967295 b mask 18446744073709551615 class 1 name - cpu 63")
 unfolding digits
 live = refl
+
+known : lines (View ((1, record { facts = record { runnable = true; mask = 3; class = Zero; name = codes "web" }; tseq = 1 }) ∷ (2, record { facts = record { runnable = false; mask = 1; class = One; name = [] }; tseq = 9 }) ∷ []) ∷ [])
+    ≡ line (codes "view 1 seq 1 r mask 3 class 0 name web") ++ line (codes "view 2 seq 9 b mask 1 class 1 name -")
+unfolding digits
+known = refl

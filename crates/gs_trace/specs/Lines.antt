@@ -19,9 +19,9 @@ use Rattle.gs_layout.specs.Message.{tseq_of}
 use Rattle.gs_layout.specs.Spelling.{kind_of, tid_of, cpu_of}
 use Rattle.gs_kernel.specs.declared.landing.Landing.{Landing}
 use Rattle.gs_kernel.specs.declared.live_thread.LiveThread.{LiveThread}
-use Rattle.gs_core.specs.declared.drained.Drained.{Drained}
-use Rattle.gs_core.specs.declared.drained.Stop.{Stop}
-use Rattle.gs_core.specs.declared.drained.Stop.TheVariants as stops
+use Rattle.gs_agent.specs.declared.drained.Drained.{Drained}
+use Rattle.gs_agent.specs.declared.drained.Stop.{Stop}
+use Rattle.gs_agent.specs.declared.drained.Stop.TheVariants as stops
 use Rattle.gs_core.specs.declared.reply.Reply.{Reply}
 use Rattle.gs_core.specs.declared.reply.Reply.TheVariants as replies
 
@@ -152,6 +152,14 @@ facts_text f = runnable_text f.runnable ++ codes " mask " ++ decimal f.mask ++ c
 abbrev pub known_text : ℕ → Known → List ℕ
 known_text t k = decimal t ++ codes " seq " ++ decimal k.tseq ++ codes " " ++ facts_text k.facts
 
+-- what the agent knows of a thread
+abbrev pub view_text : ℕ × Known → List ℕ
+view_text p = codes "view " ++ known_text p.0 p.1
+
+-- the lines of what the agent knows, one for each thread
+abbrev pub view_lines : List (ℕ × Known) → List ℕ
+view_lines known = flat_map (λ p. line (view_text p)) known
+
 -- a thread that lives
 abbrev pub live_text : LiveThread → List ℕ
 live_text a = codes "state " ++ known_text a.tid a.known ++ codes " cpu " ++ cpu_text a.cpu
@@ -172,6 +180,7 @@ reply_lines (replies.Ticked cpu) = line (codes "tick " ++ decimal cpu)
 reply_lines (replies.Drained d) = line (drained_text d)
 reply_lines (replies.Stamped number) = line (codes "stamped " ++ decimal number)
 reply_lines (replies.Landed landings) = landing_lines landings
+reply_lines (replies.View known) = view_lines known
 reply_lines (replies.State threads) = live_lines threads
 reply_lines (replies.Unread messages) = message_lines messages
 

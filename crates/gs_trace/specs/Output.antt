@@ -2,8 +2,8 @@
 use Rattle.std.specs.Prelude.{◌≡◌, ℕ, List, ◌++◌, Bool, true, false, codes, decimal, Option, Some, Result, Ok, Err}
 use Rattle.std.specs.List.{list_any}
 use Rattle.gs_layout.specs.declared.refusal.Refusal.TheVariants.{OutOfMemory}
-use Rattle.gs_core.specs.declared.drained.Stop.{Stop}
-use Rattle.gs_core.specs.declared.drained.Stop.TheVariants.{Memory}
+use Rattle.gs_agent.specs.declared.drained.Stop.{Stop}
+use Rattle.gs_agent.specs.declared.drained.Stop.TheVariants.{Memory}
 use Rattle.gs_core.specs.declared.reply.Reply.{Reply}
 use Rattle.gs_core.specs.declared.reply.Reply.TheVariants.{Refused, Drained}
 use Rattle.gs_core.specs.Machine.{State, start}

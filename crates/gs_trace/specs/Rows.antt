@@ -89,6 +89,9 @@ abbrev pub commit : Row
 commit = record { word = codes "commit"; forms = (u64s ∷ []) ∷ []; event = λ ws. events.Commit (number (at 0 ws)) }
 
 -- a form without words: nothing stands behind the first word
+abbrev pub view : Row
+view = record { word = codes "view"; forms = [] ∷ []; event = λ ws. events.View }
+
 abbrev pub state : Row
 state = record { word = codes "state"; forms = [] ∷ []; event = λ ws. events.State }
 
@@ -96,7 +99,7 @@ abbrev pub unread : Row
 unread = record { word = codes "unread"; forms = [] ∷ []; event = λ ws. events.Unread }
 
 abbrev pub rows : List Row
-rows = create ∷ block ∷ wake ∷ yield ∷ die ∷ affinity ∷ take ∷ give ∷ tick ∷ drain ∷ stamp ∷ commit ∷ state ∷ unread ∷ []
+rows = create ∷ block ∷ wake ∷ yield ∷ die ∷ affinity ∷ take ∷ give ∷ tick ∷ drain ∷ stamp ∷ commit ∷ view ∷ state ∷ unread ∷ []
 
 -- what a row reads in the words after its first
 abbrev pub reads : Row → List (List ℕ) → Result Event Reason

@@ -178,6 +178,10 @@ pub(crate) fn event(words: &[&str]) -> Result<Event, Reason>
             [mask] => commit(mask),
             _ => Err(Reason::BadCount),
         },
+        "view" => match words {
+            [] => Ok(Event::View),
+            _ => Err(Reason::BadCount),
+        },
         "state" => match words {
             [] => Ok(Event::State),
             _ => Err(Reason::BadCount),

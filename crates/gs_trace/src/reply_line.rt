@@ -2,8 +2,9 @@ ghost use Rattle.std.specs.Prelude.{◌≡◌, ◌++◌, IfOk, OnOk, string_byte
 ghost use Rattle.gs_trace.specs.Lines.{refusal_text, outcome_text, drained_text, unless_zero, stop_text, line, landing_text, landing_lines, reply_lines, lines};
 
 use crate::message_line::{write_messages, write_posted};
-use crate::thread_line::write_threads;
-use gs_core::{Drained, Reply, Stop};
+use crate::thread_line::{write_threads, write_view};
+use gs_agent::{Drained, Stop};
+use gs_core::Reply;
 use gs_kernel::Landing;
 use gs_layout::{Outcome, Refusal};
 use std::alloc::{AllocError, Global};
@@ -138,6 +139,7 @@ fn write_reply(out: &mut String, reply: &Reply) -> Result<(), AllocError>
         Reply::Drained(drained) => write_drained(out, drained),
         Reply::Stamped { number } => write!(out, "stamped {number}\n"),
         Reply::Landed(landings) => write_landings(out, landings.as_slice()),
+        Reply::View(known) => write_view(out, known.as_slice()),
         Reply::State(threads) => write_threads(out, threads.as_slice()),
         Reply::Unread(messages) => write_messages(out, messages.as_slice()),
     }

@@ -1,5 +1,5 @@
 ghost use Rattle.std.specs.Prelude.{◌≡◌, ◌++◌, OnOk, string_bytes};
-ghost use Rattle.gs_trace.specs.Lines.{class_text, facts_text, known_text, line, live_lines, live_text, name_text, runnable_text};
+ghost use Rattle.gs_trace.specs.Lines.{class_text, facts_text, known_text, line, live_lines, live_text, name_text, runnable_text, view_lines, view_text};
 
 use crate::message_line::write_cpu;
 use crate::word::text;
@@ -55,6 +55,26 @@ fn write_known(out: &mut String, tid: u32, known: &Known) -> Result<(), AllocErr
     let tseq = known.tseq;
     write!(out, "{tid} seq {tseq} ")?;
     write_facts(out, &known.facts)
+}
+
+/// Adds the line of what the agent knows of a thread.
+fn write_known_line(out: &mut String, known: &(u32, Known)) -> Result<(), AllocError>
+    ensures { OnOk result (string_bytes out.new ≡ string_bytes out.old ++ line (view_text known.now)) }
+{
+    let (tid, known) = known;
+    out.push_str("view ")?;
+    write_known(out, *tid, known)?;
+    out.push('\n')
+}
+
+/// Adds the lines of what the agent knows, by rising tid.
+pub(crate) fn write_view(out: &mut String, view: &[(u32, Known)]) -> Result<(), AllocError>
+    ensures { OnOk result (string_bytes out.new ≡ string_bytes out.old ++ view_lines view.now) }
+{
+    for known in view {
+        write_known_line(out, known)?;
+    }
+    Ok(())
 }
 
 /// Adds the line of a thread that lives.

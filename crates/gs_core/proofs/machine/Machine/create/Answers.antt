@@ -12,6 +12,7 @@ use Rattle.gs_core.specs.Held.{machine_view}
 use Rattle.gs_core.proofs.Posting.{post_step, reply_of, with_kernel}
 use Rattle.gs_core.proofs.Serving.{post_kept}
 use Rattle.gs_core.proofs.Steps.{both_creation}
+use Rattle.gs_core.proofs.Roles.{posted_agent}
 use Rattle.gs_core.proofs.machine.Machine.create.Goals as goal
 use Rattle.gs_core.proofs.machine.Machine.create.Goals.{in-Ok-Some, in-Ok-None, in-Err}
 
@@ -24,6 +25,7 @@ invariant_of-self c =
     record {
       good = post_kept m c.create.result is_some (creation m.settings.first_tseq m.history c.args.facts.now) k.settings k.poster k.history i.good (both_creation m c.args.facts.now i.good) e.history e.unchanged e.settings e.ring e.stays;
       told = e.told;
+      generation = λ a p. i.generation a (posted_agent c.create.result is_some m.history k.history (creation m.settings.first_tseq m.history c.args.facts.now) e.history e.unchanged a p);
     }
 
 -- what is answered where the kernel answers so

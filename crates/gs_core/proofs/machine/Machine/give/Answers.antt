@@ -14,6 +14,7 @@ use Rattle.gs_core.specs.Machine.{State, Step}
 use Rattle.gs_core.specs.Held.{machine_view}
 use Rattle.gs_core.proofs.Posting.{give_step, reply_of, with_kernel}
 use Rattle.gs_core.proofs.Serving.{give_kept}
+use Rattle.gs_core.proofs.Roles.{given_agent}
 use Rattle.gs_core.proofs.machine.Machine.give.Goals as goal
 use Rattle.gs_core.proofs.machine.Machine.give.Goals.{in-Ok, in-Err}
 
@@ -31,6 +32,7 @@ invariant_of-self c =
     record {
       good = give_kept m c.args.cpu c.give.result k.settings k.poster k.history i.good e.history e.unchanged e.settings (ap (λ (r : RingState). r.capacity) e.ring) (ap (λ (r : RingState). r.taken) e.ring);
       told = subst (λ (r : RingState). Sent r (posted k.history)) (sym e.ring) (subst (Sent c.self.inside.kernel.poster) (sym (given c.give.result m.history k.history c.args.cpu e.history e.unchanged)) i.told);
+      generation = λ a p. i.generation a (given_agent c.give.result m.history k.history c.args.cpu e.history e.unchanged a p);
     }
 
 -- what is answered where the kernel answers so

@@ -11,6 +11,7 @@ use Rattle.gs_core.specs.Machine.{State, Step}
 use Rattle.gs_core.specs.Held.{machine_view}
 use Rattle.gs_core.proofs.Posting.{post_step, reply_of, with_kernel}
 use Rattle.gs_core.proofs.Serving.{happen_kept}
+use Rattle.gs_core.proofs.Roles.{posted_agent}
 use Rattle.gs_core.proofs.machine.Machine.happen.Goals as goal
 use Rattle.gs_core.proofs.machine.Machine.happen.Goals.{in-Ok-Some, in-Ok-None, in-Err}
 
@@ -23,6 +24,7 @@ invariant_of-self c =
     record {
       good = happen_kept m c.args.tid c.args.event c.happen.result k.settings k.poster k.history i.good e.fits e.history e.unchanged e.settings e.ring e.stays;
       told = e.told;
+      generation = λ a p. i.generation a (posted_agent c.happen.result is_some m.history k.history (happening m.settings m.history c.args.tid c.args.event) e.history e.unchanged a p);
     }
 
 -- what is answered where the kernel answers so

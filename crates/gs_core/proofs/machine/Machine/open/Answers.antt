@@ -1,14 +1,16 @@
-use Rattle.std.proofs.Common.{◌≡◌, List, ◌∷◌, [], ap, subst, sym, ◌∙◌}
+use Rattle.std.proofs.Common.{◌≡◌, List, ◌∷◌, [], replicate, ap, subst, sym, ◌∙◌}
 use Rattle.gs_layout.specs.declared.message.Message.{Message}
 use Rattle.gs_journal.specs.declared.entry.Entry.TheVariants.{Role}
-use Rattle.gs_journal.specs.History.{posted}
+use Rattle.gs_journal.specs.History.{posted, active}
 use Rattle.gs_kernel.proofs.Kernels.{posted_new}
 use Rattle.gs_ring.specs.RingState.{RingState, empty}
 use Rattle.gs_ring.specs.Ends.{Posted, Posted-empty}
 use Rattle.gs_kernel.specs.declared.settings.Settings.{Settings}
 use Rattle.gs_core.specs.Config.{settings_of}
 use Rattle.gs_core.specs.Good.{Good}
-use Rattle.gs_core.specs.Machine.{idle_slots}
+use Rattle.gs_slots.specs.declared.state.SlotState.TheVariants.{Idle}
+use Rattle.gs_agent.specs.Role.{RoleState}
+use Rattle.gs_core.proofs.Roles.{first_agent}
 use Rattle.gs_core.proofs.Serving.{starts}
 use Rattle.gs_core.proofs.Whole.{start_good}
 use Rattle.gs_core.proofs.machine.Machine.open.Goals as goal
@@ -22,11 +24,12 @@ invariant_of-result c =
     let settings : k.settings ≡ settings_of f = e.settings ∙ is in
     let ring : k.poster ≡ empty f.ring = e.poster ∙ c.in-Ok-new.ensures.made in
     let history : k.history ≡ Role f.first_generation 0 ∷ [] = e.history ∙ ap (λ (x : Settings). Role x.first_generation 0 ∷ []) is in
-    let slots : c.in-Ok.slots.items ≡ idle_slots f.cpus = c.in-Ok.ensures ∙ ap (λ (x : Settings). idle_slots x.cpus) is in
+    let slots : c.in-Ok.region ≡ replicate f.cpus Idle = c.in-Ok.ensures ∙ ap (λ (x : Settings). replicate x.cpus Idle) is in
     record {
-      good = subst Good (sym (starts f k.settings k.poster k.history c.in-Ok.slots.items c.new-3.result c.new-4.result.items settings ring history slots c.new-3.ensures c.new-4.ensures.items)) (start_good f);
+      good = subst Good (sym (starts f k.settings k.poster k.history c.in-Ok.region c.new-4.result.records c.new-5.result.items settings ring history slots (ap (λ (x : RoleState). x.records) c.new-4.ensures) c.new-5.ensures.items)) (start_good f);
       told = subst (λ (r : RingState). Posted r (posted k.history)) (sym ring)
           (subst (λ (ms : List Message). Posted (empty f.ring) ms) (sym (ap posted history ∙ posted_new f.first_generation 0)) (Posted-empty f.ring));
+      generation = λ a p. first_agent f.first_generation 0 a (ap active (sym history) ∙ p) ∙ sym (ap (λ (x : RoleState). x.generation) c.new-4.ensures ∙ ap (λ (x : Settings). x.first_generation) is);
     }
 
 pub returns : goal.returns
@@ -38,5 +41,5 @@ returns c =
     let settings : k.settings ≡ settings_of f = e.settings ∙ is in
     let ring : k.poster ≡ empty f.ring = e.poster ∙ c.in-Ok-new.ensures.made in
     let history : k.history ≡ Role f.first_generation 0 ∷ [] = e.history ∙ ap (λ (x : Settings). Role x.first_generation 0 ∷ []) is in
-    let slots : c.in-Ok.slots.items ≡ idle_slots f.cpus = c.in-Ok.ensures ∙ ap (λ (x : Settings). idle_slots x.cpus) is in
-    starts f k.settings k.poster k.history c.in-Ok.slots.items c.new-3.result c.new-4.result.items settings ring history slots c.new-3.ensures c.new-4.ensures.items
+    let slots : c.in-Ok.region ≡ replicate f.cpus Idle = c.in-Ok.ensures ∙ ap (λ (x : Settings). replicate x.cpus Idle) is in
+    starts f k.settings k.poster k.history c.in-Ok.region c.new-4.result.records c.new-5.result.items settings ring history slots (ap (λ (x : RoleState). x.records) c.new-4.ensures) c.new-5.ensures.items

@@ -6,6 +6,8 @@ use Rattle.gs_core.specs.Machine.{State, Step}
 use Rattle.gs_core.specs.Held.{machine_view}
 use Rattle.gs_core.proofs.Posting.{take_step, reply_of, with_kernel}
 use Rattle.gs_core.proofs.Serving.{take_kept}
+use Rattle.gs_kernel.specs.Kernel.{preemption}
+use Rattle.gs_core.proofs.Roles.{taken_agent}
 use Rattle.gs_core.proofs.machine.Machine.take.Goals as goal
 use Rattle.gs_core.proofs.machine.Machine.take.Goals.{in-Ok-true, in-Ok-false, in-Err}
 
@@ -18,6 +20,7 @@ invariant_of-self c =
     record {
       good = take_kept m c.args.cpu c.take.result k.settings k.poster k.history i.good e.history e.unchanged e.settings e.ring e.stays;
       told = e.told;
+      generation = λ a p. i.generation a (taken_agent c.take.result m.history k.history (preemption m.settings m.history c.args.cpu) c.args.cpu e.history e.unchanged a p);
     }
 
 -- what is answered where the kernel answers so

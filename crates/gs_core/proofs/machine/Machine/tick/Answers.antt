@@ -9,6 +9,7 @@ use Rattle.gs_core.specs.Held.{machine_view}
 use Rattle.gs_core.proofs.Posting.{post_step, reply_of, with_kernel}
 use Rattle.gs_core.proofs.Serving.{post_kept}
 use Rattle.gs_core.proofs.Steps.{both_ticked}
+use Rattle.gs_core.proofs.Roles.{posted_agent}
 use Rattle.gs_core.proofs.machine.Machine.tick.Goals as goal
 use Rattle.gs_core.proofs.machine.Machine.tick.Goals.{in-Ok-true, in-Ok-false, in-Err}
 
@@ -21,6 +22,7 @@ invariant_of-self c =
     record {
       good = post_kept m c.tick.result (λ b. b) (TimerTick c.args.cpu) k.settings k.poster k.history i.good (both_ticked m c.args.cpu i.good) e.history e.unchanged e.settings e.ring e.stays;
       told = e.told;
+      generation = λ a p. i.generation a (posted_agent c.tick.result (λ b. b) m.history k.history (TimerTick c.args.cpu) e.history e.unchanged a p);
     }
 
 -- what is answered where the kernel answers so

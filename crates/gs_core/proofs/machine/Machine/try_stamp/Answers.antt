@@ -1,61 +1,38 @@
-use Rattle.std.proofs.Common.{◌≡◌, ◌<◌, true, false, nat_le, length, slice_get, Option, None, Some, refl, sym, subst, arith}
+use Rattle.std.proofs.Common.{◌≡◌, false, ◌<◌, ◌∷◌, ◌++◌, [], true, slice_get, slice_set, Some, ap, sym, ◌∙◌}
 use Rattle.std.specs.Option.{is_some}
 use Rattle.std.proofs.lemmas.Grind.{common_steps}
-use Rattle.std.proofs.lemmas.Bool.Decides.{nat_tests}
-use Rattle.gs_layout.specs.declared.refusal.Refusal.{Refusal}
-use Rattle.gs_layout.specs.declared.refusal.Refusal.TheVariants as refusals
-use Rattle.gs_journal.specs.History.{active, torn}
-use Rattle.gs_kernel.specs.Kernel.{IsRefusal}
-use Rattle.gs_core.specs.declared.event.Event.TheVariants as events
-use Rattle.gs_core.specs.Machine.{State, view, is_idle, refusal}
+use Rattle.std.proofs.Common.{arith}
+use Rattle.gs_layout.specs.declared.known.Known.{Known}
+use Rattle.gs_slots.specs.declared.state.SlotState.TheVariants.{Idle, Stamped}
+use Rattle.gs_slots.specs.SlotMut.{state_of}
+use Rattle.gs_journal.specs.History.{active}
+use Rattle.gs_core.specs.Machine.{State, view, stamp_of}
 use Rattle.gs_core.specs.Held.{machine_view}
-use Rattle.gs_core.proofs.Serving.{stamp_kept, stamp_full, slot_idle}
+use Rattle.gs_kernel.proofs.Abouts.{some_there}
+use Rattle.gs_core.proofs.Serving.{stamp_kept, stamped_is}
 use Rattle.gs_core.proofs.machine.Machine.try_stamp.Goals as goal
-
-pub returns-then-number-settings-clause-refused : goal.returns-then-number-settings-clause-refused
-returns-then-number-settings-clause-refused c =
-    let m : State = machine_view c.self.inside in
-    let up : torn m.history ≡ false = grind (arith, common_steps) in
-    let is_active : is_some (active m.history) ≡ true = grind (arith, common_steps) in
-    let below : nat_le m.settings.cpus c.args.cpu ≡ false = grind (arith, common_steps, nat_tests) in
-    let known : is_some (view m c.args.tid) ≡ true = grind (arith, common_steps) in
-    let idle : is_idle (slice_get m.slots c.args.cpu) ≡ true = grind (arith, common_steps, slot_idle) in
-    let full : nat_le m.settings.history (length m.transactions) ≡ true = grind (arith, common_steps, nat_tests) in
-    let e = stamp_full m c.args.cpu c.args.tid up is_active below known idle true full in
-    subst (λ (x : State). IsRefusal (refusal x (events.Stamp c.args.cpu c.args.tid)) refusals.HistoryFull) c.self.view_is
-    (subst (λ (o : Option Refusal). IsRefusal o refusals.HistoryFull) (sym e) refl)
-
-pub returns-then-is_err-clause-refused : goal.returns-then-is_err-clause-refused
-returns-then-is_err-clause-refused c =
-    let m : State = machine_view c.self.inside in
-    let up : torn m.history ≡ false = grind (arith, common_steps) in
-    let is_active : is_some (active m.history) ≡ true = grind (arith, common_steps) in
-    let below : nat_le m.settings.cpus c.args.cpu ≡ false = grind (arith, common_steps, nat_tests) in
-    let known : is_some (view m c.args.tid) ≡ true = grind (arith, common_steps) in
-    let idle : is_idle (slice_get m.slots c.args.cpu) ≡ true = grind (arith, common_steps, slot_idle) in
-    let full : nat_le m.settings.history (length m.transactions) ≡ false = grind (arith, common_steps, nat_tests) in
-    let e = stamp_full m c.args.cpu c.args.tid up is_active below known idle false full in
-    subst (λ (x : State). IsRefusal (refusal x (events.Stamp c.args.cpu c.args.tid)) refusals.OutOfMemory) c.self.view_is
-    (subst (λ (o : Option Refusal). IsRefusal o refusals.OutOfMemory) (sym e) refl)
-
-pub returns-clause-fits : goal.returns-clause-fits
-returns-clause-fits c =
-    let m : State = machine_view c.self.inside in
-    let up : torn m.history ≡ false = grind (arith, common_steps) in
-    let is_active : is_some (active m.history) ≡ true = grind (arith, common_steps) in
-    let below : nat_le m.settings.cpus c.args.cpu ≡ false = grind (arith, common_steps, nat_tests) in
-    let known : is_some (view m c.args.tid) ≡ true = grind (arith, common_steps) in
-    let idle : is_idle (slice_get m.slots c.args.cpu) ≡ true = grind (arith, common_steps, slot_idle) in
-    let full : nat_le m.settings.history (length m.transactions) ≡ false = grind (arith, common_steps, nat_tests) in
-    let e = stamp_full m c.args.cpu c.args.tid up is_active below known idle false full in
-    subst (λ (x : State). refusal x (events.Stamp c.args.cpu c.args.tid) ≡ None) c.self.view_is e
 
 pub invariant_of-self-2 : goal.invariant_of-self-2
 invariant_of-self-2 c =
-    let m = machine_view c.self.inside in
-    let known : view m c.args.tid ≡ Some c.in-Some-get.known = grind (arith, common_steps) in
+    let m : State = machine_view c.self.inside in
+    let i = c.self.invariant in
+    let role = c.self.inside.role in
+    let t = c.args.tid in
+    let k : Known = record { facts = c.in-Some.facts.now; tseq = c.in-Some.tseq } in
+    let known : view m t ≡ Some k = grind (arith, common_steps) in
+    let is_active : is_some (active m.history) ≡ true = grind (arith, common_steps) in
+    let a = some_there (active m.history) is_active in
     let below : c.args.cpu < m.settings.cpus = grind (arith, common_steps) in
+    let idle : slice_get m.slots c.args.cpu ≡ Some Idle = grind (arith, common_steps) in
+    let state : Some (state_of c.slot.result) ≡ Some Idle = sym c.slot.ensures.state ∙ idle in
+    let free : state_of c.slot.result ≡ Idle = cc in
+    let left = stamped_is c.stamp.result (view m t) k role.generation t (state_of c.slot.result) c.stamp.new.slot.0 known free c.stamp.ensures.refused c.stamp.ensures.number c.stamp.ensures.stamped in
+    let stamped : c.stamp.new.slot.0 ≡ Stamped (stamp_of t a.0 k) = left ∙ ap (λ g. Stamped (record { generation = g; tid = t; tseq = k.tseq; preempt = false })) (sym (i.generation a.0 a.1)) in
+    let kept : c.push.new.self.items ≡ m.transactions ++ record { cpu = c.args.cpu; slot = record { generation = role.generation; tid = t; tseq = k.tseq; preempt = false }; facts = k.facts } ∷ [] = grind (arith, common_steps) in
+    let pushed : c.push.new.self.items ≡ m.transactions ++ record { cpu = c.args.cpu; slot = stamp_of t a.0 k; facts = k.facts } ∷ [] =
+    kept ∙ ap (λ g. m.transactions ++ record { cpu = c.args.cpu; slot = record { generation = g; tid = t; tseq = k.tseq; preempt = false }; facts = k.facts } ∷ []) (sym (i.generation a.0 a.1)) in
     record {
-      good = stamp_kept m c.args.cpu c.args.tid (c.in-Some.generation, 0) c.in-Some-get.known _ _ c.self.invariant.good known below refl (grind (arith, common_steps));
-      told = c.self.invariant.told;
+      good = stamp_kept m c.args.cpu t a.0 k _ _ i.good known below (ap (slice_set m.slots c.args.cpu) stamped) pushed;
+      told = i.told;
+      generation = i.generation;
     }

@@ -1,0 +1,36 @@
+-- What a drain took in.
+use Rattle.std.specs.Prelude.{false, ℕ, ◌+◌, ◌≤◌, ◌≡◌, List, length, if◌then◌else◌}
+use Rattle.std.specs.List.{list_any, count_by}
+use Rattle.gs_layout.specs.declared.message.Message.{Message}
+use Rattle.gs_layout.specs.declared.known.Word.{Word}
+use Rattle.gs_layout.specs.View.{Look, words, catch_up, is_gap, is_skipped, is_orphan}
+use Rattle.gs_view.specs.declared.fault.ApplyFault.{ApplyFault}
+use Rattle.gs_view.specs.declared.fault.ApplyFault.TheVariants as faults
+use Rattle.gs_agent.specs.declared.drained.Drained.{Drained}
+use Rattle.gs_agent.specs.declared.drained.Stop.{Stop}
+use Rattle.gs_agent.specs.declared.drained.Stop.TheVariants as stops
+
+-- one message more, which was this to the view
+abbrev pub count_word : Drained → Word → Drained
+count_word d w =
+    record {
+      count = d.count + 1;
+      skipped = d.skipped + (if is_skipped w then 1 else 0);
+      orphans = d.orphans + (if is_orphan w then 1 else 0);
+      stop = d.stop;
+    }
+
+-- why a drain stops where a view did not take a message in
+abbrev pub stop_of : ApplyFault → Stop
+stop_of faults.Gap = stops.Gap
+stop_of faults.OutOfMemory = stops.Memory
+
+-- these messages were all taken in, none of them a gap
+pub record Took (v : Look) (ms : List Message) (d : Drained) (v' : Look) : Type 0 where
+  pub count : d.count ≡ length ms
+  pub none_gap : list_any is_gap (words v ms) ≡ false
+  pub skipped : d.skipped ≡ count_by is_skipped (words v ms)
+  pub orphans : d.orphans ≡ count_by is_orphan (words v ms)
+  pub known : (t : ℕ) → v' t ≡ catch_up v ms t
+  pub few_skipped : d.skipped ≤ d.count
+  pub few_orphans : d.orphans ≤ d.count

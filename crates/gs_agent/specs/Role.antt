@@ -1,0 +1,19 @@
+-- What an agent's role is, and why it stamps no slot.
+use Rattle.std.specs.Prelude.{ℕ, List, Option, None, Some}
+use Rattle.gs_layout.specs.declared.known.Known.{Known}
+use Rattle.gs_layout.specs.declared.refusal.Refusal.{Refusal}
+use Rattle.gs_layout.specs.declared.refusal.Refusal.TheVariants.{NoThread, SlotOpen}
+use Rattle.gs_slots.specs.declared.state.SlotState.{SlotState}
+use Rattle.gs_slots.specs.declared.state.SlotState.TheVariants.{Idle, Stamped, Done}
+
+-- what the agent knows of each thread, by rising tid, and its generation
+pub record RoleState : Type 0 where
+  pub records : List (ℕ × Known)
+  pub generation : ℕ
+
+-- why a transaction is not stamped, by what is known of its thread and what is in the slot: the first refusal that applies
+abbrev pub stamp_refusal : Option Known → SlotState → Option Refusal
+stamp_refusal None s = Some NoThread
+stamp_refusal (Some k) Idle = None
+stamp_refusal (Some k) (Stamped t) = Some SlotOpen
+stamp_refusal (Some k) (Done t outcome at seen) = Some SlotOpen

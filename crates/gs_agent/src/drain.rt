@@ -1,0 +1,71 @@
+//! A drain, over any end that messages are taken from.
+
+ghost use Rattle.std.specs.Prelude.{◌≡◌, ◌^◌, ◌<◌, ◌≤◌, List, [], ◌∷◌, None, Some, IsSome, true};
+ghost use Rattle.gs_layout.specs.declared.message.Message.{Message};
+ghost use Rattle.gs_layout.specs.View.{is_gap, look_up, word};
+ghost use Rattle.gs_view.specs.Begins.{begins};
+ghost use Rattle.gs_view.specs.Taken.{word_of};
+ghost use Rattle.gs_agent.specs.Drains.{Took, count_word, stop_of};
+
+use crate::drained::{Drained, Stop};
+use gs_ring::Taker;
+use gs_view::{AgentView, ApplyFault, Taken};
+
+/// Takes in messages, at most so many, up to a gap or to where memory runs out.
+pub(crate) fn drain_into<T: Taker>(view: &mut AgentView, taker: &mut T, max: u32) -> Drained
+    ensures took { (ms : List Message) × T.passed taker.old ms taker.new × Took (look_up view.old) ms result (look_up view.new) }
+    ensures most { result.count ≤ max }
+    ensures whole { result.stop ≡ None → result.count < max → (m : Message) (ms : List Message) → T.ahead taker.new (m ∷ ms) → ⊥ }
+    ensures early { IsSome result.stop → result.count < max }
+    ensures gap { result.stop ≡ Some Stop.Gap → (m : Message) × T.ahead taker.new (m ∷ []) × (is_gap (word (look_up view.new) m) ≡ true) }
+    ensures memory { result.stop ≡ Some Stop.Memory → (m : Message) × T.ahead taker.new (m ∷ []) × (begins (look_up view.new) m ≡ true) }
+{
+    let max = max as usize;
+    let mut drained = Drained {
+        count: 0,
+        skipped: 0,
+        orphans: 0,
+        stop: None,
+    };
+    'taking: while drained.count < max {
+        let Some(peeked) = taker.peek() else {
+            break;
+        };
+        match view.apply(peeked.message()) {
+            Ok(taken) => {
+                taker.advance();
+                drained = counted(drained, taken);
+            }
+            Err(fault) => {
+                drained.stop = Some(stop_of(fault));
+                break;
+            }
+        }
+    }
+    drained
+}
+
+/// One message more, which was this to the view.
+fn counted(drained: Drained, taken: Taken) -> Drained
+    requires count { drained.count < 2 ^ 63 }
+    requires skipped { drained.skipped < 2 ^ 63 }
+    requires orphans { drained.orphans < 2 ^ 63 }
+    ensures { result ≡ count_word drained (word_of taken) }
+{
+    Drained {
+        count: drained.count + 1,
+        skipped: drained.skipped + usize::from(matches!(taken, Taken::Skipped)),
+        orphans: drained.orphans + usize::from(matches!(taken, Taken::Orphan)),
+        stop: drained.stop,
+    }
+}
+
+/// Why a drain stops at a message that the view did not take in.
+fn stop_of(fault: ApplyFault) -> Stop
+    ensures { result ≡ stop_of fault }
+{
+    match fault {
+        ApplyFault::Gap => Stop::Gap,
+        ApplyFault::OutOfMemory => Stop::Memory,
+    }
+}

@@ -1,0 +1,13 @@
+//! The agent's role: it takes messages in, stamps what it knows of threads into slots, and collects
+//! the slots of transactions that landed.
+#![tactic(auto)]
+
+mod collect;
+mod drain;
+mod drained;
+mod role;
+#[cfg(test)]
+mod tests;
+
+pub use drained::{Drained, Stop};
+pub use role::Role;

@@ -1,0 +1,64 @@
+-- What the landing of slots answers and leaves.
+use Rattle.std.specs.Prelude.{Bool, true, false, not, ℕ, suc, Option, None, Some, List, [], ◌∷◌, ◌++◌, is_some}
+use Rattle.gs_layout.specs.declared.refusal.Refusal.{Refusal}
+use Rattle.gs_layout.specs.declared.refusal.Refusal.TheVariants as refusals
+use Rattle.gs_slots.specs.declared.state.SlotState.{SlotState}
+use Rattle.gs_slots.specs.declared.state.SlotState.TheVariants.{Idle, Stamped, Done}
+use Rattle.gs_status.specs.Masks.{has, has_past}
+use Rattle.gs_journal.specs.History.{History, seq, at, active, torn}
+use Rattle.gs_kernel.specs.declared.settings.Settings.{Settings}
+use Rattle.gs_kernel.specs.declared.landing.Landing.{Landing}
+use Rattle.gs_kernel.specs.First.{first_that}
+use Rattle.gs_kernel.specs.Landing.{verdict, landing, after_landing}
+
+-- what the landing of the slot of CPU k answers: nothing where nothing is stamped in it
+abbrev pub landing_in : Settings → History → ℕ → SlotState → Option Landing
+landing_in s h k (Stamped b) = Some (landing s h k b)
+landing_in s h k Idle = None
+landing_in s h k (Done b o a n) = None
+
+-- the history then
+abbrev pub history_after : Settings → History → ℕ → SlotState → History
+history_after s h k (Stamped b) = after_landing s h k b
+history_after s h k Idle = h
+history_after s h k (Done b o a n) = h
+
+-- and the slot: a stamped one is done, with what became of its transaction
+abbrev pub slot_after : Settings → History → ℕ → SlotState → SlotState
+slot_after s h k (Stamped b) = Done b (verdict s h k b) (at s.cpus (after_landing s h k b) b.tid) (seq s.first_tseq h b.tid)
+slot_after s h k Idle = Idle
+slot_after s h k (Done b o a n) = Done b o a n
+
+abbrev pub listed : Option Landing → List Landing
+listed None = []
+listed (Some l) = l ∷ []
+
+-- what landings answer, in order, and what they leave: the history, and their slots
+pub record Landings : Type 0 where
+  pub answers : List Landing
+  pub history : History
+  pub slots : List SlotState
+
+-- the slot of CPU k lands, where it is wanted
+abbrev pub one_lands : Settings → Bool → ℕ → SlotState → History → Landings
+one_lands s false k slot h = record { answers = []; history = h; slots = slot ∷ [] }
+one_lands s true k slot h = record { answers = listed (landing_in s h k slot); history = history_after s h k slot; slots = slot_after s h k slot ∷ [] }
+
+-- landings, and then others on the history that they left
+abbrev pub then_others : Landings → Landings → Landings
+then_others a b = record { answers = a.answers ++ b.answers; history = b.history; slots = a.slots ++ b.slots }
+
+-- the stamped slots of the mask land, by rising CPU from k on, each on the history that the one before left
+abbrev pub lands : Settings → ℕ → ℕ → List SlotState → History → Landings
+lands s mask k [] h = record { answers = []; history = h; slots = [] }
+lands s mask k (slot ∷ slots) h = then_others (one_lands s (has mask k) k slot h) (lands s mask (suc k) slots (one_lands s (has mask k) k slot h).history)
+
+-- the refusals of a commit, in order
+unfoldable pub commit_refusal : Settings → History → ℕ → Option Refusal
+commit_refusal s h mask =
+    first_that (
+    (torn h, Some refusals.Gone)
+    ∷ (not (is_some (active h)), Some refusals.NotActive)
+    ∷ (has_past mask s.cpus, Some refusals.EmptyMask)
+    ∷ []
+    ) None

@@ -1,0 +1,24 @@
+ghost use Rattle.std.specs.Prelude.{◌≡◌};
+ghost use Rattle.gs_view.specs.declared.fault.ApplyFault.TheVariants.{OutOfMemory};
+
+use std::alloc::AllocFailed;
+use thiserror::Error;
+
+/// Why a view did not take a message in. The view is then as it was.
+#[derive(Clone, Copy, PartialEq, Eq, Debug, Error)]
+pub enum ApplyFault {
+    /// The message's number is more than one above the one that is known of its thread.
+    #[error("messages about the thread are missing before this one")]
+    Gap,
+    /// The message creates a thread of which nothing is known.
+    #[error("no memory for the record of a new thread")]
+    OutOfMemory,
+}
+
+impl<T: Drop> From<AllocFailed<T>> for ApplyFault {
+    ghost from_gives = { λ _ fault. fault ≡ OutOfMemory };
+
+    fn from(_failed: AllocFailed<T>) -> ApplyFault {
+        ApplyFault::OutOfMemory
+    }
+}

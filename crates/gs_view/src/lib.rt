@@ -1,0 +1,14 @@
+//! The agent's view: what it knows of each thread, folded from messages where they stand.
+#![tactic(auto)]
+
+mod fault;
+mod taken;
+#[cfg(test)]
+mod tests;
+mod view;
+mod walk;
+
+pub use fault::ApplyFault;
+pub use taken::Taken;
+pub use view::AgentView;
+pub use walk::Walk;

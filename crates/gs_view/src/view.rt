@@ -1,0 +1,164 @@
+ghost use Rattle.std.specs.Prelude.{◌≡◌, ◌≢◌, ◌↔◌, ◌==◌, ℕ, true, false, [], length, All, IfOk, OnOk, OnErr, option_map};
+ghost use Rattle.std.specs.List.Sorted.{IsStrictlyIncreasing};
+ghost use Rattle.gs_layout.specs.Message.{is_death};
+ghost use Rattle.gs_layout.specs.Spelling.{kind_of, tid_of};
+ghost use Rattle.gs_layout.specs.View.{apply, is_gap, learnt, look_up, word};
+ghost use Rattle.gs_view.specs.Begins.{begins};
+ghost use Rattle.gs_view.specs.Shown.{known_shown, tids};
+ghost use Rattle.gs_view.specs.Taken.{word_of};
+
+use crate::fault::ApplyFault;
+use crate::taken::Taken;
+use crate::walk::Walk;
+use gs_layout::{Change, Facts, Kind, Known, Message};
+use gs_reader::MessageRef;
+use std::alloc::Global;
+use std::collections::BTreeMap;
+use std::marker::Model;
+
+/// What the agent knows of each thread: its facts, at a sequence number. Clauses see the records by
+/// rising tid.
+///
+/// A look-up, and the taking in of a message, take a number of steps that grows as the logarithm of
+/// the number of records.
+#[derive(Drop)]
+pub struct AgentView {
+    records: BTreeMap<u32, Known>,
+}
+
+impl Model for AgentView {
+    ghost use Rattle.std.specs.Prelude.{List, ℕ};
+    ghost use Rattle.gs_layout.specs.declared.known.Known.{Known};
+
+    ghost Value = { List (ℕ × Known) };
+
+    ghost view = { λ v. v.records.entries };
+}
+
+impl AgentView {
+    /// A view that knows nothing. It takes no memory.
+    pub fn new(alloc: Global) -> AgentView
+        ensures { result ≡ [] }
+    {
+        AgentView {
+            records: BTreeMap::new(alloc),
+        }
+    }
+
+    /// Of how many threads something is known.
+    pub fn len(&self) -> usize
+        ensures { result ≡ length self.now }
+    {
+        self.records.len()
+    }
+
+    /// Whether nothing is known of any thread.
+    pub fn is_empty(&self) -> bool
+        ensures { result ≡ (length self.now == 0) }
+    {
+        self.records.is_empty()
+    }
+
+    /// What is known of a thread: its facts, and the sequence number at which they were so. `None`
+    /// where nothing is known. It takes no memory.
+    pub fn get(&self, tid: u32) -> Option<(&Facts, u32)>
+        ensures { option_map known_shown result ≡ look_up self.now tid }
+    {
+        let known = self.records.get(&tid)?;
+        Some((&known.facts, known.tseq))
+    }
+
+    /// All that is known, by rising tid: of each thread its tid, its facts and its sequence number.
+    /// It takes no memory.
+    pub fn walk(&self) -> Walk<'_>
+        ensures whole { result ≡ self.now }
+        ensures rising { IsStrictlyIncreasing (tids self.now) }
+        ensures found { All (λ entry. look_up self.now entry.0 ≡ Some entry.1) self.now }
+    {
+        Walk::over(self.records.iter())
+    }
+
+    /// Takes in a message, and answers what it was to the view. Only news changes the view, at the
+    /// message's own thread, and only the creation of a thread takes memory.
+    ///
+    /// # Errors
+    ///
+    /// `Gap` where the message's number is more than one above the one that is known of its thread:
+    /// messages between are missing. `OutOfMemory` where the message is the creation of a thread of
+    /// which nothing is known, and there is no memory for its record. Then nothing changes, and the
+    /// message can be taken in later.
+    #[tactic(auto, using(std::proofs::lemmas::Map::Steps::set_value_same))]
+    pub fn apply(&mut self, message: MessageRef<'_>) -> Result<Taken, ApplyFault>
+        ensures word { IfOk result (λ taken. word (look_up self.old) message.entry ≡ word_of taken) }
+        ensures known { OnOk result ((t : ℕ) → look_up self.new t ≡ apply (look_up self.old) message.entry t) }
+        ensures unchanged { OnErr result (self.new ≡ self.old) }
+        ensures gap { (result ≡ Err ApplyFault.Gap) ↔ (is_gap (word (look_up self.old) message.entry) ≡ true) }
+        ensures memory { result ≡ Err ApplyFault.OutOfMemory → begins (look_up self.old) message.entry ≡ true }
+    {
+        let kind = message.kind();
+        if kind == Kind::TimerTick {
+            return Ok(Taken::Applied);
+        }
+        let tid = message.tid();
+        let tseq = message.tseq();
+        let Some(known) = self.records.get_mut(&tid) else {
+            return self.begin(&message);
+        };
+        if tseq <= known.tseq {
+            return Ok(Taken::Skipped);
+        }
+        if tseq - known.tseq > 1 {
+            return Err(ApplyFault::Gap);
+        }
+        if kind == Kind::Dead {
+            self.records.remove(&tid);
+        } else {
+            renew(known, &message.message());
+        }
+        Ok(Taken::Applied)
+    }
+
+    /// Takes in a message about a thread of which nothing is known.
+    fn begin(&mut self, message: &MessageRef<'_>) -> Result<Taken, ApplyFault>
+        requires thread { kind_of message.now ≢ Kind.TimerTick }
+        requires unknown { look_up self.old (tid_of message.now) ≡ None }
+        ensures word { IfOk result (λ taken. word (look_up self.old) message.now ≡ word_of taken) }
+        ensures known { OnOk result ((t : ℕ) → look_up self.new t ≡ apply (look_up self.old) message.now t) }
+        ensures unchanged { OnErr result (self.new ≡ self.old) }
+        ensures memory { OnErr result (begins (look_up self.old) message.now ≡ true) }
+        ensures no_gap { result ≢ Err ApplyFault.Gap }
+    {
+        if message.kind() != Kind::Created {
+            return Ok(Taken::Orphan);
+        }
+        let Message::Thread {
+            tid,
+            tseq,
+            change: Change::Created { facts },
+        } = message.message()
+        else {
+            unreachable!()
+        };
+        self.records.insert(tid, Known { facts, tseq })?;
+        Ok(Taken::Applied)
+    }
+}
+
+/// Makes of a live thread's record what a message says that comes next and is no death. A timer
+/// tick leaves it.
+fn renew(known: &mut Known, message: &Message)
+    requires { is_death message.now ≡ false }
+    ensures { Some known.new ≡ learnt (Some known.old) message.now }
+{
+    let Message::Thread { tseq, change, .. } = message else {
+        return;
+    };
+    match change {
+        Change::Created { facts } => known.facts = *facts,
+        Change::Blocked { .. } => known.facts.runnable = false,
+        Change::Wakeup => known.facts.runnable = true,
+        Change::Affinity { mask, .. } => known.facts.mask = *mask,
+        Change::Preempted { .. } | Change::Yield { .. } | Change::Dead { .. } => {}
+    }
+    known.tseq = *tseq;
+}
