@@ -21,10 +21,10 @@ use Rattle.gs_core.specs.declared.reply.Reply.TheVariants as replies
 use Rattle.gs_core.specs.Machine.{State, Agent, records_of, view, unread, is_idle, refusal, Serves, Step, Does, IsShort, Takes, Drains, creates, happens, takes, gives, ticks, stamps, stamps_with, commits}
 use Rattle.gs_core.specs.Safe.{IsFaithful, Run}
 use Rattle.gs_core.proofs.Faces.{drop_drop}
-use Rattle.gs_trace.specs.declared.fault.ScriptFault.{ScriptFault}
+use Rattle.gs_script.specs.declared.fault.ScriptFault.{ScriptFault}
 use Rattle.gs_trace.specs.declared.run.Ended.{Ended}
-use Rattle.gs_trace.specs.Script.{Script, script_of}
-use Rattle.gs_trace.specs.Lines.{lines}
+use Rattle.gs_script.specs.Script.{Script, script_of}
+use Rattle.gs_lines.specs.Lines.{lines}
 use Rattle.gs_trace.proofs.Lists.{one_list}
 use Rattle.gs_trace.specs.Output.{wants_memory, is_memory, IsOutput, IsOutputOf}
 

@@ -22,7 +22,7 @@ use Rattle.gs_core.specs.Safe.{Run}
 use Rattle.gs_core.proofs.Steps.{safe_of, faithful_of}
 use Rattle.gs_core.proofs.Whole.{start_good, step_good}
 use Rattle.gs_trace.specs.declared.run.Ended.TheVariants.{Ran}
-use Rattle.gs_trace.specs.Lines.{line}
+use Rattle.gs_lines.specs.Lines.{line}
 use Rattle.gs_trace.specs.Output.{IsOutput}
 
 two : Config

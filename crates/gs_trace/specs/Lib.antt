@@ -1,9 +1,2 @@
-pub mod Words
-pub mod Grammar
-pub mod Rows
-pub mod Header
-pub mod Script
-pub mod Held
-pub mod Lines
 pub mod Output
 pub mod Arguments

@@ -8,13 +8,13 @@ use Rattle.gs_core.specs.declared.reply.Reply.{Reply}
 use Rattle.gs_core.specs.declared.reply.Reply.TheVariants.{Refused, Drained}
 use Rattle.gs_core.specs.Machine.{State, start}
 use Rattle.gs_core.specs.Safe.{Run}
-use Rattle.gs_trace.specs.declared.fault.ScriptFault.{ScriptFault}
-use Rattle.gs_trace.specs.declared.fault.Reason.{Reason}
-use Rattle.gs_trace.specs.declared.fault.Reason.TheVariants as reasons
+use Rattle.gs_script.specs.declared.fault.ScriptFault.{ScriptFault}
+use Rattle.gs_script.specs.declared.fault.Reason.{Reason}
+use Rattle.gs_script.specs.declared.fault.Reason.TheVariants as reasons
 use Rattle.gs_trace.specs.declared.run.Ended.{Ended}
 use Rattle.gs_trace.specs.declared.run.Ended.TheVariants.{Ran, Faulted}
-use Rattle.gs_trace.specs.Script.{Script, script_of}
-use Rattle.gs_trace.specs.Lines.{lines, line}
+use Rattle.gs_script.specs.Script.{Script, script_of}
+use Rattle.gs_lines.specs.Lines.{lines, line}
 
 abbrev pub reason_text : Reason → List ℕ
 reason_text reasons.TooLong = codes "TooLong"

@@ -1,7 +1,7 @@
 ghost use Rattle.std.specs.Prelude.{◌≡◌, ℕ, ◌≤◌, length, take, IfOk, OnOk, OnErr};
 ghost use Rattle.std.specs.Io.KnownBytes.{Consumes, Appends, IsAtEnd};
 
-use crate::script::MOST_BYTES;
+use gs_script::MOST_BYTES;
 use std::alloc::Global;
 use std::io::{Read, Write};
 

@@ -4,13 +4,12 @@ ghost use Rattle.std.specs.Io.KnownBytes.{Keeps, Appends, Consumes, IsAtEnd};
 ghost use Rattle.gs_trace.specs.Output.{IsOutput, fault_line, reason_text, wants_memory};
 ghost use Rattle.gs_trace.specs.declared.run.Ended.{Ended};
 
-use crate::fault::{Reason, ScriptFault};
 use crate::pipe::{InputError, read_all, write_out};
-use crate::reply_line::text_of;
-use crate::script::{ScriptError, read_script};
 use gs_agent::Stop;
 use gs_core::{ConfigFault, Machine, Reply};
 use gs_layout::Refusal;
+use gs_lines::text_of;
+use gs_script::{Reason, ScriptError, ScriptFault, read_script};
 use std::alloc::{AllocError, Global};
 use std::io::{Read, Write};
 use thiserror::Error;

@@ -1,10 +1,5 @@
-use crate::reply_line::text_of;
-use crate::{
-    Command, Ended, Reason, ScriptError, ScriptFault, TraceFault, read_script, run_script, settings,
-};
+use crate::{Command, Ended, TraceFault, run_script, settings};
 use clap::error::ErrorKind;
-use gs_core::{Items, Reply};
-use gs_layout::{Change, Message};
 use std::alloc::Global;
 use std::io;
 use std::io::{Read, Write};
@@ -131,52 +126,6 @@ const ROWS: [(&str, &str); 22] = [
     ("cpus 2 ring 128\nUnread\n", "fault line 2 BadWord\n"),
 ];
 
-/// Changes that no script makes, of which thread and with which number, and what is written where a
-/// message about them waits.
-const CHANGES: [(u32, u32, Change, &str); 7] = [
-    (
-        7,
-        3,
-        Change::Blocked { cpu: 2 },
-        "unread blocked 7 seq 3 cpu 2\n",
-    ),
-    (7, 4, Change::Wakeup, "unread wakeup 7 seq 4 cpu -\n"),
-    (
-        65_536,
-        u32::MAX,
-        Change::Preempted { cpu: 0 },
-        "unread preempted 65536 seq 4294967295 cpu 0\n",
-    ),
-    (
-        1,
-        2,
-        Change::Yield { cpu: 63 },
-        "unread yield 1 seq 2 cpu 63\n",
-    ),
-    (
-        1,
-        3,
-        Change::Dead { cpu: None },
-        "unread dead 1 seq 3 cpu -\n",
-    ),
-    (
-        2,
-        9,
-        Change::Dead { cpu: Some(1) },
-        "unread dead 2 seq 9 cpu 1\n",
-    ),
-    (
-        3,
-        5,
-        Change::Affinity {
-            cpu: Some(4),
-            off: true,
-            mask: 1,
-        },
-        "unread affinity 3 seq 5 cpu 4\n",
-    ),
-];
-
 fn is_fault(output: &str) -> bool {
     output.starts_with("fault")
 }
@@ -206,21 +155,6 @@ fn answers_scripts(rt: HostRuntime) -> Result<(), Fail> {
         };
         assert_eq!(rt; ended, Ok(wanted), "of {script}");
     }
-    Ok(())
-}
-
-#[test]
-fn shows_each_kind(rt: HostRuntime) -> Result<(), Fail> {
-    let mut messages = Vec::new(rt.alloc());
-    let mut lines = String::new(rt.alloc());
-    for (tid, tseq, change, line) in CHANGES {
-        messages.push(Message::Thread { tid, tseq, change })?;
-        lines.push_str(line)?;
-    }
-    let mut replies = Vec::new(rt.alloc());
-    replies.push(Reply::Unread(Items::new(messages)))?;
-    let written = text_of(rt.alloc(), &replies)?;
-    assert_eq!(rt; written.as_str(), lines.as_str());
     Ok(())
 }
 
@@ -290,25 +224,6 @@ fn writes_a_beginning_where_a_write_fails(rt: HostRuntime) -> Result<(), Fail> {
             );
         }
     }
-    Ok(())
-}
-
-#[test]
-fn reads_a_script(rt: HostRuntime) -> Result<(), Fail> {
-    let script = read_script(rt.alloc(), FIRST_PATH.as_bytes())?;
-    assert_eq!(rt; script.events.len(), 4);
-    assert_eq!(rt; (script.config.cpus, script.config.ring), (2, 128));
-    assert_eq!(rt;
-        (script.config.first_tseq, script.config.first_generation),
-        (0, 1)
-    );
-    assert_eq!(rt; script.config.history, 16_777_216);
-    let fault = ScriptFault {
-        line: 3,
-        reason: Reason::BadNumber,
-    };
-    let error = read_script(rt.alloc(), b"#\ncpus 2 ring 128\ndrain 4294967296\n").err();
-    assert_eq!(rt; error, Some(ScriptError::Fault(fault)));
     Ok(())
 }
 

@@ -1,0 +1,125 @@
+-- The lines of some replies.
+use Rattle.std.proofs.Common.{◌≡◌, [], ◌∷◌, ◌++◌, codes, refl, true, false, Some, None}
+use Rattle.std.specs.Fmt.{digits}
+use Rattle.gs_layout.specs.declared.refusal.Refusal.TheVariants as refusals
+use Rattle.gs_layout.specs.declared.outcome.Outcome.TheVariants as outcomes
+use Rattle.gs_agent.specs.declared.drained.Stop.TheVariants.{Gap}
+use Rattle.gs_core.specs.declared.reply.Reply.TheVariants.{Refused, Torn, Created, Posted, Taken, Given, Ticked, Drained, Stamped, Landed, View, State, Unread}
+use Rattle.gs_layout.specs.declared.facts.Class.TheVariants.{Zero, One}
+use Rattle.gs_layout.specs.declared.message.Change.TheVariants as changes
+use Rattle.gs_layout.specs.declared.message.Message.TheVariants.{Thread, TimerTick}
+use Rattle.gs_lines.specs.Lines.{lines, line}
+
+refused : lines (Refused refusals.SlotOpen ∷ []) ≡ line (codes "refused 16 SlotOpen")
+refused = refl
+
+created : lines (Created 1 4294967295 ∷ Stamped 12 ∷ []) ≡ line (codes "created 1 seq 4294967295") ++ line (codes "stamped 12")
+unfolding digits
+created = refl
+
+drained : lines (Drained (record { count = 0; skipped = 0; orphans = 0; stop = None }) ∷ []) ≡ line (codes "drained 0")
+unfolding digits
+drained = refl
+
+drained_in_part : lines (Drained (record { count = 6; skipped = 1; orphans = 2; stop = Some Gap }) ∷ []) ≡ line (codes "drained 6 skipped 1 orphans 2 stopped gap")
+unfolding digits
+drained_in_part = refl
+
+landed_nowhere : lines (Landed [] ∷ []) ≡ []
+landed_nowhere = refl
+
+landed : lines (Landed (record { cpu = 1; tid = 1; outcome = outcomes.Placed; seen = 1; at = Some 1 } ∷ record { cpu = 2; tid = 65536; outcome = outcomes.CpuIsAgent; seen = 0; at = None } ∷ []) ∷ []) ≡ line (codes "cpu 1 placed 1 seq 1") ++ line (codes "cpu 2 cpuisagent 65536 seq 0")
+unfolding digits
+landed = refl
+
+torn : lines (Torn ∷ []) ≡ line (codes "torn")
+torn = refl
+
+ticked : lines (Ticked 0 ∷ Ticked 63 ∷ Torn ∷ []) ≡ line (codes "tick 0") ++ line (codes "tick 63") ++ line (codes "torn")
+unfolding digits
+ticked = refl
+
+nothing_waits : lines (Unread [] ∷ []) ≡ []
+nothing_waits = refl
+
+-- one line for each message, in order, of every kind
+waits : lines (
+    Unread (
+    Thread 1 1 (changes.Created (record { runnable = true; mask = 3; class = Zero; name = codes "web" }))
+    ∷ Thread 7 3 (changes.Blocked 2)
+    ∷ Thread 7 4 changes.Wakeup
+    ∷ TimerTick 0
+    ∷ Thread 9 5 (changes.Preempted 0)
+    ∷ Thread 9 6 (changes.Yield 63)
+    ∷ []
+    )
+    ∷ []
+    ) ≡ line (codes "unread created 1 seq 1 cpu -")
+    ++ line (codes "unread blocked 7 seq 3 cpu 2")
+    ++ line (codes "unread wakeup 7 seq 4 cpu -")
+    ++ line (codes "unread tick 0 seq 0 cpu 0")
+    ++ line (codes "unread preempted 9 seq 5 cpu 0")
+    ++ line (codes "unread yield 9 seq 6 cpu 63")
+unfolding digits
+waits = refl
+
+-- a death and a new mask, of a thread that was on a CPU and of one that was on none
+waits_anywhere : lines (
+    Unread (
+    Thread 65536 4294967295 (changes.Dead (Some 1))
+    ∷ Thread 2 2 (changes.Dead None)
+    ∷ Thread 1 2 (changes.Affinity (Some 1) true 1)
+    ∷ Thread 1 3 (changes.Affinity None false 2)
+    ∷ TimerTick 63
+    ∷ []
+    )
+    ∷ []
+    ) ≡ line (codes "unread dead 65536 seq 4294967295 cpu 1")
+    ++ line (codes "unread dead 2 seq 2 cpu -")
+    ++ line (codes "unread affinity 1 seq 2 cpu 1")
+    ++ line (codes "unread affinity 1 seq 3 cpu -")
+    ++ line (codes "unread tick 0 seq 0 cpu 63")
+unfolding digits
+waits_anywhere = refl
+
+-- what happened to a thread
+happened : lines (
+    Posted (Thread 1 2 (changes.Blocked 1))
+    ∷ Posted (Thread 1 3 changes.Wakeup)
+    ∷ Posted (Thread 1 4 (changes.Yield 1))
+    ∷ Posted (Thread 1 5 (changes.Affinity (Some 1) true 1))
+    ∷ Posted (Thread 1 6 (changes.Affinity (Some 1) false 3))
+    ∷ Posted (Thread 1 7 (changes.Affinity None false 3))
+    ∷ Posted (Thread 1 8 (changes.Dead None))
+    ∷ Taken 1
+    ∷ Given 63
+    ∷ []
+    ) ≡ line (codes "blocked 1 seq 2")
+    ++ line (codes "woken 1 seq 3")
+    ++ line (codes "yielded 1 seq 4")
+    ++ line (codes "affinity 1 seq 5 off 1")
+    ++ line (codes "affinity 1 seq 6")
+    ++ line (codes "affinity 1 seq 7")
+    ++ line (codes "dead 1 seq 8")
+    ++ line (codes "taken 1")
+    ++ line (codes "given 63")
+unfolding digits
+happened = refl
+
+-- one line for each thread that lives
+live : lines (
+    State (
+    record { tid = 1; known = record { facts = record { runnable = true; mask = 1; class = Zero; name = codes "web" }; tseq = 2 }; cpu = None }
+    ∷ record { tid = 65536; known = record { facts = record { runnable = false; mask = 18446744073709551615; class = One; name = [] }; tseq = 4294967295 }; cpu = Some 63 }
+    ∷ []
+    )
+    ∷ []
+    ) ≡ line (codes "state 1 seq 2 r mask 1 class 0 name web cpu -")
+    ++ line (codes "state 65536 seq 4294967295 b mask 18446744073709551615 class 1 name - cpu 63")
+unfolding digits
+live = refl
+
+known : lines (View ((1, record { facts = record { runnable = true; mask = 3; class = Zero; name = codes "web" }; tseq = 1 }) ∷ (2, record { facts = record { runnable = false; mask = 1; class = One; name = [] }; tseq = 9 }) ∷ []) ∷ [])
+    ≡ line (codes "view 1 seq 1 r mask 3 class 0 name web") ++ line (codes "view 2 seq 9 b mask 1 class 1 name -")
+unfolding digits
+known = refl

@@ -1,0 +1,10 @@
+//! The machine's replies as lines of text.
+#![tactic(auto)]
+
+mod message_line;
+mod reply_line;
+#[cfg(test)]
+mod tests;
+mod thread_line;
+
+pub use reply_line::text_of;

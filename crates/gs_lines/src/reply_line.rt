@@ -1,0 +1,158 @@
+ghost use Rattle.std.specs.Prelude.{◌≡◌, ◌++◌, IfOk, OnOk, string_bytes};
+ghost use Rattle.gs_lines.specs.Lines.{refusal_text, outcome_text, drained_text, unless_zero, stop_text, line, landing_text, landing_lines, reply_lines, lines};
+
+use crate::message_line::{write_messages, write_posted};
+use crate::thread_line::{write_threads, write_view};
+use gs_agent::{Drained, Stop};
+use gs_core::Reply;
+use gs_kernel::Landing;
+use gs_layout::{Outcome, Refusal};
+use std::alloc::{AllocError, Global};
+use std::fmt::Write;
+
+/// The number and the name of a refusal.
+fn refusal_name(refusal: Refusal) -> &'static str
+    ensures { result.now ≡ refusal_text refusal }
+{
+    match refusal {
+        Refusal::NoThread => "1 NoThread",
+        Refusal::NotRunning => "2 NotRunning",
+        Refusal::NotBlocked => "3 NotBlocked",
+        Refusal::EmptyMask => "4 EmptyMask",
+        Refusal::BadCpu => "5 BadCpu",
+        Refusal::AgentThere => "6 AgentThere",
+        Refusal::CpuTaken => "7 CpuTaken",
+        Refusal::NotTaken => "8 NotTaken",
+        Refusal::NotActive => "9 NotActive",
+        Refusal::StillAttached => "10 StillAttached",
+        Refusal::NotAttaching => "11 NotAttaching",
+        Refusal::SeqSpent => "12 SeqSpent",
+        Refusal::GenSpent => "13 GenSpent",
+        Refusal::TidsSpent => "14 TidsSpent",
+        Refusal::HistoryFull => "15 HistoryFull",
+        Refusal::SlotOpen => "16 SlotOpen",
+        Refusal::NoSuchTransaction => "17 NoSuchTransaction",
+        Refusal::Gone => "18 Gone",
+        Refusal::OutOfMemory => "19 OutOfMemory",
+    }
+}
+
+/// The name of an outcome.
+fn outcome_name(outcome: Outcome) -> &'static str
+    ensures { result.now ≡ outcome_text outcome }
+{
+    match outcome {
+        Outcome::Placed => "placed",
+        Outcome::Gone => "gone",
+        Outcome::Displaced => "displaced",
+        Outcome::NoThread => "nothread",
+        Outcome::Stale => "stale",
+        Outcome::NotRunnable => "notrunnable",
+        Outcome::AlreadyPlaced => "alreadyplaced",
+        Outcome::NotAllowed => "notallowed",
+        Outcome::CpuIsAgent => "cpuisagent",
+        Outcome::CpuTaken => "cputaken",
+        Outcome::CpuBusy => "cpubusy",
+        Outcome::SeqSpent => "seqspent",
+        Outcome::HistoryFull => "historyfull",
+        Outcome::Malformed => "malformed",
+    }
+}
+
+/// Adds the line of a landing.
+fn write_landing(out: &mut String, landing: &Landing) -> Result<(), AllocError>
+    ensures { OnOk result (string_bytes out.new ≡ string_bytes out.old ++ line (landing_text landing.now)) }
+{
+    let Landing {
+        cpu,
+        tid,
+        outcome,
+        seen,
+        at: _,
+    } = *landing;
+    let outcome = outcome_name(outcome);
+    write!(out, "cpu {cpu} {outcome} {tid} seq {seen}\n")
+}
+
+/// Adds the lines of landings.
+fn write_landings(out: &mut String, landings: &[Landing]) -> Result<(), AllocError>
+    ensures { OnOk result (string_bytes out.new ≡ string_bytes out.old ++ landing_lines landings.now) }
+{
+    for landing in landings {
+        write_landing(out, landing)?;
+    }
+    Ok(())
+}
+
+/// Adds a word and a number, where the number isn't 0.
+fn write_part(out: &mut String, word: &str, number: usize) -> Result<(), AllocError>
+    ensures { OnOk result (string_bytes out.new ≡ string_bytes out.old ++ unless_zero word.now number) }
+{
+    if number == 0 {
+        return Ok(());
+    }
+    write!(out, "{word}{number}")
+}
+
+/// Why a drain stopped, where its line says so.
+fn stop_name(stop: Option<Stop>) -> &'static str
+    ensures { result.now ≡ stop_text stop }
+{
+    match stop {
+        Some(Stop::Gap) => " stopped gap",
+        Some(Stop::Memory) | None => "",
+    }
+}
+
+/// Adds the line of a drain.
+fn write_drained(out: &mut String, drained: &Drained) -> Result<(), AllocError>
+    ensures { OnOk result (string_bytes out.new ≡ string_bytes out.old ++ line (drained_text drained.now)) }
+{
+    let Drained {
+        count,
+        skipped,
+        orphans,
+        stop,
+    } = *drained;
+    write!(out, "drained {count}")?;
+    write_part(out, " skipped ", skipped)?;
+    write_part(out, " orphans ", orphans)?;
+    out.push_str(stop_name(stop))?;
+    out.push('\n')
+}
+
+/// Adds the lines of a reply.
+fn write_reply(out: &mut String, reply: &Reply) -> Result<(), AllocError>
+    ensures { OnOk result (string_bytes out.new ≡ string_bytes out.old ++ reply_lines reply.now) }
+{
+    match reply {
+        Reply::Refused(refusal) => {
+            let name = refusal_name(*refusal);
+            write!(out, "refused {name}\n")
+        }
+        Reply::Torn => out.push_str("torn\n"),
+        Reply::Created { tid, tseq } => write!(out, "created {tid} seq {tseq}\n"),
+        Reply::Posted(message) => write_posted(out, message),
+        Reply::Taken { cpu } => write!(out, "taken {cpu}\n"),
+        Reply::Given { cpu } => write!(out, "given {cpu}\n"),
+        Reply::Ticked { cpu } => write!(out, "tick {cpu}\n"),
+        Reply::Drained(drained) => write_drained(out, drained),
+        Reply::Stamped { number } => write!(out, "stamped {number}\n"),
+        Reply::Landed(landings) => write_landings(out, landings.as_slice()),
+        Reply::View(known) => write_view(out, known.as_slice()),
+        Reply::State(threads) => write_threads(out, threads.as_slice()),
+        Reply::Unread(messages) => write_messages(out, messages.as_slice()),
+    }
+}
+
+/// The lines of replies, in order, each ended by a newline. A commit has a line for each landing, a look
+/// one for each thread or message that it shows, and any other reply one. It fails only for want of memory.
+pub fn text_of(alloc: Global, replies: &[Reply]) -> Result<String, AllocError>
+    ensures { IfOk result (λ text. string_bytes text ≡ lines replies.now) }
+{
+    let mut out = String::new(alloc);
+    for reply in replies {
+        write_reply(&mut out, reply)?;
+    }
+    Ok(out)
+}

@@ -1,0 +1,12 @@
+pub mod Numbers
+pub mod Places
+pub mod Texts
+pub mod Parts
+pub mod Firsts
+pub mod Taken
+pub mod Sizes
+pub mod Lines
+pub mod HeaderLines
+pub mod Fits
+pub mod Worked
+pub mod Corners

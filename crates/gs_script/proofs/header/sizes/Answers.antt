@@ -1,0 +1,27 @@
+use Rattle.std.proofs.Common.{rules, ◌≡◌, true, codes}
+use Rattle.gs_script.specs.Rows.{is, shown}
+use Rattle.gs_script.proofs.Sizes.{bad_capacity, bad_parts, sized}
+use Rattle.gs_script.proofs.Taken.{not_not}
+use Rattle.gs_script.proofs.Fits.{configured_fits}
+use Rattle.gs_script.proofs.header.sizes.Goals as goal
+
+pub returns-in_err-ring-clause-exact : goal.returns-in_err-ring-clause-exact
+returns-in_err-ring-clause-exact c =
+    let ring : is c.args.ring.now (codes "ring") ≡ true = not_not _ c.if-ne.ensures in
+    let fault = bad_capacity c.args.cpus.now c.args.ring.now c.args.word.now (shown c.args.rest.now) c.in_ok-cpus.field-0 c.in_err-ring.field-0.0 c.in_ok-cpus.ensures.exact ring c.in_err-ring.ensures.exact in
+    search (rules, fault)
+
+pub returns-in_err-tseq-clause-exact : goal.returns-in_err-tseq-clause-exact
+returns-in_err-tseq-clause-exact c =
+    let ring : is c.args.ring.now (codes "ring") ≡ true = not_not _ c.if-ne.ensures in
+    let fault = bad_parts c.args.cpus.now c.args.ring.now c.args.word.now (shown c.args.rest.now) c.in_ok-cpus.field-0 c.in_ok-ring.ring c.in_err-tseq.field-0.0 c.in_ok-cpus.ensures.exact ring c.in_ok-ring.ensures.exact c.in_err-tseq.ensures.exact in
+    search (rules, fault)
+
+pub returns-clause-exact : goal.returns-clause-exact
+returns-clause-exact c =
+    let ring : is c.args.ring.now (codes "ring") ≡ true = not_not _ c.if-ne.ensures in
+    sized c.args.cpus.now c.args.ring.now c.args.word.now (shown c.args.rest.now) c.in_ok-cpus.field-0 c.in_ok-ring.ring c.in_ok-tseq.field-0 c.in_ok-cpus.ensures.exact ring c.in_ok-ring.ensures.exact c.in_ok-tseq.ensures.exact
+
+pub returns-clause-fits : goal.returns-clause-fits
+returns-clause-fits c =
+    configured_fits c.in_ok-cpus.field-0 c.in_ok-ring.ring c.in_ok-tseq.field-0 c.in_ok-cpus.ensures.low c.in_ok-cpus.ensures.high c.in_ok-ring.ensures.low c.in_ok-ring.ensures.high c.in_ok-ring.ensures.whole c.in_ok-tseq.ensures.fits

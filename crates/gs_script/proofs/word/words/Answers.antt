@@ -1,0 +1,13 @@
+use Rattle.std.proofs.Common.{lit<, rules, tests}
+use Rattle.std.proofs.lemmas.Iterator.Consumers.{map_from_collect, YieldsList-from_filter, YieldsList-at}
+use Rattle.std.proofs.lemmas.Iterator.Splits.{YieldsList-from_str_split}
+use Rattle.gs_script.specs.Words.{is_word}
+use Rattle.gs_script.proofs.word.words.Goals as goal
+
+pub returns : goal.returns
+returns c =
+    map_from_collect _ c.collect.ensures.ran
+    (YieldsList-from_filter {s = c.filter.result} _ is_word
+    (YieldsList-at c.filter.ensures.source (YieldsList-from_str_split 32 c.args.line.now (lit< tt) c.split.ensures.text c.split.ensures.has_more c.split.ensures.pattern))
+    c.filter.ensures.closure
+    (λ x r q k. search (rules, tests)))

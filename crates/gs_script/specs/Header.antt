@@ -1,0 +1,84 @@
+-- The line that says what an enclave is opened with.
+use Rattle.std.specs.Prelude.{ℕ, ◌≤◌, nat_lt, List, [], ◌∷◌, map, length, drop, if◌then◌else◌, codes, Option, Some, None, Result, Ok, Err}
+use Rattle.gs_core.specs.declared.config.Config.{Config}
+use Rattle.gs_script.specs.declared.fault.Reason.{Reason}
+use Rattle.gs_script.specs.declared.fault.Reason.TheVariants.{NoHeader, BadCount, BadNumber}
+use Rattle.gs_script.specs.declared.header.Firsts.{Firsts}
+use Rattle.gs_script.specs.Words.{number}
+use Rattle.gs_script.specs.Grammar.{takes, Number, Multiple, Form, with_part, first_fault, or_fault, literal}
+use Rattle.gs_script.specs.Rows.{at, is, number_between}
+
+-- a word and the number behind it
+abbrev pub numbered : List ℕ → ℕ → ℕ → Form
+numbered word low high = literal word ∷ Number low high ∷ []
+
+-- the parts that may stand behind the sizes, each once or not at all, in this order
+abbrev pub histories : List Form
+histories = with_part (numbered (codes "history") 2 16777216) ([] ∷ [])
+
+abbrev pub generations : List Form
+generations = with_part (numbered (codes "first-gen") 1 4294967295) histories
+
+abbrev pub parts : List Form
+parts = with_part (numbered (codes "first-tseq") 0 4294967294) generations
+
+-- the words behind `cpus`
+abbrev pub header_forms : List Form
+header_forms = map (λ form. Number 2 64 ∷ literal (codes "ring") ∷ Multiple 8 128 1048576 ∷ form) parts
+
+-- the number behind a word, or the default: the words come in pairs
+abbrev pub behind : ℕ → List ℕ → List (List ℕ) → ℕ
+behind default word [] = default
+behind default word (w ∷ []) = default
+behind default word (w ∷ v ∷ ws) = if is w word then number v else behind default word ws
+
+abbrev pub firsts_of : List (List ℕ) → Firsts
+firsts_of ws =
+    record { tseq = behind 0 (codes "first-tseq") ws; generation = behind 1 (codes "first-gen") ws; history = behind 16777216 (codes "history") ws }
+
+abbrev pub config_of : List (List ℕ) → Config
+config_of ws =
+    record {
+      cpus = number (at 0 ws);
+      ring = number (at 2 ws);
+      first_tseq = (firsts_of (drop 3 ws)).tseq;
+      first_generation = (firsts_of (drop 3 ws)).generation;
+      history = (firsts_of (drop 3 ws)).history;
+    }
+
+-- what the words behind `cpus` say: only a count under that of the shortest form is a fault before the words are
+abbrev pub config_in : List (List ℕ) → Result Config Reason
+config_in ws = if nat_lt (length ws) 3 then Err BadCount else or_fault (first_fault header_forms ws) (config_of ws)
+
+-- what a header of these words says
+abbrev pub header_of : List (List ℕ) → Result Config Reason
+header_of [] = Err NoHeader
+header_of (first ∷ words) = if is first (codes "cpus") then config_in words else Err NoHeader
+
+-- the numbers of the optional parts are those that an enclave may be opened with
+pub record IsInRange (f : Firsts) : Type 0 where
+  pub tseq : f.tseq ≤ 4294967294
+  pub some_generation : 1 ≤ f.generation
+  pub some_history : 2 ≤ f.history
+  pub most_history : f.history ≤ 16777216
+
+-- what the optional parts say
+abbrev pub firsts_in : List (List ℕ) → Result Firsts Reason
+firsts_in ws = or_fault (first_fault parts ws) (firsts_of ws)
+
+-- what a word says that is to be a ring's capacity
+abbrev pub capacity_in : List ℕ → Result ℕ Reason
+capacity_in word = if takes (Multiple 8 128 1048576) word then Ok (number word) else Err BadNumber
+
+-- what one optional part says, and the words behind it
+abbrev pub with_rest : List (List ℕ) → Result ℕ Reason → Result (Option ℕ × List (List ℕ)) Reason
+with_rest ws (Ok n) = Ok (Some n, ws)
+with_rest ws (Err reason) = Err reason
+
+abbrev pub number_first : ℕ → ℕ → List (List ℕ) → Result (Option ℕ × List (List ℕ)) Reason
+number_first low high [] = Err BadCount
+number_first low high (v ∷ ws) = with_rest ws (number_between low high v)
+
+abbrev pub part_in : List ℕ → ℕ → ℕ → List (List ℕ) → Result (Option ℕ × List (List ℕ)) Reason
+part_in word low high [] = Ok (None, [])
+part_in word low high (w ∷ ws) = if is w word then number_first low high ws else Ok (None, w ∷ ws)

@@ -1,0 +1,6 @@
+pub mod Words
+pub mod Grammar
+pub mod Rows
+pub mod Header
+pub mod Script
+pub mod Held

@@ -1,0 +1,136 @@
+-- The lines that say an event: one row of a table for each kind of event.
+use Rattle.std.specs.Prelude.{ℕ, List, [], ◌∷◌, map, Bool, bytes_eq, if◌then◌else◌, ◌==◌, codes, get_or, Result, Ok, Err}
+use denote.Ref.{Bor}
+use Rattle.gs_layout.specs.declared.facts.Class.{Class}
+use Rattle.gs_layout.specs.declared.facts.Class.TheVariants.{Zero, One}
+use Rattle.gs_layout.specs.declared.name.Name.{Name as TheName}
+use Rattle.gs_kernel.specs.declared.thread_event.ThreadEvent.{ThreadEvent}
+use Rattle.gs_kernel.specs.declared.thread_event.ThreadEvent.TheVariants as happens
+use Rattle.gs_core.specs.declared.event.Event.{Event}
+use Rattle.gs_core.specs.declared.event.Event.TheVariants as events
+use Rattle.gs_script.specs.declared.fault.Reason.{Reason}
+use Rattle.gs_script.specs.declared.fault.Reason.TheVariants.{BadWord, BadNumber, BadName}
+use Rattle.gs_script.specs.Words.{number}
+use Rattle.gs_script.specs.Grammar.{takes, OneOf, Number, Name, Kind, Form, line_fault, or_fault}
+
+abbrev pub u16s : Kind
+u16s = Number 0 65535
+
+abbrev pub u32s : Kind
+u32s = Number 0 4294967295
+
+abbrev pub u64s : Kind
+u64s = Number 0 18446744073709551615
+
+-- the word at a place
+abbrev pub at : ℕ → List (List ℕ) → List ℕ
+at k words = get_or words k []
+
+abbrev pub is : List ℕ → List ℕ → Bool
+is word text = bytes_eq word text
+
+-- the name that a word spells: `-` alone is the empty one
+abbrev pub name_of : List ℕ → TheName
+name_of word = if is word (codes "-") then [] else word
+
+abbrev pub class_of : ℕ → Class
+class_of n = if n == 0 then Zero else One
+
+-- what an event line says: its first word, the forms of the words after it, and the event of those
+pub record Row : Type 0 where
+  pub word : List ℕ
+  pub forms : List Form
+  pub event : List (List ℕ) → Event
+
+abbrev pub create : Row
+create =
+    record {
+      word = codes "create";
+      forms = (u64s ∷ Number 0 1 ∷ OneOf (codes "r" ∷ codes "b" ∷ []) ∷ Name ∷ []) ∷ [];
+      event = λ ws. events.Create (record { runnable = is (at 2 ws) (codes "r"); mask = number (at 0 ws); class = class_of (number (at 1 ws)); name = name_of (at 3 ws) });
+    }
+
+-- a line that says what happens to a thread
+abbrev pub to_thread : List ℕ → ThreadEvent → Row
+to_thread word e = record { word = word; forms = (u32s ∷ []) ∷ []; event = λ ws. events.Thread (number (at 0 ws)) e }
+
+abbrev pub block : Row
+block = to_thread (codes "block") happens.Block
+
+abbrev pub wake : Row
+wake = to_thread (codes "wake") happens.Wake
+
+abbrev pub yield : Row
+yield = to_thread (codes "yield") happens.Yield
+
+abbrev pub die : Row
+die = to_thread (codes "die") happens.Die
+
+abbrev pub affinity : Row
+affinity = record { word = codes "affinity"; forms = (u32s ∷ u64s ∷ []) ∷ []; event = λ ws. events.Thread (number (at 0 ws)) (happens.Affinity (number (at 1 ws))) }
+
+abbrev pub take : Row
+take = record { word = codes "take"; forms = (u16s ∷ []) ∷ []; event = λ ws. events.Take (number (at 0 ws)) }
+
+abbrev pub give : Row
+give = record { word = codes "give"; forms = (u16s ∷ []) ∷ []; event = λ ws. events.Give (number (at 0 ws)) }
+
+abbrev pub tick : Row
+tick = record { word = codes "tick"; forms = (u16s ∷ []) ∷ []; event = λ ws. events.Tick (number (at 0 ws)) }
+
+abbrev pub drain : Row
+drain = record { word = codes "drain"; forms = (u32s ∷ []) ∷ []; event = λ ws. events.Drain (number (at 0 ws)) }
+
+abbrev pub stamp : Row
+stamp =
+    record { word = codes "stamp"; forms = (u16s ∷ u32s ∷ []) ∷ []; event = λ ws. events.Stamp (number (at 0 ws)) (number (at 1 ws)) }
+
+abbrev pub commit : Row
+commit = record { word = codes "commit"; forms = (u64s ∷ []) ∷ []; event = λ ws. events.Commit (number (at 0 ws)) }
+
+-- a form without words: nothing stands behind the first word
+abbrev pub view : Row
+view = record { word = codes "view"; forms = [] ∷ []; event = λ ws. events.View }
+
+abbrev pub state : Row
+state = record { word = codes "state"; forms = [] ∷ []; event = λ ws. events.State }
+
+abbrev pub unread : Row
+unread = record { word = codes "unread"; forms = [] ∷ []; event = λ ws. events.Unread }
+
+abbrev pub rows : List Row
+rows = create ∷ block ∷ wake ∷ yield ∷ die ∷ affinity ∷ take ∷ give ∷ tick ∷ drain ∷ stamp ∷ commit ∷ view ∷ state ∷ unread ∷ []
+
+-- what a row reads in the words after its first
+abbrev pub reads : Row → List (List ℕ) → Result Event Reason
+reads row words = or_fault (line_fault row.forms words) (row.event words)
+
+-- what the first of these rows whose word it is reads
+abbrev pub event_by : List Row → List ℕ → List (List ℕ) → Result Event Reason
+event_by [] first words = Err BadWord
+event_by (row ∷ rows) first words = if is first row.word then reads row words else event_by rows first words
+
+-- what an event line of these words says
+abbrev pub event_of : List (List ℕ) → Result Event Reason
+event_of [] = Err BadWord
+event_of (first ∷ words) = event_by rows first words
+
+-- the bytes of words
+abbrev pub shown : List (Bor (List ℕ)) → List (List ℕ)
+shown words = map (λ word. word.now) words
+
+-- what a word says that is to be a number
+abbrev pub number_between : ℕ → ℕ → List ℕ → Result ℕ Reason
+number_between low high word = if takes (Number low high) word then Ok (number word) else Err BadNumber
+
+-- what a word says that is to be a name
+abbrev pub name_in : List ℕ → Result TheName Reason
+name_in word = if takes Name word then Ok (name_of word) else Err BadName
+
+-- what a word says that is to be a class
+abbrev pub class_in : List ℕ → Result Class Reason
+class_in word = if takes (Number 0 1) word then Ok (class_of (number word)) else Err BadNumber
+
+-- what a word says that is to be `r` or `b`
+abbrev pub runnable_in : List ℕ → Result Bool Reason
+runnable_in word = if takes (OneOf (codes "r" ∷ codes "b" ∷ [])) word then Ok (is word (codes "r")) else Err BadWord

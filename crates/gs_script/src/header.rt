@@ -1,0 +1,119 @@
+ghost use Rattle.std.specs.Prelude.{◌≡◌, ◌∷◌, ◌≤◌, ◌%◌, IfOk, IfErr, IfSome};
+ghost use Rattle.gs_core.specs.Config.{config_fault};
+ghost use Rattle.gs_script.specs.Rows.{shown};
+ghost use Rattle.gs_script.specs.Header.{header_of, config_in, capacity_in, part_in, firsts_in, IsInRange};
+
+use crate::fault::Reason;
+use crate::word::number;
+use gs_core::Config;
+
+/// What a header may say behind the sizes.
+#[derive(Clone, Copy)]
+struct Firsts {
+    tseq: u32,
+    generation: u32,
+    history: u32,
+}
+
+/// The capacity of a ring.
+fn capacity(word: &str) -> Result<u32, Reason>
+    ensures exact { result ≡ capacity_in word.now }
+    ensures low { IfOk result (λ n. 128 ≤ n) }
+    ensures high { IfOk result (λ n. n ≤ 1048576) }
+    ensures whole { IfOk result (λ n. n % 8 ≡ 0) }
+{
+    let capacity = number(word, 128, 1_048_576)? as u32;
+    if capacity % 8 != 0 {
+        return Err(Reason::BadNumber);
+    }
+    Ok(capacity)
+}
+
+/// The number behind the word `name`, where the words begin with that, and the words that are left.
+fn part<'a, 'w>(
+    words: &'a [&'w str],
+    name: &str,
+    least: u32,
+    most: u32,
+) -> Result<(Option<u32>, &'a [&'w str]), Reason>
+    ensures ok { IfOk result (λ p. part_in name.now least most (shown words.now) ≡ Ok (p.0, shown p.1.now)) }
+    ensures err { IfErr result (λ e. part_in name.now least most (shown words.now) ≡ Err e) }
+    ensures within { IfOk result (λ p. IfSome p.0 (λ n. (least ≤ n) × (n ≤ most))) }
+{
+    let Some((first, rest)) = words.split_first() else {
+        return Ok((None, words));
+    };
+    if *first != name {
+        return Ok((None, words));
+    }
+    let Some((value, rest)) = rest.split_first() else {
+        return Err(Reason::BadCount);
+    };
+    let value = number(value, least as u64, most as u64)? as u32;
+    Ok((Some(value), rest))
+}
+
+/// What the words behind the sizes say: each part once or not at all, in this order.
+#[tactic(auto, using(crate::proofs::Firsts::tseq_failed, crate::proofs::Firsts::generation_failed, crate::proofs::Firsts::history_failed))]
+fn optional(words: &[&str]) -> Result<Firsts, Reason>
+    ensures exact { result ≡ firsts_in (shown words.now) }
+    ensures fits { IfOk result IsInRange }
+{
+    let (tseq, rest) = part(words, "first-tseq", 0, 4_294_967_294)?;
+    let (generation, rest) = part(rest, "first-gen", 1, 4_294_967_295)?;
+    let (history, rest) = part(rest, "history", 2, 16_777_216)?;
+    if !rest.is_empty() {
+        return Err(match history {
+            None => Reason::BadWord,
+            Some(_) => Reason::BadCount,
+        });
+    }
+    Ok(Firsts {
+        tseq: tseq.unwrap_or(0),
+        generation: generation.unwrap_or(1),
+        history: history.unwrap_or(16_777_216),
+    })
+}
+
+/// What the words behind `cpus` say.
+#[tactic(auto)]
+fn sizes(cpus: &str, ring: &str, word: &str, rest: &[&str]) -> Result<Config, Reason>
+    ensures exact { result ≡ config_in (cpus.now ∷ ring.now ∷ word.now ∷ shown rest.now) }
+    ensures fits { IfOk result (λ config. config_fault config ≡ None) }
+{
+    let cpus = number(cpus, 2, 64)? as u16;
+    if ring != "ring" {
+        return Err(Reason::BadWord);
+    }
+    let ring = capacity(word)?;
+    let Firsts {
+        tseq,
+        generation,
+        history,
+    } = optional(rest)?;
+    Ok(Config {
+        cpus,
+        ring,
+        first_tseq: tseq,
+        first_generation: generation,
+        history,
+    })
+}
+
+/// What a header of these words says.
+#[tactic(auto, using(crate::proofs::Places::three_first))]
+pub(crate) fn header(words: &[&str]) -> Result<Config, Reason>
+    ensures exact { result ≡ header_of (shown words.now) }
+    ensures fits { IfOk result (λ config. config_fault config ≡ None) }
+{
+    let Some((first, words)) = words.split_first() else {
+        return Err(Reason::NoHeader);
+    };
+    if *first != "cpus" {
+        return Err(Reason::NoHeader);
+    }
+    match words {
+        [cpus, ring, capacity, rest @ ..] => sizes(cpus, ring, capacity, rest),
+        _ => Err(Reason::BadCount),
+    }
+}

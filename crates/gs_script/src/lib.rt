@@ -1,0 +1,13 @@
+//! Scripts: what an enclave is opened with, and its events, as text.
+#![tactic(auto)]
+
+mod event_line;
+mod fault;
+mod header;
+mod script;
+#[cfg(test)]
+mod tests;
+mod word;
+
+pub use fault::{Reason, ScriptFault};
+pub use script::{MOST_BYTES, Script, ScriptError, read_script};

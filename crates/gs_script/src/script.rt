@@ -1,0 +1,174 @@
+ghost use Rattle.std.specs.Prelude.{◌≡◌, ◌+◌, ◌<◌, ◌^◌, IfOk, IfSome, length, None};
+ghost use Rattle.gs_core.specs.Config.{config_fault};
+ghost use Rattle.gs_script.specs.Words.{lines_of};
+ghost use Rattle.gs_script.specs.Rows.{event_of, shown};
+ghost use Rattle.gs_script.specs.Header.{header_of};
+ghost use Rattle.gs_script.specs.Script.{says, is_passed_over, events_of, script_from, script_of};
+ghost use Rattle.gs_script.specs.Held.{Gives, Tells, placed, seen};
+
+use crate::event_line::event;
+use crate::fault::{Reason, ScriptFault};
+use crate::header::header;
+use crate::word::{text, words};
+use gs_core::{Config, Event};
+use std::alloc::{AllocError, Global};
+use thiserror::Error;
+
+/// The most bytes that a script may have: a longer one has the fault `TooLong`.
+pub const MOST_BYTES: usize = 1_048_576;
+
+/// What an enclave is opened with, and what happens in it.
+#[derive(Drop)]
+pub struct Script {
+    pub config: Config,
+    pub events: Vec<Event>,
+}
+
+/// Why a script wasn't read.
+#[derive(Clone, Copy, PartialEq, Eq, Debug, Error)]
+pub enum ScriptError {
+    #[error("{0}")]
+    Fault(ScriptFault),
+    #[error("out of memory")]
+    OutOfMemory,
+}
+
+/// Why a line wasn't read.
+#[derive(Clone, Copy, PartialEq, Eq, Debug)]
+enum LineError {
+    Fault(Reason),
+    OutOfMemory,
+}
+
+/// A line's error as the script's.
+fn at(line: usize, error: LineError) -> ScriptError
+    ensures { result ≡ placed line error }
+{
+    match error {
+        LineError::Fault(reason) => ScriptError::Fault(ScriptFault { line, reason }),
+        LineError::OutOfMemory => ScriptError::OutOfMemory,
+    }
+}
+
+/// Whether a line of these words says nothing.
+fn is_comment(words: &[&str]) -> bool
+    ensures { result ≡ is_passed_over (shown words.now) }
+{
+    match words.first() {
+        None => true,
+        Some(first) => first.as_bytes().first() == Some(&b'#'),
+    }
+}
+
+/// What an event line says, or `None` where it says nothing.
+fn event_line(alloc: Global, line: &[u8]) -> Result<Option<Event>, LineError>
+    ensures { Gives result (says event_of line.now) }
+{
+    let Some(text) = text(line) else {
+        return Err(LineError::Fault(Reason::BadByte));
+    };
+    let Ok(words) = words(alloc, text) else {
+        return Err(LineError::OutOfMemory);
+    };
+    if is_comment(&words) {
+        return Ok(None);
+    }
+    match event(&words) {
+        Ok(event) => Ok(Some(event)),
+        Err(reason) => Err(LineError::Fault(reason)),
+    }
+}
+
+/// What a line in the header's place says, or `None` where it says nothing.
+fn header_line(alloc: Global, line: &[u8]) -> Result<Option<Config>, LineError>
+    ensures exact { Gives result (says header_of line.now) }
+    ensures fits { IfOk result (λ o. IfSome o (λ config. config_fault config ≡ None)) }
+{
+    let Some(text) = text(line) else {
+        return Err(LineError::Fault(Reason::BadByte));
+    };
+    let Ok(words) = words(alloc, text) else {
+        return Err(LineError::OutOfMemory);
+    };
+    if is_comment(&words) {
+        return Ok(None);
+    }
+    match header(&words) {
+        Ok(config) => Ok(Some(config)),
+        Err(reason) => Err(LineError::Fault(reason)),
+    }
+}
+
+/// The events of lines, of which the first has this number.
+#[tactic(auto, using(crate::proofs::Lines::passes, crate::proofs::Lines::adds, crate::proofs::Lines::stopped, crate::proofs::Lines::ends))]
+fn events(alloc: Global, first: usize, lines: &[&[u8]]) -> Result<Vec<Event>, ScriptError>
+    requires { first + length lines.now < 2 ^ 63 }
+    ensures { Tells (λ v. v.items) result (events_of first (shown lines.now)) }
+{
+    let mut events = Vec::new(alloc);
+    for (i, line) in lines.iter().enumerate() {
+        match event_line(alloc, line) {
+            Ok(None) => {}
+            Ok(Some(event)) => {
+                if events.push(event).is_err() {
+                    return Err(ScriptError::OutOfMemory);
+                }
+            }
+            Err(error) => return Err(at(first + i, error)),
+        }
+    }
+    Ok(events)
+}
+
+/// The lines of a script.
+fn lines(alloc: Global, bytes: &[u8]) -> Result<Vec<&[u8]>, AllocError>
+    ensures { IfOk result (λ v. shown v.items ≡ lines_of bytes.now) }
+{
+    bytes.split(|byte| *byte == b'\n').collect(alloc)
+}
+
+/// The script of these lines.
+#[tactic(auto, using(crate::proofs::HeaderLines::passes, crate::proofs::HeaderLines::found, crate::proofs::HeaderLines::stopped, crate::proofs::HeaderLines::ends))]
+fn from_lines(alloc: Global, lines: &[&[u8]]) -> Result<Script, ScriptError>
+    requires { length lines.now < 2 ^ 62 }
+    ensures exact { Tells seen result (script_from 1 (shown lines.now)) }
+    ensures fits { IfOk result (λ script. config_fault script.config ≡ None) }
+{
+    for (i, line) in lines.iter().enumerate() {
+        match header_line(alloc, line) {
+            Ok(None) => {}
+            Ok(Some(config)) => {
+                return match events(alloc, i + 2, &lines[i + 1..]) {
+                    Ok(events) => Ok(Script { config, events }),
+                    Err(error) => Err(error),
+                };
+            }
+            Err(error) => return Err(at(i + 1, error)),
+        }
+    }
+    let fault = ScriptFault {
+        line: 0,
+        reason: Reason::NoHeader,
+    };
+    Err(ScriptError::Fault(fault))
+}
+
+/// The script that these bytes say, or its first fault, or want of memory. A config that is read is
+/// one that an enclave can be opened with.
+#[tactic(auto, using(crate::proofs::HeaderLines::few_lines))]
+pub fn read_script(alloc: Global, bytes: &[u8]) -> Result<Script, ScriptError>
+    ensures exact { Tells seen result (script_of bytes.now) }
+    ensures fits { IfOk result (λ script. config_fault script.config ≡ None) }
+{
+    if bytes.len() > MOST_BYTES {
+        let fault = ScriptFault {
+            line: 0,
+            reason: Reason::TooLong,
+        };
+        return Err(ScriptError::Fault(fault));
+    }
+    let Ok(lines) = lines(alloc, bytes) else {
+        return Err(ScriptError::OutOfMemory);
+    };
+    from_lines(alloc, &lines)
+}

@@ -1,0 +1,77 @@
+ghost use Rattle.std.specs.Prelude.{◌≡◌, ◌≤◌, IfOk, MatchOption, true, false, map};
+ghost use Rattle.gs_script.specs.Words.{is_text, words_of};
+ghost use Rattle.gs_script.specs.Rows.{number_between, name_in};
+ghost use Rattle.gs_script.specs.Held.{begins_plainly};
+
+use crate::fault::Reason;
+use gs_layout::Name;
+use std::alloc::{AllocError, Global};
+
+/// Whether each byte may stand in a line.
+fn is_printed(line: &[u8]) -> bool
+    ensures { result ≡ is_text line.now }
+{
+    line.iter().all(|byte| 32 <= *byte && *byte <= 126)
+}
+
+/// A line as text, where each of its bytes may stand in one.
+#[tactic(auto, using(crate::proofs::Texts::text_is_utf8))]
+pub(crate) fn text(line: &[u8]) -> Option<&str>
+    ensures { MatchOption result (is_text line.now ≡ false) (λ t. (t.now ≡ line.now) × (is_text line.now ≡ true)) }
+{
+    if !is_printed(line) {
+        return None;
+    }
+    match str::from_utf8(line) {
+        Ok(text) => Some(text),
+        Err(_) => None,
+    }
+}
+
+/// The words of a line.
+pub(crate) fn words(alloc: Global, line: &str) -> Result<Vec<&str>, AllocError>
+    ensures { IfOk result (λ v. map (λ w. w.now) v.items ≡ words_of line.now) }
+{
+    line.split(' ')
+        .filter(|word| !word.is_empty())
+        .collect(alloc)
+}
+
+/// Whether a word begins with neither a sign nor a needless zero.
+fn is_plain(word: &str) -> bool
+    ensures { result ≡ begins_plainly word.now }
+{
+    match word.as_bytes() {
+        [b'+', ..] | [b'0', _, ..] => false,
+        _ => true,
+    }
+}
+
+/// A decimal number from `least` to `most`.
+pub(crate) fn number(word: &str, least: u64, most: u64) -> Result<u64, Reason>
+    ensures exact { result ≡ number_between least most word.now }
+    ensures low { IfOk result (λ n. least ≤ n) }
+    ensures high { IfOk result (λ n. n ≤ most) }
+{
+    if !is_plain(word) {
+        return Err(Reason::BadNumber);
+    }
+    let Ok(n) = word.parse::<u64>() else {
+        return Err(Reason::BadNumber);
+    };
+    if n < least || most < n {
+        return Err(Reason::BadNumber);
+    }
+    Ok(n)
+}
+
+/// A thread's name, of which `-` is the empty one.
+pub(crate) fn name(word: &str) -> Result<Name, Reason>
+    ensures { result ≡ name_in word.now }
+{
+    let text = if word == "-" { "" } else { word };
+    match Name::new(text.as_bytes()) {
+        Some(name) => Ok(name),
+        None => Err(Reason::BadName),
+    }
+}

@@ -1,6 +1,0 @@
-use Rattle.std.proofs.Common.{◌≡◌, take, string_bytes}
-use Rattle.gs_trace.specs.Lines.{lines}
-use Rattle.gs_trace.proofs.reply_line.text_of.Given as goal
-
-abbrev pub invariant-loop-reply : goal.invariant-loop-reply
-invariant-loop-reply l = string_bytes l.out ≡ lines (take l.reply-index l.replies)

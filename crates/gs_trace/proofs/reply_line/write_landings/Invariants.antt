@@ -1,6 +1,0 @@
-use Rattle.std.proofs.Common.{◌≡◌, ◌++◌, take, string_bytes}
-use Rattle.gs_trace.specs.Lines.{landing_lines}
-use Rattle.gs_trace.proofs.reply_line.write_landings.Given as goal
-
-abbrev pub invariant-loop-landing : goal.invariant-loop-landing
-invariant-loop-landing l = string_bytes l.out ≡ string_bytes l.fn.out ++ landing_lines (take l.landing-index l.landings)

@@ -1,8 +1,0 @@
-use Rattle.std.proofs.Common.{◌≡◌, ◌+◌, drop}
-use Rattle.gs_trace.specs.Rows.{shown}
-use Rattle.gs_trace.specs.Script.{events_of}
-use Rattle.gs_trace.proofs.Lines.{with_front}
-use Rattle.gs_trace.proofs.script.events.Given as goal
-
-abbrev pub invariant-loop-i : goal.invariant-loop-i
-invariant-loop-i l = with_front l.events.items (events_of (l.first + l.i) (drop l.i (shown l.lines))) ≡ events_of l.first (shown l.lines)
