@@ -8,6 +8,8 @@ mod fixed_places;
 #[cfg(test)]
 mod hostile;
 #[cfg(test)]
+mod landings;
+#[cfg(test)]
 mod scripts;
 #[cfg(test)]
 mod two_rings;

@@ -222,7 +222,7 @@ fn faults(rt: HostRuntime) -> Result<(), Fail> {
         ("cpus 2 ring 132", "fault line 1 BadNumber/"),
         ("cpus 2 ring 128/blok 1", "fault line 2 BadWord/"),
         (
-            "# a comment//cpus 2 ring 128/stamp 1 1 p",
+            "# a comment//cpus 2 ring 128/stamp 1 1 p p",
             "fault line 4 BadCount/",
         ),
         ("cpus 2 ring 128/drain 01", "fault line 2 BadNumber/"),

@@ -5,7 +5,7 @@ ghost use Rattle.std.specs.Prelude.{◌≡◌};
 ghost use Rattle.ghost_cli.specs.Status.{ended_status, fault_status};
 
 use clap::error::ErrorKind;
-use gs_trace::{Command, Ended, TraceFault, run_script, settings};
+use gs_trace::{Command, Ended, TraceFault, run_report, run_script, settings};
 use std::io;
 use std::process::ExitCode;
 use thiserror::Error;
@@ -51,8 +51,13 @@ fn ghost_command(rt: &HostRuntime) -> Result<Ended, Failure> {
             return Err(Failure::Script(TraceFault::OutOfMemory));
         }
     }
-    let Command::Run = settings(rt.alloc(), words.as_slice()).map_err(unsettled)?;
-    run_script(rt.alloc(), &mut rt.stdin(), &mut rt.stdout()).map_err(Failure::Script)
+    let ended = match settings(rt.alloc(), words.as_slice()).map_err(unsettled)? {
+        Command::Run => run_script(rt.alloc(), &mut rt.stdin(), &mut rt.stdout()),
+        Command::Report { last } => {
+            run_report(rt.alloc(), &mut rt.stdin(), &mut rt.stdout(), last)
+        }
+    };
+    ended.map_err(Failure::Script)
 }
 
 /// Why there are no arguments.

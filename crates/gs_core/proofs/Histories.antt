@@ -1,10 +1,9 @@
 -- Each entry that an event appends keeps the history good.
-use Rattle.std.proofs.Common.{◌≡◌, refl, ap, sym, ◌∙◌, subst, ℕ, zero, suc, ◌<◌, ◌≤◌, ◌⊎◌, inl, inr, ◌==◌, Bool, true, false, Option, None, Some, List, [], ◌∷◌, ◌++◌, length, arith, cond, length-append}
-use Rattle.std.specs.Option.{is_some}
+use Rattle.std.proofs.Common.{◌≡◌, refl, ap, sym, ◌∙◌, subst, ℕ, ◌<◌, ◌⊎◌, inl, inr, ◌==◌, Bool, true, false, Option, None, Some, List, [], ◌∷◌, ◌++◌, length, arith, cond, length-append}
 use Rattle.std.specs.List.{filter}
 use Rattle.std.proofs.lemmas.List.{append-nil, take_all}
 use Rattle.std.proofs.lemmas.Bool.Decides.{nat_tests}
-use Rattle.std.proofs.lemmas.Bool.{cases_lt, false≢true}
+use Rattle.std.proofs.lemmas.Bool.{false≢true}
 use Rattle.gs_layout.specs.declared.facts.Facts.{Facts}
 use Rattle.gs_layout.specs.declared.message.Message.{Message}
 use Rattle.gs_layout.specs.declared.message.Message.TheVariants.{TimerTick}
@@ -15,7 +14,7 @@ use Rattle.gs_journal.specs.declared.entry.Entry.{Entry}
 use Rattle.gs_journal.specs.declared.entry.Entry.TheVariants.{Posted, Placed}
 use Rattle.gs_journal.specs.Standing.{then_stands}
 use Rattle.gs_status.specs.Masks.{has}
-use Rattle.gs_journal.specs.History.{History, messages, created, seq, record_in, on, ends_run, at, at_below, is_thread, active, AtEachPrefix}
+use Rattle.gs_journal.specs.History.{History, messages, created, seq, record_in, on, ends_run, at, at_below, active, AtEachPrefix}
 use Rattle.gs_journal.specs.State.{Numbered, IsNumbered}
 use Rattle.gs_journal.proofs.Laws.{messages-push, on-push, AtEach-push, AtEachPrefix-push}
 use Rattle.gs_journal.proofs.Past.{Was-mono, Was-now}
@@ -24,23 +23,12 @@ use Rattle.gs_kernel.specs.Landing.{is_generation}
 use Rattle.gs_kernel.specs.Threads.{is_runnable, may_run_on}
 use Rattle.gs_kernel.specs.Kernel.{creation, new_tid}
 use Rattle.gs_core.proofs.Creations.{after_creation, others, numbered_created, fresh_created}
-use Rattle.gs_kernel.proofs.Placings.{IsPlacing}
+use Rattle.gs_kernel.proofs.Placings.{IsPlacing, on_none, stood}
 use Rattle.gs_journal.proofs.Laws.{created-push}
 use Rattle.gs_core.specs.declared.transaction.Transaction.{Transaction}
 use Rattle.gs_core.specs.Safe.{IsIn, IsBacked, IsTimely, OnOne}
 use Rattle.gs_core.specs.Good.{GoodHistory}
-
--- who stands after a message stood before it
-stood : (m : Message) (o : Option ℕ) (t : ℕ) → then_stands None ends_run (Posted m) o ≡ Some t → o ≡ Some t
-stood m None t e = e
-stood m (Some u) t e = by_end (ends_run u (Posted m)) e
-  where
-    by_end : (b : Bool) → cond b None (Some u) ≡ Some t → Some u ≡ Some t
-    by_end true e = absurd cc
-    by_end false e = e
-
-pub on_posted : (h : History) (m : Message) (c t : ℕ) → on (h ++ Posted m ∷ []) c ≡ Some t → on h c ≡ Some t
-on_posted h m c t e = stood m (on h c) t (sym (on-push h (Posted m) c) ∙ e)
+use Rattle.gs_core.proofs.Used.{nobody_posted, once_more, once_placed, used_more, used_posted, used_with}
 
 whole_one : (h : History) → AtEachPrefix OnOne h → OnOne h
 whole_one h all = subst OnOne (take_all (length h) h (omega arith)) (all (length h))
@@ -54,14 +42,16 @@ pub good_posted : (s : Settings) (xs : List Transaction) (h : History) (m : Mess
 good_posted s xs h m g numbered fresh no_zero =
     record {
       backed = AtEach-push (IsBacked s xs) h (Posted m) g.backed tt;
-      one = AtEachPrefix-push OnOne h (Posted m) g.one (λ u c d p q. whole_one h g.one u c d (on_posted h m c u p) (on_posted h m d u q));
+      one = AtEachPrefix-push OnOne h (Posted m) g.one (λ u c d p q. whole_one h g.one u c d (stood h m c u p) (stood h m d u q));
       numbered = numbered;
       fresh = fresh;
       no_zero = no_zero;
-      on_cpus = λ u c p. g.on_cpus u c (on_posted h m c u p);
-      on_known = λ u c p. omega (arith, g.on_known u c (on_posted h m c u p), ap length (messages-push h (Posted m) u), length-append (messages h u) (filter (is_about u) (m ∷ [])));
+      on_cpus = λ u c p. g.on_cpus u c (stood h m c u p);
+      on_known = λ u c p. omega (arith, g.on_known u c (stood h m c u p), ap length (messages-push h (Posted m) u), length-append (messages h u) (filter (is_about u) (m ∷ [])));
       stamped = λ x i. Was-mono s.first_tseq h (h ++ Posted m ∷ []) x.slot.tid _ _ (messages-push h (Posted m) x.slot.tid) (g.stamped x i);
       within = g.within;
+      used = used_more s.first_tseq h (Posted m) (nobody_posted m) (used_posted s.first_tseq h m) g.used;
+      once = once_more h (Posted m) (nobody_posted m) g.once;
     }
 
 pub good_created : (s : Settings) (xs : List Transaction) (h : History) (f : Facts) → GoodHistory s xs h → GoodHistory s xs (after_creation s.first_tseq h f)
@@ -78,45 +68,10 @@ good_tick s xs h c g =
     good_posted s xs h (TimerTick c) g (λ u. subst (Numbered s.first_tseq 0) (sym (tick_messages h c u)) (g.numbered u))
     (λ u lt. tick_messages h c u ∙ g.fresh u (omega (arith, ap length (created-push h (Posted (TimerTick c)) ∙ append-nil (created h))))) (tick_messages h c 0 ∙ g.no_zero)
 
-Some≢None : {A : Type 0} {a : A} → Some a ≡ None → ⊥
-Some≢None {a = a} e = elim_bool (ap is_some e)
-  where
-    elim_bool : true ≡ false → ⊥
-    elim_bool q = absurd (true≢false q)
-
 -- a thread that is on no CPU below the count is on none of them
 at_is : (cpus t : ℕ) (h : History) → at cpus h t ≡ None → at_below cpus h t ≡ None
 unfolding at
 at_is cpus t h e = e
-
-on_none : (n : ℕ) (h : History) (t c : ℕ) → at_below n h t ≡ None → c < n → on h c ≡ Some t → ⊥
-on_none zero h t c e below on_c = omega arith
-on_none (suc n) h t c e below on_c = by_rest (λ none less. on_none n h t c none less on_c) (at_below n h t) refl e
-  where
-    same_thread : (t == t) ≡ true
-    same_thread = grind (arith, nat_tests)
-
-    here : c ≡ n → is_thread t (on h n) ≡ true
-    here q = ap (λ x. is_thread t (on h x)) (sym q) ∙ (ap (is_thread t) on_c ∙ same_thread)
-
-    at_n : (b : Bool) → is_thread t (on h n) ≡ b → cond b (Some n) None ≡ None → c ≡ n → ⊥
-    at_n true p e q = absurd (Some≢None e)
-    at_n false p e q = absurd (true≢false (sym (here q) ∙ p))
-
-    by_place : (at_below n h t ≡ None → c < n → ⊥) → at_below n h t ≡ None → cond (is_thread t (on h n)) (Some n) None ≡ None → (c < n) ⊎ (c ≡ n) → ⊥
-    by_place rec none e (inl less) = rec none less
-    by_place rec none e (inr q) = at_n (is_thread t (on h n)) refl e q
-
-    cases : (c < n) ⊎ (c ≡ n)
-    cases = less_or (cases_lt c n)
-      where
-        less_or : (c < n) ⊎ (n ≤ c) → (c < n) ⊎ (c ≡ n)
-        less_or (inl l) = inl l
-        less_or (inr l) = inr (omega arith)
-
-    by_rest : (at_below n h t ≡ None → c < n → ⊥) → (o : Option ℕ) → at_below n h t ≡ o → elim o as (λ _. Option ℕ) [ Some d ↦ Some d | None ↦ cond (is_thread t (on h n)) (Some n) None ] ≡ None → ⊥
-    by_rest rec (Some d) q e = absurd (Some≢None e)
-    by_rest rec None q e = by_place rec q e cases
 
 -- who stands after a Placed entry
 placed_stood : (k t q g : ℕ) (b : Bool) (o : Option ℕ) (u : ℕ) → then_stands (cond b (Some t) None) ends_run (Placed t q k g) o ≡ Some u → ((b ≡ true) × (u ≡ t)) ⊎ ((b ≡ false) × (o ≡ Some u))
@@ -151,6 +106,8 @@ good_placed s xs h k b x g i slot cpu below p =
       on_known = λ u c q. subst (λ (z : List Message). 0 < length z) (sym (same_messages u)) (was_there u c (stands c u q));
       stamped = λ y j. Was-mono s.first_tseq h (h ++ e ∷ []) y.slot.tid _ [] (messages-push h e y.slot.tid) (g.stamped y j);
       within = g.within;
+      used = used_with s.first_tseq h b.tid b.tseq k b.generation p.free same_messages (sym same) g.used;
+      once = once_placed s.first_tseq h b.tid b.tseq k b.generation p.up (λ c there. nowhere c b.tid refl there) (sym same) g.used g.once;
     }
   where
     same_messages : (u : ℕ) → messages (h ++ Placed b.tid b.tseq k b.generation ∷ []) u ≡ messages h u
@@ -175,7 +132,7 @@ good_placed s xs h k b x g i slot cpu below p =
     nowhere : (c u : ℕ) → u ≡ b.tid → on h c ≡ Some u → ⊥
     nowhere c u q r =
         let r' : on h c ≡ Some b.tid = r ∙ ap Some q in
-        on_none s.cpus h b.tid c (at_is s.cpus b.tid h p.nowhere) (g.on_cpus b.tid c r') r'
+        on_none s.cpus c h b.tid (at_is s.cpus b.tid h p.nowhere) (g.on_cpus b.tid c r') r'
 
     both : (u c d : ℕ) → (((k == c) ≡ true) × (u ≡ b.tid)) ⊎ (((k == c) ≡ false) × (on h c ≡ Some u)) → (((k == d) ≡ true) × (u ≡ b.tid)) ⊎ (((k == d) ≡ false) × (on h d ≡ Some u)) → c ≡ d
     both u c d (inl q) (inl r) = grind (arith, nat_tests, q.0, r.0)

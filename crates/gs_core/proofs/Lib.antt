@@ -1,9 +1,11 @@
 pub mod Creations
 pub mod Told
 pub mod Faces
-pub mod Histories
-pub mod Growing
 pub mod Places
+pub mod Used
+pub mod Histories
+pub mod Nexts
+pub mod Growing
 pub mod Gaps
 pub mod Tears
 pub mod Steps
@@ -15,6 +17,7 @@ pub mod Draining
 pub mod Roles
 pub mod Runs
 pub mod Posting
+pub mod Landed
 pub mod Serving
 pub mod Configs
 pub mod Rows

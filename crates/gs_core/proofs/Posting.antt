@@ -17,7 +17,8 @@ use Rattle.gs_core.specs.declared.event.Event.{Event}
 use Rattle.gs_core.specs.declared.event.Event.TheVariants as events
 use Rattle.gs_core.specs.declared.reply.Reply.{Reply}
 use Rattle.gs_core.specs.declared.reply.Reply.TheVariants as replies
-use Rattle.gs_core.specs.Machine.{State, fits, fits_if_any, posts, refusal, Does, IsShort, Serves, Step}
+use Rattle.gs_kernel.specs.Commit.{fits_if_any}
+use Rattle.gs_core.specs.Machine.{State, fits, fits_into, posts, refusal, Does, IsShort, Serves, Step}
 
 -- the ring that a machine shows
 pub record IsRingOf (m : State) (r : RingState) : Type 0 where
@@ -91,7 +92,7 @@ post_step m e k r (Err f) b rep s r0 r1 h does short i same stays told is_s none
 -- the other class took a CPU
 takes_does : (m m' : State) (c : ℕ) (o : Option Message) (reply : Reply) (r0 r1 : RingState) (b : Bool) → IsRingOf m r0 → SameRing r0 r1 → r1.taken ≡ r0.taken → Sent r1 (posted (after_take b m.history o c))
     → (b ≡ false → (k : Message) × (o ≡ Some k) × IsTight r0 k) → m' ≡ record m { history = after_take b m.history o c } → reply ≡ cond b (replies.Taken c) replies.Torn
-    → (reply ≡ cond (fits_if_any m o) (replies.Taken c) replies.Torn) × (m' ≡ record m { history = after_take (fits_if_any m o) m.history o c })
+    → (reply ≡ cond (fits_if_any (fits_into m.ring m.consumed) m.history o) (replies.Taken c) replies.Torn) × (m' ≡ record m { history = after_take (fits_if_any (fits_into m.ring m.consumed) m.history o) m.history o c })
 takes_does m m' c None reply r0 r1 true i same stays told tight is_m is_r = (is_r, is_m)
 takes_does m m' c None reply r0 r1 false i same stays told tight is_m is_r = let x = tight refl in let z : None ≡ Some x.0 = x.1 in absurd cc
 takes_does m m' c (Some k) reply r0 r1 true i same stays told tight is_m is_r =

@@ -1,6 +1,5 @@
--- Whoever is active after an event was so before it: no event so far makes another agent active.
-use Rattle.std.proofs.Common.{◌≡◌, refl, ap, sym, subst, ◌∙◌, ℕ, suc, ◌⊎◌, inl, inr, Bool, true, false, Option, None, Some, Result, Ok, Err, IfOk, OnOk, OnErr, List, [], ◌∷◌, ◌++◌, append_assoc}
-use Rattle.std.specs.Option.{is_some}
+-- Whoever is active or attaches after an event was so before it: no event so far brings a new agent.
+use Rattle.std.proofs.Common.{◌≡◌, refl, ap, sym, subst, ◌∙◌, ℕ, suc, ◌⊎◌, inl, inr, Bool, true, false, Option, None, Some, Result, Ok, Err, IfOk, OnOk, OnErr, List, [], ◌∷◌, ◌++◌}
 use Rattle.gs_journal.specs.Standing.{standing, last_of}
 use Rattle.gs_layout.specs.declared.message.Message.{Message}
 use Rattle.gs_layout.specs.declared.refusal.Refusal.{Refusal}
@@ -9,70 +8,99 @@ use Rattle.gs_slots.specs.declared.state.Stamp.{Stamp}
 use Rattle.gs_slots.specs.declared.state.SlotState.{SlotState}
 use Rattle.gs_slots.specs.declared.state.SlotState.TheVariants.{Idle, Stamped, Done}
 use Rattle.gs_status.specs.Masks.{has}
-use Rattle.gs_journal.specs.declared.entry.Entry.TheVariants.{Posted, Role, Taken, Given}
-use Rattle.gs_journal.specs.History.{History, active}
+use Rattle.gs_journal.specs.declared.entry.Entry.{Entry}
+use Rattle.gs_journal.specs.declared.entry.Entry.TheVariants.{Posted, Role, Taken, Given, Torn}
+use Rattle.gs_journal.specs.History.{History, active, attaching}
 use Rattle.gs_kernel.specs.declared.settings.Settings.{Settings}
-use Rattle.gs_kernel.specs.Kernel.{after_post, after_take, after_give}
-use Rattle.gs_kernel.specs.Landing.{verdict, after_outcome, after_landing}
-use Rattle.gs_kernel.specs.Commit.{lands, one_lands}
-use Rattle.gs_kernel.proofs.Entries.{beside_posted, beside_placed, beside_quiet, active_none}
-use Rattle.gs_core.proofs.Growing.{nothing_placed}
+use Rattle.gs_kernel.specs.Kernel.{after_post, after_take, after_give, made_way, preemption}
+use Rattle.gs_kernel.specs.Landing.{verdict, after_verdict, after_landing, placing}
+use Rattle.gs_kernel.specs.Commit.{Fits, fits_if_any, lands, one_lands}
+use Rattle.gs_kernel.proofs.Entries.{SameBeside, beside_posted, beside_placed, beside_quiet, active_none, attaching_none}
+use Rattle.gs_kernel.proofs.Placings.{IsIdle, made_way-push, placed_or_not}
+
+pub record NoNewRole (h h' : History) : Type 0 where
+  pub active : (a : ℕ × ℕ) → active h' ≡ Some a → active h ≡ Some a
+  pub attaching : (g : ℕ) → attaching h' ≡ Some g → attaching h ≡ Some g
+
+same_roles : (h h' : History) → active h' ≡ active h → attaching h' ≡ attaching h → NoNewRole h h'
+same_roles h h' e f = record { active = λ a p. sym e ∙ p; attaching = λ g p. sym f ∙ p }
+
+pub same_history : (h h' : History) → h' ≡ h → NoNewRole h h'
+same_history h h' e = same_roles h h' (ap active e) (ap attaching e)
+
+roles_then : (h h' h'' : History) → NoNewRole h h' → NoNewRole h' h'' → NoNewRole h h''
+roles_then h h' h'' p q = record { active = λ a e. p.active a (q.active a e); attaching = λ g e. p.attaching g (q.attaching g e) }
+
+beside_roles : (h h' : History) → SameBeside h h' → NoNewRole h h'
+beside_roles h h' b = same_roles h h' b.active b.attaching
+
+pub roles_posted : (h : History) (m : Message) → NoNewRole h (h ++ Posted m ∷ [])
+roles_posted h m = beside_roles h _ (beside_posted h m)
+
+roles_torn : (h : History) → NoNewRole h (h ++ Torn ∷ [])
+roles_torn h =
+    record {
+      active = λ a p. let z : None ≡ Some a = sym (active_none h) ∙ p in absurd cc;
+      attaching = λ g p. let z : None ≡ Some g = sym (attaching_none h) ∙ p in absurd cc;
+    }
+
+pub roles_taken : (h : History) (c : ℕ) → NoNewRole h (h ++ Taken c ∷ [])
+roles_taken h c = let b = beside_quiet h (Taken c) (λ x. refl) (λ x. refl) refl refl refl in same_roles h _ b.0 b.1
+
+pub roles_given : (h : History) (c : ℕ) → NoNewRole h (h ++ Given c ∷ [])
+roles_given h c = let b = beside_quiet h (Given c) (λ x. refl) (λ x. refl) refl refl refl in same_roles h _ b.0 b.1
+
+then_posted : (b : Bool) (h : History) (m : Message) → NoNewRole h (after_post b h m)
+then_posted true h m = roles_posted h m
+then_posted false h m = roles_torn h
+
+-- somebody makes way for an entry
+made_roles : (b : Bool) (h : History) (o : Option Message) (e : Entry) → ((g : History) → NoNewRole g (g ++ e ∷ [])) → NoNewRole h (made_way b h o e)
+made_roles true h None e then = then h
+made_roles false h None e then = then h
+made_roles false h (Some m) e then = roles_torn h
+made_roles true h (Some m) e then =
+    subst (NoNewRole h) (sym (made_way-push h (Some m) e)) (roles_then h (h ++ Posted m ∷ []) ((h ++ Posted m ∷ []) ++ e ∷ []) (roles_posted h m) (then (h ++ Posted m ∷ [])))
 
 abbrev pub NoNewAgent : History → History → Type 0
 NoNewAgent h h' = (a : ℕ × ℕ) → active h' ≡ Some a → active h ≡ Some a
 
-same_agent : (h h' : History) → active h' ≡ active h → NoNewAgent h h'
-same_agent h h' e a p = sym e ∙ p
-
-no_agent : (h h' : History) → active h' ≡ None → NoNewAgent h h'
-no_agent h h' e a p = let z : None ≡ Some a = sym e ∙ p in absurd cc
-
-after_taken : (h : History) (c : ℕ) → active (h ++ Taken c ∷ []) ≡ active h
-after_taken h c = (beside_quiet h (Taken c) (λ x. refl) (λ x. refl) refl refl refl).0
-
-then_posted : (b : Bool) (h : History) (m : Message) → NoNewAgent h (after_post b h m)
-then_posted true h m = same_agent h _ (beside_posted h m).active
-then_posted false h m = no_agent h _ (active_none h)
-
-then_taken : (b : Bool) (h : History) (o : Option Message) (c : ℕ) → NoNewAgent h (after_take b h o c)
-then_taken true h None c = same_agent h _ (after_taken h c)
-then_taken false h None c = same_agent h _ (after_taken h c)
-then_taken false h (Some m) c = no_agent h _ (active_none h)
-then_taken true h (Some m) c =
-    same_agent h _ (ap active (sym (append_assoc h (Posted m ∷ []) (Taken c ∷ []))) ∙ (after_taken (h ++ Posted m ∷ []) c ∙ (beside_posted h m).active))
+pub agent_of : (h h' h'' : History) → h'' ≡ h' → NoNewRole h h' → NoNewAgent h h''
+agent_of h h' h'' e r a p = r.active a (ap active (sym e) ∙ p)
 
 pub posted_agent : {A : Type 0} (q : Result A Refusal) (b : A → Bool) (h h' : History) (m : Message) → IfOk q (λ x. h' ≡ after_post (b x) h m) → OnErr q (h' ≡ h) → NoNewAgent h h'
-posted_agent (Ok x) b h h' m ok err = subst (NoNewAgent h) (sym ok) (then_posted (b x) h m)
-posted_agent (Err f) b h h' m ok err = same_agent h h' (ap active err)
+posted_agent (Ok x) b h h' m ok err = agent_of h _ h' ok (then_posted (b x) h m)
+posted_agent (Err f) b h h' m ok err = agent_of h h h' err (same_history h h refl)
 
 pub taken_agent : (q : Result Bool Refusal) (h h' : History) (o : Option Message) (c : ℕ) → IfOk q (λ b. h' ≡ after_take b h o c) → OnErr q (h' ≡ h) → NoNewAgent h h'
-taken_agent (Ok b) h h' o c ok err = subst (NoNewAgent h) (sym ok) (then_taken b h o c)
-taken_agent (Err f) h h' o c ok err = same_agent h h' (ap active err)
+taken_agent (Ok b) h h' o c ok err = agent_of h _ h' ok (made_roles b h o (Taken c) (λ g. roles_taken g c))
+taken_agent (Err f) h h' o c ok err = agent_of h h h' err (same_history h h refl)
 
 pub given_agent : (q : Result (Unit {0}) Refusal) (h h' : History) (c : ℕ) → OnOk q (h' ≡ after_give h c) → OnErr q (h' ≡ h) → NoNewAgent h h'
-given_agent (Ok u) h h' c ok err = same_agent h h' (ap active ok ∙ (beside_quiet h (Given c) (λ x. refl) (λ x. refl) refl refl refl).0)
-given_agent (Err f) h h' c ok err = same_agent h h' (ap active err)
+given_agent (Ok u) h h' c ok err = agent_of h _ h' ok (roles_given h c)
+given_agent (Err f) h h' c ok err = agent_of h h h' err (same_history h h refl)
 
--- landings place threads, and no more
-landed_agent : (s : Settings) (h : History) (k : ℕ) (b : Stamp) → active (after_landing s h k b) ≡ active h
-landed_agent s h k b = by_outcome (nothing_placed h (verdict s h k b) k b)
+-- landings place threads, or tear the enclave down
+pub landing_roles : (fits : Bool) (s : Settings) (h : History) (k : ℕ) (b : Stamp) → NoNewRole h (after_landing fits s h k b)
+landing_roles fits s h k b = by_verdict (placed_or_not (verdict s h k b))
   where
-    by_outcome : (verdict s h k b ≡ outcomes.Placed) ⊎ (after_outcome h (verdict s h k b) k b ≡ h) → active (after_outcome h (verdict s h k b) k b) ≡ active h
-    by_outcome (inl e) = ap (λ o. active (after_outcome h o k b)) e ∙ (beside_placed h b.tid b.tseq k b.generation).active
-    by_outcome (inr e) = ap active e
+    by_verdict : (verdict s h k b ≡ outcomes.Placed) ⊎ IsIdle (verdict s h k b) → NoNewRole h (after_verdict fits s h (verdict s h k b) k b)
+    by_verdict (inl e) =
+        subst (λ o. NoNewRole h (after_verdict fits s h o k b)) (sym e)
+        (made_roles fits h (preemption s h k) (placing k b) (λ g. beside_roles g _ (beside_placed g b.tid b.tseq k b.generation)))
+    by_verdict (inr i) = same_history h _ (i.history fits s h k b)
 
-one_agent : (s : Settings) (wanted : Bool) (k : ℕ) (z : SlotState) (h : History) → active (one_lands s wanted k z h).history ≡ active h
-one_agent s false k z h = refl
-one_agent s true k Idle h = refl
-one_agent s true k (Done b o a n) h = refl
-one_agent s true k (Stamped b) h = landed_agent s h k b
+one_roles : (f : Fits) (s : Settings) (wanted : Bool) (k : ℕ) (z : SlotState) (h : History) → NoNewRole h (one_lands f s wanted k z h).history
+one_roles f s false k z h = same_history h h refl
+one_roles f s true k Idle h = same_history h h refl
+one_roles f s true k (Done b o a n) h = same_history h h refl
+one_roles f s true k (Stamped b) h = landing_roles (fits_if_any f h (preemption s h k)) s h k b
 
-all_agent : (s : Settings) (mask k : ℕ) (slots : List SlotState) (h : History) → active (lands s mask k slots h).history ≡ active h
-all_agent s mask k [] h = refl
-all_agent s mask k (z ∷ slots) h = all_agent s mask (suc k) slots (one_lands s (has mask k) k z h).history ∙ one_agent s (has mask k) k z h
-
-pub lands_agent : (s : Settings) (mask : ℕ) (slots : List SlotState) (h h' : History) → h' ≡ (lands s mask 0 slots h).history → NoNewAgent h h'
-lands_agent s mask slots h h' e = same_agent h h' (ap active e ∙ all_agent s mask 0 slots h)
+pub lands_roles : (f : Fits) (s : Settings) (mask k : ℕ) (slots : List SlotState) (h : History) → NoNewRole h (lands f s mask k slots h).history
+lands_roles f s mask k [] h = same_history h h refl
+lands_roles f s mask k (z ∷ slots) h =
+    let h' : History = (one_lands f s (has mask k) k z h).history in
+    roles_then h h' (lands f s mask (suc k) slots h').history (one_roles f s (has mask k) k z h) (lands_roles f s mask (suc k) slots h')
 
 pub first_agent : (g c : ℕ) (a : ℕ × ℕ) → active (Role g c ∷ []) ≡ Some a → a.0 ≡ g
 unfolding active standing last_of

@@ -29,7 +29,7 @@ use Rattle.gs_core.specs.declared.config.ConfigFault.TheVariants as faults
 use Rattle.gs_core.specs.Config.{config_fault, settings_of}
 use Rattle.gs_ring.specs.Places as places
 use Rattle.gs_ring.specs.Places.{need, pad_len}
-use Rattle.gs_core.specs.Machine.{State, creates, happens, takes, ticks, fits, stamps, commits, refusal, start, unread, view, attached}
+use Rattle.gs_core.specs.Machine.{State, creates, happens, takes, ticks, fits, stamps, commits, refusal, start, unread, view, attached, landings, lates}
 
 facts : Bool → ℕ → Facts
 facts r m = record { runnable = r; mask = m; class = Zero; name = codes "web" }
@@ -60,7 +60,7 @@ unfolding made posted created two facts knows state seq record_in record_of mess
 same_state = refl
 
 stamped : Reply × State
-stamped = stamps drained 1 1
+stamped = stamps drained 1 1 false
 
 first_stamp : stamped.0 ≡ replies.Stamped 1
 unfolding stamped drained made active standing last_of two facts knows
@@ -69,7 +69,7 @@ first_stamp = refl
 committed : Reply × State
 committed = commits stamped.1 2
 
-first_commit : committed.0 ≡ replies.Landed (record { cpu = 1; tid = 1; outcome = outcomes.Placed; seen = 1; at = Some 1 } ∷ [])
+first_commit : committed.0 ≡ replies.Landed (record { cpu = 1; tid = 1; outcome = outcomes.Placed; seen = 1; at = Some 1 } ∷ []) false
 unfolding committed stamped drained made two facts knows posted created active standing last_of landing verdict taken last_taken torn latest on at seq messages record_in record_of
 first_commit = refl
 
@@ -78,7 +78,7 @@ unfolding committed stamped drained made two facts knows posted created active s
 idle_afterwards = refl
 
 -- the thread is on its CPU now: the same record stamped again finds it placed
-again : (commits (stamps committed.1 1 1).1 2).0 ≡ replies.Landed (record { cpu = 1; tid = 1; outcome = outcomes.AlreadyPlaced; seen = 1; at = Some 1 } ∷ [])
+again : (commits (stamps committed.1 1 1 false).1 2).0 ≡ replies.Landed (record { cpu = 1; tid = 1; outcome = outcomes.AlreadyPlaced; seen = 1; at = Some 1 } ∷ []) false
 unfolding committed stamped drained made two facts knows posted created active standing last_of landing verdict taken last_taken torn latest on at seq messages record_in record_of
 again = refl
 
@@ -86,7 +86,7 @@ again = refl
 newer : State
 newer = record stamped.1 { history = stamped.1.history ++ Posted (Thread 1 2 (Blocked 1)) ∷ [] }
 
-stale : (commits newer 2).0 ≡ replies.Landed (record { cpu = 1; tid = 1; outcome = outcomes.Stale; seen = 2; at = None } ∷ [])
+stale : (commits newer 2).0 ≡ replies.Landed (record { cpu = 1; tid = 1; outcome = outcomes.Stale; seen = 2; at = None } ∷ []) false
 unfolding newer stamped drained made two facts knows posted created active standing last_of landing verdict taken last_taken torn latest on at seq messages record_in record_of
 stale = refl
 
@@ -94,7 +94,7 @@ stale = refl
 left : State
 left = record stamped.1 { history = stamped.1.history ++ Left ∷ [] }
 
-displaced : (commits left 2).0 ≡ replies.Landed (record { cpu = 1; tid = 1; outcome = outcomes.Displaced; seen = 1; at = None } ∷ [])
+displaced : (commits left 2).0 ≡ replies.Landed (record { cpu = 1; tid = 1; outcome = outcomes.Displaced; seen = 1; at = None } ∷ []) false
 unfolding left stamped drained made two facts knows posted created active standing last_of landing verdict taken last_taken torn latest on at seq messages record_in record_of
 displaced = refl
 
@@ -105,33 +105,33 @@ both = record (start two) { history = Role 1 0 ∷ Posted (Thread 1 1 (Created (
 known : State
 known = record both { consumed = 2; agent = Some (record { records = (1, knows true 1) ∷ (2, knows false 2) ∷ []; next = None }) }
 
-not_allowed : (commits (stamps known 1 1).1 2).0 ≡ replies.Landed (record { cpu = 1; tid = 1; outcome = outcomes.NotAllowed; seen = 1; at = None } ∷ [])
+not_allowed : (commits (stamps known 1 1 false).1 2).0 ≡ replies.Landed (record { cpu = 1; tid = 1; outcome = outcomes.NotAllowed; seen = 1; at = None } ∷ []) false
 unfolding known both two facts knows posted created active standing last_of landing verdict taken last_taken torn latest on at seq messages record_in record_of
 not_allowed = refl
 
-blocked : (commits (stamps known 1 2).1 2).0 ≡ replies.Landed (record { cpu = 1; tid = 2; outcome = outcomes.NotRunnable; seen = 1; at = None } ∷ [])
+blocked : (commits (stamps known 1 2 false).1 2).0 ≡ replies.Landed (record { cpu = 1; tid = 2; outcome = outcomes.NotRunnable; seen = 1; at = None } ∷ []) false
 unfolding known both two facts knows posted created active standing last_of landing verdict taken last_taken torn latest on at seq messages record_in record_of
 blocked = refl
 
-agent_there : (commits (stamps known 0 1).1 1).0 ≡ replies.Landed (record { cpu = 0; tid = 1; outcome = outcomes.CpuIsAgent; seen = 1; at = None } ∷ [])
+agent_there : (commits (stamps known 0 1 false).1 1).0 ≡ replies.Landed (record { cpu = 0; tid = 1; outcome = outcomes.CpuIsAgent; seen = 1; at = None } ∷ []) false
 unfolding known both two facts knows posted created active standing last_of landing verdict taken last_taken torn latest on at seq messages record_in record_of
 agent_there = refl
 
 -- a commit of no CPU lands nothing
-empty_commit : (commits stamped.1 0).0 ≡ replies.Landed []
-unfolding stamped drained made two facts knows active standing last_of
+empty_commit : (commits stamped.1 0).0 ≡ replies.Landed [] false
+unfolding stamped drained made two facts knows active standing last_of torn
 empty_commit = refl
 
 -- refusals in their order
-no_cpu : refusal drained (events.Stamp 2 9) ≡ Some refusals.BadCpu
+no_cpu : refusal drained (events.Stamp 2 9 false) ≡ Some refusals.BadCpu
 unfolding drained made two facts knows active torn standing last_of
 no_cpu = refl
 
-no_thread : refusal drained (events.Stamp 1 9) ≡ Some refusals.NoThread
+no_thread : refusal drained (events.Stamp 1 9 false) ≡ Some refusals.NoThread
 unfolding drained made two facts knows active torn standing last_of
 no_thread = refl
 
-open_slot : refusal stamped.1 (events.Stamp 1 1) ≡ Some refusals.SlotOpen
+open_slot : refusal stamped.1 (events.Stamp 1 1 false) ≡ Some refusals.SlotOpen
 unfolding stamped drained made two facts knows active torn standing last_of
 open_slot = refl
 
@@ -212,7 +212,7 @@ third = refl
 torn_down : State
 torn_down = record full { history = full.history ++ Torn ∷ [] }
 
-all_gone : (refusal torn_down (events.Create (facts true 0)) ∷ refusal torn_down (events.Tick 9) ∷ refusal torn_down (events.Drain 1) ∷ refusal torn_down (events.Stamp 9 9) ∷ refusal torn_down (events.Commit 99) ∷ refusal torn_down events.Unread ∷ [])
+all_gone : (refusal torn_down (events.Create (facts true 0)) ∷ refusal torn_down (events.Tick 9) ∷ refusal torn_down (events.Drain 1) ∷ refusal torn_down (events.Stamp 9 9 false) ∷ refusal torn_down (events.Commit 99) ∷ refusal torn_down events.Unread ∷ [])
     ≡ Some refusals.Gone ∷ Some refusals.Gone ∷ Some refusals.Gone ∷ Some refusals.Gone ∷ Some refusals.Gone ∷ Some refusals.Gone ∷ []
 unfolding torn_down full two facts torn create_refusal tick_refusal commit_refusal
 all_gone = refl
@@ -225,6 +225,42 @@ no_tick = refl
 waits : unread full ≡ Thread 1 1 (Created (facts true 3)) ∷ Thread 2 1 (Created (facts true 3)) ∷ Thread 3 1 (Created (facts true 3)) ∷ Thread 4 1 (Created (facts true 3)) ∷ []
 unfolding full posted two facts
 waits = refl
+
+-- thread 1 is on CPU 1, and thread 2 was created: a stamp that takes nobody off finds the CPU busy
+beside : State
+beside = record (start two) { history = Role 1 0 ∷ Posted (Thread 1 1 (Created (facts true 3))) ∷ Placed 1 1 1 1 ∷ Posted (Thread 2 1 (Created (facts true 3))) ∷ []; consumed = 2; agent = Some (record { records = (1, knows true 3) ∷ (2, knows true 3) ∷ []; next = None }) }
+
+busy : (commits (stamps beside 1 2 false).1 2).0 ≡ replies.Landed (record { cpu = 1; tid = 2; outcome = outcomes.CpuBusy; seen = 1; at = None } ∷ []) false
+unfolding beside two facts knows posted created active standing last_of landing verdict taken last_taken torn latest on at seq messages record_in record_of
+busy = refl
+
+-- one that does has it told first, and then placed
+preempts : commits (stamps beside 1 2 true).1 2
+    ≡ (replies.Landed (record { cpu = 1; tid = 2; outcome = outcomes.Placed; seen = 1; at = Some 1 } ∷ []) false, record (stamps beside 1 2 true).1 { history = beside.history ++ Posted (Thread 1 2 (changes.Preempted 1)) ∷ Placed 2 1 1 1 ∷ []; slots = Idle ∷ Idle ∷ [] })
+unfolding beside two facts knows posted created active standing last_of landing verdict taken last_taken torn latest on at seq messages record_in record_of need pad_len places.record_of
+preempts = refl
+
+-- where the ring is full, that message does not fit: the enclave is torn down, and this slot and the later one are gone
+crowded : State
+crowded = record beside { history = beside.history ++ Posted (TimerTick 0) ∷ Posted (TimerTick 0) ∷ Posted (TimerTick 0) ∷ Posted (TimerTick 0) ∷ Posted (TimerTick 0) ∷ Posted (TimerTick 0) ∷ Posted (TimerTick 0) ∷ Posted (TimerTick 0) ∷ [] }
+
+tears_in_a_commit : (landings (stamps (stamps crowded 0 1 false).1 1 2 true).1 3).answers
+    ≡ record { cpu = 0; tid = 1; outcome = outcomes.AlreadyPlaced; seen = 1; at = Some 1 } ∷ record { cpu = 1; tid = 2; outcome = outcomes.Gone; seen = 1; at = None } ∷ []
+unfolding crowded beside two facts knows posted created active standing last_of landing verdict taken last_taken torn latest on at seq messages record_in record_of need pad_len places.record_of
+tears_in_a_commit = refl
+
+gone_afterwards : torn (landings (stamps crowded 1 2 true).1 2).history ≡ true
+unfolding crowded beside two facts knows posted created active standing last_of landing verdict taken last_taken torn latest on at seq messages record_in record_of need pad_len places.record_of
+gone_afterwards = refl
+
+-- a transaction that landed lands again, late: its thread is on a CPU
+late_again : lates committed.1 1 ≡ (replies.Late 1 (record { cpu = 1; tid = 1; outcome = outcomes.AlreadyPlaced; seen = 1; at = Some 1 }) false, committed.1)
+unfolding committed stamped drained made two facts knows posted created active standing last_of landing verdict taken last_taken torn latest on at seq messages record_in record_of
+late_again = refl
+
+no_such : refusal committed.1 (events.Late 2) ∷ refusal committed.1 (events.Late 0) ∷ [] ≡ Some refusals.NoSuchTransaction ∷ Some refusals.NoSuchTransaction ∷ []
+unfolding committed stamped drained made two facts knows posted created active standing last_of landing verdict taken last_taken torn latest on at seq messages record_in record_of
+no_such = refl
 
 -- what happens to a thread on CPU 1: it blocks, yields, dies, and a new mask takes it off or leaves it
 running : State

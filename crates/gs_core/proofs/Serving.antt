@@ -1,5 +1,5 @@
 -- What the machine keeps where a part of it serves an event.
-use Rattle.std.proofs.Common.{◌≡◌, ap, sym, ◌∙◌, subst, ℕ, ◌+◌, ◌<◌, nat_le, Bool, true, false, not, Option, None, Some, List, [], ◌∷◌, ◌++◌, length, map, cond, slice_get, slice_set, IsSome}
+use Rattle.std.proofs.Common.{◌≡◌, ap, sym, ◌∙◌, subst, ℕ, ◌+◌, ◌<◌, Bool, Option, None, Some, List, [], ◌∷◌, ◌++◌, map, slice_set, IsSome}
 use Rattle.std.specs.Option.{is_some, option_map}
 use Rattle.gs_agent.specs.Role.{stamp_refusal}
 use Rattle.gs_layout.specs.declared.known.Known.{Known}
@@ -9,13 +9,11 @@ use Rattle.gs_layout.specs.declared.refusal.Refusal.{Refusal}
 use Rattle.gs_layout.specs.View.{look_up}
 use Rattle.gs_journal.specs.declared.entry.Entry.{Entry}
 use Rattle.gs_journal.specs.declared.entry.Entry.TheVariants.{Posted, Role}
-use Rattle.gs_journal.specs.History.{active, torn}
 use Rattle.gs_kernel.specs.declared.settings.Settings.{Settings}
 use Rattle.gs_agent.specs.declared.drained.Drained.{Drained}
 use Rattle.gs_core.specs.declared.transaction.Transaction.{Transaction}
-use Rattle.gs_core.specs.Machine.{State, view, page_of, unread, stamp_of, start}
+use Rattle.gs_core.specs.Machine.{State, view, page_of, unread, landings, stamp_of, start}
 use Rattle.gs_slots.specs.State.{collected}
-use Rattle.gs_kernel.specs.Commit.{lands}
 use Rattle.gs_core.specs.Good.{Good}
 use Rattle.std.proofs.Common.{replicate, Result, Ok, Err, IfOk, IfErr, OnOk, OnErr}
 use Rattle.gs_kernel.specs.Kernel.{after_post}
@@ -23,9 +21,7 @@ use Rattle.gs_layout.specs.declared.message.Message.{Message}
 use Rattle.gs_ring.specs.RingState.{RingState, empty}
 use Rattle.gs_core.specs.declared.config.Config.{Config}
 use Rattle.gs_core.specs.Config.{settings_of}
-use Rattle.gs_layout.specs.declared.refusal.Refusal.TheVariants as refusals
-use Rattle.gs_core.specs.declared.event.Event.TheVariants as events
-use Rattle.gs_core.specs.Machine.{is_idle, refusal, Takes, Drains}
+use Rattle.gs_core.specs.Machine.{Takes, Drains}
 use Rattle.gs_core.proofs.Posting.{with_kernel}
 use Rattle.gs_kernel.specs.declared.thread_event.ThreadEvent.{ThreadEvent}
 use Rattle.gs_kernel.specs.Kernel.{thread_refusal, happening, preemption, after_take, after_give}
@@ -81,22 +77,22 @@ pub starts : (c : Config) (s : Settings) (r : RingState) (h : List Entry) (slots
 starts c s r h slots v xs is_s is_r is_h is_slots is_v is_xs =
     λ i. record { settings = is_s i; ring = (is_r i).capacity; history = is_h i; consumed = (is_r i).taken; agent = Some (record { records = is_v i; next = None }); slots = is_slots i; transactions = is_xs i }
 
-pub stamp_kept : (m : State) (c t : ℕ) (a : ℕ × ℕ) (k : Known) (slots : List SlotState) (xs : List Transaction) → Good m → view m t ≡ Some k → c < m.settings.cpus
-    → slots ≡ slice_set m.slots c (Stamped (stamp_of t a k)) → xs ≡ m.transactions ++ record { cpu = c; slot = stamp_of t a k; facts = k.facts } ∷ [] → Good (record m { slots = slots; transactions = xs })
-stamp_kept m c t a k slots xs g e below q r =
-    subst (λ (x : List SlotState). Good (record m { slots = x; transactions = xs })) (sym q) (subst (λ (x : List Transaction). Good (record m { slots = slice_set m.slots c (Stamped (stamp_of t a k)); transactions = x })) (sym r) (stamp_good_with m c t (Some a) (Some k) e below g))
+pub stamp_kept : (m : State) (c t : ℕ) (p : Bool) (a : ℕ × ℕ) (k : Known) (slots : List SlotState) (xs : List Transaction) → Good m → view m t ≡ Some k → c < m.settings.cpus
+    → slots ≡ slice_set m.slots c (Stamped (stamp_of t p a k)) → xs ≡ m.transactions ++ record { cpu = c; slot = stamp_of t p a k; facts = k.facts } ∷ [] → Good (record m { slots = slots; transactions = xs })
+stamp_kept m c t p a k slots xs g e below q r =
+    subst (λ (x : List SlotState). Good (record m { slots = x; transactions = xs })) (sym q) (subst (λ (x : List Transaction). Good (record m { slots = slice_set m.slots c (Stamped (stamp_of t p a k)); transactions = x })) (sym r) (stamp_good_with m c t p (Some a) (Some k) e below g))
 
 pub commit_kept : (m : State) (mask : ℕ) (s : Settings) (r : RingState) (h : List Entry) (slots : List SlotState) → Good m → s ≡ m.settings → r.capacity ≡ m.ring → r.taken ≡ m.consumed
-    → h ≡ (lands m.settings mask 0 m.slots m.history).history → slots ≡ map collected (lands m.settings mask 0 m.slots m.history).slots → Good (record (with_kernel m s r h) { slots = slots })
+    → h ≡ (landings m mask).history → slots ≡ map collected (landings m mask).slots → Good (record (with_kernel m s r h) { slots = slots })
 commit_kept m mask s r h slots g is_s is_r is_n is_h is_slots =
     subst Good (λ i. record { settings = sym is_s i; ring = sym is_r i; history = sym is_h i; consumed = sym is_n i; agent = m.agent; slots = sym is_slots i; transactions = m.transactions }) (commit_good m mask g)
 
 -- what a role stamps of a thread that it knows into an idle slot
-pub stamped_is : (q : Result ℕ Refusal) (o : Option Known) (k : Known) (g t : ℕ) (z z' : SlotState) → o ≡ Some k → z ≡ Idle → IfErr q (λ r. stamp_refusal o z ≡ Some r) → IfOk q (λ n. option_map (λ (x : Known). x.tseq) o ≡ Some n)
-    → IfOk q (λ n. z' ≡ Stamped (record { generation = g; tid = t; tseq = n; preempt = false })) → z' ≡ Stamped (record { generation = g; tid = t; tseq = k.tseq; preempt = false })
-stamped_is (Err f) o k g t z z' known idle none number stamped =
+pub stamped_is : (q : Result ℕ Refusal) (o : Option Known) (k : Known) (g t : ℕ) (p : Bool) (z z' : SlotState) → o ≡ Some k → z ≡ Idle → IfErr q (λ r. stamp_refusal o z ≡ Some r) → IfOk q (λ n. option_map (λ (x : Known). x.tseq) o ≡ Some n)
+    → IfOk q (λ n. z' ≡ Stamped (record { generation = g; tid = t; tseq = n; preempt = p })) → z' ≡ Stamped (record { generation = g; tid = t; tseq = k.tseq; preempt = p })
+stamped_is (Err f) o k g t p z z' known idle none number stamped =
     let e : stamp_refusal (Some k) Idle ≡ Some f = sym (λ i. stamp_refusal (known i) (idle i)) ∙ none in absurd cc
-stamped_is (Ok n) o k g t z z' known idle none number stamped =
+stamped_is (Ok n) o k g t p z z' known idle none number stamped =
     let e : Some k.tseq ≡ Some n = sym (ap (option_map (λ (x : Known). x.tseq)) known) ∙ number in
     let same : n ≡ k.tseq = cc in
-    stamped ∙ ap (λ m. Stamped (record { generation = g; tid = t; tseq = m; preempt = false })) same
+    stamped ∙ ap (λ m. Stamped (record { generation = g; tid = t; tseq = m; preempt = p })) same

@@ -20,9 +20,10 @@ use Rattle.gs_kernel.specs.declared.settings.Settings.{Settings}
 use Rattle.gs_kernel.specs.Kernel.{creation, after_post}
 use Rattle.gs_agent.specs.declared.drained.Drained.{Drained}
 use Rattle.gs_core.specs.declared.transaction.Transaction.{Transaction}
-use Rattle.gs_core.specs.Machine.{State, Agent, view, records_of, page_of, unread, attached, creates, ticks, fits, commits, stamps, stamps_with, stamp_of, Drains}
+use Rattle.gs_core.specs.Machine.{State, Agent, view, records_of, page_of, unread, attached, creates, ticks, fits, fits_into, landings, commits, lates, lands_late, makes_way, transaction_of, stamps, stamps_with, stamp_of, Drains}
 use Rattle.gs_slots.specs.State.{collected}
-use Rattle.gs_kernel.specs.Commit.{lands, one_lands, slot_after, history_after}
+use Rattle.gs_kernel.specs.Kernel.{preemption}
+use Rattle.gs_kernel.specs.Commit.{Fits, fits_if_any, lands, one_lands, slot_after, history_after}
 use Rattle.gs_kernel.proofs.Commits.{slots_count}
 use Rattle.gs_core.specs.Safe.{Safe, IsFaithful, IsIn, IsBacked}
 use Rattle.gs_core.specs.Good.{GoodHistory, Good, Faces, is_given}
@@ -31,7 +32,8 @@ use Rattle.gs_core.proofs.Gaps.{no_gap}
 use Rattle.gs_core.proofs.Places.{get_left, get_new, get_set, length_set, get_at_end}
 use Rattle.gs_core.proofs.Faces.{faces_drained}
 use Rattle.gs_core.proofs.Tears.{tear_good}
-use Rattle.gs_core.proofs.Growing.{Both, SameRole, both_created, both_tick, role_posted, all_landed}
+use Rattle.gs_core.proofs.Growing.{Both, both_created, both_tick, all_landed, landed}
+use Rattle.gs_core.proofs.Roles.{NoNewRole, landing_roles, lands_roles, roles_posted}
 
 -- of tests
 pub not_true : (b : Bool) → not b ≡ true → b ≡ false
@@ -76,20 +78,25 @@ BothOf m h = Both m.settings m.transactions m.consumed (view m) (page_of m.agent
 pub both_of : (m : State) → Good m → BothOf m m.history
 both_of m g = record { good = g.history; faces = g.faces }
 
-grown_good : (m : State) (h : History) → BothOf m h → SameRole m.history h → Good m → Good (record m { history = h })
+-- who is there was there before
+pub was_role : {A : Type 0} (o o' : Option A) → ((a : A) → o' ≡ Some a → o ≡ Some a) → is_some o' ≡ true → is_some o ≡ true
+was_role o None was p = absurd cc
+was_role o (Some a) was p = ap is_some (was a refl)
+
+grown_good : (m : State) (h : History) → BothOf m h → NoNewRole m.history h → Good m → Good (record m { history = h })
 grown_good m h b r g =
     record {
       history = b.good;
       faces = b.faces;
       slots = g.slots;
       count = g.count;
-      when_active = λ p. g.when_active (sym (ap is_some r.active) ∙ p);
-      when_attaching = λ p. g.when_attaching (sym (ap is_some r.attaching) ∙ p);
+      when_active = λ p. g.when_active (was_role (active m.history) (active h) r.active p);
+      when_attaching = λ p. g.when_attaching (was_role (attaching m.history) (attaching h) r.attaching p);
     }
 
 -- a message is posted, or tears the enclave down
 pub post_good : (m : State) (k : Message) (b : Bool) → BothOf m (m.history ++ Posted k ∷ []) → Good m → Good (record m { history = after_post b m.history k })
-post_good m k true both g = grown_good m _ both (role_posted m.history k) g
+post_good m k true both g = grown_good m _ both (roles_posted m.history k) g
 post_good m k false both g = tear_good m g
 
 pub both_creation : (m : State) (f : Facts) → Good m → BothOf m (m.history ++ Posted (creation m.settings.first_tseq m.history f) ∷ [])
@@ -156,6 +163,8 @@ stamped_good s xs y h w below g =
       on_known = g.on_known;
       stamped = λ x i. by_place x i.0 (get_new xs y x i.0 i.1);
       within = λ x i. in_range x i.0 (get_new xs y x i.0 i.1);
+      used = g.used;
+      once = g.once;
     }
   where
     by_place : (x : Transaction) (i : ℕ) → (slice_get xs i ≡ Some x) ⊎ (x ≡ y) → Was s.first_tseq h x.slot.tid (record { facts = x.facts; tseq = x.slot.tseq })
@@ -166,11 +175,11 @@ stamped_good s xs y h w below g =
     in_range x i (inl p) = g.within x (i, p)
     in_range x i (inr p) = subst (λ (z : Transaction). z.cpu < s.cpus) (sym p) below
 
-pub stamp_good_with : (m : State) (c t : ℕ) (a : Option (ℕ × ℕ)) (k : Option Known) → view m t ≡ k → c < m.settings.cpus → Good m → Good (stamps_with m c t a k).1
-stamp_good_with m c t None k e below g = g
-stamp_good_with m c t (Some a) None e below g = g
-stamp_good_with m c t (Some a) (Some k) e below g =
-    let b : Stamp = stamp_of t a k in
+pub stamp_good_with : (m : State) (c t : ℕ) (p : Bool) (a : Option (ℕ × ℕ)) (k : Option Known) → view m t ≡ k → c < m.settings.cpus → Good m → Good (stamps_with m c t p a k).1
+stamp_good_with m c t p None k e below g = g
+stamp_good_with m c t p (Some a) None e below g = g
+stamp_good_with m c t p (Some a) (Some k) e below g =
+    let b : Stamp = stamp_of t p a k in
     let y : Transaction = record { cpu = c; slot = b; facts = k.facts } in
     let f = g.faces in
     record {
@@ -182,13 +191,13 @@ stamp_good_with m c t (Some a) (Some k) e below g =
       when_attaching = g.when_attaching;
     }
   where
-    by_slot : (i : ℕ) (z : Stamp) → (slice_get m.slots i ≡ Some (Stamped z)) ⊎ ((i ≡ c) × (Stamped z ≡ Stamped (stamp_of t a k)))
-        → (x : Transaction) × IsIn (m.transactions ++ record { cpu = c; slot = stamp_of t a k; facts = k.facts } ∷ []) x × (x.slot ≡ z) × (x.cpu ≡ 0 + i)
+    by_slot : (i : ℕ) (z : Stamp) → (slice_get m.slots i ≡ Some (Stamped z)) ⊎ ((i ≡ c) × (Stamped z ≡ Stamped (stamp_of t p a k)))
+        → (x : Transaction) × IsIn (m.transactions ++ record { cpu = c; slot = stamp_of t p a k; facts = k.facts } ∷ []) x × (x.slot ≡ z) × (x.cpu ≡ 0 + i)
     by_slot i z (inl q) = let r = g.slots i z q in (r.0, in_more m.transactions _ r.0 r.1, r.2, r.3)
-    by_slot i z (inr q) = (record { cpu = c; slot = stamp_of t a k; facts = k.facts }, (length m.transactions, get_at_end m.transactions _), cc, omega (arith, q.0))
+    by_slot i z (inr q) = (record { cpu = c; slot = stamp_of t p a k; facts = k.facts }, (length m.transactions, get_at_end m.transactions _), cc, omega (arith, q.0))
 
-pub stamp_good : (m : State) (c t : ℕ) → c < m.settings.cpus → Good m → Good (stamps m c t).1
-stamp_good m c t below g = stamp_good_with m c t (active m.history) (view m t) refl below g
+pub stamp_good : (m : State) (c t : ℕ) (p : Bool) → c < m.settings.cpus → Good m → Good (stamps m c t p).1
+stamp_good m c t p below g = stamp_good_with m c t p (active m.history) (view m t) refl below g
 
 -- a commit: what is still stamped was so before
 still_stamped : (z : SlotState) (b : Stamp) → collected z ≡ Stamped b → z ≡ Stamped b
@@ -196,37 +205,52 @@ still_stamped Idle b e = absurd cc
 still_stamped (Done x o a n) b e = absurd cc
 still_stamped (Stamped x) b e = e
 
-not_landed : (s : Settings) (h : History) (k : ℕ) (z : SlotState) (b : Stamp) → collected (slot_after s h k z) ≡ Stamped b → ⊥
-not_landed s h k Idle b e = absurd cc
-not_landed s h k (Done x o a n) b e = absurd cc
-not_landed s h k (Stamped x) b e = absurd cc
+not_landed : (fits : Bool) (s : Settings) (h : History) (k : ℕ) (z : SlotState) (b : Stamp) → collected (slot_after fits s h k z) ≡ Stamped b → ⊥
+not_landed fits s h k Idle b e = absurd cc
+not_landed fits s h k (Done x o a n) b e = absurd cc
+not_landed fits s h k (Stamped x) b e = absurd cc
 
-left_stamped : (s : Settings) (mask k : ℕ) (slots : List SlotState) (h : History) (i : ℕ) (b : Stamp) → slice_get (map collected (lands s mask k slots h).slots) i ≡ Some (Stamped b) → slice_get slots i ≡ Some (Stamped b)
-left_stamped s mask k [] h i b e = e
-left_stamped s mask k (z ∷ slots) h i b e = by_mask (has mask k) i e (λ h' j. left_stamped s mask (suc k) slots h' j b)
+left_stamped : (f : Fits) (s : Settings) (mask k : ℕ) (slots : List SlotState) (h : History) (i : ℕ) (b : Stamp) → slice_get (map collected (lands f s mask k slots h).slots) i ≡ Some (Stamped b) → slice_get slots i ≡ Some (Stamped b)
+left_stamped f s mask k [] h i b e = e
+left_stamped f s mask k (z ∷ slots) h i b e = by_mask (has mask k) i e (λ h' j. left_stamped f s mask (suc k) slots h' j b)
   where
-    by_mask : (m : Bool) (i : ℕ) → slice_get (map collected ((one_lands s m k z h).slots ++ (lands s mask (suc k) slots (one_lands s m k z h).history).slots)) i ≡ Some (Stamped b)
-        → ((h' : History) (j : ℕ) → slice_get (map collected (lands s mask (suc k) slots h').slots) j ≡ Some (Stamped b) → slice_get slots j ≡ Some (Stamped b)) → slice_get (z ∷ slots) i ≡ Some (Stamped b)
+    by_mask : (m : Bool) (i : ℕ) → slice_get (map collected ((one_lands f s m k z h).slots ++ (lands f s mask (suc k) slots (one_lands f s m k z h).history).slots)) i ≡ Some (Stamped b)
+        → ((h' : History) (j : ℕ) → slice_get (map collected (lands f s mask (suc k) slots h').slots) j ≡ Some (Stamped b) → slice_get slots j ≡ Some (Stamped b)) → slice_get (z ∷ slots) i ≡ Some (Stamped b)
     by_mask false zero e rest = let q : collected z ≡ Stamped b = cc in ap Some (still_stamped z b q)
-    by_mask true zero e rest = let q : collected (slot_after s h k z) ≡ Stamped b = cc in absurd (not_landed s h k z b q)
+    by_mask true zero e rest = let q : collected (slot_after (fits_if_any f h (preemption s h k)) s h k z) ≡ Stamped b = cc in absurd (not_landed (fits_if_any f h (preemption s h k)) s h k z b q)
     by_mask false (suc i) e rest = rest h i e
-    by_mask true (suc i) e rest = rest (history_after s h k z) i e
+    by_mask true (suc i) e rest = rest (history_after (fits_if_any f h (preemption s h k)) s h k z) i e
 
 pub commit_good : (m : State) (mask : ℕ) → Good m → Good (commits m mask).1
 commit_good m mask g =
-    let h' : History = (lands m.settings mask 0 m.slots m.history).history in
-    let l = all_landed m.settings m.transactions m.consumed (view m) (page_of m.agent) mask 0 m.slots m.history (both_of m g) g.slots (omega (arith, g.count)) in
-    let w = grown_good m h' l.both l.role g in
+    let f : Fits = fits_into m.ring m.consumed in
+    let h' : History = (landings m mask).history in
+    let w = grown_good m h' (all_landed f m.settings m.transactions m.consumed (view m) (page_of m.agent) mask 0 m.slots m.history (both_of m g) g.slots (omega (arith, g.count))) (lands_roles f m.settings mask 0 m.slots m.history) g in
     record {
       history = w.history;
       faces = w.faces;
-      slots = λ i b e. g.slots i b (left_stamped m.settings mask 0 m.slots m.history i b e);
-      count = length-map (lands m.settings mask 0 m.slots m.history).slots collected ∙ (slots_count m.settings mask 0 m.slots m.history ∙ g.count);
+      slots = λ i b e. g.slots i b (left_stamped f m.settings mask 0 m.slots m.history i b e);
+      count = length-map (landings m mask).slots collected ∙ (slots_count f m.settings mask 0 m.slots m.history ∙ g.count);
       when_active = w.when_active;
       when_attaching = w.when_attaching;
     }
 
+-- a transaction that lands late
+pub is_in : (xs : List Transaction) (n : ℕ) (x : Transaction) → transaction_of xs n ≡ Some x → IsIn xs x
+is_in xs zero x e = absurd cc
+is_in xs (suc n) x e = (n, e)
+
+pub late_good : (m : State) (n : ℕ) → Good m → Good (lates m n).1
+late_good m n g = by_number n (transaction_of m.transactions n) refl
+  where
+    by_number : (n : ℕ) (o : Option Transaction) → transaction_of m.transactions n ≡ o → Good (lands_late m n o).1
+    by_number n None e = g
+    by_number n (Some x) e =
+        let i = is_in m.transactions n x e in
+        let b = landed (makes_way m x.cpu) m.settings m.transactions m.consumed (view m) (page_of m.agent) m.history x.cpu x.slot x i refl refl (g.history.within x i) (both_of m g) in
+        grown_good m _ b (landing_roles (makes_way m x.cpu) m.settings m.history x.cpu x.slot) g
+
 pub faithful_of : (m : State) → Good m → IsFaithful m
 faithful_of m g =
     let f = g.faces in
-    record { known = λ t k e. was_once m.settings.first_tseq m.history t k (f.known t k e); no_gap = no_gap m g }
+    record { known = λ t k e. was_once m.settings.first_tseq m.history t k (f.known t k e); no_gap = no_gap m g; once = g.history.once }

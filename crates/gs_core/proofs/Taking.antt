@@ -1,7 +1,7 @@
 -- An entry that concerns no thread keeps what the machine keeps, and so do taking a CPU and giving it back.
 use Rattle.std.proofs.Common.{◌≡◌, refl, ap, sym, ◌∙◌, subst, ℕ, ◌<◌, Bool, true, false, Option, None, Some, List, [], ◌∷◌, ◌++◌, length, arith, cond, append_assoc}
 use Rattle.std.specs.List.{filter}
-use Rattle.std.specs.Option.{is_some, option_map}
+use Rattle.std.specs.Option.{option_map}
 use Rattle.std.proofs.lemmas.List.{append-nil, take_all}
 use Rattle.gs_layout.specs.declared.message.Change.TheVariants.{Preempted}
 use Rattle.gs_layout.specs.declared.message.Message.{Message}
@@ -9,9 +9,9 @@ use Rattle.gs_layout.specs.Message.{is_about, is_creation}
 use Rattle.gs_journal.specs.declared.entry.Entry.{Entry}
 use Rattle.gs_journal.specs.declared.entry.Entry.TheVariants.{Posted, Placed, Role, Begin, Left, Taken, Given, Torn}
 use Rattle.gs_journal.specs.Standing.{then_stands}
-use Rattle.gs_journal.specs.History.{History, messages, posted_by, on, ends_run, placed_on, active, attaching, ends_role, ends_begin, AtEachPrefix}
+use Rattle.gs_journal.specs.History.{History, messages, posted_by, on, ends_run, placed_on, active, attaching, AtEachPrefix}
 use Rattle.gs_journal.specs.State.{Numbered}
-use Rattle.gs_journal.proofs.Laws.{on-push, active-push, attaching-push, same_posted, same_messages, same_created, AtEach-push, AtEachPrefix-push}
+use Rattle.gs_journal.proofs.Laws.{on-push, same_posted, same_messages, same_created, AtEach-push, AtEachPrefix-push}
 use Rattle.gs_journal.proofs.Past.{Was-mono}
 use Rattle.gs_threads.specs.Mirrors.{is_quiet}
 use Rattle.gs_kernel.specs.declared.settings.Settings.{Settings}
@@ -21,9 +21,10 @@ use Rattle.gs_core.specs.Machine.{State, view, page_of}
 use Rattle.gs_core.specs.Safe.{IsBacked, OnOne}
 use Rattle.gs_core.specs.Good.{GoodHistory, Good}
 use Rattle.gs_core.proofs.Faces.{faces_same}
+use Rattle.gs_core.proofs.Used.{nobody_quiet, once_more, used_more, used_quiet}
 use Rattle.gs_core.proofs.Tears.{tear_good}
-use Rattle.gs_core.proofs.Growing.{SameRole}
-use Rattle.gs_core.proofs.Steps.{BothOf, post_good}
+use Rattle.gs_core.proofs.Roles.{NoNewRole, roles_given, roles_taken}
+use Rattle.gs_core.proofs.Steps.{BothOf, post_good, was_role}
 use Rattle.gs_core.proofs.Happens.{both_about}
 
 -- an entry that concerns no thread
@@ -76,6 +77,8 @@ good_quiet s xs h e quiet g =
       on_known = λ u c p. subst (λ (z : List Message). 0 < length z) (sym (same u)) (g.on_known u c (stood c u p));
       stamped = λ x i. Was-mono s.first_tseq h (h ++ e ∷ []) x.slot.tid _ [] (same x.slot.tid ∙ sym (append-nil _)) (g.stamped x i);
       within = g.within;
+      used = used_more s.first_tseq h e (nobody_quiet e quiet) (used_quiet s.first_tseq h e quiet same) g.used;
+      once = once_more h e (nobody_quiet e quiet) g.once;
     }
   where
     same : (u : ℕ) → messages (h ++ e ∷ []) u ≡ messages h u
@@ -94,7 +97,7 @@ both_quiet m e quiet g =
       faces = faces_same m.settings.first_tseq m.history (m.history ++ e ∷ []) m.consumed (view m) (page_of m.agent) (same_posted m.history e (posts_none e quiet)) g.faces;
     }
 
-pub quiet_good : (m : State) (e : Entry) → is_quiet e ≡ true → SameRole m.history (m.history ++ e ∷ []) → Good m → Good (record m { history = m.history ++ e ∷ [] })
+pub quiet_good : (m : State) (e : Entry) → is_quiet e ≡ true → NoNewRole m.history (m.history ++ e ∷ []) → Good m → Good (record m { history = m.history ++ e ∷ [] })
 quiet_good m e quiet role g =
     let b = both_quiet m e quiet g in
     record {
@@ -102,30 +105,16 @@ quiet_good m e quiet role g =
       faces = b.faces;
       slots = g.slots;
       count = g.count;
-      when_active = λ p. g.when_active (sym (ap is_some role.active) ∙ p);
-      when_attaching = λ p. g.when_attaching (sym (ap is_some role.attaching) ∙ p);
+      when_active = λ p. g.when_active (was_role (active m.history) (active (m.history ++ e ∷ [])) role.active p);
+      when_attaching = λ p. g.when_attaching (was_role (attaching m.history) (attaching (m.history ++ e ∷ [])) role.attaching p);
     }
 
 -- the other class takes a CPU, or gives it back
-role_taken : (h : History) (c : ℕ) → SameRole h (h ++ Taken c ∷ [])
-role_taken h c =
-    record {
-      active = active-push h (Taken c) ∙ stays ends_role (Taken c) (active h) (λ a. refl);
-      attaching = attaching-push h (Taken c) ∙ stays ends_begin (Taken c) (attaching h) (λ a. refl);
-    }
-
-role_given : (h : History) (c : ℕ) → SameRole h (h ++ Given c ∷ [])
-role_given h c =
-    record {
-      active = active-push h (Given c) ∙ stays ends_role (Given c) (active h) (λ a. refl);
-      attaching = attaching-push h (Given c) ∙ stays ends_begin (Given c) (attaching h) (λ a. refl);
-    }
-
 pub taken_good : (m : State) (c : ℕ) → Good m → Good (record m { history = m.history ++ Taken c ∷ [] })
-taken_good m c g = quiet_good m (Taken c) refl (role_taken m.history c) g
+taken_good m c g = quiet_good m (Taken c) refl (roles_taken m.history c) g
 
 pub give_good : (m : State) (c : ℕ) → Good m → Good (record m { history = m.history ++ Given c ∷ [] })
-give_good m c g = quiet_good m (Given c) refl (role_given m.history c) g
+give_good m c g = quiet_good m (Given c) refl (roles_given m.history c) g
 
 pub take_good : (m : State) (c : ℕ) (b : Bool) → Good m → Good (record m { history = after_take b m.history (preemption m.settings m.history c) c })
 take_good m c b g = by_who (on m.history c) refl b

@@ -1,10 +1,10 @@
 -- Each step keeps what the machine keeps, and the machine has it at the start.
-use Rattle.std.proofs.Common.{◌≡◌, refl, sym, subst, ℕ, zero, suc, ◌<◌, inl, inr, nat_le, not, true, false, Option, None, Some, [], ◌∷◌, arith}
+use Rattle.std.proofs.Common.{◌≡◌, refl, sym, subst, ℕ, zero, suc, ◌<◌, inl, inr, nat_le, not, true, false, Option, None, Some, [], ◌∷◌, arith, slice_get, Bool}
 use Rattle.std.specs.Option.{is_some}
 use Rattle.std.proofs.lemmas.Bool.Decides.{nat_tests}
 use Rattle.gs_layout.specs.declared.refusal.Refusal.{Refusal}
 use Rattle.gs_layout.specs.declared.refusal.Refusal.TheVariants as refusals
-use Rattle.gs_journal.specs.declared.entry.Entry.TheVariants.{Role}
+use Rattle.gs_journal.specs.declared.entry.Entry.TheVariants.{Placed, Role}
 use Rattle.gs_journal.specs.Standing.{standing, latest, last_of}
 use Rattle.gs_journal.specs.Record.{record_of}
 use Rattle.gs_journal.specs.History.{posted, messages, seq, record_in, on, active, attaching, torn, AtEach, AtEachPrefix}
@@ -21,11 +21,11 @@ use Rattle.gs_core.specs.declared.event.Event.{Event}
 use Rattle.gs_core.specs.declared.event.Event.TheVariants as events
 use Rattle.gs_core.specs.Machine.{refusal, Does, Serves, Step}
 use Rattle.gs_kernel.proofs.Refusals.{first_passed}
-use Rattle.gs_kernel.specs.Kernel.{happening, preemption}
-use Rattle.gs_core.specs.Machine.{fits, fits_if_any}
+use Rattle.gs_kernel.specs.Kernel.{happening}
+use Rattle.gs_core.specs.Machine.{fits, makes_way}
 use Rattle.gs_core.proofs.Happens.{happen_good}
 use Rattle.gs_core.proofs.Taking.{take_good, give_good}
-use Rattle.gs_core.proofs.Steps.{create_good, tick_good, drain_kept, stamp_good, commit_good, idle}
+use Rattle.gs_core.proofs.Steps.{create_good, tick_good, drain_kept, stamp_good, commit_good, late_good, idle}
 use Rattle.gs_slots.specs.declared.state.SlotState.TheVariants.{Idle}
 use Rattle.std.proofs.lemmas.List.{length-replicate}
 
@@ -33,8 +33,8 @@ pub below_count : (m : State) (c : ℕ) → nat_le m.settings.cpus c ≡ false �
 below_count m c e = grind (arith, nat_tests, e)
 
 -- a stamp that is not refused is of a CPU
-stamps_on_cpu : (m : State) (c t : ℕ) → refusal m (events.Stamp c t) ≡ None → nat_le m.settings.cpus c ≡ false
-stamps_on_cpu m c t none =
+stamps_on_cpu : (m : State) (c t : ℕ) (p : Bool) → refusal m (events.Stamp c t p) ≡ None → nat_le m.settings.cpus c ≡ false
+stamps_on_cpu m c t p none =
     let p1 = first_passed (torn m.history) refusals.Gone _ none in
     let p2 = first_passed (not (is_some (active m.history))) refusals.NotActive _ p1.1 in
     let p3 = first_passed (nat_le m.settings.cpus c) refusals.BadCpu _ p2.1 in
@@ -44,12 +44,13 @@ stamps_on_cpu m c t none =
 does_good : (m : State) (e : Event) (r : Reply) (m' : State) → Good m → refusal m e ≡ None → Does m e r m' → Good m'
 does_good m (events.Create f) r m' g none d = subst Good (sym d.1) (create_good m f g)
 does_good m (events.Thread t e) r m' g none d = subst Good (sym d.1) (happen_good m t e (fits m (happening m.settings m.history t e)) none g)
-does_good m (events.Take c) r m' g none d = subst Good (sym d.1) (take_good m c (fits_if_any m (preemption m.settings m.history c)) g)
+does_good m (events.Take c) r m' g none d = subst Good (sym d.1) (take_good m c (makes_way m c) g)
 does_good m (events.Give c) r m' g none d = subst Good (sym d.1) (give_good m c g)
 does_good m (events.Tick c) r m' g none d = subst Good (sym d.1) (tick_good m c g)
 does_good m (events.Drain max) r m' g none d = drain_kept m max d.0 m' g d.2
-does_good m (events.Stamp c t) r m' g none d = subst Good (sym d.1) (stamp_good m c t (below_count m c (stamps_on_cpu m c t none)) g)
+does_good m (events.Stamp c t p) r m' g none d = subst Good (sym d.1) (stamp_good m c t p (below_count m c (stamps_on_cpu m c t p none)) g)
 does_good m (events.Commit mask) r m' g none d = subst Good (sym d.1) (commit_good m mask g)
+does_good m (events.Late n) r m' g none d = subst Good (sym d.1) (late_good m n g)
 does_good m events.View r m' g none d = subst Good (sym d.1) g
 does_good m events.State r m' g none d = subst Good (sym d.1) g
 does_good m events.Unread r m' g none d = subst Good (sym d.1) g
@@ -87,6 +88,10 @@ not_attaching : (g c : ℕ) → is_some (attaching (Role g c ∷ [])) ≡ true �
 unfolding attaching standing last_of
 not_attaching g c e = absurd cc
 
+none_placed : (g c i t q k f : ℕ) → slice_get (Role g c ∷ []) i ≡ Some (Placed t q k f) → ⊥
+none_placed g c zero t q k f e = absurd cc
+none_placed g c (suc i) t q k f e = absurd cc
+
 pub start_good : (c : Config) → Good (start c)
 unfolding state seq record_in record_of messages posted latest standing last_of
 start_good c =
@@ -102,6 +107,8 @@ start_good c =
         on_known = λ t d p. absurd (role_only s.first_generation 0 t d p);
         stamped = λ x i. absurd (no_transaction x i);
         within = λ x i. absurd (no_transaction x i);
+        used = λ i t q c f e. absurd (none_placed s.first_generation 0 i t q c f e);
+        once = λ i j t q c d f g e. absurd (none_placed s.first_generation 0 i t q c f e);
       };
       faces = record { consumed = omega arith; known = λ t k e. absurd cc; each = λ t. inl refl; given = λ t p. refl };
       slots = λ i b e. absurd (idle s.cpus i b e);

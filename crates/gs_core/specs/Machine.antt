@@ -17,7 +17,8 @@ use Rattle.gs_journal.specs.History.{posted, active, attaching, torn}
 use Rattle.gs_journal.specs.State.{unread_after}
 use Rattle.gs_kernel.specs.declared.settings.Settings.{Settings}
 use Rattle.gs_slots.specs.State.{collected}
-use Rattle.gs_kernel.specs.Commit.{commit_refusal, lands}
+use Rattle.gs_kernel.specs.Commit.{Fits, Landings, commit_refusal, fits_if_any, lands}
+use Rattle.gs_kernel.specs.Landing.{landing, after_landing}
 use Rattle.gs_kernel.specs.declared.thread_event.ThreadEvent.{ThreadEvent}
 use Rattle.gs_kernel.specs.First.{first_that}
 use Rattle.gs_kernel.specs.Kernel.{has_agent, create_refusal, tick_refusal, thread_refusal, take_refusal, give_refusal, creation, new_tid, happening, preemption, after_post, after_take, after_give}
@@ -80,6 +81,11 @@ is_idle (Some (Stamped b)) = false
 is_idle (Some (Done b o a n)) = false
 is_idle None = false
 
+-- a transaction by its number, counted from 1
+abbrev pub transaction_of : List Transaction → ℕ → Option Transaction
+transaction_of xs zero = None
+transaction_of xs (suc n) = slice_get xs n
+
 -- the first refusal of an event whose condition holds
 abbrev pub refusal : State → Event → Option Refusal
 refusal m (events.Create f) = create_refusal m.settings m.history f
@@ -88,7 +94,7 @@ refusal m (events.Take c) = take_refusal m.settings m.history c
 refusal m (events.Give c) = give_refusal m.settings m.history c
 refusal m (events.Tick c) = tick_refusal m.settings m.history c
 refusal m (events.Drain max) = first_that ((torn m.history, Some refusals.Gone) ∷ (not (has_agent m.history), Some refusals.NotActive) ∷ []) None
-refusal m (events.Stamp c t) =
+refusal m (events.Stamp c t p) =
     first_that (
     (torn m.history, Some refusals.Gone)
     ∷ (not (is_some (active m.history)), Some refusals.NotActive)
@@ -99,13 +105,19 @@ refusal m (events.Stamp c t) =
     ∷ []
     ) None
 refusal m (events.Commit mask) = commit_refusal m.settings m.history mask
+refusal m (events.Late n) =
+    first_that ((torn m.history, Some refusals.Gone) ∷ (not (is_some (transaction_of m.transactions n)), Some refusals.NoSuchTransaction) ∷ []) None
 refusal m events.View = first_that ((torn m.history, Some refusals.Gone) ∷ (not (has_agent m.history), Some refusals.NotActive) ∷ []) None
 refusal m events.State = first_that ((torn m.history, Some refusals.Gone) ∷ []) None
 refusal m events.Unread = first_that ((torn m.history, Some refusals.Gone) ∷ []) None
 
--- whether a message fits into the ring: it takes up no more bytes, with its PAD, than are free
+-- whether a message fits behind a history into a ring of so many bytes, of which so many messages were consumed: it takes up no more
+-- bytes, with its PAD, than are free
+abbrev pub fits_into : ℕ → ℕ → Fits
+fits_into ring consumed h k = nat_le (need ring (written ring (posted h)) (record_len k)) (free_after ring (posted h) consumed)
+
 abbrev pub fits : State → Message → Bool
-fits m k = nat_le (need m.ring (written m.ring (posted m.history)) (record_len k)) (free_after m.ring (posted m.history) m.consumed)
+fits m k = fits_into m.ring m.consumed m.history k
 
 -- a message is posted and answered, or does not fit and tears the enclave down
 abbrev pub posts : State → Message → Reply → Reply × State
@@ -119,16 +131,15 @@ creates m f = posts m (creation m.settings.first_tseq m.history f) (replies.Crea
 abbrev pub happens : State → ℕ → ThreadEvent → Reply × State
 happens m t e = posts m (happening m.settings m.history t e) (replies.Posted (happening m.settings m.history t e))
 
--- whether a message fits, where there is one
-abbrev pub fits_if_any : State → Option Message → Bool
-fits_if_any m None = true
-fits_if_any m (Some k) = fits m k
+-- whether the message to the thread on a CPU fits, where there is one
+abbrev pub makes_way : State → ℕ → Bool
+makes_way m c = fits_if_any (fits_into m.ring m.consumed) m.history (preemption m.settings m.history c)
 
 -- the other class takes a CPU: the thread there is told first
 abbrev pub takes : State → ℕ → Reply × State
 takes m c = (
-  if fits_if_any m (preemption m.settings m.history c) then replies.Taken c else replies.Torn,
-  record m { history = after_take (fits_if_any m (preemption m.settings m.history c)) m.history (preemption m.settings m.history c) c },
+  if makes_way m c then replies.Taken c else replies.Torn,
+  record m { history = after_take (makes_way m c) m.history (preemption m.settings m.history c) c },
 )
 
 -- and gives a CPU back
@@ -139,31 +150,46 @@ gives m c = (replies.Given c, record m { history = after_give m.history c })
 abbrev pub ticks : State → ℕ → Reply × State
 ticks m c = posts m (TimerTick c) (replies.Ticked c)
 
--- what is stamped: the active generation, and the record's sequence number
-abbrev pub stamp_of : ℕ → (ℕ × ℕ) → Known → Stamp
-stamp_of t a k = record { generation = a.0; tid = t; tseq = k.tseq; preempt = false }
+-- what is stamped: the active generation, the record's sequence number, and whether a thread on the CPU is to be taken off
+abbrev pub stamp_of : ℕ → Bool → (ℕ × ℕ) → Known → Stamp
+stamp_of t p a k = record { generation = a.0; tid = t; tseq = k.tseq; preempt = p }
 
 -- the record that the view has is stamped into the slot, and kept with the transaction
-abbrev pub stamps_with : State → ℕ → ℕ → Option (ℕ × ℕ) → Option Known → Reply × State
-stamps_with m c t (Some a) (Some k) = (
+abbrev pub stamps_with : State → ℕ → ℕ → Bool → Option (ℕ × ℕ) → Option Known → Reply × State
+stamps_with m c t p (Some a) (Some k) = (
   replies.Stamped (length m.transactions + 1),
   record m {
-    slots = slice_set m.slots c (Stamped (stamp_of t a k));
-    transactions = m.transactions ++ record { cpu = c; slot = stamp_of t a k; facts = k.facts } ∷ [];
+    slots = slice_set m.slots c (Stamped (stamp_of t p a k));
+    transactions = m.transactions ++ record { cpu = c; slot = stamp_of t p a k; facts = k.facts } ∷ [];
   },
 )
-stamps_with m c t None k = (replies.Refused refusals.NotActive, m)
-stamps_with m c t (Some a) None = (replies.Refused refusals.NoThread, m)
+stamps_with m c t p None k = (replies.Refused refusals.NotActive, m)
+stamps_with m c t p (Some a) None = (replies.Refused refusals.NoThread, m)
 
-abbrev pub stamps : State → ℕ → ℕ → Reply × State
-stamps m c t = stamps_with m c t (active m.history) (view m t)
+abbrev pub stamps : State → ℕ → ℕ → Bool → Reply × State
+stamps m c t p = stamps_with m c t p (active m.history) (view m t)
 
--- a commit: its slots land, and what is done is idle then
+-- the landings of a commit
+abbrev pub landings : State → ℕ → Landings
+landings m mask = lands (fits_into m.ring m.consumed) m.settings mask 0 m.slots m.history
+
+-- a commit: its slots land, and what is done is idle then; the answer says whether that tore the enclave down
 abbrev pub commits : State → ℕ → Reply × State
 commits m mask = (
-  replies.Landed (lands m.settings mask 0 m.slots m.history).answers,
-  record m { history = (lands m.settings mask 0 m.slots m.history).history; slots = map collected (lands m.settings mask 0 m.slots m.history).slots },
+  replies.Landed (landings m mask).answers (torn (landings m mask).history),
+  record m { history = (landings m mask).history; slots = map collected (landings m mask).slots },
 )
+
+-- a transaction lands late, as it was stamped: of the machine only the history changes
+abbrev pub lands_late : State → ℕ → Option Transaction → Reply × State
+lands_late m n None = (replies.Refused refusals.NoSuchTransaction, m)
+lands_late m n (Some x) = (
+  replies.Late n (landing (makes_way m x.cpu) m.settings m.history x.cpu x.slot) (torn (after_landing (makes_way m x.cpu) m.settings m.history x.cpu x.slot)),
+  record m { history = after_landing (makes_way m x.cpu) m.settings m.history x.cpu x.slot },
+)
+
+abbrev pub lates : State → ℕ → Reply × State
+lates m n = lands_late m n (transaction_of m.transactions n)
 
 -- whether the next of these messages begins a record
 abbrev pub begins_next : Look → List Message → Bool
@@ -208,8 +234,9 @@ Does m (events.Take c) r m' = (r ≡ (takes m c).0) × (m' ≡ (takes m c).1)
 Does m (events.Give c) r m' = (r ≡ (gives m c).0) × (m' ≡ (gives m c).1)
 Does m (events.Tick c) r m' = (r ≡ (ticks m c).0) × (m' ≡ (ticks m c).1)
 Does m (events.Drain max) r m' = (d : Drained) × (r ≡ replies.Drained d) × Drains m max d m'
-Does m (events.Stamp c t) r m' = (r ≡ (stamps m c t).0) × (m' ≡ (stamps m c t).1)
+Does m (events.Stamp c t p) r m' = (r ≡ (stamps m c t p).0) × (m' ≡ (stamps m c t p).1)
 Does m (events.Commit mask) r m' = (r ≡ (commits m mask).0) × (m' ≡ (commits m mask).1)
+Does m (events.Late n) r m' = (r ≡ (lates m n).0) × (m' ≡ (lates m n).1)
 Does m events.View r m' = Shows (view m) r × (m' ≡ m)
 Does m events.State r m' = (r ≡ replies.State (live_threads m.settings m.history)) × (m' ≡ m)
 Does m events.Unread r m' = (r ≡ replies.Unread (unread m)) × (m' ≡ m)
@@ -227,11 +254,6 @@ Serves None m e r m' = Does m e r m' ⊎ (IsShort e r × (m' ≡ m))
 -- from m an event may answer r and leave m'
 abbrev pub Step : State → Event → Reply → State → Type 0
 Step m e r m' = Serves (refusal m e) m e r m'
-
--- a transaction by its number, counted from 1
-abbrev pub transaction_of : List Transaction → ℕ → Option Transaction
-transaction_of xs zero = None
-transaction_of xs (suc n) = slice_get xs n
 
 -- the machine before the first event
 abbrev pub start : Config → State

@@ -54,10 +54,16 @@ pub record Safe (m : State) : Type 0 where
   pub one : AtEachPrefix OnOne m.history
   pub agrees : attached m ≡ true → Agrees m
 
--- each record of the view was the thread's at the moment when its number was the record's, and the next message is no gap
+-- no two entries place a thread at the same number
+abbrev pub PlacedOnce : History → Type 0
+PlacedOnce h = (i j t q c d f g : ℕ) → slice_get h i ≡ Some (Placed t q c f) → slice_get h j ≡ Some (Placed t q d g) → i ≡ j
+
+-- each record of the view was the thread's at the moment when its number was the record's, the next message is no gap, and no thread was
+-- placed twice at one number
 pub record IsFaithful (m : State) : Type 0 where
   pub known : (t : ℕ) (k : Known) → view m t ≡ Some k → WasOnce m.settings.first_tseq m.history t k
   pub no_gap : gap_next (view m) (unread m) ≡ false
+  pub once : PlacedOnce m.history
 
 -- replies and machines of a list of events, each machine on the way safe and its view faithful
 abbrev pub Run : State → List Event → List Reply → State → Type 0

@@ -17,10 +17,14 @@ pub enum Event {
     Tick { cpu: u16 },
     /// The agent takes in the messages that wait, at most `max`.
     Drain { max: u32 },
-    /// The agent stamps what it knows of a thread into the slot of a CPU.
-    Stamp { cpu: u16, tid: u32 },
+    /// The agent stamps what it knows of a thread into the slot of a CPU: the thread is to be placed there,
+    /// and with `preempt` in place of the one that is there then.
+    Stamp { cpu: u16, tid: u32, preempt: bool },
     /// The stamped slots of the mask land, and are idle then.
     Commit { mask: Mask },
+    /// A transaction lands late, as it was stamped, by its number counted from 1. No slot changes, and the
+    /// agent is told nothing.
+    Late { number: u32 },
     /// What the agent knows of each thread is shown. Nothing changes.
     View,
     /// The threads that live are shown. Nothing changes.

@@ -224,21 +224,21 @@ impl Machine {
         }
     }
 
-    fn stamp(&mut self, cpu: u16, tid: u32) -> Reply
-        ensures { Step self.old (Event.Stamp cpu tid) result self.new }
+    fn stamp(&mut self, cpu: u16, tid: u32, preempt: bool) -> Reply
+        ensures { Step self.old (Event.Stamp cpu tid preempt) result self.new }
     {
-        match self.try_stamp(cpu, tid) {
+        match self.try_stamp(cpu, tid, preempt) {
             Ok(number) => Reply::Stamped { number },
             Err(refusal) => Reply::Refused(refusal),
         }
     }
 
     /// Stamps what the view has of a thread into the slot of a CPU. Answers the transaction's number.
-    fn try_stamp(&mut self, cpu: u16, tid: u32) -> Result<usize, Refusal>
-        ensures fits { IfOk result (λ _. refusal self.old (Event.Stamp cpu tid) ≡ None) }
-        ensures number { IfOk result (λ n. Reply.Stamped n ≡ (stamps self.old cpu tid).0) }
-        ensures ok { OnOk result (self.new ≡ (stamps self.old cpu tid).1) }
-        ensures refused { IfErr result (IsRefusal (refusal self.old (Event.Stamp cpu tid))) }
+    fn try_stamp(&mut self, cpu: u16, tid: u32, preempt: bool) -> Result<usize, Refusal>
+        ensures fits { IfOk result (λ _. refusal self.old (Event.Stamp cpu tid preempt) ≡ None) }
+        ensures number { IfOk result (λ n. Reply.Stamped n ≡ (stamps self.old cpu tid preempt).0) }
+        ensures ok { OnOk result (self.new ≡ (stamps self.old cpu tid preempt).1) }
+        ensures refused { IfErr result (IsRefusal (refusal self.old (Event.Stamp cpu tid preempt))) }
         ensures unchanged { OnErr result (self.new ≡ self.old) }
     {
         if self.kernel.is_torn() {
@@ -265,14 +265,16 @@ impl Machine {
             generation: self.role.generation(),
             tid,
             tseq,
-            preempt: false,
+            preempt,
         };
         let transaction = Transaction { cpu, slot, facts };
         if self.transactions.push(transaction).is_err() {
             return Err(Refusal::OutOfMemory);
         }
         // The slot is idle, and the view knows the thread.
-        self.role.stamp(self.region.slot(cpu), tid, false).unwrap();
+        self.role
+            .stamp(self.region.slot(cpu), tid, preempt)
+            .unwrap();
         Ok(number + 1)
     }
 
@@ -282,9 +284,31 @@ impl Machine {
         match self.kernel.txns_commit(self.alloc, &mut self.region, mask) {
             Ok(landings) => {
                 self.role.collect(&mut self.region);
-                Reply::Landed(Items::new(landings))
+                Reply::Landed {
+                    landings: Items::new(landings),
+                    torn: self.kernel.is_torn(),
+                }
             }
             Err(refusal) => Reply::Refused(refusal),
+        }
+    }
+
+    fn late(&mut self, number: u32) -> Reply
+        ensures { Step self.old (Event.Late number) result self.new }
+    {
+        if self.kernel.is_torn() {
+            return Reply::Refused(Refusal::Gone);
+        }
+        let Some(transaction) = self.transaction(number as usize) else {
+            return Reply::Refused(Refusal::NoSuchTransaction);
+        };
+        match self.kernel.land_stamp(transaction.cpu, &transaction.slot) {
+            Ok(landing) => Reply::Late {
+                number,
+                landing,
+                torn: self.kernel.is_torn(),
+            },
+            Err(_) => Reply::Refused(Refusal::OutOfMemory),
         }
     }
 
@@ -301,8 +325,9 @@ impl Machine {
             Event::Give { cpu } => self.give(*cpu),
             Event::Tick { cpu } => self.tick(*cpu),
             Event::Drain { max } => self.drain(*max),
-            Event::Stamp { cpu, tid } => self.stamp(*cpu, *tid),
+            Event::Stamp { cpu, tid, preempt } => self.stamp(*cpu, *tid, *preempt),
             Event::Commit { mask } => self.commit(*mask),
+            Event::Late { number } => self.late(*number),
             Event::View => self.view(),
             Event::State => self.state(),
             Event::Unread => self.unread(),

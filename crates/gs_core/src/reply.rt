@@ -43,20 +43,41 @@ pub enum Reply {
     /// The event's message did not fit into the ring, and the enclave was torn down.
     Torn,
     /// The new thread, with its first sequence number.
-    Created { tid: u32, tseq: u32 },
+    Created {
+        tid: u32,
+        tseq: u32,
+    },
     /// The message about the thread that was posted.
     Posted(Message),
     /// The other class took the CPU.
-    Taken { cpu: u16 },
+    Taken {
+        cpu: u16,
+    },
     /// The other class gave the CPU back.
-    Given { cpu: u16 },
+    Given {
+        cpu: u16,
+    },
     /// The timer of the CPU ticked.
-    Ticked { cpu: u16 },
+    Ticked {
+        cpu: u16,
+    },
     Drained(Drained),
     /// The number of the new transaction, counted from 1.
-    Stamped { number: usize },
-    /// What became of each slot that landed.
-    Landed(Items<Landing>),
+    Stamped {
+        number: usize,
+    },
+    /// What became of each slot that landed, and whether that tore the enclave down.
+    Landed {
+        landings: Items<Landing>,
+        torn: bool,
+    },
+    /// What became of the transaction of this number, which landed late, and whether that tore the enclave
+    /// down.
+    Late {
+        number: u32,
+        landing: Landing,
+        torn: bool,
+    },
     /// What the agent knows of each thread, by rising tid.
     View(Items<(u32, Known)>),
     /// The threads that live, by rising tid.

@@ -1,8 +1,9 @@
 use crate::{Config, ConfigFault, Event, Machine, Reply};
 use gs_agent::Drained;
-use gs_kernel::ThreadEvent;
+use gs_kernel::{Kernel, Landing, Settings, ThreadEvent};
 use gs_layout::{Change, Class, Facts, Message, Name, Outcome, Refusal};
-use gs_slots::SlotState;
+use gs_ring::ByteRing;
+use gs_slots::{SlotState, Stamp};
 use gs_status::Mask;
 use std::alloc::Global;
 use std::process::Abort;
@@ -11,6 +12,14 @@ use std::test::Fail;
 const TWO_CPUS: Config = Config {
     cpus: 2,
     ring: 128,
+    first_tseq: 0,
+    first_generation: 1,
+    history: 100,
+};
+
+/// The numbers of a kernel of two CPUs.
+const SETTINGS: Settings = Settings {
+    cpus: 2,
     first_tseq: 0,
     first_generation: 1,
     history: 100,
@@ -28,7 +37,10 @@ fn thread(rt: &impl Abort, runnable: bool, mask: u64) -> Facts {
 /// Whether a commit landed just one slot, of this CPU and thread, with this outcome.
 fn is_landed(reply: &Reply, cpu: u16, tid: u32, outcome: Outcome, at: Option<u16>) -> bool {
     match reply {
-        Reply::Landed(landings) => match landings.as_slice() {
+        Reply::Landed {
+            landings,
+            torn: false,
+        } => match landings.as_slice() {
             [only] => {
                 only.cpu == cpu
                     && only.tid == tid
@@ -50,7 +62,11 @@ fn first_path(rt: HostRuntime) -> Result<(), Fail> {
             facts: thread(&rt, true, 3),
         },
         Event::Drain { max: 1 },
-        Event::Stamp { cpu: 1, tid: 1 },
+        Event::Stamp {
+            cpu: 1,
+            tid: 1,
+            preempt: false,
+        },
         Event::Commit { mask: Mask::new(2) },
     ];
     let replies = machine.run(&events)?;
@@ -85,7 +101,11 @@ fn outcomes(rt: HostRuntime) -> Result<(), Fail> {
         facts: thread(&rt, false, 2),
     });
     assert!(rt; matches!(second, Reply::Created { tid: 2, tseq: 1 }));
-    let early = machine.step(&Event::Stamp { cpu: 1, tid: 1 });
+    let early = machine.step(&Event::Stamp {
+        cpu: 1,
+        tid: 1,
+        preempt: false,
+    });
     assert!(rt; matches!(early, Reply::Refused(Refusal::NoThread)));
     let drained = machine.step(&Event::Drain { max: 9 });
     assert!(rt; matches!(drained, Reply::Drained(Drained { count: 2, .. })));
@@ -94,8 +114,16 @@ fn outcomes(rt: HostRuntime) -> Result<(), Fail> {
         (1, 2, Outcome::NotRunnable),
         (0, 1, Outcome::CpuIsAgent),
     ] {
-        let _ = machine.step(&Event::Stamp { cpu, tid });
-        let again = machine.step(&Event::Stamp { cpu, tid });
+        let _ = machine.step(&Event::Stamp {
+            cpu,
+            tid,
+            preempt: false,
+        });
+        let again = machine.step(&Event::Stamp {
+            cpu,
+            tid,
+            preempt: false,
+        });
         assert!(rt; matches!(again, Reply::Refused(Refusal::SlotOpen)));
         let reply = machine.step(&Event::Commit { mask: Mask::new(3) });
         assert!(rt; is_landed(&reply, cpu, tid, outcome, None));
@@ -127,12 +155,20 @@ fn refusals(rt: HostRuntime) -> Result<(), Fail> {
         facts: thread(&rt, true, 3),
     });
     assert!(rt; matches!(full, Reply::Refused(Refusal::HistoryFull)));
-    let bad = machine.step(&Event::Stamp { cpu: 2, tid: 1 });
+    let bad = machine.step(&Event::Stamp {
+        cpu: 2,
+        tid: 1,
+        preempt: false,
+    });
     assert!(rt; matches!(bad, Reply::Refused(Refusal::BadCpu)));
     let mask = machine.step(&Event::Commit { mask: Mask::new(4) });
     assert!(rt; matches!(mask, Reply::Refused(Refusal::EmptyMask)));
     let _ = machine.step(&Event::Drain { max: 1 });
-    let _ = machine.step(&Event::Stamp { cpu: 1, tid: 1 });
+    let _ = machine.step(&Event::Stamp {
+        cpu: 1,
+        tid: 1,
+        preempt: false,
+    });
     let reply = machine.step(&Event::Commit { mask: Mask::new(2) });
     assert!(rt; is_landed(&reply, 1, 1, Outcome::HistoryFull, None));
     Ok(())
@@ -203,7 +239,11 @@ fn tears_down(rt: HostRuntime) -> Result<(), Fail> {
         Event::Give { cpu: 9 },
         Event::Tick { cpu: 9 },
         Event::Drain { max: 1 },
-        Event::Stamp { cpu: 9, tid: 9 },
+        Event::Stamp {
+            cpu: 9,
+            tid: 9,
+            preempt: false,
+        },
         Event::Commit { mask: Mask::new(4) },
         Event::View,
         Event::State,
@@ -288,7 +328,11 @@ fn running(rt: &impl Abort, alloc: Global) -> Result<Machine, Fail> {
             facts: thread(rt, true, 3),
         },
         Event::Drain { max: 1 },
-        Event::Stamp { cpu: 1, tid: 1 },
+        Event::Stamp {
+            cpu: 1,
+            tid: 1,
+            preempt: false,
+        },
         Event::Commit { mask: Mask::new(2) },
     ];
     let replies = machine.run(&events)?;
@@ -369,5 +413,69 @@ fn shows_the_view(rt: HostRuntime) -> Result<(), Fail> {
     assert_eq!(rt; machine.role().view().len(), 1);
     assert_eq!(rt; machine.region().cpus(), 2);
     assert_eq!(rt; machine.region().state(1), Ok(SlotState::Idle));
+    Ok(())
+}
+
+/// A thread makes way for another one, whose transaction lands late, and the slot stays as it was stamped.
+#[test]
+fn makes_way(rt: HostRuntime) -> Result<(), Fail> {
+    let mut machine = running(&rt, rt.alloc())?;
+    let stamp = Event::Stamp {
+        cpu: 1,
+        tid: 2,
+        preempt: true,
+    };
+    let events = [
+        Event::Create {
+            facts: thread(&rt, true, 3),
+        },
+        Event::Drain { max: 1 },
+        stamp,
+        Event::Late { number: 2 },
+        stamp,
+    ];
+    let replies = machine.run(&events)?;
+    let Reply::Late {
+        number: 2,
+        landing,
+        torn: false,
+    } = &replies[3]
+    else {
+        return Err(Fail::from("a late landing"));
+    };
+    assert_eq!(rt;
+        (landing.outcome, landing.tid, landing.at),
+        (Outcome::Placed, 2, Some(1))
+    );
+    assert!(rt; matches!(replies[4], Reply::Refused(Refusal::SlotOpen)));
+    Ok(())
+}
+
+/// A transaction lands with no slot at all, twice.
+#[test]
+fn lands_without_a_slot(rt: HostRuntime) -> Result<(), Fail> {
+    let ring = ByteRing::new(rt.alloc(), 128).ok().ok_or("a ring")?;
+    let mut kernel = Kernel::new(rt.alloc(), SETTINGS, ring)?;
+    let made = kernel.create(&thread(&rt, true, 3));
+    assert_eq!(rt; made, Ok(Some((1, 1))));
+    let stamp = Stamp {
+        generation: 1,
+        tid: 1,
+        tseq: 1,
+        preempt: false,
+    };
+    let placed = Landing {
+        cpu: 1,
+        tid: 1,
+        outcome: Outcome::Placed,
+        seen: 1,
+        at: Some(1),
+    };
+    assert_eq!(rt; kernel.land_stamp(1, &stamp), Ok(placed));
+    let again = kernel.land_stamp(1, &stamp)?;
+    assert_eq!(rt;
+        (again.outcome, again.at),
+        (Outcome::AlreadyPlaced, Some(1))
+    );
     Ok(())
 }

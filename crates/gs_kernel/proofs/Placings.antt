@@ -1,15 +1,26 @@
 -- What holds where a landing is placed.
-use Rattle.std.proofs.Common.{◌≡◌, ℕ, ◌<◌, ◌==◌, length, Bool, true, false, nat_le, cond, Option, None, Some, refl, ap, sym, ◌∙◌, arith}
-use Rattle.std.specs.Option.{is_some}
+use Rattle.std.proofs.Common.{◌≡◌, ℕ, zero, suc, ◌+◌, ◌<◌, ◌≤◌, ◌==◌, ◌++◌, ◌∷◌, [], ◌⊎◌, inl, inr, length, Bool, true, false, not, nat_le, cond, Option, None, Some, refl, ap, sym, subst, ◌∙◌, append_assoc, length-append, arith}
+use Rattle.std.specs.Option.{is_some, option_map}
 use Rattle.std.proofs.lemmas.Bool.{false≢true}
 use Rattle.std.proofs.lemmas.Bool.Decides.{nat_tests}
 use Rattle.gs_slots.specs.declared.state.Stamp.{Stamp}
+use Rattle.gs_layout.specs.declared.message.Change.TheVariants.{Preempted}
+use Rattle.gs_layout.specs.declared.message.Message.{Message}
+use Rattle.gs_layout.specs.declared.message.Message.TheVariants.{Thread}
 use Rattle.gs_layout.specs.declared.outcome.Outcome.{Outcome}
 use Rattle.gs_layout.specs.declared.outcome.Outcome.TheVariants as outcomes
-use Rattle.gs_journal.specs.History.{History, seq, record_in, on, at, active}
+use Rattle.gs_layout.specs.Message.{is_about}
+use Rattle.gs_journal.specs.declared.entry.Entry.{Entry}
+use Rattle.gs_journal.specs.declared.entry.Entry.TheVariants.{Posted}
+use Rattle.gs_journal.specs.Standing.{then_stands}
+use Rattle.gs_journal.specs.History.{History, seq, record_in, on, at, at_below, is_thread, active, torn, ends_run}
+use Rattle.gs_journal.proofs.Laws.{at_is, on-push}
+use Rattle.gs_threads.proofs.Entries.{messages_other, on_off, record_by, seq_by}
 use Rattle.gs_kernel.specs.declared.settings.Settings.{Settings}
-use Rattle.gs_kernel.specs.Landing.{verdict, cpu_verdict, is_generation}
+use Rattle.gs_kernel.specs.Kernel.{after_preemption, is_spent_there, made_way, next_about, preemption}
+use Rattle.gs_kernel.specs.Landing.{verdict, after_verdict, cpu_verdict, is_generation, placing, placing_entries, settled}
 use Rattle.gs_kernel.specs.Threads.{is_runnable, may_run_on}
+use Rattle.gs_kernel.proofs.Entries.{beside_placed, beside_posted, torn_now}
 use Rattle.gs_kernel.proofs.Refusals.{not_not}
 
 is_placed : Outcome → Bool
@@ -29,26 +40,29 @@ passed false o p other e = (refl, e)
 not_le : (m n : ℕ) → nat_le m n ≡ false → n < m
 not_le m n e = grind (arith, nat_tests)
 
-cpu_placed : (s : Settings) (h : History) (k : ℕ) → cpu_verdict s h k ≡ outcomes.Placed → (on h k ≡ None) × (length h < s.history)
+cpu_placed : (s : Settings) (h : History) (k : ℕ) (preempt : Bool) → cpu_verdict s h k preempt ≡ outcomes.Placed → (is_spent_there s h (on h k) ≡ false) × (length h + placing_entries (on h k) ≤ s.history)
 unfolding is_placed
-cpu_placed s h k e =
+cpu_placed s h k preempt e =
     let p1 = passed _ outcomes.CpuIsAgent _ refl e in
     let p2 = passed _ outcomes.CpuTaken _ refl p1.1 in
     let p3 = passed _ outcomes.CpuBusy _ refl p2.1 in
-    let p4 = passed _ outcomes.HistoryFull _ refl p3.1 in
-    (none_of _ p3.0, not_le s.history (length h) p4.0)
+    let p4 = passed _ outcomes.SeqSpent _ refl p3.1 in
+    let p5 = passed _ outcomes.HistoryFull _ refl p4.1 in
+    let most : length h + placing_entries (on h k) < s.history + 1 = not_le (s.history + 1) (length h + placing_entries (on h k)) p5.0 in
+    (p4.0, omega (arith, most))
 
--- what holds where the outcome is Placed
-pub record IsPlacing (s : Settings) (h : History) (k : ℕ) (b : Stamp) : Type 0 where
+-- what holds where a transaction is to be placed: of it and its thread, and of the CPU
+pub record IsToPlace (s : Settings) (h : History) (k : ℕ) (b : Stamp) : Type 0 where
+  pub up : torn h ≡ false
   pub generation : is_generation b.generation (active h) ≡ true
   pub current : (b.tseq == seq s.first_tseq h b.tid) ≡ true
   pub runnable : is_runnable (record_in h b.tid) ≡ true
   pub nowhere : at s.cpus h b.tid ≡ None
   pub allowed : may_run_on k (record_in h b.tid) ≡ true
-  pub free : on h k ≡ None
-  pub fits : length h < s.history
+  pub numbers : is_spent_there s h (on h k) ≡ false
+  pub fits : length h + placing_entries (on h k) ≤ s.history
 
-pub placing_when : (s : Settings) (h : History) (k : ℕ) (b : Stamp) → verdict s h k b ≡ outcomes.Placed → IsPlacing s h k b
+pub placing_when : (s : Settings) (h : History) (k : ℕ) (b : Stamp) → verdict s h k b ≡ outcomes.Placed → IsToPlace s h k b
 unfolding verdict is_placed
 placing_when s h k b e =
     let p1 = passed _ outcomes.Gone _ refl e in
@@ -58,12 +72,171 @@ placing_when s h k b e =
     let p5 = passed _ outcomes.NotRunnable _ refl p4.1 in
     let p6 = passed _ outcomes.AlreadyPlaced _ refl p5.1 in
     let p7 = passed _ outcomes.NotAllowed _ refl p6.1 in
+    let cpu = cpu_placed s h k b.preempt p7.1 in
     record {
+      up = p1.0;
       generation = not_not _ p2.0;
       current = not_not _ p4.0;
       runnable = not_not _ p5.0;
       nowhere = none_of _ p6.0;
       allowed = not_not _ p7.0;
-      free = (cpu_placed s h k p7.1).0;
-      fits = (cpu_placed s h k p7.1).1;
+      numbers = cpu.0;
+      fits = cpu.1;
     }
+
+-- what holds where it is placed: nobody is on the CPU
+pub record IsPlacing (s : Settings) (h : History) (k : ℕ) (b : Stamp) : Type 0 where
+  pub up : torn h ≡ false
+  pub generation : is_generation b.generation (active h) ≡ true
+  pub current : (b.tseq == seq s.first_tseq h b.tid) ≡ true
+  pub runnable : is_runnable (record_in h b.tid) ≡ true
+  pub nowhere : at s.cpus h b.tid ≡ None
+  pub allowed : may_run_on k (record_in h b.tid) ≡ true
+  pub free : on h k ≡ None
+
+-- a thread that is nowhere is on no CPU, and stays nowhere where nobody is put on a CPU
+step_none : (c : ℕ) (h : History) (t : ℕ) → at_below (suc c) h t ≡ None → (at_below c h t ≡ None) × (is_thread t (on h c) ≡ false)
+step_none c h t = by_below (at_below c h t) (is_thread t (on h c))
+  where
+    by_below : (o : Option ℕ) (b : Bool) → elim o as (λ _. Option ℕ) [ Some d ↦ Some d | None ↦ cond b (Some c) None ] ≡ None → (o ≡ None) × (b ≡ false)
+    by_below (Some d) b e = absurd cc
+    by_below None true e = absurd cc
+    by_below None false e = (refl, refl)
+
+here_or_below : (n c : ℕ) (h : History) (t : ℕ) → is_thread t (on h n) ≡ false → c < suc n → on h c ≡ Some t → (c < n → ⊥) → ⊥
+here_or_below n c h t not_here lt there below = by_test (c == n) refl
+  where
+    by_test : (b : Bool) → (c == n) ≡ b → ⊥
+    by_test true q =
+        let e : c ≡ n = grind (arith, nat_tests) in
+        let is : is_thread t (on h n) ≡ true = ap (λ d. is_thread t (on h d)) (sym e) ∙ (ap (is_thread t) there ∙ (let y : (t == t) ≡ true = grind (arith, nat_tests) in y)) in
+        absurd (false≢true (sym not_here ∙ is))
+    by_test false q = below (let x : (c ≡ n → ⊥) = λ e. let y : (c == n) ≡ true = grind (arith, nat_tests) in absurd (false≢true (sym q ∙ y)) in omega (arith, lt, x))
+
+pub on_none : (n c : ℕ) (h : History) (t : ℕ) → at_below n h t ≡ None → c < n → on h c ≡ Some t → ⊥
+on_none zero c h t none lt there = let x : c < 0 = lt in omega (arith, x)
+on_none (suc n) c h t none lt there = here_or_below n c h t (step_none n h t none).1 lt there (λ less. on_none n c h t (step_none n h t none).0 less there)
+
+not_there : (o : Option ℕ) (t : ℕ) → (o ≡ Some t → ⊥) → is_thread t o ≡ false
+not_there None t other = refl
+not_there (Some u) t other = by_test (u == t) refl
+  where
+    by_test : (b : Bool) → (u == t) ≡ b → (u == t) ≡ false
+    by_test false q = q
+    by_test true q = absurd (other (ap Some (let e : u ≡ t = grind (arith, nat_tests) in e)))
+
+still_none : (n : ℕ) (h h' : History) (t : ℕ) → ((c : ℕ) → on h' c ≡ Some t → on h c ≡ Some t) → at_below n h t ≡ None → at_below n h' t ≡ None
+still_none zero h h' t stood none = refl
+still_none (suc n) h h' t stood none =
+    let P : Option ℕ → Type 0 = λ o. elim o as (λ _. Option ℕ) [ Some d ↦ Some d | None ↦ cond (is_thread t (on h' n)) (Some n) None ] ≡ None in
+    let was = step_none n h t none in
+    let here : is_thread t (on h' n) ≡ false = not_there (on h' n) t (λ e. absurd (false≢true (sym was.1 ∙ (ap (is_thread t) (stood n e) ∙ (let y : (t == t) ≡ true = grind (arith, nat_tests) in y))))) in
+    subst P (sym (still_none n h h' t stood was.0)) (ap (λ b. cond b (Some n) None) here)
+
+-- nobody is put on a CPU by a message
+pub stood : (h : History) (m : Message) (c t : ℕ) → on (h ++ Posted m ∷ []) c ≡ Some t → on h c ≡ Some t
+stood h m c t e = by_who (on h c) (sym (on-push h (Posted m) c) ∙ e)
+  where
+    by_test : (u : ℕ) (b : Bool) → cond b None (Some u) ≡ Some t → Some u ≡ Some t
+    by_test u true q = absurd cc
+    by_test u false q = q
+
+    by_who : (o : Option ℕ) → then_stands None ends_run (Posted m) o ≡ Some t → o ≡ Some t
+    by_who None q = q
+    by_who (Some u) q = by_test u (ends_run u (Posted m)) q
+
+-- where nobody is on the CPU, it is placed; else once the thread there was told that it is taken off
+pub placing_free : (s : Settings) (h : History) (k : ℕ) (b : Stamp) → on h k ≡ None → IsToPlace s h k b → IsPlacing s h k b
+placing_free s h k b free p = record { up = p.up; generation = p.generation; current = p.current; runnable = p.runnable; nowhere = p.nowhere; allowed = p.allowed; free = free }
+
+pub placing_then : (s : Settings) (h : History) (k u : ℕ) (b : Stamp) → k < s.cpus → on h k ≡ Some u → IsToPlace s h k b → IsPlacing s (h ++ Posted (next_about s h u (Preempted k)) ∷ []) k b
+placing_then s h k u b lt there p =
+    let m : Message = next_about s h u (Preempted k) in
+    let h' : History = h ++ Posted m ∷ [] in
+    let nowhere : at_below s.cpus h b.tid ≡ None = sym (at_is s.cpus h b.tid) ∙ p.nowhere in
+    let other : is_about b.tid m ≡ false = by_test b.tid nowhere (u == b.tid) refl in
+    let same = messages_other h m b.tid other in
+    let row : record_in h' b.tid ≡ record_in h b.tid = record_by h h' b.tid same in
+    record {
+      up = (beside_posted h m).torn ∙ p.up;
+      generation = ap (is_generation b.generation) (beside_posted h m).active ∙ p.generation;
+      current = ap (λ n. b.tseq == n) (seq_by s.first_tseq h h' b.tid same) ∙ p.current;
+      runnable = ap is_runnable row ∙ p.runnable;
+      nowhere = at_is s.cpus h' b.tid ∙ still_none s.cpus h h' b.tid (λ c e. stood h m c b.tid e) nowhere;
+      allowed = ap (may_run_on k) row ∙ p.allowed;
+      free = on_off h m u k there (let y : (u == u) ≡ true = grind (arith, nat_tests) in y);
+    }
+  where
+    by_test : (t : ℕ) → at_below s.cpus h t ≡ None → (x : Bool) → (u == t) ≡ x → (u == t) ≡ false
+    by_test t none false q = q
+    by_test t none true q = let e : u ≡ t = grind (arith, nat_tests) in absurd (on_none s.cpus k h t none lt (there ∙ ap Some e))
+
+pub placing_after : (s : Settings) (h : History) (k : ℕ) (b : Stamp) → k < s.cpus → IsToPlace s h k b → IsPlacing s (after_preemption true h (preemption s h k)) k b
+placing_after s h k b lt p = by_who (on h k) refl
+  where
+    by_who : (o : Option ℕ) → on h k ≡ o → IsPlacing s (after_preemption true h (option_map (λ t. next_about s h t (Preempted k)) o)) k b
+    by_who None e = placing_free s h k b e p
+    by_who (Some u) e = placing_then s h k u b lt e p
+
+-- making way is the message, and then the entry
+pub made_way-push : (h : History) (o : Option Message) (e : Entry) → made_way true h o e ≡ after_preemption true h o ++ e ∷ []
+made_way-push h None e = refl
+made_way-push h (Some m) e = sym (append_assoc h (Posted m ∷ []) (e ∷ []))
+
+-- whether the enclave stands then: where it stood, and the message fits
+pub torn_way : (s : Settings) (fits : Bool) (h : History) (o : Option Message) (k : ℕ) (b : Stamp) → torn h ≡ false → (fits ≡ false → (m : Message) × (o ≡ Some m)) → torn (made_way fits h o (placing k b)) ≡ not fits
+torn_way s true h None k b up any = (beside_placed h b.tid b.tseq k b.generation).torn ∙ up
+torn_way s false h None k b up any = let z : None ≡ Some (any refl).0 = (any refl).1 in absurd cc
+torn_way s true h (Some m) k b up any =
+    ap torn (made_way-push h (Some m) (placing k b)) ∙ ((beside_placed (h ++ Posted m ∷ []) b.tid b.tseq k b.generation).torn ∙ ((beside_posted h m).torn ∙ up))
+torn_way s false h (Some m) k b up any = torn_now h
+
+pub torn_refused : (s : Settings) (h h' : History) (k : ℕ) (b : Bool) → b ≡ false → h' ≡ after_preemption b h (preemption s h k) → (m : Message) × (preemption s h k ≡ Some m) → false ≡ not (torn h')
+torn_refused s h h' k b e is x = sym (ap (λ y. not (torn y)) (is ∙ (ap (λ y. after_preemption y h (preemption s h k)) e ∙ ap (after_preemption false h) x.1)) ∙ ap not (torn_now h))
+
+pub stands_placed : (h h1 h' : History) (o : Option Message) (k : ℕ) (b : Stamp) → torn h ≡ false → h1 ≡ after_preemption true h o → h' ≡ h1 ++ placing k b ∷ [] → true ≡ not (torn h')
+stands_placed h h1 h' o k b up told is =
+    let stood : torn h1 ≡ false = ap torn told ∙ by_message o in
+    sym (ap not (ap torn is ∙ ((beside_placed h1 b.tid b.tseq k b.generation).torn ∙ stood)))
+  where
+    by_message : (o : Option Message) → torn (after_preemption true h o) ≡ false
+    by_message None = up
+    by_message (Some m) = (beside_posted h m).torn ∙ up
+
+-- so many entries there are then, and the placing is one more
+pub way_length : (s : Settings) (h : History) (k : ℕ) → length (after_preemption true h (preemption s h k)) + 1 ≡ length h + placing_entries (on h k)
+way_length s h k = by_who (on h k)
+  where
+    by_who : (o : Option ℕ) → length (after_preemption true h (option_map (λ t. next_about s h t (Preempted k)) o)) + 1 ≡ length h + placing_entries o
+    by_who None = refl
+    by_who (Some t) = omega (arith, length-append h (Posted (next_about s h t (Preempted k)) ∷ []))
+
+-- nothing comes of this verdict
+pub record IsIdle (o : Outcome) : Type 0 where
+  pub outcome : (fits : Bool) → settled fits o ≡ o
+  pub history : (fits : Bool) (s : Settings) (h : History) (k : ℕ) (b : Stamp) → after_verdict fits s h o k b ≡ h
+
+-- a verdict is to place, or nothing comes of it
+pub placed_or_not : (o : Outcome) → (o ≡ outcomes.Placed) ⊎ IsIdle o
+placed_or_not outcomes.Placed = inl refl
+placed_or_not outcomes.Gone = inr (record { outcome = λ fits. refl; history = λ fits s h k b. refl })
+placed_or_not outcomes.Displaced = inr (record { outcome = λ fits. refl; history = λ fits s h k b. refl })
+placed_or_not outcomes.NoThread = inr (record { outcome = λ fits. refl; history = λ fits s h k b. refl })
+placed_or_not outcomes.Stale = inr (record { outcome = λ fits. refl; history = λ fits s h k b. refl })
+placed_or_not outcomes.NotRunnable = inr (record { outcome = λ fits. refl; history = λ fits s h k b. refl })
+placed_or_not outcomes.AlreadyPlaced = inr (record { outcome = λ fits. refl; history = λ fits s h k b. refl })
+placed_or_not outcomes.NotAllowed = inr (record { outcome = λ fits. refl; history = λ fits s h k b. refl })
+placed_or_not outcomes.CpuIsAgent = inr (record { outcome = λ fits. refl; history = λ fits s h k b. refl })
+placed_or_not outcomes.CpuTaken = inr (record { outcome = λ fits. refl; history = λ fits s h k b. refl })
+placed_or_not outcomes.CpuBusy = inr (record { outcome = λ fits. refl; history = λ fits s h k b. refl })
+placed_or_not outcomes.SeqSpent = inr (record { outcome = λ fits. refl; history = λ fits s h k b. refl })
+placed_or_not outcomes.HistoryFull = inr (record { outcome = λ fits. refl; history = λ fits s h k b. refl })
+placed_or_not outcomes.Malformed = inr (record { outcome = λ fits. refl; history = λ fits s h k b. refl })
+
+-- who is taken off is told that he was preempted
+pub preempted_shape : (s : Settings) (h : History) (k : ℕ) (m : Message) → preemption s h k ≡ Some m → (t : ℕ) × (n : ℕ) × (c : ℕ) × (m ≡ Thread t n (Preempted c))
+preempted_shape s h k m e = by_who (on h k) e
+  where
+    by_who : (o : Option ℕ) → option_map (λ t. next_about s h t (Preempted k)) o ≡ Some m → (t : ℕ) × (n : ℕ) × (c : ℕ) × (m ≡ Thread t n (Preempted c))
+    by_who None q = absurd cc
+    by_who (Some t) q = (t, seq s.first_tseq h t + 1, k, let z : m ≡ next_about s h t (Preempted k) = cc in z)

@@ -155,11 +155,16 @@ abbrev pub after_preemption : Bool → History → Option Message → History
 after_preemption fits h None = h
 after_preemption fits h (Some m) = after_post fits h m
 
--- the history after the other class took a CPU: the thread there is told first, and where that message does not fit, nothing more happens
+-- the history after the thread on a CPU, if there is one, was told that it was taken off, and then this entry; where that message does not
+-- fit, the enclave is torn down in its place, and nothing more happens
+abbrev pub made_way : Bool → History → Option Message → Entry → History
+made_way fits h None e = h ++ e ∷ []
+made_way true h (Some m) e = h ++ Posted m ∷ e ∷ []
+made_way false h (Some m) e = h ++ Torn ∷ []
+
+-- the history after the other class took a CPU
 abbrev pub after_take : Bool → History → Option Message → ℕ → History
-after_take fits h None c = h ++ Taken c ∷ []
-after_take true h (Some m) c = h ++ Posted m ∷ Taken c ∷ []
-after_take false h (Some m) c = h ++ Torn ∷ []
+after_take fits h victim c = made_way fits h victim (Taken c)
 
 abbrev pub after_give : History → ℕ → History
 after_give h c = h ++ Given c ∷ []

@@ -171,6 +171,7 @@ pub(crate) fn post<P: Poster>(journal: &mut Journal, poster: &mut P, message: &M
     ensures first_tseq { journal.new.first_tseq ≡ journal.old.first_tseq }
     ensures told { P.posted poster.old (posted journal.old.entries) → P.posted poster.new (posted journal.new.entries) }
     ensures tight { result ≡ false → P.tight poster.old message.now }
+    ensures still { result ≡ false → P.tight poster.new message.now }
     ensures ring { P.same poster.old poster.new }
     ensures stays { P.taken poster.new ≡ P.taken poster.old }
     ensures room { journal.old.room ≤ journal.new.room + 1 }

@@ -1,12 +1,16 @@
 //! Landings: what becomes of what was stamped.
 
-ghost use Rattle.std.specs.Prelude.{◌≡◌, ◌+◌, ◌<◌, ◌≤◌, IfOk, OnOk, OnErr, Some, false, length, option_map};
+ghost use Rattle.std.specs.Prelude.{◌≡◌, ℕ, ◌+◌, ◌<◌, ◌≤◌, IfOk, OnOk, OnErr, Some, true, false, not, length};
+ghost use Rattle.gs_layout.specs.declared.message.Change.{Change};
+ghost use Rattle.gs_layout.specs.declared.message.Message.{Message};
 ghost use Rattle.gs_layout.specs.Spelling.{IsCpuOrNone};
 ghost use Rattle.gs_slots.specs.State.{is_malformed};
 ghost use Rattle.gs_slots.specs.SlotMut.{cpu_of, left_in, state_of};
-ghost use Rattle.gs_kernel.specs.Commit.{history_after, landing_in, slot_after};
+ghost use Rattle.gs_journal.specs.History.{on, posted, torn};
 ghost use Rattle.gs_journal.specs.Holder.{is_agent_on};
-ghost use Rattle.gs_kernel.specs.Landing.{landing, after_landing, after_outcome, verdict, cpu_verdict, is_generation};
+ghost use Rattle.gs_kernel.specs.Kernel.{made_way, preemption};
+ghost use Rattle.gs_kernel.specs.Commit.{history_after, landing_in, slot_after, verdict_in};
+ghost use Rattle.gs_kernel.specs.Landing.{landing, after_landing, after_verdict, verdict, cpu_verdict, is_generation, placing, placing_entries, settled};
 
 use crate::kernel::Kernel;
 use crate::landing::Landing;
@@ -45,13 +49,13 @@ impl<P: Poster> Kernel<P> {
         if !self.may_run_on(cpu, slot.tid) {
             return Outcome::NotAllowed;
         }
-        self.cpu_verdict(cpu)
+        self.cpu_verdict(cpu, slot.preempt)
     }
 
-    /// Whether a CPU may be given to a thread.
-    fn cpu_verdict(&self, cpu: u16) -> Outcome
+    /// Whether a CPU may be given to a thread, by a transaction that takes the thread there off or does not.
+    fn cpu_verdict(&self, cpu: u16, preempt: bool) -> Outcome
         requires { cpu < self.now.settings.cpus }
-        ensures value { result ≡ cpu_verdict self.now.settings self.now.history cpu }
+        ensures value { result ≡ cpu_verdict self.now.settings self.now.history cpu preempt }
         ensures known { is_malformed result ≡ false }
     {
         if is_agent_on(cpu, self.agent) {
@@ -60,38 +64,60 @@ impl<P: Poster> Kernel<P> {
         if self.taken.has(cpu) {
             return Outcome::CpuTaken;
         }
-        if self.running[cpu as usize].is_some() {
+        if self.running[cpu as usize].is_some() && !preempt {
             return Outcome::CpuBusy;
         }
-        if self.journal.len() >= self.settings.history as usize {
+        if self.is_spent_there(cpu) {
+            return Outcome::SeqSpent;
+        }
+        if self.journal.len() + self.placing_entries(cpu) > self.settings.history as usize {
             return Outcome::HistoryFull;
         }
         Outcome::Placed
     }
 
+    /// How many entries a placing on a CPU appends.
+    fn placing_entries(&self, cpu: u16) -> usize
+        requires { cpu < self.now.settings.cpus }
+        ensures { result ≡ placing_entries (on self.now.history cpu) }
+    {
+        match self.running[cpu as usize] {
+            Some(_) => 2,
+            None => 1,
+        }
+    }
+
     /// The slot of a CPU lands: what is stamped in it takes effect where its outcome is
     /// [`Outcome::Placed`], and the slot is done then, with the outcome, the CPU that the thread is on
-    /// afterwards, and the thread's sequence number before. Answers `None` for a slot that is idle or
-    /// done, and leaves it. The slot is that of a CPU of the enclave.
+    /// afterwards, and the thread's sequence number before. Where a thread is on the CPU and the stamp
+    /// says that it is to be taken off, it is told so first; where that message does not fit, the enclave
+    /// is torn down, and the outcome is [`Outcome::Gone`]. Answers `None` for a slot that is idle or done,
+    /// and leaves it. The slot is that of a CPU of the enclave.
     ///
     /// # Errors
     ///
-    /// Where the transaction would take effect, no room was reserved, and memory runs out. Then nothing
-    /// changes.
+    /// Where the transaction is to be placed, no room was reserved for its entries (one, and one more where a
+    /// thread is taken off), and memory runs out. Then nothing changes.
     #[tactic(auto, unfolding(crate::specs::Landing::landing))]
     pub fn land(&mut self, slot: SlotMut<'_>) -> Result<Option<Landing>, AllocError>
         requires { cpu_of slot < self.old.settings.cpus }
-        ensures landing { IfOk result (λ l. l ≡ landing_in self.old.settings self.old.history (cpu_of slot.entry) (state_of slot.entry)) }
-        ensures history { OnOk result (self.new.history ≡ history_after self.old.settings self.old.history (cpu_of slot.entry) (state_of slot.entry)) }
-        ensures slot { OnOk result (left_in slot.exit ≡ slot_after self.old.settings self.old.history (cpu_of slot.entry) (state_of slot.entry)) }
+        ensures landing { IfOk result (λ l. l ≡ landing_in (not (torn self.new.history)) self.old.settings self.old.history (cpu_of slot.entry) (state_of slot.entry)) }
+        ensures history { OnOk result (self.new.history ≡ history_after (not (torn self.new.history)) self.old.settings self.old.history (cpu_of slot.entry) (state_of slot.entry)) }
+        ensures slot { OnOk result (left_in slot.exit ≡ slot_after (not (torn self.new.history)) self.old.settings self.old.history (cpu_of slot.entry) (state_of slot.entry)) }
+        ensures tight { torn self.old.history ≡ false → torn self.new.history ≡ true → (t s c : ℕ) × P.tight self.new.poster (Message.Thread t s (Change.Preempted c)) }
         ensures unchanged { OnErr result (self.new.history ≡ self.old.history) }
         ensures kept { OnErr result (left_in slot.exit ≡ state_of slot.entry) }
-        ensures memory { OnErr result (option_map (λ l. l.outcome) (landing_in self.old.settings self.old.history (cpu_of slot.entry) (state_of slot.entry)) ≡ Some Outcome.Placed) }
-        ensures reserved { OnErr result (self.old.room ≡ 0) }
-        ensures ring { self.new.poster ≡ self.old.poster }
+        ensures memory { OnErr result (verdict_in self.old.settings self.old.history (cpu_of slot.entry) (state_of slot.entry) ≡ Some Outcome.Placed) }
+        ensures reserved { OnErr result (self.old.room < placing_entries (on self.old.history (cpu_of slot.entry))) }
+        ensures nothing_posted { self.new.history ≡ self.old.history → self.new.poster ≡ self.old.poster }
+        ensures told { P.posted self.new.poster (posted self.new.history) }
+        ensures ring { P.same self.old.poster self.new.poster }
+        ensures stays { P.taken self.new.poster ≡ P.taken self.old.poster }
         ensures settings { self.new.settings ≡ self.old.settings }
         ensures room { self.old.room + length self.old.history ≤ self.new.room + length self.new.history }
     {
+        // A look at a field, by which the proof has what the kernel keeps.
+        let _settings = &self.settings;
         let cpu = slot.cpu();
         let Ok(SlotState::Stamped { stamp }) = slot.state() else {
             return Ok(None);
@@ -101,30 +127,33 @@ impl<P: Poster> Kernel<P> {
         Ok(Some(landing))
     }
 
-    /// What is stamped into the slot of a CPU lands.
+    /// What was stamped into the slot of a CPU lands, as the slot would, but no slot is told of it: a landing
+    /// that comes late, of a CPU of the enclave.
     ///
     /// # Errors
     ///
-    /// Where it would take effect, no room was reserved, and memory runs out. Then nothing changes.
+    /// As of [`Kernel::land`].
     #[tactic(auto, unfolding(crate::specs::Landing::landing))]
-    fn land_stamp(&mut self, cpu: u16, slot: &Stamp) -> Result<Landing, AllocError>
+    pub fn land_stamp(&mut self, cpu: u16, slot: &Stamp) -> Result<Landing, AllocError>
         requires { cpu < self.old.settings.cpus }
-        ensures landing { IfOk result (λ l. l ≡ landing self.old.settings self.old.history cpu slot.now) }
+        ensures landing { IfOk result (λ l. l ≡ landing (not (torn self.new.history)) self.old.settings self.old.history cpu slot.now) }
         ensures known { IfOk result (λ l. is_malformed l.outcome ≡ false) }
         ensures below { IfOk result (λ l. IsCpuOrNone l.at) }
-        ensures history { OnOk result (self.new.history ≡ after_landing self.old.settings self.old.history cpu slot.now) }
+        ensures history { OnOk result (self.new.history ≡ after_landing (not (torn self.new.history)) self.old.settings self.old.history cpu slot.now) }
+        ensures tight { torn self.old.history ≡ false → torn self.new.history ≡ true → (t s c : ℕ) × P.tight self.new.poster (Message.Thread t s (Change.Preempted c)) }
         ensures unchanged { OnErr result (self.new.history ≡ self.old.history) }
         ensures memory { OnErr result (verdict self.old.settings self.old.history cpu slot.now ≡ Outcome.Placed) }
-        ensures reserved { OnErr result (self.old.room ≡ 0) }
-        ensures ring { self.new.poster ≡ self.old.poster }
+        ensures reserved { OnErr result (self.old.room < placing_entries (on self.old.history cpu)) }
+        ensures nothing_posted { self.new.history ≡ self.old.history → self.new.poster ≡ self.old.poster }
+        ensures told { P.posted self.new.poster (posted self.new.history) }
+        ensures ring { P.same self.old.poster self.new.poster }
+        ensures stays { P.taken self.new.poster ≡ P.taken self.old.poster }
         ensures settings { self.new.settings ≡ self.old.settings }
         ensures room { self.old.room + length self.old.history ≤ self.new.room + length self.new.history }
     {
-        let outcome = self.verdict(cpu, slot);
+        let judged = self.verdict(cpu, slot);
         let seen = self.seq(slot.tid);
-        if let Outcome::Placed = outcome {
-            self.place(cpu, slot)?;
-        }
+        let outcome = self.settle(judged, cpu, slot)?;
         Ok(Landing {
             cpu,
             tid: slot.tid,
@@ -134,19 +163,60 @@ impl<P: Poster> Kernel<P> {
         })
     }
 
-    /// Appends that a thread was placed.
-    fn place(&mut self, cpu: u16, slot: &Stamp) -> Result<(), AllocError>
+    /// What becomes of a transaction that has this verdict. It is placed where it may be.
+    fn settle(&mut self, judged: Outcome, cpu: u16, slot: &Stamp) -> Result<Outcome, AllocError>
         requires cpu { cpu < self.old.settings.cpus }
-        requires placed { verdict self.old.settings self.old.history cpu slot.now ≡ Outcome.Placed }
-        ensures placed { OnOk result (self.new.history ≡ after_outcome self.old.history Outcome.Placed cpu slot.now) }
+        requires verdict { judged ≡ verdict self.old.settings self.old.history cpu slot.now }
+        requires known { is_malformed judged ≡ false }
+        ensures outcome { IfOk result (λ o. o ≡ settled (not (torn self.new.history)) judged) }
+        ensures known { IfOk result (λ o. is_malformed o ≡ false) }
+        ensures history { OnOk result (self.new.history ≡ after_verdict (not (torn self.new.history)) self.old.settings self.old.history judged cpu slot.now) }
+        ensures tight { torn self.old.history ≡ false → torn self.new.history ≡ true → (t s c : ℕ) × P.tight self.new.poster (Message.Thread t s (Change.Preempted c)) }
         ensures unchanged { OnErr result (self.new.history ≡ self.old.history) }
-        ensures reserved { OnErr result (self.old.room ≡ 0) }
-        ensures ring { self.new.poster ≡ self.old.poster }
+        ensures memory { OnErr result (judged ≡ Outcome.Placed) }
+        ensures reserved { OnErr result (self.old.room < placing_entries (on self.old.history cpu)) }
+        ensures nothing_posted { self.new.history ≡ self.old.history → self.new.poster ≡ self.old.poster }
+        ensures told { P.posted self.new.poster (posted self.new.history) }
+        ensures ring { P.same self.old.poster self.new.poster }
+        ensures stays { P.taken self.new.poster ≡ P.taken self.old.poster }
         ensures settings { self.new.settings ≡ self.old.settings }
         ensures room { self.old.room + length self.old.history ≤ self.new.room + length self.new.history }
     {
-        if self.journal.reserve(1).is_err() {
+        // A look at a field, by which the proof has what the kernel keeps.
+        let _settings = &self.settings;
+        if judged != Outcome::Placed {
+            return Ok(judged);
+        }
+        if self.place(cpu, slot)? {
+            Ok(Outcome::Placed)
+        } else {
+            Ok(Outcome::Gone)
+        }
+    }
+
+    /// Places a thread, after the one that is on the CPU, if there is one, was told that it is taken off. Answers
+    /// whether that message fits; where it does not, the enclave is torn down and nobody placed.
+    fn place(&mut self, cpu: u16, slot: &Stamp) -> Result<bool, AllocError>
+        requires cpu { cpu < self.old.settings.cpus }
+        requires placed { verdict self.old.settings self.old.history cpu slot.now ≡ Outcome.Placed }
+        ensures stands { IfOk result (λ fits. fits ≡ not (torn self.new.history)) }
+        ensures placed { IfOk result (λ fits. self.new.history ≡ made_way fits self.old.history (preemption self.old.settings self.old.history cpu) (placing cpu slot.now)) }
+        ensures tight { IfOk result (λ fits. fits ≡ false → (m : Message) × (preemption self.old.settings self.old.history cpu ≡ Some m) × P.tight self.new.poster m) }
+        ensures unchanged { OnErr result (self.new.history ≡ self.old.history) }
+        ensures reserved { OnErr result (self.old.room < placing_entries (on self.old.history cpu)) }
+        ensures nothing_posted { OnErr result (self.new.poster ≡ self.old.poster) }
+        ensures told { P.posted self.new.poster (posted self.new.history) }
+        ensures ring { P.same self.old.poster self.new.poster }
+        ensures stays { P.taken self.new.poster ≡ P.taken self.old.poster }
+        ensures settings { self.new.settings ≡ self.old.settings }
+        ensures room { self.old.room + length self.old.history ≤ self.new.room + length self.new.history }
+    {
+        let entries = self.placing_entries(cpu);
+        if self.journal.reserve(entries).is_err() {
             return Err(AllocError);
+        }
+        if !self.preempt(cpu) {
+            return Ok(false);
         }
         self.journal.append(Entry::Placed {
             tid: slot.tid,
@@ -156,7 +226,7 @@ impl<P: Poster> Kernel<P> {
         });
         self.threads.place(slot.tid, Some(cpu));
         self.running[cpu as usize] = Some(slot.tid);
-        Ok(())
+        Ok(true)
     }
 }
 

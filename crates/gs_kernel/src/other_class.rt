@@ -74,7 +74,7 @@ impl<P: Poster> Kernel<P> {
     }
 
     /// Whether the thread on a CPU, if there is one, can have no more messages.
-    fn is_spent_there(&self, cpu: u16) -> bool
+    pub(crate) fn is_spent_there(&self, cpu: u16) -> bool
         requires { cpu < self.now.settings.cpus }
         ensures { result ≡ is_spent_there self.now.settings self.now.history (on self.now.history cpu) }
     {

@@ -21,11 +21,13 @@ impl<P: Poster> Kernel<P> {
         requires within { length self.old.history < self.old.settings.history }
         ensures history { self.new.history ≡ after_preemption result self.old.history (preemption self.old.settings self.old.history cpu) }
         ensures tight { result ≡ false → (m : Message) × (preemption self.old.settings self.old.history cpu ≡ Some m) × P.tight self.old.poster m }
+        ensures still { result ≡ false → (m : Message) × (preemption self.old.settings self.old.history cpu ≡ Some m) × P.tight self.new.poster m }
         ensures told { P.posted self.new.poster (posted self.new.history) }
         ensures ring { P.same self.old.poster self.new.poster }
         ensures stays { P.taken self.new.poster ≡ P.taken self.old.poster }
         ensures settings { self.new.settings ≡ self.old.settings }
         ensures room { self.old.room ≤ self.new.room + 1 }
+        ensures entries { self.old.room + length self.old.history ≤ self.new.room + length self.new.history }
     {
         let Some(tid) = self.running[cpu as usize] else {
             return true;

@@ -4,7 +4,7 @@ use Rattle.std.specs.Fmt.{digits}
 use Rattle.gs_layout.specs.declared.refusal.Refusal.TheVariants as refusals
 use Rattle.gs_layout.specs.declared.outcome.Outcome.TheVariants as outcomes
 use Rattle.gs_agent.specs.declared.drained.Stop.TheVariants.{Gap}
-use Rattle.gs_core.specs.declared.reply.Reply.TheVariants.{Refused, Torn, Created, Posted, Taken, Given, Ticked, Drained, Stamped, Landed, View, State, Unread}
+use Rattle.gs_core.specs.declared.reply.Reply.TheVariants.{Refused, Torn, Created, Posted, Taken, Given, Ticked, Drained, Stamped, Landed, Late, View, State, Unread}
 use Rattle.gs_layout.specs.declared.facts.Class.TheVariants.{Zero, One}
 use Rattle.gs_layout.specs.declared.message.Change.TheVariants as changes
 use Rattle.gs_layout.specs.declared.message.Message.TheVariants.{Thread, TimerTick}
@@ -25,10 +25,22 @@ drained_in_part : lines (Drained (record { count = 6; skipped = 1; orphans = 2; 
 unfolding digits
 drained_in_part = refl
 
-landed_nowhere : lines (Landed [] ∷ []) ≡ []
+landed_nowhere : lines (Landed [] false ∷ []) ≡ []
 landed_nowhere = refl
 
-landed : lines (Landed (record { cpu = 1; tid = 1; outcome = outcomes.Placed; seen = 1; at = Some 1 } ∷ record { cpu = 2; tid = 65536; outcome = outcomes.CpuIsAgent; seen = 0; at = None } ∷ []) ∷ []) ≡ line (codes "cpu 1 placed 1 seq 1") ++ line (codes "cpu 2 cpuisagent 65536 seq 0")
+landed_and_torn : lines (Landed (record { cpu = 1; tid = 2; outcome = outcomes.Gone; seen = 1; at = None } ∷ []) true ∷ []) ≡ line (codes "cpu 1 gone 2 seq 1") ++ line (codes "torn")
+unfolding digits
+landed_and_torn = refl
+
+late_landed : lines (Late 12 (record { cpu = 1; tid = 3; outcome = outcomes.Stale; seen = 4; at = None }) false ∷ []) ≡ line (codes "late 12 stale 3 seq 4")
+unfolding digits
+late_landed = refl
+
+late_and_torn : lines (Late 1 (record { cpu = 1; tid = 3; outcome = outcomes.Gone; seen = 4; at = None }) true ∷ []) ≡ line (codes "late 1 gone 3 seq 4") ++ line (codes "torn")
+unfolding digits
+late_and_torn = refl
+
+landed : lines (Landed (record { cpu = 1; tid = 1; outcome = outcomes.Placed; seen = 1; at = Some 1 } ∷ record { cpu = 2; tid = 65536; outcome = outcomes.CpuIsAgent; seen = 0; at = None } ∷ []) false ∷ []) ≡ line (codes "cpu 1 placed 1 seq 1") ++ line (codes "cpu 2 cpuisagent 65536 seq 0")
 unfolding digits
 landed = refl
 

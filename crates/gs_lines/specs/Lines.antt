@@ -68,8 +68,21 @@ outcome_text outcomes.SeqSpent = codes "seqspent"
 outcome_text outcomes.HistoryFull = codes "historyfull"
 outcome_text outcomes.Malformed = codes "malformed"
 
+-- what became of a transaction
+abbrev pub landed_text : Landing → List ℕ
+landed_text a = outcome_text a.outcome ++ codes " " ++ decimal a.tid ++ codes " seq " ++ decimal a.seen
+
 abbrev pub landing_text : Landing → List ℕ
-landing_text a = codes "cpu " ++ decimal a.cpu ++ codes " " ++ outcome_text a.outcome ++ codes " " ++ decimal a.tid ++ codes " seq " ++ decimal a.seen
+landing_text a = codes "cpu " ++ decimal a.cpu ++ codes " " ++ landed_text a
+
+-- a late landing is told of by the transaction's number
+abbrev pub late_text : ℕ → Landing → List ℕ
+late_text n a = codes "late " ++ decimal n ++ codes " " ++ landed_text a
+
+-- the line behind landings that tore the enclave down
+abbrev pub torn_line : Bool → List ℕ
+torn_line true = line (codes "torn")
+torn_line false = []
 
 -- a part that is only there where its number is not 0
 abbrev pub unless_zero : List ℕ → ℕ → List ℕ
@@ -168,7 +181,8 @@ live_text a = codes "state " ++ known_text a.tid a.known ++ codes " cpu " ++ cpu
 abbrev pub live_lines : List LiveThread → List ℕ
 live_lines threads = flat_map (λ a. line (live_text a)) threads
 
--- the lines of a reply: a commit has one for each landing, a look one for each thread or message that it shows, and any other reply has one
+-- the lines of a reply: a commit has one for each landing, a look one for each thread or message that it shows, and any other reply has
+-- one; a commit and a late landing that tore the enclave down have one more
 abbrev pub reply_lines : Reply → List ℕ
 reply_lines (replies.Refused f) = line (codes "refused " ++ refusal_text f)
 reply_lines replies.Torn = line (codes "torn")
@@ -179,7 +193,8 @@ reply_lines (replies.Given cpu) = line (codes "given " ++ decimal cpu)
 reply_lines (replies.Ticked cpu) = line (codes "tick " ++ decimal cpu)
 reply_lines (replies.Drained d) = line (drained_text d)
 reply_lines (replies.Stamped number) = line (codes "stamped " ++ decimal number)
-reply_lines (replies.Landed landings) = landing_lines landings
+reply_lines (replies.Landed landings torn) = landing_lines landings ++ torn_line torn
+reply_lines (replies.Late number landing torn) = line (late_text number landing) ++ torn_line torn
 reply_lines (replies.View known) = view_lines known
 reply_lines (replies.State threads) = live_lines threads
 reply_lines (replies.Unread messages) = message_lines messages

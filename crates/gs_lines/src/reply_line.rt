@@ -1,5 +1,5 @@
 ghost use Rattle.std.specs.Prelude.{◌≡◌, ◌++◌, IfOk, OnOk, string_bytes};
-ghost use Rattle.gs_lines.specs.Lines.{refusal_text, outcome_text, drained_text, unless_zero, stop_text, line, landing_text, landing_lines, reply_lines, lines};
+ghost use Rattle.gs_lines.specs.Lines.{refusal_text, outcome_text, drained_text, unless_zero, stop_text, line, landing_text, landing_lines, late_text, torn_line, reply_lines, lines};
 
 use crate::message_line::{write_messages, write_posted};
 use crate::thread_line::{write_threads, write_view};
@@ -84,6 +84,28 @@ fn write_landings(out: &mut String, landings: &[Landing]) -> Result<(), AllocErr
     Ok(())
 }
 
+/// Adds the line of a late landing.
+fn write_late(out: &mut String, number: u32, landing: &Landing) -> Result<(), AllocError>
+    ensures { OnOk result (string_bytes out.new ≡ string_bytes out.old ++ line (late_text number landing.now)) }
+{
+    let Landing {
+        cpu: _,
+        tid,
+        outcome,
+        seen,
+        at: _,
+    } = *landing;
+    let outcome = outcome_name(outcome);
+    write!(out, "late {number} {outcome} {tid} seq {seen}\n")
+}
+
+/// Adds the line behind landings that tore the enclave down.
+fn write_torn(out: &mut String, torn: bool) -> Result<(), AllocError>
+    ensures { OnOk result (string_bytes out.new ≡ string_bytes out.old ++ torn_line torn) }
+{
+    if torn { out.push_str("torn\n") } else { Ok(()) }
+}
+
 /// Adds a word and a number, where the number isn't 0.
 fn write_part(out: &mut String, word: &str, number: usize) -> Result<(), AllocError>
     ensures { OnOk result (string_bytes out.new ≡ string_bytes out.old ++ unless_zero word.now number) }
@@ -138,7 +160,18 @@ fn write_reply(out: &mut String, reply: &Reply) -> Result<(), AllocError>
         Reply::Ticked { cpu } => write!(out, "tick {cpu}\n"),
         Reply::Drained(drained) => write_drained(out, drained),
         Reply::Stamped { number } => write!(out, "stamped {number}\n"),
-        Reply::Landed(landings) => write_landings(out, landings.as_slice()),
+        Reply::Landed { landings, torn } => {
+            write_landings(out, landings.as_slice())?;
+            write_torn(out, *torn)
+        }
+        Reply::Late {
+            number,
+            landing,
+            torn,
+        } => {
+            write_late(out, *number, landing)?;
+            write_torn(out, *torn)
+        }
         Reply::View(known) => write_view(out, known.as_slice()),
         Reply::State(threads) => write_threads(out, threads.as_slice()),
         Reply::Unread(messages) => write_messages(out, messages.as_slice()),

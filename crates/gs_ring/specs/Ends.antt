@@ -1,6 +1,6 @@
 -- What was posted to a ring, and what passes from it.
 use Rattle.std.proofs.Common.{◌≡◌, ◌⊎◌, inl, inr, ⊎_elim, ℕ, ◌+◌, ◌≤◌, List, [], ◌∷◌, ◌++◌, length, take, drop, refl, ap, sym, subst, ◌∙◌, append_assoc, arith, length-append}
-use Rattle.std.proofs.lemmas.List.{drop_at, take_at, take-append-le}
+use Rattle.std.proofs.lemmas.List.{drop_at, take_at, take-append-drop, take-append-le}
 use Rattle.gs_layout.specs.declared.message.Message.{Message}
 use Rattle.gs_ring.specs.Places.{free_after, need, place_behind, record_len, written}
 use Rattle.gs_ring.specs.RingState.{RingState, empty, end, free, need_of, posts}
@@ -127,16 +127,22 @@ Posted-free r xs h = omega (arith, Posted-end r xs h, Posted-read r xs h)
 pub Posted-need : (r : RingState) (xs : List Message) (m : Message) → Posted r xs → need_of r m ≡ need r.capacity (written r.capacity xs) (record_len m)
 Posted-need r xs m h = ap (λ n. need r.capacity n (record_len m)) (Posted-end r xs h)
 
+-- places only rise, so what was consumed takes up no more than all that was posted
+consumed_below : (c n : ℕ) (xs : List Message) → written c (take n xs) ≤ written c xs
+consumed_below c n xs =
+    let whole : written c xs ≡ place_behind c (written c (take n xs)) (drop n xs) = ap (written c) (sym (take-append-drop n xs)) ∙ place_behind-append c 0 (take n xs) (drop n xs) in
+    omega (arith, whole, place_behind-grows c (written c (take n xs)) (drop n xs))
+
+-- where a message was posted, and others behind it, and what was taken came before it, it had room
+pub Posted-fitted : (r : RingState) (xs ys : List Message) (m : Message) → r.taken ≤ length xs → Posted r (xs ++ m ∷ ys) → need r.capacity (written r.capacity xs) (record_len m) ≤ free_after r.capacity xs r.taken
+Posted-fitted r xs ys m few h =
+    let read : r.read ≡ written r.capacity (take r.taken xs) = Posted-read r (xs ++ m ∷ ys) h ∙ ap (written r.capacity) (take-append-le r.taken xs (m ∷ ys) few) in
+    let last : end r ≡ place_behind r.capacity (written r.capacity xs + need r.capacity (written r.capacity xs) (record_len m)) ys = Posted-end r (xs ++ m ∷ ys) h ∙ place_behind-append r.capacity 0 xs (m ∷ ys) in
+    omega (arith, read, last, h.room, place_behind-grows r.capacity (written r.capacity xs + need r.capacity (written r.capacity xs) (record_len m)) ys, consumed_below r.capacity r.taken xs)
+
 -- where a message was posted behind others, nothing taken, it had room
 pub Posted-fits : (r r' : RingState) (xs : List Message) (m : Message) → SameRing r r' → r'.taken ≡ r.taken → Posted r xs → Posted r' (xs ++ m ∷ [])
     → need r.capacity (written r.capacity xs) (record_len m) ≤ free_after r.capacity xs r.taken
 Posted-fits r r' xs m ring taken h h' =
-    let few : r.taken ≤ length xs = omega (arith, ap length h.all, length-append h.consumed r.unread, h.count) in
-    let read : r'.read ≡ written r.capacity (take r.taken xs) = Posted-read r' (xs ++ m ∷ []) h'
-    ∙ ap (λ c. written c (take r'.taken (xs ++ m ∷ []))) ring
-    ∙ ap (λ n. written r.capacity (take n (xs ++ m ∷ []))) taken
-    ∙ ap (written r.capacity) (take-append-le r.taken xs (m ∷ []) few) in
-    let last : end r' ≡ written r.capacity xs + need r.capacity (written r.capacity xs) (record_len m) = Posted-end r' (xs ++ m ∷ []) h'
-    ∙ ap (λ c. written c (xs ++ m ∷ [])) ring
-    ∙ place_behind-append r.capacity 0 xs (m ∷ []) in
-    omega (arith, read, last, h'.room, ring, Posted-read r xs h, Posted-end r xs h, place_behind-grows r.capacity r.read r.unread)
+    let few : r'.taken ≤ length xs = omega (arith, taken, ap length h.all, length-append h.consumed r.unread, h.count) in
+    subst (λ c. need c (written c xs) (record_len m) ≤ free_after c xs r.taken) ring (subst (λ n. need r'.capacity (written r'.capacity xs) (record_len m) ≤ free_after r'.capacity xs n) taken (Posted-fitted r' xs [] m few h'))

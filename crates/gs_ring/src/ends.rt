@@ -43,6 +43,7 @@ pub trait Poster {
         ensures counts { OnOk result (count self.new ≡ count self.old + 1) }
         ensures stays { taken self.new ≡ taken self.old }
         ensures full { OnErr result (tight self.old message.now) }
+        ensures still { OnErr result (tight self.new message.now) }
         ensures unchanged { OnErr result ((xs : List Message) → posted self.old xs → posted self.new xs) };
 
     /// Laws.

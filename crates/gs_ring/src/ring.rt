@@ -198,6 +198,7 @@ impl Poster for ByteRing {
         ensures counts { OnOk result (posts self.new ≡ posts self.old + 1) }
         ensures stays { self.new.taken ≡ self.old.taken }
         ensures full { OnErr result (IsTight self.old message.now) }
+        ensures still { OnErr result (IsTight self.new message.now) }
         ensures unchanged { OnErr result ((xs : List Message) → Posted self.old xs → Posted self.new xs) }
         ensures exact { IsErr result ↔ IsTight self.old message.now }
         ensures ok { OnOk result (self.new ≡ record self.old { unread = self.old.unread ++ message.now ∷ [] }) }

@@ -122,11 +122,17 @@ word_before_count = refl
 other_case : event (codes "Drain 1") ≡ Err BadWord
 other_case = refl
 
-stamp_most : event (codes "stamp 65535 4294967295") ≡ Ok (events.Stamp 65535 4294967295)
+stamp_most : event (codes "stamp 65535 4294967295") ≡ Ok (events.Stamp 65535 4294967295 false)
 stamp_most = refl
 
 stamp_first : event (codes "stamp 65536 4294967296") ≡ Err BadNumber
 stamp_first = refl
+
+late_most : event (codes "late 4294967295") ≡ Ok (events.Late 4294967295)
+late_most = refl
+
+late_short : event (codes "late") ≡ Err BadCount
+late_short = refl
 
 commit_least : event (codes "commit 0") ≡ Ok (events.Commit 0)
 commit_least = refl

@@ -74,13 +74,19 @@ created = refl
 created_nameless : event_of (words_of (codes "create 0 0 r -")) ≡ Ok (events.Create (record { runnable = true; mask = 0; class = Zero; name = [] }))
 created_nameless = refl
 
-stamp_flag : event_of (words_of (codes "stamp 1 1 p")) ≡ Err BadCount
+stamp_flag : event_of (words_of (codes "stamp 1 1 p")) ≡ Ok (events.Stamp 1 1 true)
 stamp_flag = refl
+
+stamp_no_flag : event_of (words_of (codes "stamp 1 1 gp")) ≡ Err BadWord
+stamp_no_flag = refl
+
+stamp_long : event_of (words_of (codes "stamp 1 1 p p")) ≡ Err BadCount
+stamp_long = refl
 
 stamp_cpu : event_of (words_of (codes "stamp 65536 1")) ≡ Err BadNumber
 stamp_cpu = refl
 
-stamped : event_of (words_of (codes " stamp  1 12 ")) ≡ Ok (events.Stamp 1 12)
+stamped : event_of (words_of (codes " stamp  1 12 ")) ≡ Ok (events.Stamp 1 12 false)
 stamped = refl
 
 committed : event_of (words_of (codes "commit 18446744073709551615")) ≡ Ok (events.Commit 18446744073709551615)

@@ -11,7 +11,7 @@ use Rattle.gs_core.specs.declared.event.Event.TheVariants as events
 use Rattle.gs_script.specs.declared.fault.Reason.{Reason}
 use Rattle.gs_script.specs.declared.fault.Reason.TheVariants.{BadWord, BadNumber, BadName}
 use Rattle.gs_script.specs.Words.{number}
-use Rattle.gs_script.specs.Grammar.{takes, OneOf, Number, Name, Kind, Form, line_fault, or_fault}
+use Rattle.gs_script.specs.Grammar.{takes, OneOf, Number, Name, Kind, Form, line_fault, literal, or_fault}
 
 abbrev pub u16s : Kind
 u16s = Number 0 65535
@@ -81,12 +81,20 @@ tick = record { word = codes "tick"; forms = (u16s ∷ []) ∷ []; event = λ ws
 abbrev pub drain : Row
 drain = record { word = codes "drain"; forms = (u32s ∷ []) ∷ []; event = λ ws. events.Drain (number (at 0 ws)) }
 
+-- with a flag behind it, the transaction takes the thread off that is on the CPU
 abbrev pub stamp : Row
 stamp =
-    record { word = codes "stamp"; forms = (u16s ∷ u32s ∷ []) ∷ []; event = λ ws. events.Stamp (number (at 0 ws)) (number (at 1 ws)) }
+    record {
+      word = codes "stamp";
+      forms = (u16s ∷ u32s ∷ []) ∷ (u16s ∷ u32s ∷ literal (codes "p") ∷ []) ∷ [];
+      event = λ ws. events.Stamp (number (at 0 ws)) (number (at 1 ws)) (is (at 2 ws) (codes "p"));
+    }
 
 abbrev pub commit : Row
 commit = record { word = codes "commit"; forms = (u64s ∷ []) ∷ []; event = λ ws. events.Commit (number (at 0 ws)) }
+
+abbrev pub late : Row
+late = record { word = codes "late"; forms = (u32s ∷ []) ∷ []; event = λ ws. events.Late (number (at 0 ws)) }
 
 -- a form without words: nothing stands behind the first word
 abbrev pub view : Row
@@ -99,7 +107,7 @@ abbrev pub unread : Row
 unread = record { word = codes "unread"; forms = [] ∷ []; event = λ ws. events.Unread }
 
 abbrev pub rows : List Row
-rows = create ∷ block ∷ wake ∷ yield ∷ die ∷ affinity ∷ take ∷ give ∷ tick ∷ drain ∷ stamp ∷ commit ∷ view ∷ state ∷ unread ∷ []
+rows = create ∷ block ∷ wake ∷ yield ∷ die ∷ affinity ∷ take ∷ give ∷ tick ∷ drain ∷ stamp ∷ commit ∷ late ∷ view ∷ state ∷ unread ∷ []
 
 -- what a row reads in the words after its first
 abbrev pub reads : Row → List (List ℕ) → Result Event Reason

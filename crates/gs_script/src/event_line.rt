@@ -111,7 +111,34 @@ fn stamp(cpu: &str, tid: &str) -> Result<Event, Reason>
 {
     let cpu = cpu_number(cpu)?;
     let tid = u32_number(tid)?;
-    Ok(Event::Stamp { cpu, tid })
+    Ok(Event::Stamp {
+        cpu,
+        tid,
+        preempt: false,
+    })
+}
+
+/// A stamp with a flag behind it.
+fn stamp_flagged(cpu: &str, tid: &str, flag: &str) -> Result<Event, Reason>
+    ensures { result ≡ reads rows.stamp (cpu.now ∷ tid.now ∷ flag.now ∷ []) }
+{
+    let cpu = cpu_number(cpu)?;
+    let tid = u32_number(tid)?;
+    if flag != "p" {
+        return Err(Reason::BadWord);
+    }
+    Ok(Event::Stamp {
+        cpu,
+        tid,
+        preempt: true,
+    })
+}
+
+fn late(number: &str) -> Result<Event, Reason>
+    ensures { result ≡ reads rows.late (number.now ∷ []) }
+{
+    let number = u32_number(number)?;
+    Ok(Event::Late { number })
 }
 
 fn commit(mask: &str) -> Result<Event, Reason>
@@ -172,10 +199,15 @@ pub(crate) fn event(words: &[&str]) -> Result<Event, Reason>
         },
         "stamp" => match words {
             [cpu, tid] => stamp(cpu, tid),
+            [cpu, tid, flag] => stamp_flagged(cpu, tid, flag),
             _ => Err(Reason::BadCount),
         },
         "commit" => match words {
             [mask] => commit(mask),
+            _ => Err(Reason::BadCount),
+        },
+        "late" => match words {
+            [number] => late(number),
             _ => Err(Reason::BadCount),
         },
         "view" => match words {

@@ -8,7 +8,7 @@ use Rattle.gs_core.specs.declared.reply.Reply.TheVariants as replies
 use Rattle.gs_kernel.specs.Commit.{commit_refusal}
 use Rattle.gs_script.specs.declared.fault.Reason.TheVariants.{TooLong, NoHeader, BadName}
 use Rattle.gs_script.specs.Script.{fault}
-use Rattle.gs_lines.specs.Lines.{line}
+use Rattle.gs_lines.specs.Lines.{line, lines}
 use Rattle.clap.proofs.OnLiterals.{clap_on_literals}
 use Rattle.clap.specs.Faults.{fault_of}
 use Rattle.clap.specs.Kinds.{Kinds}
@@ -53,14 +53,14 @@ gap_is_no_want = refl
 
 -- what is written for an input
 header_alone_runs : IsOutput (codes "cpus 2 ring 128") Ran []
-header_alone_runs = (refl, record { replies = []; left = _; run = refl; sufficed = refl; lines = refl })
+header_alone_runs = (refl, record { replies = []; left = _; run = refl; sufficed = refl; shown = refl })
 
 nothing_is_faulted : IsOutput [] Faulted (line (codes "fault line 0 NoHeader"))
 unfolding digits
 nothing_is_faulted = (refl, refl)
 
 nothing_else : (ended : Ended) (out : List ℕ) → IsOutput (codes "cpus 2 ring 128") ended out → out ≡ []
-nothing_else ended out h = (one_output (codes "cpus 2 ring 128") ended Ran out [] h header_alone_runs).1
+nothing_else ended out h = (one_output lines (codes "cpus 2 ring 128") ended Ran out [] h header_alone_runs).1
 
 first_config : Config
 first_config = record { cpus = 2; ring = 128; first_tseq = 0; first_generation = 1; history = 16777216 }
@@ -74,7 +74,7 @@ refused_runs = (
     left = start first_config;
     run = (start first_config, (refl, refl), safe_of _ (start_good first_config), faithful_of _ (start_good first_config), refl);
     sufficed = refl;
-    lines = refl;
+    shown = refl;
   },
 )
 

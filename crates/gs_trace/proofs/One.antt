@@ -14,19 +14,19 @@ use Rattle.gs_agent.specs.declared.drained.Drained.{Drained}
 use Rattle.gs_agent.specs.declared.drained.Stop.{Stop}
 use Rattle.gs_agent.specs.declared.drained.Stop.TheVariants.{Gap, Memory}
 use Rattle.gs_core.specs.declared.event.Event.{Event}
-use Rattle.gs_core.specs.declared.event.Event.TheVariants.{Create, Thread, Take, Give, Tick, Drain, Stamp, Commit, Unread}
+use Rattle.gs_core.specs.declared.event.Event.TheVariants.{Create, Thread, Take, Give, Tick, Drain, Stamp, Commit, Late, Unread}
 use Rattle.gs_core.specs.declared.event.Event.TheVariants as events
 use Rattle.gs_core.specs.declared.reply.Reply.{Reply}
 use Rattle.gs_core.specs.declared.reply.Reply.TheVariants as replies
-use Rattle.gs_core.specs.Machine.{State, Agent, records_of, view, unread, is_idle, refusal, Serves, Step, Does, IsShort, Takes, Drains, creates, happens, takes, gives, ticks, stamps, stamps_with, commits}
+use Rattle.gs_core.specs.Machine.{State, Agent, records_of, view, unread, is_idle, refusal, Serves, Step, Does, IsShort, Takes, Drains, creates, happens, takes, gives, ticks, stamps, stamps_with, commits, lates, lands_late, transaction_of}
+use Rattle.gs_core.specs.declared.transaction.Transaction.{Transaction}
 use Rattle.gs_core.specs.Safe.{IsFaithful, Run}
 use Rattle.gs_core.proofs.Faces.{drop_drop}
 use Rattle.gs_script.specs.declared.fault.ScriptFault.{ScriptFault}
 use Rattle.gs_trace.specs.declared.run.Ended.{Ended}
 use Rattle.gs_script.specs.Script.{Script, script_of}
-use Rattle.gs_lines.specs.Lines.{lines}
 use Rattle.gs_trace.proofs.Lists.{one_list}
-use Rattle.gs_trace.specs.Output.{wants_memory, is_memory, IsOutput, IsOutputOf}
+use Rattle.gs_trace.specs.Output.{wants_memory, is_memory, IsShown, IsShownOf}
 
 -- machines that differ at most in how their agents list what they know
 abbrev Alike : State → State → Type 0
@@ -56,8 +56,9 @@ one_refusal m a same (Take c) = refl
 one_refusal m a same (Give c) = refl
 one_refusal m a same (Tick c) = refl
 one_refusal m a same (Drain max) = refl
-one_refusal m a same (Stamp c t) = ap (stamp_refusal m c t) same
+one_refusal m a same (Stamp c t p) = ap (stamp_refusal m c t) same
 one_refusal m a same (Commit mask) = refl
+one_refusal m a same (Late n) = refl
 one_refusal m a same events.View = refl
 one_refusal m a same events.State = refl
 one_refusal m a same Unread = refl
@@ -122,28 +123,49 @@ one_drain m a same max d e m' n' x y f g p q =
     }
 
 -- one stamp
-stamps_reply : (m : State) (a : Option Agent) (c t : ℕ) (o : Option (ℕ × ℕ)) (k : Option Known) → (stamps_with (record m { agent = a }) c t o k).0 ≡ (stamps_with m c t o k).0
-stamps_reply m a c t None k = refl
-stamps_reply m a c t (Some b) None = refl
-stamps_reply m a c t (Some b) (Some k) = refl
+stamps_reply : (m : State) (a : Option Agent) (c t : ℕ) (p : Bool) (o : Option (ℕ × ℕ)) (k : Option Known) → (stamps_with (record m { agent = a }) c t p o k).0 ≡ (stamps_with m c t p o k).0
+stamps_reply m a c t p None k = refl
+stamps_reply m a c t p (Some b) None = refl
+stamps_reply m a c t p (Some b) (Some k) = refl
 
-stamps_left : (m : State) (a : Option Agent) (c t : ℕ) (o : Option (ℕ × ℕ)) (k : Option Known) → (stamps_with (record m { agent = a }) c t o k).1 ≡ record ((stamps_with m c t o k).1) { agent = a }
-stamps_left m a c t None k = refl
-stamps_left m a c t (Some b) None = refl
-stamps_left m a c t (Some b) (Some k) = refl
+stamps_left : (m : State) (a : Option Agent) (c t : ℕ) (p : Bool) (o : Option (ℕ × ℕ)) (k : Option Known) → (stamps_with (record m { agent = a }) c t p o k).1 ≡ record ((stamps_with m c t p o k).1) { agent = a }
+stamps_left m a c t p None k = refl
+stamps_left m a c t p (Some b) None = refl
+stamps_left m a c t p (Some b) (Some k) = refl
 
-stamps_view : (m : State) (c t : ℕ) (o : Option (ℕ × ℕ)) (k : Option Known) → view m ≡ view ((stamps_with m c t o k).1)
-stamps_view m c t None k = refl
-stamps_view m c t (Some b) None = refl
-stamps_view m c t (Some b) (Some k) = refl
+stamps_view : (m : State) (c t : ℕ) (p : Bool) (o : Option (ℕ × ℕ)) (k : Option Known) → view m ≡ view ((stamps_with m c t p o k).1)
+stamps_view m c t p None k = refl
+stamps_view m c t p (Some b) None = refl
+stamps_view m c t p (Some b) (Some k) = refl
 
-one_stamp : (m : State) (a : Option Agent) → look_up (records_of a) ≡ view m → (c t : ℕ) (r r' : Reply) (m' n' : State) → Does m (Stamp c t) r m' → Does (record m { agent = a }) (Stamp c t) r' n' → One r r' m' n'
-one_stamp m a same c t r r' m' n' x y =
+one_stamp : (m : State) (a : Option Agent) → look_up (records_of a) ≡ view m → (c t : ℕ) (p : Bool) (r r' : Reply) (m' n' : State) → Does m (Stamp c t p) r m' → Does (record m { agent = a }) (Stamp c t p) r' n' → One r r' m' n'
+one_stamp m a same c t p r r' m' n' x y =
     let o = active m.history in
-    let known : stamps (record m { agent = a }) c t ≡ stamps_with (record m { agent = a }) c t o (view m t) = ap (λ (v : Look). stamps_with (record m { agent = a }) c t o (v t)) same in
+    let known : stamps (record m { agent = a }) c t p ≡ stamps_with (record m { agent = a }) c t p o (view m t) = ap (λ (v : Look). stamps_with (record m { agent = a }) c t p o (v t)) same in
     record {
-      reply = x.0 ∙ sym (y.0 ∙ ap (λ p. p.0) known ∙ stamps_reply m a c t o (view m t));
-      left = alike_at m' n' (stamps m c t).1 a x.1 (y.1 ∙ ap (λ p. p.1) known ∙ stamps_left m a c t o (view m t)) (same ∙ stamps_view m c t o (view m t));
+      reply = x.0 ∙ sym (y.0 ∙ ap (λ z. z.0) known ∙ stamps_reply m a c t p o (view m t));
+      left = alike_at m' n' (stamps m c t p).1 a x.1 (y.1 ∙ ap (λ z. z.1) known ∙ stamps_left m a c t p o (view m t)) (same ∙ stamps_view m c t p o (view m t));
+    }
+
+-- one late landing
+late_reply : (m : State) (a : Option Agent) (n : ℕ) (o : Option Transaction) → (lands_late (record m { agent = a }) n o).0 ≡ (lands_late m n o).0
+late_reply m a n None = refl
+late_reply m a n (Some x) = refl
+
+late_left : (m : State) (a : Option Agent) (n : ℕ) (o : Option Transaction) → (lands_late (record m { agent = a }) n o).1 ≡ record ((lands_late m n o).1) { agent = a }
+late_left m a n None = refl
+late_left m a n (Some x) = refl
+
+late_view : (m : State) (n : ℕ) (o : Option Transaction) → view m ≡ view ((lands_late m n o).1)
+late_view m n None = refl
+late_view m n (Some x) = refl
+
+one_late : (m : State) (a : Option Agent) → look_up (records_of a) ≡ view m → (n : ℕ) (r r' : Reply) (m' n' : State) → Does m (Late n) r m' → Does (record m { agent = a }) (Late n) r' n' → One r r' m' n'
+one_late m a same n r r' m' n' x y =
+    let o : Option Transaction = transaction_of m.transactions n in
+    record {
+      reply = x.0 ∙ sym (y.0 ∙ late_reply m a n o);
+      left = alike_at m' n' (lates m n).1 a x.1 (y.1 ∙ late_left m a n o) (same ∙ late_view m n o);
     }
 
 -- one step
@@ -173,9 +195,12 @@ one_done m a same (Drain max) r r' m' n' (inl x) (inl y) g h p q =
     record { reply = x.1 ∙ o.reply ∙ sym y.1; left = o.left }
 one_done m a same (Drain max) r r' m' n' (inr x) y g h p q = absurd x.0
 one_done m a same (Drain max) r r' m' n' (inl x) (inr y) g h p q = absurd y.0
-one_done m a same (Stamp c t) r r' m' n' (inl x) (inl y) g h p q = one_stamp m a same c t r r' m' n' x y
-one_done m a same (Stamp c t) r r' m' n' (inr x) y g h p q = absurd (refused_is r p x.0)
-one_done m a same (Stamp c t) r r' m' n' (inl x) (inr y) g h p q = absurd (refused_is r' q y.0)
+one_done m a same (Stamp c t f) r r' m' n' (inl x) (inl y) g h p q = one_stamp m a same c t f r r' m' n' x y
+one_done m a same (Stamp c t f) r r' m' n' (inr x) y g h p q = absurd (refused_is r p x.0)
+one_done m a same (Stamp c t f) r r' m' n' (inl x) (inr y) g h p q = absurd (refused_is r' q y.0)
+one_done m a same (Late n) r r' m' n' (inl x) (inl y) g h p q = one_late m a same n r r' m' n' x y
+one_done m a same (Late n) r r' m' n' (inr x) y g h p q = absurd (refused_is r p x.0)
+one_done m a same (Late n) r r' m' n' (inl x) (inr y) g h p q = absurd (refused_is r' q y.0)
 one_done m a same (Commit mask) r r' m' n' (inl x) (inl y) g h p q = record { reply = x.0 ∙ sym y.0; left = alike_at m' n' (commits m mask).1 a x.1 y.1 same }
 one_done m a same (Commit mask) r r' m' n' (inr x) y g h p q = absurd (refused_is r p x.0)
 one_done m a same (Commit mask) r r' m' n' (inl x) (inr y) g h p q = absurd (refused_is r' q y.0)
@@ -221,12 +246,12 @@ one_run (e ∷ es) m n alike (r ∷ rs) (r' ∷ rs') l l' x y p q =
     let others : rs ≡ rs' = one_run es x.0 y.0 o.left rs rs' l l' x.4 y.4 b.1 c.1 in
     λ i. o.reply i ∷ others i
 
-one_of : (s : Result Script ScriptFault) (ended ended' : Ended) (out out' : List ℕ) → IsOutputOf s ended out → IsOutputOf s ended' out' → (ended ≡ ended') × (out ≡ out')
-one_of (Ok s) ended ended' out out' x y = (
+one_of : (show : List Reply → List ℕ) (s : Result Script ScriptFault) (ended ended' : Ended) (out out' : List ℕ) → IsShownOf show s ended out → IsShownOf show s ended' out' → (ended ≡ ended') × (out ≡ out')
+one_of show (Ok s) ended ended' out out' x y = (
   x.0 ∙ sym y.0,
-  x.1.lines ∙ ap lines (one_run s.events _ _ (_, refl, refl) x.1.replies y.1.replies x.1.left y.1.left x.1.run y.1.run x.1.sufficed y.1.sufficed) ∙ sym y.1.lines,
+  x.1.shown ∙ ap show (one_run s.events _ _ (_, refl, refl) x.1.replies y.1.replies x.1.left y.1.left x.1.run y.1.run x.1.sufficed y.1.sufficed) ∙ sym y.1.shown,
 )
-one_of (Err f) ended ended' out out' x y = (x.0 ∙ sym y.0, x.1 ∙ sym y.1)
+one_of show (Err f) ended ended' out out' x y = (x.0 ∙ sym y.0, x.1 ∙ sym y.1)
 
-pub one_output : (input : List ℕ) (ended ended' : Ended) (out out' : List ℕ) → IsOutput input ended out → IsOutput input ended' out' → (ended ≡ ended') × (out ≡ out')
-one_output input ended ended' out out' x y = one_of (script_of input) ended ended' out out' x y
+pub one_output : (show : List Reply → List ℕ) (input : List ℕ) (ended ended' : Ended) (out out' : List ℕ) → IsShown show input ended out → IsShown show input ended' out' → (ended ≡ ended') × (out ≡ out')
+one_output show input ended ended' out out' x y = one_of show (script_of input) ended ended' out out' x y

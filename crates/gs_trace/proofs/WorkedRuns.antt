@@ -61,7 +61,7 @@ seen_run =
 
 seen_written : IsOutput (codes "cpus 2 ring 128" ++ 10 ∷ codes "tick 1" ++ 10 ∷ codes "unread") Ran (line (codes "tick 1") ++ line (codes "unread tick 0 seq 0 cpu 1"))
 unfolding two digits
-seen_written = (refl, record { replies = seen; left = after (TimerTick 1 ∷ []); run = seen_run; sufficed = refl; lines = refl })
+seen_written = (refl, record { replies = seen; left = after (TimerTick 1 ∷ []); run = seen_run; sufficed = refl; shown = refl })
 
 -- four creations of 32 bytes fill a ring of 128, the tick tears the enclave down, and what comes then is refused
 abbrev four : List Message
@@ -119,4 +119,4 @@ torn_script =
 
 torn_written : IsOutput torn_script Ran (line (codes "created 1 seq 1") ++ line (codes "created 2 seq 1") ++ line (codes "created 3 seq 1") ++ line (codes "created 4 seq 1") ++ line (codes "torn") ++ line (codes "refused 18 Gone"))
 unfolding two facts digits
-torn_written = (refl, record { replies = torn_replies; left = torn_after four; run = torn_run; sufficed = refl; lines = refl })
+torn_written = (refl, record { replies = torn_replies; left = torn_after four; run = torn_run; sufficed = refl; shown = refl })

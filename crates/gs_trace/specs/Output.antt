@@ -15,6 +15,9 @@ use Rattle.gs_trace.specs.declared.run.Ended.{Ended}
 use Rattle.gs_trace.specs.declared.run.Ended.TheVariants.{Ran, Faulted}
 use Rattle.gs_script.specs.Script.{Script, script_of}
 use Rattle.gs_lines.specs.Lines.{lines, line}
+use Rattle.gs_report.specs.Report.{report_of}
+use Rattle.gs_trace.specs.declared.form.Form.{Form}
+use Rattle.gs_trace.specs.declared.form.Form.TheVariants.{Lines, Report}
 
 abbrev pub reason_text : Reason → List ℕ
 reason_text reasons.TooLong = codes "TooLong"
@@ -39,18 +42,31 @@ wants_memory (Refused OutOfMemory) = true
 wants_memory (Drained d) = is_memory d.stop
 wants_memory _ = false
 
--- these lines answer the script: they are those of the replies of a run of it, from the machine of its header on, in which memory sufficed
-pub record Answers (s : Script) (out : List ℕ) : Type 0 where
+-- these bytes answer the script: they show the replies of a run of it, from the machine of its header on, in which memory sufficed
+pub record Answers (show : List Reply → List ℕ) (s : Script) (out : List ℕ) : Type 0 where
   pub replies : List Reply
   pub left : State
   pub run : Run (start s.config) s.events replies left
   pub sufficed : list_any wants_memory replies ≡ false
-  pub lines : out ≡ lines replies
+  pub shown : out ≡ show replies
 
-abbrev pub IsOutputOf : Result Script ScriptFault → Ended → List ℕ → Type 0
-IsOutputOf (Ok s) ended out = (ended ≡ Ran) × Answers s out
-IsOutputOf (Err f) ended out = (ended ≡ Faulted) × (out ≡ fault_line f)
+abbrev pub IsShownOf : (List Reply → List ℕ) → Result Script ScriptFault → Ended → List ℕ → Type 0
+IsShownOf show (Ok s) ended out = (ended ≡ Ran) × Answers show s out
+IsShownOf show (Err f) ended out = (ended ≡ Faulted) × (out ≡ fault_line f)
 
--- what is to be written for an input, and how that ends
+-- what is to be written for an input whose replies are shown so, and how that ends
+abbrev pub IsShown : (List Reply → List ℕ) → List ℕ → Ended → List ℕ → Type 0
+IsShown show input ended out = IsShownOf show (script_of input) ended out
+
+-- how replies are shown: by their lines, or by a report with so many of the last of these
+abbrev pub shown_as : Form → List Reply → List ℕ
+shown_as Lines = lines
+shown_as (Report last) = report_of last
+
+-- what is to be written for an input: the lines of its replies
 abbrev pub IsOutput : List ℕ → Ended → List ℕ → Type 0
-IsOutput input ended out = IsOutputOf (script_of input) ended out
+IsOutput input ended out = IsShown lines input ended out
+
+-- or their report
+abbrev pub IsReport : ℕ → List ℕ → Ended → List ℕ → Type 0
+IsReport last input ended out = IsShown (report_of last) input ended out

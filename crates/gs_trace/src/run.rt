@@ -1,14 +1,14 @@
 ghost use Rattle.std.specs.Prelude.{◌≡◌, ◌≢◌, ◌≤◌, ℕ, List, length, take, IfOk, IfErr, IfSome, IsErrOf, string_bytes};
 ghost use Rattle.std.specs.List.{list_any};
 ghost use Rattle.std.specs.Io.KnownBytes.{Keeps, Appends, Consumes, IsAtEnd};
-ghost use Rattle.gs_trace.specs.Output.{IsOutput, fault_line, reason_text, wants_memory};
+ghost use Rattle.gs_trace.specs.Output.{IsOutput, IsReport, IsShown, fault_line, reason_text, shown_as, wants_memory};
 ghost use Rattle.gs_trace.specs.declared.run.Ended.{Ended};
 
+use crate::form::{Form, show};
 use crate::pipe::{InputError, read_all, write_out};
 use gs_agent::Stop;
 use gs_core::{ConfigFault, Machine, Reply};
 use gs_layout::Refusal;
-use gs_lines::text_of;
 use gs_script::{Reason, ScriptError, ScriptFault, read_script};
 use std::alloc::{AllocError, Global};
 use std::io::{Read, Write};
@@ -88,9 +88,9 @@ fn is_short(replies: &[Reply]) -> bool
     replies.iter().any(wants)
 }
 
-/// What is to be written for an input. It fails only for want of memory.
-fn answer_to(alloc: Global, input: &[u8]) -> Result<Answer, AllocError>
-    ensures { IfOk result (λ answer. IsOutput input.now answer.ended (string_bytes answer.text)) }
+/// What is to be written for an input, its replies in this form. It fails only for want of memory.
+fn answer_to(alloc: Global, input: &[u8], form: Form) -> Result<Answer, AllocError>
+    ensures { IfOk result (λ answer. IsShown (shown_as form) input.now answer.ended (string_bytes answer.text)) }
 {
     let script = match read_script(alloc, input) {
         Ok(script) => script,
@@ -112,16 +112,22 @@ fn answer_to(alloc: Global, input: &[u8]) -> Result<Answer, AllocError>
     if is_short(&replies) {
         return Err(AllocError);
     }
-    let text = text_of(alloc, &replies)?;
+    let text = show(alloc, form, &replies)?;
     Ok(Answer {
         ended: Ended::Ran,
         text,
     })
 }
 
-/// Reads a script to its end, or until it is too long, runs it, and writes its answer.
+/// Reads a script to its end, or until it is too long, runs it, and writes the lines of its replies.
 ///
 /// The reads end at the first that gives no byte, and are at most 1,048,578.
+///
+/// # Errors
+///
+/// `ReadFailed` where a read fails, `OutOfMemory` where memory runs out, also where it does at an event:
+/// nothing was written. `WriteFailed` where a write fails or takes no byte: a beginning of the output was
+/// written.
 pub fn run_script<R: Read, W: Write>(
     alloc: Global,
     reader: &mut R,
@@ -138,12 +144,60 @@ pub fn run_script<R: Read, W: Write>(
         (ended : Ended) × (out : List ℕ) × (n : ℕ) × IsOutput input ended out
         × Appends (W.contents writer.old) (W.contents writer.new) (take n out)) }
 {
+    run(alloc, reader, writer, Form::Lines)
+}
+
+/// Reads and runs a script as [`run_script`] does, and writes a report in place of the lines: one line of
+/// JSON with the counts of its events, refusals and landings, whether the enclave was torn down, and the
+/// last lines of the output, so many of them. A script's fault is written as `run_script` writes it.
+///
+/// # Errors
+///
+/// As of [`run_script`].
+pub fn run_report<R: Read, W: Write>(
+    alloc: Global,
+    reader: &mut R,
+    writer: &mut W,
+    last: usize,
+) -> Result<Ended, TraceFault>
+    ensures ended { IfOk result (λ ended. IfSome (R.remaining reader.old) (λ input.
+        (out : List ℕ) × IsReport last input ended out × Appends (W.contents writer.old) (W.contents writer.new) out)) }
+    ensures read { IfOk result (λ ended. (bytes : List ℕ) × (out : List ℕ)
+        × Consumes (R.remaining reader.old) (R.remaining reader.new) bytes
+        × (length bytes ≤ 1048576 → IsAtEnd (R.remaining reader.new))
+        × IsReport last bytes ended out × Appends (W.contents writer.old) (W.contents writer.new) out) }
+    ensures unwritten { IfErr result (λ e. e ≢ TraceFault.WriteFailed → Keeps (W.contents writer.old) (W.contents writer.new)) }
+    ensures begun { IsErrOf result TraceFault.WriteFailed → IfSome (R.remaining reader.old) (λ input.
+        (ended : Ended) × (out : List ℕ) × (n : ℕ) × IsReport last input ended out
+        × Appends (W.contents writer.old) (W.contents writer.new) (take n out)) }
+{
+    run(alloc, reader, writer, Form::Report { last })
+}
+
+/// Reads and runs a script, and writes its replies in this form.
+fn run<R: Read, W: Write>(
+    alloc: Global,
+    reader: &mut R,
+    writer: &mut W,
+    form: Form,
+) -> Result<Ended, TraceFault>
+    ensures ended { IfOk result (λ ended. IfSome (R.remaining reader.old) (λ input.
+        (out : List ℕ) × IsShown (shown_as form) input ended out × Appends (W.contents writer.old) (W.contents writer.new) out)) }
+    ensures read { IfOk result (λ ended. (bytes : List ℕ) × (out : List ℕ)
+        × Consumes (R.remaining reader.old) (R.remaining reader.new) bytes
+        × (length bytes ≤ 1048576 → IsAtEnd (R.remaining reader.new))
+        × IsShown (shown_as form) bytes ended out × Appends (W.contents writer.old) (W.contents writer.new) out) }
+    ensures unwritten { IfErr result (λ e. e ≢ TraceFault.WriteFailed → Keeps (W.contents writer.old) (W.contents writer.new)) }
+    ensures begun { IsErrOf result TraceFault.WriteFailed → IfSome (R.remaining reader.old) (λ input.
+        (ended : Ended) × (out : List ℕ) × (n : ℕ) × IsShown (shown_as form) input ended out
+        × Appends (W.contents writer.old) (W.contents writer.new) (take n out)) }
+{
     let input = match read_all(alloc, reader) {
         Ok(input) => input,
         Err(InputError::Failed) => return Err(TraceFault::ReadFailed),
         Err(InputError::OutOfMemory) => return Err(TraceFault::OutOfMemory),
     };
-    let Ok(Answer { ended, text }) = answer_to(alloc, &input) else {
+    let Ok(Answer { ended, text }) = answer_to(alloc, &input, form) else {
         return Err(TraceFault::OutOfMemory);
     };
     match write_out(writer, text.as_bytes()) {

@@ -1,4 +1,4 @@
-use crate::{Command, Ended, TraceFault, run_script, settings};
+use crate::{Command, Ended, TraceFault, run_report, run_script, settings};
 use clap::error::ErrorKind;
 use std::alloc::Global;
 use std::io;
@@ -77,7 +77,7 @@ const FIRST_PATH: &str = "cpus 2 ring 128\ncreate 3 0 r web\ndrain 1\nstamp 1 1\
 const FIRST_PATH_LINES: &str = "created 1 seq 1\ndrained 1\nstamped 1\ncpu 1 placed 1 seq 1\n";
 
 /// Scripts, and what is written for them.
-const ROWS: [(&str, &str); 22] = [
+const ROWS: [(&str, &str); 23] = [
     (FIRST_PATH, FIRST_PATH_LINES),
     (
         "cpus 2 ring 128\ncreate 1 0 r a\ncreate 2 0 b b\ndrain 9\nstamp 1 1\ncommit 2\nstamp 1 2\ncommit 2\nstamp 0 1\ncommit 1",
@@ -106,7 +106,8 @@ const ROWS: [(&str, &str); 22] = [
         "cpus 2 ring 128\ncreate 3 0 r seventeenbyteslong\n",
         "fault line 2 BadName\n",
     ),
-    ("cpus 2 ring 128\nstamp 1 1 p\n", "fault line 2 BadCount\n"),
+    ("cpus 2 ring 128\nstamp 1 1 p\n", "refused 1 NoThread\n"),
+    ("cpus 2 ring 128\nstamp 1 1 q\n", "fault line 2 BadWord\n"),
     (
         "cpus 2 ring 128\ntick 0\ncreate 3 0 r a\ntick 1\nunread\ndrain 1\nunread\ndrain 9\nunread\n",
         "tick 0\ncreated 1 seq 1\ntick 1\nunread tick 0 seq 0 cpu 0\nunread created 1 seq 1 cpu -\nunread tick 0 seq 0 cpu 1\ndrained 1\nunread created 1 seq 1 cpu -\nunread tick 0 seq 0 cpu 1\ndrained 2\n",
@@ -154,6 +155,45 @@ fn answers_scripts(rt: HostRuntime) -> Result<(), Fail> {
             Ended::Ran
         };
         assert_eq!(rt; ended, Ok(wanted), "of {script}");
+    }
+    Ok(())
+}
+
+/// A report in place of the lines, and a fault's line as it is.
+#[test]
+fn reports(rt: HostRuntime) -> Result<(), Fail> {
+    let rows = [
+        (
+            "cpus 2 ring 128\ncreate 3 0 r web\ndrain 1\nstamp 1 1\ncommit 2\n",
+            1,
+            Ended::Ran,
+            "{\"events\":4,\"last\":[\"cpu 1 placed 1 seq 1\"],\"placed\":1,\"refused\":0,\"torn\":false,\"unplaced\":0}\n",
+        ),
+        (
+            "cpus 2 ring 128\ncreate 3 0 r web\ndrain 1\nstamp 1 1\nlate 1\nlate 1\nblock 9\n",
+            2,
+            Ended::Ran,
+            "{\"events\":6,\"last\":[\"late 1 alreadyplaced 1 seq 1\",\"refused 1 NoThread\"],\"placed\":1,\"refused\":1,\"torn\":false,\"unplaced\":1}\n",
+        ),
+        (
+            "cpus 3 ring 128\ncreate 7 0 r a\ncreate 7 0 r b\ncreate 7 0 r c\ndrain 3\nstamp 2 1\ncommit 4\ncreate 7 0 r x\ncreate 7 0 r x\ncreate 7 0 r x\ncreate 7 0 r x\nstamp 1 2\nstamp 2 3 p\ncommit 6\nlate 1\n",
+            3,
+            Ended::Ran,
+            "{\"events\":14,\"last\":[\"cpu 2 gone 3 seq 1\",\"torn\",\"refused 18 Gone\"],\"placed\":2,\"refused\":1,\"torn\":true,\"unplaced\":1}\n",
+        ),
+        (
+            "cpus 2 ring 128\nblok 1\n",
+            5,
+            Ended::Faulted,
+            "fault line 2 BadWord\n",
+        ),
+    ];
+    for (script, last, wanted_end, wanted) in rows {
+        let mut reader = script.as_bytes();
+        let mut written = Vec::new(rt.alloc());
+        let ended = run_report(rt.alloc(), &mut reader, &mut written, last)?;
+        assert_eq!(rt; ended, wanted_end);
+        assert_eq!(rt; written.as_slice(), wanted.as_bytes(), "of {script}");
     }
     Ok(())
 }
@@ -227,27 +267,70 @@ fn writes_a_beginning_where_a_write_fails(rt: HostRuntime) -> Result<(), Fail> {
     Ok(())
 }
 
+/// The kind of the error that the words are refused with.
+fn refused<'a>(alloc: Global, words: &'a [&'a str]) -> Result<ErrorKind, Fail> {
+    Ok(settings(alloc, words).err().ok_or("not refused")?.kind())
+}
+
 #[test]
 fn reads_arguments(rt: HostRuntime) -> Result<(), Fail> {
-    assert_eq!(rt; settings(rt.alloc(), &["ghost", "run"])?, Command::Run);
-    let none = settings(rt.alloc(), &["ghost"]).err().ok_or("none")?;
-    assert_eq!(rt; none.kind(), ErrorKind::MissingSubcommand);
-    let unknown = settings(rt.alloc(), &["ghost", "walk"])
-        .err()
-        .ok_or("unknown")?;
-    assert_eq!(rt; unknown.kind(), ErrorKind::InvalidSubcommand);
-    let more = settings(rt.alloc(), &["ghost", "run", "fast"])
-        .err()
-        .ok_or("more")?;
-    assert_eq!(rt; more.kind(), ErrorKind::UnknownArgument);
-    let help = settings(rt.alloc(), &["ghost", "--help"])
-        .err()
-        .ok_or("help")?;
-    assert_eq!(rt; help.kind(), ErrorKind::DisplayHelp);
-    let version = settings(rt.alloc(), &["ghost", "--version"])
+    let alloc = rt.alloc();
+    assert_eq!(rt; settings(alloc, &["ghost", "run"])?, Command::Run);
+    let report = |last| Command::Report { last };
+    assert_eq!(rt; settings(alloc, &["ghost", "report"])?, report(10));
+    for (text, last) in [("1", 1), ("7", 7), ("1000", 1000)] {
+        assert_eq!(rt;
+            settings(alloc, &["ghost", "report", "--last", text])?,
+            report(last)
+        );
+    }
+    assert_eq!(rt;
+        settings(alloc, &["ghost", "report", "--last=7"])?,
+        report(7)
+    );
+    for text in ["0", "1001", "x"] {
+        assert_eq!(rt;
+            refused(alloc, &["ghost", "report", "--last", text])?,
+            ErrorKind::ValueValidation
+        );
+    }
+    assert_eq!(rt;
+        refused(alloc, &["ghost", "report", "--last"])?,
+        ErrorKind::InvalidValue
+    );
+    assert_eq!(rt;
+        refused(alloc, &["ghost", "report", "5"])?,
+        ErrorKind::UnknownArgument
+    );
+    assert_eq!(rt;
+        refused(alloc, &["ghost", "run", "--last", "5"])?,
+        ErrorKind::UnknownArgument
+    );
+    assert_eq!(rt;
+        refused(alloc, &["ghost", "run", "fast"])?,
+        ErrorKind::UnknownArgument
+    );
+    assert_eq!(rt; refused(alloc, &["ghost"])?, ErrorKind::MissingSubcommand);
+    assert_eq!(rt;
+        refused(alloc, &["ghost", "walk"])?,
+        ErrorKind::InvalidSubcommand
+    );
+    assert_eq!(rt;
+        refused(alloc, &["ghost", "--help"])?,
+        ErrorKind::DisplayHelp
+    );
+    assert_eq!(rt;
+        refused(alloc, &["ghost", "report", "--help"])?,
+        ErrorKind::DisplayHelp
+    );
+    assert_eq!(rt;
+        refused(alloc, &["ghost", "--version"])?,
+        ErrorKind::DisplayVersion
+    );
+    let version = settings(alloc, &["ghost", "--version"])
         .err()
         .ok_or("version")?;
-    assert_eq!(rt; version.kind(), ErrorKind::DisplayVersion);
+    let unknown = settings(alloc, &["ghost", "walk"]).err().ok_or("walk")?;
     assert!(rt; !version.use_stderr() && unknown.use_stderr());
     Ok(())
 }

@@ -1,4 +1,4 @@
-use Rattle.std.proofs.Common.{◌≡◌, false, ◌<◌, ◌∷◌, ◌++◌, [], true, slice_get, slice_set, Some, ap, sym, ◌∙◌}
+use Rattle.std.proofs.Common.{◌≡◌, ◌<◌, ◌∷◌, ◌++◌, [], true, slice_get, slice_set, Some, ap, sym, ◌∙◌}
 use Rattle.std.specs.Option.{is_some}
 use Rattle.std.proofs.lemmas.Grind.{common_steps}
 use Rattle.std.proofs.Common.{arith}
@@ -26,13 +26,13 @@ invariant_of-self-2 c =
     let idle : slice_get m.slots c.args.cpu ≡ Some Idle = grind (arith, common_steps) in
     let state : Some (state_of c.slot.result) ≡ Some Idle = sym c.slot.ensures.state ∙ idle in
     let free : state_of c.slot.result ≡ Idle = cc in
-    let left = stamped_is c.stamp.result (view m t) k role.generation t (state_of c.slot.result) c.stamp.new.slot.0 known free c.stamp.ensures.refused c.stamp.ensures.number c.stamp.ensures.stamped in
-    let stamped : c.stamp.new.slot.0 ≡ Stamped (stamp_of t a.0 k) = left ∙ ap (λ g. Stamped (record { generation = g; tid = t; tseq = k.tseq; preempt = false })) (sym (i.generation a.0 a.1)) in
-    let kept : c.push.new.self.items ≡ m.transactions ++ record { cpu = c.args.cpu; slot = record { generation = role.generation; tid = t; tseq = k.tseq; preempt = false }; facts = k.facts } ∷ [] = grind (arith, common_steps) in
-    let pushed : c.push.new.self.items ≡ m.transactions ++ record { cpu = c.args.cpu; slot = stamp_of t a.0 k; facts = k.facts } ∷ [] =
-    kept ∙ ap (λ g. m.transactions ++ record { cpu = c.args.cpu; slot = record { generation = g; tid = t; tseq = k.tseq; preempt = false }; facts = k.facts } ∷ []) (sym (i.generation a.0 a.1)) in
+    let left = stamped_is c.stamp.result (view m t) k role.generation t c.args.preempt (state_of c.slot.result) c.stamp.new.slot.0 known free c.stamp.ensures.refused c.stamp.ensures.number c.stamp.ensures.stamped in
+    let stamped : c.stamp.new.slot.0 ≡ Stamped (stamp_of t c.args.preempt a.0 k) = left ∙ ap (λ g. Stamped (record { generation = g; tid = t; tseq = k.tseq; preempt = c.args.preempt })) (sym (i.generation a.0 a.1)) in
+    let kept : c.push.new.self.items ≡ m.transactions ++ record { cpu = c.args.cpu; slot = record { generation = role.generation; tid = t; tseq = k.tseq; preempt = c.args.preempt }; facts = k.facts } ∷ [] = grind (arith, common_steps) in
+    let pushed : c.push.new.self.items ≡ m.transactions ++ record { cpu = c.args.cpu; slot = stamp_of t c.args.preempt a.0 k; facts = k.facts } ∷ [] =
+    kept ∙ ap (λ g. m.transactions ++ record { cpu = c.args.cpu; slot = record { generation = g; tid = t; tseq = k.tseq; preempt = c.args.preempt }; facts = k.facts } ∷ []) (sym (i.generation a.0 a.1)) in
     record {
-      good = stamp_kept m c.args.cpu t a.0 k _ _ i.good known below (ap (slice_set m.slots c.args.cpu) stamped) pushed;
+      good = stamp_kept m c.args.cpu t c.args.preempt a.0 k _ _ i.good known below (ap (slice_set m.slots c.args.cpu) stamped) pushed;
       told = i.told;
       generation = i.generation;
     }

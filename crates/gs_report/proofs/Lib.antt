@@ -1,0 +1,3 @@
+pub mod Landings
+pub mod Texts
+pub mod Values

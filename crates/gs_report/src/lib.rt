@@ -1,0 +1,10 @@
+//! The report of a run: what became of its events, and the last lines of its output, as one line of JSON.
+#![tactic(auto)]
+
+mod counts;
+mod last_lines;
+mod report;
+#[cfg(test)]
+mod tests;
+
+pub use report::report_text;
