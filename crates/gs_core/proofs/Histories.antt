@@ -14,9 +14,9 @@ use Rattle.gs_journal.specs.declared.entry.Entry.{Entry}
 use Rattle.gs_journal.specs.declared.entry.Entry.TheVariants.{Posted, Placed}
 use Rattle.gs_journal.specs.Standing.{then_stands}
 use Rattle.gs_status.specs.Masks.{has}
-use Rattle.gs_journal.specs.History.{History, messages, created, seq, record_in, on, ends_run, at, at_below, active, AtEachPrefix}
+use Rattle.gs_journal.specs.History.{History, messages, created, seq, record_in, on, ends_run, active, AtEachPrefix}
 use Rattle.gs_journal.specs.State.{Numbered, IsNumbered}
-use Rattle.gs_journal.proofs.Laws.{messages-push, on-push, AtEach-push, AtEachPrefix-push}
+use Rattle.gs_journal.proofs.Laws.{at_is, messages-push, on-push, AtEach-push, AtEachPrefix-push}
 use Rattle.gs_journal.proofs.Past.{Was-mono, Was-now}
 use Rattle.gs_kernel.specs.declared.settings.Settings.{Settings}
 use Rattle.gs_kernel.specs.Landing.{is_generation}
@@ -67,11 +67,6 @@ pub good_tick : (s : Settings) (xs : List Transaction) (h : History) (c : ℕ) �
 good_tick s xs h c g =
     good_posted s xs h (TimerTick c) g (λ u. subst (Numbered s.first_tseq 0) (sym (tick_messages h c u)) (g.numbered u))
     (λ u lt. tick_messages h c u ∙ g.fresh u (omega (arith, ap length (created-push h (Posted (TimerTick c)) ∙ append-nil (created h))))) (tick_messages h c 0 ∙ g.no_zero)
-
--- a thread that is on no CPU below the count is on none of them
-at_is : (cpus t : ℕ) (h : History) → at cpus h t ≡ None → at_below cpus h t ≡ None
-unfolding at
-at_is cpus t h e = e
 
 -- who stands after a Placed entry
 placed_stood : (k t q g : ℕ) (b : Bool) (o : Option ℕ) (u : ℕ) → then_stands (cond b (Some t) None) ends_run (Placed t q k g) o ≡ Some u → ((b ≡ true) × (u ≡ t)) ⊎ ((b ≡ false) × (o ≡ Some u))
@@ -132,7 +127,7 @@ good_placed s xs h k b x g i slot cpu below p =
     nowhere : (c u : ℕ) → u ≡ b.tid → on h c ≡ Some u → ⊥
     nowhere c u q r =
         let r' : on h c ≡ Some b.tid = r ∙ ap Some q in
-        on_none s.cpus c h b.tid (at_is s.cpus b.tid h p.nowhere) (g.on_cpus b.tid c r') r'
+        on_none s.cpus c h b.tid (sym (at_is s.cpus h b.tid) ∙ p.nowhere) (g.on_cpus b.tid c r') r'
 
     both : (u c d : ℕ) → (((k == c) ≡ true) × (u ≡ b.tid)) ⊎ (((k == c) ≡ false) × (on h c ≡ Some u)) → (((k == d) ≡ true) × (u ≡ b.tid)) ⊎ (((k == d) ≡ false) × (on h d ≡ Some u)) → c ≡ d
     both u c d (inl q) (inl r) = grind (arith, nat_tests, q.0, r.0)

@@ -1,10 +1,12 @@
 -- A commit and a late landing do what they say.
-use Rattle.std.proofs.Common.{◌≡◌, refl, ap, sym, ◌∙◌, subst, ℕ, ◌≤◌, inr, Bool, true, false, not, cond, None, Some, Result, Ok, Err, IfOk, OnOk, OnErr, List, [], ◌∷◌, length, map}
-use Rattle.std.specs.Option.{is_some}
+use Rattle.std.proofs.Common.{◌≡◌, refl, ap, sym, ◌∙◌, subst, ℕ, ◌≤◌, inr, Bool, true, false, not, cond, Option, None, Some, Result, Ok, Err, IfOk, OnOk, OnErr, List, [], ◌∷◌, length, map}
+use Rattle.std.specs.Option.{is_some, option_map}
 use Rattle.std.specs.declared.alloc.AllocError.{AllocError}
+use Rattle.gs_layout.specs.declared.facts.Facts.{Facts}
 use Rattle.gs_layout.specs.declared.message.Change.TheVariants.{Preempted}
 use Rattle.gs_layout.specs.declared.message.Message.TheVariants.{Thread}
 use Rattle.gs_layout.specs.declared.refusal.Refusal.TheVariants as refusals
+use Rattle.gs_slots.specs.declared.state.Stamp.{Stamp}
 use Rattle.gs_slots.specs.declared.state.SlotState.{SlotState}
 use Rattle.gs_slots.specs.declared.state.SlotState.TheVariants.{Stamped}
 use Rattle.gs_slots.specs.State.{collected}
@@ -51,6 +53,22 @@ commit_step m mask s r0 r h answers slots left i same stays told is_s few tight 
     let consumed_is : r.taken ≡ m.consumed = stays ∙ i.consumed in
     done (refusal m (events.Commit mask)) m (events.Commit mask) (replies.Landed answers (torn h)) (record (with_kernel m s r h) { slots = slots }) none
     (λ j. replies.Landed (answers_is j) (torn (h_is j)), λ j. record { settings = is_s j; ring = ring_is j; history = h_is j; consumed = consumed_is j; agent = m.agent; slots = slots_is j; transactions = m.transactions })
+
+same_pair : (p q : ℕ × Stamp) → Some p ≡ Some q → p ≡ q
+same_pair p q e = cc
+
+facts_of : (o : Option Transaction) (p : ℕ × Stamp) → Some p ≡ option_map (λ (x : Transaction). (x.cpu, x.slot)) o → (f : Facts) × (o ≡ Some (record { cpu = p.0; slot = p.1; facts = f }))
+facts_of None p e = absurd cc
+facts_of (Some x) p e =
+    let same : p ≡ (x.cpu, x.slot) = same_pair p (x.cpu, x.slot) e in
+    (x.facts, λ i. Some (record { cpu = (sym same i).0; slot = (sym same i).1; facts = x.facts }))
+
+-- a transaction of which the CPU and the stamp are known is the one with these, whatever its facts
+pub with_facts : (m m' : State) (n : ℕ) (p : ℕ × Stamp) → m ≡ m' → Some p ≡ option_map (λ (x : Transaction). (x.cpu, x.slot)) (transaction_of m'.transactions n)
+    → (f : Facts) × (transaction_of m.transactions n ≡ Some (record { cpu = p.0; slot = p.1; facts = f }))
+with_facts m m' n p same e =
+    let f = facts_of (transaction_of m'.transactions n) p e in
+    (f.0, ap (λ (y : State). transaction_of y.transactions n) same ∙ f.1)
 
 -- what a late landing answers, by what the kernel answered
 abbrev pub late_reply : ℕ → Bool → Result Landing AllocError → Reply

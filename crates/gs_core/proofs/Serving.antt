@@ -1,5 +1,5 @@
 -- What the machine keeps where a part of it serves an event.
-use Rattle.std.proofs.Common.{◌≡◌, ap, sym, ◌∙◌, subst, ℕ, ◌+◌, ◌<◌, Bool, Option, None, Some, List, [], ◌∷◌, ◌++◌, map, slice_set, IsSome}
+use Rattle.std.proofs.Common.{◌≡◌, ap, sym, ◌∙◌, subst, ℕ, ◌+◌, ◌<◌, Bool, Option, None, Some, List, [], ◌∷◌, ◌++◌, slice_set, IsSome}
 use Rattle.std.specs.Option.{is_some, option_map}
 use Rattle.gs_agent.specs.Role.{stamp_refusal}
 use Rattle.gs_layout.specs.declared.known.Known.{Known}
@@ -12,8 +12,7 @@ use Rattle.gs_journal.specs.declared.entry.Entry.TheVariants.{Posted, Role}
 use Rattle.gs_kernel.specs.declared.settings.Settings.{Settings}
 use Rattle.gs_agent.specs.declared.drained.Drained.{Drained}
 use Rattle.gs_core.specs.declared.transaction.Transaction.{Transaction}
-use Rattle.gs_core.specs.Machine.{State, view, page_of, unread, landings, stamp_of, start}
-use Rattle.gs_slots.specs.State.{collected}
+use Rattle.gs_core.specs.Machine.{State, view, page_of, unread, stamp_of, start}
 use Rattle.gs_core.specs.Good.{Good}
 use Rattle.std.proofs.Common.{replicate, Result, Ok, Err, IfOk, IfErr, OnOk, OnErr}
 use Rattle.gs_kernel.specs.Kernel.{after_post}
@@ -27,7 +26,7 @@ use Rattle.gs_kernel.specs.declared.thread_event.ThreadEvent.{ThreadEvent}
 use Rattle.gs_kernel.specs.Kernel.{thread_refusal, happening, preemption, after_take, after_give}
 use Rattle.gs_core.proofs.Happens.{happen_good}
 use Rattle.gs_core.proofs.Taking.{take_good, give_good}
-use Rattle.gs_core.proofs.Steps.{BothOf, post_good, stamp_good_with, commit_good}
+use Rattle.gs_core.proofs.Steps.{BothOf, post_good, stamp_good_with}
 
 -- a kernel that is as good as before
 pub kernel_kept : (m : State) (s : Settings) (r : RingState) (h h' : List Entry) → s ≡ m.settings → r.capacity ≡ m.ring → r.taken ≡ m.consumed → h' ≡ h → Good (record m { history = h }) → Good (with_kernel m s r h')
@@ -81,11 +80,6 @@ pub stamp_kept : (m : State) (c t : ℕ) (p : Bool) (a : ℕ × ℕ) (k : Known)
     → slots ≡ slice_set m.slots c (Stamped (stamp_of t p a k)) → xs ≡ m.transactions ++ record { cpu = c; slot = stamp_of t p a k; facts = k.facts } ∷ [] → Good (record m { slots = slots; transactions = xs })
 stamp_kept m c t p a k slots xs g e below q r =
     subst (λ (x : List SlotState). Good (record m { slots = x; transactions = xs })) (sym q) (subst (λ (x : List Transaction). Good (record m { slots = slice_set m.slots c (Stamped (stamp_of t p a k)); transactions = x })) (sym r) (stamp_good_with m c t p (Some a) (Some k) e below g))
-
-pub commit_kept : (m : State) (mask : ℕ) (s : Settings) (r : RingState) (h : List Entry) (slots : List SlotState) → Good m → s ≡ m.settings → r.capacity ≡ m.ring → r.taken ≡ m.consumed
-    → h ≡ (landings m mask).history → slots ≡ map collected (landings m mask).slots → Good (record (with_kernel m s r h) { slots = slots })
-commit_kept m mask s r h slots g is_s is_r is_n is_h is_slots =
-    subst Good (λ i. record { settings = sym is_s i; ring = sym is_r i; history = sym is_h i; consumed = sym is_n i; agent = m.agent; slots = sym is_slots i; transactions = m.transactions }) (commit_good m mask g)
 
 -- what a role stamps of a thread that it knows into an idle slot
 pub stamped_is : (q : Result ℕ Refusal) (o : Option Known) (k : Known) (g t : ℕ) (p : Bool) (z z' : SlotState) → o ≡ Some k → z ≡ Idle → IfErr q (λ r. stamp_refusal o z ≡ Some r) → IfOk q (λ n. option_map (λ (x : Known). x.tseq) o ≡ Some n)

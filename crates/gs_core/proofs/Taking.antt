@@ -1,5 +1,5 @@
 -- An entry that concerns no thread keeps what the machine keeps, and so do taking a CPU and giving it back.
-use Rattle.std.proofs.Common.{◌≡◌, refl, ap, sym, ◌∙◌, subst, ℕ, ◌<◌, Bool, true, false, Option, None, Some, List, [], ◌∷◌, ◌++◌, length, arith, cond, append_assoc}
+use Rattle.std.proofs.Common.{◌≡◌, refl, ap, sym, ◌∙◌, subst, ℕ, ◌<◌, Bool, true, false, Option, None, Some, List, [], ◌∷◌, ◌++◌, length, arith, append_assoc}
 use Rattle.std.specs.List.{filter}
 use Rattle.std.specs.Option.{option_map}
 use Rattle.std.proofs.lemmas.List.{append-nil, take_all}
@@ -8,12 +8,12 @@ use Rattle.gs_layout.specs.declared.message.Message.{Message}
 use Rattle.gs_layout.specs.Message.{is_about, is_creation}
 use Rattle.gs_journal.specs.declared.entry.Entry.{Entry}
 use Rattle.gs_journal.specs.declared.entry.Entry.TheVariants.{Posted, Placed, Role, Begin, Left, Taken, Given, Torn}
-use Rattle.gs_journal.specs.Standing.{then_stands}
-use Rattle.gs_journal.specs.History.{History, messages, posted_by, on, ends_run, placed_on, active, attaching, AtEachPrefix}
+use Rattle.gs_journal.specs.History.{History, messages, on, active, attaching, AtEachPrefix}
 use Rattle.gs_journal.specs.State.{Numbered}
-use Rattle.gs_journal.proofs.Laws.{on-push, same_posted, same_messages, same_created, AtEach-push, AtEachPrefix-push}
+use Rattle.gs_journal.proofs.Laws.{same_posted, same_messages, same_created, AtEach-push, AtEachPrefix-push}
 use Rattle.gs_journal.proofs.Past.{Was-mono}
 use Rattle.gs_threads.specs.Mirrors.{is_quiet}
+use Rattle.gs_threads.proofs.Placing.{on_quiet, posts_nothing}
 use Rattle.gs_kernel.specs.declared.settings.Settings.{Settings}
 use Rattle.gs_kernel.specs.Kernel.{next_about, preemption, after_take}
 use Rattle.gs_core.specs.declared.transaction.Transaction.{Transaction}
@@ -28,33 +28,6 @@ use Rattle.gs_core.proofs.Steps.{BothOf, post_good, was_role}
 use Rattle.gs_core.proofs.Happens.{both_about}
 
 -- an entry that concerns no thread
-stays : {A : Type 0} (ends : A → Entry → Bool) (e : Entry) (o : Option A) → ((a : A) → ends a e ≡ false) → then_stands None ends e o ≡ o
-stays ends e None never = refl
-stays ends e (Some a) never = ap (λ b. cond b None (Some a)) (never a)
-
-still : (h : History) (e : Entry) (c : ℕ) → is_quiet e ≡ true → on (h ++ e ∷ []) c ≡ on h c
-still h e c quiet = on-push h e c ∙ by_entry e quiet (on h c)
-  where
-    by_entry : (e : Entry) → is_quiet e ≡ true → (o : Option ℕ) → then_stands (placed_on c e) ends_run e o ≡ o
-    by_entry (Posted m) q o = absurd cc
-    by_entry (Placed t s d g) q o = absurd cc
-    by_entry Torn q o = absurd cc
-    by_entry (Role g d) q o = stays ends_run (Role g d) o (λ t. refl)
-    by_entry (Begin g) q o = stays ends_run (Begin g) o (λ t. refl)
-    by_entry Left q o = stays ends_run Left o (λ t. refl)
-    by_entry (Taken d) q o = stays ends_run (Taken d) o (λ t. refl)
-    by_entry (Given d) q o = stays ends_run (Given d) o (λ t. refl)
-
-posts_none : (e : Entry) → is_quiet e ≡ true → posted_by e ≡ []
-posts_none (Posted m) q = absurd cc
-posts_none (Placed t s d g) q = absurd cc
-posts_none Torn q = absurd cc
-posts_none (Role g d) q = refl
-posts_none (Begin g) q = refl
-posts_none Left q = refl
-posts_none (Taken d) q = refl
-posts_none (Given d) q = refl
-
 needs_none : (s : Settings) (xs : List Transaction) (h : History) (e : Entry) → is_quiet e ≡ true → IsBacked s xs h e
 needs_none s xs h (Posted m) q = tt
 needs_none s xs h (Placed t n d g) q = absurd cc
@@ -71,7 +44,7 @@ good_quiet s xs h e quiet g =
       backed = AtEach-push (IsBacked s xs) h e g.backed (needs_none s xs h e quiet);
       one = AtEachPrefix-push OnOne h e g.one (λ u c d p q. whole_one g.one u c d (stood c u p) (stood d u q));
       numbered = λ u. subst (Numbered s.first_tseq 0) (sym (same u)) (g.numbered u);
-      fresh = λ u above. same u ∙ g.fresh u (omega (arith, ap length (same_created h e (ap (filter is_creation) (posts_none e quiet))), above));
+      fresh = λ u above. same u ∙ g.fresh u (omega (arith, ap length (same_created h e (ap (filter is_creation) (posts_nothing e quiet))), above));
       no_zero = same 0 ∙ g.no_zero;
       on_cpus = λ u c p. g.on_cpus u c (stood c u p);
       on_known = λ u c p. subst (λ (z : List Message). 0 < length z) (sym (same u)) (g.on_known u c (stood c u p));
@@ -82,10 +55,10 @@ good_quiet s xs h e quiet g =
     }
   where
     same : (u : ℕ) → messages (h ++ e ∷ []) u ≡ messages h u
-    same u = same_messages h e u (ap (filter (is_about u)) (posts_none e quiet))
+    same u = same_messages h e u (ap (filter (is_about u)) (posts_nothing e quiet))
 
     stood : (c u : ℕ) → on (h ++ e ∷ []) c ≡ Some u → on h c ≡ Some u
-    stood c u p = sym (still h e c quiet) ∙ p
+    stood c u p = sym (on_quiet h e c quiet) ∙ p
 
     whole_one : AtEachPrefix OnOne h → OnOne h
     whole_one all = subst OnOne (take_all (length h) h (omega arith)) (all (length h))
@@ -94,7 +67,7 @@ pub both_quiet : (m : State) (e : Entry) → is_quiet e ≡ true → Good m → 
 both_quiet m e quiet g =
     record {
       good = good_quiet m.settings m.transactions m.history e quiet g.history;
-      faces = faces_same m.settings.first_tseq m.history (m.history ++ e ∷ []) m.consumed (view m) (page_of m.agent) (same_posted m.history e (posts_none e quiet)) g.faces;
+      faces = faces_same m.settings.first_tseq m.history (m.history ++ e ∷ []) m.consumed (view m) (page_of m.agent) (same_posted m.history e (posts_nothing e quiet)) g.faces;
     }
 
 pub quiet_good : (m : State) (e : Entry) → is_quiet e ≡ true → NoNewRole m.history (m.history ++ e ∷ []) → Good m → Good (record m { history = m.history ++ e ∷ [] })

@@ -1,4 +1,5 @@
 ghost use Rattle.std.specs.Prelude.{◌≡◌, None, IfOk, IfErr, IfSome, OnOk, OnErr};
+ghost use Rattle.std.specs.Option.{option_map};
 ghost use Rattle.gs_kernel.specs.Kernel.{IsRefusal};
 ghost use Rattle.gs_core.specs.Config.{config_fault, IsFault};
 ghost use Rattle.gs_layout.specs.View.{look_up};
@@ -120,6 +121,14 @@ impl Machine {
         ensures { result ≡ transaction_of self.now.transactions number }
     {
         self.transactions.get(number.checked_sub(1)?).copied()
+    }
+
+    /// The CPU of a transaction and the slot as it was stamped, by the transaction's number.
+    fn stamped(&self, number: u32) -> Option<(u16, Stamp)>
+        ensures { result ≡ option_map (λ (x : Transaction). (x.cpu, x.slot)) (transaction_of self.now.transactions number) }
+    {
+        let transaction = self.transactions.get((number as usize).checked_sub(1)?)?;
+        Some((transaction.cpu, transaction.slot))
     }
 
     fn create(&mut self, facts: &Facts) -> Reply
@@ -299,10 +308,10 @@ impl Machine {
         if self.kernel.is_torn() {
             return Reply::Refused(Refusal::Gone);
         }
-        let Some(transaction) = self.transaction(number as usize) else {
+        let Some((cpu, slot)) = self.stamped(number) else {
             return Reply::Refused(Refusal::NoSuchTransaction);
         };
-        match self.kernel.land_stamp(transaction.cpu, &transaction.slot) {
+        match self.kernel.land_stamp(cpu, &slot) {
             Ok(landing) => Reply::Late {
                 number,
                 landing,

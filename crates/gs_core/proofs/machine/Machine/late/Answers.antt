@@ -7,7 +7,7 @@ use Rattle.gs_core.specs.declared.reply.Reply.{Reply}
 use Rattle.gs_core.specs.declared.reply.Reply.TheVariants as replies
 use Rattle.gs_core.specs.Machine.{State, Step, transaction_of}
 use Rattle.gs_core.specs.Held.{machine_view}
-use Rattle.gs_core.proofs.Landed.{late_agent, late_reply, late_step}
+use Rattle.gs_core.proofs.Landed.{late_agent, late_reply, late_step, with_facts}
 use Rattle.gs_core.proofs.Posting.{with_kernel}
 use Rattle.gs_core.proofs.Steps.{is_in}
 use Rattle.gs_core.proofs.Whole.{step_good}
@@ -17,18 +17,20 @@ use Rattle.gs_core.proofs.machine.Machine.late.Goals.{in-Ok, in-Err}
 pub land_stamp-requires : goal.land_stamp-requires
 land_stamp-requires c =
     let m : State = machine_view c.self.inside in
-    let x : Transaction = c.in-Some.transaction in
-    let is : transaction_of m.transactions c.args.number ≡ Some x = grind (arith, common_steps) in
+    let known = with_facts m c.args.self.now c.args.number (c.in-Some.cpu, c.in-Some.slot) c.self.view_is (sym c.in-Some.is ∙ c.stamped.ensures) in
+    let x : Transaction = record { cpu = c.in-Some.cpu; slot = c.in-Some.slot; facts = known.0 } in
+    let is : transaction_of m.transactions c.args.number ≡ Some x = known.1 in
     c.self.invariant.good.history.within x (is_in m.transactions c.args.number x is)
 
 pub invariant_of-self : goal.invariant_of-self
 invariant_of-self c =
     let m : State = machine_view c.self.inside in
-    let x : Transaction = c.in-Some.transaction in
+    let known = with_facts m c.args.self.now c.args.number (c.in-Some.cpu, c.in-Some.slot) c.self.view_is (sym c.in-Some.is ∙ c.stamped.ensures) in
+    let x : Transaction = record { cpu = c.in-Some.cpu; slot = c.in-Some.slot; facts = known.0 } in
     let e = c.land_stamp.ensures in
     let i = c.self.invariant in
     let k = c.land_stamp.new.self in
-    let is : transaction_of m.transactions c.args.number ≡ Some x = grind (arith, common_steps) in
+    let is : transaction_of m.transactions c.args.number ≡ Some x = known.1 in
     let up : torn m.history ≡ false = grind (arith, common_steps) in
     let step = late_step m c.args.number x c.land_stamp.result k.settings c.self.inside.kernel.poster k.poster k.history
     (record { ring = refl; consumed = refl; told = i.told }) e.ring e.stays e.told e.settings i.good.faces.consumed e.tight up is e.landing e.history e.unchanged in
@@ -41,11 +43,12 @@ invariant_of-self c =
 pub returns : goal.returns
 returns c =
     let m : State = machine_view c.self.inside in
-    let x : Transaction = c.in-Some.transaction in
+    let known = with_facts m c.args.self.now c.args.number (c.in-Some.cpu, c.in-Some.slot) c.self.view_is (sym c.in-Some.is ∙ c.stamped.ensures) in
+    let x : Transaction = record { cpu = c.in-Some.cpu; slot = c.in-Some.slot; facts = known.0 } in
     let e = c.land_stamp.ensures in
     let i = c.self.invariant in
     let k = c.land_stamp.new.self in
-    let is : transaction_of m.transactions c.args.number ≡ Some x = grind (arith, common_steps) in
+    let is : transaction_of m.transactions c.args.number ≡ Some x = known.1 in
     let up : torn m.history ≡ false = grind (arith, common_steps) in
     let step = late_step m c.args.number x c.land_stamp.result k.settings c.self.inside.kernel.poster k.poster k.history
     (record { ring = refl; consumed = refl; told = i.told }) e.ring e.stays e.told e.settings i.good.faces.consumed e.tight up is e.landing e.history e.unchanged in
