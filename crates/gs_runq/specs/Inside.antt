@@ -1,0 +1,37 @@
+-- How a line is kept, and what two lines of a queue keep.
+use Rattle.std.specs.Prelude.{ℕ, ◌-◌, ◌<◌, ◌≤◌, ◌≡◌, ◌⊎◌, List, [], ◌∷◌, ◌++◌, length, slice_index}
+use Rattle.gs_runq.specs.Line.{LineState}
+use Rattle.gs_runq.specs.Queue.{IsOut, Apart}
+use Rattle.gs_runq.specs.Linked.{Linked, walked}
+use Rattle.gs_runq.specs.declared.line.Line.TheInside.{Inside}
+
+-- each of these has a place of its own in a table of this length
+abbrev pub AllIn : ℕ → List ℕ → Type 0
+AllIn n [] = Unit {0}
+AllIn n (x ∷ xs) = (0 < x) × (x < n) × AllIn n xs
+
+-- who stands in line, by the table of who follows whom
+abbrev pub threads_of : List ℕ → ℕ → List ℕ
+threads_of next count = walked count (slice_index next) 0
+
+-- the tables are empty or whole; place 0 stands before the first and behind the last; a thread that is not in line follows itself
+pub record IsLine (next previous : List ℕ) (count : ℕ) : Type 0 where
+  pub sizes : length previous ≡ length next
+  pub size : (length next ≡ 0) ⊎ (length next ≡ 65537)
+  pub linked : Linked (slice_index next) (slice_index previous) 0 (threads_of next count) 0
+  pub apart : Apart (threads_of next count)
+  pub within : AllIn (length next) (threads_of next count)
+  pub absent : (t : ℕ) → 0 < t → t < length next → IsOut t (threads_of next count) → slice_index next t ≡ t
+
+-- what a line is to its callers: place 0 is no thread's
+abbrev pub line_view : Inside → LineState
+line_view s = record { threads = threads_of s.next.items s.count; room = length s.next.items - 1 }
+
+-- what a line keeps
+abbrev pub LineInvariant : Inside → Type 0
+LineInvariant s = IsLine s.next.items s.previous.items s.count
+
+-- no thread stands twice, also not in both classes; the second line is given its room last
+pub record IsQueue (zero_class one_class : LineState) : Type 0 where
+  pub rooms : one_class.room ≤ zero_class.room
+  pub apart : Apart (zero_class.threads ++ one_class.threads)

@@ -1,0 +1,6 @@
+pub mod Held
+pub mod Inside
+pub mod Line
+pub mod Linked
+pub mod Queue
+pub mod Walks

@@ -1,0 +1,11 @@
+//! The run queue: the threads that wait for a CPU, in two classes.
+#![tactic(auto)]
+
+mod line;
+mod queue;
+#[cfg(test)]
+mod tests;
+mod walk;
+
+pub use queue::RunQueue;
+pub use walk::Walk;

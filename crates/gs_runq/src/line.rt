@@ -1,0 +1,145 @@
+ghost use Rattle.std.specs.Prelude.{◌≡◌, ◌<◌, ◌≤◌, ◌++◌, ◌∷◌, ℕ, [], false, length, slice_index, All, IfOk, OnOk, OnErr};
+ghost use Rattle.gs_runq.specs.Queue.{IsTid, is_in, without};
+
+use crate::walk::{LineWalk, along};
+use std::alloc::{AllocError, Global};
+use std::marker::Model;
+
+/// How many places a table has: place 0, and one for each tid.
+const PLACES: u32 = 65_537;
+
+/// A table in which each place leads to itself.
+fn own_places(alloc: Global) -> Result<Vec<u32>, AllocError>
+    ensures length { IfOk result (λ v. length v.items ≡ 65537) }
+    ensures own { IfOk result (λ v. (t : ℕ) → t < 65537 → slice_index v.items t ≡ t) }
+{
+    let mut places = Vec::with_capacity(alloc, PLACES as usize)?;
+    for place in 0..PLACES {
+        places.push(place)?;
+    }
+    Ok(places)
+}
+
+/// Threads in line: those of one class that wait.
+///
+/// They are linked in a circle through two tables by tid: place t of `next` has the thread that
+/// follows thread t, and place t of `previous` the one before it. Place 0, which is no thread's,
+/// closes the circle: it leads to the first thread, the last one leads to it, and in an empty line it
+/// leads to itself. A thread that is not in the line follows itself, which no thread in line does. So
+/// whether a thread is there is one look at its own place, it goes last behind the one before place
+/// 0, and it leaves by linking its two neighbours: none of these walks along the line. Before the
+/// first reservation the tables are empty.
+#[derive(Drop)]
+pub struct Line {
+    alloc: Global,
+    next: Vec<u32>,
+    previous: Vec<u32>,
+    count: u32,
+}
+
+impl Model for Line {
+    ghost use Rattle.gs_runq.specs.Line.{LineState};
+
+    ghost Value = { LineState };
+
+    ghost use Rattle.gs_runq.specs.Inside.{line_view, LineInvariant};
+
+    ghost view = { line_view };
+
+    ghost invariant = { LineInvariant };
+}
+
+impl Line {
+    /// An empty line, with room for nobody. It takes no memory.
+    pub fn new(alloc: Global) -> Line
+        ensures threads { result.threads ≡ [] }
+        ensures room { result.room ≡ 0 }
+    {
+        Line {
+            alloc,
+            next: Vec::new(alloc),
+            previous: Vec::new(alloc),
+            count: 0,
+        }
+    }
+
+    /// Room for each thread that there can be.
+    ///
+    /// # Errors
+    ///
+    /// Where there is no memory for both tables; nothing changes then.
+    pub fn reserve(&mut self) -> Result<(), AllocError>
+        ensures ok { OnOk result (self.new.room ≡ 65536) }
+        ensures threads { self.new.threads ≡ self.old.threads }
+        ensures room { self.old.room ≤ self.new.room }
+        ensures most { self.new.room ≤ 65536 }
+        ensures err { OnErr result (self.new ≡ self.old) }
+    {
+        if self.next.is_empty() {
+            let next = own_places(self.alloc)?;
+            let previous = own_places(self.alloc)?;
+            self.next = next;
+            self.previous = previous;
+        }
+        Ok(())
+    }
+
+    /// How many threads are in line.
+    pub fn len(&self) -> u32
+        ensures { result ≡ length self.now.threads }
+    {
+        self.count
+    }
+
+    /// The threads in order, each a thread's number.
+    pub fn walk(&self) -> LineWalk<'_>
+        ensures threads { result ≡ self.now.threads }
+        ensures tids { All IsTid self.now.threads }
+    {
+        along(&self.next, self.count)
+    }
+
+    /// Whether a thread is in line.
+    pub fn has(&self, tid: u32) -> bool
+        ensures { result ≡ is_in tid self.now.threads }
+    {
+        let at = tid as usize;
+        if at >= self.next.len() {
+            return false;
+        }
+        tid != 0 && self.next[at] != tid
+    }
+
+    /// A thread goes last. It takes no memory.
+    pub fn push(&mut self, tid: u32)
+        requires tid { IsTid tid }
+        requires room { length self.old.threads < self.old.room }
+        requires absent { is_in tid self.old.threads ≡ false }
+        ensures threads { self.new.threads ≡ self.old.threads ++ tid ∷ [] }
+        ensures room { self.new.room ≡ self.old.room }
+    {
+        let last = self.previous[0];
+        self.next[last as usize] = tid;
+        self.previous[tid as usize] = last;
+        self.next[tid as usize] = 0;
+        self.previous[0] = tid;
+        self.count += 1;
+    }
+
+    /// A thread leaves, where it is there.
+    pub fn remove(&mut self, tid: u32)
+        ensures threads { self.new.threads ≡ without tid self.old.threads }
+        ensures room { self.new.room ≡ self.old.room }
+    {
+        if !self.has(tid) {
+            return;
+        }
+        let at = tid as usize;
+        let before = self.previous[at];
+        let after = self.next[at];
+        self.next[before as usize] = after;
+        self.previous[after as usize] = before;
+        self.next[at] = tid;
+        self.count -= 1;
+    }
+}

@@ -1,0 +1,118 @@
+ghost use Rattle.std.specs.Prelude.{◌≡◌, ◌==◌, ◌<◌, ◌≤◌, All, length, false, OnOk, OnErr};
+ghost use Rattle.gs_runq.specs.Queue.{IsTid, is_in, empty, order, class_of, put, removed, Apart};
+
+use crate::line::Line;
+use crate::walk::{Walk, both};
+use gs_layout::Class;
+use std::alloc::{AllocError, Global};
+use std::marker::Model;
+
+/// Threads that wait, each once: those of class 0 in the order in which they came, then those of
+/// class 1. A thread is named by its tid, from 1 to 65,536.
+///
+/// `push`, `remove` and `has` take a constant number of steps, however many threads wait, and no
+/// memory; a walk visits only the threads that wait.
+#[derive(Drop)]
+pub struct RunQueue {
+    zero_class: Line,
+    one_class: Line,
+}
+
+impl Model for RunQueue {
+    ghost use Rattle.gs_runq.specs.Queue.{Queue};
+
+    ghost Value = { Queue };
+
+    ghost use Rattle.gs_runq.specs.Held.{queue_view, QueueInvariant};
+
+    ghost view = { queue_view };
+
+    ghost invariant = { QueueInvariant };
+}
+
+impl RunQueue {
+    /// A queue in which nobody waits, with room for nobody. It takes no memory.
+    pub fn new(alloc: Global) -> RunQueue
+        ensures { result ≡ empty }
+    {
+        RunQueue {
+            zero_class: Line::new(alloc),
+            one_class: Line::new(alloc),
+        }
+    }
+
+    /// Makes room for that many threads of each class, 65,536 at most. Who waits stays as it is, and
+    /// room that was there stays.
+    ///
+    /// # Errors
+    ///
+    /// Where there is no memory. All is then as before.
+    pub fn reserve(&mut self, n: u32) -> Result<(), AllocError>
+        requires { n ≤ 65536 }
+        ensures ok { OnOk result (n ≤ self.new.room) }
+        ensures zero_class { self.new.zero_class ≡ self.old.zero_class }
+        ensures one_class { self.new.one_class ≡ self.old.one_class }
+        ensures room { self.old.room ≤ self.new.room }
+        ensures err { OnErr result (self.new ≡ self.old) }
+    {
+        if n == 0 {
+            return Ok(());
+        }
+        self.zero_class.reserve()?;
+        self.one_class.reserve()?;
+        Ok(())
+    }
+
+    /// A thread that does not wait yet goes last of its class. There has to be room for it. It takes
+    /// no memory.
+    pub fn push(&mut self, tid: u32, class: Class)
+        requires tid { IsTid tid }
+        requires room { length (class_of class self.old) < self.old.room }
+        requires absent { is_in tid (order self.old) ≡ false }
+        ensures { self.new ≡ put class tid self.old }
+    {
+        match class {
+            Class::Zero => self.zero_class.push(tid),
+            Class::One => self.one_class.push(tid),
+        }
+    }
+
+    /// A thread leaves, of whichever class; where it does not wait, nothing changes.
+    pub fn remove(&mut self, tid: u32)
+        ensures { self.new ≡ removed tid self.old }
+    {
+        self.zero_class.remove(tid);
+        self.one_class.remove(tid);
+    }
+
+    /// Whether a thread waits. Tid 0 and tids above 65,536 never do.
+    #[tactic(auto, using(crate::proofs::Queues::in_append))]
+    pub fn has(&self, tid: u32) -> bool
+        ensures { result ≡ is_in tid (order self.now) }
+    {
+        self.zero_class.has(tid) || self.one_class.has(tid)
+    }
+
+    /// How many threads wait, of both classes together.
+    pub fn len(&self) -> usize
+        ensures { result ≡ length (order self.now) }
+    {
+        self.zero_class.len() as usize + self.one_class.len() as usize
+    }
+
+    /// Whether nobody waits.
+    pub fn is_empty(&self) -> bool
+        ensures { result ≡ (length (order self.now) == 0) }
+    {
+        self.len() == 0
+    }
+
+    /// The tids of those who wait, in order, each once. It takes no memory.
+    pub fn walk(&self) -> Walk<'_>
+        ensures order { result ≡ order self.now }
+        ensures apart { Apart (order self.now) }
+        ensures tids { All IsTid (order self.now) }
+    {
+        both(self.zero_class.walk(), self.one_class.walk())
+    }
+}
