@@ -1,0 +1,5 @@
+pub mod Laws
+pub mod Found
+mod Changing
+mod Marking
+mod Rows

@@ -1,0 +1,6 @@
+use Rattle.gs_beliefs.specs.Cpus.{is_usable}
+use Rattle.gs_beliefs.proofs.Marking.{IsMarked}
+use Rattle.gs_beliefs.proofs.cpu_beliefs.CpuBeliefs.usable.Given as goal
+
+abbrev pub invariant-loop-cpu : goal.invariant-loop-cpu
+invariant-loop-cpu l = IsMarked (is_usable l.self) l.mask l.cpu

@@ -1,0 +1,3 @@
+pub mod Cpus
+pub mod Belief
+pub mod Held

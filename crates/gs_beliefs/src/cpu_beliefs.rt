@@ -1,0 +1,249 @@
+ghost use Rattle.std.specs.Prelude.{◌≡◌, ◌≤◌, ℕ, IfOk, length};
+ghost use Rattle.gs_status.specs.Masks.{has};
+ghost use Rattle.gs_beliefs.specs.Cpus.{believed_on, clears, is_believed, is_free, is_named, is_usable, places, raises, stamp_on, stamps, ticks, unknown, unstamps};
+ghost use Rattle.gs_beliefs.specs.Belief.{after_outcome, hears};
+
+use crate::marks::marked;
+use crate::running::{Running, clear_all, raise_all, runs, ticked};
+use gs_layout::{Message, Outcome};
+use gs_status::Mask;
+use std::alloc::{AllocError, Global};
+use std::marker::Model;
+
+/// What an agent believes of each CPU: who runs there, at which sequence number and for how many
+/// ticks, and which thread an uncollected stamp names. Beside that it keeps the agent's own CPU and
+/// the CPUs that the other class holds, as it is told.
+///
+/// A belief lags behind the kernel by the messages that were not read yet. There are at most 64 CPUs;
+/// what is said of a CPU past the last one changes nothing. Each call takes at most a number of steps
+/// that grows as the number of CPUs, and none but [`CpuBeliefs::new`] takes memory.
+#[derive(Drop)]
+pub struct CpuBeliefs {
+    beliefs: Vec<Option<Running>>,
+    stamps: Vec<Option<u32>>,
+    agent: Option<u16>,
+    taken: Mask,
+}
+
+impl Model for CpuBeliefs {
+    ghost use Rattle.gs_beliefs.specs.Cpus.{Cpus};
+    ghost use Rattle.gs_beliefs.specs.Held.{IsCpus};
+
+    ghost Value = { Cpus };
+
+    ghost view = { λ s. record { believed = s.beliefs.items; stamped = s.stamps.items; agent = s.agent; taken = s.taken } };
+
+    ghost invariant = { λ s. IsCpus s.beliefs.items s.stamps.items };
+}
+
+impl CpuBeliefs {
+    /// So many CPUs, at most 64, of which nothing is believed yet: nobody runs, there is no stamp, and
+    /// the other class holds none. `agent` is the agent's own CPU, `None` while it attaches.
+    ///
+    /// # Errors
+    ///
+    /// Where memory runs out.
+    pub fn new(alloc: Global, cpus: u16, agent: Option<u16>) -> Result<CpuBeliefs, AllocError>
+        requires { cpus ≤ 64 }
+        ensures { IfOk result (λ made. made ≡ unknown cpus agent) }
+    {
+        Ok(CpuBeliefs {
+            beliefs: vec![in alloc; None; cpus as usize]?,
+            stamps: vec![in alloc; None; cpus as usize]?,
+            agent,
+            taken: Mask::none(),
+        })
+    }
+
+    /// How many CPUs there are, at most 64.
+    pub fn cpus(&self) -> u16
+        ensures count { result ≡ length self.now.believed }
+        ensures stamps { result ≡ length self.now.stamped }
+        ensures most { result ≤ 64 }
+    {
+        self.beliefs.len() as u16
+    }
+
+    /// The agent's own CPU, `None` while it attaches.
+    pub fn agent(&self) -> Option<u16>
+        ensures { result ≡ self.now.agent }
+    {
+        self.agent
+    }
+
+    /// The CPUs that the other class holds, as [`CpuBeliefs::set_taken`] was last told.
+    pub fn taken(&self) -> Mask
+        ensures { result ≡ self.now.taken }
+    {
+        self.taken
+    }
+
+    /// Who is believed to run on a CPU, `None` for nobody and past the last CPU.
+    pub fn believed(&self, cpu: u16) -> Option<Running>
+        ensures { result ≡ believed_on self.now cpu }
+    {
+        *self.beliefs.get(cpu as usize)?
+    }
+
+    /// The thread that an uncollected stamp on a CPU names, `None` where there is no such stamp and past
+    /// the last CPU.
+    pub fn stamp_on(&self, cpu: u16) -> Option<u32>
+        ensures { result ≡ stamp_on self.now cpu }
+    {
+        *self.stamps.get(cpu as usize)?
+    }
+
+    /// Whether some CPU is believed to run a thread.
+    pub fn runs(&self, tid: u32) -> bool
+        ensures { result ≡ is_believed self.now tid }
+    {
+        self.beliefs.iter().any(|believed| runs(believed, tid))
+    }
+
+    /// Whether some uncollected stamp names a thread.
+    pub fn names(&self, tid: u32) -> bool
+        ensures { result ≡ is_named self.now tid }
+    {
+        self.stamps.iter().any(|stamp| *stamp == Some(tid))
+    }
+
+    /// Whether the agent may use a CPU: there is such a CPU, it is neither the agent's own nor held by
+    /// the other class, and it has no uncollected stamp.
+    pub fn is_usable(&self, cpu: u16) -> bool
+        ensures { result ≡ is_usable self.now cpu }
+    {
+        cpu < self.cpus()
+            && self.agent != Some(cpu)
+            && !self.taken.has(cpu)
+            && self.stamp_on(cpu).is_none()
+    }
+
+    /// Whether a CPU is usable and nobody is believed to run there.
+    pub fn is_free(&self, cpu: u16) -> bool
+        ensures { result ≡ is_free self.now cpu }
+    {
+        self.is_usable(cpu) && self.believed(cpu).is_none()
+    }
+
+    /// The CPUs that the agent may use.
+    #[tactic(auto, using(crate::proofs::Marking::marked_more))]
+    pub fn usable(&self) -> Mask
+        ensures { (c : ℕ) → has result c ≡ is_usable self.now c }
+    {
+        let mut mask = Mask::none();
+        for cpu in 0..self.cpus() {
+            mask = marked(mask, cpu, self.is_usable(cpu));
+        }
+        mask
+    }
+
+    /// The CPUs that the agent may use and on which nobody is believed to run.
+    #[tactic(auto, using(crate::proofs::Marking::marked_more))]
+    pub fn free(&self) -> Mask
+        ensures { (c : ℕ) → has result c ≡ is_free self.now c }
+    {
+        let mut mask = Mask::none();
+        for cpu in 0..self.cpus() {
+            mask = marked(mask, cpu, self.is_free(cpu));
+        }
+        mask
+    }
+
+    /// The other class holds these CPUs, and no other.
+    pub fn set_taken(&mut self, mask: Mask)
+        ensures { self.new ≡ record self.old { taken = mask } }
+    {
+        self.taken = mask;
+    }
+
+    /// The agent's own CPU is this one, or it has none while it attaches.
+    pub fn set_agent(&mut self, agent: Option<u16>)
+        ensures { self.new ≡ record self.old { agent = agent } }
+    {
+        self.agent = agent;
+    }
+
+    /// A thread is believed to run nowhere.
+    pub fn clear(&mut self, tid: u32)
+        ensures { self.new ≡ clears tid self.old }
+    {
+        clear_all(&mut self.beliefs, tid);
+    }
+
+    /// A thread has this sequence number now, where it is believed to run.
+    pub fn raise(&mut self, tid: u32, tseq: u32)
+        ensures { self.new ≡ raises tid tseq self.old }
+    {
+        raise_all(&mut self.beliefs, tid, tseq);
+    }
+
+    /// The timer of a CPU ticked: one tick more for whoever is believed to run there, up to 65,535.
+    pub fn tick(&mut self, cpu: u16)
+        ensures { self.new ≡ ticks cpu self.old }
+    {
+        if let Some(believed) = self.beliefs.get_mut(cpu as usize) {
+            *believed = ticked(*believed);
+        }
+    }
+
+    /// A message that applied to the view: a tick counts for its CPU, one that takes its thread off a
+    /// CPU clears the thread's belief, and any other gives it the message's number.
+    pub fn hear(&mut self, message: &Message)
+        ensures { self.new ≡ hears message.now self.old }
+    {
+        match message {
+            Message::TimerTick { cpu } => self.tick(*cpu),
+            Message::Thread { tid, tseq, change } => {
+                if change.takes_off_cpu() {
+                    self.clear(*tid);
+                } else {
+                    self.raise(*tid, *tseq);
+                }
+            }
+        }
+    }
+
+    /// A thread begins to run on a CPU, at this sequence number and with no tick yet, and runs nowhere
+    /// else. Whoever was believed to run there does so no more.
+    pub fn place(&mut self, cpu: u16, tid: u32, tseq: u32)
+        ensures { self.new ≡ places cpu tid tseq self.old }
+    {
+        if cpu < self.cpus() {
+            self.clear(tid);
+            self.beliefs[cpu as usize] = Some(Running {
+                tid,
+                tseq,
+                ticks: 0,
+            });
+        }
+    }
+
+    /// An uncollected stamp on a CPU names a thread.
+    pub fn stamp(&mut self, cpu: u16, tid: u32)
+        ensures { self.new ≡ stamps cpu tid self.old }
+    {
+        if let Some(stamp) = self.stamps.get_mut(cpu as usize) {
+            *stamp = Some(tid);
+        }
+    }
+
+    /// A CPU has no uncollected stamp.
+    pub fn unstamp(&mut self, cpu: u16)
+        ensures { self.new ≡ unstamps cpu self.old }
+    {
+        if let Some(stamp) = self.stamps.get_mut(cpu as usize) {
+            *stamp = None;
+        }
+    }
+
+    /// What became of a stamp: the outcome, the CPU that the thread was then on, the thread, and the
+    /// sequence number that was stamped. `Placed` and `AlreadyPlaced` say that the thread is on that
+    /// CPU; any other outcome changes nothing.
+    pub fn learn(&mut self, outcome: Outcome, at: Option<u16>, tid: u32, tseq: u32)
+        ensures { self.new ≡ after_outcome outcome at tid tseq self.old }
+    {
+        if let (Outcome::Placed | Outcome::AlreadyPlaced, Some(cpu)) = (outcome, at) {
+            self.place(cpu, tid, tseq);
+        }
+    }
+}

@@ -1,0 +1,11 @@
+//! What an agent believes of each CPU: who runs there, since when, and whether the agent may use it.
+#![tactic(auto)]
+
+mod cpu_beliefs;
+mod marks;
+mod running;
+#[cfg(test)]
+mod tests;
+
+pub use cpu_beliefs::CpuBeliefs;
+pub use running::Running;
