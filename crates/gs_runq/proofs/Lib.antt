@@ -2,3 +2,4 @@ pub mod Links
 pub mod Lines
 pub mod Queues
 pub mod Rows
+pub mod Rooms

@@ -99,9 +99,11 @@ impl Line {
         along(&self.next, self.count)
     }
 
-    /// Whether a thread is in line.
+    /// Whether a thread is in line. Each thread in line has a thread's number.
+    #[tactic(auto, using(crate::proofs::Lines::tids))]
     pub fn has(&self, tid: u32) -> bool
-        ensures { result ≡ is_in tid self.now.threads }
+        ensures has { result ≡ is_in tid self.now.threads }
+        ensures tids { All IsTid self.now.threads }
     {
         let at = tid as usize;
         if at >= self.next.len() {

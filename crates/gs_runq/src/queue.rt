@@ -1,4 +1,5 @@
 ghost use Rattle.std.specs.Prelude.{◌≡◌, ◌==◌, ◌<◌, ◌≤◌, All, length, false, OnOk, OnErr};
+ghost use Rattle.gs_layout.specs.declared.facts.Class.{Class as ClassOf};
 ghost use Rattle.gs_runq.specs.Queue.{IsTid, is_in, empty, order, class_of, put, removed, Apart};
 
 use crate::line::Line;
@@ -85,10 +86,12 @@ impl RunQueue {
         self.one_class.remove(tid);
     }
 
-    /// Whether a thread waits. Tid 0 and tids above 65,536 never do.
+    /// Whether a thread waits. Tid 0 and tids above 65,536 never do. Where it does not, it finds room
+    /// in a queue that was given room for all 65,536.
     #[tactic(auto, using(crate::proofs::Queues::in_append))]
     pub fn has(&self, tid: u32) -> bool
-        ensures { result ≡ is_in tid (order self.now) }
+        ensures has { result ≡ is_in tid (order self.now) }
+        ensures spare { result ≡ false → IsTid tid → (class : ClassOf) → length (class_of class self.now) < 65536 }
     {
         self.zero_class.has(tid) || self.one_class.has(tid)
     }

@@ -2,12 +2,12 @@ use Rattle.std.proofs.Common.{sym, arith}
 use Rattle.gs_runq.proofs.Lines.{says, says_past, says_zero}
 use Rattle.gs_runq.proofs.line.Line.has.Goals as goal
 
-pub returns-then-at-len : goal.returns-then-at-len
-returns-then-at-len c = sym (says_past c.self.inside.next.items c.self.inside.previous.items c.self.inside.count c.args.tid _ c.self.view_is c.self.invariant (omega (arith, c.if-at-len.true, c.len.ensures)))
+pub returns-then-at-len-clause-has : goal.returns-then-at-len-clause-has
+returns-then-at-len-clause-has c = sym (says_past c.self.inside.next.items c.self.inside.previous.items c.self.inside.count c.args.tid _ c.self.view_is c.self.invariant (omega (arith, c.if-at-len.true, c.len.ensures)))
 
-pub returns-then-tid-ne0 : goal.returns-then-tid-ne0
-returns-then-tid-ne0 c =
+pub returns-then-tid-ne0-clause-has : goal.returns-then-tid-ne0-clause-has
+returns-then-tid-ne0-clause-has c =
     says c.self.inside.next.items c.self.inside.previous.items c.self.inside.count c.args.tid _ _ c.self.view_is c.self.invariant (omega arith) (omega (arith, c.if-at-len.false, c.len.ensures)) c.index.ensures
 
-pub returns-else-tid-ne0 : goal.returns-else-tid-ne0
-returns-else-tid-ne0 c = says_zero c.self.inside.next.items c.self.inside.previous.items c.self.inside.count c.args.tid _ c.self.view_is c.self.invariant c.if-tid-ne0.false
+pub returns-else-tid-ne0-clause-has : goal.returns-else-tid-ne0-clause-has
+returns-else-tid-ne0-clause-has c = says_zero c.self.inside.next.items c.self.inside.previous.items c.self.inside.count c.args.tid _ c.self.view_is c.self.invariant c.if-tid-ne0.false

@@ -1,0 +1,24 @@
+-- How what an agent has in mind is kept.
+use Rattle.std.specs.Prelude.{ℕ, ◌≤◌, ◌≡◌, true, is_some}
+use Rattle.gs_layout.specs.View.{Look, look_up}
+use Rattle.gs_beliefs.specs.Cpus.{Cpus}
+use Rattle.gs_runq.specs.Queue.{Queue}
+use Rattle.gs_mind.specs.Mind.{MindState, bare}
+use Rattle.gs_mind.specs.Picture.{HoldsWaiting}
+use Rattle.gs_mind.specs.declared.mind.Mind.TheInside.{Inside}
+
+-- a thread of which something is known has a tid, and the queue has room for it
+pub record HasRoom (v : Look) (q : Queue) : Type 0 where
+  pub least : (t : ℕ) → is_some (v t) ≡ true → 1 ≤ t
+  pub most : (t : ℕ) → is_some (v t) ≡ true → t ≤ 65536
+  pub room : (t : ℕ) → is_some (v t) ≡ true → 65536 ≤ q.room
+
+pub record IsKept (v : Look) (s : Cpus) (q : Queue) : Type 0 where
+  pub waiting : HoldsWaiting v s q
+  pub room : HasRoom v q
+
+abbrev pub mind_view : Inside → MindState
+mind_view i = record { records = i.view; cpus = i.cpus; queue = bare i.queue }
+
+abbrev pub IsMind : Inside → Type 0
+IsMind i = IsKept (look_up i.view) i.cpus i.queue

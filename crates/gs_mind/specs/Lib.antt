@@ -1,0 +1,3 @@
+pub mod Picture
+pub mod Mind
+pub mod Held

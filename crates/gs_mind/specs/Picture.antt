@@ -1,0 +1,109 @@
+-- An agent's picture of the machine, and what changes it.
+use Rattle.std.specs.Prelude.{Bool, true, false, not, ◌&&◌, ◌+◌, ◌≡◌, ℕ, Option, None, Some, List, [], ◌∷◌, ◌++◌, if◌then◌else◌}
+use Rattle.std.specs.Option.{option_to_list}
+use Rattle.gs_layout.specs.declared.message.Change.{Change}
+use Rattle.gs_layout.specs.declared.message.Change.TheVariants as changes
+use Rattle.gs_layout.specs.declared.message.Message.{Message}
+use Rattle.gs_layout.specs.declared.message.Message.TheVariants.{Thread, TimerTick}
+use Rattle.gs_layout.specs.declared.known.Known.{Known}
+use Rattle.gs_layout.specs.declared.known.Word.{Word}
+use Rattle.gs_layout.specs.declared.known.Word.TheVariants.{Applied, Orphan, Skipped, Gap}
+use Rattle.gs_layout.specs.View.{Look, apply, word}
+use Rattle.gs_slots.specs.declared.state.SlotState.{SlotState}
+use Rattle.gs_slots.specs.declared.state.SlotState.TheVariants.{Idle, Stamped, Done}
+use Rattle.gs_beliefs.specs.declared.running.Running.{Running}
+use Rattle.gs_beliefs.specs.Cpus.{Cpus, believed_on, is_believed, is_named, stamp_on, stamps, unstamps}
+use Rattle.gs_beliefs.specs.Belief.{after_outcome, hears}
+use Rattle.gs_runq.specs.Queue.{Queue, is_in, order, put, removed}
+
+-- what the agent knows of each thread, what it believes of each CPU, and who waits
+pub record Picture : Type 0 where
+  pub view : Look
+  pub cpus : Cpus
+  pub queue : Queue
+
+abbrev pub is_runnable : Option Known → Bool
+is_runnable None = false
+is_runnable (Some k) = k.facts.runnable
+
+-- whether a thread waits: it may run, no CPU is believed to run it, and no stamp that was not collected names it
+abbrev pub waits : Look → Cpus → ℕ → Bool
+waits v s t = is_runnable (v t) && (not (is_believed s t) && not (is_named s t))
+
+-- a thread goes last of the class that is known of it
+abbrev pub goes_last : Option Known → ℕ → Queue → Queue
+goes_last None t q = q
+goes_last (Some k) t q = put k.facts.class t q
+
+-- a thread that begins to wait goes last of its class, and one that does not wait is not in the queue
+abbrev pub settled : Look → Cpus → ℕ → Queue → Queue
+settled v s t q = if waits v s t then (if is_in t (order q) then q else goes_last (v t) t q) else removed t q
+
+-- the same of several threads, one after another
+abbrev pub settled_all : Look → Cpus → List ℕ → Queue → Queue
+settled_all v s [] q = q
+settled_all v s (t ∷ ts) q = settled_all v s ts (settled v s t q)
+
+-- whether a change ends its thread's turn, though it may go on waiting
+abbrev pub ends_turn : Change → Bool
+ends_turn (changes.Preempted c) = true
+ends_turn (changes.Yield c) = true
+ends_turn _ = false
+
+-- the queue after a message that applied: its thread is settled, and one whose turn ended goes last anew
+abbrev pub requeued : Look → Cpus → Message → Queue → Queue
+requeued v s (TimerTick c) q = q
+requeued v s (Thread t n ch) q = settled v s t (if ends_turn ch then removed t q else q)
+
+-- the picture after a message that applied
+abbrev pub after_news : Message → Picture → Picture
+after_news m p = record { view = apply p.view m; cpus = hears m p.cpus; queue = requeued (apply p.view m) (hears m p.cpus) m p.queue }
+
+abbrev pub takes_in_by : Word → Message → Picture → Picture
+takes_in_by Applied m p = after_news m p
+takes_in_by Orphan m p = p
+takes_in_by Skipped m p = p
+takes_in_by Gap m p = p
+
+-- the picture after a message: only what applies changes it
+abbrev pub takes_in : Message → Picture → Picture
+takes_in m p = takes_in_by (word p.view m) m p
+
+-- the picture after messages, in order
+abbrev pub takes_in_all : Picture → List Message → Picture
+takes_in_all p [] = p
+takes_in_all p (m ∷ ms) = takes_in_all (takes_in m p) ms
+
+-- the picture with other beliefs, once these threads are settled
+abbrev pub believes : Cpus → List ℕ → Picture → Picture
+believes s ts p = record { view = p.view; cpus = s; queue = settled_all p.view s ts p.queue }
+
+-- the picture after a thread was stamped for a CPU: it waits no more, but whom an older stamp there named may wait again
+abbrev pub after_stamp : ℕ → ℕ → Picture → Picture
+after_stamp c t p = believes (stamps c t p.cpus) (t ∷ option_to_list (stamp_on p.cpus c)) p
+
+abbrev pub running_tid : Option Running → Option ℕ
+running_tid None = None
+running_tid (Some r) = Some r.tid
+
+-- the thread that is believed to run where another one was found
+abbrev pub displaced : Cpus → Option ℕ → Option ℕ
+displaced s None = None
+displaced s (Some c) = running_tid (believed_on s c)
+
+-- the picture after the slot of a CPU was collected: what became of its transaction is believed, and its stamp is gone; whom that
+-- took from a CPU may begin to wait
+abbrev pub after_slot : ℕ → SlotState → Picture → Picture
+after_slot c Idle p = p
+after_slot c (Stamped b) p = p
+after_slot c (Done b outcome at seen) p =
+    believes (unstamps c (after_outcome outcome at b.tid b.tseq p.cpus)) (b.tid ∷ option_to_list (stamp_on p.cpus c) ++ option_to_list (displaced p.cpus at)) p
+
+-- the picture after slots were collected by rising CPU, the first one that of a CPU
+abbrev pub after_slots : ℕ → List SlotState → Picture → Picture
+after_slots c [] p = p
+after_slots c (x ∷ xs) p = after_slots (c + 1) xs (after_slot c x p)
+
+-- the queue holds just who waits
+abbrev pub HoldsWaiting : Look → Cpus → Queue → Type 0
+HoldsWaiting v s q = (t : ℕ) → is_in t (order q) ≡ waits v s t

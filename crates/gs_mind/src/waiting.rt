@@ -1,0 +1,123 @@
+//! Who waits, and in which order.
+
+ghost use Rattle.std.specs.Prelude.{◌≡◌, ◌≤◌, ℕ, None, is_some, true, if◌then◌else◌, option_map, IfErr, OnOk, OnErr};
+ghost use Rattle.gs_layout.specs.declared.known.Known.{Known};
+ghost use Rattle.gs_layout.specs.View.{look_up};
+ghost use Rattle.gs_view.specs.declared.fault.ApplyFault.{ApplyFault};
+ghost use Rattle.gs_view.specs.Begins.{begins};
+ghost use Rattle.gs_mind.specs.Held.{HasRoom};
+ghost use Rattle.gs_mind.specs.Mind.{bare};
+ghost use Rattle.gs_mind.specs.Picture.{ends_turn, requeued, settled, settled_all, waits};
+ghost use Rattle.std.specs.Option.{option_to_list};
+
+use gs_beliefs::CpuBeliefs;
+use gs_layout::{Change, Class, Message};
+use gs_runq::RunQueue;
+use gs_view::{AgentView, ApplyFault};
+
+/// How many threads there can be.
+const MOST_THREADS: u32 = 65_536;
+
+/// Makes room in the queue for whoever a message brings to the view.
+pub(crate) fn make_room(
+    view: &AgentView,
+    queue: &mut RunQueue,
+    message: &Message,
+) -> Result<(), ApplyFault>
+    ensures begun { OnOk result (begins (look_up view.now) message.now ≡ true → 65536 ≤ queue.new.room) }
+    ensures waiting { bare queue.new ≡ bare queue.old }
+    ensures room { queue.old.room ≤ queue.new.room }
+    ensures memory { OnErr result (begins (look_up view.now) message.now ≡ true) }
+    ensures fault { IfErr result (λ fault. fault ≡ ApplyFault.OutOfMemory) }
+{
+    if is_begun_by(view, message) && queue.reserve(MOST_THREADS).is_err() {
+        return Err(ApplyFault::OutOfMemory);
+    }
+    Ok(())
+}
+
+/// Whether a message begins a record of the view.
+fn is_begun_by(view: &AgentView, message: &Message) -> bool
+    ensures { result ≡ begins (look_up view.now) message.now }
+{
+    match message {
+        Message::Thread {
+            tid,
+            change: Change::Created { .. },
+            ..
+        } => view.get(*tid).is_none(),
+        _ => false,
+    }
+}
+
+/// The class of a thread that waits.
+fn waiting_class(view: &AgentView, cpus: &CpuBeliefs, tid: u32) -> Option<Class>
+    ensures { result ≡ (if waits (look_up view.now) cpus.now tid then option_map (λ (k : Known). k.facts.class) (look_up view.now tid) else None) }
+{
+    let (facts, _) = view.get(tid)?;
+    if facts.runnable && !cpus.runs(tid) && !cpus.names(tid) {
+        Some(facts.class)
+    } else {
+        None
+    }
+}
+
+/// Puts a thread that begins to wait last of its class, and takes one that does not wait out.
+#[tactic(auto, using(crate::proofs::Rooms::room_settled))]
+pub(crate) fn settle(view: &AgentView, cpus: &CpuBeliefs, queue: &mut RunQueue, tid: u32)
+    requires { HasRoom (look_up view.now) queue.old }
+    ensures settled { queue.new ≡ settled (look_up view.now) cpus.now tid queue.old }
+    ensures room { HasRoom (look_up view.now) queue.new }
+{
+    match waiting_class(view, cpus, tid) {
+        None => queue.remove(tid),
+        Some(class) => {
+            if !queue.has(tid) {
+                queue.push(tid, class);
+            }
+        }
+    }
+}
+
+/// The same of a thread, where there is one.
+pub(crate) fn settle_if_any(
+    view: &AgentView,
+    cpus: &CpuBeliefs,
+    queue: &mut RunQueue,
+    tid: Option<u32>,
+)
+    requires { HasRoom (look_up view.now) queue.old }
+    ensures settled { queue.new ≡ settled_all (look_up view.now) cpus.now (option_to_list tid) queue.old }
+    ensures room { HasRoom (look_up view.now) queue.new }
+{
+    if let Some(tid) = tid {
+        settle(view, cpus, queue, tid);
+    }
+}
+
+/// Brings the queue up to date after a message that applied.
+pub(crate) fn requeue(
+    view: &AgentView,
+    cpus: &CpuBeliefs,
+    queue: &mut RunQueue,
+    message: &Message,
+)
+    requires { HasRoom (look_up view.now) queue.old }
+    ensures requeued { queue.new ≡ requeued (look_up view.now) cpus.now message.now queue.old }
+    ensures room { HasRoom (look_up view.now) queue.new }
+{
+    let Message::Thread { tid, change, .. } = message else {
+        return;
+    };
+    if ends_turn(change) {
+        queue.remove(*tid);
+    }
+    settle(view, cpus, queue, *tid);
+}
+
+/// Whether a change ends its thread's turn, though it may go on waiting.
+fn ends_turn(change: &Change) -> bool
+    ensures { result ≡ ends_turn change.now }
+{
+    matches!(change, Change::Preempted { .. } | Change::Yield { .. })
+}
