@@ -1,2 +1,4 @@
+pub mod Least
+pub mod Marking
 pub mod Masks
 mod Rows

@@ -1,14 +1,15 @@
 -- A shift says which bits are left, and a bit that is set or cleared says which CPUs are in the mask.
-use Rattle.std.proofs.Common.{◌≡◌, ◌≢◌, ℕ, ◌+◌, ◌*◌, ◌^◌, ◌/◌, ◌%◌, ◌<◌, ◌≤◌, ◌⊎◌, inl, inr, Bool, true, false, ap, ◌∙◌, sym, subst, refl, arith, min, bit_or, w64}
+use Rattle.std.proofs.Common.{◌≡◌, ◌≢◌, ℕ, ◌+◌, ◌*◌, ◌^◌, ◌/◌, ◌%◌, ◌<◌, ◌≤◌, ◌⊎◌, inl, inr, Bool, true, false, zero, suc, ◌&&◌, None, Some, ap, ◌∙◌, sym, subst, refl, arith, min, bit_or, w64}
 use Rattle.std.specs.Prelude.{nat_le, not, ◌==◌, bit_and}
-use Rattle.std.specs.Int.{bit_at, bit_not}
+use Rattle.std.specs.Int.{bit_at, bit_not, trailing_zeros}
 use Rattle.std.proofs.lemmas.Bool.{cases_lt}
 use Rattle.std.proofs.lemmas.Bool.Decides.{nat_tests}
 use Rattle.std.proofs.lemmas.Nat.{pow_pos}
-use Rattle.std.proofs.lemmas.Nat.Bits.{shr_and_one, bit_at-zero, bit_at_above, bit_at_and, bit_at_set_same, bit_at_set_other, bit_at_clear_same, bit_at_clear_other}
+use Rattle.std.proofs.lemmas.Nat.Bits.{shr_and_one, bit_at-zero, bit_at_above, bit_at_and, bit_at_set_same, bit_at_set_other, bit_at_clear_same, bit_at_clear_other, bit_at-lt, bit_at-trailing_zeros}
 use Rattle.std.proofs.Math.Nat.{div-eq_of_lt, lt-div-mul-add}
 use Rattle.std.proofs.Math.Pow.{pow_mono}
-use Rattle.gs_status.specs.Masks.{has, has_past}
+use Rattle.gs_status.specs.Masks.{has, has_past, least}
+use Rattle.gs_status.proofs.Least.{least_none, least_found}
 
 shifted_by : (n b : ℕ) → 0 < b → (n < b) ⊎ (b ≤ n) → not (n / b == 0) ≡ nat_le b n
 shifted_by n b pos (inl l) =
@@ -92,3 +93,33 @@ without_others n c small within i other = has_same (without_bit n c) n i (by_pla
         let after : bit_at (without_bit n c) i ≡ min (bit_at n i) (bit_at (bit_not w64 (1 * 2 ^ c % 2 ^ 64)) i) =
         bit_at_and n (bit_not w64 (1 * 2 ^ c % 2 ^ 64)) i in
         omega (arith, before, after)
+
+-- both masks have a CPU where its bit is one in both
+both_bits : (x y : ℕ) → x < 2 → y < 2 → (min x y == 1) ≡ ((x == 1) && (y == 1))
+both_bits zero zero p q = refl
+both_bits zero (suc zero) p q = refl
+both_bits (suc zero) zero p q = refl
+both_bits (suc zero) (suc zero) p q = refl
+both_bits (suc (suc x)) y p q = absurd (omega arith)
+both_bits x (suc (suc y)) p q = absurd (omega arith)
+
+pub has_both : (n m c : ℕ) → has (bit_and n m) c ≡ (has n c && has m c)
+has_both n m c =
+    has_by_bit (bit_and n m) c
+    ∙ (ap (λ (k : ℕ). k == 1) (bit_at_and n m c)
+    ∙ (both_bits (bit_at n c) (bit_at m c) (bit_at-lt n c) (bit_at-lt m c)
+    ∙ sym (ap (λ (b : Bool). b && has m c) (has_by_bit n c) ∙ ap (λ (b : Bool). (bit_at n c == 1) && b) (has_by_bit m c))))
+
+-- the place of the lowest bit that is one is the least CPU
+pub lowest_has : (n : ℕ) → 0 < n → n < 2 ^ 64 → has n (trailing_zeros w64 n) ≡ true
+lowest_has n pos fits = has_by_bit n (trailing_zeros w64 n) ∙ ap (λ (k : ℕ). k == 1) (bit_at-trailing_zeros w64 n pos fits).1
+
+pub lowest_within : (n : ℕ) → 0 < n → n < 2 ^ 64 → trailing_zeros w64 n < 64
+lowest_within n pos fits = (bit_at-trailing_zeros w64 n pos fits).0
+
+pub least_of_none : (n : ℕ) → n ≡ 0 → None ≡ least (has n) 64
+least_of_none n none = sym (least_none (has n) 64 (λ c l. ap (λ (k : ℕ). has k c) none ∙ nobody c))
+
+pub least_of_some : (n : ℕ) → 0 < n → n < 2 ^ 64 → Some (trailing_zeros w64 n) ≡ least (has n) 64
+least_of_some n pos fits =
+    sym (least_found (has n) 64 (trailing_zeros w64 n) (lowest_within n pos fits) (lowest_has n pos fits) (λ c l. has_by_bit n c ∙ ap (λ (k : ℕ). k == 1) ((bit_at-trailing_zeros w64 n pos fits).2 c l)))

@@ -1,7 +1,7 @@
 -- Worked rows: words of threads in each state, and what is in a mask.
 use Rattle.std.proofs.Common.{◌≡◌, ◌^◌, refl, true, false, None, Some}
 use Rattle.gs_status.specs.Status.{spelling}
-use Rattle.gs_status.specs.Masks.{has, has_past, has_none}
+use Rattle.gs_status.specs.Masks.{has, has_past, has_none, least}
 
 running : spelling (record { tseq = 1; cpu = Some 1; runnable = true; alive = true }) ≡ 0x0000070100000001
 running = refl
@@ -52,3 +52,20 @@ has_nobody = refl
 
 has_somebody : has_none (2 ^ 63) ≡ false
 has_somebody = refl
+
+-- the least CPU of a mask, and of those below 3
+least_of_six : least (has 6) 64 ≡ Some 1
+unfolding least
+least_of_six = refl
+
+least_of_nobody : least (has 0) 64 ≡ None
+unfolding least
+least_of_nobody = refl
+
+least_below_three : least (has 8) 3 ≡ None
+unfolding least
+least_below_three = refl
+
+least_highest : least (has (2 ^ 63)) 64 ≡ Some 63
+unfolding least
+least_highest = refl

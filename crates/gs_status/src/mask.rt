@@ -1,5 +1,5 @@
-ghost use Rattle.std.specs.Prelude.{◌≡◌, ◌≢◌, ◌<◌, ◌≤◌, ℕ, true, false};
-ghost use Rattle.gs_status.specs.Masks.{has, has_past, has_none};
+ghost use Rattle.std.specs.Prelude.{◌≡◌, ◌≢◌, ◌<◌, ◌≤◌, ◌&&◌, ℕ, true, false, IfSome, IfNone};
+ghost use Rattle.gs_status.specs.Masks.{has, has_past, has_none, least};
 
 use std::marker::Model;
 
@@ -90,5 +90,30 @@ impl Mask {
         Mask {
             bits: self.bits & !(1 << cpu),
         }
+    }
+
+    /// The set of the CPUs that are in both sets.
+    #[tactic(auto, using(crate::proofs::Masks::has_both))]
+    pub fn both(self, other: Mask) -> Mask
+        ensures { (c : ℕ) → has result c ≡ (has self c && has other c) }
+    {
+        Mask {
+            bits: self.bits & other.bits,
+        }
+    }
+
+    /// The least CPU of the set, from 0 to 63, or `None` where no CPU is in it.
+    #[tactic(auto, using(crate::proofs::Masks::least_of_none, crate::proofs::Masks::least_of_some, crate::proofs::Masks::lowest_within, crate::proofs::Masks::lowest_has))]
+    pub fn lowest(self) -> Option<u16>
+        ensures least { result ≡ least (has self) 64 }
+        ensures within { IfSome result (λ c. c < 64) }
+        ensures is_in { IfSome result (λ c. has self c ≡ true) }
+        ensures empty { IfNone result (has_none self ≡ true) }
+    {
+        let bits = self.bits;
+        if bits == 0 {
+            return None;
+        }
+        Some(bits.trailing_zeros() as u16)
     }
 }

@@ -135,3 +135,19 @@ fn sets_grow_and_shrink(rt: HostRuntime) {
         );
     }
 }
+
+#[test]
+fn the_least_of_both(rt: HostRuntime) {
+    for (one, other, both, lowest) in [
+        (6, 12, 4, Some(2)),
+        (6, 3, 2, Some(1)),
+        (5, 10, 0, None),
+        (0, u64::MAX, 0, None),
+        (u64::MAX, 1, 1, Some(0)),
+        (1 << 63, u64::MAX, 1 << 63, Some(63)),
+    ] {
+        let common = Mask::new(one).both(Mask::new(other));
+        assert_eq!(rt; common.bits(), both, "{one:x} and {other:x}");
+        assert_eq!(rt; common.lowest(), lowest, "{one:x} and {other:x}");
+    }
+}

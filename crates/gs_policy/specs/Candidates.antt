@@ -1,0 +1,36 @@
+-- The CPUs that can still be chosen.
+use Rattle.std.specs.Prelude.{false, not, ◌&&◌, ◌≡◌, ℕ, Bool, List, []}
+use Rattle.gs_layout.specs.declared.facts.Class.{Class}
+use Rattle.gs_layout.specs.declared.facts.Class.TheVariants.{Zero, One}
+use Rattle.gs_layout.specs.View.{Look}
+use Rattle.gs_status.specs.Masks.{has}
+use Rattle.gs_policy.specs.declared.candidates.Candidates.{Candidates}
+use Rattle.gs_policy.specs.declared.choice.Choice.{Choice}
+use Rattle.gs_policy.specs.Plan.{choice, planned, uses}
+
+-- the mask of the CPUs that a thread of a class may take from somebody
+abbrev pub busy_for : Candidates → Class → ℕ
+busy_for l Zero = l.zero_class
+busy_for l One = l.one_class
+
+-- whether a CPU is one of these
+abbrev pub takes_in : Candidates → Class → ℕ → Bool
+takes_in l class c = has (busy_for l class) c
+
+-- the later ones are the earlier ones without the CPUs that these choices use
+pub record AreLeft (earlier later : Candidates) (xs : List Choice) : Type 0 where
+  pub free : (c : ℕ) → has later.free c ≡ (has earlier.free c && not (uses xs c))
+  pub busy : (class : Class) (c : ℕ) → takes_in later class c ≡ (takes_in earlier class c && not (uses xs c))
+
+-- none can be chosen
+pub record AreSpent (l : Candidates) : Type 0 where
+  pub free : (c : ℕ) → has l.free c ≡ false
+  pub busy : (class : Class) (c : ℕ) → takes_in l class c ≡ false
+
+-- a thread's choice among these
+abbrev pub picked : Candidates → Look → ℕ → List Choice
+picked l v t = choice 64 (has l.free) (takes_in l) [] t (v t)
+
+-- the choices of threads among these, one after another, behind those of a plan
+abbrev pub planned_of : Candidates → Look → List Choice → List ℕ → List Choice
+planned_of l v xs ts = planned 64 (has l.free) (takes_in l) v xs ts

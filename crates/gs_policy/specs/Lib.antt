@@ -1,0 +1,6 @@
+pub mod Any
+pub mod Candidates
+pub mod FirstOnly
+pub mod Plan
+pub mod Safe
+pub mod Safety

@@ -1,0 +1,38 @@
+use crate::choice::Choice;
+use crate::first_come::FirstCome;
+use crate::policy::Policy;
+use crate::two_class::TwoClass;
+use gs_beliefs::CpuBeliefs;
+use gs_runq::RunQueue;
+use gs_view::AgentView;
+use std::alloc::{AllocError, Global};
+
+/// Either policy, where which one it is is known only as the program runs.
+#[derive(Clone, Copy, PartialEq, Eq, Debug)]
+pub enum AnyPolicy {
+    FirstCome(FirstCome),
+    TwoClass(TwoClass),
+}
+
+impl Policy for AnyPolicy {
+    ghost use Rattle.gs_policy.specs.Any.{any_takes};
+    ghost use Rattle.gs_policy.specs.Plan.{plan};
+    ghost use Rattle.gs_policy.specs.Safety.{any-safe};
+
+    ghost chosen = { λ p. plan (any_takes p) };
+
+    fn plan(
+        &self,
+        alloc: Global,
+        view: &AgentView,
+        cpus: &CpuBeliefs,
+        queue: &RunQueue,
+    ) -> Result<Vec<Choice>, AllocError> {
+        match self {
+            AnyPolicy::FirstCome(policy) => policy.plan(alloc, view, cpus, queue),
+            AnyPolicy::TwoClass(policy) => policy.plan(alloc, view, cpus, queue),
+        }
+    }
+
+    ghost safe = { any-safe };
+}

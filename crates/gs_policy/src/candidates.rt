@@ -1,0 +1,84 @@
+ghost use Rattle.std.specs.Prelude.{◌≡◌, ◌<◌, ◌&&◌, ◌==◌, not, true, ℕ, IfSome};
+ghost use Rattle.std.specs.Option.{option_to_list};
+ghost use Rattle.gs_layout.specs.declared.facts.Class.{Class as ClassOf};
+ghost use Rattle.gs_layout.specs.View.{look_up};
+ghost use Rattle.gs_status.specs.Masks.{has, least};
+ghost use Rattle.gs_policy.specs.Candidates.{AreSpent, busy_for, picked, takes_in};
+
+use crate::choice::Choice;
+use gs_layout::Class;
+use gs_status::Mask;
+use gs_view::AgentView;
+
+/// The CPUs that can still be chosen: those that are free, and those that a thread of each class may
+/// take from somebody.
+#[derive(Clone, Copy)]
+pub(crate) struct Candidates {
+    pub free: Mask,
+    pub zero_class: Mask,
+    pub one_class: Mask,
+}
+
+/// The least CPU that is in both sets.
+#[tactic(auto, using(gs_status::proofs::Least::least_same))]
+fn least_of(one: Mask, other: Mask) -> Option<u16>
+    ensures least { result ≡ least (λ c. has one c && has other c) 64 }
+    ensures within { IfSome result (λ c. c < 64) }
+{
+    one.both(other).lowest()
+}
+
+impl Candidates {
+    /// Whether no CPU can be chosen any more.
+    pub(crate) fn are_spent(self) -> bool
+        ensures { result ≡ true → AreSpent self }
+    {
+        self.free.is_empty() && self.zero_class.is_empty() && self.one_class.is_empty()
+    }
+
+    /// The CPUs that a thread of a class may take from somebody.
+    fn busy_for(self, class: Class) -> Mask
+        ensures { result ≡ busy_for self class }
+    {
+        match class {
+            Class::Zero => self.zero_class,
+            Class::One => self.one_class,
+        }
+    }
+
+    /// All of them but a CPU.
+    pub(crate) fn without(self, cpu: u16) -> Candidates
+        requires { cpu < 64 }
+        ensures free { (c : ℕ) → has result.free c ≡ (has self.free c && not (cpu == c)) }
+        ensures busy { (class : ClassOf) (c : ℕ) → takes_in result class c ≡ (takes_in self class c && not (cpu == c)) }
+    {
+        Candidates {
+            free: self.free.without(cpu),
+            zero_class: self.zero_class.without(cpu),
+            one_class: self.one_class.without(cpu),
+        }
+    }
+
+    /// The choice of a thread among them, if it has one.
+    #[tactic(auto, using(crate::proofs::Left::picked_unknown, crate::proofs::Left::picked_free, crate::proofs::Left::picked_busy))]
+    pub(crate) fn pick(self, view: &AgentView, tid: u32) -> Option<Choice>
+        ensures pick { option_to_list result ≡ picked self (look_up view.now) tid }
+        ensures below { IfSome result (λ x. x.cpu < 64) }
+    {
+        let (facts, _) = view.get(tid)?;
+        let mask = Mask::new(facts.mask);
+        if let Some(cpu) = least_of(self.free, mask) {
+            return Some(Choice {
+                cpu,
+                tid,
+                preempt: false,
+            });
+        }
+        let cpu = least_of(self.busy_for(facts.class), mask)?;
+        Some(Choice {
+            cpu,
+            tid,
+            preempt: true,
+        })
+    }
+}

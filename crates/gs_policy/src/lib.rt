@@ -1,0 +1,21 @@
+//! Scheduling policies: which waiting threads an agent sends to which CPUs.
+#![tactic(auto)]
+
+mod any;
+mod candidates;
+mod choice;
+mod class_one;
+mod first_come;
+mod law;
+mod policy;
+#[cfg(test)]
+mod tests;
+mod two_class;
+mod walk;
+
+pub use any::AnyPolicy;
+pub use choice::Choice;
+pub use first_come::FirstCome;
+pub use law::{leaves_none, plans_in_order};
+pub use policy::Policy;
+pub use two_class::TwoClass;
