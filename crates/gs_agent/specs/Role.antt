@@ -1,15 +1,17 @@
 -- What an agent's role is, and why it stamps no slot.
-use Rattle.std.specs.Prelude.{ℕ, List, Option, None, Some}
+use Rattle.std.specs.Prelude.{ℕ, Option, None, Some}
 use Rattle.gs_layout.specs.declared.known.Known.{Known}
 use Rattle.gs_layout.specs.declared.refusal.Refusal.{Refusal}
 use Rattle.gs_layout.specs.declared.refusal.Refusal.TheVariants.{NoThread, SlotOpen}
 use Rattle.gs_slots.specs.declared.state.SlotState.{SlotState}
 use Rattle.gs_slots.specs.declared.state.SlotState.TheVariants.{Idle, Stamped, Done}
+use Rattle.gs_mind.specs.Mind.{MindState}
 
--- what the agent knows of each thread, by rising tid, and its generation
-pub record RoleState : Type 0 where
-  pub records : List (ℕ × Known)
+-- what the agent has in mind, its generation, and its policy
+pub record RoleOf (P : Type 0) : Type 0 where
+  pub mind : MindState
   pub generation : ℕ
+  pub policy : P
 
 -- why a transaction is not stamped, by what is known of its thread and what is in the slot: the first refusal that applies
 abbrev pub stamp_refusal : Option Known → SlotState → Option Refusal

@@ -1,23 +1,34 @@
-ghost use Rattle.std.specs.Prelude.{◌≡◌, map};
-ghost use Rattle.gs_slots.specs.SlotMut.{left_in, state_of};
-ghost use Rattle.gs_slots.specs.State.{collected};
+//! Slots that landed are collected.
 
+ghost use Rattle.std.specs.Prelude.{◌≡◌, map};
+ghost use Rattle.gs_slots.specs.SlotMut.{cpu_of, left_in, state_of};
+ghost use Rattle.gs_slots.specs.State.{collected};
+ghost use Rattle.gs_mind.specs.Mind.{picture_of, thinks};
+ghost use Rattle.gs_mind.specs.Picture.{after_slot, after_slots};
+
+use gs_mind::Mind;
 use gs_slots::{Region, SlotMut};
 
-/// Makes every done slot of a region idle again.
-#[tactic(auto, using(gs_slots::proofs::Lent::changed_more))]
-pub(crate) fn collect_all(region: &mut Region)
-    ensures { region.new ≡ map collected region.old }
+/// Takes in what became of each done slot of a region, by rising CPU, and makes it idle again.
+pub(crate) fn collect_all(mind: &mut Mind, region: &mut Region)
+    ensures region { region.new ≡ map collected region.old }
+    ensures mind { mind.new ≡ thinks mind.old (after_slots 0 region.old (picture_of mind.old)) }
 {
     for cpu in 0..region.cpus() {
-        collect_slot(region.slot(cpu));
+        collect_slot(mind, region.slot(cpu));
     }
 }
 
-/// Makes a done slot idle again, and leaves any other.
-fn collect_slot(slot: SlotMut<'_>)
-    ensures { left_in slot.exit ≡ collected (state_of slot.entry) }
+/// Takes in what became of a done slot, and makes it idle again. Any other slot changes nothing, and
+/// stays as it is.
+fn collect_slot(mind: &mut Mind, slot: SlotMut<'_>)
+    ensures slot { left_in slot.exit ≡ collected (state_of slot.entry) }
+    ensures mind { mind.new ≡ thinks mind.old (after_slot (cpu_of slot.entry) (state_of slot.entry) (picture_of mind.old)) }
 {
+    let Ok(state) = slot.state() else {
+        return;
+    };
+    mind.collect(slot.cpu(), state);
     if slot.outcome().is_some() {
         slot.clear();
     }

@@ -6,19 +6,21 @@ ghost use Rattle.gs_layout.specs.View.{is_gap, look_up, word};
 ghost use Rattle.gs_view.specs.Begins.{begins};
 ghost use Rattle.gs_view.specs.Taken.{word_of};
 ghost use Rattle.gs_agent.specs.Drains.{Took, count_word, stop_of};
+ghost use Rattle.gs_mind.specs.Mind.{picture_of};
 
 use crate::drained::{Drained, Stop};
+use gs_mind::Mind;
 use gs_ring::Taker;
-use gs_view::{AgentView, ApplyFault, Taken};
+use gs_view::{ApplyFault, Taken};
 
 /// Takes in messages, at most so many, up to a gap or to where memory runs out.
-pub(crate) fn drain_into<T: Taker>(view: &mut AgentView, taker: &mut T, max: u32) -> Drained
-    ensures took { (ms : List Message) × T.passed taker.old ms taker.new × Took (look_up view.old) ms result (look_up view.new) }
+pub(crate) fn drain_into<T: Taker>(mind: &mut Mind, taker: &mut T, max: u32) -> Drained
+    ensures took { (ms : List Message) × T.passed taker.old ms taker.new × Took (picture_of mind.old) ms result (picture_of mind.new) }
     ensures most { result.count ≤ max }
     ensures whole { result.stop ≡ None → result.count < max → (m : Message) (ms : List Message) → T.ahead taker.new (m ∷ ms) → ⊥ }
     ensures early { IsSome result.stop → result.count < max }
-    ensures gap { result.stop ≡ Some Stop.Gap → (m : Message) × T.ahead taker.new (m ∷ []) × (is_gap (word (look_up view.new) m) ≡ true) }
-    ensures memory { result.stop ≡ Some Stop.Memory → (m : Message) × T.ahead taker.new (m ∷ []) × (begins (look_up view.new) m ≡ true) }
+    ensures gap { result.stop ≡ Some Stop.Gap → (m : Message) × T.ahead taker.new (m ∷ []) × (is_gap (word (look_up mind.new.records) m) ≡ true) }
+    ensures memory { result.stop ≡ Some Stop.Memory → (m : Message) × T.ahead taker.new (m ∷ []) × (begins (look_up mind.new.records) m ≡ true) }
 {
     let max = max as usize;
     let mut drained = Drained {
@@ -31,7 +33,7 @@ pub(crate) fn drain_into<T: Taker>(view: &mut AgentView, taker: &mut T, max: u32
         let Some(peeked) = taker.peek() else {
             break;
         };
-        match view.apply(peeked.message()) {
+        match mind.take_in(peeked.message()) {
             Ok(taken) => {
                 taker.advance();
                 drained = counted(drained, taken);

@@ -1,52 +1,75 @@
-ghost use Rattle.std.specs.Prelude.{◌≡◌, ◌<◌, ◌≤◌, List, [], ◌∷◌, None, Some, IfErr, IfOk, IsSome, OnErr, map, option_map, true};
+ghost use Rattle.std.specs.Prelude.{◌≡◌, ◌<◌, ◌≤◌, List, [], ◌∷◌, None, Some, IfErr, IfOk, IsSome, OnErr, OnOk, map, option_map, true};
 ghost use Rattle.gs_layout.specs.declared.known.Known.{Known};
 ghost use Rattle.gs_layout.specs.declared.message.Message.{Message};
 ghost use Rattle.gs_layout.specs.View.{is_gap, look_up, word};
 ghost use Rattle.gs_slots.specs.declared.state.SlotState.{SlotState};
-ghost use Rattle.gs_slots.specs.SlotMut.{left_in, state_of};
+ghost use Rattle.gs_slots.specs.SlotMut.{cpu_of, left_in, state_of};
 ghost use Rattle.gs_slots.specs.State.{collected};
 ghost use Rattle.gs_view.specs.Begins.{begins};
+ghost use Rattle.gs_beliefs.specs.Cpus.{believed_on};
 ghost use Rattle.gs_agent.specs.declared.drained.Stop.{Stop};
 ghost use Rattle.gs_agent.specs.Drains.{Took};
+ghost use Rattle.gs_mind.specs.Mind.{nothing, picture_of, thinks};
+ghost use Rattle.gs_mind.specs.Picture.{after_slots, after_stamp};
 ghost use Rattle.gs_agent.specs.Role.{stamp_refusal};
 
 use crate::collect::collect_all;
 use crate::drain::drain_into;
 use crate::drained::Drained;
+use gs_beliefs::Running;
 use gs_layout::Refusal;
+use gs_mind::Mind;
 use gs_ring::Taker;
 use gs_slots::{Region, SlotBusy, SlotMut};
 use gs_view::AgentView;
-use std::alloc::Global;
+use std::alloc::{AllocError, Global};
 use std::marker::Model;
 
-/// The role of an active agent: what it knows of each thread, and its generation.
+/// The role of an agent: what it knows of each thread, what it believes of each CPU, who waits, its
+/// generation, and the policy by which it plans.
 ///
 /// Messages reach it through [`Role::drain`], its transactions leave by [`Role::stamp`], and
-/// [`Role::collect`] frees the slots of those that landed. Clauses see its records by rising tid.
+/// [`Role::collect`] frees the slots of those that landed. Clauses see its records by rising tid, and the
+/// queue without its room.
 #[derive(Drop)]
-pub struct Role {
-    view: AgentView,
+pub struct Role<P> {
+    mind: Mind,
     generation: u32,
+    policy: P,
 }
 
-impl Model for Role {
-    ghost use Rattle.gs_agent.specs.Role.{RoleState};
+impl<P> Model for Role<P> {
+    ghost use Rattle.gs_agent.specs.Role.{RoleOf};
 
-    ghost Value = { RoleState };
+    ghost Value = { RoleOf P };
 
-    ghost view = { λ role. record { records = role.view; generation = role.generation } };
+    ghost view = { λ role. record { mind = role.mind; generation = role.generation; policy = role.policy } };
 }
 
-impl Role {
-    /// The role of an active agent of this generation that knows nothing yet. It takes no memory.
-    pub fn new(alloc: Global, generation: u32) -> Role
-        ensures { result ≡ record { records = []; generation = generation } }
+impl<P> Role<P> {
+    /// The role of an active agent of this generation, on this CPU of so many (at most 64), that plans
+    /// by this policy. It knows nothing yet: nobody is believed to run anywhere, and nobody waits.
+    ///
+    /// # Errors
+    ///
+    /// Where memory runs out.
+    pub fn new(
+        alloc: Global,
+        policy: P,
+        cpus: u16,
+        generation: u32,
+        cpu: u16,
+    ) -> Result<Role<P>, AllocError>
+    where
+        P: Drop,
+        requires { cpus ≤ 64 }
+        ensures { IfOk result (λ role. role ≡ record { mind = nothing cpus (Some cpu); generation = generation; policy = policy }) }
     {
-        Role {
-            view: AgentView::new(alloc),
+        Ok(Role {
+            mind: Mind::new(alloc, cpus, Some(cpu))?,
             generation,
-        }
+            policy,
+        })
     }
 
     /// The generation of the agent, which each of its transactions is stamped with.
@@ -56,58 +79,86 @@ impl Role {
         self.generation
     }
 
-    /// What the agent knows of each thread.
-    pub fn view(&self) -> &AgentView
-        ensures { result.now ≡ self.now.records }
+    /// The policy by which the agent plans.
+    pub fn policy(&self) -> &P
+        ensures { result.now ≡ self.now.policy }
     {
-        &self.view
+        &self.policy
     }
 
-    /// Takes messages into the view, at most `max` of them, in the order in which they were posted.
-    /// Answers what it took in, and why it stopped early, where it did.
+    /// What the agent knows of each thread.
+    pub fn view(&self) -> &AgentView
+        ensures { result.now ≡ self.now.mind.records }
+    {
+        self.mind.view()
+    }
+
+    /// Who is believed to run on a CPU, `None` for nobody and past the last CPU.
+    pub fn believed(&self, cpu: u16) -> Option<Running>
+        ensures { result ≡ believed_on self.now.mind.cpus cpu }
+    {
+        self.mind.believed(cpu)
+    }
+
+    /// Takes messages in, at most `max` of them, in the order in which they were posted: view, beliefs
+    /// and queue follow each one that applies. Answers what it took in, and why it stopped early, where
+    /// it did.
     ///
     /// It stops early at a message whose number is more than one above the one that is known of its
     /// thread, and at the creation of a thread of which nothing is known where there is no memory for
-    /// its record. That message stays unread, and a later drain begins with it.
+    /// its record or for its place in the queue. That message stays unread, and a later drain begins
+    /// with it.
     pub fn drain<T: Taker>(&mut self, taker: &mut T, max: u32) -> Drained
-        ensures took { (ms : List Message) × T.passed taker.old ms taker.new × Took (look_up self.old.records) ms result (look_up self.new.records) }
+        ensures took { (ms : List Message) × T.passed taker.old ms taker.new × Took (picture_of self.old.mind) ms result (picture_of self.new.mind) }
         ensures most { result.count ≤ max }
         ensures whole { result.stop ≡ None → result.count < max → (m : Message) (ms : List Message) → T.ahead taker.new (m ∷ ms) → ⊥ }
         ensures early { IsSome result.stop → result.count < max }
-        ensures gap { result.stop ≡ Some Stop.Gap → (m : Message) × T.ahead taker.new (m ∷ []) × (is_gap (word (look_up self.new.records) m) ≡ true) }
-        ensures memory { result.stop ≡ Some Stop.Memory → (m : Message) × T.ahead taker.new (m ∷ []) × (begins (look_up self.new.records) m ≡ true) }
-        ensures generation { self.new.generation ≡ self.old.generation }
+        ensures gap { result.stop ≡ Some Stop.Gap → (m : Message) × T.ahead taker.new (m ∷ []) × (is_gap (word (look_up self.new.mind.records) m) ≡ true) }
+        ensures memory { result.stop ≡ Some Stop.Memory → (m : Message) × T.ahead taker.new (m ∷ []) × (begins (look_up self.new.mind.records) m ≡ true) }
+        ensures others { self.new ≡ record self.old { mind = self.new.mind } }
     {
-        drain_into(&mut self.view, taker, max)
+        drain_into(&mut self.mind, taker, max)
     }
 
     /// Stamps a transaction into an idle slot: the thread is to run on the slot's CPU, if its sequence
     /// number is then still the one that the view has. `preempt` says that a thread that is on the CPU
     /// is to give way. Answers the number. It takes no memory.
     ///
+    /// The role remembers the stamp until the slot is collected: until then the thread does not wait,
+    /// and the CPU is not one to use. Where it still remembered another stamp on that CPU, the thread
+    /// which that named may wait again.
+    ///
     /// # Errors
     ///
     /// The first that applies: `NoThread` where the view does not know the thread, `SlotOpen` where
-    /// the slot is not idle. The slot stays as it was.
-    pub fn stamp(&self, slot: SlotMut<'_>, tid: u32, preempt: bool) -> Result<u32, Refusal>
-        ensures ok { IfOk result (λ _. stamp_refusal (look_up self.now.records tid) (state_of slot.entry) ≡ None) }
-        ensures number { IfOk result (λ tseq. option_map (λ (k : Known). k.tseq) (look_up self.now.records tid) ≡ Some tseq) }
-        ensures stamped { IfOk result (λ tseq. left_in slot.exit ≡ SlotState.Stamped (record { generation = self.now.generation; tid = tid; tseq = tseq; preempt = preempt })) }
-        ensures refused { IfErr result (λ refusal. stamp_refusal (look_up self.now.records tid) (state_of slot.entry) ≡ Some refusal) }
+    /// the slot is not idle. Slot and role stay as they were.
+    pub fn stamp(&mut self, slot: SlotMut<'_>, tid: u32, preempt: bool) -> Result<u32, Refusal>
+        ensures ok { IfOk result (λ _. stamp_refusal (look_up self.old.mind.records tid) (state_of slot.entry) ≡ None) }
+        ensures number { IfOk result (λ tseq. option_map (λ (k : Known). k.tseq) (look_up self.old.mind.records tid) ≡ Some tseq) }
+        ensures stamped { IfOk result (λ tseq. left_in slot.exit ≡ SlotState.Stamped (record { generation = self.old.generation; tid = tid; tseq = tseq; preempt = preempt })) }
+        ensures role { OnOk result (self.new ≡ record self.old { mind = thinks self.old.mind (after_stamp (cpu_of slot.entry) tid (picture_of self.old.mind)) }) }
+        ensures refused { IfErr result (λ refusal. stamp_refusal (look_up self.old.mind.records tid) (state_of slot.entry) ≡ Some refusal) }
         ensures unchanged { OnErr result (left_in slot.exit ≡ state_of slot.entry) }
+        ensures as_before { OnErr result (self.new ≡ self.old) }
     {
-        let (_, tseq) = self.view.get(tid).ok_or(Refusal::NoThread)?;
+        let (_, tseq) = self.mind.view().get(tid).ok_or(Refusal::NoThread)?;
+        let cpu = slot.cpu();
         match slot.stamp(self.generation, tid, tseq, preempt) {
-            Ok(()) => Ok(tseq),
+            Ok(()) => {
+                self.mind.stamp(cpu, tid);
+                Ok(tseq)
+            }
             Err(SlotBusy) => Err(Refusal::SlotOpen),
         }
     }
 
-    /// Makes every done slot of a region idle again. Other slots stay as they are. It takes no memory.
+    /// Takes in what became of each done slot of a region, by rising CPU, and makes it idle again: a
+    /// thread that was placed, or found placed already, is believed to run there, and who waits follows.
+    /// Other slots stay as they are. It takes no memory.
     pub fn collect(&mut self, region: &mut Region)
         ensures region { region.new ≡ map collected region.old }
-        ensures role { self.new ≡ self.old }
+        ensures role { self.new ≡ record self.old { mind = thinks self.old.mind (after_slots 0 region.old (picture_of self.old.mind)) } }
     {
-        collect_all(region);
+        collect_all(&mut self.mind, region);
     }
 }

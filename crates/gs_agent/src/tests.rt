@@ -1,16 +1,23 @@
-ghost use Rattle.std.specs.Prelude.{◌≡◌, ◌+◌, ◌<◌, ◌≤◌, IfErr, IfOk, IfSome, OnErr, Some, length, slice_get, slice_set, true};
+ghost use Rattle.std.specs.Prelude.{◌≡◌, ◌+◌, ◌<◌, ◌≤◌, IfErr, IfOk, IfSome, OnErr, OnOk, Some, length, slice_get, slice_set, true};
 ghost use Rattle.gs_agent.specs.Role.{stamp_refusal};
 ghost use Rattle.gs_layout.specs.View.{look_up};
+ghost use Rattle.gs_mind.specs.Mind.{picture_of, thinks};
+ghost use Rattle.gs_mind.specs.Picture.{after_stamp};
 ghost use Rattle.gs_slots.specs.declared.state.SlotState.{SlotState};
 ghost use Rattle.gs_layout.specs.Spelling.{IsSpellable, IsSpellableChange};
 ghost use Rattle.gs_ring.specs.RingState.{posts};
 
 use crate::{Drained, Role, Stop};
+use gs_beliefs::Running;
 use gs_layout::{Change, Class, Facts, Message, Name, Outcome, Refusal};
 use gs_ring::{ByteRing, Poster};
 use gs_slots::{Region, SlotMut, SlotState, Stamp};
 use std::alloc::Global;
 use std::test::Fail;
+
+/// A policy that plans nothing.
+#[derive(Clone, Copy, PartialEq, Eq, Debug)]
+struct Idler;
 
 /// Posts a message to a ring that has room for it.
 fn post(ring: &mut ByteRing, message: &Message) -> Result<(), Fail>
@@ -55,11 +62,16 @@ fn ring_with_seventh(alloc: Global) -> Result<ByteRing, Fail>
     Ok(ring)
 }
 
-/// A role of generation 3 that knows thread 7, with number 5, and thread 9, with number 6.
-fn role_with_two(alloc: Global) -> Result<Role, Fail> {
+/// A role of generation 3 on CPU 3 of four, that knows nothing yet.
+fn new_role(alloc: Global) -> Result<Role<Idler>, Fail> {
+    Ok(Role::new(alloc, Idler, 4, 3, 3)?)
+}
+
+/// The role once it knows thread 7, with number 5, and thread 9, with number 6.
+fn role_with_two(alloc: Global) -> Result<Role<Idler>, Fail> {
     let mut ring = ring_with_seventh(alloc)?;
     tell(&mut ring, 9, 6, creation().ok_or("a name")?)?;
-    let mut role = Role::new(alloc, 3);
+    let mut role = new_role(alloc)?;
     if role.drain(&mut ring, 9).stop.is_some() {
         return Err(Fail::from("memory"));
     }
@@ -86,17 +98,29 @@ fn state_at(region: &Region, cpu: u16) -> Option<SlotState> {
 
 /// Stamps a thread that is to preempt into the slot of a CPU of the region.
 #[tactic(auto, using(gs_slots::proofs::Lent::set_as_it_was))]
-fn stamp_one(role: &Role, region: &mut Region, cpu: u16, tid: u32) -> Result<u32, Refusal>
+fn stamp_one(
+    role: &mut Role<Idler>,
+    region: &mut Region,
+    cpu: u16,
+    tid: u32,
+) -> Result<u32, Refusal>
     requires { cpu < length region.old }
-    ensures ok { IfOk result (λ tseq. region.new ≡ slice_set region.old cpu (SlotState.Stamped (record { generation = role.now.generation; tid = tid; tseq = tseq; preempt = true }))) }
-    ensures refused { IfErr result (λ refusal. (s : SlotState) → slice_get region.old cpu ≡ Some s → stamp_refusal (look_up role.now.records tid) s ≡ Some refusal) }
+    ensures ok { IfOk result (λ tseq. region.new ≡ slice_set region.old cpu (SlotState.Stamped (record { generation = role.old.generation; tid = tid; tseq = tseq; preempt = true }))) }
+    ensures role { OnOk result (role.new ≡ record role.old { mind = thinks role.old.mind (after_stamp cpu tid (picture_of role.old.mind)) }) }
+    ensures refused { IfErr result (λ refusal. (s : SlotState) → slice_get region.old cpu ≡ Some s → stamp_refusal (look_up role.old.mind.records tid) s ≡ Some refusal) }
     ensures unchanged { OnErr result (region.new ≡ region.old) }
+    ensures as_before { OnErr result (role.new ≡ role.old) }
 {
     role.stamp(region.slot(cpu), tid, true)
 }
 
 /// The same, where the region has such a slot.
-fn stamp_at(role: &Role, region: &mut Region, cpu: u16, tid: u32) -> Option<Result<u32, Refusal>> {
+fn stamp_at(
+    role: &mut Role<Idler>,
+    region: &mut Region,
+    cpu: u16,
+    tid: u32,
+) -> Option<Result<u32, Refusal>> {
     if cpu < region.cpus() {
         Some(stamp_one(role, region, cpu, tid))
     } else {
@@ -127,11 +151,21 @@ fn place_at(region: &mut Region, cpu: u16) {
     }
 }
 
+/// Stamps thread 7 into the slot of CPU 0, which lands there, and collects.
+fn run_seventh(role: &mut Role<Idler>, region: &mut Region) -> Option<Result<u32, Refusal>> {
+    let stamped = stamp_at(role, region, 0, 7);
+    place_at(region, 0);
+    role.collect(region);
+    stamped
+}
+
 #[test]
 fn begins_with_nothing(rt: HostRuntime) -> Result<(), Fail> {
-    let mut role = Role::new(rt.alloc(), 3);
+    let mut role = new_role(rt.alloc())?;
     assert_eq!(rt; role.generation(), 3);
+    assert_eq!(rt; *role.policy(), Idler);
     assert!(rt; role.view().is_empty());
+    assert_eq!(rt; role.believed(0), None);
     let mut ring = ByteRing::new(rt.alloc(), 128)?;
     assert_eq!(rt; role.drain(&mut ring, 9), drained(0, 0, 0));
     Ok(())
@@ -144,7 +178,7 @@ fn drains_what_waits(rt: HostRuntime) -> Result<(), Fail> {
     tell(&mut ring, 7, 5, Change::Blocked { cpu: 1 })?;
     tell(&mut ring, 8, 6, Change::Wakeup)?;
     tell(&mut ring, 7, 6, Change::Dead { cpu: None })?;
-    let mut role = Role::new(rt.alloc(), 3);
+    let mut role = new_role(rt.alloc())?;
     assert_eq!(rt; role.drain(&mut ring, 0), drained(0, 0, 0));
     assert_eq!(rt; role.drain(&mut ring, 2), drained(2, 0, 0));
     assert_eq!(rt; role.view().len(), 1);
@@ -159,7 +193,7 @@ fn stops_at_a_gap(rt: HostRuntime) -> Result<(), Fail> {
     let mut ring = ring_with_seventh(rt.alloc())?;
     tell(&mut ring, 7, 7, Change::Blocked { cpu: 1 })?;
     post(&mut ring, &Message::TimerTick { cpu: 1 })?;
-    let mut role = Role::new(rt.alloc(), 3);
+    let mut role = new_role(rt.alloc())?;
     let mut expected = drained(1, 0, 0);
     expected.stop = Some(Stop::Gap);
     assert_eq!(rt; role.drain(&mut ring, 9), expected);
@@ -173,10 +207,10 @@ fn stops_at_a_gap(rt: HostRuntime) -> Result<(), Fail> {
 
 #[test]
 fn stamps_what_it_knows(rt: HostRuntime) -> Result<(), Fail> {
-    let role = role_with_two(rt.alloc())?;
+    let mut role = role_with_two(rt.alloc())?;
     let mut region = Region::new(rt.alloc(), 3)?;
-    assert_eq!(rt; stamp_at(&role, &mut region, 1, 7), Some(Ok(5)));
-    assert_eq!(rt; stamp_at(&role, &mut region, 2, 9), Some(Ok(6)));
+    assert_eq!(rt; stamp_at(&mut role, &mut region, 1, 7), Some(Ok(5)));
+    assert_eq!(rt; stamp_at(&mut role, &mut region, 2, 9), Some(Ok(6)));
     let seventh = stamp_of(7, 5);
     let ninth = stamp_of(9, 6);
     let stamped = [
@@ -191,20 +225,30 @@ fn stamps_what_it_knows(rt: HostRuntime) -> Result<(), Fail> {
 }
 
 #[test]
-fn refuses_to_stamp(rt: HostRuntime) -> Result<(), Fail> {
-    let role = role_with_two(rt.alloc())?;
+fn stamps_no_unknown_thread(rt: HostRuntime) -> Result<(), Fail> {
+    let mut role = role_with_two(rt.alloc())?;
     let mut region = Region::new(rt.alloc(), 2)?;
     let no_thread = Some(Err(Refusal::NoThread));
-    assert_eq!(rt; stamp_at(&role, &mut region, 0, 8), no_thread);
+    assert_eq!(rt; stamp_at(&mut role, &mut region, 0, 8), no_thread);
     assert_eq!(rt; state_at(&region, 0), Some(SlotState::Idle));
-    assert_eq!(rt; stamp_at(&role, &mut region, 0, 7), Some(Ok(5)));
-    assert_eq!(rt; stamp_at(&role, &mut region, 0, 8), no_thread);
+    assert_eq!(rt; role.view().len(), 2);
+    assert_eq!(rt; role.believed(0), None);
+    assert_eq!(rt; stamp_at(&mut role, &mut region, 0, 7), Some(Ok(5)));
+    assert_eq!(rt; stamp_at(&mut role, &mut region, 0, 8), no_thread);
+    Ok(())
+}
+
+#[test]
+fn stamps_no_open_slot(rt: HostRuntime) -> Result<(), Fail> {
+    let mut role = role_with_two(rt.alloc())?;
+    let mut region = Region::new(rt.alloc(), 2)?;
+    assert_eq!(rt; stamp_at(&mut role, &mut region, 0, 7), Some(Ok(5)));
     let open = Some(Err(Refusal::SlotOpen));
-    assert_eq!(rt; stamp_at(&role, &mut region, 0, 9), open);
+    assert_eq!(rt; stamp_at(&mut role, &mut region, 0, 9), open);
     let stamp = stamp_of(7, 5);
     assert_eq!(rt; state_at(&region, 0), Some(SlotState::Stamped { stamp }));
     place_at(&mut region, 0);
-    assert_eq!(rt; stamp_at(&role, &mut region, 0, 9), open);
+    assert_eq!(rt; stamp_at(&mut role, &mut region, 0, 9), open);
     Ok(())
 }
 
@@ -212,8 +256,8 @@ fn refuses_to_stamp(rt: HostRuntime) -> Result<(), Fail> {
 fn collects_what_landed(rt: HostRuntime) -> Result<(), Fail> {
     let mut role = role_with_two(rt.alloc())?;
     let mut region = Region::new(rt.alloc(), 3)?;
-    assert_eq!(rt; stamp_at(&role, &mut region, 0, 7), Some(Ok(5)));
-    assert_eq!(rt; stamp_at(&role, &mut region, 1, 9), Some(Ok(6)));
+    assert_eq!(rt; stamp_at(&mut role, &mut region, 0, 7), Some(Ok(5)));
+    assert_eq!(rt; stamp_at(&mut role, &mut region, 1, 9), Some(Ok(6)));
     place_at(&mut region, 0);
     role.collect(&mut region);
     let stamp = stamp_of(9, 6);
@@ -221,6 +265,25 @@ fn collects_what_landed(rt: HostRuntime) -> Result<(), Fail> {
     assert_eq!(rt; state_at(&region, 1), Some(SlotState::Stamped { stamp }));
     assert_eq!(rt; state_at(&region, 2), Some(SlotState::Idle));
     // The slot that was done takes a transaction again.
-    assert_eq!(rt; stamp_at(&role, &mut region, 0, 9), Some(Ok(6)));
+    assert_eq!(rt; stamp_at(&mut role, &mut region, 0, 9), Some(Ok(6)));
+    Ok(())
+}
+
+#[test]
+fn believes_what_it_is_told(rt: HostRuntime) -> Result<(), Fail> {
+    let mut role = role_with_two(rt.alloc())?;
+    let mut region = Region::new(rt.alloc(), 2)?;
+    assert_eq!(rt; run_seventh(&mut role, &mut region), Some(Ok(5)));
+    let running = Running {
+        tid: 7,
+        tseq: 5,
+        ticks: 0,
+    };
+    assert_eq!(rt; role.believed(0), Some(running));
+    assert_eq!(rt; role.believed(1), None);
+    let mut ring = ByteRing::new(rt.alloc(), 128)?;
+    tell(&mut ring, 7, 6, Change::Blocked { cpu: 0 })?;
+    assert_eq!(rt; role.drain(&mut ring, 9), drained(1, 0, 0));
+    assert_eq!(rt; role.believed(0), None);
     Ok(())
 }
