@@ -24,7 +24,8 @@ use Rattle.gs_core.specs.declared.transaction.Transaction.{Transaction}
 use Rattle.gs_core.specs.declared.event.Event.TheVariants as events
 use Rattle.gs_core.specs.declared.reply.Reply.{Reply}
 use Rattle.gs_core.specs.declared.reply.Reply.TheVariants as replies
-use Rattle.gs_core.specs.Machine.{State, landings, lands_late, makes_way, refusal, transaction_of, Serves, Step}
+use Rattle.gs_mind.specs.Picture.{after_slots}
+use Rattle.gs_core.specs.Machine.{Agent, State, thinking, landings, lands_late, makes_way, refusal, transaction_of, Serves, Step}
 use Rattle.gs_core.proofs.Commits.{Behind, IsLeft, landed_exact, lands_exact, none_behind, nothing_more}
 use Rattle.gs_core.proofs.Roles.{NoNewAgent, agent_of, landing_roles, same_history}
 use Rattle.gs_core.proofs.Posting.{IsRingOf, done, with_kernel}
@@ -40,19 +41,21 @@ stood : (s : Settings) (h : History) (mask : ℕ) → commit_refusal s h mask �
 unfolding commit_refusal
 stood s h mask e = (first_passed (torn h) refusals.Gone _ e).0
 
-pub commit_step : (m : State) (mask : ℕ) (s : Settings) (r0 r : RingState) (h : History) (answers : List Landing) (slots left : List SlotState) → IsRingOf m r0 → SameRing r0 r → r.taken ≡ r0.taken → Sent r (posted h) → s ≡ m.settings
+pub commit_step : (m : State) (mask : ℕ) (s : Settings) (r0 r : RingState) (h : History) (answers : List Landing) (agent : Option Agent) (slots left : List SlotState) → IsRingOf m r0 → SameRing r0 r → r.taken ≡ r0.taken → Sent r (posted h) → s ≡ m.settings
     → m.consumed ≤ length (posted m.history) → MayTear m h r → commit_refusal m.settings m.history mask ≡ None → answers ≡ (lands (fitted h) m.settings mask 0 m.slots m.history).answers → h ≡ (lands (fitted h) m.settings mask 0 m.slots m.history).history
-    → left ≡ (lands (fitted h) m.settings mask 0 m.slots m.history).slots → slots ≡ map collected left → Step m (events.Commit mask) (replies.Landed answers (torn h)) (record (with_kernel m s r h) { slots = slots })
-commit_step m mask s r0 r h answers slots left i same stays told is_s few tight none is_answers is_h is_left is_slots =
+    → left ≡ (lands (fitted h) m.settings mask 0 m.slots m.history).slots → agent ≡ option_map (thinking (after_slots 0 left)) m.agent → slots ≡ map collected left → Step m (events.Commit mask) (replies.Landed answers (torn h)) (record (with_kernel m s r h) { agent = agent; slots = slots })
+commit_step m mask s r0 r h answers agent slots left i same stays told is_s few tight none is_answers is_h is_left is_agent is_slots =
     let up = stood m.settings m.history mask none in
     let exact : lands (fitted h) m.settings mask 0 m.slots m.history ≡ landings m mask = lands_exact m.ring m.consumed m.settings mask 0 m.slots m.history h r (left_by m h r0 r i same stays told up tight) few is_h in
     let h_is : h ≡ (landings m mask).history = is_h ∙ ap (λ (l : Landings). l.history) exact in
     let answers_is : answers ≡ (landings m mask).answers = is_answers ∙ ap (λ (l : Landings). l.answers) exact in
-    let slots_is : slots ≡ map collected (landings m mask).slots = is_slots ∙ ap (map collected) (is_left ∙ ap (λ (l : Landings). l.slots) exact) in
+    let left_is : left ≡ (landings m mask).slots = is_left ∙ ap (λ (l : Landings). l.slots) exact in
+    let agent_is : agent ≡ option_map (thinking (after_slots 0 (landings m mask).slots)) m.agent = is_agent ∙ ap (λ (xs : List SlotState). option_map (thinking (after_slots 0 xs)) m.agent) left_is in
+    let slots_is : slots ≡ map collected (landings m mask).slots = is_slots ∙ ap (map collected) left_is in
     let ring_is : r.capacity ≡ m.ring = same ∙ i.ring in
     let consumed_is : r.taken ≡ m.consumed = stays ∙ i.consumed in
-    done (refusal m (events.Commit mask)) m (events.Commit mask) (replies.Landed answers (torn h)) (record (with_kernel m s r h) { slots = slots }) none
-    (λ j. replies.Landed (answers_is j) (torn (h_is j)), λ j. record { settings = is_s j; ring = ring_is j; history = h_is j; consumed = consumed_is j; agent = m.agent; slots = slots_is j; transactions = m.transactions })
+    done (refusal m (events.Commit mask)) m (events.Commit mask) (replies.Landed answers (torn h)) (record (with_kernel m s r h) { agent = agent; slots = slots }) none
+    (λ j. replies.Landed (answers_is j) (torn (h_is j)), λ j. record { settings = is_s j; ring = ring_is j; history = h_is j; consumed = consumed_is j; agent = agent_is j; slots = slots_is j; transactions = m.transactions })
 
 same_pair : (p q : ℕ × Stamp) → Some p ≡ Some q → p ≡ q
 same_pair p q e = cc

@@ -1,5 +1,5 @@
 -- Worked rows: the definitions compute.
-use Rattle.std.proofs.Common.{◌≡◌, refl, ℕ, Bool, true, false, None, Some, [], ◌∷◌, ◌++◌, codes}
+use Rattle.std.proofs.Common.{◌≡◌, refl, ℕ, Bool, true, false, None, Some, [], ◌∷◌, ◌++◌, codes, List, Option}
 use Rattle.gs_layout.specs.declared.facts.Class.TheVariants.{Zero}
 use Rattle.gs_layout.specs.declared.facts.Facts.{Facts}
 use Rattle.gs_layout.specs.declared.message.Change.TheVariants.{Blocked, Created}
@@ -29,7 +29,10 @@ use Rattle.gs_core.specs.declared.config.ConfigFault.TheVariants as faults
 use Rattle.gs_core.specs.Config.{config_fault, settings_of}
 use Rattle.gs_ring.specs.Places as places
 use Rattle.gs_ring.specs.Places.{need, pad_len}
-use Rattle.gs_core.specs.Machine.{State, creates, happens, takes, ticks, fits, stamps, commits, refusal, start, unread, view, attached, landings, lates}
+use Rattle.gs_mind.specs.Mind.{nothing}
+use Rattle.gs_beliefs.specs.Cpus.{places, unknown}
+use Rattle.gs_runq.specs.Queue.{empty}
+use Rattle.gs_core.specs.Machine.{Agent, State, creates, happens, takes, ticks, fits, stamps, commits, refusal, start, unread, view, attached, landings, lates}
 
 facts : Bool → ℕ → Facts
 facts r m = record { runnable = r; mask = m; class = Zero; name = codes "web" }
@@ -40,6 +43,10 @@ two = record { cpus = 2; ring = 128; first_tseq = 0; first_generation = 1; histo
 knows : Bool → ℕ → Known
 knows r m = record { facts = facts r m; tseq = 1 }
 
+-- an agent on CPU 0 of two that knows of these threads, believes nothing and has nobody waiting
+abbrev knowing : List (ℕ × Known) → Option ℕ → Agent
+knowing xs next = record { mind = record (nothing 2 (Some 0)) { records = xs }; next = next }
+
 -- a thread is created, drained, stamped and committed
 made : State
 made = record (start two) { history = Role 1 0 ∷ Posted (Thread 1 1 (Created (facts true 3))) ∷ [] }
@@ -49,7 +56,7 @@ unfolding made posted created two facts need pad_len places.record_of
 is_made = refl
 
 drained : State
-drained = record made { consumed = 1; agent = Some (record { records = (1, knows true 3) ∷ []; next = None }) }
+drained = record made { consumed = 1; agent = Some (knowing ((1, knows true 3) ∷ []) None) }
 
 fresh_view : catch_up (view made) (unread made) 1 ≡ Some (knows true 3)
 unfolding made posted created two facts knows
@@ -103,7 +110,7 @@ both : State
 both = record (start two) { history = Role 1 0 ∷ Posted (Thread 1 1 (Created (facts true 1))) ∷ Posted (Thread 2 1 (Created (facts false 2))) ∷ [] }
 
 known : State
-known = record both { consumed = 2; agent = Some (record { records = (1, knows true 1) ∷ (2, knows false 2) ∷ []; next = None }) }
+known = record both { consumed = 2; agent = Some (knowing ((1, knows true 1) ∷ (2, knows false 2) ∷ []) None) }
 
 not_allowed : (commits (stamps known 1 1 false).1 2).0 ≡ replies.Landed (record { cpu = 1; tid = 1; outcome = outcomes.NotAllowed; seen = 1; at = None } ∷ []) false
 unfolding known both two facts knows posted created active standing last_of landing verdict taken last_taken torn latest on at seq messages record_in record_of
@@ -145,7 +152,7 @@ nobody_drains = refl
 
 -- an agent that attaches drains, and is attached once it needs no more pages
 begun : State
-begun = record left { history = left.history ++ Begin 2 ∷ []; agent = Some (record { records = []; next = Some 1 }) }
+begun = record left { history = left.history ++ Begin 2 ∷ []; agent = Some (knowing [] (Some 1)) }
 
 drains_while_attaching : refusal begun (events.Drain 1) ≡ None
 unfolding begun left stamped drained made two facts knows active torn attaching standing last_of
@@ -155,7 +162,7 @@ not_yet : attached begun ≡ false
 unfolding begun left stamped drained made two facts knows active attaching standing last_of
 not_yet = refl
 
-attached_now : attached (record begun { agent = Some (record { records = []; next = None }) }) ≡ true
+attached_now : attached (record begun { agent = Some (knowing [] None) }) ≡ true
 unfolding begun left stamped drained made two facts knows active attaching standing last_of
 attached_now = refl
 
@@ -228,7 +235,7 @@ waits = refl
 
 -- thread 1 is on CPU 1, and thread 2 was created: a stamp that takes nobody off finds the CPU busy
 beside : State
-beside = record (start two) { history = Role 1 0 ∷ Posted (Thread 1 1 (Created (facts true 3))) ∷ Placed 1 1 1 1 ∷ Posted (Thread 2 1 (Created (facts true 3))) ∷ []; consumed = 2; agent = Some (record { records = (1, knows true 3) ∷ (2, knows true 3) ∷ []; next = None }) }
+beside = record (start two) { history = Role 1 0 ∷ Posted (Thread 1 1 (Created (facts true 3))) ∷ Placed 1 1 1 1 ∷ Posted (Thread 2 1 (Created (facts true 3))) ∷ []; consumed = 2; agent = Some (knowing ((1, knows true 3) ∷ (2, knows true 3) ∷ []) None) }
 
 busy : (commits (stamps beside 1 2 false).1 2).0 ≡ replies.Landed (record { cpu = 1; tid = 2; outcome = outcomes.CpuBusy; seen = 1; at = None } ∷ []) false
 unfolding beside two facts knows posted created active standing last_of landing verdict taken last_taken torn latest on at seq messages record_in record_of
@@ -236,7 +243,7 @@ busy = refl
 
 -- one that does has it told first, and then placed
 preempts : commits (stamps beside 1 2 true).1 2
-    ≡ (replies.Landed (record { cpu = 1; tid = 2; outcome = outcomes.Placed; seen = 1; at = Some 1 } ∷ []) false, record (stamps beside 1 2 true).1 { history = beside.history ++ Posted (Thread 1 2 (changes.Preempted 1)) ∷ Placed 2 1 1 1 ∷ []; slots = Idle ∷ Idle ∷ [] })
+    ≡ (replies.Landed (record { cpu = 1; tid = 2; outcome = outcomes.Placed; seen = 1; at = Some 1 } ∷ []) false, record (stamps beside 1 2 true).1 { history = beside.history ++ Posted (Thread 1 2 (changes.Preempted 1)) ∷ Placed 2 1 1 1 ∷ []; agent = Some (record { mind = record { records = (1, knows true 3) ∷ (2, knows true 3) ∷ []; cpus = places 1 2 1 (unknown 2 (Some 0)); queue = empty }; next = None }); slots = Idle ∷ Idle ∷ [] })
 unfolding beside two facts knows posted created active standing last_of landing verdict taken last_taken torn latest on at seq messages record_in record_of need pad_len places.record_of
 preempts = refl
 

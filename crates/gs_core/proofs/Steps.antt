@@ -1,7 +1,7 @@
 -- Each event keeps what the machine keeps.
 use Rattle.std.proofs.Common.{◌≡◌, refl, ap, sym, ◌∙◌, subst, ℕ, zero, suc, ◌+◌, ◌<◌, ◌⊎◌, inl, inr, ◌||◌, ◌&&◌, Bool, true, false, not, Option, None, Some, List, [], ◌∷◌, ◌++◌, length, map, replicate, take, arith, slice_get, IsSome}
 use Rattle.std.proofs.lemmas.List.{length-map}
-use Rattle.std.specs.Option.{is_some}
+use Rattle.std.specs.Option.{is_some, option_map}
 use Rattle.gs_layout.specs.declared.facts.Facts.{Facts}
 use Rattle.gs_layout.specs.declared.known.Known.{Known}
 use Rattle.gs_slots.specs.declared.state.Stamp.{Stamp}
@@ -20,8 +20,9 @@ use Rattle.gs_kernel.specs.declared.settings.Settings.{Settings}
 use Rattle.gs_kernel.specs.Kernel.{creation, after_post}
 use Rattle.gs_agent.specs.declared.drained.Drained.{Drained}
 use Rattle.gs_core.specs.declared.transaction.Transaction.{Transaction}
-use Rattle.gs_core.specs.Machine.{State, Agent, view, records_of, page_of, unread, attached, creates, ticks, fits, fits_into, landings, commits, lates, lands_late, makes_way, transaction_of, stamps, stamps_with, stamp_of, Drains}
+use Rattle.gs_core.specs.Machine.{State, Agent, view, mind_of, page_of, thinking, unread, attached, creates, ticks, fits, fits_into, landings, commits, lates, lands_late, makes_way, transaction_of, stamps, stamps_with, stamp_of, Drains}
 use Rattle.gs_slots.specs.State.{collected}
+use Rattle.gs_mind.specs.Picture.{Picture, after_slots, after_stamp}
 use Rattle.gs_kernel.specs.Kernel.{preemption}
 use Rattle.gs_kernel.specs.Commit.{Fits, fits_if_any, lands, one_lands, slot_after, history_after}
 use Rattle.gs_kernel.proofs.Commits.{slots_count}
@@ -123,11 +124,11 @@ pub drain_good : (m : State) (max c : ℕ) (d : Drained) (a : Option Agent) → 
 drain_good m max c d a g r =
     let takes = r.takes in
     let h = g.history in
-    let f = faces_drained m.settings.first_tseq m.history m.consumed d.count (view m) (look_up (records_of a)) (page_of m.agent) h.numbered (omega (arith, takes.count)) (same_view _ _ takes.known) g.faces in
+    let f = faces_drained m.settings.first_tseq m.history m.consumed d.count (view m) (look_up (mind_of a).records) (page_of m.agent) h.numbered (omega (arith, takes.count)) (same_view _ _ takes.known) g.faces in
     record {
       history = g.history;
-      faces = subst (λ x. Faces m.settings.first_tseq m.history x (look_up (records_of a)) (page_of a)) (sym r.consumed)
-          (subst (Faces m.settings.first_tseq m.history (m.consumed + d.count) (look_up (records_of a))) (sym r.page) f);
+      faces = subst (λ x. Faces m.settings.first_tseq m.history x (look_up (mind_of a).records) (page_of a)) (sym r.consumed)
+          (subst (Faces m.settings.first_tseq m.history (m.consumed + d.count) (look_up (mind_of a).records)) (sym r.page) f);
       slots = g.slots;
       count = g.count;
       when_active = λ p. r.page ∙ g.when_active p;
@@ -175,6 +176,23 @@ stamped_good s xs y h w below g =
     in_range x i (inl p) = g.within x (i, p)
     in_range x i (inr p) = subst (λ (z : Transaction). z.cpu < s.cpus) (sym p) below
 
+-- what an agent thinks changes nothing of what it knows, nor of its pages
+pub records_think : (f : Picture → Picture) (o : Option Agent) → (mind_of (option_map (thinking f) o)).records ≡ (mind_of o).records
+records_think f None = refl
+records_think f (Some a) = refl
+
+pub page_thinks : (f : Picture → Picture) (o : Option Agent) → page_of (option_map (thinking f) o) ≡ page_of o
+page_thinks f None = refl
+page_thinks f (Some a) = refl
+
+pub some_thinks : (f : Picture → Picture) (o : Option Agent) → is_some (option_map (thinking f) o) ≡ is_some o
+some_thinks f None = refl
+some_thinks f (Some a) = refl
+
+pub faces_think : (m : State) (h : History) (f : Picture → Picture) → Faces m.settings.first_tseq h m.consumed (view m) (page_of m.agent)
+    → Faces m.settings.first_tseq h m.consumed (look_up (mind_of (option_map (thinking f) m.agent)).records) (page_of (option_map (thinking f) m.agent))
+faces_think m h f = subst (λ (x : List (ℕ × Known) × Option ℕ). Faces m.settings.first_tseq h m.consumed (look_up x.0) x.1) (λ i. (sym (records_think f m.agent) i, sym (page_thinks f m.agent) i))
+
 pub stamp_good_with : (m : State) (c t : ℕ) (p : Bool) (a : Option (ℕ × ℕ)) (k : Option Known) → view m t ≡ k → c < m.settings.cpus → Good m → Good (stamps_with m c t p a k).1
 stamp_good_with m c t p None k e below g = g
 stamp_good_with m c t p (Some a) None e below g = g
@@ -184,11 +202,11 @@ stamp_good_with m c t p (Some a) (Some k) e below g =
     let f = g.faces in
     record {
       history = stamped_good m.settings m.transactions y m.history (f.known t k e) below g.history;
-      faces = g.faces;
+      faces = faces_think m m.history (after_stamp c t) g.faces;
       slots = λ i z q. by_slot i z (get_set m.slots c i (Stamped b) (Stamped z) q);
       count = length_set m.slots c (Stamped b) ∙ g.count;
-      when_active = g.when_active;
-      when_attaching = g.when_attaching;
+      when_active = λ q. page_thinks (after_stamp c t) m.agent ∙ g.when_active q;
+      when_attaching = λ q. some_thinks (after_stamp c t) m.agent ∙ g.when_attaching q;
     }
   where
     by_slot : (i : ℕ) (z : Stamp) → (slice_get m.slots i ≡ Some (Stamped z)) ⊎ ((i ≡ c) × (Stamped z ≡ Stamped (stamp_of t p a k)))
@@ -225,14 +243,15 @@ pub commit_good : (m : State) (mask : ℕ) → Good m → Good (commits m mask).
 commit_good m mask g =
     let f : Fits = fits_into m.ring m.consumed in
     let h' : History = (landings m mask).history in
+    let think = after_slots 0 (landings m mask).slots in
     let w = grown_good m h' (all_landed f m.settings m.transactions m.consumed (view m) (page_of m.agent) mask 0 m.slots m.history (both_of m g) g.slots (omega (arith, g.count))) (lands_roles f m.settings mask 0 m.slots m.history) g in
     record {
       history = w.history;
-      faces = w.faces;
+      faces = faces_think m h' think w.faces;
       slots = λ i b e. g.slots i b (left_stamped f m.settings mask 0 m.slots m.history i b e);
       count = length-map (landings m mask).slots collected ∙ (slots_count f m.settings mask 0 m.slots m.history ∙ g.count);
-      when_active = w.when_active;
-      when_attaching = w.when_attaching;
+      when_active = λ q. page_thinks think m.agent ∙ w.when_active q;
+      when_attaching = λ q. some_thinks think m.agent ∙ w.when_attaching q;
     }
 
 -- a transaction that lands late

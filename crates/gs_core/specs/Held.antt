@@ -13,7 +13,7 @@ machine_view k =
       ring = k.kernel.poster.capacity;
       history = k.kernel.history;
       consumed = k.kernel.poster.taken;
-      agent = Some (record { records = k.role.records; next = None });
+      agent = Some (record { mind = k.role.mind; next = None });
       slots = k.region;
       transactions = k.transactions.items;
     }

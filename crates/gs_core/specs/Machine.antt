@@ -1,5 +1,5 @@
 -- The machine: what each event answers and leaves.
-use Rattle.std.specs.Prelude.{Bool, true, false, not, ◌||◌, ◌&&◌, ℕ, zero, suc, ◌+◌, ◌<◌, ◌≤◌, ◌≡◌, ◌⊎◌, nat_le, min, Option, None, Some, IsSome, List, [], ◌∷◌, ◌++◌, length, take, drop, slice_get, slice_set, map, replicate, if◌then◌else◌, is_some}
+use Rattle.std.specs.Prelude.{Bool, true, false, not, ◌||◌, ◌&&◌, ℕ, zero, suc, ◌+◌, ◌<◌, ◌≤◌, ◌≡◌, ◌⊎◌, nat_le, min, Option, None, Some, IsSome, List, [], ◌∷◌, ◌++◌, length, take, drop, slice_get, slice_set, map, replicate, if◌then◌else◌, is_some, option_map}
 use Rattle.std.specs.List.{list_any, count_by}
 use Rattle.gs_layout.specs.declared.facts.Facts.{Facts}
 use Rattle.gs_layout.specs.declared.message.Message.{Message}
@@ -25,6 +25,8 @@ use Rattle.gs_kernel.specs.Kernel.{has_agent, create_refusal, tick_refusal, thre
 use Rattle.gs_kernel.specs.Shown.{live_threads}
 use Rattle.gs_ring.specs.Places.{free_after, need, record_len, written}
 use Rattle.gs_view.specs.Begins.{begins}
+use Rattle.gs_mind.specs.Mind.{MindState, nothing, picture_of, thinks}
+use Rattle.gs_mind.specs.Picture.{Picture, after_slots, after_stamp, takes_in_all}
 use Rattle.gs_view.specs.Shown.{tids}
 use Rattle.std.specs.List.Sorted.{IsStrictlyIncreasing}
 use Rattle.gs_core.specs.declared.config.Config.{Config}
@@ -37,9 +39,9 @@ use Rattle.gs_core.specs.declared.reply.Reply.{Reply}
 use Rattle.gs_core.specs.declared.reply.Reply.TheVariants as replies
 use Rattle.gs_core.specs.declared.transaction.Transaction.{Transaction}
 
--- what an agent keeps: its records, of which the first about a thread counts, and the tid where its next page begins, none where it needs no more pages
+-- what an agent keeps: what it has in mind, and the tid where its next page begins, none where it needs no more pages
 pub record Agent : Type 0 where
-  pub records : List (ℕ × Known)
+  pub mind : MindState
   pub next : Option ℕ
 
 -- a machine: the kernel's numbers, how many bytes the ring has, what happened, how many messages the agents consumed, the agent if there is
@@ -53,9 +55,10 @@ pub record State : Type 0 where
   pub slots : List SlotState
   pub transactions : List Transaction
 
-abbrev pub records_of : Option Agent → List (ℕ × Known)
-records_of None = []
-records_of (Some a) = a.records
+-- what an agent has in mind: nothing, where there is none
+abbrev pub mind_of : Option Agent → MindState
+mind_of None = nothing 0 None
+mind_of (Some a) = a.mind
 
 -- where the next page begins: the first one, where there is no agent
 abbrev pub page_of : Option Agent → Option ℕ
@@ -64,7 +67,15 @@ page_of (Some a) = a.next
 
 -- what the agent knows of each thread
 abbrev pub view : State → Look
-view m = look_up (records_of m.agent)
+view m = look_up (mind_of m.agent).records
+
+-- the agent's picture of the machine
+abbrev pub picture : State → Picture
+picture m = picture_of (mind_of m.agent)
+
+-- an agent of whose picture this is made, its records aside
+abbrev pub thinking : (Picture → Picture) → Agent → Agent
+thinking f a = record a { mind = thinks a.mind (f (picture_of a.mind)) }
 
 -- the messages that were posted and not yet consumed
 abbrev pub unread : State → List Message
@@ -154,11 +165,12 @@ ticks m c = posts m (TimerTick c) (replies.Ticked c)
 abbrev pub stamp_of : ℕ → Bool → (ℕ × ℕ) → Known → Stamp
 stamp_of t p a k = record { generation = a.0; tid = t; tseq = k.tseq; preempt = p }
 
--- the record that the view has is stamped into the slot, and kept with the transaction
+-- the record that the view has is stamped into the slot, and kept with the transaction; the agent remembers the stamp
 abbrev pub stamps_with : State → ℕ → ℕ → Bool → Option (ℕ × ℕ) → Option Known → Reply × State
 stamps_with m c t p (Some a) (Some k) = (
   replies.Stamped (length m.transactions + 1),
   record m {
+    agent = option_map (thinking (after_stamp c t)) m.agent;
     slots = slice_set m.slots c (Stamped (stamp_of t p a k));
     transactions = m.transactions ++ record { cpu = c; slot = stamp_of t p a k; facts = k.facts } ∷ [];
   },
@@ -173,11 +185,16 @@ stamps m c t p = stamps_with m c t p (active m.history) (view m t)
 abbrev pub landings : State → ℕ → Landings
 landings m mask = lands (fits_into m.ring m.consumed) m.settings mask 0 m.slots m.history
 
--- a commit: its slots land, and what is done is idle then; the answer says whether that tore the enclave down
+-- a commit: its slots land, the agent takes in what became of them, and what is done is idle then; the answer says whether that tore
+-- the enclave down
 abbrev pub commits : State → ℕ → Reply × State
 commits m mask = (
   replies.Landed (landings m mask).answers (torn (landings m mask).history),
-  record m { history = (landings m mask).history; slots = map collected (landings m mask).slots },
+  record m {
+    history = (landings m mask).history;
+    agent = option_map (thinking (after_slots 0 (landings m mask).slots)) m.agent;
+    slots = map collected (landings m mask).slots;
+  },
 )
 
 -- a transaction lands late, as it was stamped: of the machine only the history changes
@@ -198,20 +215,21 @@ begins_next v (m ∷ ms) = begins v m
 
 -- of these messages the first count were taken in, none of them a gap; a drain stops early where the next one is a gap, or where it
 -- begins a record and there is no memory for that
-pub record Takes (v : Look) (ms : List Message) (most : ℕ) (d : Drained) (v' : Look) : Type 0 where
+pub record Takes (p : Picture) (ms : List Message) (most : ℕ) (d : Drained) (p' : Picture) : Type 0 where
   pub count : d.count ≤ min most (length ms)
   pub whole : d.stop ≡ None → d.count ≡ min most (length ms)
   pub early : IsSome d.stop → d.count < min most (length ms)
-  pub gap : d.stop ≡ Some stops.Gap → gap_next (catch_up v (take d.count ms)) (drop d.count ms) ≡ true
-  pub memory : d.stop ≡ Some stops.Memory → begins_next (catch_up v (take d.count ms)) (drop d.count ms) ≡ true
-  pub none_gap : list_any is_gap (words v (take d.count ms)) ≡ false
-  pub skipped : d.skipped ≡ count_by is_skipped (words v (take d.count ms))
-  pub orphans : d.orphans ≡ count_by is_orphan (words v (take d.count ms))
-  pub known : (t : ℕ) → v' t ≡ catch_up v (take d.count ms) t
+  pub gap : d.stop ≡ Some stops.Gap → gap_next (catch_up p.view (take d.count ms)) (drop d.count ms) ≡ true
+  pub memory : d.stop ≡ Some stops.Memory → begins_next (catch_up p.view (take d.count ms)) (drop d.count ms) ≡ true
+  pub none_gap : list_any is_gap (words p.view (take d.count ms)) ≡ false
+  pub skipped : d.skipped ≡ count_by is_skipped (words p.view (take d.count ms))
+  pub orphans : d.orphans ≡ count_by is_orphan (words p.view (take d.count ms))
+  pub known : (t : ℕ) → p'.view t ≡ catch_up p.view (take d.count ms) t
+  pub picture : p' ≡ takes_in_all p (take d.count ms)
 
 -- a drain takes in unread messages, and changes nothing else
 pub record Drains (m : State) (max : ℕ) (d : Drained) (m' : State) : Type 0 where
-  pub takes : Takes (view m) (unread m) max d (view m')
+  pub takes : Takes (picture m) (unread m) max d (picture m')
   pub consumed : m'.consumed ≡ m.consumed + d.count
   pub others : m' ≡ record m { consumed = m'.consumed; agent = m'.agent }
   pub stays : is_some m'.agent ≡ is_some m.agent
@@ -263,7 +281,7 @@ start c =
       ring = c.ring;
       history = Role c.first_generation 0 ∷ [];
       consumed = 0;
-      agent = Some (record { records = []; next = None });
+      agent = Some (record { mind = nothing c.cpus (Some 0); next = None });
       slots = replicate c.cpus Idle;
       transactions = [];
     }

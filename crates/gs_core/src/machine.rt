@@ -1,9 +1,8 @@
-ghost use Rattle.std.specs.Prelude.{◌≡◌, None, IfOk, IfErr, IfSome, OnOk, OnErr};
+ghost use Rattle.std.specs.Prelude.{◌≡◌, None, Some, IfOk, IfErr, IfSome, OnOk, OnErr};
 ghost use Rattle.std.specs.Option.{option_map};
 ghost use Rattle.gs_kernel.specs.Kernel.{IsRefusal};
 ghost use Rattle.gs_core.specs.Config.{config_fault, IsFault};
-ghost use Rattle.gs_layout.specs.View.{look_up};
-ghost use Rattle.gs_core.specs.Machine.{State, Step, start, refusal, stamps, transaction_of, unread, view};
+ghost use Rattle.gs_core.specs.Machine.{Agent, State, Step, start, refusal, stamps, transaction_of, unread};
 ghost use Rattle.gs_core.specs.Safe.{Safe, IsFaithful, Run};
 
 use crate::config::{Config, ConfigFault};
@@ -27,7 +26,7 @@ use std::marker::Model;
 pub struct Machine {
     alloc: Global,
     kernel: Kernel<ByteRing>,
-    role: Role,
+    role: Role<()>,
     region: Region,
     transactions: Vec<Transaction>,
 }
@@ -81,18 +80,21 @@ impl Machine {
         let Ok(kernel) = Kernel::new(alloc, settings, ring) else {
             return None;
         };
+        let Ok(role) = Role::new(alloc, (), settings.cpus, settings.first_generation, 0) else {
+            return None;
+        };
         Some(Machine {
             alloc,
             kernel,
-            role: Role::new(alloc, settings.first_generation),
+            role,
             region,
             transactions: Vec::new(alloc),
         })
     }
 
     /// The role of the agent, to look at.
-    pub fn role(&self) -> &Role
-        ensures view { look_up result.now.records ≡ view self.now }
+    pub fn role(&self) -> &Role<()>
+        ensures { Some result.now.mind ≡ option_map (λ (a : Agent). a.mind) self.now.agent }
     {
         &self.role
     }

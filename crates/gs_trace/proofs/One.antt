@@ -1,12 +1,12 @@
 -- An input has one output: where memory suffices, each event of a run has one reply.
 use Rattle.std.proofs.Common.{◌≡◌, refl, ap, sym, ◌∙◌, subst, ℕ, ◌+◌, ◌⊎◌, inl, inr, ◌||◌, Bool, true, false, not, nat_le, Option, None, Some, List, [], ◌∷◌, length, take, drop, Result, Ok, Err, slice_get}
 use Rattle.std.specs.List.{list_any, count_by}
-use Rattle.std.specs.Option.{is_some}
+use Rattle.std.specs.Option.{is_some, option_map}
 use Rattle.gs_layout.specs.declared.message.Message.{Message}
 use Rattle.gs_layout.specs.declared.known.Known.{Known}
 use Rattle.gs_layout.specs.declared.refusal.Refusal.{Refusal}
 use Rattle.gs_layout.specs.declared.refusal.Refusal.TheVariants as refusals
-use Rattle.gs_layout.specs.View.{Look, look_up, words, catch_up, is_skipped, is_orphan, gap_next}
+use Rattle.gs_layout.specs.View.{Look, words, catch_up, is_skipped, is_orphan, gap_next}
 use Rattle.gs_journal.specs.History.{posted, active, torn}
 use Rattle.gs_journal.proofs.Past.{same_view}
 use Rattle.gs_kernel.specs.First.{first_that}
@@ -18,7 +18,9 @@ use Rattle.gs_core.specs.declared.event.Event.TheVariants.{Create, Thread, Take,
 use Rattle.gs_core.specs.declared.event.Event.TheVariants as events
 use Rattle.gs_core.specs.declared.reply.Reply.{Reply}
 use Rattle.gs_core.specs.declared.reply.Reply.TheVariants as replies
-use Rattle.gs_core.specs.Machine.{State, Agent, records_of, view, unread, is_idle, refusal, Serves, Step, Does, IsShort, Takes, Drains, creates, happens, takes, gives, ticks, stamps, stamps_with, commits, lates, lands_late, transaction_of}
+use Rattle.gs_mind.specs.Mind.{picture_of}
+use Rattle.gs_mind.specs.Picture.{Picture, after_slots, after_stamp, takes_in_all}
+use Rattle.gs_core.specs.Machine.{State, Agent, mind_of, picture, thinking, landings, view, unread, is_idle, refusal, Serves, Step, Does, IsShort, Takes, Drains, creates, happens, takes, gives, ticks, stamps, stamps_with, commits, lates, lands_late, transaction_of}
 use Rattle.gs_core.specs.declared.transaction.Transaction.{Transaction}
 use Rattle.gs_core.specs.Safe.{IsFaithful, Run}
 use Rattle.gs_core.proofs.Faces.{drop_drop}
@@ -28,12 +30,26 @@ use Rattle.gs_script.specs.Script.{Script, script_of}
 use Rattle.gs_trace.proofs.Lists.{one_list}
 use Rattle.gs_trace.specs.Output.{wants_memory, is_memory, IsShown, IsShownOf}
 
+-- agents that have the same picture, or none of both
+record Same (a b : Option Agent) : Type 0 where
+  pictured : picture_of (mind_of a) ≡ picture_of (mind_of b)
+  there : is_some a ≡ is_some b
+
 -- machines that differ at most in how their agents list what they know
 abbrev Alike : State → State → Type 0
-Alike m n = (a : Option Agent) × (n ≡ record m { agent = a }) × (look_up (records_of a) ≡ view m)
+Alike m n = (a : Option Agent) × (n ≡ record m { agent = a }) × Same a m.agent
 
-alike_at : (m n x : State) (a : Option Agent) → m ≡ x → n ≡ record x { agent = a } → look_up (records_of a) ≡ view x → Alike m n
-alike_at m n x a e k same = (a, k ∙ ap (λ (s : State). record s { agent = a }) (sym e), same ∙ ap view (sym e))
+alike_at : (m n x : State) (a : Option Agent) → m ≡ x → n ≡ record x { agent = a } → Same a x.agent → Alike m n
+alike_at m n x a e k same = (a, k ∙ ap (λ (s : State). record s { agent = a }) (sym e), subst (λ (s : State). Same a s.agent) (sym e) same)
+
+-- agents that are the same think the same
+same_thinks : (f : Picture → Picture) (a b : Option Agent) → Same a b → Same (option_map (thinking f) a) (option_map (thinking f) b)
+same_thinks f None None same = record { pictured = refl; there = refl }
+same_thinks f (Some a) None same = absurd (let e : true ≡ false = same.there in cc)
+same_thinks f None (Some b) same = absurd (let e : false ≡ true = same.there in cc)
+same_thinks f (Some a) (Some b) same =
+    let p : picture_of a.mind ≡ picture_of b.mind = same.pictured in
+    record { pictured = λ i. record { view = (p i).view; cpus = (f (p i)).cpus; queue = (f (p i)).queue }; there = refl }
 
 -- one refusal
 stamp_refusal : State → ℕ → ℕ → Look → Option Refusal
@@ -48,7 +64,7 @@ stamp_refusal m c t v =
     ∷ []
     ) None
 
-one_refusal : (m : State) (a : Option Agent) → look_up (records_of a) ≡ view m → (e : Event) → refusal (record m { agent = a }) e ≡ refusal m e
+one_refusal : (m : State) (a : Option Agent) → Same a m.agent → (e : Event) → refusal (record m { agent = a }) e ≡ refusal m e
 unfolding stamp_refusal
 one_refusal m a same (Create f) = refl
 one_refusal m a same (Thread t e) = refl
@@ -56,7 +72,7 @@ one_refusal m a same (Take c) = refl
 one_refusal m a same (Give c) = refl
 one_refusal m a same (Tick c) = refl
 one_refusal m a same (Drain max) = refl
-one_refusal m a same (Stamp c t p) = ap (stamp_refusal m c t) same
+one_refusal m a same (Stamp c t p) = ap (λ (x : Picture). stamp_refusal m c t x.view) same.pictured
 one_refusal m a same (Commit mask) = refl
 one_refusal m a same (Late n) = refl
 one_refusal m a same events.View = refl
@@ -87,19 +103,19 @@ no_stop m m' max d x f enough = by_stop d.stop refl
 drained_same : (d e : Drained) → d.count ≡ e.count → d.skipped ≡ e.skipped → d.orphans ≡ e.orphans → d.stop ≡ e.stop → d ≡ e
 drained_same d e a b c s = λ i. record { count = a i; skipped = b i; orphans = c i; stop = s i }
 
-record OneTaken (d e : Drained) (v w : Look) : Type 0 where
+record OneTaken (d e : Drained) (p q : Picture) : Type 0 where
   told : d ≡ e
-  known : v ≡ w
+  pictured : p ≡ q
 
-one_taken : (v : Look) (ms : List Message) (max : ℕ) (d e : Drained) (w w' : Look) → Takes v ms max d w → Takes v ms max e w' → d.stop ≡ None → e.stop ≡ None → OneTaken d e w w'
-one_taken v ms max d e w w' x y p q =
-    let count : d.count ≡ e.count = x.whole p ∙ sym (y.whole q) in
+one_taken : (p : Picture) (ms : List Message) (max : ℕ) (d e : Drained) (w w' : Picture) → Takes p ms max d w → Takes p ms max e w' → d.stop ≡ None → e.stop ≡ None → OneTaken d e w w'
+one_taken p ms max d e w w' x y none none' =
+    let count : d.count ≡ e.count = x.whole none ∙ sym (y.whole none') in
     record {
       told = drained_same d e count
-          (x.skipped ∙ ap (λ n. count_by is_skipped (words v (take n ms))) count ∙ sym y.skipped)
-          (x.orphans ∙ ap (λ n. count_by is_orphan (words v (take n ms))) count ∙ sym y.orphans)
-          (p ∙ sym q);
-      known = same_view _ _ x.known ∙ ap (λ n. catch_up v (take n ms)) count ∙ sym (same_view _ _ y.known);
+          (x.skipped ∙ ap (λ n. count_by is_skipped (words p.view (take n ms))) count ∙ sym y.skipped)
+          (x.orphans ∙ ap (λ n. count_by is_orphan (words p.view (take n ms))) count ∙ sym y.orphans)
+          (none ∙ sym none');
+      pictured = x.picture ∙ ap (λ n. takes_in_all p (take n ms)) count ∙ sym y.picture;
     }
 
 -- one reply, and machines alike
@@ -107,10 +123,10 @@ record One (r r' : Reply) (m n : State) : Type 0 where
   reply : r ≡ r'
   left : Alike m n
 
-one_drain : (m : State) (a : Option Agent) → look_up (records_of a) ≡ view m → (max : ℕ) (d e : Drained) (m' n' : State)
+one_drain : (m : State) (a : Option Agent) → Same a m.agent → (max : ℕ) (d e : Drained) (m' n' : State)
     → Drains m max d m' → Drains (record m { agent = a }) max e n' → IsFaithful m' → IsFaithful n' → is_memory d.stop ≡ false → is_memory e.stop ≡ false → One (replies.Drained d) (replies.Drained e) m' n'
 one_drain m a same max d e m' n' x y f g p q =
-    let t = one_taken (view m) (unread m) max d e (view m') (view n') x.takes (subst (λ (v : Look). Takes v (unread m) max e (view n')) same y.takes) (no_stop m m' max d x f p) (no_stop (record m { agent = a }) n' max e y g q) in
+    let t = one_taken (picture m) (unread m) max d e (picture m') (picture n') x.takes (subst (λ (z : Picture). Takes z (unread m) max e (picture n')) same.pictured y.takes) (no_stop m m' max d x f p) (no_stop (record m { agent = a }) n' max e y g q) in
     record {
       reply = ap replies.Drained t.told;
       left = (
@@ -118,7 +134,7 @@ one_drain m a same max d e m' n' x y f g p q =
         y.others
             ∙ ap (λ c. record m { consumed = c; agent = n'.agent }) (y.consumed ∙ ap (λ (z : Drained). m.consumed + z.count) (sym t.told) ∙ sym x.consumed)
             ∙ sym (ap (λ (s : State). record s { agent = n'.agent }) x.others),
-        sym t.known,
+        record { pictured = sym t.pictured; there = y.stays ∙ (same.there ∙ sym x.stays) },
       );
     }
 
@@ -128,23 +144,32 @@ stamps_reply m a c t p None k = refl
 stamps_reply m a c t p (Some b) None = refl
 stamps_reply m a c t p (Some b) (Some k) = refl
 
-stamps_left : (m : State) (a : Option Agent) (c t : ℕ) (p : Bool) (o : Option (ℕ × ℕ)) (k : Option Known) → (stamps_with (record m { agent = a }) c t p o k).1 ≡ record ((stamps_with m c t p o k).1) { agent = a }
+-- the agent after a stamp, where one is active and the view knows the thread
+stamped_agent : ℕ → ℕ → Option (ℕ × ℕ) → Option Known → Option Agent → Option Agent
+stamped_agent c t (Some b) (Some k) a = option_map (thinking (after_stamp c t)) a
+stamped_agent c t (Some b) None a = a
+stamped_agent c t None k a = a
+
+stamps_left : (m : State) (a : Option Agent) (c t : ℕ) (p : Bool) (o : Option (ℕ × ℕ)) (k : Option Known)
+    → (stamps_with (record m { agent = a }) c t p o k).1 ≡ record ((stamps_with m c t p o k).1) { agent = stamped_agent c t o k a }
+unfolding stamped_agent
 stamps_left m a c t p None k = refl
 stamps_left m a c t p (Some b) None = refl
 stamps_left m a c t p (Some b) (Some k) = refl
 
-stamps_view : (m : State) (c t : ℕ) (p : Bool) (o : Option (ℕ × ℕ)) (k : Option Known) → view m ≡ view ((stamps_with m c t p o k).1)
-stamps_view m c t p None k = refl
-stamps_view m c t p (Some b) None = refl
-stamps_view m c t p (Some b) (Some k) = refl
+stamps_same : (m : State) (a : Option Agent) (c t : ℕ) (p : Bool) (o : Option (ℕ × ℕ)) (k : Option Known) → Same a m.agent → Same (stamped_agent c t o k a) ((stamps_with m c t p o k).1).agent
+unfolding stamped_agent
+stamps_same m a c t p None k same = same
+stamps_same m a c t p (Some b) None same = same
+stamps_same m a c t p (Some b) (Some k) same = same_thinks (after_stamp c t) a m.agent same
 
-one_stamp : (m : State) (a : Option Agent) → look_up (records_of a) ≡ view m → (c t : ℕ) (p : Bool) (r r' : Reply) (m' n' : State) → Does m (Stamp c t p) r m' → Does (record m { agent = a }) (Stamp c t p) r' n' → One r r' m' n'
+one_stamp : (m : State) (a : Option Agent) → Same a m.agent → (c t : ℕ) (p : Bool) (r r' : Reply) (m' n' : State) → Does m (Stamp c t p) r m' → Does (record m { agent = a }) (Stamp c t p) r' n' → One r r' m' n'
 one_stamp m a same c t p r r' m' n' x y =
     let o = active m.history in
-    let known : stamps (record m { agent = a }) c t p ≡ stamps_with (record m { agent = a }) c t p o (view m t) = ap (λ (v : Look). stamps_with (record m { agent = a }) c t p o (v t)) same in
+    let known : stamps (record m { agent = a }) c t p ≡ stamps_with (record m { agent = a }) c t p o (view m t) = ap (λ (z : Picture). stamps_with (record m { agent = a }) c t p o (z.view t)) same.pictured in
     record {
       reply = x.0 ∙ sym (y.0 ∙ ap (λ z. z.0) known ∙ stamps_reply m a c t p o (view m t));
-      left = alike_at m' n' (stamps m c t p).1 a x.1 (y.1 ∙ ap (λ z. z.1) known ∙ stamps_left m a c t p o (view m t)) (same ∙ stamps_view m c t p o (view m t));
+      left = alike_at m' n' (stamps m c t p).1 (stamped_agent c t o (view m t) a) x.1 (y.1 ∙ ap (λ z. z.1) known ∙ stamps_left m a c t p o (view m t)) (stamps_same m a c t p o (view m t) same);
     }
 
 -- one late landing
@@ -156,23 +181,23 @@ late_left : (m : State) (a : Option Agent) (n : ℕ) (o : Option Transaction) �
 late_left m a n None = refl
 late_left m a n (Some x) = refl
 
-late_view : (m : State) (n : ℕ) (o : Option Transaction) → view m ≡ view ((lands_late m n o).1)
-late_view m n None = refl
-late_view m n (Some x) = refl
+late_same : (m : State) (a : Option Agent) (n : ℕ) (o : Option Transaction) → Same a m.agent → Same a ((lands_late m n o).1).agent
+late_same m a n None same = same
+late_same m a n (Some x) same = same
 
-one_late : (m : State) (a : Option Agent) → look_up (records_of a) ≡ view m → (n : ℕ) (r r' : Reply) (m' n' : State) → Does m (Late n) r m' → Does (record m { agent = a }) (Late n) r' n' → One r r' m' n'
+one_late : (m : State) (a : Option Agent) → Same a m.agent → (n : ℕ) (r r' : Reply) (m' n' : State) → Does m (Late n) r m' → Does (record m { agent = a }) (Late n) r' n' → One r r' m' n'
 one_late m a same n r r' m' n' x y =
     let o : Option Transaction = transaction_of m.transactions n in
     record {
       reply = x.0 ∙ sym (y.0 ∙ late_reply m a n o);
-      left = alike_at m' n' (lates m n).1 a x.1 (y.1 ∙ late_left m a n o) (same ∙ late_view m n o);
+      left = alike_at m' n' (lates m n).1 a x.1 (y.1 ∙ late_left m a n o) (late_same m a n o same);
     }
 
 -- one step
 refused_is : (r : Reply) → wants_memory r ≡ false → r ≡ replies.Refused refusals.OutOfMemory → ⊥
 refused_is r p e = let k = sym p ∙ ap wants_memory e in absurd (cc)
 
-one_done : (m : State) (a : Option Agent) → look_up (records_of a) ≡ view m → (e : Event) (r r' : Reply) (m' n' : State)
+one_done : (m : State) (a : Option Agent) → Same a m.agent → (e : Event) (r r' : Reply) (m' n' : State)
     → Does m e r m' ⊎ (IsShort e r × (m' ≡ m)) → Does (record m { agent = a }) e r' n' ⊎ (IsShort e r' × (n' ≡ record m { agent = a }))
     → IsFaithful m' → IsFaithful n' → wants_memory r ≡ false → wants_memory r' ≡ false → One r r' m' n'
 one_done m a same (Create f) r r' m' n' (inl x) (inl y) g h p q = record { reply = x.0 ∙ sym y.0; left = alike_at m' n' (creates m f).1 a x.1 y.1 same }
@@ -201,11 +226,11 @@ one_done m a same (Stamp c t f) r r' m' n' (inl x) (inr y) g h p q = absurd (ref
 one_done m a same (Late n) r r' m' n' (inl x) (inl y) g h p q = one_late m a same n r r' m' n' x y
 one_done m a same (Late n) r r' m' n' (inr x) y g h p q = absurd (refused_is r p x.0)
 one_done m a same (Late n) r r' m' n' (inl x) (inr y) g h p q = absurd (refused_is r' q y.0)
-one_done m a same (Commit mask) r r' m' n' (inl x) (inl y) g h p q = record { reply = x.0 ∙ sym y.0; left = alike_at m' n' (commits m mask).1 a x.1 y.1 same }
+one_done m a same (Commit mask) r r' m' n' (inl x) (inl y) g h p q = record { reply = x.0 ∙ sym y.0; left = alike_at m' n' (commits m mask).1 (option_map (thinking (after_slots 0 (landings m mask).slots)) a) x.1 y.1 (same_thinks (after_slots 0 (landings m mask).slots) a m.agent same) }
 one_done m a same (Commit mask) r r' m' n' (inr x) y g h p q = absurd (refused_is r p x.0)
 one_done m a same (Commit mask) r r' m' n' (inl x) (inr y) g h p q = absurd (refused_is r' q y.0)
 one_done m a same events.View r r' m' n' (inl x) (inl y) g h p q =
-    let lists : x.0.0 ≡ y.0.0 = one_list x.0.0 y.0.0 x.0.2.rising y.0.2.rising (λ t. x.0.2.all t ∙ (ap (λ (v : Look). v t) (sym same) ∙ sym (y.0.2.all t))) in
+    let lists : x.0.0 ≡ y.0.0 = one_list x.0.0 y.0.0 x.0.2.rising y.0.2.rising (λ t. x.0.2.all t ∙ (ap (λ (z : Picture). z.view t) (sym same.pictured) ∙ sym (y.0.2.all t))) in
     record { reply = x.0.1 ∙ (ap replies.View lists ∙ sym y.0.1); left = alike_at m' n' m a x.1 y.1 same }
 one_done m a same events.View r r' m' n' (inr x) y g h p q = absurd (refused_is r p x.0)
 one_done m a same events.View r r' m' n' (inl x) (inr y) g h p q = absurd (refused_is r' q y.0)
@@ -216,7 +241,7 @@ one_done m a same Unread r r' m' n' (inl x) (inl y) g h p q = record { reply = x
 one_done m a same Unread r r' m' n' (inr x) y g h p q = absurd (refused_is r p x.0)
 one_done m a same Unread r r' m' n' (inl x) (inr y) g h p q = absurd (refused_is r' q y.0)
 
-one_served : (o : Option Refusal) (m : State) (a : Option Agent) → look_up (records_of a) ≡ view m → (e : Event) (r r' : Reply) (m' n' : State)
+one_served : (o : Option Refusal) (m : State) (a : Option Agent) → Same a m.agent → (e : Event) (r r' : Reply) (m' n' : State)
     → Serves o m e r m' → Serves o (record m { agent = a }) e r' n' → IsFaithful m' → IsFaithful n' → wants_memory r ≡ false → wants_memory r' ≡ false → One r r' m' n'
 one_served (Some f) m a same e r r' m' n' x y g h p q = record { reply = x.0 ∙ sym y.0; left = alike_at m' n' m a x.1 y.1 same }
 one_served None m a same e r r' m' n' x y g h p q = one_done m a same e r r' m' n' x y g h p q
@@ -249,7 +274,7 @@ one_run (e ∷ es) m n alike (r ∷ rs) (r' ∷ rs') l l' x y p q =
 one_of : (show : List Reply → List ℕ) (s : Result Script ScriptFault) (ended ended' : Ended) (out out' : List ℕ) → IsShownOf show s ended out → IsShownOf show s ended' out' → (ended ≡ ended') × (out ≡ out')
 one_of show (Ok s) ended ended' out out' x y = (
   x.0 ∙ sym y.0,
-  x.1.shown ∙ ap show (one_run s.events _ _ (_, refl, refl) x.1.replies y.1.replies x.1.left y.1.left x.1.run y.1.run x.1.sufficed y.1.sufficed) ∙ sym y.1.shown,
+  x.1.shown ∙ ap show (one_run s.events _ _ (_, refl, record { pictured = refl; there = refl }) x.1.replies y.1.replies x.1.left y.1.left x.1.run y.1.run x.1.sufficed y.1.sufficed) ∙ sym y.1.shown,
 )
 one_of show (Err f) ended ended' out out' x y = (x.0 ∙ sym y.0, x.1 ∙ sym y.1)
 

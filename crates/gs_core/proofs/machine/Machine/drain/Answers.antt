@@ -2,8 +2,8 @@ use Rattle.std.proofs.Common.{◌≡◌, ℕ, ◌+◌, None, refl, ap, sym, subs
 use Rattle.std.proofs.lemmas.Grind.{common_steps}
 use Rattle.std.proofs.Common.{List, drop, arith}
 use Rattle.gs_layout.specs.declared.message.Message.{Message}
-use Rattle.gs_layout.specs.View.{look_up}
-use Rattle.gs_layout.specs.declared.known.Known.{Known}
+use Rattle.gs_mind.specs.Mind.{MindState, picture_of}
+use Rattle.gs_agent.specs.Role.{RoleOf}
 use Rattle.gs_journal.specs.History.{History, posted, active}
 use Rattle.gs_kernel.specs.Kernel.{KernelOf, SameKernel}
 use Rattle.gs_ring.specs.RingState.{RingState}
@@ -24,32 +24,32 @@ abbrev Kernel : Type 0
 Kernel = KernelOf RingState
 
 -- what passed from the kernel's ring, and the kernel beside it
-record HasPassed (old new : Kernel) (v v' : List (ℕ × Known)) (d : Drained) : Type 0 where
+record HasPassed (old new : Kernel) (v v' : MindState) (d : Drained) : Type 0 where
   pub ms : List Message
   pub beside : SameKernel old new
   pub passed : Passed old.poster ms new.poster
-  pub took : Took (look_up v) ms d (look_up v')
+  pub took : Took (picture_of v) ms d (picture_of v')
 
-from_old : (old head new : Kernel) (v v' : List (ℕ × Known)) (d : Drained) → head ≡ old → HasPassed head new v v' d → HasPassed old new v v' d
+from_old : (old head new : Kernel) (v v' : MindState) (d : Drained) → head ≡ old → HasPassed head new v v' d → HasPassed old new v v' d
 from_old old head new v v' d e x = subst (λ (k : Kernel). HasPassed k new v v' d) e x
 
-drained : (c : goal.After-drain) → HasPassed c.self.inside.kernel c.drain.new.taker.kernel.now c.self.inside.role.records c.drain.new.self.records c.drain.result
+drained : (c : goal.After-drain) → HasPassed c.self.inside.kernel c.drain.new.taker.kernel.now c.self.inside.role.mind c.drain.new.self.mind c.drain.result
 drained c =
     let d = c.drain.ensures in
     from_old _ c.taker-head.result.kernel.now _ _ _ _ c.taker-head.ensures.1
     (record { ms = d.took.0; beside = d.took.1.1; passed = d.took.1.2; took = d.took.2 })
 
-drains : (c : goal.After-drain) → Drains (machine_view c.self.inside) c.args.max c.drain.result (with_drained (machine_view c.self.inside) c.drain.new.taker.kernel.now.settings c.drain.new.taker.kernel.now.poster c.drain.new.taker.kernel.now.history c.drain.new.self.records)
+drains : (c : goal.After-drain) → Drains (machine_view c.self.inside) c.args.max c.drain.result (with_drained (machine_view c.self.inside) c.drain.new.taker.kernel.now.settings c.drain.new.taker.kernel.now.poster c.drain.new.taker.kernel.now.history c.drain.new.self.mind)
 drains c =
     let m : State = machine_view c.self.inside in
     let x = drained c in
     let e = c.drain.ensures in
     let new : Kernel = c.drain.new.taker.kernel.now in
     let old : Kernel = c.self.inside.kernel in
-    let takes = takes_from old.poster new.poster x.ms c.args.max c.drain.result (look_up c.self.inside.role.records) (look_up c.drain.new.self.records) x.passed x.took e.most e.whole e.early e.gap e.memory in
+    let takes = takes_from old.poster new.poster x.ms c.args.max c.drain.result (picture_of c.self.inside.role.mind) (picture_of c.drain.new.self.mind) x.passed x.took e.most e.whole e.early e.gap e.memory in
     let unread : drop m.consumed (posted m.history) ≡ old.poster.unread = Posted-unread old.poster (posted m.history) c.self.invariant.told in
-    drains_as m c.args.max new.settings new.poster new.history c.drain.result c.drain.new.self.records refl refl x.beside.settings x.passed.capacity (x.passed.taken ∙ ap (λ n. m.consumed + n) (sym x.took.count)) x.beside.history
-    (subst (λ (ms : List Message). Takes (look_up c.self.inside.role.records) ms c.args.max c.drain.result (look_up c.drain.new.self.records)) (sym unread) takes)
+    drains_as m c.args.max new.settings new.poster new.history c.drain.result c.drain.new.self.mind refl refl x.beside.settings x.passed.capacity (x.passed.taken ∙ ap (λ n. m.consumed + n) (sym x.took.count)) x.beside.history
+    (subst (λ (ms : List Message). Takes (picture_of c.self.inside.role.mind) ms c.args.max c.drain.result (picture_of c.drain.new.self.mind)) (sym unread) takes)
 
 pub invariant_of-self : goal.invariant_of-self
 invariant_of-self c =
@@ -59,7 +59,7 @@ invariant_of-self c =
     record {
       good = drain_kept m c.args.max c.drain.result _ c.self.invariant.good (drains c);
       told = subst (λ (h : History). Posted new.poster (posted h)) (sym x.beside.history) (Posted-keeps c.self.inside.kernel.poster new.poster (posted m.history) x.ms c.self.invariant.told x.passed);
-      generation = λ a p. c.self.invariant.generation a (ap active (sym x.beside.history) ∙ p) ∙ sym c.drain.ensures.generation;
+      generation = λ a p. c.self.invariant.generation a (ap active (sym x.beside.history) ∙ p) ∙ sym (ap (λ (x : RoleOf (Unit {0})). x.generation) c.drain.ensures.others);
     }
 
 pub returns : goal.returns
@@ -67,6 +67,6 @@ returns c =
     let m : State = machine_view c.self.inside in
     let none : refusal m (events.Drain c.args.max) ≡ None = grind (arith, common_steps) in
     let new : Kernel = c.drain.new.taker.kernel.now in
-    let m' : State = with_drained m new.settings new.poster new.history c.drain.new.self.records in
+    let m' : State = with_drained m new.settings new.poster new.history c.drain.new.self.mind in
     subst (λ (x : State). Step x (events.Drain c.args.max) (replies.Drained c.drain.result) m') c.self.view_is
     (done (refusal m (events.Drain c.args.max)) m (events.Drain c.args.max) (replies.Drained c.drain.result) m' none (c.drain.result, refl, drains c))

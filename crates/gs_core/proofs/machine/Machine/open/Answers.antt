@@ -1,4 +1,4 @@
-use Rattle.std.proofs.Common.{◌≡◌, List, ◌∷◌, [], replicate, ap, subst, sym, ◌∙◌}
+use Rattle.std.proofs.Common.{◌≡◌, List, ◌∷◌, [], Some, replicate, ap, subst, sym, ◌∙◌}
 use Rattle.gs_layout.specs.declared.message.Message.{Message}
 use Rattle.gs_journal.specs.declared.entry.Entry.TheVariants.{Role}
 use Rattle.gs_journal.specs.History.{posted, active}
@@ -9,7 +9,8 @@ use Rattle.gs_kernel.specs.declared.settings.Settings.{Settings}
 use Rattle.gs_core.specs.Config.{settings_of}
 use Rattle.gs_core.specs.Good.{Good}
 use Rattle.gs_slots.specs.declared.state.SlotState.TheVariants.{Idle}
-use Rattle.gs_agent.specs.Role.{RoleState}
+use Rattle.gs_agent.specs.Role.{RoleOf}
+use Rattle.gs_mind.specs.Mind.{MindState, nothing}
 use Rattle.gs_core.proofs.Roles.{first_agent}
 use Rattle.gs_core.proofs.Serving.{starts}
 use Rattle.gs_core.proofs.Whole.{start_good}
@@ -25,11 +26,12 @@ invariant_of-result c =
     let ring : k.poster ≡ empty f.ring = e.poster ∙ c.in-Ok-new.ensures.made in
     let history : k.history ≡ Role f.first_generation 0 ∷ [] = e.history ∙ ap (λ (x : Settings). Role x.first_generation 0 ∷ []) is in
     let slots : c.in-Ok.region ≡ replicate f.cpus Idle = c.in-Ok.ensures ∙ ap (λ (x : Settings). replicate x.cpus Idle) is in
+    let mind : c.in-Ok-new-3.role.mind ≡ nothing f.cpus (Some 0) = ap (λ (x : RoleOf (Unit {0})). x.mind) c.in-Ok-new-3.ensures ∙ ap (λ (x : Settings). nothing x.cpus (Some 0)) is in
     record {
-      good = subst Good (sym (starts f k.settings k.poster k.history c.in-Ok.region c.new-4.result.records c.new-5.result.items settings ring history slots (ap (λ (x : RoleState). x.records) c.new-4.ensures) c.new-5.ensures.items)) (start_good f);
+      good = subst Good (sym (starts f k.settings k.poster k.history c.in-Ok.region c.in-Ok-new-3.role.mind c.new-5.result.items settings ring history slots mind c.new-5.ensures.items)) (start_good f);
       told = subst (λ (r : RingState). Posted r (posted k.history)) (sym ring)
           (subst (λ (ms : List Message). Posted (empty f.ring) ms) (sym (ap posted history ∙ posted_new f.first_generation 0)) (Posted-empty f.ring));
-      generation = λ a p. first_agent f.first_generation 0 a (ap active (sym history) ∙ p) ∙ sym (ap (λ (x : RoleState). x.generation) c.new-4.ensures ∙ ap (λ (x : Settings). x.first_generation) is);
+      generation = λ a p. first_agent f.first_generation 0 a (ap active (sym history) ∙ p) ∙ sym (ap (λ (x : RoleOf (Unit {0})). x.generation) c.in-Ok-new-3.ensures ∙ ap (λ (x : Settings). x.first_generation) is);
     }
 
 pub returns : goal.returns
@@ -42,4 +44,5 @@ returns c =
     let ring : k.poster ≡ empty f.ring = e.poster ∙ c.in-Ok-new.ensures.made in
     let history : k.history ≡ Role f.first_generation 0 ∷ [] = e.history ∙ ap (λ (x : Settings). Role x.first_generation 0 ∷ []) is in
     let slots : c.in-Ok.region ≡ replicate f.cpus Idle = c.in-Ok.ensures ∙ ap (λ (x : Settings). replicate x.cpus Idle) is in
-    starts f k.settings k.poster k.history c.in-Ok.region c.new-4.result.records c.new-5.result.items settings ring history slots (ap (λ (x : RoleState). x.records) c.new-4.ensures) c.new-5.ensures.items
+    let mind : c.in-Ok-new-3.role.mind ≡ nothing f.cpus (Some 0) = ap (λ (x : RoleOf (Unit {0})). x.mind) c.in-Ok-new-3.ensures ∙ ap (λ (x : Settings). nothing x.cpus (Some 0)) is in
+    starts f k.settings k.poster k.history c.in-Ok.region c.in-Ok-new-3.role.mind c.new-5.result.items settings ring history slots mind c.new-5.ensures.items

@@ -1,4 +1,4 @@
-use Rattle.std.proofs.Common.{◌≡◌, ◌<◌, ◌∷◌, ◌++◌, [], true, slice_get, slice_set, Some, ap, sym, ◌∙◌}
+use Rattle.std.proofs.Common.{◌≡◌, ◌<◌, ◌∷◌, ◌++◌, [], true, slice_get, slice_set, Option, Some, None, ap, sym, ◌∙◌}
 use Rattle.std.specs.Option.{is_some}
 use Rattle.std.proofs.lemmas.Grind.{common_steps}
 use Rattle.std.proofs.Common.{arith}
@@ -6,11 +6,18 @@ use Rattle.gs_layout.specs.declared.known.Known.{Known}
 use Rattle.gs_slots.specs.declared.state.SlotState.TheVariants.{Idle, Stamped}
 use Rattle.gs_slots.specs.SlotMut.{state_of}
 use Rattle.gs_journal.specs.History.{active}
-use Rattle.gs_core.specs.Machine.{State, view, stamp_of}
+use Rattle.gs_agent.specs.Role.{RoleOf}
+use Rattle.gs_mind.specs.Mind.{picture_of, thinks}
+use Rattle.gs_mind.specs.Picture.{after_stamp}
+use Rattle.gs_core.specs.Machine.{Agent, State, view, stamp_of}
 use Rattle.gs_core.specs.Held.{machine_view}
 use Rattle.gs_kernel.proofs.Abouts.{some_there}
-use Rattle.gs_core.proofs.Serving.{stamp_kept, stamped_is}
+use Rattle.gs_core.proofs.Serving.{stamp_kept, stamped_is, where_stamped}
 use Rattle.gs_core.proofs.machine.Machine.try_stamp.Goals as goal
+
+-- the agent that a role is
+abbrev agent_in : RoleOf (Unit {0}) → Option Agent
+agent_in role = Some (record { mind = role.mind; next = None })
 
 pub invariant_of-self-2 : goal.invariant_of-self-2
 invariant_of-self-2 c =
@@ -31,8 +38,11 @@ invariant_of-self-2 c =
     let kept : c.push.new.self.items ≡ m.transactions ++ record { cpu = c.args.cpu; slot = record { generation = role.generation; tid = t; tseq = k.tseq; preempt = c.args.preempt }; facts = k.facts } ∷ [] = grind (arith, common_steps) in
     let pushed : c.push.new.self.items ≡ m.transactions ++ record { cpu = c.args.cpu; slot = stamp_of t c.args.preempt a.0 k; facts = k.facts } ∷ [] =
     kept ∙ ap (λ g. m.transactions ++ record { cpu = c.args.cpu; slot = record { generation = g; tid = t; tseq = k.tseq; preempt = c.args.preempt }; facts = k.facts } ∷ []) (sym (i.generation a.0 a.1)) in
+    let same_cpu : RoleOf (Unit {0}) = record role { mind = thinks role.mind (after_stamp c.args.cpu t (picture_of role.mind)) } in
+    let kept_role : c.stamp.new.self ≡ same_cpu =
+    where_stamped _ c.stamp.result (view m t) k (state_of c.slot.result) known free c.stamp.ensures.refused c.stamp.ensures.role ∙ ap (λ n. record role { mind = thinks role.mind (after_stamp n t (picture_of role.mind)) }) c.slot.ensures.cpu in
     record {
-      good = stamp_kept m c.args.cpu t c.args.preempt a.0 k _ _ i.good known below (ap (slice_set m.slots c.args.cpu) stamped) pushed;
+      good = stamp_kept m c.args.cpu t c.args.preempt a.0 k _ _ _ i.good known below (ap agent_in kept_role) (ap (slice_set m.slots c.args.cpu) stamped) pushed;
       told = i.told;
-      generation = i.generation;
+      generation = λ b p. i.generation b p ∙ sym (ap (λ (x : RoleOf (Unit {0})). x.generation) kept_role);
     }
