@@ -1,15 +1,15 @@
 -- Whom a change of what is believed leaves believed and named.
-use Rattle.std.proofs.Common.{◌≡◌, refl, ap, sym, ◌∙◌, ℕ, zero, suc, ◌<◌, ◌==◌, ◌||◌, Bool, true, false, cond, Option, None, Some, List, [], ◌∷◌, map, arith, slice_set}
+use Rattle.std.proofs.Common.{◌≡◌, refl, ap, sym, ◌∙◌, ℕ, zero, suc, ◌==◌, ◌||◌, Bool, true, false, cond, Option, None, Some, List, [], ◌∷◌, map, arith, slice_set}
 use Rattle.std.specs.Prelude.{nat_lt, length, slice_index_or}
 use Rattle.std.specs.List.{list_any}
 use Rattle.std.proofs.lemmas.Bool.Decides.{nat_tests}
-use Rattle.gs_layout.specs.declared.message.Change.{Change}
 use Rattle.gs_layout.specs.declared.message.Message.{Message}
 use Rattle.gs_layout.specs.declared.message.Message.TheVariants.{Thread, TimerTick}
 use Rattle.gs_layout.specs.declared.outcome.Outcome.{Outcome}
 use Rattle.gs_layout.specs.Message.{is_about, takes_off_cpu}
 use Rattle.gs_beliefs.specs.declared.running.Running.{Running}
-use Rattle.gs_beliefs.specs.Cpus.{Cpus, believed_on, cleared_at, clears, is_believed, is_just, is_named, places, raised_at, raises, running, runs, stamp_on, stamps, ticked, ticks, unstamps}
+use Rattle.gs_beliefs.specs.Cpus.{Cpus, believed_on, cleared_at, clears, is_believed, is_just, is_named, places, raised_at, raises, running, runs, stamp_on, ticked, ticks}
+use Rattle.gs_beliefs.proofs.Laws.{believed_on_clears}
 use Rattle.gs_beliefs.specs.Belief.{after_outcome, hears, shows_place}
 
 -- a test that holds of as many elements as before
@@ -29,11 +29,8 @@ runs_cleared : (t u : ℕ) → (t == u) ≡ false → (o : Option Running) → r
 runs_cleared t u n None = refl
 runs_cleared t u n (Some r) = by_test (r.tid == t) refl
   where
-    apart : (t == u) ≡ false
-    apart = n
-
     by_test : (b : Bool) → (r.tid == t) ≡ b → runs u (cond b None (Some r)) ≡ (r.tid == u)
-    by_test true e = sym (differ r.tid t u e apart)
+    by_test true e = sym (differ r.tid t u e n)
     by_test false e = refl
 
 runs_raised : (t n u : ℕ) (o : Option Running) → runs u (raised_at t n o) ≡ runs u o
@@ -62,11 +59,8 @@ pub believed_hears : (m : Message) (u : ℕ) (s : Cpus) → is_about u m ≡ fal
 believed_hears (TimerTick c) u s n = believed_ticks c u s
 believed_hears (Thread t k change) u s n = by_test (takes_off_cpu change)
   where
-    apart : (t == u) ≡ false
-    apart = n
-
     by_test : (b : Bool) → is_believed (cond b (clears t s) (raises t k s)) u ≡ is_believed s u
-    by_test true = believed_clears t u s apart
+    by_test true = believed_clears t u s n
     by_test false = believed_raises t k u s
 
 pub named_hears : (m : Message) (u : ℕ) (s : Cpus) → is_named (hears m s) u ≡ is_named s u
@@ -77,26 +71,15 @@ named_hears (Thread t k change) u s = by_test (takes_off_cpu change)
     by_test true = refl
     by_test false = refl
 
-index_map : {A : Type 0} (f : A → A) (d : A) → f d ≡ d → (xs : List A) (c : ℕ) → slice_index_or (map f xs) c d ≡ f (slice_index_or xs c d)
-index_map f d e [] c = sym e
-index_map f d e (x ∷ xs) zero = refl
-index_map f d e (x ∷ xs) (suc c) = index_map f d e xs c
-
 -- a placing changes the beliefs of two threads alone: its own, and the one that it finds there
 believed_places : (c t n u : ℕ) (s : Cpus) → (t == u) ≡ false → runs u (believed_on s c) ≡ false → is_believed (places c t n s) u ≡ is_believed s u
 believed_places c t n u s apart other = by_test (nat_lt c (length s.believed))
   where
-    not_own : (t == u) ≡ false
-    not_own = apart
-
-    not_there : runs u (believed_on s c) ≡ false
-    not_there = other
-
     cleared : runs u (slice_index_or (map (cleared_at t) s.believed) c None) ≡ false
-    cleared = ap (runs u) (index_map (cleared_at t) None refl s.believed c) ∙ (runs_cleared t u not_own (believed_on s c) ∙ not_there)
+    cleared = ap (runs u) (believed_on_clears t s c) ∙ (runs_cleared t u apart (believed_on s c) ∙ other)
 
     by_test : (b : Bool) → is_believed (cond b (record s { believed = slice_set (map (cleared_at t) s.believed) c (Some (running t n)) }) s) u ≡ is_believed s u
-    by_test true = any_set (runs u) None (Some (running t n)) (map (cleared_at t) s.believed) c (not_own ∙ sym cleared) ∙ believed_clears t u s not_own
+    by_test true = any_set (runs u) None (Some (running t n)) (map (cleared_at t) s.believed) c (apart ∙ sym cleared) ∙ believed_clears t u s apart
     by_test false = refl
 
 abbrev pub runs_at : Cpus → Option ℕ → ℕ → Bool
@@ -107,14 +90,8 @@ pub believed_outcome : (o : Outcome) (at : Option ℕ) (t n u : ℕ) (s : Cpus) 
 believed_outcome o None t n u s apart other = refl
 believed_outcome o (Some c) t n u s apart other = by_test (shows_place o)
   where
-    not_own : (t == u) ≡ false
-    not_own = apart
-
-    not_there : runs u (believed_on s c) ≡ false
-    not_there = other
-
     by_test : (b : Bool) → is_believed (cond b (places c t n s) s) u ≡ is_believed s u
-    by_test true = believed_places c t n u s not_own not_there
+    by_test true = believed_places c t n u s apart other
     by_test false = refl
 
 pub stamped_outcome : (o : Outcome) (at : Option ℕ) (t n : ℕ) (s : Cpus) → (after_outcome o at t n s).stamped ≡ s.stamped

@@ -1,19 +1,20 @@
 -- The queue follows who waits.
-use Rattle.std.proofs.Common.{◌≡◌, refl, ap, sym, ◌∙◌, subst, ℕ, ◌==◌, ◌≤◌, ◌&&◌, ◌||◌, not, Bool, true, false, cond, Option, None, Some, List, [], ◌∷◌, ◌++◌, arith, slice_set}
+use Rattle.std.proofs.Common.{◌≡◌, refl, ap, sym, ◌∙◌, ℕ, ◌==◌, ◌&&◌, ◌||◌, not, Bool, true, false, cond, Option, None, Some, List, [], ◌∷◌, ◌++◌, arith, slice_set}
 use Rattle.std.specs.List.{list_any}
 use Rattle.std.specs.Option.{option_to_list}
+use Rattle.std.proofs.Math.Bool.{and-false, and-true, or-false, or-true}
+use Rattle.std.proofs.lemmas.Bool.{and_parts, eqb-true, or_from, or_parts}
 use Rattle.std.proofs.lemmas.Bool.Decides.{nat_tests}
 use Rattle.gs_layout.specs.declared.known.Known.{Known}
 use Rattle.gs_layout.specs.declared.message.Message.{Message}
 use Rattle.gs_layout.specs.declared.message.Message.TheVariants.{Thread, TimerTick}
 use Rattle.gs_layout.specs.declared.outcome.Outcome.{Outcome}
-use Rattle.gs_layout.specs.Message.{is_about}
 use Rattle.gs_layout.specs.View.{Look, apply, next_known}
 use Rattle.gs_beliefs.specs.declared.running.Running.{Running}
 use Rattle.gs_beliefs.specs.Cpus.{Cpus, believed_on, is_believed, is_just, is_named, runs, stamp_on, stamps, unstamps}
 use Rattle.gs_beliefs.specs.Belief.{after_outcome, hears}
-use Rattle.gs_runq.specs.Queue.{Queue, is_in, order, put, removed}
-use Rattle.gs_runq.proofs.Queues.{in_append, in_put, in_removed}
+use Rattle.gs_runq.specs.Queue.{Queue, is_in, order, removed}
+use Rattle.gs_runq.proofs.Queues.{in_put, in_removed, not_left, not_right}
 use Rattle.gs_mind.specs.Picture.{HoldsWaiting, displaced, ends_turn, goes_last, is_runnable, requeued, running_tid, settled, settled_all, waits}
 use Rattle.gs_mind.proofs.Believing.{believed_hears, believed_outcome, named_hears, named_set, runs_at, stamped_outcome}
 
@@ -26,59 +27,34 @@ runnable_known None e = absurd cc
 runnable_known (Some k) e = (k, refl)
 
 waits_known : (v : Look) (s : Cpus) (t : ℕ) → waits v s t ≡ true → (k : Known) × (v t ≡ Some k)
-waits_known v s t e = runnable_known (v t) (first (is_runnable (v t)) _ e)
-  where
-    first : (a b : Bool) → (a && b) ≡ true → a ≡ true
-    first true b h = refl
-    first false b h = h
-
-same_number : (x t : ℕ) → (x == t) ≡ true → x ≡ t
-same_number x t e = grind (arith, nat_tests)
-
-or_true : (a : Bool) → (a || true) ≡ true
-or_true true = refl
-or_true false = refl
-
-or_no : (a : Bool) → (a || false) ≡ a
-or_no true = refl
-or_no false = refl
-
-and_no : (a : Bool) → (a && false) ≡ false
-and_no true = refl
-and_no false = refl
-
-and_yes : (a : Bool) → (a && true) ≡ a
-and_yes true = refl
-and_yes false = refl
+waits_known v s t e = runnable_known (v t) (and_parts (is_runnable (v t)) _ e).0
 
 -- who is in the queue once a thread is settled: it where it waits, and the others as before
 in_settled : (v : Look) (s : Cpus) (t u : ℕ) (q : Queue) → is_in u (order (settled v s t q)) ≡ cond (u == t) (waits v s t) (is_in u (order q))
 in_settled v s t u q = by_waits (waits v s t) refl (is_in t (order q)) refl (u == t) refl
   where
     by_waits : (w : Bool) → waits v s t ≡ w → (i : Bool) → is_in t (order q) ≡ i → (b : Bool) → (u == t) ≡ b → is_in u (order (cond w (cond i q (goes_last (v t) t q)) (removed t q))) ≡ cond b w (is_in u (order q))
-    by_waits true w true i true e = ap (λ (x : ℕ). is_in x (order q)) (same_number u t e) ∙ i
+    by_waits true w true i true e = ap (λ (x : ℕ). is_in x (order q)) (eqb-true u t e) ∙ i
     by_waits true w true i false e = refl
     by_waits true w false i b e = put_in b e (waits_known v s t w)
       where
         put_in : (b : Bool) → (u == t) ≡ b → (k : Known) × (v t ≡ Some k) → is_in u (order (goes_last (v t) t q)) ≡ cond b true (is_in u (order q))
-        put_in true e k = ap (λ (o : Option Known). is_in u (order (goes_last o t q))) k.1 ∙ (in_put u t k.0.facts.class q ∙ (ap (λ (z : Bool). is_in u (order q) || z) e ∙ or_true (is_in u (order q))))
-        put_in false e k = ap (λ (o : Option Known). is_in u (order (goes_last o t q))) k.1 ∙ (in_put u t k.0.facts.class q ∙ (ap (λ (z : Bool). is_in u (order q) || z) e ∙ or_no (is_in u (order q))))
-    by_waits false w i ii true e = in_removed u t q ∙ (ap (λ (z : Bool). is_in u (order q) && not z) e ∙ and_no (is_in u (order q)))
-    by_waits false w i ii false e = in_removed u t q ∙ (ap (λ (z : Bool). is_in u (order q) && not z) e ∙ and_yes (is_in u (order q)))
+        put_in true e k = ap (λ (o : Option Known). is_in u (order (goes_last o t q))) k.1 ∙ (in_put u t k.0.facts.class q ∙ (ap (λ (z : Bool). is_in u (order q) || z) e ∙ or-true (is_in u (order q))))
+        put_in false e k = ap (λ (o : Option Known). is_in u (order (goes_last o t q))) k.1 ∙ (in_put u t k.0.facts.class q ∙ (ap (λ (z : Bool). is_in u (order q) || z) e ∙ or-false (is_in u (order q))))
+    by_waits false w i ii true e = in_removed u t q ∙ (ap (λ (z : Bool). is_in u (order q) && not z) e ∙ and-false (is_in u (order q)))
+    by_waits false w i ii false e = in_removed u t q ∙ (ap (λ (z : Bool). is_in u (order q) && not z) e ∙ and-true (is_in u (order q)))
 
-not_first : (t u : ℕ) (a : Bool) → (u == t) ≡ false → a ≡ false → ((t == u) || a) ≡ false
-not_first t u a e h = grind (arith, nat_tests)
+-- two numbers differ either way round
+turned : (x t : ℕ) → (x == t) ≡ false → (t == x) ≡ false
+turned x t e = grind (arith, nat_tests)
 
 -- one thread less is unsettled
 holds_more : (v : Look) (s : Cpus) (t : ℕ) (ts : List ℕ) (q : Queue) → HoldsBut v s (t ∷ ts) q → HoldsBut v s ts (settled v s t q)
 holds_more v s t ts q h = λ u out. in_settled v s t u q ∙ by_test u out (u == t) refl
   where
-    held : HoldsBut v s (t ∷ ts) q
-    held = h
-
     by_test : (u : ℕ) → is_in u ts ≡ false → (b : Bool) → (u == t) ≡ b → cond b (waits v s t) (is_in u (order q)) ≡ waits v s u
-    by_test u out true e = ap (waits v s) (sym (same_number u t e))
-    by_test u out false e = held u (not_first t u (is_in u ts) e out)
+    by_test u out true e = ap (waits v s) (sym (eqb-true u t e))
+    by_test u out false e = h u (or_from (t == u) (is_in u ts) (turned u t e) out)
 
 pub holds_all : (v : Look) (s : Cpus) (ts : List ℕ) (q : Queue) → HoldsBut v s ts q → HoldsWaiting v s (settled_all v s ts q)
 holds_all v s [] q h = λ u. h u refl
@@ -92,14 +68,12 @@ others_hold v v' s s' ts q q' h same alike = λ u out. same u out ∙ (h u ∙ s
 waits_alike : (v v' : Look) (s s' : Cpus) (u : ℕ) → v' u ≡ v u → is_believed s' u ≡ is_believed s u → is_named s' u ≡ is_named s u → waits v' s' u ≡ waits v s u
 waits_alike v v' s s' u a b c = rw a (rw b (rw c refl))
 
-not_about : (u t : ℕ) → ((t == u) || false) ≡ false → (t == u) ≡ false
-not_about u t e = sym (or_no (t == u)) ∙ e
-
-turn_round : (x t : ℕ) → (x == t) ≡ false → (t == x) ≡ false
-turn_round x t e = grind (arith, nat_tests)
+-- who is none of one thread is another
+another : (u t : ℕ) → is_in u (t ∷ []) ≡ false → (t == u) ≡ false
+another u t e = (or_parts (t == u) false e).0
 
 kept_in : (u t : ℕ) (q : Queue) → (t == u) ≡ false → is_in u (order (removed t q)) ≡ is_in u (order q)
-kept_in u t q n = in_removed u t q ∙ (ap (λ (z : Bool). is_in u (order q) && not z) (turn_round t u n) ∙ and_yes (is_in u (order q)))
+kept_in u t q n = in_removed u t q ∙ (ap (λ (z : Bool). is_in u (order q) && not z) (turned t u n) ∙ and-true (is_in u (order q)))
 
 -- a message that applied
 pub holds_news : (v : Look) (s : Cpus) (q : Queue) (m : Message) → HoldsWaiting v s q → HoldsWaiting (apply v m) (hears m s) (requeued (apply v m) (hears m s) m q)
@@ -113,39 +87,30 @@ holds_news v s q (Thread t n change) h = holds_all v' s' (t ∷ []) (cond (ends_
     s' = hears (Thread t n change) s
 
     same : (b : Bool) (u : ℕ) → is_in u (t ∷ []) ≡ false → is_in u (order (cond b (removed t q) q)) ≡ is_in u (order q)
-    same true u out = kept_in u t q (not_about u t out)
+    same true u out = kept_in u t q (another u t out)
     same false u out = refl
 
     other_view : (u : ℕ) → (t == u) ≡ false → v' u ≡ v u
     other_view u e = ap (λ (b : Bool). cond b (next_known (v u) (Thread t n change)) (v u)) e
 
     alike : (u : ℕ) → is_in u (t ∷ []) ≡ false → waits v' s' u ≡ waits v s u
-    alike u out = waits_alike v v' s s' u (other_view u (not_about u t out)) (believed_hears (Thread t n change) u s (not_about u t out)) (named_hears (Thread t n change) u s)
+    alike u out = waits_alike v v' s s' u (other_view u (another u t out)) (believed_hears (Thread t n change) u s (another u t out)) (named_hears (Thread t n change) u s)
 
 -- other beliefs: those for whom they change who waits are settled
 holds_with : (v : Look) (s s' : Cpus) (ts : List ℕ) (q : Queue) → HoldsWaiting v s q → ((u : ℕ) → is_in u ts ≡ false → waits v s' u ≡ waits v s u) → HoldsWaiting v s' (settled_all v s' ts q)
 holds_with v s s' ts q h alike = holds_all v s' ts q (others_hold v v s s' ts q q h (λ u out. refl) alike)
 
-out_first : (a b : Bool) → (a || b) ≡ false → a ≡ false
-out_first true b e = e
-out_first false b e = refl
-
-out_rest : (a b : Bool) → (a || b) ≡ false → b ≡ false
-out_rest true b e = absurd cc
-out_rest false b e = e
-
 out_option : (u : ℕ) (o : Option ℕ) → is_in u (option_to_list o) ≡ false → is_just u o ≡ false
 out_option u None e = refl
-out_option u (Some t) e = not_about u t e
+out_option u (Some t) e = another u t e
 
 pub holds_stamp : (v : Look) (s : Cpus) (q : Queue) (c t : ℕ) → HoldsWaiting v s q → HoldsWaiting v (stamps c t s) (settled_all v (stamps c t s) (t ∷ option_to_list (stamp_on s c)) q)
 holds_stamp v s q c t h = holds_with v s (stamps c t s) (t ∷ option_to_list (stamp_on s c)) q h alike
   where
     alike : (u : ℕ) → is_in u (t ∷ option_to_list (stamp_on s c)) ≡ false → waits v (stamps c t s) u ≡ waits v s u
     alike u out =
-        let own : (t == u) ≡ false = out_first (t == u) (is_in u (option_to_list (stamp_on s c))) out in
-        let named : is_just u (stamp_on s c) ≡ false = out_option u (stamp_on s c) (out_rest (t == u) (is_in u (option_to_list (stamp_on s c))) out) in
-        waits_alike v v s (stamps c t s) u refl refl (named_set (Some t) c u s own named)
+        let both = or_parts (t == u) (is_in u (option_to_list (stamp_on s c))) out in
+        waits_alike v v s (stamps c t s) u refl refl (named_set (Some t) c u s both.0 (out_option u (stamp_on s c) both.1))
 
 displaced_out : (s : Cpus) (at : Option ℕ) (u : ℕ) → is_in u (option_to_list (displaced s at)) ≡ false → runs_at s at u ≡ false
 displaced_out s None u e = refl
@@ -153,7 +118,7 @@ displaced_out s (Some c) u e = by_belief (believed_on s c) e
   where
     by_belief : (o : Option Running) → is_in u (option_to_list (running_tid o)) ≡ false → runs u o ≡ false
     by_belief None f = refl
-    by_belief (Some r) f = not_about u r.tid f
+    by_belief (Some r) f = another u r.tid f
 
 -- whom a collected slot may make wait, or wait no more
 abbrev pub touched : Cpus → ℕ → Option ℕ → ℕ → List ℕ
@@ -168,11 +133,10 @@ holds_slot v s q c o at t n h = holds_with v s s' (touched s c at t) q h alike
 
     alike : (u : ℕ) → is_in u (touched s c at t) ≡ false → waits v s' u ≡ waits v s u
     alike u out =
-        let later : (is_in u (option_to_list (stamp_on s c)) || is_in u (option_to_list (displaced s at))) ≡ false =
-            sym (in_append u (option_to_list (stamp_on s c)) (option_to_list (displaced s at))) ∙ out_rest (t == u) _ out in
-        let own : (t == u) ≡ false = out_first (t == u) _ out in
-        let named : is_just u (stamp_on s c) ≡ false = out_option u (stamp_on s c) (out_first _ _ later) in
-        let there : runs_at s at u ≡ false = displaced_out s at u (out_rest (is_in u (option_to_list (stamp_on s c))) _ later) in
+        let both = or_parts (t == u) (is_in u (option_to_list (stamp_on s c) ++ option_to_list (displaced s at))) out in
+        let own : (t == u) ≡ false = both.0 in
+        let named : is_just u (stamp_on s c) ≡ false = out_option u (stamp_on s c) (not_left u (option_to_list (stamp_on s c)) (option_to_list (displaced s at)) both.1) in
+        let there : runs_at s at u ≡ false = displaced_out s at u (not_right u (option_to_list (stamp_on s c)) (option_to_list (displaced s at)) both.1) in
         waits_alike v v s s' u refl (believed_outcome o at t n u s own there)
         (ap (λ (xs : List (Option ℕ)). list_any (is_just u) (slice_set xs c None)) (stamped_outcome o at t n s) ∙ named_set None c u s refl named)
 

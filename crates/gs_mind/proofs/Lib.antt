@@ -1,5 +1,5 @@
 pub mod Believing
 pub mod Followed
-pub mod Bared
 pub mod Rooms
 pub mod Minds
+mod Rows

@@ -1,8 +1,8 @@
 -- A mind after a stamp, a collected slot or a message.
-use Rattle.std.proofs.Common.{◌≡◌, refl, ap, sym, ◌∙◌, subst, ℕ, ◌≤◌, ◌==◌, ◌&&◌, ◌⊎◌, inl, inr, not, Bool, true, false, cond, Option, None, Some, List, [], ◌∷◌, ◌++◌, arith}
+use Rattle.std.proofs.Common.{◌≡◌, ◌≢◌, refl, ap, sym, ◌∙◌, subst, ℕ, ◌≤◌, ◌==◌, ◌&&◌, ◌⊎◌, inl, inr, not, Bool, true, false, cond, Option, None, Some, List, ◌∷◌, ◌++◌, arith}
 use Rattle.std.specs.Option.{option_to_list}
 use Rattle.std.specs.Prelude.{is_some}
-use Rattle.std.proofs.lemmas.Bool.Decides.{nat_tests}
+use Rattle.std.proofs.lemmas.Bool.{eqb-true}
 use Rattle.gs_layout.specs.declared.known.Known.{Known}
 use Rattle.gs_layout.specs.declared.known.Word.{Word}
 use Rattle.gs_layout.specs.declared.known.Word.TheVariants.{Applied, Orphan, Skipped, Gap}
@@ -17,10 +17,13 @@ use Rattle.gs_beliefs.specs.Cpus.{Cpus, stamp_on, stamps}
 use Rattle.gs_beliefs.specs.Belief.{hears}
 use Rattle.gs_runq.specs.Queue.{IsTid, Queue, is_in, order}
 use Rattle.gs_view.specs.Begins.{begins}
+use Rattle.gs_view.specs.declared.taken.Taken.{Taken}
+use Rattle.gs_view.specs.declared.taken.Taken.TheVariants as taken
+use Rattle.gs_view.specs.Taken.{word_of}
 use Rattle.gs_mind.specs.Held.{HasRoom}
 use Rattle.gs_mind.specs.Mind.{MindState, bare}
 use Rattle.gs_mind.specs.Picture.{HoldsWaiting, Picture, displaced, requeued, settled, settled_all, takes_in, takes_in_by, waits}
-use Rattle.gs_mind.proofs.Bared.{bare_requeued}
+use Rattle.gs_mind.proofs.Rooms.{bare_requeued}
 use Rattle.gs_mind.proofs.Followed.{holds_news, settled_append, touched}
 
 -- minds with the same parts are the same
@@ -68,18 +71,15 @@ news_picture v v' s s' q q' q'' m w known a b d =
     ap bare d ∙ (bare_requeued v' s' m q' ∙ (ap (requeued v' s' m) b ∙ (ap (λ (x : Look). requeued x s' m (bare q)) one ∙ ap (λ (x : Cpus). requeued (apply v m) x m (bare q)) a))) in
     same_picture v' (apply v m) s' (hears m s) (bare q'') _ known a queue ∙ ap (λ (x : Word). takes_in_by x m (picture v s (bare q))) (sym w)
 
--- a message that did not apply
-pub old_picture : (v v' : Look) (s : Cpus) (q q' : Queue) (m : Message) (w : Word) → word v m ≡ w → ((p : Picture) → takes_in_by w m p ≡ p) → ((t : ℕ) → v' t ≡ v t) → bare q' ≡ bare q
-    → picture v' s (bare q') ≡ takes_in m (picture v s (bare q))
-old_picture v v' s q q' m w is stays known b =
-    same_picture v' v s s (bare q') (bare q) known refl b ∙ (sym (stays (picture v s (bare q))) ∙ ap (λ (x : Word). takes_in_by x m (picture v s (bare q))) (sym is))
-
 abbrev pub is_applied : Word → Bool
 is_applied Applied = true
 is_applied _ = false
 
-same_number : (x t : ℕ) → (x == t) ≡ true → x ≡ t
-same_number x t e = grind (arith, nat_tests)
+leaves : (w : Word) (m : Message) (p : Picture) → is_applied w ≡ false → takes_in_by w m p ≡ p
+leaves Applied m p e = absurd cc
+leaves Orphan m p e = refl
+leaves Skipped m p e = refl
+leaves Gap m p e = refl
 
 learns_nothing : (w : Word) → is_applied w ≡ false → (o : Option Known) (m : Message) → learn w o m ≡ o
 learns_nothing Applied e o m = absurd cc
@@ -92,12 +92,20 @@ pub old_news : (v : Look) (m : Message) → is_applied (word v m) ≡ false → 
 old_news v (TimerTick c) e t = refl
 old_news v (Thread u s c) e t = by_test (u == t) refl
   where
-    not_applied : is_applied (word_at (v u) (Thread u s c)) ≡ false
-    not_applied = e
-
     by_test : (b : Bool) → (u == t) ≡ b → cond b (next_known (v t) (Thread u s c)) (v t) ≡ v t
-    by_test true same = learns_nothing (word_at (v t) (Thread u s c)) (ap (λ (x : ℕ). is_applied (word_at (v x) (Thread u s c))) (sym (same_number u t same)) ∙ not_applied) (v t) (Thread u s c)
+    by_test true same = learns_nothing (word_at (v t) (Thread u s c)) (ap (λ (x : ℕ). is_applied (word_at (v x) (Thread u s c))) (sym (eqb-true u t same)) ∙ e) (v t) (Thread u s c)
     by_test false same = refl
+
+-- a message that did not apply
+pub old_picture : (v v' : Look) (s : Cpus) (q q' : Queue) (m : Message) → is_applied (word v m) ≡ false → ((t : ℕ) → v' t ≡ apply v m t) → bare q' ≡ bare q → picture v' s (bare q') ≡ takes_in m (picture v s (bare q))
+old_picture v v' s q q' m e known b =
+    same_picture v' v s s (bare q') (bare q) (λ t. known t ∙ old_news v m e t) refl b ∙ sym (leaves (word v m) m (picture v s (bare q)) e)
+
+-- what was taken in and did not apply
+pub not_applied : (t : Taken) → t ≢ taken.Applied → is_applied (word_of t) ≡ false
+not_applied taken.Applied n = absurd (n refl)
+not_applied taken.Skipped n = refl
+not_applied taken.Orphan n = refl
 
 -- of whom something is known after a message, of those it was known before, or the message begins it
 begun : (o : Option Known) (u s : ℕ) (c : Change) → is_some (next_known o (Thread u s c)) ≡ true → (is_some o ≡ true) ⊎ ((is_creation (Thread u s c) && not (is_some o)) ≡ true)
@@ -110,60 +118,38 @@ begun None u s (Yield c) e = absurd cc
 begun None u s (Dead c) e = absurd cc
 begun None u s (Affinity c off m) e = absurd cc
 
--- the thread of a message has a tid
-has_tid : (u s : ℕ) (c : Change) → IsSpellable (Thread u s c) → IsTid u
-has_tid u s c p = (p.0.tid_low, p.0.tid_high)
-
 known_or_begun : (v : Look) (m : Message) (t : ℕ) → IsSpellable m → is_some (apply v m t) ≡ true → (is_some (v t) ≡ true) ⊎ (IsTid t × (begins v m ≡ true))
 known_or_begun v (TimerTick c) t p e = inl e
 known_or_begun v (Thread u s c) t p e = by_test (u == t) refl e
   where
-    spelled : IsSpellable (Thread u s c)
-    spelled = p
-
     by_test : (b : Bool) → (u == t) ≡ b → is_some (cond b (next_known (v t) (Thread u s c)) (v t)) ≡ true → (is_some (v t) ≡ true) ⊎ (IsTid t × (begins v (Thread u s c) ≡ true))
     by_test false n k = inl k
     by_test true same k = by_begun (begun (v t) u s c k)
       where
         it : u ≡ t
-        it = same_number u t same
+        it = eqb-true u t same
 
         by_begun : (is_some (v t) ≡ true) ⊎ ((is_creation (Thread u s c) && not (is_some (v t))) ≡ true) → (is_some (v t) ≡ true) ⊎ (IsTid t × (begins v (Thread u s c) ≡ true))
         by_begun (inl x) = inl x
-        by_begun (inr x) = inr (subst IsTid it (has_tid u s c spelled), ap (λ (y : ℕ). is_creation (Thread u s c) && not (is_some (v y))) it ∙ x)
+        by_begun (inr x) = inr (subst IsTid it (p.0.tid_low, p.0.tid_high), ap (λ (y : ℕ). is_creation (Thread u s c) && not (is_some (v y))) it ∙ x)
 
 -- a queue that was given room has it for the view after a message
 pub room_news : (v v' : Look) (q q' : Queue) (m : Message) → HasRoom v q → ((t : ℕ) → v' t ≡ apply v m t) → q.room ≤ q'.room → (begins v m ≡ true → 65536 ≤ q'.room) → IsSpellable m → HasRoom v' q'
 room_news v v' q q' m h known more fits p = record { least = λ t e. (tid t e).0; most = λ t e. (tid t e).1; room = room }
   where
-    had : HasRoom v q
-    had = h
-
-    says : (t : ℕ) → v' t ≡ apply v m t
-    says = known
-
-    grown : q.room ≤ q'.room
-    grown = more
-
-    given : begins v m ≡ true → 65536 ≤ q'.room
-    given = fits
-
-    spelled : IsSpellable m
-    spelled = p
-
     which : (t : ℕ) → is_some (v' t) ≡ true → (is_some (v t) ≡ true) ⊎ (IsTid t × (begins v m ≡ true))
-    which t e = known_or_begun v m t spelled (ap (λ (o : Option Known). is_some o) (sym (says t)) ∙ e)
+    which t e = known_or_begun v m t p (ap (λ (o : Option Known). is_some o) (sym (known t)) ∙ e)
 
     tid_by : (t : ℕ) → (is_some (v t) ≡ true) ⊎ (IsTid t × (begins v m ≡ true)) → IsTid t
-    tid_by t (inl x) = (had.least t x, had.most t x)
+    tid_by t (inl x) = (h.least t x, h.most t x)
     tid_by t (inr x) = x.0
 
     tid : (t : ℕ) → is_some (v' t) ≡ true → IsTid t
     tid t e = tid_by t (which t e)
 
     room_by : (t : ℕ) → (is_some (v t) ≡ true) ⊎ (IsTid t × (begins v m ≡ true)) → 65536 ≤ q'.room
-    room_by t (inl x) = omega (arith, had.room t x, grown)
-    room_by t (inr x) = given x.1
+    room_by t (inl x) = omega (arith, h.room t x, more)
+    room_by t (inr x) = fits x.1
 
     room : (t : ℕ) → is_some (v' t) ≡ true → 65536 ≤ q'.room
     room t e = room_by t (which t e)

@@ -7,18 +7,21 @@ use Rattle.gs_mind.specs.Mind.{MindState, bare}
 use Rattle.gs_mind.specs.Picture.{HoldsWaiting}
 use Rattle.gs_mind.specs.declared.mind.Mind.TheInside.{Inside}
 
--- a thread of which something is known has a tid, and the queue has room for it
+-- a thread of which something is known has a tid, and where there is one the queue has room for all that there can be
 pub record HasRoom (v : Look) (q : Queue) : Type 0 where
   pub least : (t : ℕ) → is_some (v t) ≡ true → 1 ≤ t
   pub most : (t : ℕ) → is_some (v t) ≡ true → t ≤ 65536
   pub room : (t : ℕ) → is_some (v t) ≡ true → 65536 ≤ q.room
 
+-- the queue holds just who waits, and has room for whoever may begin to
 pub record IsKept (v : Look) (s : Cpus) (q : Queue) : Type 0 where
   pub waiting : HoldsWaiting v s q
   pub room : HasRoom v q
 
+-- what a mind is to its callers
 abbrev pub mind_view : Inside → MindState
 mind_view i = record { records = i.view; cpus = i.cpus; queue = bare i.queue }
 
+-- what a mind keeps
 abbrev pub IsMind : Inside → Type 0
 IsMind i = IsKept (look_up i.view) i.cpus i.queue

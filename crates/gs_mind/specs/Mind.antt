@@ -16,6 +16,7 @@ pub record MindState : Type 0 where
 abbrev pub bare : Queue → Queue
 bare q = record q { room = 0 }
 
+-- the picture that this is
 abbrev pub picture_of : MindState → Picture
 picture_of s = record { view = look_up s.records; cpus = s.cpus; queue = s.queue }
 

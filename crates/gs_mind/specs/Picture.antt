@@ -22,6 +22,7 @@ pub record Picture : Type 0 where
   pub cpus : Cpus
   pub queue : Queue
 
+-- whether what is known of a thread says that it may run
 abbrev pub is_runnable : Option Known → Bool
 is_runnable None = false
 is_runnable (Some k) = k.facts.runnable
@@ -30,16 +31,17 @@ is_runnable (Some k) = k.facts.runnable
 abbrev pub waits : Look → Cpus → ℕ → Bool
 waits v s t = is_runnable (v t) && (not (is_believed s t) && not (is_named s t))
 
--- a thread goes last of the class that is known of it
+-- a thread goes last of the class that is known of it; one of which nothing is known goes nowhere
 abbrev pub goes_last : Option Known → ℕ → Queue → Queue
 goes_last None t q = q
 goes_last (Some k) t q = put k.facts.class t q
 
--- a thread that begins to wait goes last of its class, and one that does not wait is not in the queue
+-- the queue brought up to date for a thread: one that begins to wait goes last of its class, one that waits already keeps its place,
+-- and one that does not wait is not in the queue
 abbrev pub settled : Look → Cpus → ℕ → Queue → Queue
 settled v s t q = if waits v s t then (if is_in t (order q) then q else goes_last (v t) t q) else removed t q
 
--- the same of several threads, one after another
+-- the queue brought up to date for several threads, one after another
 abbrev pub settled_all : Look → Cpus → List ℕ → Queue → Queue
 settled_all v s [] q = q
 settled_all v s (t ∷ ts) q = settled_all v s ts (settled v s t q)
@@ -59,6 +61,7 @@ requeued v s (Thread t n ch) q = settled v s t (if ends_turn ch then removed t q
 abbrev pub after_news : Message → Picture → Picture
 after_news m p = record { view = apply p.view m; cpus = hears m p.cpus; queue = requeued (apply p.view m) (hears m p.cpus) m p.queue }
 
+-- the picture after a message that is this to the view
 abbrev pub takes_in_by : Word → Message → Picture → Picture
 takes_in_by Applied m p = after_news m p
 takes_in_by Orphan m p = p
@@ -82,17 +85,18 @@ believes s ts p = record { view = p.view; cpus = s; queue = settled_all p.view s
 abbrev pub after_stamp : ℕ → ℕ → Picture → Picture
 after_stamp c t p = believes (stamps c t p.cpus) (t ∷ option_to_list (stamp_on p.cpus c)) p
 
+-- the thread that a belief is of
 abbrev pub running_tid : Option Running → Option ℕ
 running_tid None = None
 running_tid (Some r) = Some r.tid
 
--- the thread that is believed to run where another one was found
+-- the thread that is believed to run on a CPU, where there is such a CPU
 abbrev pub displaced : Cpus → Option ℕ → Option ℕ
 displaced s None = None
 displaced s (Some c) = running_tid (believed_on s c)
 
--- the picture after the slot of a CPU was collected: what became of its transaction is believed, and its stamp is gone; whom that
--- took from a CPU may begin to wait
+-- the picture after the slot of a CPU was collected: what became of a transaction that landed is believed, and its stamp is gone; its
+-- thread, whom the stamp there named, and whom it displaced begin to wait or wait no more
 abbrev pub after_slot : ℕ → SlotState → Picture → Picture
 after_slot c Idle p = p
 after_slot c (Stamped b) p = p

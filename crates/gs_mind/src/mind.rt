@@ -1,25 +1,32 @@
-//! What an agent has in mind: what it knows of each thread, what it believes of each CPU, and who
-//! waits.
-
 ghost use Rattle.std.specs.Prelude.{◌≡◌, ◌↔◌, ◌≤◌, Err, IfOk, OnOk, OnErr, true};
 ghost use Rattle.gs_beliefs.specs.Cpus.{believed_on};
 ghost use Rattle.gs_layout.specs.View.{is_gap, look_up, word};
+ghost use Rattle.gs_policy.specs.Safe.{IsSafePlan};
 ghost use Rattle.gs_view.specs.declared.fault.ApplyFault.{ApplyFault};
 ghost use Rattle.gs_view.specs.Begins.{begins};
 ghost use Rattle.gs_view.specs.Taken.{word_of};
 ghost use Rattle.gs_mind.specs.Mind.{nothing, picture_of, thinks};
-ghost use Rattle.gs_mind.specs.Picture.{after_slot, after_stamp, displaced, takes_in};
+ghost use Rattle.gs_runq.specs.Queue.{Apart, order};
+ghost use Rattle.gs_mind.specs.Picture.{HoldsWaiting, after_slot, after_stamp, displaced, takes_in};
 
 use crate::waiting::{make_room, requeue, settle, settle_if_any};
 use gs_beliefs::{CpuBeliefs, Running};
+use gs_policy::{Choice, Policy};
 use gs_reader::MessageRef;
-use gs_runq::RunQueue;
+use gs_runq::{RunQueue, Walk};
 use gs_slots::SlotState;
+use gs_status::Mask;
 use gs_view::{AgentView, ApplyFault, Taken};
 use std::alloc::{AllocError, Global};
 use std::marker::Model;
 
-/// What an agent has in mind. The queue has room for every thread of the view.
+/// What an agent has in mind: the view, what it knows of each thread; the beliefs, what it believes of
+/// each CPU; and the queue, who waits for a CPU.
+///
+/// A thread waits where it is known to be runnable, no CPU is believed to run it, and no uncollected
+/// stamp names it. The queue holds those threads at all times, and no other. A thread that begins to
+/// wait goes last of its class; one that stops waiting leaves; one whose turn ended, as a preemption or
+/// a yield says, goes last of its class anew. The queue has room for every thread of the view.
 #[derive(Drop)]
 pub struct Mind {
     view: AgentView,
@@ -40,7 +47,13 @@ impl Model for Mind {
 }
 
 impl Mind {
-    /// Nothing known, nobody believed to run on so many CPUs, and nobody who waits.
+    /// The mind of an agent that has heard nothing: no thread is known, nobody is believed to run on
+    /// any of so many CPUs, at most 64, there is no stamp, and nobody waits. `agent` is the agent's own
+    /// CPU, `None` while it attaches.
+    ///
+    /// # Errors
+    ///
+    /// Where there is no memory for the beliefs.
     pub fn new(alloc: Global, cpus: u16, agent: Option<u16>) -> Result<Mind, AllocError>
         requires { cpus ≤ 64 }
         ensures { IfOk result (λ mind. mind ≡ nothing cpus agent) }
@@ -53,21 +66,46 @@ impl Mind {
         })
     }
 
-    /// What is known of each thread.
+    /// What is known of each thread. It takes no memory.
     pub fn view(&self) -> &AgentView
         ensures { result.now ≡ self.now.records }
     {
         &self.view
     }
 
-    /// Who is believed to run on a CPU.
+    /// What is believed of each CPU. It takes no memory.
+    pub fn beliefs(&self) -> &CpuBeliefs
+        ensures { result.now ≡ self.now.cpus }
+    {
+        &self.cpus
+    }
+
+    /// The tids of those who wait, each once: those of class 0 in the order in which they began to
+    /// wait, then those of class 1. It takes no memory.
+    pub fn waiting(&self) -> Walk<'_>
+        ensures order { result ≡ order self.now.queue }
+        ensures apart { Apart (order self.now.queue) }
+        ensures waits { HoldsWaiting (look_up self.now.records) self.now.cpus self.now.queue }
+    {
+        self.queue.walk()
+    }
+
+    /// Who is believed to run on a CPU, `None` for nobody and past the last CPU. It takes no memory.
     pub fn believed(&self, cpu: u16) -> Option<Running>
         ensures { result ≡ believed_on self.now.cpus cpu }
     {
         self.cpus.believed(cpu)
     }
 
-    /// Takes a message in, and answers what it was to the view.
+    /// Takes a message in, and answers what it was to the view. Where it applied, the beliefs hear it,
+    /// and its thread begins to wait, goes on or stops; else nothing changes.
+    ///
+    /// # Errors
+    ///
+    /// [`ApplyFault::Gap`] where messages about its thread are missing before it, and
+    /// [`ApplyFault::OutOfMemory`] where it creates a thread of which nothing is known, and there is no
+    /// memory for its record or for the queue. Nothing changes then, and the message can be taken in
+    /// later. No other message takes memory.
     pub fn take_in(&mut self, message: MessageRef<'_>) -> Result<Taken, ApplyFault>
         ensures word { IfOk result (λ taken. word (look_up self.old.records) message.entry ≡ word_of taken) }
         ensures picture { OnOk result (picture_of self.new ≡ takes_in message.entry (picture_of self.old)) }
@@ -78,33 +116,39 @@ impl Mind {
         let _spelled = message.as_bytes();
         let news = message.message();
         make_room(&self.view, &mut self.queue, &news)?;
-        match self.view.apply(message)? {
-            Taken::Applied => {
-                self.cpus.hear(&news);
-                requeue(&self.view, &self.cpus, &mut self.queue, &news);
-                Ok(Taken::Applied)
-            }
-            Taken::Skipped => Ok(Taken::Skipped),
-            Taken::Orphan => Ok(Taken::Orphan),
-        }
+        let taken = self.view.apply(message)?;
+        let Taken::Applied = taken else {
+            return Ok(taken);
+        };
+        self.cpus.hear(&news);
+        requeue(&self.view, &self.cpus, &mut self.queue, &news);
+        Ok(taken)
     }
 
-    /// A thread was stamped for a CPU.
+    /// A thread was stamped for a CPU: it waits no more. The thread that an older stamp there named may
+    /// wait again. Past the last CPU no stamp is noted. It takes no memory.
     pub fn stamp(&mut self, cpu: u16, tid: u32)
         ensures { self.new ≡ thinks self.old (after_stamp cpu tid (picture_of self.old)) }
     {
-        let named = self.cpus.stamp_on(cpu);
+        let older = self.cpus.stamp_on(cpu);
         self.cpus.stamp(cpu, tid);
         settle(&self.view, &self.cpus, &mut self.queue, tid);
-        settle_if_any(&self.view, &self.cpus, &mut self.queue, named);
+        settle_if_any(&self.view, &self.cpus, &mut self.queue, older);
     }
 
-    /// The slot of a CPU is collected: what became of its transaction, if it landed, is believed.
+    /// The slot of a CPU is collected, with what was in it. Where its transaction landed, its outcome is
+    /// believed, and no stamp there is uncollected any more. That may make three threads wait, or wait
+    /// no more: the transaction's own, the one that the stamp there named, and the one that was believed
+    /// to run where the transaction's thread was found. Where the slot is idle, or its transaction has
+    /// not landed, nothing changes. It takes no memory.
     pub fn collect(&mut self, cpu: u16, slot: SlotState)
         ensures { self.new ≡ thinks self.old (after_slot cpu slot (picture_of self.old)) }
     {
         let SlotState::Done {
-            stamp, outcome, at, ..
+            stamp,
+            outcome,
+            at,
+            ..
         } = slot
         else {
             return;
@@ -116,6 +160,31 @@ impl Mind {
         settle(&self.view, &self.cpus, &mut self.queue, stamp.tid);
         settle_if_any(&self.view, &self.cpus, &mut self.queue, named);
         settle_if_any(&self.view, &self.cpus, &mut self.queue, displaced);
+    }
+
+    /// What a policy plans by all that the agent has in mind, where the other class holds the CPUs of
+    /// `taken` and no other. Whatever the policy, its plan is safe to stamp. Nothing is changed: the
+    /// beliefs then hold the mask of taken CPUs that they held before.
+    ///
+    /// # Errors
+    ///
+    /// Where there is no memory for the choices. Nothing is changed then either.
+    pub fn plan<P: Policy>(
+        &mut self,
+        alloc: Global,
+        policy: &P,
+        taken: Mask,
+    ) -> Result<Vec<Choice>, AllocError>
+        ensures plan { IfOk result (λ r. r.items ≡ P.chosen policy.now (look_up self.old.records) (record self.old.cpus { taken = taken }) (order self.old.queue)) }
+        ensures safe { IfOk result (λ r. IsSafePlan (look_up self.old.records) (record self.old.cpus { taken = taken }) (order self.old.queue) r.items) }
+        ensures unchanged { self.new ≡ self.old }
+    {
+        let _each_once = self.waiting();
+        let before = self.cpus.taken();
+        self.cpus.set_taken(taken);
+        let planned = policy.plan(alloc, &self.view, &self.cpus, &self.queue);
+        self.cpus.set_taken(before);
+        planned
     }
 
     /// The thread that is believed to run on a CPU, where there is one.

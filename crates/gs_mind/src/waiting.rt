@@ -1,4 +1,4 @@
-//! Who waits, and in which order.
+//! The queue brought up to date with what is known and believed.
 
 ghost use Rattle.std.specs.Prelude.{◌≡◌, ◌≤◌, ℕ, None, is_some, true, if◌then◌else◌, option_map, IfErr, OnOk, OnErr};
 ghost use Rattle.gs_layout.specs.declared.known.Known.{Known};
@@ -15,10 +15,15 @@ use gs_layout::{Change, Class, Message};
 use gs_runq::RunQueue;
 use gs_view::{AgentView, ApplyFault};
 
-/// How many threads there can be.
+/// How many threads there can be, as many as there are tids.
 const MOST_THREADS: u32 = 65_536;
 
-/// Makes room in the queue for whoever a message brings to the view.
+/// Makes room in the queue, before the view takes a message in, for the thread whose record the
+/// message begins. Who waits stays as it is.
+///
+/// # Errors
+///
+/// [`ApplyFault::OutOfMemory`] where there is no memory for the room. No other message takes any.
 pub(crate) fn make_room(
     view: &AgentView,
     queue: &mut RunQueue,
@@ -36,7 +41,7 @@ pub(crate) fn make_room(
     Ok(())
 }
 
-/// Whether a message begins a record of the view.
+/// Whether a message begins a record of the view: it creates a thread of which nothing is known.
 fn is_begun_by(view: &AgentView, message: &Message) -> bool
     ensures { result ≡ begins (look_up view.now) message.now }
 {
@@ -50,7 +55,7 @@ fn is_begun_by(view: &AgentView, message: &Message) -> bool
     }
 }
 
-/// The class of a thread that waits.
+/// The class of a thread that waits, `None` where it does not.
 fn waiting_class(view: &AgentView, cpus: &CpuBeliefs, tid: u32) -> Option<Class>
     ensures { result ≡ (if waits (look_up view.now) cpus.now tid then option_map (λ (k : Known). k.facts.class) (look_up view.now tid) else None) }
 {
@@ -62,7 +67,8 @@ fn waiting_class(view: &AgentView, cpus: &CpuBeliefs, tid: u32) -> Option<Class>
     }
 }
 
-/// Puts a thread that begins to wait last of its class, and takes one that does not wait out.
+/// Puts a thread that begins to wait last of its class, and takes one that does not wait out. One that
+/// waits already keeps its place. It takes no memory.
 #[tactic(auto, using(crate::proofs::Rooms::room_settled))]
 pub(crate) fn settle(view: &AgentView, cpus: &CpuBeliefs, queue: &mut RunQueue, tid: u32)
     requires { HasRoom (look_up view.now) queue.old }
@@ -95,13 +101,9 @@ pub(crate) fn settle_if_any(
     }
 }
 
-/// Brings the queue up to date after a message that applied.
-pub(crate) fn requeue(
-    view: &AgentView,
-    cpus: &CpuBeliefs,
-    queue: &mut RunQueue,
-    message: &Message,
-)
+/// Brings the queue up to date after a message that view and beliefs took in: its thread is settled, and
+/// goes last anew where its turn ended.
+pub(crate) fn requeue(view: &AgentView, cpus: &CpuBeliefs, queue: &mut RunQueue, message: &Message)
     requires { HasRoom (look_up view.now) queue.old }
     ensures requeued { queue.new ≡ requeued (look_up view.now) cpus.now message.now queue.old }
     ensures room { HasRoom (look_up view.now) queue.new }

@@ -5,7 +5,7 @@ use Rattle.gs_beliefs.specs.Cpus.{Cpus, unstamps}
 use Rattle.gs_beliefs.specs.Belief.{after_outcome}
 use Rattle.gs_mind.specs.Mind.{MindState, bare, picture_of, thinks}
 use Rattle.gs_mind.specs.Picture.{after_slot, displaced, settled_all}
-use Rattle.gs_mind.proofs.Bared.{bare_settled_all}
+use Rattle.gs_mind.proofs.Rooms.{bare_settled_all}
 use Rattle.gs_mind.proofs.Followed.{holds_slot, touched}
 use Rattle.gs_mind.proofs.Minds.{same_mind, same_waiting, slot_queue}
 use Rattle.gs_mind.proofs.mind.Mind.collect.Goals as goal

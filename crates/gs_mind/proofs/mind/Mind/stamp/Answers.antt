@@ -4,14 +4,14 @@ use Rattle.gs_layout.specs.View.{look_up}
 use Rattle.gs_beliefs.specs.Cpus.{stamp_on, stamps}
 use Rattle.gs_mind.specs.Mind.{MindState, bare, picture_of, thinks}
 use Rattle.gs_mind.specs.Picture.{after_stamp, settled_all}
-use Rattle.gs_mind.proofs.Bared.{bare_settled_all}
+use Rattle.gs_mind.proofs.Rooms.{bare_settled_all}
 use Rattle.gs_mind.proofs.Followed.{holds_stamp}
 use Rattle.gs_mind.proofs.Minds.{same_mind, same_waiting, stamp_queue}
 use Rattle.gs_mind.proofs.mind.Mind.stamp.Goals as goal
 
 -- the queue is then that of those who wait
 queue_is : (c : goal.After-settle_if_any) → c.settle_if_any.new.queue ≡ settled_all (look_up c.self.inside.view) (stamps c.args.cpu c.args.tid c.self.inside.cpus) (c.args.tid ∷ option_to_list (stamp_on c.self.inside.cpus c.args.cpu)) c.self.inside.queue
-queue_is c = stamp_queue (look_up c.self.inside.view) c.self.inside.cpus _ c.self.inside.queue _ _ c.args.cpu c.args.tid _ c.stamp.ensures c.stamp_on-named.ensures c.settle.ensures.settled c.settle_if_any.ensures.settled
+queue_is c = stamp_queue (look_up c.self.inside.view) c.self.inside.cpus _ c.self.inside.queue _ _ c.args.cpu c.args.tid _ c.stamp.ensures c.stamp_on-older.ensures c.settle.ensures.settled c.settle_if_any.ensures.settled
 
 pub invariant_of-self : goal.invariant_of-self
 invariant_of-self c =

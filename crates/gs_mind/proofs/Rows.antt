@@ -1,0 +1,173 @@
+-- Worked rows: three CPUs, of which the agent has the first, and three threads, of which thread 9 is of class 1.
+use Rattle.std.proofs.Common.{◌≡◌, ℕ, refl, Bool, true, false, Option, None, Some, List, [], ◌∷◌}
+use Rattle.gs_layout.specs.declared.facts.Class.{Class}
+use Rattle.gs_layout.specs.declared.facts.Class.TheVariants.{Zero, One}
+use Rattle.gs_layout.specs.declared.known.Known.{Known}
+use Rattle.gs_layout.specs.declared.message.Change.TheVariants.{Created, Blocked, Wakeup, Preempted, Yield, Dead}
+use Rattle.gs_layout.specs.declared.message.Message.{Message}
+use Rattle.gs_layout.specs.declared.message.Message.TheVariants.{Thread, TimerTick}
+use Rattle.gs_layout.specs.declared.outcome.Outcome.{Outcome}
+use Rattle.gs_layout.specs.declared.outcome.Outcome.TheVariants.{Placed, AlreadyPlaced, Stale}
+use Rattle.gs_layout.specs.View.{look_up}
+use Rattle.gs_slots.specs.declared.state.SlotState.{SlotState}
+use Rattle.gs_slots.specs.declared.state.SlotState.TheVariants.{Idle, Stamped, Done}
+use Rattle.gs_beliefs.specs.declared.running.Running.{Running}
+use Rattle.gs_beliefs.specs.Cpus.{Cpus}
+use Rattle.gs_runq.specs.Queue.{Queue}
+use Rattle.gs_mind.specs.Picture.{Picture, after_slot, after_slots, after_stamp, takes_in, takes_in_all, waits}
+
+-- what is known of a thread, at this number
+abbrev known : Class → Bool → ℕ → Known
+known class runnable n = record { facts = record { runnable = runnable; mask = 6; class = class; name = 0x77 ∷ [] }; tseq = n }
+
+abbrev created : ℕ → Class → Bool → Message
+created t class runnable = Thread t 5 (Created (known class runnable 5).facts)
+
+abbrev at : ℕ → ℕ → ℕ → Option Running
+at t n ticks = Some (record { tid = t; tseq = n; ticks = ticks })
+
+-- these beliefs and stamps on CPUs 1 and 2
+abbrev cpus : Option Running → Option Running → Option ℕ → Option ℕ → Cpus
+cpus a b x y = record { believed = None ∷ a ∷ b ∷ []; stamped = None ∷ x ∷ y ∷ []; agent = Some 0; taken = 0 }
+
+abbrev queue : List ℕ → List ℕ → Queue
+queue zeros ones = record { zero_class = zeros; one_class = ones; room = 65536 }
+
+-- nothing is known
+abbrev blank : Picture
+blank = record { view = look_up []; cpus = cpus None None None None; queue = queue [] [] }
+
+-- threads 7, 8 and 9 are known, each runnable at number 5
+abbrev knows : Cpus → Queue → Picture
+knows s q = record { view = look_up ((7, known Zero true 5) ∷ (8, known Zero true 5) ∷ (9, known One true 5) ∷ []); cpus = s; queue = q }
+
+-- all three wait
+abbrev all_wait : Picture
+all_wait = knows (cpus None None None None) (queue (7 ∷ 8 ∷ []) (9 ∷ []))
+
+-- thread 7 is stamped for CPU 1
+abbrev stamped : Picture
+stamped = knows (cpus None None (Some 7) None) (queue (8 ∷ []) (9 ∷ []))
+
+-- a transaction of a thread that landed
+abbrev landed : ℕ → Outcome → Option ℕ → SlotState
+landed t outcome at = Done (record { generation = 3; tid = t; tseq = 5; preempt = true }) outcome at 5
+
+-- who begins to wait goes last of its class
+created_row : (takes_in (created 7 Zero true) blank).queue ≡ queue (7 ∷ []) []
+created_row = refl
+
+second_row : (takes_in_all blank (created 7 Zero true ∷ created 9 One true ∷ created 8 Zero true ∷ [])).queue ≡ queue (7 ∷ 8 ∷ []) (9 ∷ [])
+second_row = refl
+
+-- a thread that is created blocked waits from its wakeup on
+blocked_creation_row : (takes_in (created 7 Zero false) blank).queue ≡ queue [] []
+blocked_creation_row = refl
+
+wakeup_row : (takes_in_all blank (created 7 Zero false ∷ created 8 Zero true ∷ Thread 7 6 Wakeup ∷ [])).queue ≡ queue (8 ∷ 7 ∷ []) []
+wakeup_row = refl
+
+-- who dies or blocks waits no more
+dead_row : (takes_in (Thread 7 6 (Dead None)) all_wait).queue ≡ queue (8 ∷ []) (9 ∷ [])
+dead_row = refl
+
+blocked_row : (takes_in (Thread 9 6 (Blocked 1)) all_wait).queue ≡ queue (7 ∷ 8 ∷ []) []
+blocked_row = refl
+
+-- a turn that ended: the thread goes last anew; one that merely is told of keeps its place
+preempted_row : (takes_in (Thread 7 6 (Preempted 1)) all_wait).queue ≡ queue (8 ∷ 7 ∷ []) (9 ∷ [])
+preempted_row = refl
+
+yield_row : (takes_in (Thread 7 6 (Yield 1)) all_wait).queue ≡ queue (8 ∷ 7 ∷ []) (9 ∷ [])
+yield_row = refl
+
+told_row : (takes_in (Thread 7 6 Wakeup) all_wait).queue ≡ queue (7 ∷ 8 ∷ []) (9 ∷ [])
+told_row = refl
+
+-- a preemption takes its thread off the CPU where it was believed to run, so it waits
+off_row : (takes_in (Thread 7 6 (Preempted 1)) (knows (cpus (at 7 5 2) None None None) (queue (8 ∷ []) []))).queue ≡ queue (8 ∷ 7 ∷ []) []
+off_row = refl
+
+-- a stamped thread waits no more
+stamp_row : after_stamp 1 7 all_wait ≡ stamped
+stamp_row = refl
+
+-- whom an older stamp named waits again
+stamp_over_row : after_stamp 1 8 stamped ≡ knows (cpus None None (Some 8) None) (queue (7 ∷ []) (9 ∷ []))
+stamp_over_row = refl
+
+-- unless another stamp names it still
+stamp_twice_row : after_stamp 1 8 (knows (cpus None None (Some 7) (Some 7)) (queue (8 ∷ []) (9 ∷ []))) ≡ knows (cpus None None (Some 8) (Some 7)) (queue [] (9 ∷ []))
+stamp_twice_row = refl
+
+-- the same thread stamped again
+stamp_again_row : after_stamp 1 7 stamped ≡ stamped
+stamp_again_row = refl
+
+-- past the last CPU no stamp is noted
+stamp_past_row : after_stamp 3 7 all_wait ≡ all_wait
+stamp_past_row = refl
+
+-- a placed thread is believed to run, and does not wait, until it blocks
+placed_row : after_slot 1 (landed 7 Placed (Some 1)) stamped ≡ knows (cpus (at 7 5 0) None None None) (queue (8 ∷ []) (9 ∷ []))
+placed_row = refl
+
+placed_blocked_row : (takes_in (Thread 7 6 (Blocked 1)) (after_slot 1 (landed 7 Placed (Some 1)) stamped)).queue ≡ queue (8 ∷ []) (9 ∷ [])
+placed_blocked_row = refl
+
+placed_blocked_cpus_row : (takes_in (Thread 7 6 (Blocked 1)) (after_slot 1 (landed 7 Placed (Some 1)) stamped)).cpus ≡ cpus None None None None
+placed_blocked_cpus_row = refl
+
+-- a stale transaction: its thread waits again, last of its class
+stale_row : after_slot 1 (landed 7 Stale None) stamped ≡ knows (cpus None None None None) (queue (8 ∷ 7 ∷ []) (9 ∷ []))
+stale_row = refl
+
+-- whom a placed thread displaces waits again
+displaced_row : after_slot 1 (landed 7 Placed (Some 1)) (knows (cpus (at 9 5 2) None (Some 7) None) (queue (8 ∷ []) [])) ≡ knows (cpus (at 7 5 0) None None None) (queue (8 ∷ []) (9 ∷ []))
+displaced_row = refl
+
+-- a thread that is found on another CPU is believed to run there
+already_row : after_slot 1 (landed 7 AlreadyPlaced (Some 2)) stamped ≡ knows (cpus None (at 7 5 0) None None) (queue (8 ∷ []) (9 ∷ []))
+already_row = refl
+
+-- the agent's own stamp there named another thread than the slot
+another_stamp_row : after_slot 1 (landed 7 Placed (Some 1)) (knows (cpus None None (Some 8) None) (queue (7 ∷ []) (9 ∷ []))) ≡ knows (cpus (at 7 5 0) None None None) (queue (8 ∷ []) (9 ∷ []))
+another_stamp_row = refl
+
+-- an idle slot, and one whose transaction has not landed, say nothing
+idle_row : after_slot 1 Idle stamped ≡ stamped
+idle_row = refl
+
+stamped_row : after_slot 1 (Stamped (record { generation = 3; tid = 7; tseq = 5; preempt = true })) stamped ≡ stamped
+stamped_row = refl
+
+-- slots by rising CPU
+slots_row : after_slots 1 (landed 7 Placed (Some 1) ∷ landed 9 Stale None ∷ []) (knows (cpus None None (Some 7) (Some 9)) (queue (8 ∷ []) [])) ≡ knows (cpus (at 7 5 0) None None None) (queue (8 ∷ []) (9 ∷ []))
+slots_row = refl
+
+-- a tick counts for whoever is believed to run there
+tick_row : takes_in (TimerTick 1) (knows (cpus (at 7 5 2) None None None) (queue (8 ∷ []) (9 ∷ []))) ≡ knows (cpus (at 7 5 3) None None None) (queue (8 ∷ []) (9 ∷ []))
+tick_row = refl
+
+-- what does not apply changes nothing
+orphan_row : takes_in (Thread 6 2 Wakeup) all_wait ≡ all_wait
+orphan_row = refl
+
+skipped_row : takes_in (Thread 7 5 (Blocked 1)) all_wait ≡ all_wait
+skipped_row = refl
+
+gap_row : takes_in (Thread 7 7 (Dead None)) all_wait ≡ all_wait
+gap_row = refl
+
+-- who waits: a runnable thread that is neither believed to run nor named
+waits_row : waits all_wait.view (cpus (at 8 5 0) None None None) 7 ≡ true
+waits_row = refl
+
+believed_row : waits all_wait.view (cpus (at 7 5 0) None None None) 7 ≡ false
+believed_row = refl
+
+named_row : waits all_wait.view (cpus None None None (Some 7)) 7 ≡ false
+named_row = refl
+
+unknown_row : waits all_wait.view (cpus None None None None) 6 ≡ false
+unknown_row = refl
