@@ -1,1 +1,3 @@
+pub mod BothEnds
 pub mod FixedPlaces
+pub mod Greatest

@@ -1,6 +1,12 @@
-//! Tests that cross crates: scripts in at one end, reply lines out at the other.
+//! Tests that cross crates: scripts in at one end, reply lines out at the other; and a policy of one's own,
+//! as a user of the libraries writes it.
 #![tactic(auto)]
 
+mod both_ends;
+#[cfg(test)]
+mod decisions;
+#[cfg(test)]
+mod driving;
 #[cfg(test)]
 mod events;
 #[cfg(test)]
@@ -13,3 +19,5 @@ mod landings;
 mod scripts;
 #[cfg(test)]
 mod two_rings;
+
+pub use both_ends::BothEnds;

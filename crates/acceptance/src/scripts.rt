@@ -254,12 +254,29 @@ fn faults(rt: HostRuntime) -> Result<(), Fail> {
         ("cpus 2 ring 128 history", "fault line 1 BadCount/"),
         (
             "cpus 2 ring 128 history 2 history 2",
-            "fault line 1 BadCount/",
+            "fault line 1 BadWord/",
         ),
         (
             "cpus 2 ring 128 first-gen 1 first-tseq 1",
             "fault line 1 BadWord/",
         ),
+        ("cpus 2 ring 128 policy", "fault line 1 BadCount/"),
+        ("cpus 2 ring 128 policy two", "fault line 1 BadCount/"),
+        ("cpus 2 ring 128 policy first 2", "fault line 1 BadCount/"),
+        ("cpus 2 ring 128 policy two 3 x", "fault line 1 BadCount/"),
+        (
+            "cpus 2 ring 128 policy two 3 history 5",
+            "fault line 1 BadCount/",
+        ),
+        ("cpus 2 ring 128 policy third", "fault line 1 BadWord/"),
+        ("cpus 2 ring 128 policy two 0", "fault line 1 BadNumber/"),
+        (
+            "cpus 2 ring 128 policy two 65536",
+            "fault line 1 BadNumber/",
+        ),
+        ("cpus 2 ring 128 policy two x", "fault line 1 BadNumber/"),
+        ("cpus 2 ring 128/decide 1", "fault line 2 BadCount/"),
+        ("cpus 2 ring 128/decides", "fault line 2 BadWord/"),
     ];
     assert_eq!(rt; first_wrong(rt.alloc(), &rows, Ended::Faulted)?, None);
     Ok(())

@@ -7,7 +7,7 @@ ghost use Rattle.gs_mind.specs.Mind.{picture_of, thinks};
 ghost use Rattle.gs_mind.specs.Picture.{after_slot, after_slots};
 
 use gs_mind::Mind;
-use gs_slots::{Region, SlotMut};
+use gs_slots::{Region, SlotMut, SlotState};
 
 /// Takes in what became of each done slot of a region, by rising CPU, and makes it idle again.
 pub(crate) fn collect_all(mind: &mut Mind, region: &mut Region)
@@ -28,8 +28,9 @@ fn collect_slot(mind: &mut Mind, slot: SlotMut<'_>)
     let Ok(state) = slot.state() else {
         return;
     };
+    let done = matches!(state, SlotState::Done { .. });
     mind.collect(slot.cpu(), state);
-    if slot.outcome().is_some() {
+    if done {
         slot.clear();
     }
 }

@@ -1,4 +1,4 @@
-ghost use Rattle.std.specs.Prelude.{◌≡◌, ◌<◌, ◌≤◌, List, [], ◌∷◌, None, Some, IfErr, IfOk, IsSome, OnErr, OnOk, map, option_map, true};
+ghost use Rattle.std.specs.Prelude.{◌≡◌, ◌<◌, ◌≤◌, List, [], ◌∷◌, None, Some, IfErr, IfOk, IsSome, OnErr, OnOk, length, map, option_map, true};
 ghost use Rattle.gs_layout.specs.declared.known.Known.{Known};
 ghost use Rattle.gs_layout.specs.declared.message.Message.{Message};
 ghost use Rattle.gs_layout.specs.View.{is_gap, look_up, word};
@@ -10,7 +10,9 @@ ghost use Rattle.gs_beliefs.specs.Cpus.{believed_on};
 ghost use Rattle.gs_agent.specs.declared.drained.Stop.{Stop};
 ghost use Rattle.gs_agent.specs.Drains.{Took};
 ghost use Rattle.gs_mind.specs.Mind.{nothing, picture_of, thinks};
-ghost use Rattle.gs_mind.specs.Picture.{after_slots, after_stamp};
+ghost use Rattle.gs_mind.specs.Picture.{HoldsWaiting, after_slots, after_stamp};
+ghost use Rattle.gs_policy.specs.Safe.{IsSafePlan};
+ghost use Rattle.gs_runq.specs.Queue.{Apart, order};
 ghost use Rattle.gs_agent.specs.Role.{stamp_refusal};
 
 use crate::collect::collect_all;
@@ -19,8 +21,11 @@ use crate::drained::Drained;
 use gs_beliefs::Running;
 use gs_layout::Refusal;
 use gs_mind::Mind;
+use gs_policy::{Choice, Counted, Policy};
 use gs_ring::Taker;
+use gs_runq::Walk;
 use gs_slots::{Region, SlotBusy, SlotMut};
+use gs_status::Mask;
 use gs_view::AgentView;
 use std::alloc::{AllocError, Global};
 use std::marker::Model;
@@ -100,6 +105,16 @@ impl<P> Role<P> {
         self.mind.believed(cpu)
     }
 
+    /// The tids of those who wait, each once: those of class 0 in the order in which they began to
+    /// wait, then those of class 1. It takes no memory.
+    pub fn waiting(&self) -> Walk<'_>
+        ensures order { result ≡ order self.now.mind.queue }
+        ensures apart { Apart (order self.now.mind.queue) }
+        ensures waits { HoldsWaiting (look_up self.now.mind.records) self.now.mind.cpus self.now.mind.queue }
+    {
+        self.mind.waiting()
+    }
+
     /// Takes messages in, at most `max` of them, in the order in which they were posted: view, beliefs
     /// and queue follow each one that applies. Answers what it took in, and why it stopped early, where
     /// it did.
@@ -160,5 +175,33 @@ impl<P> Role<P> {
         ensures role { self.new ≡ record self.old { mind = thinks self.old.mind (after_slots 0 region.old (picture_of self.old.mind)) } }
     {
         collect_all(&mut self.mind, region);
+    }
+}
+
+impl<P: Policy> Role<P> {
+    /// What the role's policy plans by all that the agent has in mind, where the other class holds the
+    /// CPUs of `taken` and no other. Each choice is safe to stamp. Nothing is changed.
+    ///
+    /// # Errors
+    ///
+    /// Where there is no memory for the choices. Nothing is changed then either.
+    pub fn decide(&mut self, alloc: Global, taken: Mask) -> Result<Vec<Choice>, AllocError>
+        ensures plan { IfOk result (λ r. r.items ≡ P.chosen self.old.policy (look_up self.old.mind.records) (record self.old.mind.cpus { taken = taken }) (order self.old.mind.queue)) }
+        ensures safe { IfOk result (λ r. IsSafePlan (look_up self.old.mind.records) (record self.old.mind.cpus { taken = taken }) (order self.old.mind.queue) r.items) }
+        ensures unchanged { self.new ≡ self.old }
+    {
+        self.mind.plan(alloc, &self.policy, taken)
+    }
+}
+
+impl<P: Counted> Role<P> {
+    /// How many choices the role's policy plans where the other class holds the CPUs of `taken` and no
+    /// other: as many as [`Role::decide`] answers where there is memory. It takes none. Nothing is
+    /// changed.
+    pub fn count(&mut self, taken: Mask) -> usize
+        ensures count { result ≡ length (P.chosen self.old.policy (look_up self.old.mind.records) (record self.old.mind.cpus { taken = taken }) (order self.old.mind.queue)) }
+        ensures unchanged { self.new ≡ self.old }
+    {
+        self.mind.count(&self.policy, taken)
     }
 }

@@ -10,9 +10,11 @@ ghost use Rattle.gs_ring.specs.RingState.{posts};
 use crate::{Drained, Role, Stop};
 use gs_beliefs::Running;
 use gs_layout::{Change, Class, Facts, Message, Name, Outcome, Refusal};
+use gs_policy::{Choice, Counted, FirstCome, Policy, TwoClass};
 use gs_ring::{ByteRing, Poster};
 use gs_slots::{Region, SlotMut, SlotState, Stamp};
-use std::alloc::Global;
+use gs_status::Mask;
+use std::alloc::{AllocError, Global};
 use std::test::Fail;
 
 /// A policy that plans nothing.
@@ -67,15 +69,42 @@ fn new_role(alloc: Global) -> Result<Role<Idler>, Fail> {
     Ok(Role::new(alloc, Idler, 4, 3, 3)?)
 }
 
-/// The role once it knows thread 7, with number 5, and thread 9, with number 6.
-fn role_with_two(alloc: Global) -> Result<Role<Idler>, Fail> {
+/// A role hears of thread 7, with number 5, and of thread 9, with number 6.
+fn hear_of_two<P>(alloc: Global, role: &mut Role<P>) -> Result<(), Fail> {
     let mut ring = ring_with_seventh(alloc)?;
     tell(&mut ring, 9, 6, creation().ok_or("a name")?)?;
-    let mut role = new_role(alloc)?;
     if role.drain(&mut ring, 9).stop.is_some() {
         return Err(Fail::from("memory"));
     }
+    Ok(())
+}
+
+/// The role once it knows both.
+fn role_with_two(alloc: Global) -> Result<Role<Idler>, Fail> {
+    let mut role = new_role(alloc)?;
+    hear_of_two(alloc, &mut role)?;
     Ok(role)
+}
+
+/// A role on CPU 0 of two that plans by this policy, and knows both: they wait for CPU 1.
+fn planner<P: Drop>(alloc: Global, policy: P) -> Result<Role<P>, Fail> {
+    let mut role = Role::new(alloc, policy, 2, 3, 0)?;
+    hear_of_two(alloc, &mut role)?;
+    Ok(role)
+}
+
+/// What a role decides, by the bound alone.
+fn decided<P: Policy>(
+    alloc: Global,
+    role: &mut Role<P>,
+    taken: Mask,
+) -> Result<Vec<Choice>, AllocError> {
+    role.decide(alloc, taken)
+}
+
+/// How many choices a role counts, by the bound alone.
+fn counted<P: Counted>(role: &mut Role<P>, taken: Mask) -> usize {
+    role.count(taken)
 }
 
 /// What a drain took in that did not stop early.
@@ -285,5 +314,30 @@ fn believes_what_it_is_told(rt: HostRuntime) -> Result<(), Fail> {
     tell(&mut ring, 7, 6, Change::Blocked { cpu: 0 })?;
     assert_eq!(rt; role.drain(&mut ring, 9), drained(1, 0, 0));
     assert_eq!(rt; role.believed(0), None);
+    Ok(())
+}
+
+#[test]
+fn decides_by_its_policy(rt: HostRuntime) -> Result<(), Fail> {
+    let mut first_come = planner(rt.alloc(), FirstCome)?;
+    let mut two_class = planner(rt.alloc(), TwoClass { slice: 2 })?;
+    let tids = first_come.waiting().collect::<Vec<u32>>(rt.alloc())?;
+    assert_eq!(rt; tids.as_slice(), [7, 9].as_slice());
+    let expected = [Choice {
+        cpu: 1,
+        tid: 7,
+        preempt: false,
+    }];
+    let choices = decided(rt.alloc(), &mut first_come, Mask::none())?;
+    assert_eq!(rt; choices.as_slice(), expected.as_slice());
+    assert_eq!(rt; counted(&mut first_come, Mask::none()), 1);
+    let choices = decided(rt.alloc(), &mut two_class, Mask::none())?;
+    assert_eq!(rt; choices.as_slice(), expected.as_slice());
+    assert_eq!(rt; counted(&mut two_class, Mask::none()), 1);
+    // The other class holds CPU 1 for one decision alone.
+    let choices = decided(rt.alloc(), &mut two_class, Mask::new(0b10))?;
+    assert!(rt; choices.is_empty());
+    assert_eq!(rt; counted(&mut two_class, Mask::new(0b10)), 0);
+    assert_eq!(rt; counted(&mut two_class, Mask::none()), 1);
     Ok(())
 }

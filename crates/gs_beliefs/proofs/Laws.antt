@@ -5,10 +5,14 @@ use Rattle.std.proofs.Math.ListN as listn
 use Rattle.std.proofs.lemmas.Bool.{cases_lt, cases_eq}
 use Rattle.std.proofs.lemmas.Bool.Decides.{nat_tests}
 use Rattle.std.proofs.lemmas.List.{length-map, length-set, length-replicate, get_or-replicate, get_or-set_same, get_or-set_other, get_or_past, set_past}
+use Rattle.gs_layout.specs.declared.kind.Kind.{Kind}
+use Rattle.gs_layout.specs.declared.kind.Kind.TheVariants as kinds
 use Rattle.gs_layout.specs.declared.message.Message.{Message}
 use Rattle.gs_layout.specs.declared.message.Message.TheVariants.{Thread, TimerTick}
 use Rattle.gs_layout.specs.declared.outcome.Outcome.{Outcome}
-use Rattle.gs_layout.specs.Message.{takes_off_cpu}
+use Rattle.gs_layout.specs.Message.{takes_off_cpu, tseq_of}
+use Rattle.gs_layout.specs.Spelling.{kind_of, tid_of}
+use Rattle.gs_reader.specs.Taking.{takes_own_off}
 use Rattle.gs_beliefs.specs.Cpus.{Cpus, unknown, believed_on, stamp_on, cleared_at, raised_at, ticked, running, clears, raises, ticks, places, stamps, unstamps}
 use Rattle.gs_beliefs.specs.Belief.{hears, heard_at, shows_place, after_outcome}
 
@@ -81,6 +85,12 @@ by_change false t n s c = believed_on_raises t n s c
 pub believed_on_hears : (m : Message) (s : Cpus) (c : ℕ) → believed_on (hears m s) c ≡ heard_at c m (believed_on s c)
 believed_on_hears (TimerTick d) s c = at_tick c d s (cases_eq c d)
 believed_on_hears (Thread t n change) s c = by_change (takes_off_cpu change) t n s c
+
+-- a message about a thread that takes nobody off gives the thread its number
+pub hears_number : (m : Message) (s s' : Cpus) (k : Kind) (t n : ℕ) → takes_own_off m ≡ false → k ≡ kind_of m → k ≢ kinds.TimerTick → t ≡ tid_of m → n ≡ tseq_of m → s' ≡ raises t n s → s' ≡ hears m s
+hears_number (TimerTick c) s s' k t n off kind other tid tseq e = absurd (other kind)
+hears_number (Thread u i change) s s' k t n off kind other tid tseq e =
+    e ∙ (ap (λ x. raises x n s) tid ∙ (ap (λ y. raises u y s) tseq ∙ ap (λ (b : Bool). cond b (clears u s) (raises u i s)) (sym off)))
 
 -- an outcome that says that the thread is on a CPU
 pub after_outcome_shown : (o : Outcome) (c t n : ℕ) (s : Cpus) → shows_place o ≡ true → after_outcome o (Some c) t n s ≡ places c t n s

@@ -1,5 +1,4 @@
 pub mod Laws
 pub mod Found
 mod Changing
-mod Marking
 mod Rows

@@ -3,9 +3,9 @@ ghost use Rattle.gs_status.specs.Masks.{has};
 ghost use Rattle.gs_beliefs.specs.Cpus.{believed_on, clears, is_believed, is_free, is_named, is_usable, places, raises, stamp_on, stamps, ticks, unknown, unstamps};
 ghost use Rattle.gs_beliefs.specs.Belief.{after_outcome, hears};
 
-use crate::marks::marked;
 use crate::running::{Running, clear_all, raise_all, runs, ticked};
-use gs_layout::{Message, Outcome};
+use gs_layout::{Kind, Outcome};
+use gs_reader::MessageRef;
 use gs_status::Mask;
 use std::alloc::{AllocError, Global};
 use std::marker::Model;
@@ -126,25 +126,25 @@ impl CpuBeliefs {
     }
 
     /// The CPUs that the agent may use.
-    #[tactic(auto, using(crate::proofs::Marking::marked_more))]
+    #[tactic(auto, using(gs_status::proofs::Marking::marked_if))]
     pub fn usable(&self) -> Mask
         ensures { (c : ℕ) → has result c ≡ is_usable self.now c }
     {
         let mut mask = Mask::none();
         for cpu in 0..self.cpus() {
-            mask = marked(mask, cpu, self.is_usable(cpu));
+            mask = mask.with_if(cpu, self.is_usable(cpu));
         }
         mask
     }
 
     /// The CPUs that the agent may use and on which nobody is believed to run.
-    #[tactic(auto, using(crate::proofs::Marking::marked_more))]
+    #[tactic(auto, using(gs_status::proofs::Marking::marked_if))]
     pub fn free(&self) -> Mask
         ensures { (c : ℕ) → has result c ≡ is_free self.now c }
     {
         let mut mask = Mask::none();
         for cpu in 0..self.cpus() {
-            mask = marked(mask, cpu, self.is_free(cpu));
+            mask = mask.with_if(cpu, self.is_free(cpu));
         }
         mask
     }
@@ -188,16 +188,20 @@ impl CpuBeliefs {
 
     /// A message that applied to the view: a tick counts for its CPU, one that takes its thread off a
     /// CPU clears the thread's belief, and any other gives it the message's number.
-    pub fn hear(&mut self, message: &Message)
+    pub fn hear(&mut self, message: &MessageRef<'_>)
         ensures { self.new ≡ hears message.now self.old }
     {
-        match message {
-            Message::TimerTick { cpu } => self.tick(*cpu),
-            Message::Thread { tid, tseq, change } => {
-                if change.takes_off_cpu() {
-                    self.clear(*tid);
+        match message.kind() {
+            Kind::TimerTick => {
+                if let Some(cpu) = message.cpu() {
+                    self.tick(cpu);
+                }
+            }
+            _ => {
+                if message.takes_off_cpu() {
+                    self.clear(message.tid());
                 } else {
-                    self.raise(*tid, *tseq);
+                    self.raise(message.tid(), message.tseq());
                 }
             }
         }

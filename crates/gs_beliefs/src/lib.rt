@@ -2,7 +2,6 @@
 #![tactic(auto)]
 
 mod cpu_beliefs;
-mod marks;
 mod running;
 #[cfg(test)]
 mod tests;

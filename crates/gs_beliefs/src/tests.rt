@@ -1,5 +1,8 @@
+ghost use Rattle.gs_layout.specs.Spelling.{IsSpellable};
+
 use crate::{CpuBeliefs, Running};
-use gs_layout::{Change, Message, Outcome};
+use gs_layout::{Change, Message, Outcome, Parcel};
+use gs_reader::MessageRef;
 use gs_status::Mask;
 use std::alloc::Global;
 use std::test::Fail;
@@ -13,6 +16,14 @@ fn three(alloc: Global) -> Result<CpuBeliefs, Fail> {
     let mut beliefs = CpuBeliefs::new(alloc, 3, Some(0))?;
     beliefs.place(1, 7, 4);
     Ok(beliefs)
+}
+
+/// The beliefs hear a message.
+fn tell(beliefs: &mut CpuBeliefs, message: &Message)
+    requires { IsSpellable message.now }
+{
+    let parcel = Parcel::new(message);
+    beliefs.hear(&MessageRef::in_parcel(&parcel));
 }
 
 #[test]
@@ -65,25 +76,31 @@ fn ticks_up_to_the_most(rt: HostRuntime) -> Result<(), Fail> {
 #[test]
 fn hears(rt: HostRuntime) -> Result<(), Fail> {
     let mut beliefs = three(rt.alloc())?;
-    beliefs.hear(&Message::TimerTick { cpu: 1 });
+    tell(&mut beliefs, &Message::TimerTick { cpu: 1 });
     assert_eq!(rt; beliefs.believed(1), running(7, 4, 1));
     let change = Change::Affinity {
         cpu: Some(1),
         off: false,
         mask: 2,
     };
-    beliefs.hear(&Message::Thread {
-        tid: 7,
-        tseq: 5,
-        change,
-    });
+    tell(
+        &mut beliefs,
+        &Message::Thread {
+            tid: 7,
+            tseq: 5,
+            change,
+        },
+    );
     assert_eq!(rt; beliefs.believed(1), running(7, 5, 1));
     let change = Change::Blocked { cpu: 1 };
-    beliefs.hear(&Message::Thread {
-        tid: 7,
-        tseq: 6,
-        change,
-    });
+    tell(
+        &mut beliefs,
+        &Message::Thread {
+            tid: 7,
+            tseq: 6,
+            change,
+        },
+    );
     assert_eq!(rt; beliefs.believed(1), None);
     Ok(())
 }

@@ -55,7 +55,7 @@ commit_step m mask s r0 r h answers agent slots left i same stays told is_s few 
     let ring_is : r.capacity ≡ m.ring = same ∙ i.ring in
     let consumed_is : r.taken ≡ m.consumed = stays ∙ i.consumed in
     done (refusal m (events.Commit mask)) m (events.Commit mask) (replies.Landed answers (torn h)) (record (with_kernel m s r h) { agent = agent; slots = slots }) none
-    (λ j. replies.Landed (answers_is j) (torn (h_is j)), λ j. record { settings = is_s j; ring = ring_is j; history = h_is j; consumed = consumed_is j; agent = agent_is j; slots = slots_is j; transactions = m.transactions })
+    (λ j. replies.Landed (answers_is j) (torn (h_is j)), λ j. record { settings = is_s j; ring = ring_is j; history = h_is j; consumed = consumed_is j; agent = agent_is j; policy = m.policy; slots = slots_is j; transactions = m.transactions })
 
 same_pair : (p q : ℕ × Stamp) → Some p ≡ Some q → p ≡ q
 same_pair p q e = cc
@@ -101,14 +101,14 @@ late_step m n x (Ok l) s r0 r h i same stays told is_s few tight up is is_l is_h
     let ring_is : r.capacity ≡ m.ring = same ∙ i.ring in
     let consumed_is : r.taken ≡ m.consumed = stays ∙ i.consumed in
     let reply_is : replies.Late n l (torn h) ≡ (lands_late m n (Some x)).0 = λ j. replies.Late n (l_is j) (torn (h_is j)) in
-    let state_is : with_kernel m s r h ≡ (lands_late m n (Some x)).1 = λ j. record { settings = is_s j; ring = ring_is j; history = h_is j; consumed = consumed_is j; agent = m.agent; slots = m.slots; transactions = m.transactions } in
+    let state_is : with_kernel m s r h ≡ (lands_late m n (Some x)).1 = λ j. record { settings = is_s j; ring = ring_is j; history = h_is j; consumed = consumed_is j; agent = m.agent; policy = m.policy; slots = m.slots; transactions = m.transactions } in
     done (refusal m (events.Late n)) m (events.Late n) (replies.Late n l (torn h)) (with_kernel m s r h) (late_fits m n x up is)
     (reply_is ∙ ap (λ o. (lands_late m n o).0) (sym is), state_is ∙ ap (λ o. (lands_late m n o).1) (sym is))
 late_step m n x (Err e) s r0 r h i same stays told is_s few tight up is is_l is_h unchanged =
     let ring_is : r.capacity ≡ m.ring = same ∙ i.ring in
     let consumed_is : r.taken ≡ m.consumed = stays ∙ i.consumed in
     subst (λ f. Serves f m (events.Late n) (replies.Refused refusals.OutOfMemory) (with_kernel m s r h)) (sym (late_fits m n x up is))
-    (inr (refl, λ j. record { settings = is_s j; ring = ring_is j; history = unchanged j; consumed = consumed_is j; agent = m.agent; slots = m.slots; transactions = m.transactions }))
+    (inr (refl, λ j. record { settings = is_s j; ring = ring_is j; history = unchanged j; consumed = consumed_is j; agent = m.agent; policy = m.policy; slots = m.slots; transactions = m.transactions }))
 
 -- and it brings no agent
 pub late_agent : (q : Result Landing AllocError) (m : State) (h : History) (x : Transaction) → OnOk q (h ≡ after_landing (not (torn h)) m.settings m.history x.cpu x.slot) → OnErr q (h ≡ m.history) → NoNewAgent m.history h

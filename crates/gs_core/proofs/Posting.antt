@@ -62,7 +62,7 @@ abbrev pub with_kernel : State → Settings → RingState → List Entry → Sta
 with_kernel m s r h = record m { settings = s; ring = r.capacity; history = h; consumed = r.taken }
 
 same_beside : (m : State) (s : Settings) (r : RingState) (h h' : List Entry) → s ≡ m.settings → r.capacity ≡ m.ring → r.taken ≡ m.consumed → h ≡ h' → with_kernel m s r h ≡ record m { history = h' }
-same_beside m s r h h' a b c d = λ i. record { settings = a i; ring = b i; history = d i; consumed = c i; agent = m.agent; slots = m.slots; transactions = m.transactions }
+same_beside m s r h h' a b c d = λ i. record { settings = a i; ring = b i; history = d i; consumed = c i; agent = m.agent; policy = m.policy; slots = m.slots; transactions = m.transactions }
 
 -- what an event answers, by what the kernel answered
 abbrev pub reply_of : {A : Type 0} → (A → Reply) → Result A Refusal → Reply

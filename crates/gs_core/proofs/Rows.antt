@@ -21,6 +21,7 @@ use Rattle.gs_kernel.specs.Kernel.{create_refusal, tick_refusal, thread_refusal,
 use Rattle.gs_kernel.specs.Shown.{live_threads, status}
 use Rattle.gs_kernel.specs.Commit.{commit_refusal}
 use Rattle.gs_slots.specs.declared.state.SlotState.TheVariants.{Idle}
+use Rattle.gs_slots.specs.declared.state.SlotState.TheVariants as states
 use Rattle.gs_core.specs.declared.event.Event.TheVariants as events
 use Rattle.gs_core.specs.declared.reply.Reply.{Reply}
 use Rattle.gs_core.specs.declared.reply.Reply.TheVariants as replies
@@ -28,17 +29,20 @@ use Rattle.gs_core.specs.declared.config.Config.{Config}
 use Rattle.gs_core.specs.declared.config.ConfigFault.TheVariants as faults
 use Rattle.gs_core.specs.Config.{config_fault, settings_of}
 use Rattle.gs_ring.specs.Places as places
+use Rattle.gs_policy.specs.declared.any.AnyPolicy.TheVariants as policies
 use Rattle.gs_ring.specs.Places.{need, pad_len}
 use Rattle.gs_mind.specs.Mind.{nothing}
 use Rattle.gs_beliefs.specs.Cpus.{places, unknown}
 use Rattle.gs_runq.specs.Queue.{empty}
-use Rattle.gs_core.specs.Machine.{Agent, State, creates, happens, takes, ticks, fits, stamps, commits, refusal, start, unread, view, attached, landings, lates}
+use Rattle.gs_status.specs.Masks.{least, mask_of}
+use Rattle.gs_core.specs.Safe.{leaves}
+use Rattle.gs_core.specs.Machine.{Agent, State, creates, decides, happens, takes, ticks, fits, stamps, commits, refusal, start, unread, view, attached, landings, lates}
 
 facts : Bool → ℕ → Facts
 facts r m = record { runnable = r; mask = m; class = Zero; name = codes "web" }
 
 two : Config
-two = record { cpus = 2; ring = 128; first_tseq = 0; first_generation = 1; history = 100 }
+two = record { cpus = 2; ring = 128; first_tseq = 0; first_generation = 1; history = 100; policy = policies.FirstCome (record {}) }
 
 knows : Bool → ℕ → Known
 knows r m = record { facts = facts r m; tseq = 1 }
@@ -168,7 +172,7 @@ attached_now = refl
 
 -- faults in their order
 config : ℕ → ℕ → ℕ → ℕ → ℕ → Config
-config c b t g h = record { cpus = c; ring = b; first_tseq = t; first_generation = g; history = h }
+config c b t g h = record { cpus = c; ring = b; first_tseq = t; first_generation = g; history = h; policy = policies.FirstCome (record {}) }
 
 no_fault : config_fault (config 64 1048576 4294967294 4294967295 16777216) ≡ None
 unfolding config_fault config
@@ -324,3 +328,39 @@ lives_there = refl
 status_there : status two_cpus running.history 1 ∷ status two_cpus running.history 2 ∷ [] ≡ Some (record { tseq = 1; cpu = Some 1; runnable = true; alive = true }) ∷ None ∷ []
 unfolding two_cpus running made posted messages created seq record_in record_of latest on at standing last_of two facts
 status_there = refl
+
+-- two threads wait for CPUs 1 and 2, of which the other class has CPU 1: the one that waits first is stamped for CPU 2
+waiting : State
+waiting =
+    record (start (config 3 256 0 1 100)) {
+      history = Role 1 0 ∷ Posted (Thread 1 1 (Created (facts true 6))) ∷ Posted (Thread 2 1 (Created (facts true 6))) ∷ Taken 1 ∷ [];
+      consumed = 2;
+      agent = Some (
+          record {
+            mind = record (nothing 3 (Some 0)) { records = (1, knows true 6) ∷ (2, knows true 6) ∷ []; queue = record { zero_class = 1 ∷ 2 ∷ []; one_class = []; room = 0 } };
+            next = None;
+          }
+          );
+    }
+
+decided : (decides waiting).0 ≡ replies.Decided 1 (record { cpu = 2; tid = 1; preempt = false } ∷ [])
+unfolding waiting config facts knows mask_of least taken last_taken latest standing last_of
+decided = refl
+
+decision_stamped : (decides waiting).1.slots ≡ Idle ∷ Idle ∷ states.Stamped (record { generation = 1; tid = 1; tseq = 1; preempt = false }) ∷ []
+unfolding waiting config facts knows mask_of least taken last_taken latest active standing last_of
+decision_stamped = refl
+
+-- a plan that the list of transactions has no room for is refused, and one without a choice never is
+list_full : refusal (record waiting { settings = record waiting.settings { history = 0 } }) events.Decide ≡ Some refusals.HistoryFull
+unfolding waiting config facts knows mask_of least taken last_taken latest active torn standing last_of
+list_full = refl
+
+nothing_to_decide : refusal (record waiting { settings = record waiting.settings { history = 0 }; agent = None }) events.Decide ≡ None
+unfolding waiting config facts knows mask_of least taken last_taken latest active torn standing last_of
+nothing_to_decide = refl
+
+-- what takes a belief's thread off, and has a higher number
+takes_it_off : leaves 1 4 (Thread 1 5 (Blocked 1)) ∷ leaves 1 5 (Thread 1 5 (Blocked 1)) ∷ leaves 1 4 (Thread 1 5 changes.Wakeup) ∷ leaves 2 4 (Thread 1 5 (Blocked 1)) ∷ []
+    ≡ true ∷ false ∷ false ∷ false ∷ []
+takes_it_off = refl

@@ -13,7 +13,7 @@ use Rattle.gs_layout.specs.View.{look_up, catch_up}
 use Rattle.gs_journal.specs.declared.entry.Entry.{Entry}
 use Rattle.gs_journal.specs.declared.entry.Entry.TheVariants.{Posted, Placed, Role, Begin, Left, Taken, Given, Torn}
 use Rattle.gs_status.specs.Masks.{has}
-use Rattle.gs_journal.specs.History.{History, active, attaching}
+use Rattle.gs_journal.specs.History.{History, active, attaching, torn}
 use Rattle.gs_journal.specs.State.{state, Was}
 use Rattle.gs_journal.proofs.Past.{same_view, was_once}
 use Rattle.gs_kernel.specs.declared.settings.Settings.{Settings}
@@ -26,7 +26,7 @@ use Rattle.gs_mind.specs.Picture.{Picture, after_slots, after_stamp}
 use Rattle.gs_kernel.specs.Kernel.{preemption}
 use Rattle.gs_kernel.specs.Commit.{Fits, fits_if_any, lands, one_lands, slot_after, history_after}
 use Rattle.gs_kernel.proofs.Commits.{slots_count}
-use Rattle.gs_core.specs.Safe.{Safe, IsFaithful, IsIn, IsBacked}
+use Rattle.gs_core.specs.Safe.{Safe, IsFaithful, IsIn, IsBacked, IsTrusted}
 use Rattle.gs_core.specs.Good.{GoodHistory, Good, Faces, is_given}
 use Rattle.gs_core.proofs.Told.{catch_up_at}
 use Rattle.gs_core.proofs.Gaps.{no_gap}
@@ -269,7 +269,7 @@ late_good m n g = by_number n (transaction_of m.transactions n) refl
         let b = landed (makes_way m x.cpu) m.settings m.transactions m.consumed (view m) (page_of m.agent) m.history x.cpu x.slot x i refl refl (g.history.within x i) (both_of m g) in
         grown_good m _ b (landing_roles (makes_way m x.cpu) m.settings m.history x.cpu x.slot) g
 
-pub faithful_of : (m : State) → Good m → IsFaithful m
-faithful_of m g =
+pub faithful_of : (m : State) → Good m → (torn m.history ≡ false → IsTrusted m) → IsFaithful m
+faithful_of m g trusted =
     let f = g.faces in
-    record { known = λ t k e. was_once m.settings.first_tseq m.history t k (f.known t k e); no_gap = no_gap m g; once = g.history.once }
+    record { known = λ t k e. was_once m.settings.first_tseq m.history t k (f.known t k e); no_gap = no_gap m g; once = g.history.once; trusted = trusted }

@@ -1,5 +1,5 @@
 -- Each step keeps what the machine keeps, and the machine has it at the start.
-use Rattle.std.proofs.Common.{◌≡◌, refl, sym, subst, ℕ, zero, suc, ◌<◌, inl, inr, nat_le, not, true, false, Option, None, Some, [], ◌∷◌, arith, slice_get, Bool}
+use Rattle.std.proofs.Common.{◌≡◌, refl, sym, subst, ℕ, zero, suc, ◌<◌, inl, inr, nat_le, not, true, false, Option, None, Some, List, [], ◌∷◌, arith, slice_get, Bool}
 use Rattle.std.specs.Option.{is_some}
 use Rattle.std.proofs.lemmas.Bool.Decides.{nat_tests}
 use Rattle.gs_layout.specs.declared.refusal.Refusal.{Refusal}
@@ -19,7 +19,10 @@ use Rattle.gs_core.specs.declared.config.Config.{Config}
 use Rattle.gs_core.specs.Config.{settings_of}
 use Rattle.gs_core.specs.declared.event.Event.{Event}
 use Rattle.gs_core.specs.declared.event.Event.TheVariants as events
-use Rattle.gs_core.specs.Machine.{refusal, Does, Serves, Step}
+use Rattle.gs_core.specs.Desk.{AreBelow}
+use Rattle.gs_core.specs.Machine.{refusal, view, plan_of, stamps, stamps_all, stamps_with, Does, Serves, Step}
+use Rattle.gs_layout.specs.declared.known.Known.{Known}
+use Rattle.gs_policy.specs.declared.choice.Choice.{Choice}
 use Rattle.gs_kernel.proofs.Refusals.{first_passed}
 use Rattle.gs_kernel.specs.Kernel.{happening}
 use Rattle.gs_core.specs.Machine.{fits, makes_way}
@@ -40,28 +43,47 @@ stamps_on_cpu m c t p none =
     let p3 = first_passed (nat_le m.settings.cpus c) refusals.BadCpu _ p2.1 in
     p3.0
 
+stamps_settings : (m : State) (c t : ℕ) (p : Bool) (a : Option (ℕ × ℕ)) (k : Option Known) → (stamps_with m c t p a k).1.settings ≡ m.settings
+stamps_settings m c t p None k = refl
+stamps_settings m c t p (Some a) None = refl
+stamps_settings m c t p (Some a) (Some k) = refl
+
+-- choices of CPUs that there are can be stamped
+pub choices_good : (m : State) (xs : List Choice) → AreBelow m.settings.cpus xs → Good m → Good (stamps_all m xs)
+choices_good m [] below g = g
+choices_good m (x ∷ xs) below g =
+    choices_good (stamps m x.cpu x.tid x.preempt).1 xs
+    (subst (λ (s : Settings). AreBelow s.cpus xs) (sym (stamps_settings m x.cpu x.tid x.preempt (active m.history) (view m x.tid))) below.1)
+    (stamp_good m x.cpu x.tid x.preempt below.0 g)
+
+-- what a decision plans is of CPUs that there are
+abbrev pub PlansBelow : State → Event → Type 0
+PlansBelow m events.Decide = AreBelow m.settings.cpus (plan_of m)
+PlansBelow m _ = Unit {0}
+
 -- an event that is not refused, and does what it says, keeps what the machine keeps
-does_good : (m : State) (e : Event) (r : Reply) (m' : State) → Good m → refusal m e ≡ None → Does m e r m' → Good m'
-does_good m (events.Create f) r m' g none d = subst Good (sym d.1) (create_good m f g)
-does_good m (events.Thread t e) r m' g none d = subst Good (sym d.1) (happen_good m t e (fits m (happening m.settings m.history t e)) none g)
-does_good m (events.Take c) r m' g none d = subst Good (sym d.1) (take_good m c (makes_way m c) g)
-does_good m (events.Give c) r m' g none d = subst Good (sym d.1) (give_good m c g)
-does_good m (events.Tick c) r m' g none d = subst Good (sym d.1) (tick_good m c g)
-does_good m (events.Drain max) r m' g none d = drain_kept m max d.0 m' g d.2
-does_good m (events.Stamp c t p) r m' g none d = subst Good (sym d.1) (stamp_good m c t p (below_count m c (stamps_on_cpu m c t p none)) g)
-does_good m (events.Commit mask) r m' g none d = subst Good (sym d.1) (commit_good m mask g)
-does_good m (events.Late n) r m' g none d = subst Good (sym d.1) (late_good m n g)
-does_good m events.View r m' g none d = subst Good (sym d.1) g
-does_good m events.State r m' g none d = subst Good (sym d.1) g
-does_good m events.Unread r m' g none d = subst Good (sym d.1) g
+does_good : (m : State) (e : Event) (r : Reply) (m' : State) → Good m → PlansBelow m e → refusal m e ≡ None → Does m e r m' → Good m'
+does_good m (events.Create f) r m' g b none d = subst Good (sym d.1) (create_good m f g)
+does_good m (events.Thread t e) r m' g b none d = subst Good (sym d.1) (happen_good m t e (fits m (happening m.settings m.history t e)) none g)
+does_good m (events.Take c) r m' g b none d = subst Good (sym d.1) (take_good m c (makes_way m c) g)
+does_good m (events.Give c) r m' g b none d = subst Good (sym d.1) (give_good m c g)
+does_good m (events.Tick c) r m' g b none d = subst Good (sym d.1) (tick_good m c g)
+does_good m (events.Drain max) r m' g b none d = drain_kept m max d.0 m' g d.2
+does_good m (events.Stamp c t p) r m' g b none d = subst Good (sym d.1) (stamp_good m c t p (below_count m c (stamps_on_cpu m c t p none)) g)
+does_good m events.Decide r m' g b none d = subst Good (sym d.1) (choices_good m (plan_of m) b g)
+does_good m (events.Commit mask) r m' g b none d = subst Good (sym d.1) (commit_good m mask g)
+does_good m (events.Late n) r m' g b none d = subst Good (sym d.1) (late_good m n g)
+does_good m events.View r m' g b none d = subst Good (sym d.1) g
+does_good m events.State r m' g b none d = subst Good (sym d.1) g
+does_good m events.Unread r m' g b none d = subst Good (sym d.1) g
 
-serves_good : (f : Option Refusal) (m : State) (e : Event) (r : Reply) (m' : State) → Good m → refusal m e ≡ f → Serves f m e r m' → Good m'
-serves_good (Some f) m e r m' g is s = subst Good (sym s.1) g
-serves_good None m e r m' g is (inl d) = does_good m e r m' g is d
-serves_good None m e r m' g is (inr s) = subst Good (sym s.1) g
+serves_good : (f : Option Refusal) (m : State) (e : Event) (r : Reply) (m' : State) → Good m → PlansBelow m e → refusal m e ≡ f → Serves f m e r m' → Good m'
+serves_good (Some f) m e r m' g b is s = subst Good (sym s.1) g
+serves_good None m e r m' g b is (inl d) = does_good m e r m' g b is d
+serves_good None m e r m' g b is (inr s) = subst Good (sym s.1) g
 
-pub step_good : (m : State) (e : Event) (r : Reply) (m' : State) → Good m → Step m e r m' → Good m'
-step_good m e r m' g s = serves_good (refusal m e) m e r m' g refl s
+pub step_good : (m : State) (e : Event) (r : Reply) (m' : State) → Good m → PlansBelow m e → Step m e r m' → Good m'
+step_good m e r m' g b s = serves_good (refusal m e) m e r m' g b refl s
 
 -- the start
 role_only : (g c : ℕ) → (t d : ℕ) → on (Role g c ∷ []) d ≡ Some t → ⊥

@@ -1,5 +1,5 @@
 -- The machine: what each event answers and leaves.
-use Rattle.std.specs.Prelude.{Bool, true, false, not, ◌||◌, ◌&&◌, ℕ, zero, suc, ◌+◌, ◌<◌, ◌≤◌, ◌≡◌, ◌⊎◌, nat_le, min, Option, None, Some, IsSome, List, [], ◌∷◌, ◌++◌, length, take, drop, slice_get, slice_set, map, replicate, if◌then◌else◌, is_some, option_map}
+use Rattle.std.specs.Prelude.{Bool, true, false, not, ◌||◌, ◌&&◌, ℕ, zero, suc, ◌+◌, ◌-◌, ◌<◌, ◌≤◌, ◌≡◌, ◌⊎◌, nat_le, nat_lt, min, Option, None, Some, IsSome, List, [], ◌∷◌, ◌++◌, length, take, drop, slice_get, slice_set, map, replicate, if◌then◌else◌, is_some, option_map}
 use Rattle.std.specs.List.{list_any, count_by}
 use Rattle.gs_layout.specs.declared.facts.Facts.{Facts}
 use Rattle.gs_layout.specs.declared.message.Message.{Message}
@@ -13,7 +13,7 @@ use Rattle.gs_layout.specs.declared.refusal.Refusal.TheVariants as refusals
 use Rattle.gs_layout.specs.View.{Look, look_up, words, catch_up, is_gap, is_skipped, is_orphan, gap_next}
 use Rattle.gs_journal.specs.declared.entry.Entry.{Entry}
 use Rattle.gs_journal.specs.declared.entry.Entry.TheVariants.{Role}
-use Rattle.gs_journal.specs.History.{posted, active, attaching, torn}
+use Rattle.gs_journal.specs.History.{posted, active, attaching, taken, torn}
 use Rattle.gs_journal.specs.State.{unread_after}
 use Rattle.gs_kernel.specs.declared.settings.Settings.{Settings}
 use Rattle.gs_slots.specs.State.{collected}
@@ -24,6 +24,13 @@ use Rattle.gs_kernel.specs.First.{first_that}
 use Rattle.gs_kernel.specs.Kernel.{has_agent, create_refusal, tick_refusal, thread_refusal, take_refusal, give_refusal, creation, new_tid, happening, preemption, after_post, after_take, after_give}
 use Rattle.gs_kernel.specs.Shown.{live_threads}
 use Rattle.gs_ring.specs.Places.{free_after, need, record_len, written}
+use Rattle.gs_status.specs.Masks.{mask_of}
+use Rattle.gs_runq.specs.Queue.{order}
+use Rattle.gs_beliefs.specs.Cpus.{Cpus}
+use Rattle.gs_policy.specs.declared.any.AnyPolicy.{AnyPolicy}
+use Rattle.gs_policy.specs.declared.choice.Choice.{Choice}
+use Rattle.gs_policy.specs.Any.{any_takes}
+use Rattle.gs_policy.specs.Plan.{plan}
 use Rattle.gs_view.specs.Begins.{begins}
 use Rattle.gs_mind.specs.Mind.{MindState, nothing, picture_of, thinks}
 use Rattle.gs_mind.specs.Picture.{Picture, after_slots, after_stamp, takes_in_all}
@@ -45,13 +52,14 @@ pub record Agent : Type 0 where
   pub next : Option ℕ
 
 -- a machine: the kernel's numbers, how many bytes the ring has, what happened, how many messages the agents consumed, the agent if there is
--- one, each CPU's slot, and all that was ever stamped
+-- one, the policy by which it plans, each CPU's slot, and all that was ever stamped
 pub record State : Type 0 where
   pub settings : Settings
   pub ring : ℕ
   pub history : List Entry
   pub consumed : ℕ
   pub agent : Option Agent
+  pub policy : AnyPolicy
   pub slots : List SlotState
   pub transactions : List Transaction
 
@@ -85,6 +93,14 @@ unread m = unread_after m.history m.consumed
 abbrev pub attached : State → Bool
 attached m = is_some (active m.history) || (is_some (attaching m.history) && not (is_some (page_of m.agent)))
 
+-- what the agent believes of each CPU, with the CPUs that the other class took and did not give back
+abbrev pub cpus_now : State → Cpus
+cpus_now m = record (mind_of m.agent).cpus { taken = mask_of (taken m.history) 64 }
+
+-- what the policy plans by all that the agent has in mind
+abbrev pub plan_of : State → List Choice
+plan_of m = plan (any_takes m.policy) (view m) (cpus_now m) (order (mind_of m.agent).queue)
+
 -- whether the slot of a CPU is idle
 abbrev pub is_idle : Option SlotState → Bool
 is_idle (Some Idle) = true
@@ -97,6 +113,11 @@ abbrev pub transaction_of : List Transaction → ℕ → Option Transaction
 transaction_of xs zero = None
 transaction_of xs (suc n) = slice_get xs n
 
+-- the first refusal of what takes an active agent, and else another
+abbrev pub without_agent : State → Option Refusal → Option Refusal
+without_agent m other =
+    first_that ((torn m.history, Some refusals.Gone) ∷ (not (is_some (active m.history)), Some refusals.NotActive) ∷ []) other
+
 -- the first refusal of an event whose condition holds
 abbrev pub refusal : State → Event → Option Refusal
 refusal m (events.Create f) = create_refusal m.settings m.history f
@@ -106,15 +127,17 @@ refusal m (events.Give c) = give_refusal m.settings m.history c
 refusal m (events.Tick c) = tick_refusal m.settings m.history c
 refusal m (events.Drain max) = first_that ((torn m.history, Some refusals.Gone) ∷ (not (has_agent m.history), Some refusals.NotActive) ∷ []) None
 refusal m (events.Stamp c t p) =
+    without_agent m (
     first_that (
-    (torn m.history, Some refusals.Gone)
-    ∷ (not (is_some (active m.history)), Some refusals.NotActive)
-    ∷ (nat_le m.settings.cpus c, Some refusals.BadCpu)
+    (nat_le m.settings.cpus c, Some refusals.BadCpu)
     ∷ (not (is_some (view m t)), Some refusals.NoThread)
     ∷ (not (is_idle (slice_get m.slots c)), Some refusals.SlotOpen)
     ∷ (nat_le m.settings.history (length m.transactions), Some refusals.HistoryFull)
     ∷ []
     ) None
+    )
+refusal m events.Decide =
+    without_agent m (first_that ((nat_lt (m.settings.history - length m.transactions) (length (plan_of m)), Some refusals.HistoryFull) ∷ []) None)
 refusal m (events.Commit mask) = commit_refusal m.settings m.history mask
 refusal m (events.Late n) =
     first_that ((torn m.history, Some refusals.Gone) ∷ (not (is_some (transaction_of m.transactions n)), Some refusals.NoSuchTransaction) ∷ []) None
@@ -180,6 +203,15 @@ stamps_with m c t p (Some a) None = (replies.Refused refusals.NoThread, m)
 
 abbrev pub stamps : State → ℕ → ℕ → Bool → Reply × State
 stamps m c t p = stamps_with m c t p (active m.history) (view m t)
+
+-- choices are stamped one after another
+abbrev pub stamps_all : State → List Choice → State
+stamps_all m [] = m
+stamps_all m (x ∷ xs) = stamps_all (stamps m x.cpu x.tid x.preempt).1 xs
+
+-- what the policy plans is stamped, in the plan's order
+abbrev pub decides : State → Reply × State
+decides m = (replies.Decided (length m.transactions + 1) (plan_of m), stamps_all m (plan_of m))
 
 -- the landings of a commit
 abbrev pub landings : State → ℕ → Landings
@@ -253,6 +285,7 @@ Does m (events.Give c) r m' = (r ≡ (gives m c).0) × (m' ≡ (gives m c).1)
 Does m (events.Tick c) r m' = (r ≡ (ticks m c).0) × (m' ≡ (ticks m c).1)
 Does m (events.Drain max) r m' = (d : Drained) × (r ≡ replies.Drained d) × Drains m max d m'
 Does m (events.Stamp c t p) r m' = (r ≡ (stamps m c t p).0) × (m' ≡ (stamps m c t p).1)
+Does m events.Decide r m' = (r ≡ (decides m).0) × (m' ≡ (decides m).1)
 Does m (events.Commit mask) r m' = (r ≡ (commits m mask).0) × (m' ≡ (commits m mask).1)
 Does m (events.Late n) r m' = (r ≡ (lates m n).0) × (m' ≡ (lates m n).1)
 Does m events.View r m' = Shows (view m) r × (m' ≡ m)
@@ -282,6 +315,7 @@ start c =
       history = Role c.first_generation 0 ∷ [];
       consumed = 0;
       agent = Some (record { mind = nothing c.cpus (Some 0); next = None });
+      policy = c.policy;
       slots = replicate c.cpus Idle;
       transactions = [];
     }

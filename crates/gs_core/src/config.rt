@@ -4,6 +4,7 @@ ghost use Rattle.gs_core.specs.Config.{config_fault, settings_of};
 ghost use Rattle.gs_kernel.specs.Settings.{IsInRange};
 
 use gs_kernel::Settings;
+use gs_policy::AnyPolicy;
 use gs_ring::ByteRing;
 use thiserror::Error;
 
@@ -20,6 +21,8 @@ pub struct Config {
     pub first_generation: u32,
     /// The most entries of the journal, and the most transactions, 2 to 16,777,216.
     pub history: u32,
+    /// The policy by which the agent plans. A slice is from 1 to 65,535.
+    pub policy: AnyPolicy,
 }
 
 /// Why no enclave can be opened: the first that applies.

@@ -20,6 +20,8 @@ pub enum Event {
     /// The agent stamps what it knows of a thread into the slot of a CPU: the thread is to be placed there,
     /// and with `preempt` in place of the one that is there then.
     Stamp { cpu: u16, tid: u32, preempt: bool },
+    /// The agent stamps what its policy plans, in the plan's order.
+    Decide,
     /// The stamped slots of the mask land, and are idle then.
     Commit { mask: Mask },
     /// A transaction lands late, as it was stamped, by its number counted from 1. No slot changes, and the

@@ -6,6 +6,7 @@ mod event;
 mod known;
 mod machine;
 mod reply;
+mod stamping;
 mod transaction;
 mod unread;
 

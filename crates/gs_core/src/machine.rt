@@ -1,19 +1,23 @@
-ghost use Rattle.std.specs.Prelude.{◌≡◌, None, Some, IfOk, IfErr, IfSome, OnOk, OnErr};
+ghost use Rattle.std.specs.Prelude.{◌≡◌, None, Some, IfOk, IfErr, IfSome, OnOk, OnErr, is_some, true, false};
 ghost use Rattle.std.specs.Option.{option_map};
 ghost use Rattle.gs_kernel.specs.Kernel.{IsRefusal};
 ghost use Rattle.gs_core.specs.Config.{config_fault, IsFault};
-ghost use Rattle.gs_core.specs.Machine.{Agent, State, Step, start, refusal, stamps, transaction_of, unread};
+ghost use Rattle.gs_core.specs.Machine.{Agent, State, Step, decides, mind_of, plan_of, start, refusal, stamps, transaction_of, unread, without_agent};
+ghost use Rattle.gs_core.specs.Desk.{AreBelow, AreStampable};
+ghost use Rattle.gs_journal.specs.History.{active, torn};
 ghost use Rattle.gs_core.specs.Safe.{Safe, IsFaithful, Run};
 
 use crate::config::{Config, ConfigFault};
 use crate::event::Event;
 use crate::known::known_threads;
 use crate::reply::{Items, Reply};
+use crate::stamping::{stamp_all, stamp_choice};
 use crate::transaction::Transaction;
 use crate::unread::waiting;
 use gs_agent::Role;
 use gs_kernel::{Kernel, ThreadEvent};
 use gs_layout::{Facts, Refusal};
+use gs_policy::{AnyPolicy, Choice};
 use gs_ring::ByteRing;
 use gs_slots::{Region, SlotState, Stamp};
 use gs_status::Mask;
@@ -26,7 +30,8 @@ use std::marker::Model;
 pub struct Machine {
     alloc: Global,
     kernel: Kernel<ByteRing>,
-    role: Role<()>,
+    policy: AnyPolicy,
+    role: Role<AnyPolicy>,
     region: Region,
     transactions: Vec<Transaction>,
 }
@@ -80,12 +85,19 @@ impl Machine {
         let Ok(kernel) = Kernel::new(alloc, settings, ring) else {
             return None;
         };
-        let Ok(role) = Role::new(alloc, (), settings.cpus, settings.first_generation, 0) else {
+        let Ok(role) = Role::new(
+            alloc,
+            config.policy,
+            settings.cpus,
+            settings.first_generation,
+            0,
+        ) else {
             return None;
         };
         Some(Machine {
             alloc,
             kernel,
+            policy: config.policy,
             role,
             region,
             transactions: Vec::new(alloc),
@@ -93,7 +105,7 @@ impl Machine {
     }
 
     /// The role of the agent, to look at.
-    pub fn role(&self) -> &Role<()>
+    pub fn role(&self) -> &Role<AnyPolicy>
         ensures { Some result.now.mind ≡ option_map (λ (a : Agent). a.mind) self.now.agent }
     {
         &self.role
@@ -235,6 +247,21 @@ impl Machine {
         }
     }
 
+    /// Whether an agent is active, and else the refusal of whatever takes one.
+    fn active_agent(&self) -> Result<(), Refusal>
+        ensures stands { OnOk result (torn self.now.history ≡ false) }
+        ensures active { OnOk result (is_some (active self.now.history) ≡ true) }
+        ensures refused { IfErr result (λ r. without_agent self.now None ≡ Some r) }
+    {
+        if self.kernel.is_torn() {
+            return Err(Refusal::Gone);
+        }
+        if self.kernel.active().is_none() {
+            return Err(Refusal::NotActive);
+        }
+        Ok(())
+    }
+
     fn stamp(&mut self, cpu: u16, tid: u32, preempt: bool) -> Reply
         ensures { Step self.old (Event.Stamp cpu tid preempt) result self.new }
     {
@@ -252,19 +279,13 @@ impl Machine {
         ensures refused { IfErr result (IsRefusal (refusal self.old (Event.Stamp cpu tid preempt))) }
         ensures unchanged { OnErr result (self.new ≡ self.old) }
     {
-        if self.kernel.is_torn() {
-            return Err(Refusal::Gone);
-        }
-        if self.kernel.active().is_none() {
-            return Err(Refusal::NotActive);
-        }
+        self.active_agent()?;
         if cpu >= self.region.cpus() {
             return Err(Refusal::BadCpu);
         }
-        let Some((facts, tseq)) = self.role.view().get(tid) else {
+        if self.role.view().get(tid).is_none() {
             return Err(Refusal::NoThread);
-        };
-        let facts = *facts;
+        }
         let Ok(SlotState::Idle) = self.region.state(cpu) else {
             return Err(Refusal::SlotOpen);
         };
@@ -272,21 +293,76 @@ impl Machine {
         if number >= self.kernel.settings().history as usize {
             return Err(Refusal::HistoryFull);
         }
-        let slot = Stamp {
-            generation: self.role.generation(),
-            tid,
-            tseq,
-            preempt,
-        };
-        let transaction = Transaction { cpu, slot, facts };
-        if self.transactions.push(transaction).is_err() {
+        if self.transactions.reserve(1).is_err() {
             return Err(Refusal::OutOfMemory);
         }
-        // The slot is idle, and the view knows the thread.
-        self.role
-            .stamp(self.region.slot(cpu), tid, preempt)
-            .unwrap();
+        stamp_choice(
+            &mut self.role,
+            &mut self.region,
+            &mut self.transactions,
+            Choice { cpu, tid, preempt },
+        );
         Ok(number + 1)
+    }
+
+    fn decide(&mut self) -> Reply
+        ensures { Step self.old Event.Decide result self.new }
+    {
+        match self.try_decide() {
+            Ok((first, choices)) => Reply::Decided {
+                first,
+                choices: Items::new(choices),
+            },
+            Err(refusal) => Reply::Refused(refusal),
+        }
+    }
+
+    /// Stamps what the policy plans. Answers the number of the first transaction, and the choices.
+    fn try_decide(&mut self) -> Result<(usize, Vec<Choice>), Refusal>
+        ensures fits { IfOk result (λ _. refusal self.old Event.Decide ≡ None) }
+        ensures reply { IfOk result (λ r. Reply.Decided r.0 r.1.items ≡ (decides self.old).0) }
+        ensures ok { OnOk result (self.new ≡ (decides self.old).1) }
+        ensures refused { IfErr result (IsRefusal (refusal self.old Event.Decide)) }
+        ensures unchanged { OnErr result (self.new ≡ self.old) }
+    {
+        let choices = self.plan()?;
+        let first = self.transactions.len() + 1;
+        if self.transactions.reserve(choices.len()).is_err() {
+            return Err(Refusal::OutOfMemory);
+        }
+        stamp_all(
+            &mut self.role,
+            &mut self.region,
+            &mut self.transactions,
+            choices.as_slice(),
+        );
+        Ok((first, choices))
+    }
+
+    /// What the policy plans, where there is room for its transactions.
+    fn plan(&mut self) -> Result<Vec<Choice>, Refusal>
+        ensures plan { IfOk result (λ r. r.items ≡ plan_of self.old) }
+        ensures active { OnOk result (is_some (active self.old.history) ≡ true) }
+        ensures stampable { IfOk result (λ r. AreStampable (mind_of self.old.agent).records self.old.slots r.items) }
+        ensures below { IfOk result (λ r. AreBelow self.old.settings.cpus r.items) }
+        ensures fits { IfOk result (λ _. refusal self.old Event.Decide ≡ None) }
+        ensures refused { IfErr result (IsRefusal (refusal self.old Event.Decide)) }
+        ensures unchanged { self.new ≡ self.old }
+    {
+        self.active_agent()?;
+        let taken = self.kernel.taken();
+        let history = self.kernel.settings().history as usize;
+        let room = history.saturating_sub(self.transactions.len());
+        match self.role.decide(self.alloc, taken) {
+            Ok(choices) if choices.len() > room => Err(Refusal::HistoryFull),
+            Ok(choices) => Ok(choices),
+            Err(_) => {
+                if self.role.count(taken) > room {
+                    return Err(Refusal::HistoryFull);
+                }
+                Err(Refusal::OutOfMemory)
+            }
+        }
     }
 
     fn commit(&mut self, mask: Mask) -> Reply
@@ -337,6 +413,7 @@ impl Machine {
             Event::Tick { cpu } => self.tick(*cpu),
             Event::Drain { max } => self.drain(*max),
             Event::Stamp { cpu, tid, preempt } => self.stamp(*cpu, *tid, *preempt),
+            Event::Decide => self.decide(),
             Event::Commit { mask } => self.commit(*mask),
             Event::Late { number } => self.late(*number),
             Event::View => self.view(),

@@ -3,6 +3,7 @@ ghost use Rattle.std.specs.Prelude.{◌≡◌};
 use gs_agent::Drained;
 use gs_kernel::{Landing, LiveThread};
 use gs_layout::{Known, Message, Refusal};
+use gs_policy::Choice;
 use std::marker::Model;
 
 /// Items of a reply, in order. Clauses see them as a list.
@@ -65,6 +66,12 @@ pub enum Reply {
     /// The number of the new transaction, counted from 1.
     Stamped {
         number: usize,
+    },
+    /// What the policy planned and the agent stamped, in order: the number of the first transaction, counted
+    /// from 1, those of the others following, and the choices.
+    Decided {
+        first: usize,
+        choices: Items<Choice>,
     },
     /// What became of each slot that landed, and whether that tore the enclave down.
     Landed {

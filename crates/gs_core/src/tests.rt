@@ -2,6 +2,7 @@ use crate::{Config, ConfigFault, Event, Machine, Reply};
 use gs_agent::Drained;
 use gs_kernel::{Kernel, Landing, Settings, ThreadEvent};
 use gs_layout::{Change, Class, Facts, Message, Name, Outcome, Refusal};
+use gs_policy::{AnyPolicy, Choice, FirstCome, TwoClass};
 use gs_ring::ByteRing;
 use gs_slots::{SlotState, Stamp};
 use gs_status::Mask;
@@ -15,6 +16,7 @@ const TWO_CPUS: Config = Config {
     first_tseq: 0,
     first_generation: 1,
     history: 100,
+    policy: AnyPolicy::FirstCome(FirstCome),
 };
 
 /// The numbers of a kernel of two CPUs.
@@ -477,5 +479,104 @@ fn lands_without_a_slot(rt: HostRuntime) -> Result<(), Fail> {
         (again.outcome, again.at),
         (Outcome::AlreadyPlaced, Some(1))
     );
+    Ok(())
+}
+
+/// Two threads of class 0 for CPUs 1 and 2, which the agent has heard of.
+const THREE_CPUS: Config = Config {
+    cpus: 3,
+    ring: 256,
+    ..TWO_CPUS
+};
+
+/// Whether a decision answered just these choices, the first one's transaction with this number.
+fn is_decided(reply: &Reply, number: usize, expected: &[Choice]) -> bool {
+    match reply {
+        Reply::Decided { first, choices } => *first == number && choices.as_slice() == expected,
+        _ => false,
+    }
+}
+
+#[test]
+fn decides_and_stamps(rt: HostRuntime) -> Result<(), Fail> {
+    let mut machine = Machine::new(rt.alloc(), THREE_CPUS)?;
+    let events = [
+        Event::Decide,
+        Event::Create {
+            facts: thread(&rt, true, 6),
+        },
+        Event::Create {
+            facts: thread(&rt, true, 6),
+        },
+        Event::Take { cpu: 1 },
+        Event::Drain { max: 2 },
+        Event::Decide,
+        Event::Give { cpu: 1 },
+        Event::Decide,
+        Event::Commit { mask: Mask::new(6) },
+    ];
+    let replies = machine.run(&events)?;
+    assert!(rt; is_decided(&replies[0], 1, &[]));
+    let second = Choice {
+        cpu: 2,
+        tid: 1,
+        preempt: false,
+    };
+    assert!(rt; is_decided(&replies[5], 1, &[second]));
+    let first = Choice {
+        cpu: 1,
+        tid: 2,
+        preempt: false,
+    };
+    assert!(rt; is_decided(&replies[7], 2, &[first]));
+    assert!(rt;
+        matches!(&replies[8], Reply::Landed { landings, torn: false } if landings.as_slice().len() == 2)
+    );
+    assert_eq!(rt;
+        machine.role().believed(1).map(|running| running.tid),
+        Some(2)
+    );
+    assert_eq!(rt;
+        machine.role().believed(2).map(|running| running.tid),
+        Some(1)
+    );
+    Ok(())
+}
+
+#[test]
+fn decides_as_a_whole_or_not_at_all(rt: HostRuntime) -> Result<(), Fail> {
+    let mut machine = Machine::new(
+        rt.alloc(),
+        Config {
+            history: 3,
+            policy: AnyPolicy::TwoClass(TwoClass { slice: 1 }),
+            ..THREE_CPUS
+        },
+    )?;
+    let stamp = |cpu, tid| Event::Stamp {
+        cpu,
+        tid,
+        preempt: false,
+    };
+    let events = [
+        Event::Create {
+            facts: thread(&rt, true, 4),
+        },
+        Event::Create {
+            facts: thread(&rt, true, 2),
+        },
+        Event::Drain { max: 2 },
+        stamp(1, 2),
+        stamp(2, 1),
+        Event::Commit { mask: Mask::new(6) },
+        Event::Decide,
+    ];
+    let replies = machine.run(&events)?;
+    assert!(rt; matches!(replies[6], Reply::Refused(Refusal::HistoryFull)));
+    assert!(rt; machine.transaction(3).is_none());
+    let stamped = machine.step(&stamp(2, 2));
+    assert!(rt; matches!(stamped, Reply::Stamped { number: 3 }));
+    let nothing = machine.step(&Event::Decide);
+    assert!(rt; is_decided(&nothing, 4, &[]));
     Ok(())
 }

@@ -1,3 +1,4 @@
 pub mod Names
 pub mod WorkedLines
 pub mod Corners
+pub mod Choices

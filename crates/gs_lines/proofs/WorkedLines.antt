@@ -4,7 +4,7 @@ use Rattle.std.specs.Fmt.{digits}
 use Rattle.gs_layout.specs.declared.refusal.Refusal.TheVariants as refusals
 use Rattle.gs_layout.specs.declared.outcome.Outcome.TheVariants as outcomes
 use Rattle.gs_agent.specs.declared.drained.Stop.TheVariants.{Gap}
-use Rattle.gs_core.specs.declared.reply.Reply.TheVariants.{Refused, Torn, Created, Posted, Taken, Given, Ticked, Drained, Stamped, Landed, Late, View, State, Unread}
+use Rattle.gs_core.specs.declared.reply.Reply.TheVariants.{Refused, Torn, Created, Posted, Taken, Given, Ticked, Drained, Stamped, Decided, Landed, Late, View, State, Unread}
 use Rattle.gs_layout.specs.declared.facts.Class.TheVariants.{Zero, One}
 use Rattle.gs_layout.specs.declared.message.Change.TheVariants as changes
 use Rattle.gs_layout.specs.declared.message.Message.TheVariants.{Thread, TimerTick}
@@ -24,6 +24,20 @@ drained = refl
 drained_in_part : lines (Drained (record { count = 6; skipped = 1; orphans = 2; stop = Some Gap }) ∷ []) ≡ line (codes "drained 6 skipped 1 orphans 2 stopped gap")
 unfolding digits
 drained_in_part = refl
+
+nothing_decided : lines (Decided 7 [] ∷ []) ≡ line (codes "decided 0")
+unfolding digits
+nothing_decided = refl
+
+decided : lines (Decided 1 (record { cpu = 1; tid = 1; preempt = false } ∷ record { cpu = 2; tid = 2; preempt = false } ∷ []) ∷ [])
+    ≡ line (codes "decided 2") ++ line (codes "stamped 1 cpu 1 thread 1") ++ line (codes "stamped 2 cpu 2 thread 2")
+unfolding digits
+decided = refl
+
+decided_to_preempt : lines (Decided 9 (record { cpu = 63; tid = 65536; preempt = true } ∷ record { cpu = 0; tid = 2; preempt = false } ∷ record { cpu = 1; tid = 3; preempt = true } ∷ []) ∷ Stamped 12 ∷ [])
+    ≡ line (codes "decided 3") ++ line (codes "stamped 9 cpu 63 thread 65536 preempt") ++ line (codes "stamped 10 cpu 0 thread 2") ++ line (codes "stamped 11 cpu 1 thread 3 preempt") ++ line (codes "stamped 12")
+unfolding digits
+decided_to_preempt = refl
 
 landed_nowhere : lines (Landed [] false ∷ []) ≡ []
 landed_nowhere = refl

@@ -1,5 +1,5 @@
 -- The lines of replies.
-use Rattle.std.specs.Prelude.{Bool, true, false, ℕ, List, [], ◌∷◌, ◌++◌, codes, decimal, flat_map, if◌then◌else◌, ◌==◌, Option, None, Some}
+use Rattle.std.specs.Prelude.{Bool, true, false, ℕ, ◌+◌, List, [], ◌∷◌, ◌++◌, length, codes, decimal, flat_map, if◌then◌else◌, ◌==◌, Option, None, Some}
 use Rattle.gs_layout.specs.declared.refusal.Refusal.{Refusal}
 use Rattle.gs_layout.specs.declared.refusal.Refusal.TheVariants as refusals
 use Rattle.gs_layout.specs.declared.outcome.Outcome.{Outcome}
@@ -22,6 +22,7 @@ use Rattle.gs_kernel.specs.declared.live_thread.LiveThread.{LiveThread}
 use Rattle.gs_agent.specs.declared.drained.Drained.{Drained}
 use Rattle.gs_agent.specs.declared.drained.Stop.{Stop}
 use Rattle.gs_agent.specs.declared.drained.Stop.TheVariants as stops
+use Rattle.gs_policy.specs.declared.choice.Choice.{Choice}
 use Rattle.gs_core.specs.declared.reply.Reply.{Reply}
 use Rattle.gs_core.specs.declared.reply.Reply.TheVariants as replies
 
@@ -100,6 +101,24 @@ drained_text d = codes "drained " ++ decimal d.count ++ unless_zero (codes " ski
 -- the lines of landings, one for each
 abbrev pub landing_lines : List Landing → List ℕ
 landing_lines landings = flat_map (λ a. line (landing_text a)) landings
+
+-- whether a thread takes the CPU from somebody: a word that is only there where it does
+abbrev pub preempt_text : Bool → List ℕ
+preempt_text true = codes " preempt"
+preempt_text false = []
+
+-- a choice that was stamped, by its transaction's number
+abbrev pub choice_text : ℕ → Choice → List ℕ
+choice_text n x = codes "stamped " ++ decimal n ++ codes " cpu " ++ decimal x.cpu ++ codes " thread " ++ decimal x.tid ++ preempt_text x.preempt
+
+-- the lines of choices, one for each, whose numbers rise from one on
+abbrev pub choice_lines : ℕ → List Choice → List ℕ
+choice_lines n [] = []
+choice_lines n (x ∷ xs) = line (choice_text n x) ++ choice_lines (n + 1) xs
+
+-- how many choices a decision stamped
+abbrev pub decided_text : List Choice → List ℕ
+decided_text xs = codes "decided " ++ decimal (length xs)
 
 -- the name of a kind of message: its word, in lower case
 abbrev pub kind_text : Kind → List ℕ
@@ -181,8 +200,8 @@ live_text a = codes "state " ++ known_text a.tid a.known ++ codes " cpu " ++ cpu
 abbrev pub live_lines : List LiveThread → List ℕ
 live_lines threads = flat_map (λ a. line (live_text a)) threads
 
--- the lines of a reply: a commit has one for each landing, a look one for each thread or message that it shows, and any other reply has
--- one; a commit and a late landing that tore the enclave down have one more
+-- the lines of a reply: a commit has one for each landing, a look one for each thread or message that it shows, a decision one and one for
+-- each choice, and any other reply has one; a commit and a late landing that tore the enclave down have one more
 abbrev pub reply_lines : Reply → List ℕ
 reply_lines (replies.Refused f) = line (codes "refused " ++ refusal_text f)
 reply_lines replies.Torn = line (codes "torn")
@@ -193,6 +212,7 @@ reply_lines (replies.Given cpu) = line (codes "given " ++ decimal cpu)
 reply_lines (replies.Ticked cpu) = line (codes "tick " ++ decimal cpu)
 reply_lines (replies.Drained d) = line (drained_text d)
 reply_lines (replies.Stamped number) = line (codes "stamped " ++ decimal number)
+reply_lines (replies.Decided first choices) = line (decided_text choices) ++ choice_lines first choices
 reply_lines (replies.Landed landings torn) = landing_lines landings ++ torn_line torn
 reply_lines (replies.Late number landing torn) = line (late_text number landing) ++ torn_line torn
 reply_lines (replies.View known) = view_lines known

@@ -1,6 +1,7 @@
 //! The machine's replies as lines of text.
 #![tactic(auto)]
 
+mod choice_line;
 mod message_line;
 mod reply_line;
 #[cfg(test)]

@@ -1,6 +1,7 @@
 ghost use Rattle.std.specs.Prelude.{◌≡◌, ◌++◌, IfOk, OnOk, string_bytes};
 ghost use Rattle.gs_lines.specs.Lines.{refusal_text, outcome_text, drained_text, unless_zero, stop_text, line, landing_text, landing_lines, late_text, torn_line, reply_lines, lines};
 
+use crate::choice_line::write_decided;
 use crate::message_line::{write_messages, write_posted};
 use crate::thread_line::{write_threads, write_view};
 use gs_agent::{Drained, Stop};
@@ -160,6 +161,7 @@ fn write_reply(out: &mut String, reply: &Reply) -> Result<(), AllocError>
         Reply::Ticked { cpu } => write!(out, "tick {cpu}\n"),
         Reply::Drained(drained) => write_drained(out, drained),
         Reply::Stamped { number } => write!(out, "stamped {number}\n"),
+        Reply::Decided { first, choices } => write_decided(out, *first, choices.as_slice()),
         Reply::Landed { landings, torn } => {
             write_landings(out, landings.as_slice())?;
             write_torn(out, *torn)
@@ -179,7 +181,8 @@ fn write_reply(out: &mut String, reply: &Reply) -> Result<(), AllocError>
 }
 
 /// The lines of replies, in order, each ended by a newline. A commit has a line for each landing, a look
-/// one for each thread or message that it shows, and any other reply one. It fails only for want of memory.
+/// one for each thread or message that it shows, a decision one and one for each choice, and any other
+/// reply one. It fails only for want of memory.
 pub fn text_of(alloc: Global, replies: &[Reply]) -> Result<String, AllocError>
     ensures { IfOk result (λ text. string_bytes text ≡ lines replies.now) }
 {

@@ -1,6 +1,7 @@
 use crate::text_of;
 use gs_core::{Items, Reply};
 use gs_layout::{Change, Message};
+use gs_policy::Choice;
 use std::test::Fail;
 
 /// Changes, of which thread and with which number, and what is written where a message about them
@@ -61,5 +62,37 @@ fn shows_each_kind(rt: HostRuntime) -> Result<(), Fail> {
     replies.push(Reply::Unread(Items::new(messages)))?;
     let written = text_of(rt.alloc(), &replies)?;
     assert_eq!(rt; written.as_str(), lines.as_str());
+    Ok(())
+}
+
+#[test]
+fn shows_choices(rt: HostRuntime) -> Result<(), Fail> {
+    let choices = vec![in rt.alloc();
+        Choice {
+            cpu: 1,
+            tid: 1,
+            preempt: false,
+        },
+        Choice {
+            cpu: 63,
+            tid: 65_536,
+            preempt: true,
+        },
+    ]?;
+    let replies = [
+        Reply::Decided {
+            first: 9,
+            choices: Items::new(choices),
+        },
+        Reply::Decided {
+            first: 11,
+            choices: Items::new(Vec::new(rt.alloc())),
+        },
+    ];
+    let written = text_of(rt.alloc(), &replies)?;
+    assert_eq!(rt;
+        written.as_str(),
+        "decided 2\nstamped 9 cpu 1 thread 1\nstamped 10 cpu 63 thread 65536 preempt\ndecided 0\n"
+    );
     Ok(())
 }

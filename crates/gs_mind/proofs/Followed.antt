@@ -3,7 +3,7 @@ use Rattle.std.proofs.Common.{◌≡◌, refl, ap, sym, ◌∙◌, ℕ, ◌==◌
 use Rattle.std.specs.List.{list_any}
 use Rattle.std.specs.Option.{option_to_list}
 use Rattle.std.proofs.Math.Bool.{and-false, and-true, or-false, or-true}
-use Rattle.std.proofs.lemmas.Bool.{and_parts, eqb-true, or_from, or_parts}
+use Rattle.std.proofs.lemmas.Bool.{and_parts, eq-eqb, eqb-true, or_from, or_parts}
 use Rattle.std.proofs.lemmas.Bool.Decides.{nat_tests}
 use Rattle.gs_layout.specs.declared.known.Known.{Known}
 use Rattle.gs_layout.specs.declared.message.Message.{Message}
@@ -14,8 +14,8 @@ use Rattle.gs_beliefs.specs.declared.running.Running.{Running}
 use Rattle.gs_beliefs.specs.Cpus.{Cpus, believed_on, is_believed, is_just, is_named, runs, stamp_on, stamps, unstamps}
 use Rattle.gs_beliefs.specs.Belief.{after_outcome, hears}
 use Rattle.gs_runq.specs.Queue.{Queue, is_in, order, removed}
-use Rattle.gs_runq.proofs.Queues.{in_put, in_removed, not_left, not_right}
-use Rattle.gs_mind.specs.Picture.{HoldsWaiting, displaced, ends_turn, goes_last, is_runnable, requeued, running_tid, settled, settled_all, waits}
+use Rattle.gs_runq.proofs.Queues.{in_put, in_removed, not_left, not_right, removed_absent}
+use Rattle.gs_mind.specs.Picture.{HoldsWaiting, displaced, ends_turn, goes_last, is_runnable, other_than, requeued, running_tid, settled, settled_all, waits}
 use Rattle.gs_mind.proofs.Believing.{believed_hears, believed_outcome, named_hears, named_set, runs_at, stamped_outcome}
 
 -- the queue holds just who waits, but for these threads
@@ -43,6 +43,28 @@ in_settled v s t u q = by_waits (waits v s t) refl (is_in t (order q)) refl (u =
         put_in false e k = ap (λ (o : Option Known). is_in u (order (goes_last o t q))) k.1 ∙ (in_put u t k.0.facts.class q ∙ (ap (λ (z : Bool). is_in u (order q) || z) e ∙ or-false (is_in u (order q))))
     by_waits false w i ii true e = in_removed u t q ∙ (ap (λ (z : Bool). is_in u (order q) && not z) e ∙ and-false (is_in u (order q)))
     by_waits false w i ii false e = in_removed u t q ∙ (ap (λ (z : Bool). is_in u (order q) && not z) e ∙ and-true (is_in u (order q)))
+
+-- a thread that is in the queue where it waits, and else not, is settled
+settled_kept : (v : Look) (s : Cpus) (t : ℕ) (q : Queue) → is_in t (order q) ≡ waits v s t → settled v s t q ≡ q
+settled_kept v s t q e = by_waits (waits v s t) e
+  where
+    by_waits : (w : Bool) → is_in t (order q) ≡ w → cond w (cond (is_in t (order q)) q (goes_last (v t) t q)) (removed t q) ≡ q
+    by_waits true e = ap (λ (i : Bool). cond i q (goes_last (v t) t q)) e
+    by_waits false e = removed_absent t q e
+
+-- to settle a thread twice is to settle it once
+pub settled_again : (v : Look) (s : Cpus) (t : ℕ) (q : Queue) → settled v s t (settled v s t q) ≡ settled v s t q
+settled_again v s t q =
+    settled_kept v s t (settled v s t q) (in_settled v s t t q ∙ ap (λ (b : Bool). cond b (waits v s t) (is_in t (order q))) (eq-eqb t t refl))
+
+-- so one more is settled only where it is another
+pub settled_other : (v : Look) (s : Cpus) (t : ℕ) (o : Option ℕ) (q : Queue) → settled_all v s (option_to_list (other_than t o)) (settled v s t q) ≡ settled_all v s (option_to_list o) (settled v s t q)
+settled_other v s t None q = refl
+settled_other v s t (Some u) q = by_test (u == t) refl
+  where
+    by_test : (b : Bool) → (u == t) ≡ b → settled_all v s (option_to_list (cond b None (Some u))) (settled v s t q) ≡ settled v s u (settled v s t q)
+    by_test true e = sym (ap (λ (x : ℕ). settled v s x (settled v s t q)) (eqb-true u t e) ∙ settled_again v s t q)
+    by_test false e = refl
 
 -- two numbers differ either way round
 turned : (x t : ℕ) → (x == t) ≡ false → (t == x) ≡ false

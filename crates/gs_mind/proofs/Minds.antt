@@ -3,6 +3,8 @@ use Rattle.std.proofs.Common.{◌≡◌, ◌≢◌, refl, ap, sym, ◌∙◌, su
 use Rattle.std.specs.Option.{option_to_list}
 use Rattle.std.specs.Prelude.{is_some}
 use Rattle.std.proofs.lemmas.Bool.{eqb-true}
+use Rattle.gs_layout.specs.declared.kind.Kind.{Kind}
+use Rattle.gs_layout.specs.declared.kind.Kind.TheVariants as kinds
 use Rattle.gs_layout.specs.declared.known.Known.{Known}
 use Rattle.gs_layout.specs.declared.known.Word.{Word}
 use Rattle.gs_layout.specs.declared.known.Word.TheVariants.{Applied, Orphan, Skipped, Gap}
@@ -11,20 +13,20 @@ use Rattle.gs_layout.specs.declared.message.Change.TheVariants.{Created, Blocked
 use Rattle.gs_layout.specs.declared.message.Message.{Message}
 use Rattle.gs_layout.specs.declared.message.Message.TheVariants.{Thread, TimerTick}
 use Rattle.gs_layout.specs.Message.{is_creation}
-use Rattle.gs_layout.specs.Spelling.{IsSpellable}
+use Rattle.gs_layout.specs.Spelling.{IsSpellable, kind_of, tid_of}
 use Rattle.gs_layout.specs.View.{Look, apply, learn, next_known, word, word_at}
 use Rattle.gs_beliefs.specs.Cpus.{Cpus, stamp_on, stamps}
 use Rattle.gs_beliefs.specs.Belief.{hears}
-use Rattle.gs_runq.specs.Queue.{IsTid, Queue, is_in, order}
+use Rattle.gs_runq.specs.Queue.{IsTid, Queue, is_in, order, removed}
 use Rattle.gs_view.specs.Begins.{begins}
 use Rattle.gs_view.specs.declared.taken.Taken.{Taken}
 use Rattle.gs_view.specs.declared.taken.Taken.TheVariants as taken
 use Rattle.gs_view.specs.Taken.{word_of}
 use Rattle.gs_mind.specs.Held.{HasRoom}
 use Rattle.gs_mind.specs.Mind.{MindState, bare}
-use Rattle.gs_mind.specs.Picture.{HoldsWaiting, Picture, displaced, requeued, settled, settled_all, takes_in, takes_in_by, waits}
+use Rattle.gs_mind.specs.Picture.{HoldsWaiting, Picture, displaced, ends_own_turn, ends_turn, other_than, requeued, settled, settled_all, takes_in, takes_in_by, waits}
 use Rattle.gs_mind.proofs.Rooms.{bare_requeued}
-use Rattle.gs_mind.proofs.Followed.{holds_news, settled_append, touched}
+use Rattle.gs_mind.proofs.Followed.{holds_news, settled_append, settled_other, touched}
 
 -- minds with the same parts are the same
 abbrev pub mind_of : List (ℕ × Known) → Cpus → Queue → MindState
@@ -38,6 +40,18 @@ pub stamp_queue : (v : Look) (s s' : Cpus) (q q' q'' : Queue) (c t : ℕ) (named
     → q'' ≡ settled_all v (stamps c t s) (t ∷ option_to_list (stamp_on s c)) q
 stamp_queue v s s' q q' q'' c t named a b d e =
     e ∙ (ap (settled_all v s' (option_to_list named)) d ∙ (ap (λ (x : Cpus). settled_all v x (t ∷ option_to_list named) q) a ∙ ap (λ (o : Option ℕ). settled_all v (stamps c t s) (t ∷ option_to_list o) q) b))
+
+-- the queue after the thread that a stamp names was settled beside another
+pub named_queue : (v : Look) (s : Cpus) (q q' q'' : Queue) (t : ℕ) (named other : Option ℕ) → other ≡ other_than t named → q' ≡ settled v s t q → q'' ≡ settled_all v s (option_to_list other) q' → q'' ≡ settled_all v s (option_to_list named) q'
+named_queue v s q q' q'' t named other a d e =
+    e ∙ (ap (λ (o : Option ℕ). settled_all v s (option_to_list o) q') a
+    ∙ (ap (settled_all v s (option_to_list (other_than t named))) d ∙ (settled_other v s t named q ∙ ap (settled_all v s (option_to_list named)) (sym d))))
+
+-- the queue after a message about a thread
+pub requeued_by : (v : Look) (s : Cpus) (q q' q'' : Queue) (m : Message) (k : Kind) (t : ℕ) → k ≡ kind_of m → k ≢ kinds.TimerTick → t ≡ tid_of m → q' ≡ cond (ends_own_turn m) (removed t q) q → q'' ≡ settled v s t q' → q'' ≡ requeued v s m q
+requeued_by v s q q' q'' (TimerTick c) k t kind other tid d e = absurd (other kind)
+requeued_by v s q q' q'' (Thread u n change) k t kind other tid d e =
+    e ∙ (ap (settled v s t) d ∙ ap (λ (x : ℕ). settled v s x (cond (ends_turn change) (removed x q) q)) tid)
 
 -- the queue after a slot was collected
 pub slot_queue : (v : Look) (s s' : Cpus) (q q' q'' q''' : Queue) (c : ℕ) (at : Option ℕ) (t : ℕ) (named there : Option ℕ) → named ≡ stamp_on s c → there ≡ displaced s at

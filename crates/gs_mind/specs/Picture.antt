@@ -1,5 +1,5 @@
 -- An agent's picture of the machine, and what changes it.
-use Rattle.std.specs.Prelude.{Bool, true, false, not, ◌&&◌, ◌+◌, ◌≡◌, ℕ, Option, None, Some, List, [], ◌∷◌, ◌++◌, if◌then◌else◌}
+use Rattle.std.specs.Prelude.{Bool, true, false, not, ◌&&◌, ◌+◌, ◌==◌, ◌≡◌, ℕ, Option, None, Some, List, [], ◌∷◌, ◌++◌, if◌then◌else◌}
 use Rattle.std.specs.Option.{option_to_list}
 use Rattle.gs_layout.specs.declared.message.Change.{Change}
 use Rattle.gs_layout.specs.declared.message.Change.TheVariants as changes
@@ -52,6 +52,11 @@ ends_turn (changes.Preempted c) = true
 ends_turn (changes.Yield c) = true
 ends_turn _ = false
 
+-- whether a message ends the turn of its own thread: a tick has none
+abbrev pub ends_own_turn : Message → Bool
+ends_own_turn (TimerTick c) = false
+ends_own_turn (Thread t n ch) = ends_turn ch
+
 -- the queue after a message that applied: its thread is settled, and one whose turn ended goes last anew
 abbrev pub requeued : Look → Cpus → Message → Queue → Queue
 requeued v s (TimerTick c) q = q
@@ -84,6 +89,11 @@ believes s ts p = record { view = p.view; cpus = s; queue = settled_all p.view s
 -- the picture after a thread was stamped for a CPU: it waits no more, but whom an older stamp there named may wait again
 abbrev pub after_stamp : ℕ → ℕ → Picture → Picture
 after_stamp c t p = believes (stamps c t p.cpus) (t ∷ option_to_list (stamp_on p.cpus c)) p
+
+-- a thread, where there is one that is another than this one
+abbrev pub other_than : ℕ → Option ℕ → Option ℕ
+other_than t None = None
+other_than t (Some u) = if u == t then None else Some u
 
 -- the thread that a belief is of
 abbrev pub running_tid : Option Running → Option ℕ

@@ -1,4 +1,5 @@
-ghost use Rattle.std.specs.Prelude.{◌≡◌, ◌↔◌, ◌≤◌, Err, IfOk, OnOk, OnErr, true};
+ghost use Rattle.std.specs.Prelude.{◌≡◌, ◌↔◌, ◌≤◌, Err, IfOk, OnOk, OnErr, length, true};
+ghost use Rattle.std.specs.Fn.{FnOnceReturnsAt};
 ghost use Rattle.gs_beliefs.specs.Cpus.{believed_on};
 ghost use Rattle.gs_layout.specs.View.{is_gap, look_up, word};
 ghost use Rattle.gs_policy.specs.Safe.{IsSafePlan};
@@ -9,9 +10,9 @@ ghost use Rattle.gs_mind.specs.Mind.{nothing, picture_of, thinks};
 ghost use Rattle.gs_runq.specs.Queue.{Apart, order};
 ghost use Rattle.gs_mind.specs.Picture.{HoldsWaiting, after_slot, after_stamp, displaced, takes_in};
 
-use crate::waiting::{make_room, requeue, settle, settle_if_any};
+use crate::waiting::{make_room, other_than, requeue, settle, settle_if_any};
 use gs_beliefs::{CpuBeliefs, Running};
-use gs_policy::{Choice, Policy};
+use gs_policy::{Choice, Counted, Policy};
 use gs_reader::MessageRef;
 use gs_runq::{RunQueue, Walk};
 use gs_slots::SlotState;
@@ -114,14 +115,13 @@ impl Mind {
         ensures memory { result ≡ Err ApplyFault.OutOfMemory → begins (look_up self.old.records) message.entry ≡ true }
     {
         let _spelled = message.as_bytes();
-        let news = message.message();
-        make_room(&self.view, &mut self.queue, &news)?;
-        let taken = self.view.apply(message)?;
+        make_room(&self.view, &mut self.queue, &message)?;
+        let taken = self.view.apply(message.again())?;
         let Taken::Applied = taken else {
             return Ok(taken);
         };
-        self.cpus.hear(&news);
-        requeue(&self.view, &self.cpus, &mut self.queue, &news);
+        self.cpus.hear(&message);
+        requeue(&self.view, &self.cpus, &mut self.queue, &message);
         Ok(taken)
     }
 
@@ -153,7 +153,7 @@ impl Mind {
         else {
             return;
         };
-        let named = self.cpus.stamp_on(cpu);
+        let named = other_than(stamp.tid, self.cpus.stamp_on(cpu));
         let displaced = self.running_on(at);
         self.cpus.learn(outcome, at, stamp.tid, stamp.tseq);
         self.cpus.unstamp(cpu);
@@ -180,11 +180,21 @@ impl Mind {
         ensures unchanged { self.new ≡ self.old }
     {
         let _each_once = self.waiting();
-        let before = self.cpus.taken();
-        self.cpus.set_taken(taken);
-        let planned = policy.plan(alloc, &self.view, &self.cpus, &self.queue);
-        self.cpus.set_taken(before);
-        planned
+        while_taken(&mut self.cpus, taken, |cpus| {
+            policy.plan(alloc, &self.view, cpus, &self.queue)
+        })
+    }
+
+    /// How many choices a policy's plan has by all that the agent has in mind, where the other class
+    /// holds the CPUs of `taken` and no other: as many as [`Mind::plan`] answers where there is memory.
+    /// It takes none. Nothing is changed.
+    pub fn count<P: Counted>(&mut self, policy: &P, taken: Mask) -> usize
+        ensures count { result ≡ length (P.chosen policy.now (look_up self.old.records) (record self.old.cpus { taken = taken }) (order self.old.queue)) }
+        ensures unchanged { self.new ≡ self.old }
+    {
+        while_taken(&mut self.cpus, taken, |cpus| {
+            policy.count(&self.view, cpus, &self.queue)
+        })
     }
 
     /// The thread that is believed to run on a CPU, where there is one.
@@ -194,4 +204,18 @@ impl Mind {
         let running = self.cpus.believed(cpu?)?;
         Some(running.tid)
     }
+}
+
+/// What is answered by beliefs in which the other class holds the CPUs of `taken` and no other. They
+/// hold the mask of taken CPUs afterwards that they held before.
+fn while_taken<R, F: FnOnce(&CpuBeliefs) -> R>(cpus: &mut CpuBeliefs, taken: Mask, ask: F) -> R
+    requires { F.IsAlwaysCallable ask }
+    ensures asked { FnOnceReturnsAt F.FnOnce ask (record cpus.old { taken = taken }) result }
+    ensures unchanged { cpus.new ≡ cpus.old }
+{
+    let before = cpus.taken();
+    cpus.set_taken(taken);
+    let answer = ask(cpus);
+    cpus.set_taken(before);
+    answer
 }

@@ -191,6 +191,8 @@ fn plans_without_taken_cpus(rt: HostRuntime) -> Result<(), Fail> {
     assert_eq!(rt; both.as_slice(), expected.as_slice());
     let second = mind.plan(rt.alloc(), &FirstCome, Mask::new(0b010))?;
     assert_eq!(rt; second.as_slice(), [choice(2, 7, false)].as_slice());
+    assert_eq!(rt; mind.count(&FirstCome, Mask::none()), 2);
+    assert_eq!(rt; mind.count(&FirstCome, Mask::new(0b010)), 1);
     assert_eq!(rt; mind.beliefs().taken().bits(), 0);
     Ok(())
 }
@@ -203,5 +205,7 @@ fn plans_by_beliefs(rt: HostRuntime) -> Result<(), Fail> {
     let policy = TwoClass { slice: 2 };
     let choices = mind.plan(rt.alloc(), &policy, Mask::new(0b100))?;
     assert_eq!(rt; choices.as_slice(), [choice(1, 7, true)].as_slice());
+    assert_eq!(rt; mind.count(&policy, Mask::new(0b100)), 1);
+    assert_eq!(rt; mind.count(&FirstCome, Mask::new(0b100)), 0);
     Ok(())
 }

@@ -7,11 +7,12 @@ ghost use Rattle.gs_view.specs.declared.fault.ApplyFault.{ApplyFault};
 ghost use Rattle.gs_view.specs.Begins.{begins};
 ghost use Rattle.gs_mind.specs.Held.{HasRoom};
 ghost use Rattle.gs_mind.specs.Mind.{bare};
-ghost use Rattle.gs_mind.specs.Picture.{ends_turn, requeued, settled, settled_all, waits};
+ghost use Rattle.gs_mind.specs.Picture.{ends_own_turn, other_than, requeued, settled, settled_all, waits};
 ghost use Rattle.std.specs.Option.{option_to_list};
 
 use gs_beliefs::CpuBeliefs;
-use gs_layout::{Change, Class, Message};
+use gs_layout::{Class, Kind};
+use gs_reader::MessageRef;
 use gs_runq::RunQueue;
 use gs_view::{AgentView, ApplyFault};
 
@@ -27,7 +28,7 @@ const MOST_THREADS: u32 = 65_536;
 pub(crate) fn make_room(
     view: &AgentView,
     queue: &mut RunQueue,
-    message: &Message,
+    message: &MessageRef<'_>,
 ) -> Result<(), ApplyFault>
     ensures begun { OnOk result (begins (look_up view.now) message.now ≡ true → 65536 ≤ queue.new.room) }
     ensures waiting { bare queue.new ≡ bare queue.old }
@@ -35,24 +36,20 @@ pub(crate) fn make_room(
     ensures memory { OnErr result (begins (look_up view.now) message.now ≡ true) }
     ensures fault { IfErr result (λ fault. fault ≡ ApplyFault.OutOfMemory) }
 {
-    if is_begun_by(view, message) && queue.reserve(MOST_THREADS).is_err() {
+    if queue.room() < MOST_THREADS
+        && is_begun_by(view, message)
+        && queue.reserve(MOST_THREADS).is_err()
+    {
         return Err(ApplyFault::OutOfMemory);
     }
     Ok(())
 }
 
 /// Whether a message begins a record of the view: it creates a thread of which nothing is known.
-fn is_begun_by(view: &AgentView, message: &Message) -> bool
+fn is_begun_by(view: &AgentView, message: &MessageRef<'_>) -> bool
     ensures { result ≡ begins (look_up view.now) message.now }
 {
-    match message {
-        Message::Thread {
-            tid,
-            change: Change::Created { .. },
-            ..
-        } => view.get(*tid).is_none(),
-        _ => false,
-    }
+    matches!(message.kind(), Kind::Created) && view.get(message.tid()).is_none()
 }
 
 /// The class of a thread that waits, `None` where it does not.
@@ -101,25 +98,38 @@ pub(crate) fn settle_if_any(
     }
 }
 
+/// A thread, where there is one that is another than this one.
+pub(crate) fn other_than(tid: u32, found: Option<u32>) -> Option<u32>
+    ensures { result ≡ other_than tid found }
+{
+    found.filter(|found| *found != tid)
+}
+
 /// Brings the queue up to date after a message that view and beliefs took in: its thread is settled, and
 /// goes last anew where its turn ended.
-pub(crate) fn requeue(view: &AgentView, cpus: &CpuBeliefs, queue: &mut RunQueue, message: &Message)
+pub(crate) fn requeue(
+    view: &AgentView,
+    cpus: &CpuBeliefs,
+    queue: &mut RunQueue,
+    message: &MessageRef<'_>,
+)
     requires { HasRoom (look_up view.now) queue.old }
     ensures requeued { queue.new ≡ requeued (look_up view.now) cpus.now message.now queue.old }
     ensures room { HasRoom (look_up view.now) queue.new }
 {
-    let Message::Thread { tid, change, .. } = message else {
+    if matches!(message.kind(), Kind::TimerTick) {
         return;
-    };
-    if ends_turn(change) {
-        queue.remove(*tid);
     }
-    settle(view, cpus, queue, *tid);
+    let tid = message.tid();
+    if ends_turn(message) {
+        queue.remove(tid);
+    }
+    settle(view, cpus, queue, tid);
 }
 
-/// Whether a change ends its thread's turn, though it may go on waiting.
-fn ends_turn(change: &Change) -> bool
-    ensures { result ≡ ends_turn change.now }
+/// Whether a message ends its thread's turn, though it may go on waiting.
+fn ends_turn(message: &MessageRef<'_>) -> bool
+    ensures { result ≡ ends_own_turn message.now }
 {
-    matches!(change, Change::Preempted { .. } | Change::Yield { .. })
+    matches!(message.kind(), Kind::Preempted | Kind::Yield)
 }

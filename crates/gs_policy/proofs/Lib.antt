@@ -1,3 +1,4 @@
+pub mod Counting
 pub mod Left
 pub mod Plans
 mod Rows

@@ -1,4 +1,5 @@
 use crate::choice::Choice;
+use crate::counted::Counted;
 use crate::first_come::FirstCome;
 use crate::policy::Policy;
 use crate::two_class::TwoClass;
@@ -35,4 +36,13 @@ impl Policy for AnyPolicy {
     }
 
     ghost safe = { any-safe };
+}
+
+impl Counted for AnyPolicy {
+    fn count(&self, view: &AgentView, cpus: &CpuBeliefs, queue: &RunQueue) -> usize {
+        match self {
+            AnyPolicy::FirstCome(policy) => policy.count(view, cpus, queue),
+            AnyPolicy::TwoClass(policy) => policy.count(view, cpus, queue),
+        }
+    }
 }

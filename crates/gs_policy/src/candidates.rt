@@ -3,7 +3,7 @@ ghost use Rattle.std.specs.Option.{option_to_list};
 ghost use Rattle.gs_layout.specs.declared.facts.Class.{Class as ClassOf};
 ghost use Rattle.gs_layout.specs.View.{look_up};
 ghost use Rattle.gs_status.specs.Masks.{has, least};
-ghost use Rattle.gs_policy.specs.Candidates.{AreSpent, busy_for, picked, takes_in};
+ghost use Rattle.gs_policy.specs.Candidates.{AreLeft, AreSpent, busy_for, picked, takes_in};
 
 use crate::choice::Choice;
 use gs_layout::Class;
@@ -47,7 +47,7 @@ impl Candidates {
     }
 
     /// All of them but a CPU.
-    pub(crate) fn without(self, cpu: u16) -> Candidates
+    fn without(self, cpu: u16) -> Candidates
         requires { cpu < 64 }
         ensures free { (c : ℕ) → has result.free c ≡ (has self.free c && not (cpu == c)) }
         ensures busy { (class : ClassOf) (c : ℕ) → takes_in result class c ≡ (takes_in self class c && not (cpu == c)) }
@@ -61,7 +61,7 @@ impl Candidates {
 
     /// The choice of a thread among them, if it has one.
     #[tactic(auto, using(crate::proofs::Left::picked_unknown, crate::proofs::Left::picked_free, crate::proofs::Left::picked_busy))]
-    pub(crate) fn pick(self, view: &AgentView, tid: u32) -> Option<Choice>
+    fn pick(self, view: &AgentView, tid: u32) -> Option<Choice>
         ensures pick { option_to_list result ≡ picked self (look_up view.now) tid }
         ensures below { IfSome result (λ x. x.cpu < 64) }
     {
@@ -80,5 +80,14 @@ impl Candidates {
             tid,
             preempt: true,
         })
+    }
+    /// The choice of a thread among them, if it has one, which uses its CPU up.
+    pub(crate) fn take(&mut self, view: &AgentView, tid: u32) -> Option<Choice>
+        ensures choice { option_to_list result ≡ picked self.old (look_up view.now) tid }
+        ensures left { AreLeft self.old self.new (picked self.old (look_up view.now) tid) }
+    {
+        let choice = self.pick(view, tid)?;
+        *self = self.without(choice.cpu);
+        Some(choice)
     }
 }

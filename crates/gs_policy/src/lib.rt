@@ -5,6 +5,7 @@ mod any;
 mod candidates;
 mod choice;
 mod class_one;
+mod counted;
 mod first_come;
 mod law;
 mod policy;
@@ -15,6 +16,7 @@ mod walk;
 
 pub use any::AnyPolicy;
 pub use choice::Choice;
+pub use counted::Counted;
 pub use first_come::FirstCome;
 pub use law::{leaves_none, plans_in_order};
 pub use policy::Policy;

@@ -6,7 +6,7 @@ ghost use Rattle.std.specs.Prelude.{◌≡◌, ◌<◌, ◌≤◌, [], IfOk, IfS
 ghost use Rattle.gs_layout.specs.Spelling.{IsSpellable};
 
 use crate::tests::first_only::FirstOnly;
-use crate::{AnyPolicy, Choice, FirstCome, Policy, TwoClass, leaves_none, plans_in_order};
+use crate::{AnyPolicy, Choice, Counted, FirstCome, Policy, TwoClass, leaves_none, plans_in_order};
 use gs_beliefs::CpuBeliefs;
 use gs_layout::{Change, Class, Facts, Message, Name, Parcel};
 use gs_reader::MessageRef;
@@ -96,6 +96,11 @@ fn planned<P: Policy>(
     policy.plan(alloc, view, cpus, queue)
 }
 
+/// How many choices a policy counts, by its trait alone.
+fn counted<P: Counted>(policy: &P, view: &AgentView, cpus: &CpuBeliefs, queue: &RunQueue) -> usize {
+    policy.count(view, cpus, queue)
+}
+
 fn choice(cpu: u16, tid: u32, preempt: bool) -> Choice {
     Choice { cpu, tid, preempt }
 }
@@ -155,6 +160,27 @@ fn stamped_and_taken_cpus_are_passed_over(rt: HostRuntime) -> Result<(), Fail> {
     cpus.set_taken(Mask::new(0xffff_ffff_ffff_fffb));
     let choices = planned(rt.alloc(), &TWO_TICKS, &view, &cpus, &queue)?;
     assert_eq!(rt; choices.as_slice(), [choice(2, 1, false)].as_slice());
+    Ok(())
+}
+
+#[test]
+fn counts_what_it_plans(rt: HostRuntime) -> Result<(), Fail> {
+    let view = known(rt.alloc(), Class::One, Class::Zero, 6)?;
+    let queue = both_wait(rt.alloc())?;
+    let first_come = AnyPolicy::FirstCome(FirstCome);
+    let two_class = AnyPolicy::TwoClass(TWO_TICKS);
+    // Two CPUs for two threads, and then one.
+    let cpus = CpuBeliefs::new(rt.alloc(), 3, Some(0))?;
+    assert_eq!(rt; counted(&FirstCome, &view, &cpus, &queue), 2);
+    assert_eq!(rt; counted(&TWO_TICKS, &view, &cpus, &queue), 2);
+    let cpus = CpuBeliefs::new(rt.alloc(), 2, Some(0))?;
+    assert_eq!(rt; counted(&first_come, &view, &cpus, &queue), 1);
+    assert_eq!(rt; counted(&two_class, &view, &cpus, &queue), 1);
+    // None that is free, and one that runs a thread of class 1.
+    let cpus = first_runs(rt.alloc())?;
+    let queue = second_waits(rt.alloc(), Class::Zero)?;
+    assert_eq!(rt; counted(&first_come, &view, &cpus, &queue), 0);
+    assert_eq!(rt; counted(&two_class, &view, &cpus, &queue), 1);
     Ok(())
 }
 

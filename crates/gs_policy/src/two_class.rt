@@ -1,8 +1,14 @@
+ghost use Rattle.std.specs.Prelude.{◌≡◌, ℕ, List, []};
+ghost use Rattle.gs_layout.specs.View.{look_up};
+ghost use Rattle.gs_policy.specs.Candidates.{planned_of};
+ghost use Rattle.gs_policy.specs.Plan.{class_one_after, plan};
+
 use crate::candidates::Candidates;
 use crate::choice::Choice;
 use crate::class_one::class_one;
+use crate::counted::Counted;
 use crate::policy::Policy;
-use crate::walk::plan_queue;
+use crate::walk::{count_queue, plan_queue};
 use gs_beliefs::CpuBeliefs;
 use gs_runq::RunQueue;
 use gs_view::AgentView;
@@ -14,6 +20,22 @@ use std::alloc::{AllocError, Global};
 #[derive(Clone, Copy, PartialEq, Eq, Debug)]
 pub struct TwoClass {
     pub slice: u16,
+}
+
+impl TwoClass {
+    /// The free CPUs, and those that a thread of each class may take from one of class 1: the plan among
+    /// them is this policy's.
+    fn candidates(&self, view: &AgentView, cpus: &CpuBeliefs) -> Candidates
+        ensures { (queue : List ℕ) → planned_of result (look_up view.now) [] queue ≡ plan (class_one_after self.now.slice) (look_up view.now) cpus.now queue }
+    {
+        // There are at most 64, so that a mask has them all.
+        let _most = cpus.cpus();
+        Candidates {
+            free: cpus.free(),
+            zero_class: class_one(view, cpus, 0),
+            one_class: class_one(view, cpus, self.slice),
+        }
+    }
 }
 
 impl Policy for TwoClass {
@@ -29,13 +51,15 @@ impl Policy for TwoClass {
         cpus: &CpuBeliefs,
         queue: &RunQueue,
     ) -> Result<Vec<Choice>, AllocError> {
-        let candidates = Candidates {
-            free: cpus.free(),
-            zero_class: class_one(view, cpus, 0),
-            one_class: class_one(view, cpus, self.slice),
-        };
+        let candidates = self.candidates(view, cpus);
         plan_queue(alloc, view, queue, cpus.cpus(), candidates)
     }
 
     ghost safe = { λ p. class_one_after-safe p.slice };
+}
+
+impl Counted for TwoClass {
+    fn count(&self, view: &AgentView, cpus: &CpuBeliefs, queue: &RunQueue) -> usize {
+        count_queue(view, queue, self.candidates(view, cpus))
+    }
 }

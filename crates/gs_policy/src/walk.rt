@@ -1,4 +1,4 @@
-ghost use Rattle.std.specs.Prelude.{◌≡◌, ◌++◌, [], IfOk, OnOk};
+ghost use Rattle.std.specs.Prelude.{◌≡◌, ◌++◌, [], IfOk, OnOk, length};
 ghost use Rattle.gs_layout.specs.View.{look_up};
 ghost use Rattle.gs_runq.specs.Queue.{order};
 ghost use Rattle.gs_policy.specs.Candidates.{AreLeft, picked, planned_of};
@@ -19,9 +19,8 @@ fn plan_one(
     ensures choices { OnOk result (choices.new.items ≡ choices.old.items ++ picked left.old (look_up view.now) tid) }
     ensures left { OnOk result (AreLeft left.old left.new (picked left.old (look_up view.now) tid)) }
 {
-    if let Some(choice) = left.pick(view, tid) {
+    if let Some(choice) = left.take(view, tid) {
         choices.push(choice)?;
-        *left = left.without(choice.cpu);
     }
     Ok(())
 }
@@ -48,4 +47,22 @@ pub(crate) fn plan_queue(
         plan_one(view, tid, &mut left, &mut choices)?;
     }
     Ok(choices)
+}
+
+/// How many choices [`plan_queue`] makes of these CPUs. It takes no memory.
+#[tactic(auto, using(crate::proofs::Counting::counting_start, crate::proofs::Counting::counting_end))]
+pub(crate) fn count_queue(view: &AgentView, queue: &RunQueue, all: Candidates) -> usize
+    ensures { result ≡ length (planned_of all (look_up view.now) [] (order queue.now)) }
+{
+    // No more choices than threads that wait, so that their number fits.
+    let _most = queue.len();
+    let mut left = all;
+    let mut count = 0;
+    for tid in queue.walk() {
+        if left.are_spent() {
+            return count;
+        }
+        count += usize::from(left.take(view, tid).is_some());
+    }
+    count
 }

@@ -2,3 +2,4 @@ pub mod RefHeld
 pub mod Fault
 pub mod Reading
 pub mod Records
+pub mod Taking

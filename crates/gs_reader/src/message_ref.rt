@@ -2,6 +2,7 @@ ghost use Rattle.std.specs.Prelude.{◌≡◌, option_copied};
 ghost use Rattle.gs_layout.specs.Message.{tseq_of};
 ghost use Rattle.gs_layout.specs.Reading.{message_in};
 ghost use Rattle.gs_reader.specs.RefHeld.{IsRef};
+ghost use Rattle.gs_reader.specs.Taking.{takes_own_off};
 ghost use Rattle.gs_layout.specs.Spelling.{IsSpellable, class_of, cpu_of, flags_of, kind_of, mask_of, name_of, spelling, tid_of};
 
 use gs_layout::{Class, Kind, Message, Parcel};
@@ -33,6 +34,13 @@ impl<'a> MessageRef<'a> {
         ensures { result ≡ message_in bytes.now }
     {
         MessageRef { bytes }
+    }
+
+    /// The same message once more.
+    pub fn again(&self) -> MessageRef<'a>
+        ensures { result ≡ self.now }
+    {
+        MessageRef { bytes: self.bytes }
     }
 
     /// The bytes of the message, which are its spelling.
@@ -77,6 +85,17 @@ impl<'a> MessageRef<'a> {
         ensures { result ≡ flags_of self.now }
     {
         gs_layout::flags_of(self.bytes)
+    }
+
+    /// Whether it takes its own thread off the CPU. A tick has none.
+    pub fn takes_off_cpu(&self) -> bool
+        ensures { result ≡ takes_own_off self.now }
+    {
+        match self.kind() {
+            Kind::Blocked | Kind::Preempted | Kind::Yield | Kind::Dead => true,
+            Kind::Affinity => self.flags() & 1 == 1,
+            Kind::Created | Kind::Wakeup | Kind::TimerTick => false,
+        }
     }
 
     /// The mask of a creation or of a new mask.

@@ -112,6 +112,52 @@ fn reads_a_block(rt: HostRuntime) -> Result<(), Fail> {
 }
 
 #[test]
+fn borrows_a_message_again(rt: HostRuntime) -> Result<(), Fail> {
+    let found = only(&CREATED).ok_or("a message")?;
+    let again = found.again();
+    assert_eq!(rt; again.as_bytes(), CREATED.as_slice());
+    assert_eq!(rt; again.name(), found.name());
+    Ok(())
+}
+
+#[test]
+fn says_what_takes_a_thread_off(rt: HostRuntime) -> Result<(), Fail> {
+    let on = Some(1);
+    for (change, off) in [
+        (Change::Blocked { cpu: 1 }, true),
+        (Change::Wakeup, false),
+        (Change::Preempted { cpu: 1 }, true),
+        (Change::Yield { cpu: 1 }, true),
+        (Change::Dead { cpu: None }, true),
+        (
+            Change::Affinity {
+                cpu: on,
+                off: true,
+                mask: 1,
+            },
+            true,
+        ),
+        (
+            Change::Affinity {
+                cpu: on,
+                off: false,
+                mask: 3,
+            },
+            false,
+        ),
+    ] {
+        let (tid, tseq) = (7, 3);
+        let parcel = Parcel::new(&Message::Thread { tid, tseq, change });
+        assert_eq!(rt; MessageRef::in_parcel(&parcel).takes_off_cpu(), off);
+    }
+    for bytes in [&CREATED[..], &TIMER_TICK] {
+        let found = only(bytes).ok_or("a message")?;
+        assert!(rt; !found.takes_off_cpu());
+    }
+    Ok(())
+}
+
+#[test]
 fn refuses_damaged_blocks(rt: HostRuntime) {
     assert_eq!(rt; refused(&BLOCKED[..15]), Some(ReadFault::Short));
     let mut long = BLOCKED;

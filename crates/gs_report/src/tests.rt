@@ -6,6 +6,7 @@ use gs_agent::Drained;
 use gs_core::{Items, Reply};
 use gs_kernel::Landing;
 use gs_layout::{Outcome, Refusal};
+use gs_policy::Choice;
 use std::alloc::{AllocError, Global};
 use std::test::Fail;
 
@@ -90,6 +91,30 @@ fn reports_no_event(rt: HostRuntime) -> Result<(), Fail> {
     assert!(rt;
         report.as_str()
             == "{\"events\":0,\"last\":[],\"placed\":0,\"refused\":0,\"torn\":false,\"unplaced\":0}\n"
+    );
+    Ok(())
+}
+
+/// A decision is an event that is neither refused nor a landing; each of its choices has a line.
+#[test]
+fn reports_a_decision(rt: HostRuntime) -> Result<(), Fail> {
+    let alloc = rt.alloc();
+    let choices = vec![in alloc;
+        Choice {
+            cpu: 1,
+            tid: 1,
+            preempt: true,
+        },
+    ]?;
+    let replies = [Reply::Decided {
+        first: 7,
+        choices: Items::new(choices),
+    }];
+    let text = "decided 1\nstamped 7 cpu 1 thread 1 preempt\n";
+    let report = report_text(alloc, &replies, text, 2)?;
+    assert!(rt;
+        report.as_str()
+            == "{\"events\":1,\"last\":[\"decided 1\",\"stamped 7 cpu 1 thread 1 preempt\"],\"placed\":0,\"refused\":0,\"torn\":false,\"unplaced\":0}\n"
     );
     Ok(())
 }

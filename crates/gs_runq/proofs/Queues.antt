@@ -1,12 +1,11 @@
 -- Who is in the queue after a change, and that nobody stands in it twice.
-use Rattle.std.proofs.Common.{◌≡◌, ◌≢◌, refl, ap, sym, ◌∙◌, subst, ℕ, suc, ◌≤◌, ◌||◌, ◌&&◌, not, ◌==◌, Bool, true, false, cond, List, [], ◌∷◌, ◌++◌, length, arith, append_assoc}
-use Rattle.std.proofs.Math.Bool.{and-false, and-or_distrib_right, or-false, or-true, or_assoc, or_comm}
-use Rattle.std.proofs.lemmas.Bool.{eq-eqb, eqb-true, false≢true}
+use Rattle.std.proofs.Common.{◌≡◌, ◌≢◌, refl, ap, sym, ◌∙◌, subst, ℕ, ◌||◌, ◌&&◌, not, ◌==◌, Bool, true, false, cond, List, [], ◌∷◌, ◌++◌, arith, append_assoc}
+use Rattle.std.proofs.Math.Bool.{and-false, and-or_distrib_right, or-false, or_assoc, or_comm}
 use Rattle.std.proofs.lemmas.Bool.Decides.{nat_tests}
 use Rattle.gs_layout.specs.declared.facts.Class.{Class}
 use Rattle.gs_layout.specs.declared.facts.Class.TheVariants.{Zero, One}
 use Rattle.gs_runq.specs.Queue.{Queue, empty, order, put, removed, is_in, without, IsOut, Apart}
-use Rattle.gs_runq.proofs.Links.{out_both, out_left, out_right, out_from, not_in, apart_push, stays}
+use Rattle.gs_runq.proofs.Links.{out_both, out_left, out_right, out_from, apart_push, stays}
 
 -- who is among these and those
 pub in_append : (t : ℕ) (xs ys : List ℕ) → is_in t (xs ++ ys) ≡ (is_in t xs || is_in t ys)
@@ -139,47 +138,3 @@ put_apart t One q a e = put_one t q.zero_class q.one_class a e
 
 pub removed_apart : (t : ℕ) (q : Queue) → Apart (order q) → Apart (order (removed t q))
 removed_apart t q a = leaves_both t q.zero_class q.one_class a
-
--- to take out a thread leaves no more, and fewer where it was there
-length-without_most : (t : ℕ) (ys : List ℕ) → length (without t ys) ≤ length ys
-length-without_most t [] = omega arith
-length-without_most t (y ∷ ys) = by_test (y == t) (length-without_most t ys)
-  where
-    by_test : (b : Bool) → length (without t ys) ≤ length ys → length (cond b (without t ys) (y ∷ without t ys)) ≤ suc (length ys)
-    by_test true h = omega (arith, h)
-    by_test false h = omega (arith, h)
-
-length-without : (t : ℕ) (ys : List ℕ) → is_in t ys ≡ true → suc (length (without t ys)) ≤ length ys
-length-without t [] e = absurd cc
-length-without t (y ∷ ys) e = by_test (y == t) e (length-without t ys) (length-without_most t ys)
-  where
-    by_test : (b : Bool) → (b || is_in t ys) ≡ true → (is_in t ys ≡ true → suc (length (without t ys)) ≤ length ys) → length (without t ys) ≤ length ys → suc (length (cond b (without t ys) (y ∷ without t ys))) ≤ suc (length ys)
-    by_test true f h most = omega (arith, most)
-    by_test false f h most = let less : suc (length (without t ys)) ≤ length ys = h f in omega (arith, less)
-
--- a thread is another than one that does not stand among these
-is_another : (t x : ℕ) (xs : List ℕ) → IsOut x xs → is_in t xs ≡ true → (t == x) ≡ false
-is_another t x xs out e = by_test (t == x) refl
-  where
-    absent : is_in x xs ≡ false
-    absent = not_in x xs out
-
-    present : is_in t xs ≡ true
-    present = e
-
-    by_test : (b : Bool) → (t == x) ≡ b → (t == x) ≡ false
-    by_test true s = absurd (false≢true (sym absent ∙ (ap (λ (z : ℕ). is_in z xs) (sym (eqb-true t x s)) ∙ present)))
-    by_test false s = s
-
--- where none of these stands twice and each is one of those, there are no more of these: so whoever made room for all threads
--- that it knows, and puts none but those into the queue, has room for each
-pub length-among : (xs ys : List ℕ) → Apart xs → ((t : ℕ) → is_in t xs ≡ true → is_in t ys ≡ true) → length xs ≤ length ys
-length-among [] ys a among = omega arith
-length-among (x ∷ xs) ys a among =
-    let here : is_in x ys ≡ true = among x (ap (λ (z : Bool). z || is_in x xs) (eq-eqb x x refl)) in
-    let rest : (t : ℕ) → is_in t xs ≡ true → is_in t (without x ys) ≡ true = λ t e.
-    in_without t x ys
-    ∙ (ap (λ (z : Bool). z && not (t == x)) (among t (ap (λ (z : Bool). (x == t) || z) e ∙ or-true (x == t)))
-    ∙ ap (λ (z : Bool). not z) (is_another t x xs a.0 e)) in
-    let more : length xs ≤ length (without x ys) = length-among xs (without x ys) a.1 rest in
-    omega (arith, more, length-without x ys here)

@@ -91,6 +91,13 @@ impl Line {
         self.count
     }
 
+    /// How many threads there is room for, those in line among them.
+    pub fn room(&self) -> u32
+        ensures { result ≡ self.now.room }
+    {
+        self.next.len().saturating_sub(1) as u32
+    }
+
     /// The threads in order, each a thread's number.
     pub fn walk(&self) -> LineWalk<'_>
         ensures threads { result ≡ self.now.threads }

@@ -103,6 +103,13 @@ impl RunQueue {
         self.zero_class.len() as usize + self.one_class.len() as usize
     }
 
+    /// How many threads of each class there is room for, those that wait among them.
+    pub fn room(&self) -> u32
+        ensures { result ≡ self.now.room }
+    {
+        self.one_class.room()
+    }
+
     /// Whether nobody waits.
     pub fn is_empty(&self) -> bool
         ensures { result ≡ (length (order self.now) == 0) }

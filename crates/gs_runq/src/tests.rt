@@ -30,7 +30,9 @@ fn nobody_waits_at_first(rt: HostRuntime) -> Result<(), Fail> {
     assert!(rt; !queue.has(1));
     queue.remove(1);
     queue.reserve(0)?;
+    assert_eq!(rt; queue.room(), 0);
     queue.reserve(65_536)?;
+    assert_eq!(rt; queue.room(), 65_536);
     assert!(rt; !queue.has(65_536));
     assert!(rt; queue.is_empty());
     Ok(())

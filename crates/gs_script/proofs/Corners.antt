@@ -1,15 +1,16 @@
 -- What the definitions say where a script, a line or a word is at its edge.
 use Rattle.std.proofs.Common.{◌≡◌, ℕ, List, [], ◌∷◌, ◌++◌, codes, refl, Ok, Err, true, false, Option, Some, None, Result}
 use Rattle.gs_layout.specs.declared.facts.Class.TheVariants.{Zero, One}
+use Rattle.gs_policy.specs.declared.any.AnyPolicy.TheVariants as policies
 use Rattle.gs_core.specs.declared.config.Config.{Config}
 use Rattle.gs_core.specs.declared.event.Event.{Event}
 use Rattle.gs_core.specs.declared.event.Event.TheVariants as events
 use Rattle.gs_script.specs.declared.fault.Reason.{Reason}
 use Rattle.gs_script.specs.declared.fault.Reason.TheVariants.{NoHeader, BadWord, BadCount, BadNumber, BadName, BadByte}
 use Rattle.gs_script.specs.Words.{lines_of, words_of, is_text, is_number, number}
-use Rattle.gs_script.specs.Grammar.{Form, Number, line_fault, first_fault, with_part, literal}
+use Rattle.gs_script.specs.Grammar.{Form, Number, line_fault, first_fault, literal}
 use Rattle.gs_script.specs.Rows.{event_of, u16s, u32s}
-use Rattle.gs_script.specs.Header.{header_of, numbered}
+use Rattle.gs_script.specs.Header.{header_of, histories}
 use Rattle.gs_script.specs.Script.{script_of, fault}
 use Rattle.gs_script.specs.declared.script.LineError.TheVariants as line_errors
 use Rattle.gs_script.specs.declared.script.ScriptError.TheVariants as script_errors
@@ -128,6 +129,18 @@ stamp_most = refl
 stamp_first : event (codes "stamp 65536 4294967296") ≡ Err BadNumber
 stamp_first = refl
 
+decided : event (codes "decide") ≡ Ok events.Decide
+decided = refl
+
+decide_more : event (codes "decide 1") ≡ Err BadCount
+decide_more = refl
+
+decide_comment : event (codes "decide #") ≡ Err BadCount
+decide_comment = refl
+
+decide_other : event (codes "decides") ≡ Err BadWord
+decide_other = refl
+
 late_most : event (codes "late 4294967295") ≡ Ok (events.Late 4294967295)
 late_most = refl
 
@@ -228,27 +241,48 @@ header_history_past = refl
 header_zero_twice : header (codes "cpus 2 ring 128 first-tseq 0 first-tseq 0") ≡ Err BadWord
 header_zero_twice = refl
 
-header_behind_all : header (codes "cpus 2 ring 128 history 2 x") ≡ Err BadCount
+header_behind_history : header (codes "cpus 2 ring 128 history 2 x") ≡ Err BadWord
+header_behind_history = refl
+
+header_behind_all : header (codes "cpus 2 ring 128 history 2 policy first x") ≡ Err BadCount
 header_behind_all = refl
+
+header_policy_first : header (codes "cpus 2 ring 128 policy first") ≡ header (codes "cpus 2 ring 128")
+header_policy_first = refl
+
+header_policy_two : header (codes "cpus 2 ring 128 first-gen 3 policy two 65535") ≡ Ok (record { cpus = 2; ring = 128; first_tseq = 0; first_generation = 3; history = 16777216; policy = policies.TwoClass (record { slice = 65535 }) })
+header_policy_two = refl
+
+header_policy_named_as_a_part : header (codes "cpus 2 ring 128 policy history 5") ≡ Err BadWord
+header_policy_named_as_a_part = refl
+
+header_policy_twice : header (codes "cpus 2 ring 128 policy first policy first") ≡ Err BadCount
+header_policy_twice = refl
+
+header_policy_in_front : header (codes "cpus 2 policy first ring 128") ≡ Err BadWord
+header_policy_in_front = refl
+
+header_policy_before_history : header (codes "cpus 2 ring 128 policy two 3 history 5") ≡ Err BadCount
+header_policy_before_history = refl
 
 header_first_of_two : header (codes "cpus 2 ring 128 history 1 x") ≡ Err BadNumber
 header_first_of_two = refl
 
-header_edges : header (codes "cpus 2 ring 136 first-gen 4294967295 history 16777216") ≡ Ok (record { cpus = 2; ring = 136; first_tseq = 0; first_generation = 4294967295; history = 16777216 })
+header_edges : header (codes "cpus 2 ring 136 first-gen 4294967295 history 16777216") ≡ Ok (record { cpus = 2; ring = 136; first_tseq = 0; first_generation = 4294967295; history = 16777216; policy = policies.FirstCome (record {}) })
 header_edges = refl
 
-header_first_and_last : header (codes "cpus 2 ring 128 first-tseq 1 history 2") ≡ Ok (record { cpus = 2; ring = 128; first_tseq = 1; first_generation = 1; history = 2 })
+header_first_and_last : header (codes "cpus 2 ring 128 first-tseq 1 history 2") ≡ Ok (record { cpus = 2; ring = 128; first_tseq = 1; first_generation = 1; history = 2; policy = policies.FirstCome (record {}) })
 header_first_and_last = refl
 
 -- scripts
 
-header_alone : script_of (codes "cpus 2 ring 128") ≡ Ok (record { config = record { cpus = 2; ring = 128; first_tseq = 0; first_generation = 1; history = 16777216 }; events = [] })
+header_alone : script_of (codes "cpus 2 ring 128") ≡ Ok (record { config = record { cpus = 2; ring = 128; first_tseq = 0; first_generation = 1; history = 16777216; policy = policies.FirstCome (record {}) }; events = [] })
 header_alone = refl
 
-header_line : script_of (codes "  cpus 2  ring 128 " ++ 10 ∷ []) ≡ Ok (record { config = record { cpus = 2; ring = 128; first_tseq = 0; first_generation = 1; history = 16777216 }; events = [] })
+header_line : script_of (codes "  cpus 2  ring 128 " ++ 10 ∷ []) ≡ Ok (record { config = record { cpus = 2; ring = 128; first_tseq = 0; first_generation = 1; history = 16777216; policy = policies.FirstCome (record {}) }; events = [] })
 header_line = refl
 
-two_events : script_of (codes "# a" ++ 10 ∷ codes "cpus 2 ring 128" ++ 10 ∷ 10 ∷ codes "drain 1" ++ 10 ∷ codes " #drain 2" ++ 10 ∷ codes "drain 3") ≡ Ok (record { config = record { cpus = 2; ring = 128; first_tseq = 0; first_generation = 1; history = 16777216 }; events = events.Drain 1 ∷ events.Drain 3 ∷ [] })
+two_events : script_of (codes "# a" ++ 10 ∷ codes "cpus 2 ring 128" ++ 10 ∷ 10 ∷ codes "drain 1" ++ 10 ∷ codes " #drain 2" ++ 10 ∷ codes "drain 3") ≡ Ok (record { config = record { cpus = 2; ring = 128; first_tseq = 0; first_generation = 1; history = 16777216; policy = policies.FirstCome (record {}) }; events = events.Drain 1 ∷ events.Drain 3 ∷ [] })
 two_events = refl
 
 counted_lines : script_of (codes "#" ++ 10 ∷ 10 ∷ codes "cpus 2 ring 128" ++ 10 ∷ codes "   " ++ 10 ∷ codes "# x" ++ 10 ∷ codes "drain") ≡ Err (fault 6 BadCount)
@@ -275,18 +309,33 @@ byte_without_header = refl
 return_at_end : script_of (codes "cpus 2 ring 128" ++ 13 ∷ 10 ∷ []) ≡ Err (fault 1 BadByte)
 return_at_end = refl
 
--- forms that come in several shapes
-abbrev policies : List Form
-policies = [] ∷ (literal (codes "policy") ∷ literal (codes "first") ∷ []) ∷ (literal (codes "policy") ∷ literal (codes "two") ∷ Number 1 65535 ∷ []) ∷ []
-
+-- the policy, and the part before it
 abbrev policy : List ℕ → Option Reason
-policy text = first_fault (with_part (numbered (codes "history") 2 16777216) policies) (words_of text)
+policy text = first_fault histories (words_of text)
 
 policy_first : policy (codes "history 5 policy first") ≡ None
 policy_first = refl
 
 policy_two : policy (codes "policy two 7") ≡ None
 policy_two = refl
+
+policy_least : policy (codes "policy two 1") ≡ None
+policy_least = refl
+
+policy_most : policy (codes "policy two 65535") ≡ None
+policy_most = refl
+
+policy_past : policy (codes "policy two 65536") ≡ Some BadNumber
+policy_past = refl
+
+policy_none : policy (codes "policy two 0") ≡ Some BadNumber
+policy_none = refl
+
+policy_no_number : policy (codes "policy two x") ≡ Some BadNumber
+policy_no_number = refl
+
+policy_zero_first : policy (codes "policy two 03") ≡ Some BadNumber
+policy_zero_first = refl
 
 policy_alone : policy (codes "policy") ≡ Some BadCount
 policy_alone = refl
@@ -297,11 +346,17 @@ policy_half = refl
 policy_third : policy (codes "policy third") ≡ Some BadWord
 policy_third = refl
 
+policy_third_first : policy (codes "policy third 0 x") ≡ Some BadWord
+policy_third_first = refl
+
 policy_first_two : policy (codes "policy first 2") ≡ Some BadCount
 policy_first_two = refl
 
-policy_none : policy (codes "policy two 0") ≡ Some BadNumber
-policy_none = refl
+policy_two_more : policy (codes "policy two 3 x") ≡ Some BadCount
+policy_two_more = refl
+
+policy_left_first : policy (codes "policy two 0 x") ≡ Some BadNumber
+policy_left_first = refl
 
 behind_policy : policy (codes "policy first history 5") ≡ Some BadCount
 behind_policy = refl
@@ -309,6 +364,10 @@ behind_policy = refl
 behind_history : policy (codes "history 5 policie") ≡ Some BadWord
 behind_history = refl
 
+history_twice : policy (codes "history 5 history 5") ≡ Some BadWord
+history_twice = refl
+
+-- forms that come in several shapes
 abbrev begins : List Form
 begins = [] ∷ (literal (codes "first") ∷ []) ∷ (literal (codes "two") ∷ Number 1 65535 ∷ []) ∷ []
 

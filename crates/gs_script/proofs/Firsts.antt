@@ -1,14 +1,14 @@
--- The three optional parts together.
-use Rattle.std.proofs.Common.{◌≡◌, ℕ, List, [], ◌∷◌, true, false, refl, sym, ◌∙◌, ap, Option, Some, None, codes, Ok, Err, length, nat_eq, drop, arith, Bor}
+-- The four optional parts together.
+use Rattle.std.proofs.Common.{◌≡◌, ℕ, List, [], ◌∷◌, Bool, true, false, refl, sym, ◌∙◌, ap, Option, Some, None, codes, Ok, Err, drop}
 use Rattle.std.specs.Prelude.{unwrap_or}
-use Rattle.std.proofs.lemmas.Bool.{eqb-true}
+use Rattle.std.proofs.lemmas.Slice.Eq.{bytes_eq-Decides}
+use Rattle.gs_policy.specs.declared.any.AnyPolicy.{AnyPolicy}
 use Rattle.gs_script.specs.declared.fault.Reason.{Reason}
-use Rattle.gs_script.specs.declared.fault.Reason.TheVariants.{BadWord, BadCount}
 use Rattle.gs_script.specs.declared.header.Firsts.{Firsts}
-use Rattle.gs_script.specs.Grammar.{first_fault}
-use Rattle.gs_script.specs.Rows.{is, shown}
-use Rattle.gs_script.specs.Header.{histories, generations, parts, firsts_of, firsts_in, part_in}
-use Rattle.gs_script.proofs.Parts.{same_parts, number_failed, number_read, number_given, failed_part, is_part, given, left_out, tseq_step, tseq_skip, gen_step, gen_skip, history_step, history_skip, behind_here, behind_other}
+use Rattle.gs_script.specs.Grammar.{Number, takes, first_fault, or_fault}
+use Rattle.gs_script.specs.Rows.{is}
+use Rattle.gs_script.specs.Header.{policies, histories, generations, parts, named, number_or, words_behind, policy_of, policy_in, firsts_of, firsts_in, part_in}
+use Rattle.gs_script.proofs.Parts.{same_parts, number_failed, number_read, failed_part, is_part, given, left_out, tseq_step, tseq_skip, gen_step, gen_skip, history_step, history_skip, behind_here, behind_other}
 
 abbrev tseq : List ℕ
 tseq = codes "first-tseq"
@@ -18,6 +18,9 @@ gen = codes "first-gen"
 
 abbrev limit : List ℕ
 limit = codes "history"
+
+abbrev last : List ℕ
+last = codes "policy"
 
 tseq_fault : (ws : List (List ℕ)) (e : Reason) → part_in tseq 0 4294967294 ws ≡ Err e → first_fault parts ws ≡ Some e
 tseq_fault [] e h = absurd (cc)
@@ -43,25 +46,13 @@ gen_read (w ∷ ws) left o h = elim (is_part gen 1 4294967295 w ws o left h) [
 
 history_fault : (ws : List (List ℕ)) (e : Reason) → part_in limit 2 16777216 ws ≡ Err e → first_fault histories ws ≡ Some e
 history_fault [] e h = absurd (cc)
-history_fault (w ∷ ws) e h = let f = failed_part 2 16777216 w ws e (is w limit) h in history_step w ws f.0 ∙ number_failed 2 16777216 ws [] [] e f.1
+history_fault (w ∷ ws) e h = let f = failed_part 2 16777216 w ws e (is w limit) h in history_step w ws f.0 ∙ number_failed 2 16777216 ws [] (drop 1 policies) e f.1
 
--- what is wrong with words behind the last part: a part is still left, or none is
-abbrev pub left_over : Option ℕ → List (List ℕ) → Option Reason
-left_over o [] = None
-left_over None (w ∷ ws) = Some BadWord
-left_over (Some n) (w ∷ ws) = Some BadCount
-
-nothing_left : (n : ℕ) (left : List (List ℕ)) → first_fault ([] ∷ []) left ≡ left_over (Some n) left
-nothing_left n [] = refl
-nothing_left n (w ∷ ws) = refl
-
-history_read : (ws left : List (List ℕ)) (o : Option ℕ) → part_in limit 2 16777216 ws ≡ Ok (o, left) → first_fault histories ws ≡ left_over o left
-history_read [] left o h = ap (left_over o) (same_parts None o [] left h).1
+history_read : (ws left : List (List ℕ)) (o : Option ℕ) → part_in limit 2 16777216 ws ≡ Ok (o, left) → first_fault histories ws ≡ first_fault policies left
+history_read [] left o h = ap (first_fault policies) (same_parts None o [] left h).1
 history_read (w ∷ ws) left o h = elim (is_part limit 2 16777216 w ws o left h) [
-  | given e r ↦
-      let n = number_given 2 16777216 ws left o r in
-      history_step w ws e ∙ number_read 2 16777216 ws left _ _ o r ∙ nothing_left n.0 left ∙ sym (ap (λ p. left_over p left) n.1)
-  | left_out e none rest ↦ history_skip w ws e ∙ sym (ap (λ p. left_over p left) none ∙ ap (left_over None) rest)
+  | given e r ↦ history_step w ws e ∙ number_read 2 16777216 ws left _ _ o r
+  | left_out e none rest ↦ history_skip w ws e ∙ ap (first_fault policies) (sym rest)
 ]
 
 -- the fault of the words, part by part
@@ -74,34 +65,62 @@ generation_failed ws vs o e h k = rw (tseq_read ws vs o h, gen_fault vs e k) ref
 pub history_failed : (ws vs us : List (List ℕ)) (o p : Option ℕ) (e : Reason) → part_in tseq 0 4294967294 ws ≡ Ok (o, vs) → part_in gen 1 4294967295 vs ≡ Ok (p, us) → part_in limit 2 16777216 us ≡ Err e → Err e ≡ firsts_in ws
 history_failed ws vs us o p e h k l = rw (tseq_read ws vs o h, gen_read vs us p k, history_fault us e l) refl
 
--- three parts that were read
+-- the parts before the policy, where they were read
 pub record AreRead (ws vs us left : List (List ℕ)) (o p q : Option ℕ) : Type 0 where
   pub tseq : part_in (codes "first-tseq") 0 4294967294 ws ≡ Ok (o, vs)
   pub generation : part_in (codes "first-gen") 1 4294967295 vs ≡ Ok (p, us)
   pub history : part_in (codes "history") 2 16777216 us ≡ Ok (q, left)
 
-fault_is : (ws vs us left : List (List ℕ)) (o p q : Option ℕ) → AreRead ws vs us left o p q → first_fault parts ws ≡ left_over q left
+fault_is : (ws vs us left : List (List ℕ)) (o p q : Option ℕ) → AreRead ws vs us left o p q → first_fault parts ws ≡ first_fault policies left
 fault_is ws vs us left o p q r = tseq_read ws vs o r.tseq ∙ gen_read vs us p r.generation ∙ history_read us left q r.history
 
-pub part_is_left : (ws vs us : List (List ℕ)) (left : List (Bor (List ℕ))) (o p : Option ℕ) → AreRead ws vs us (shown left) o p None → nat_eq (length left) 0 ≡ false → Err BadWord ≡ firsts_in ws
-part_is_left ws vs us [] o p r h = absurd (cc)
-part_is_left ws vs us (w ∷ left) o p r h = rw (fault_is ws vs us (shown (w ∷ left)) o p None r) refl
+-- what a fault, or none, makes of what was read
+fault_of_result : {A : Type 0} (f : Option Reason) (x : A) (e : Reason) → Err e ≡ or_fault f x → f ≡ Some e
+fault_of_result None x e h = absurd (cc)
+fault_of_result (Some g) x e h = let same : g ≡ e = cc in ap Some same
 
-pub none_is_left : (ws vs us : List (List ℕ)) (left : List (Bor (List ℕ))) (o p : Option ℕ) (n : ℕ) → AreRead ws vs us (shown left) o p (Some n) → nat_eq (length left) 0 ≡ false → Err BadCount ≡ firsts_in ws
-none_is_left ws vs us [] o p n r h = absurd (cc)
-none_is_left ws vs us (w ∷ left) o p n r h = rw (fault_is ws vs us (shown (w ∷ left)) o p (Some n) r) refl
+no_fault : {A : Type 0} (f : Option Reason) (x y : A) → Ok y ≡ or_fault f x → (f ≡ None) × (y ≡ x)
+no_fault None x y h = (refl, cc)
+no_fault (Some g) x y h = absurd (cc)
+
+pub policy_failed : (ws vs us left : List (List ℕ)) (o p q : Option ℕ) (e : Reason) → AreRead ws vs us left o p q → Err e ≡ policy_in left → Err e ≡ firsts_in ws
+policy_failed ws vs us left o p q e r h = rw (fault_is ws vs us left o p q r, fault_of_result (first_fault policies left) (policy_of left) e h) refl
+
+-- a policy has two words behind it at most
+too_many_by : (v x y : List ℕ) (ws : List (List ℕ)) (f t n : Bool) → is v (codes "first") ≡ f → is v (codes "two") ≡ t → takes (Number 1 65535) x ≡ n → first_fault policies (codes "policy" ∷ v ∷ x ∷ y ∷ ws) ≡ None → ⊥
+too_many_by v x y ws true t n e k l h = let first = (bytes_eq-Decides v (codes "first")).0 e in absurd (cc (rw first at h))
+too_many_by v x y ws false true true e k l h = let two = (bytes_eq-Decides v (codes "two")).0 k in absurd (cc (rw (two, l) at h))
+too_many_by v x y ws false true false e k l h = let two = (bytes_eq-Decides v (codes "two")).0 k in absurd (cc (rw (two, l) at h))
+too_many_by v x y ws false false n e k l h = absurd (cc (rw (e, k) at h))
+
+few : (m v : List ℕ) (ws : List (List ℕ)) → first_fault policies (codes "policy" ∷ v ∷ ws) ≡ None → words_behind m ws ≡ []
+few m v [] h = refl
+few m v (x ∷ []) h = refl
+few m v (x ∷ y ∷ ws) h = absurd (too_many_by v x y ws (is v (codes "first")) (is v (codes "two")) (takes (Number 1 65535) x) refl refl refl h)
+
+-- no other part stands where the policy does
+none_here_by : (m w v : List ℕ) (ws : List (List ℕ)) (p : Bool) → is w (codes "policy") ≡ p → is (codes "policy") m ≡ false → first_fault policies (w ∷ v ∷ ws) ≡ None → words_behind m (w ∷ v ∷ ws) ≡ []
+none_here_by m w v ws true e ne h = let policy = (bytes_eq-Decides w (codes "policy")).0 e in rw (policy, ne) (few m v ws (rw policy at h))
+none_here_by m w v ws false e ne h = absurd (cc (rw e at h))
+
+none_here : (m : List ℕ) (left : List (List ℕ)) → is (codes "policy") m ≡ false → first_fault policies left ≡ None → words_behind m left ≡ []
+none_here m [] ne h = refl
+none_here m (w ∷ []) ne h = refl
+none_here m (w ∷ v ∷ ws) ne h = none_here_by m w v ws (is w (codes "policy")) refl ne h
 
 -- the numbers of the parts
-abbrev pub firsts : Option ℕ → Option ℕ → Option ℕ → Firsts
-firsts o p q = record { tseq = unwrap_or o 0; generation = unwrap_or p 1; history = unwrap_or q 16777216 }
+abbrev pub firsts : Option ℕ → Option ℕ → Option ℕ → AnyPolicy → Firsts
+firsts o p q policy = record { tseq = unwrap_or o 0; generation = unwrap_or p 1; history = unwrap_or q 16777216; policy = policy }
 
-firsts_are : (ws vs us : List (List ℕ)) (o p q : Option ℕ) → AreRead ws vs us [] o p q → firsts o p q ≡ firsts_of ws
-firsts_are ws vs us o p q r =
-    let a = behind_here 0 tseq 0 4294967294 ws vs o r.tseq (behind_other 0 gen tseq 1 4294967295 vs us p refl r.generation ∙ behind_other 0 limit tseq 2 16777216 us [] q refl r.history) in
-    let b = behind_other 1 tseq gen 0 4294967294 ws vs o refl r.tseq ∙ behind_here 1 gen 1 4294967295 vs us p r.generation (behind_other 1 limit gen 2 16777216 us [] q refl r.history) in
-    let c = behind_other 16777216 tseq limit 0 4294967294 ws vs o refl r.tseq ∙ behind_other 16777216 gen limit 1 4294967295 vs us p refl r.generation ∙ behind_here 16777216 limit 2 16777216 us [] q r.history refl in
-    λ i. record { tseq = sym a i; generation = sym b i; history = sym c i }
+firsts_are : (ws vs us left : List (List ℕ)) (o p q : Option ℕ) → AreRead ws vs us left o p q → first_fault policies left ≡ None → firsts o p q (policy_of left) ≡ firsts_of ws
+firsts_are ws vs us left o p q r none =
+    let a = behind_here 0 tseq 0 4294967294 ws vs o r.tseq (ap (number_or 0) (behind_other gen tseq 1 4294967295 vs us p refl r.generation ∙ behind_other limit tseq 2 16777216 us left q refl r.history ∙ none_here tseq left refl none)) in
+    let b = ap (number_or 1) (behind_other tseq gen 0 4294967294 ws vs o refl r.tseq) ∙ behind_here 1 gen 1 4294967295 vs us p r.generation (ap (number_or 1) (behind_other limit gen 2 16777216 us left q refl r.history ∙ none_here gen left refl none)) in
+    let c = ap (number_or 16777216) (behind_other tseq limit 0 4294967294 ws vs o refl r.tseq ∙ behind_other gen limit 1 4294967295 vs us p refl r.generation) ∙ behind_here 16777216 limit 2 16777216 us left q r.history (ap (number_or 16777216) (none_here limit left refl none)) in
+    let d = ap named (behind_other tseq last 0 4294967294 ws vs o refl r.tseq ∙ behind_other gen last 1 4294967295 vs us p refl r.generation ∙ behind_other limit last 2 16777216 us left q refl r.history) in
+    λ i. record { tseq = sym a i; generation = sym b i; history = sym c i; policy = sym d i }
 
-pub all_read : (ws vs us : List (List ℕ)) (left : List (Bor (List ℕ))) (o p q : Option ℕ) → AreRead ws vs us (shown left) o p q → nat_eq (length left) 0 ≡ true → Ok (firsts o p q) ≡ firsts_in ws
-all_read ws vs us [] o p q r h = rw (fault_is ws vs us [] o p q r) (ap Ok (firsts_are ws vs us o p q r))
-all_read ws vs us (w ∷ left) o p q r h = let none = eqb-true _ _ h in absurd (omega arith)
+pub all_read : (ws vs us left : List (List ℕ)) (o p q : Option ℕ) (policy : AnyPolicy) → AreRead ws vs us left o p q → Ok policy ≡ policy_in left → Ok (firsts o p q policy) ≡ firsts_in ws
+all_read ws vs us left o p q policy r h =
+    let none = no_fault (first_fault policies left) (policy_of left) policy h in
+    rw (fault_is ws vs us left o p q r, none.0) (ap Ok (ap (firsts o p q) none.1 ∙ firsts_are ws vs us left o p q r none.0))

@@ -2,6 +2,7 @@ pub mod Numbers
 pub mod Places
 pub mod Texts
 pub mod Parts
+pub mod Policies
 pub mod Firsts
 pub mod Taken
 pub mod Sizes

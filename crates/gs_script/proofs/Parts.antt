@@ -4,11 +4,11 @@ use Rattle.std.specs.Prelude.{flat_map, unwrap_or}
 use Rattle.std.specs.List.{list_any}
 use Rattle.std.proofs.lemmas.Slice.Eq.{bytes_eq-Decides}
 use Rattle.gs_script.specs.declared.fault.Reason.{Reason}
-use Rattle.gs_script.specs.declared.fault.Reason.TheVariants.{BadWord, BadCount, BadNumber}
+use Rattle.gs_script.specs.declared.fault.Reason.TheVariants.{BadCount, BadNumber}
 use Rattle.gs_script.specs.Words.{number}
 use Rattle.gs_script.specs.Grammar.{Kind, Number, Form, takes, fault_of, after_word, first_fault, is_empty}
 use Rattle.gs_script.specs.Rows.{is}
-use Rattle.gs_script.specs.Header.{histories, generations, parts, behind, part_in, number_first, with_rest}
+use Rattle.gs_script.specs.Header.{policies, histories, generations, parts, behind, words_behind, part_in, number_first, with_rest}
 
 -- a word in front of each form
 opened : (kind : Kind) (word : List ℕ) (forms : List Form) → takes kind word ≡ true → flat_map (after_word word) (map (λ form. kind ∷ form) forms) ≡ forms
@@ -63,40 +63,41 @@ pub number_read : (low high : ℕ) (ws left : List (List ℕ)) (form : Form) (fo
 number_read low high [] left form forms o h = absurd (cc)
 number_read low high (v ∷ ws) left form forms o h = (read_by low high v ws left form forms o (takes (Number low high) v) refl h).0
 
--- a part that is given has a number
-pub number_given : (low high : ℕ) (ws left : List (List ℕ)) (o : Option ℕ) → number_first low high ws ≡ Ok (o, left) → (n : ℕ) × (o ≡ Some n)
-number_given low high [] left o h = absurd (cc)
-number_given low high (v ∷ ws) left o h = (number v, (read_by low high v ws left [] [] o (takes (Number low high) v) refl h).1)
-
 -- the first part
 pub tseq_step : (w : List ℕ) (ws : List (List ℕ)) → is w (codes "first-tseq") ≡ true → first_fault parts (w ∷ ws) ≡ first_fault (map (λ f. Number 0 4294967294 ∷ f) generations) ws
 tseq_step w ws h = rw ((bytes_eq-Decides w (codes "first-tseq")).0 h) refl
 
-tseq_skip_by : (w : List ℕ) (ws : List (List ℕ)) (g h : Bool) → is w (codes "first-tseq") ≡ false → is w (codes "first-gen") ≡ g → is w (codes "history") ≡ h → first_fault parts (w ∷ ws) ≡ first_fault generations (w ∷ ws)
-tseq_skip_by w ws true h nt ig ih = rw ((bytes_eq-Decides w (codes "first-gen")).0 ig) refl
-tseq_skip_by w ws false true nt ig ih = rw ((bytes_eq-Decides w (codes "history")).0 ih) refl
-tseq_skip_by w ws false false nt ig ih = rw (nt, ig, ih) refl
+tseq_skip_by : (w : List ℕ) (ws : List (List ℕ)) (g h p : Bool) → is w (codes "first-tseq") ≡ false → is w (codes "first-gen") ≡ g → is w (codes "history") ≡ h → is w (codes "policy") ≡ p → first_fault parts (w ∷ ws) ≡ first_fault generations (w ∷ ws)
+tseq_skip_by w ws true h p nt ig ih ip = rw ((bytes_eq-Decides w (codes "first-gen")).0 ig) refl
+tseq_skip_by w ws false true p nt ig ih ip = rw ((bytes_eq-Decides w (codes "history")).0 ih) refl
+tseq_skip_by w ws false false true nt ig ih ip = rw ((bytes_eq-Decides w (codes "policy")).0 ip) refl
+tseq_skip_by w ws false false false nt ig ih ip = rw (nt, ig, ih, ip) refl
 
 pub tseq_skip : (w : List ℕ) (ws : List (List ℕ)) → is w (codes "first-tseq") ≡ false → first_fault parts (w ∷ ws) ≡ first_fault generations (w ∷ ws)
-tseq_skip w ws h = tseq_skip_by w ws (is w (codes "first-gen")) (is w (codes "history")) h refl refl
+tseq_skip w ws h = tseq_skip_by w ws (is w (codes "first-gen")) (is w (codes "history")) (is w (codes "policy")) h refl refl refl
 
 -- the second
 pub gen_step : (w : List ℕ) (ws : List (List ℕ)) → is w (codes "first-gen") ≡ true → first_fault generations (w ∷ ws) ≡ first_fault (map (λ f. Number 1 4294967295 ∷ f) histories) ws
 gen_step w ws h = rw ((bytes_eq-Decides w (codes "first-gen")).0 h) refl
 
-gen_skip_by : (w : List ℕ) (ws : List (List ℕ)) (h : Bool) → is w (codes "first-gen") ≡ false → is w (codes "history") ≡ h → first_fault generations (w ∷ ws) ≡ first_fault histories (w ∷ ws)
-gen_skip_by w ws true ng ih = rw ((bytes_eq-Decides w (codes "history")).0 ih) refl
-gen_skip_by w ws false ng ih = rw (ng, ih) refl
+gen_skip_by : (w : List ℕ) (ws : List (List ℕ)) (h p : Bool) → is w (codes "first-gen") ≡ false → is w (codes "history") ≡ h → is w (codes "policy") ≡ p → first_fault generations (w ∷ ws) ≡ first_fault histories (w ∷ ws)
+gen_skip_by w ws true p ng ih ip = rw ((bytes_eq-Decides w (codes "history")).0 ih) refl
+gen_skip_by w ws false true ng ih ip = rw ((bytes_eq-Decides w (codes "policy")).0 ip) refl
+gen_skip_by w ws false false ng ih ip = rw (ng, ih, ip) refl
 
 pub gen_skip : (w : List ℕ) (ws : List (List ℕ)) → is w (codes "first-gen") ≡ false → first_fault generations (w ∷ ws) ≡ first_fault histories (w ∷ ws)
-gen_skip w ws h = gen_skip_by w ws (is w (codes "history")) h refl
+gen_skip w ws h = gen_skip_by w ws (is w (codes "history")) (is w (codes "policy")) h refl refl
 
 -- the third
-pub history_step : (w : List ℕ) (ws : List (List ℕ)) → is w (codes "history") ≡ true → first_fault histories (w ∷ ws) ≡ first_fault (map (λ f. Number 2 16777216 ∷ f) ([] ∷ [])) ws
+pub history_step : (w : List ℕ) (ws : List (List ℕ)) → is w (codes "history") ≡ true → first_fault histories (w ∷ ws) ≡ first_fault (map (λ f. Number 2 16777216 ∷ f) policies) ws
 history_step w ws h = rw ((bytes_eq-Decides w (codes "history")).0 h) refl
 
-pub history_skip : (w : List ℕ) (ws : List (List ℕ)) → is w (codes "history") ≡ false → first_fault histories (w ∷ ws) ≡ Some BadWord
-history_skip w ws h = rw h refl
+history_skip_by : (w : List ℕ) (ws : List (List ℕ)) (p : Bool) → is w (codes "history") ≡ false → is w (codes "policy") ≡ p → first_fault histories (w ∷ ws) ≡ first_fault policies (w ∷ ws)
+history_skip_by w ws true nh ip = rw ((bytes_eq-Decides w (codes "policy")).0 ip) refl
+history_skip_by w ws false nh ip = rw (nh, ip) refl
+
+pub history_skip : (w : List ℕ) (ws : List (List ℕ)) → is w (codes "history") ≡ false → first_fault histories (w ∷ ws) ≡ first_fault policies (w ∷ ws)
+history_skip w ws h = history_skip_by w ws (is w (codes "policy")) h refl
 
 -- what a part says, and what is left of the words
 pub failed_part : (low high : ℕ) (w : List ℕ) (ws : List (List ℕ)) (e : Reason) (b : Bool) → cond b (number_first low high ws) (Ok (None, w ∷ ws)) ≡ Err e → (b ≡ true) × (number_first low high ws ≡ Err e)
@@ -127,13 +128,13 @@ behind_here d n low high (w ∷ v ∷ ws) left o h k = elim (is_part n low high 
   | left_out e none rest ↦ sym (ap (behind d n) rest) ∙ k ∙ sym (ap (λ p. unwrap_or p d) none)
 ]
 
-pub behind_other : (d : ℕ) (n m : List ℕ) (low high : ℕ) (ws left : List (List ℕ)) (o : Option ℕ) → is n m ≡ false → part_in n low high ws ≡ Ok (o, left) → behind d m ws ≡ behind d m left
-behind_other d n m low high [] left o ne h = ap (behind d m) (same_parts None o [] left h).1
-behind_other d n m low high (w ∷ []) left o ne h = elim (is_part n low high w [] o left h) [
+pub behind_other : (n m : List ℕ) (low high : ℕ) (ws left : List (List ℕ)) (o : Option ℕ) → is n m ≡ false → part_in n low high ws ≡ Ok (o, left) → words_behind m ws ≡ words_behind m left
+behind_other n m low high [] left o ne h = ap (words_behind m) (same_parts None o [] left h).1
+behind_other n m low high (w ∷ []) left o ne h = elim (is_part n low high w [] o left h) [
   | given e r ↦ absurd (cc)
-  | left_out e none rest ↦ sym (ap (behind d m) rest)
+  | left_out e none rest ↦ sym (ap (words_behind m) rest)
 ]
-behind_other d n m low high (w ∷ v ∷ ws) left o ne h = elim (is_part n low high w (v ∷ ws) o left h) [
-  | given e r ↦ rw ((bytes_eq-Decides w n).0 e, ne) (sym (ap (behind d m) (read_by low high v ws left [] [] o (takes (Number low high) v) refl r).2))
-  | left_out e none rest ↦ sym (ap (behind d m) rest)
+behind_other n m low high (w ∷ v ∷ ws) left o ne h = elim (is_part n low high w (v ∷ ws) o left h) [
+  | given e r ↦ rw ((bytes_eq-Decides w n).0 e, ne) (sym (ap (words_behind m) (read_by low high v ws left [] [] o (takes (Number low high) v) refl r).2))
+  | left_out e none rest ↦ sym (ap (words_behind m) rest)
 ]

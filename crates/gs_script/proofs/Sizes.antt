@@ -65,7 +65,7 @@ pub bad_parts : (a r b : List ℕ) (ws : List (List ℕ)) (n m : ℕ) (e : Reaso
 bad_parts a r b ws n m e h k l f = rw (after_sizes a r b ws n m h k l) (same_fault (first_fault parts ws) e (firsts_of ws) (config_of (a ∷ r ∷ b ∷ ws)) f)
 
 abbrev pub configured : ℕ → ℕ → Firsts → Config
-configured n m f = record { cpus = n; ring = m; first_tseq = f.tseq; first_generation = f.generation; history = f.history }
+configured n m f = record { cpus = n; ring = m; first_tseq = f.tseq; first_generation = f.generation; history = f.history; policy = f.policy }
 
 pub sized : (a r b : List ℕ) (ws : List (List ℕ)) (n m : ℕ) (f : Firsts) → Ok n ≡ number_between 2 64 a → is r (codes "ring") ≡ true → Ok m ≡ capacity_in b → Ok f ≡ firsts_in ws → Ok (configured n m f) ≡ config_in (a ∷ r ∷ b ∷ ws)
 sized a r b ws n m f h k l g =

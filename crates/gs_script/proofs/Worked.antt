@@ -1,6 +1,7 @@
 -- What the definitions say of some scripts.
 use Rattle.std.proofs.Common.{◌≡◌, ℕ, List, [], ◌∷◌, ◌++◌, codes, refl, Ok, Err, true, false, Option, Some, None}
 use Rattle.gs_layout.specs.declared.facts.Class.TheVariants.{Zero, One}
+use Rattle.gs_policy.specs.declared.any.AnyPolicy.TheVariants as policies
 use Rattle.gs_core.specs.declared.event.Event.TheVariants as events
 use Rattle.gs_kernel.specs.declared.thread_event.ThreadEvent.TheVariants as threads
 use Rattle.gs_script.specs.declared.fault.Reason.{Reason}
@@ -116,6 +117,12 @@ tick_alone = refl
 tick_two : event_of (words_of (codes "tick x 2")) ≡ Err BadCount
 tick_two = refl
 
+decided : event_of (words_of (codes " decide ")) ≡ Ok events.Decide
+decided = refl
+
+decided_more : event_of (words_of (codes "decide decide")) ≡ Err BadCount
+decided_more = refl
+
 looked : event_of (words_of (codes " unread ")) ≡ Ok events.Unread
 looked = refl
 
@@ -150,14 +157,17 @@ misplaced = refl
 twice : of (codes "first-gen 5 first-gen 1") ≡ Some BadWord
 twice = refl
 
-behind_the_last : of (codes "history 5 first-gen 1") ≡ Some BadCount
+misplaced_last : of (codes "history 5 first-gen 1") ≡ Some BadWord
+misplaced_last = refl
+
+behind_the_last : of (codes "policy first first-gen 1") ≡ Some BadCount
 behind_the_last = refl
 
-no_policy_yet : of (codes "first-gen 5 policy first") ≡ Some BadWord
-no_policy_yet = refl
+left_out_before : of (codes "first-gen 5 policy first") ≡ None
+left_out_before = refl
 
-no_policy_behind : of (codes "history 5 policy first") ≡ Some BadCount
-no_policy_behind = refl
+all_but_one : of (codes "first-tseq 1 first-gen 5 policy two 2") ≡ None
+all_but_one = refl
 
 ends_early : of (codes "history") ≡ Some BadCount
 ends_early = refl
@@ -168,10 +178,14 @@ too_small = refl
 no_generation : of (codes "first-gen 0") ≡ Some BadNumber
 no_generation = refl
 
-defaults : header_of (words_of (codes "cpus 2 ring 128")) ≡ Ok (record { cpus = 2; ring = 128; first_tseq = 0; first_generation = 1; history = 16777216 })
+defaults : header_of (words_of (codes "cpus 2 ring 128")) ≡ Ok (record { cpus = 2; ring = 128; first_tseq = 0; first_generation = 1; history = 16777216; policy = policies.FirstCome (record {}) })
 defaults = refl
 
-all_given : header_of (words_of (codes "cpus 64 ring 1048576 first-tseq 7 first-gen 8 history 9")) ≡ Ok (record { cpus = 64; ring = 1048576; first_tseq = 7; first_generation = 8; history = 9 })
+two_class_given : header_of (words_of (codes "cpus 64 ring 1048576 first-tseq 7 first-gen 8 history 9 policy two 10"))
+    ≡ Ok (record { cpus = 64; ring = 1048576; first_tseq = 7; first_generation = 8; history = 9; policy = policies.TwoClass (record { slice = 10 }) })
+two_class_given = refl
+
+all_given : header_of (words_of (codes "cpus 64 ring 1048576 first-tseq 7 first-gen 8 history 9")) ≡ Ok (record { cpus = 64; ring = 1048576; first_tseq = 7; first_generation = 8; history = 9; policy = policies.FirstCome (record {}) })
 all_given = refl
 
 -- what happens to a thread and to a CPU

@@ -1,5 +1,7 @@
 -- The line that says what an enclave is opened with.
 use Rattle.std.specs.Prelude.{ℕ, ◌≤◌, nat_lt, List, [], ◌∷◌, map, length, drop, if◌then◌else◌, codes, Option, Some, None, Result, Ok, Err}
+use Rattle.gs_policy.specs.declared.any.AnyPolicy.{AnyPolicy}
+use Rattle.gs_policy.specs.declared.any.AnyPolicy.TheVariants.{FirstCome, TwoClass}
 use Rattle.gs_core.specs.declared.config.Config.{Config}
 use Rattle.gs_script.specs.declared.fault.Reason.{Reason}
 use Rattle.gs_script.specs.declared.fault.Reason.TheVariants.{NoHeader, BadCount, BadNumber}
@@ -12,9 +14,12 @@ use Rattle.gs_script.specs.Rows.{at, is, number_between}
 abbrev pub numbered : List ℕ → ℕ → ℕ → Form
 numbered word low high = literal word ∷ Number low high ∷ []
 
--- the parts that may stand behind the sizes, each once or not at all, in this order
+-- the parts that may stand behind the sizes, each once or not at all, in this order, from the last part outwards
+abbrev pub policies : List Form
+policies = [] ∷ (literal (codes "policy") ∷ literal (codes "first") ∷ []) ∷ (literal (codes "policy") ∷ literal (codes "two") ∷ Number 1 65535 ∷ []) ∷ []
+
 abbrev pub histories : List Form
-histories = with_part (numbered (codes "history") 2 16777216) ([] ∷ [])
+histories = with_part (numbered (codes "history") 2 16777216) policies
 
 abbrev pub generations : List Form
 generations = with_part (numbered (codes "first-gen") 1 4294967295) histories
@@ -26,15 +31,37 @@ parts = with_part (numbered (codes "first-tseq") 0 4294967294) generations
 abbrev pub header_forms : List Form
 header_forms = map (λ form. Number 2 64 ∷ literal (codes "ring") ∷ Multiple 8 128 1048576 ∷ form) parts
 
--- the number behind a word, or the default: the words come in pairs
+-- the words behind a word, of words that come in pairs until then
+abbrev pub words_behind : List ℕ → List (List ℕ) → List (List ℕ)
+words_behind word [] = []
+words_behind word (w ∷ []) = []
+words_behind word (w ∷ v ∷ ws) = if is w word then v ∷ ws else words_behind word ws
+
+-- the number that comes first, or the default
+abbrev pub number_or : ℕ → List (List ℕ) → ℕ
+number_or default [] = default
+number_or default (v ∷ ws) = number v
+
+-- the number behind a word, or the default
 abbrev pub behind : ℕ → List ℕ → List (List ℕ) → ℕ
-behind default word [] = default
-behind default word (w ∷ []) = default
-behind default word (w ∷ v ∷ ws) = if is w word then number v else behind default word ws
+behind default word ws = number_or default (words_behind word ws)
+
+-- the policy that words name: first come, where nothing says another
+abbrev pub named : List (List ℕ) → AnyPolicy
+named [] = FirstCome (record {})
+named (v ∷ ws) = if is v (codes "two") then TwoClass (record { slice = number (at 0 ws) }) else FirstCome (record {})
+
+abbrev pub policy_of : List (List ℕ) → AnyPolicy
+policy_of ws = named (words_behind (codes "policy") ws)
 
 abbrev pub firsts_of : List (List ℕ) → Firsts
 firsts_of ws =
-    record { tseq = behind 0 (codes "first-tseq") ws; generation = behind 1 (codes "first-gen") ws; history = behind 16777216 (codes "history") ws }
+    record {
+      tseq = behind 0 (codes "first-tseq") ws;
+      generation = behind 1 (codes "first-gen") ws;
+      history = behind 16777216 (codes "history") ws;
+      policy = policy_of ws;
+    }
 
 abbrev pub config_of : List (List ℕ) → Config
 config_of ws =
@@ -44,6 +71,7 @@ config_of ws =
       first_tseq = (firsts_of (drop 3 ws)).tseq;
       first_generation = (firsts_of (drop 3 ws)).generation;
       history = (firsts_of (drop 3 ws)).history;
+      policy = (firsts_of (drop 3 ws)).policy;
     }
 
 -- what the words behind `cpus` say: only a count under that of the shortest form is a fault before the words are
@@ -82,3 +110,11 @@ number_first low high (v ∷ ws) = with_rest ws (number_between low high v)
 abbrev pub part_in : List ℕ → ℕ → ℕ → List (List ℕ) → Result (Option ℕ × List (List ℕ)) Reason
 part_in word low high [] = Ok (None, [])
 part_in word low high (w ∷ ws) = if is w word then number_first low high ws else Ok (None, w ∷ ws)
+
+-- what the last part says, and nothing behind it
+abbrev pub policy_in : List (List ℕ) → Result AnyPolicy Reason
+policy_in ws = or_fault (first_fault policies ws) (policy_of ws)
+
+-- the same, of the words behind `policy`
+abbrev pub policy_named : List (List ℕ) → Result AnyPolicy Reason
+policy_named ws = policy_in (codes "policy" ∷ ws)

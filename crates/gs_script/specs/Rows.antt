@@ -90,13 +90,16 @@ stamp =
       event = λ ws. events.Stamp (number (at 0 ws)) (number (at 1 ws)) (is (at 2 ws) (codes "p"));
     }
 
+-- a form without words: nothing stands behind the first word
+abbrev pub decide : Row
+decide = record { word = codes "decide"; forms = [] ∷ []; event = λ ws. events.Decide }
+
 abbrev pub commit : Row
 commit = record { word = codes "commit"; forms = (u64s ∷ []) ∷ []; event = λ ws. events.Commit (number (at 0 ws)) }
 
 abbrev pub late : Row
 late = record { word = codes "late"; forms = (u32s ∷ []) ∷ []; event = λ ws. events.Late (number (at 0 ws)) }
 
--- a form without words: nothing stands behind the first word
 abbrev pub view : Row
 view = record { word = codes "view"; forms = [] ∷ []; event = λ ws. events.View }
 
@@ -107,7 +110,7 @@ abbrev pub unread : Row
 unread = record { word = codes "unread"; forms = [] ∷ []; event = λ ws. events.Unread }
 
 abbrev pub rows : List Row
-rows = create ∷ block ∷ wake ∷ yield ∷ die ∷ affinity ∷ take ∷ give ∷ tick ∷ drain ∷ stamp ∷ commit ∷ late ∷ view ∷ state ∷ unread ∷ []
+rows = create ∷ block ∷ wake ∷ yield ∷ die ∷ affinity ∷ take ∷ give ∷ tick ∷ drain ∷ stamp ∷ decide ∷ commit ∷ late ∷ view ∷ state ∷ unread ∷ []
 
 -- what a row reads in the words after its first
 abbrev pub reads : Row → List (List ℕ) → Result Event Reason

@@ -202,6 +202,10 @@ pub(crate) fn event(words: &[&str]) -> Result<Event, Reason>
             [cpu, tid, flag] => stamp_flagged(cpu, tid, flag),
             _ => Err(Reason::BadCount),
         },
+        "decide" => match words {
+            [] => Ok(Event::Decide),
+            _ => Err(Reason::BadCount),
+        },
         "commit" => match words {
             [mask] => commit(mask),
             _ => Err(Reason::BadCount),

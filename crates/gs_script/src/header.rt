@@ -1,11 +1,12 @@
-ghost use Rattle.std.specs.Prelude.{◌≡◌, ◌∷◌, ◌≤◌, ◌%◌, IfOk, IfErr, IfSome};
+ghost use Rattle.std.specs.Prelude.{◌≡◌, ◌∷◌, ◌≤◌, ◌%◌, codes, IfOk, IfErr, IfSome};
 ghost use Rattle.gs_core.specs.Config.{config_fault};
 ghost use Rattle.gs_script.specs.Rows.{shown};
-ghost use Rattle.gs_script.specs.Header.{header_of, config_in, capacity_in, part_in, firsts_in, IsInRange};
+ghost use Rattle.gs_script.specs.Header.{header_of, config_in, capacity_in, part_in, policy_in, policy_named, firsts_in, IsInRange};
 
 use crate::fault::Reason;
 use crate::word::number;
 use gs_core::Config;
+use gs_policy::{AnyPolicy, FirstCome, TwoClass};
 
 /// What a header may say behind the sizes.
 #[derive(Clone, Copy)]
@@ -13,6 +14,7 @@ struct Firsts {
     tseq: u32,
     generation: u32,
     history: u32,
+    policy: AnyPolicy,
 }
 
 /// The capacity of a ring.
@@ -53,8 +55,52 @@ fn part<'a, 'w>(
     Ok((Some(value), rest))
 }
 
+/// The two-class policy: its slice, and nothing behind it.
+fn two_class(words: &[&str]) -> Result<AnyPolicy, Reason>
+    ensures { result ≡ policy_named (codes "two" ∷ shown words.now) }
+{
+    let Some((slice, rest)) = words.split_first() else {
+        return Err(Reason::BadCount);
+    };
+    let slice = number(slice, 1, u16::MAX as u64)? as u16;
+    match rest {
+        [] => Ok(AnyPolicy::TwoClass(TwoClass { slice })),
+        _ => Err(Reason::BadCount),
+    }
+}
+
+/// The policy that these words name.
+fn named_policy(words: &[&str]) -> Result<AnyPolicy, Reason>
+    ensures { result ≡ policy_named (shown words.now) }
+{
+    let Some((name, rest)) = words.split_first() else {
+        return Err(Reason::BadCount);
+    };
+    match *name {
+        "first" => match rest {
+            [] => Ok(AnyPolicy::FirstCome(FirstCome)),
+            _ => Err(Reason::BadCount),
+        },
+        "two" => two_class(rest),
+        _ => Err(Reason::BadWord),
+    }
+}
+
+/// The policy, where the words begin with `policy`; first come, where there are none.
+fn policy(words: &[&str]) -> Result<AnyPolicy, Reason>
+    ensures { result ≡ policy_in (shown words.now) }
+{
+    let Some((first, rest)) = words.split_first() else {
+        return Ok(AnyPolicy::FirstCome(FirstCome));
+    };
+    match *first {
+        "policy" => named_policy(rest),
+        _ => Err(Reason::BadWord),
+    }
+}
+
 /// What the words behind the sizes say: each part once or not at all, in this order.
-#[tactic(auto, using(crate::proofs::Firsts::tseq_failed, crate::proofs::Firsts::generation_failed, crate::proofs::Firsts::history_failed))]
+#[tactic(auto, using(crate::proofs::Firsts::tseq_failed, crate::proofs::Firsts::generation_failed, crate::proofs::Firsts::history_failed, crate::proofs::Firsts::policy_failed))]
 fn optional(words: &[&str]) -> Result<Firsts, Reason>
     ensures exact { result ≡ firsts_in (shown words.now) }
     ensures fits { IfOk result IsInRange }
@@ -62,16 +108,12 @@ fn optional(words: &[&str]) -> Result<Firsts, Reason>
     let (tseq, rest) = part(words, "first-tseq", 0, 4_294_967_294)?;
     let (generation, rest) = part(rest, "first-gen", 1, 4_294_967_295)?;
     let (history, rest) = part(rest, "history", 2, 16_777_216)?;
-    if !rest.is_empty() {
-        return Err(match history {
-            None => Reason::BadWord,
-            Some(_) => Reason::BadCount,
-        });
-    }
+    let policy = policy(rest)?;
     Ok(Firsts {
         tseq: tseq.unwrap_or(0),
         generation: generation.unwrap_or(1),
         history: history.unwrap_or(16_777_216),
+        policy,
     })
 }
 
@@ -90,6 +132,7 @@ fn sizes(cpus: &str, ring: &str, word: &str, rest: &[&str]) -> Result<Config, Re
         tseq,
         generation,
         history,
+        policy,
     } = optional(rest)?;
     Ok(Config {
         cpus,
@@ -97,6 +140,7 @@ fn sizes(cpus: &str, ring: &str, word: &str, rest: &[&str]) -> Result<Config, Re
         first_tseq: tseq,
         first_generation: generation,
         history,
+        policy,
     })
 }
 

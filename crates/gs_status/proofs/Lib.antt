@@ -1,4 +1,5 @@
 pub mod Least
+pub mod Made
 pub mod Marking
 pub mod Masks
 mod Rows

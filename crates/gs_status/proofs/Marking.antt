@@ -1,5 +1,5 @@
 -- A mask of the CPUs below a number that pass a test, made by going through the CPUs.
-use Rattle.std.proofs.Common.{Bool, false, ◌≡◌, ◌≢◌, ℕ, ◌+◌, ◌<◌, ◌≤◌, ◌⊎◌, inl, inr, ◌∙◌, subst, sym, arith}
+use Rattle.std.proofs.Common.{Bool, false, ◌≡◌, ◌≢◌, ℕ, ◌+◌, ◌<◌, ◌≤◌, ◌⊎◌, inl, inr, ◌||◌, ◌∙◌, ap, subst, sym, arith}
 use Rattle.std.proofs.lemmas.Bool.{cases_eq, cases_lt}
 use Rattle.gs_status.specs.Masks.{has}
 
@@ -32,6 +32,11 @@ marked_more test mask mask' n is here others =
     at : {c : ℕ} → (c ≡ n) ⊎ (c ≢ n) → c < n + 1 → has mask' c ≡ test c
     at (inl e) lt = subst (λ k. has mask' k ≡ test k) (sym e) tested
     at {c = c} (inr other) lt = kept c other ∙ before.below c (omega arith)
+
+-- one CPU more is put into the mask where it passes
+pub marked_if : (test : ℕ → Bool) (mask mask' n : ℕ) (b : Bool) → IsMarked test mask n → has mask' n ≡ (has mask n || b) → b ≡ test n → ((c : ℕ) → c ≢ n → has mask' c ≡ has mask c) → IsMarked test mask' (n + 1)
+marked_if test mask mask' n b is here passes others =
+    marked_more test mask mask' n is (here ∙ (ap (λ a. a || b) (is.above n (omega arith)) ∙ passes)) others
 
 -- where no later CPU passes, all are marked
 pub marked_all : (test : ℕ → Bool) (mask n : ℕ) → IsMarked test mask n → ((c : ℕ) → n ≤ c → test c ≡ false) → (c : ℕ) → has mask c ≡ test c

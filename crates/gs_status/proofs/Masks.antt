@@ -8,7 +8,7 @@ use Rattle.std.proofs.lemmas.Nat.{pow_pos}
 use Rattle.std.proofs.lemmas.Nat.Bits.{shr_and_one, bit_at-zero, bit_at_above, bit_at_and, bit_at_set_same, bit_at_set_other, bit_at_clear_same, bit_at_clear_other, bit_at-lt, bit_at-trailing_zeros}
 use Rattle.std.proofs.Math.Nat.{div-eq_of_lt, lt-div-mul-add}
 use Rattle.std.proofs.Math.Pow.{pow_mono}
-use Rattle.gs_status.specs.Masks.{has, has_past, least}
+use Rattle.gs_status.specs.Masks.{has, has_past, least, with_bit}
 use Rattle.gs_status.proofs.Least.{least_none, least_found}
 
 shifted_by : (n b : ℕ) → 0 < b → (n < b) ⊎ (b ≤ n) → not (n / b == 0) ≡ nat_le b n
@@ -46,7 +46,7 @@ pub has_none_past : (n c : ℕ) → n < 2 ^ 64 → 64 ≤ c → has n c ≡ fals
 has_none_past n c small past = ap (λ k. bit_and k 1 == 1) (div-eq_of_lt (below_past n c small past))
 
 -- a CPU is in a mask where its bit is one
-has_by_bit : (n c : ℕ) → has n c ≡ (bit_at n c == 1)
+pub has_by_bit : (n c : ℕ) → has n c ≡ (bit_at n c == 1)
 has_by_bit n c = ap (λ (k : ℕ). k == 1) (shr_and_one n c)
 
 -- two masks with the same bit
@@ -55,10 +55,6 @@ has_same n m c e = has_by_bit n c ∙ (ap (λ (k : ℕ). k == 1) e ∙ sym (has_
 
 pub nobody : (c : ℕ) → has 0 c ≡ false
 nobody c = has_by_bit 0 c ∙ ap (λ (k : ℕ). k == 1) (bit_at-zero c)
-
--- a mask with the bit of CPU c set
-abbrev pub with_bit : ℕ → ℕ → ℕ
-with_bit n c = bit_or n (1 * 2 ^ c % 2 ^ 64)
 
 pub with_here : (n c : ℕ) → c < 64 → has (with_bit n c) c ≡ true
 with_here n c within = has_by_bit (with_bit n c) c ∙ ap (λ (k : ℕ). k == 1) (bit_at_set_same w64 n c within)

@@ -1,5 +1,5 @@
 -- A mask is a set of CPUs: CPU c is in it where bit c is set.
-use Rattle.std.specs.Prelude.{Bool, true, false, ℕ, zero, suc, ◌^◌, ◌/◌, ◌==◌, nat_le, bit_and, Option, None, Some}
+use Rattle.std.specs.Prelude.{Bool, true, false, ℕ, zero, suc, ◌^◌, ◌*◌, ◌/◌, ◌%◌, ◌==◌, nat_le, bit_and, bit_or, Option, None, Some, if◌then◌else◌}
 
 -- whether a CPU is in a mask
 abbrev pub has : ℕ → ℕ → Bool
@@ -12,6 +12,15 @@ has_past mask cpus = nat_le (2 ^ cpus) mask
 -- whether a mask has no CPU
 abbrev pub has_none : ℕ → Bool
 has_none mask = mask == 0
+
+-- a mask with the CPU c in it, below 64
+abbrev pub with_bit : ℕ → ℕ → ℕ
+with_bit mask c = bit_or mask (1 * 2 ^ c % 2 ^ 64)
+
+-- the mask of the CPUs below a count that pass a test
+unfoldable pub mask_of : (ℕ → Bool) → ℕ → ℕ
+mask_of test zero = 0
+mask_of test (suc c) = if test c then with_bit (mask_of test c) c else mask_of test c
 
 -- the number that was found, or else this one, if it passes
 abbrev pub found_or : Option ℕ → Bool → ℕ → Option ℕ

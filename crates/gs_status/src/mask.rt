@@ -1,4 +1,4 @@
-ghost use Rattle.std.specs.Prelude.{◌≡◌, ◌≢◌, ◌<◌, ◌≤◌, ◌&&◌, ℕ, true, false, IfSome, IfNone};
+ghost use Rattle.std.specs.Prelude.{◌≡◌, ◌≢◌, ◌<◌, ◌≤◌, ◌&&◌, ◌||◌, ℕ, true, false, IfSome, IfNone};
 ghost use Rattle.gs_status.specs.Masks.{has, has_past, has_none, least};
 
 use std::marker::Model;
@@ -78,6 +78,15 @@ impl Mask {
         Mask {
             bits: self.bits | 1 << cpu,
         }
+    }
+
+    /// The set with one CPU more where a test holds, and else the same set. A CPU is from 0 to 63.
+    pub fn with_if(self, cpu: u16, test: bool) -> Mask
+        requires { cpu < 64 }
+        ensures here { has result cpu ≡ (has self cpu || test) }
+        ensures others { (c : ℕ) → c ≢ cpu → has result c ≡ has self c }
+    {
+        if test { self.with(cpu) } else { self }
     }
 
     /// The set without a CPU, or the same set where it lacks that CPU. A CPU is from 0 to 63.

@@ -133,6 +133,8 @@ fn sets_grow_and_shrink(rt: HostRuntime) {
             without,
             "{bits:x} without CPU {cpu}"
         );
+        assert_eq!(rt; Mask::new(bits).with_if(cpu, true).bits(), with);
+        assert_eq!(rt; Mask::new(bits).with_if(cpu, false).bits(), bits);
     }
 }
 

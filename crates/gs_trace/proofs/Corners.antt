@@ -2,6 +2,7 @@
 use Rattle.std.proofs.Common.{◌≡◌, ℕ, List, [], ◌∷◌, ◌++◌, codes, refl, true, false, Option, Some, None}
 use Rattle.std.specs.Fmt.{digits}
 use Rattle.gs_layout.specs.declared.refusal.Refusal.TheVariants as refusals
+use Rattle.gs_policy.specs.declared.any.AnyPolicy.TheVariants as policies
 use Rattle.gs_core.specs.declared.config.Config.{Config}
 use Rattle.gs_agent.specs.declared.drained.Stop.TheVariants as stops
 use Rattle.gs_core.specs.declared.reply.Reply.TheVariants as replies
@@ -16,8 +17,7 @@ use Rattle.clap.specs.declared.error.kind.ErrorKind.TheVariants as kinds
 use Rattle.gs_journal.specs.History.{active, torn}
 use Rattle.gs_journal.specs.Standing.{standing, last_of}
 use Rattle.gs_core.specs.Machine.{start}
-use Rattle.gs_core.proofs.Steps.{safe_of, faithful_of}
-use Rattle.gs_core.proofs.Whole.{start_good}
+use Rattle.gs_core.proofs.Keeping.{kept_faithful, kept_safe, kept_start}
 use Rattle.gs_trace.specs.declared.arguments.Command.{Command}
 use Rattle.gs_trace.specs.declared.run.Ended.{Ended}
 use Rattle.gs_trace.specs.declared.run.Ended.TheVariants.{Ran, Faulted}
@@ -63,7 +63,7 @@ nothing_else : (ended : Ended) (out : List ℕ) → IsOutput (codes "cpus 2 ring
 nothing_else ended out h = (one_output lines (codes "cpus 2 ring 128") ended Ran out [] h header_alone_runs).1
 
 first_config : Config
-first_config = record { cpus = 2; ring = 128; first_tseq = 0; first_generation = 1; history = 16777216 }
+first_config = record { cpus = 2; ring = 128; first_tseq = 0; first_generation = 1; history = 16777216; policy = policies.FirstCome (record {}) }
 
 refused_runs : IsOutput (codes "cpus 2 ring 128" ++ 10 ∷ codes "commit 4") Ran (line (codes "refused 4 EmptyMask"))
 unfolding first_config digits active standing last_of torn commit_refusal
@@ -72,7 +72,7 @@ refused_runs = (
   record {
     replies = replies.Refused refusals.EmptyMask ∷ [];
     left = start first_config;
-    run = (start first_config, (refl, refl), safe_of _ (start_good first_config), faithful_of _ (start_good first_config), refl);
+    run = (start first_config, (refl, refl), kept_safe _ (kept_start first_config), kept_faithful _ (kept_start first_config), refl);
     sufficed = refl;
     shown = refl;
   },

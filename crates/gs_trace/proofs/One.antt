@@ -7,20 +7,25 @@ use Rattle.gs_layout.specs.declared.known.Known.{Known}
 use Rattle.gs_layout.specs.declared.refusal.Refusal.{Refusal}
 use Rattle.gs_layout.specs.declared.refusal.Refusal.TheVariants as refusals
 use Rattle.gs_layout.specs.View.{Look, words, catch_up, is_skipped, is_orphan, gap_next}
-use Rattle.gs_journal.specs.History.{posted, active, torn}
+use Rattle.gs_journal.specs.History.{posted, active, taken, torn}
 use Rattle.gs_journal.proofs.Past.{same_view}
 use Rattle.gs_kernel.specs.First.{first_that}
 use Rattle.gs_agent.specs.declared.drained.Drained.{Drained}
 use Rattle.gs_agent.specs.declared.drained.Stop.{Stop}
 use Rattle.gs_agent.specs.declared.drained.Stop.TheVariants.{Gap, Memory}
 use Rattle.gs_core.specs.declared.event.Event.{Event}
-use Rattle.gs_core.specs.declared.event.Event.TheVariants.{Create, Thread, Take, Give, Tick, Drain, Stamp, Commit, Late, Unread}
+use Rattle.gs_core.specs.declared.event.Event.TheVariants.{Create, Thread, Take, Give, Tick, Drain, Stamp, Decide, Commit, Late, Unread}
 use Rattle.gs_core.specs.declared.event.Event.TheVariants as events
 use Rattle.gs_core.specs.declared.reply.Reply.{Reply}
 use Rattle.gs_core.specs.declared.reply.Reply.TheVariants as replies
+use Rattle.gs_policy.specs.declared.choice.Choice.{Choice}
+use Rattle.gs_policy.specs.Any.{any_takes}
+use Rattle.gs_policy.specs.Plan.{plan}
+use Rattle.gs_runq.specs.Queue.{order}
+use Rattle.gs_status.specs.Masks.{mask_of}
 use Rattle.gs_mind.specs.Mind.{picture_of}
 use Rattle.gs_mind.specs.Picture.{Picture, after_slots, after_stamp, takes_in_all}
-use Rattle.gs_core.specs.Machine.{State, Agent, mind_of, picture, thinking, landings, view, unread, is_idle, refusal, Serves, Step, Does, IsShort, Takes, Drains, creates, happens, takes, gives, ticks, stamps, stamps_with, commits, lates, lands_late, transaction_of}
+use Rattle.gs_core.specs.Machine.{State, Agent, mind_of, picture, thinking, landings, view, unread, is_idle, refusal, Serves, Step, Does, IsShort, Takes, Drains, creates, happens, takes, gives, ticks, stamps, stamps_with, stamps_all, plan_of, commits, lates, lands_late, transaction_of}
 use Rattle.gs_core.specs.declared.transaction.Transaction.{Transaction}
 use Rattle.gs_core.specs.Safe.{IsFaithful, Run}
 use Rattle.gs_core.proofs.Faces.{drop_drop}
@@ -64,6 +69,14 @@ stamp_refusal m c t v =
     ∷ []
     ) None
 
+-- agents that have the same picture plan the same
+plan_by : State → Picture → List Choice
+plan_by m p = plan (any_takes m.policy) p.view (record p.cpus { taken = mask_of (taken m.history) 64 }) (order p.queue)
+
+one_plan : (m : State) (a : Option Agent) → Same a m.agent → plan_of (record m { agent = a }) ≡ plan_of m
+unfolding plan_by
+one_plan m a same = ap (plan_by m) same.pictured
+
 one_refusal : (m : State) (a : Option Agent) → Same a m.agent → (e : Event) → refusal (record m { agent = a }) e ≡ refusal m e
 unfolding stamp_refusal
 one_refusal m a same (Create f) = refl
@@ -73,6 +86,7 @@ one_refusal m a same (Give c) = refl
 one_refusal m a same (Tick c) = refl
 one_refusal m a same (Drain max) = refl
 one_refusal m a same (Stamp c t p) = ap (λ (x : Picture). stamp_refusal m c t x.view) same.pictured
+one_refusal m a same Decide = cc (one_plan m a same)
 one_refusal m a same (Commit mask) = refl
 one_refusal m a same (Late n) = refl
 one_refusal m a same events.View = refl
@@ -172,6 +186,28 @@ one_stamp m a same c t p r r' m' n' x y =
       left = alike_at m' n' (stamps m c t p).1 (stamped_agent c t o (view m t) a) x.1 (y.1 ∙ ap (λ z. z.1) known ∙ stamps_left m a c t p o (view m t)) (stamps_same m a c t p o (view m t) same);
     }
 
+-- one decision: its stamps, one after another
+stamps_alike : (m : State) (a : Option Agent) → Same a m.agent → (xs : List Choice) → Alike (stamps_all m xs) (stamps_all (record m { agent = a }) xs)
+stamps_alike m a same [] = (a, refl, same)
+stamps_alike m a same (x ∷ xs) =
+    let o = active m.history in
+    let known : stamps (record m { agent = a }) x.cpu x.tid x.preempt ≡ stamps_with (record m { agent = a }) x.cpu x.tid x.preempt o (view m x.tid) =
+    ap (λ (z : Picture). stamps_with (record m { agent = a }) x.cpu x.tid x.preempt o (z.view x.tid)) same.pictured in
+    let left = ap (λ z. z.1) known ∙ stamps_left m a x.cpu x.tid x.preempt o (view m x.tid) in
+    subst (λ (s : State). Alike (stamps_all m (x ∷ xs)) (stamps_all s xs)) (sym left)
+    (stamps_alike (stamps m x.cpu x.tid x.preempt).1 (stamped_agent x.cpu x.tid o (view m x.tid) a) (stamps_same m a x.cpu x.tid x.preempt o (view m x.tid) same) xs)
+
+alike_ends : (m n x y : State) → m ≡ x → n ≡ y → Alike x y → Alike m n
+alike_ends m n x y e k alike = subst (λ (s : State). Alike s n) (sym e) (subst (λ (s : State). Alike x s) (sym k) alike)
+
+one_decide : (m : State) (a : Option Agent) → Same a m.agent → (r r' : Reply) (m' n' : State) → Does m Decide r m' → Does (record m { agent = a }) Decide r' n' → One r r' m' n'
+one_decide m a same r r' m' n' x y =
+    let plans : plan_of (record m { agent = a }) ≡ plan_of m = one_plan m a same in
+    record {
+      reply = x.0 ∙ sym (y.0 ∙ ap (replies.Decided (length m.transactions + 1)) plans);
+      left = alike_ends m' n' (stamps_all m (plan_of m)) (stamps_all (record m { agent = a }) (plan_of m)) x.1 (y.1 ∙ ap (stamps_all (record m { agent = a })) plans) (stamps_alike m a same (plan_of m));
+    }
+
 -- one late landing
 late_reply : (m : State) (a : Option Agent) (n : ℕ) (o : Option Transaction) → (lands_late (record m { agent = a }) n o).0 ≡ (lands_late m n o).0
 late_reply m a n None = refl
@@ -223,6 +259,9 @@ one_done m a same (Drain max) r r' m' n' (inl x) (inr y) g h p q = absurd y.0
 one_done m a same (Stamp c t f) r r' m' n' (inl x) (inl y) g h p q = one_stamp m a same c t f r r' m' n' x y
 one_done m a same (Stamp c t f) r r' m' n' (inr x) y g h p q = absurd (refused_is r p x.0)
 one_done m a same (Stamp c t f) r r' m' n' (inl x) (inr y) g h p q = absurd (refused_is r' q y.0)
+one_done m a same Decide r r' m' n' (inl x) (inl y) g h p q = one_decide m a same r r' m' n' x y
+one_done m a same Decide r r' m' n' (inr x) y g h p q = absurd (refused_is r p x.0)
+one_done m a same Decide r r' m' n' (inl x) (inr y) g h p q = absurd (refused_is r' q y.0)
 one_done m a same (Late n) r r' m' n' (inl x) (inl y) g h p q = one_late m a same n r r' m' n' x y
 one_done m a same (Late n) r r' m' n' (inr x) y g h p q = absurd (refused_is r p x.0)
 one_done m a same (Late n) r r' m' n' (inl x) (inr y) g h p q = absurd (refused_is r' q y.0)

@@ -12,6 +12,7 @@ use Rattle.gs_journal.specs.History.{posted, created, torn}
 use Rattle.gs_kernel.specs.Kernel.{create_refusal, tick_refusal}
 use Rattle.gs_ring.specs.Places as places
 use Rattle.gs_ring.specs.Places.{need, pad_len}
+use Rattle.gs_policy.specs.declared.any.AnyPolicy.TheVariants as policies
 use Rattle.gs_core.specs.declared.config.Config.{Config}
 use Rattle.gs_core.specs.declared.event.Event.{Event}
 use Rattle.gs_core.specs.declared.event.Event.TheVariants as events
@@ -19,14 +20,13 @@ use Rattle.gs_core.specs.declared.reply.Reply.{Reply}
 use Rattle.gs_core.specs.declared.reply.Reply.TheVariants as replies
 use Rattle.gs_core.specs.Machine.{State, Step, start}
 use Rattle.gs_core.specs.Safe.{Run}
-use Rattle.gs_core.proofs.Steps.{safe_of, faithful_of}
-use Rattle.gs_core.proofs.Whole.{start_good, step_good}
+use Rattle.gs_core.proofs.Keeping.{kept_faithful, kept_safe, kept_start, kept_step}
 use Rattle.gs_trace.specs.declared.run.Ended.TheVariants.{Ran}
 use Rattle.gs_lines.specs.Lines.{line}
 use Rattle.gs_trace.specs.Output.{IsOutput}
 
 two : Config
-two = record { cpus = 2; ring = 128; first_tseq = 0; first_generation = 1; history = 16777216 }
+two = record { cpus = 2; ring = 128; first_tseq = 0; first_generation = 1; history = 16777216; policy = policies.FirstCome (record {}) }
 
 -- a thread of both CPUs
 facts : List ℕ → Facts
@@ -56,8 +56,8 @@ seen_look = inl (refl, refl)
 
 seen_run : Run (start two) (events.Tick 1 ∷ events.Unread ∷ []) seen (after (TimerTick 1 ∷ []))
 seen_run =
-    let g = step_good _ (events.Tick 1) (replies.Ticked 1) _ (start_good two) seen_tick in
-    (after (TimerTick 1 ∷ []), seen_tick, safe_of _ g, faithful_of _ g, (after (TimerTick 1 ∷ []), seen_look, safe_of _ g, faithful_of _ g, refl))
+    let g = kept_step _ (events.Tick 1) (replies.Ticked 1) _ (kept_start two) tt seen_tick in
+    (after (TimerTick 1 ∷ []), seen_tick, kept_safe _ g, kept_faithful _ g, (after (TimerTick 1 ∷ []), seen_look, kept_safe _ g, kept_faithful _ g, refl))
 
 seen_written : IsOutput (codes "cpus 2 ring 128" ++ 10 ∷ codes "tick 1" ++ 10 ∷ codes "unread") Ran (line (codes "tick 1") ++ line (codes "unread tick 0 seq 0 cpu 1"))
 unfolding two digits
@@ -99,13 +99,13 @@ torn_events = events.Create (facts (codes "a")) ∷ events.Create (facts (codes 
 
 torn_run : Run (start two) torn_events torn_replies (torn_after four)
 torn_run =
-    let g1 = step_good _ (events.Create (facts (codes "a"))) (replies.Created 1 1) _ (start_good two) first in
-    let g2 = step_good _ (events.Create (facts (codes "b"))) (replies.Created 2 1) _ g1 second in
-    let g3 = step_good _ (events.Create (facts (codes "c"))) (replies.Created 3 1) _ g2 third in
-    let g4 = step_good _ (events.Create (facts (codes "d"))) (replies.Created 4 1) _ g3 fourth in
-    let g5 = step_good _ (events.Tick 1) replies.Torn _ g4 tears in
-    let end : Run (torn_after four) (events.Drain 1 ∷ []) (replies.Refused refusals.Gone ∷ []) (torn_after four) = (torn_after four, gone, safe_of _ g5, faithful_of _ g5, refl) in
-    (after (take 1 four), first, safe_of _ g1, faithful_of _ g1, (after (take 2 four), second, safe_of _ g2, faithful_of _ g2, (after (take 3 four), third, safe_of _ g3, faithful_of _ g3, (after four, fourth, safe_of _ g4, faithful_of _ g4, (torn_after four, tears, safe_of _ g5, faithful_of _ g5, end)))))
+    let g1 = kept_step _ (events.Create (facts (codes "a"))) (replies.Created 1 1) _ (kept_start two) tt first in
+    let g2 = kept_step _ (events.Create (facts (codes "b"))) (replies.Created 2 1) _ g1 tt second in
+    let g3 = kept_step _ (events.Create (facts (codes "c"))) (replies.Created 3 1) _ g2 tt third in
+    let g4 = kept_step _ (events.Create (facts (codes "d"))) (replies.Created 4 1) _ g3 tt fourth in
+    let g5 = kept_step _ (events.Tick 1) replies.Torn _ g4 tt tears in
+    let end : Run (torn_after four) (events.Drain 1 ∷ []) (replies.Refused refusals.Gone ∷ []) (torn_after four) = (torn_after four, gone, kept_safe _ g5, kept_faithful _ g5, refl) in
+    (after (take 1 four), first, kept_safe _ g1, kept_faithful _ g1, (after (take 2 four), second, kept_safe _ g2, kept_faithful _ g2, (after (take 3 four), third, kept_safe _ g3, kept_faithful _ g3, (after four, fourth, kept_safe _ g4, kept_faithful _ g4, (torn_after four, tears, kept_safe _ g5, kept_faithful _ g5, end)))))
 
 abbrev torn_script : List ℕ
 torn_script =

@@ -77,7 +77,7 @@ const FIRST_PATH: &str = "cpus 2 ring 128\ncreate 3 0 r web\ndrain 1\nstamp 1 1\
 const FIRST_PATH_LINES: &str = "created 1 seq 1\ndrained 1\nstamped 1\ncpu 1 placed 1 seq 1\n";
 
 /// Scripts, and what is written for them.
-const ROWS: [(&str, &str); 23] = [
+const ROWS: [(&str, &str); 28] = [
     (FIRST_PATH, FIRST_PATH_LINES),
     (
         "cpus 2 ring 128\ncreate 1 0 r a\ncreate 2 0 b b\ndrain 9\nstamp 1 1\ncommit 2\nstamp 1 2\ncommit 2\nstamp 0 1\ncommit 1",
@@ -125,6 +125,17 @@ const ROWS: [(&str, &str); 23] = [
     ("cpus 2 ring 128\nticks 1\n", "fault line 2 BadWord\n"),
     ("cpus 2 ring 128\nunread 1\n", "fault line 2 BadCount\n"),
     ("cpus 2 ring 128\nUnread\n", "fault line 2 BadWord\n"),
+    (
+        "cpus 2 ring 128 policy first 2\n",
+        "fault line 1 BadCount\n",
+    ),
+    ("cpus 2 ring 128 policy third\n", "fault line 1 BadWord\n"),
+    ("cpus 2 ring 128 policy two 0\n", "fault line 1 BadNumber\n"),
+    ("cpus 2 ring 128\ndecide 1\n", "fault line 2 BadCount\n"),
+    (
+        "cpus 2 ring 128 policy two 3\ntick 1\ndrain 1\n",
+        "tick 1\ndrained 1\n",
+    ),
 ];
 
 fn is_fault(output: &str) -> bool {

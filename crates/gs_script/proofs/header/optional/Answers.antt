@@ -1,6 +1,6 @@
-use Rattle.std.proofs.Common.{rules, sym, Some, None}
+use Rattle.std.proofs.Common.{rules}
 use Rattle.gs_script.specs.Rows.{shown}
-use Rattle.gs_script.proofs.Firsts.{tseq_failed, generation_failed, history_failed, AreRead, part_is_left, none_is_left, all_read}
+use Rattle.gs_script.proofs.Firsts.{tseq_failed, generation_failed, history_failed, policy_failed, AreRead, all_read}
 use Rattle.gs_script.proofs.header.optional.Goals as goal
 
 pub returns-in_err-tseq-clause-exact : goal.returns-in_err-tseq-clause-exact
@@ -18,20 +18,15 @@ returns-in_err-history-clause-exact c =
     let fault = history_failed (shown c.args.words.now) (shown c.in_ok-tseq.rest.now) (shown c.in_ok-generation.rest.now) c.in_ok-tseq.tseq c.in_ok-generation.generation c.in_err-history.field-0.0 c.in_ok-tseq.ensures.ok c.in_ok-generation.ensures.ok c.in_err-history.ensures.err in
     search (rules, fault)
 
-pub returns-in-None-clause-exact : goal.returns-in-None-clause-exact
-returns-in-None-clause-exact c =
-    let read : AreRead (shown c.args.words.now) (shown c.in_ok-tseq.rest.now) (shown c.in_ok-generation.rest.now) (shown c.in_ok-history.rest.now) c.in_ok-tseq.tseq c.in_ok-generation.generation None =
-    record { tseq = c.in_ok-tseq.ensures.ok; generation = c.in_ok-generation.ensures.ok; history = rw c.in-None.is at c.in_ok-history.ensures.ok } in
-    part_is_left (shown c.args.words.now) (shown c.in_ok-tseq.rest.now) (shown c.in_ok-generation.rest.now) c.in_ok-history.rest.now c.in_ok-tseq.tseq c.in_ok-generation.generation read (sym c.if-not-is_empty.ensures)
-
-pub returns-in-Some-clause-exact : goal.returns-in-Some-clause-exact
-returns-in-Some-clause-exact c =
-    let read : AreRead (shown c.args.words.now) (shown c.in_ok-tseq.rest.now) (shown c.in_ok-generation.rest.now) (shown c.in_ok-history.rest.now) c.in_ok-tseq.tseq c.in_ok-generation.generation (Some c.in-Some.field-0) =
-    record { tseq = c.in_ok-tseq.ensures.ok; generation = c.in_ok-generation.ensures.ok; history = rw c.in-Some.is at c.in_ok-history.ensures.ok } in
-    none_is_left (shown c.args.words.now) (shown c.in_ok-tseq.rest.now) (shown c.in_ok-generation.rest.now) c.in_ok-history.rest.now c.in_ok-tseq.tseq c.in_ok-generation.generation c.in-Some.field-0 read (sym c.if-not-is_empty.ensures)
+pub returns-in_err-policy-clause-exact : goal.returns-in_err-policy-clause-exact
+returns-in_err-policy-clause-exact c =
+    let read : AreRead (shown c.args.words.now) (shown c.in_ok-tseq.rest.now) (shown c.in_ok-generation.rest.now) (shown c.in_ok-history.rest.now) c.in_ok-tseq.tseq c.in_ok-generation.generation c.in_ok-history.history =
+    record { tseq = c.in_ok-tseq.ensures.ok; generation = c.in_ok-generation.ensures.ok; history = c.in_ok-history.ensures.ok } in
+    let fault = policy_failed (shown c.args.words.now) (shown c.in_ok-tseq.rest.now) (shown c.in_ok-generation.rest.now) (shown c.in_ok-history.rest.now) c.in_ok-tseq.tseq c.in_ok-generation.generation c.in_ok-history.history c.in_err-policy.field-0.0 read c.in_err-policy.ensures in
+    search (rules, fault)
 
 pub returns-clause-exact : goal.returns-clause-exact
 returns-clause-exact c =
     let read : AreRead (shown c.args.words.now) (shown c.in_ok-tseq.rest.now) (shown c.in_ok-generation.rest.now) (shown c.in_ok-history.rest.now) c.in_ok-tseq.tseq c.in_ok-generation.generation c.in_ok-history.history =
     record { tseq = c.in_ok-tseq.ensures.ok; generation = c.in_ok-generation.ensures.ok; history = c.in_ok-history.ensures.ok } in
-    rw (c.unwrap_or.ensures, c.unwrap_or-2.ensures, c.unwrap_or-3.ensures) (all_read (shown c.args.words.now) (shown c.in_ok-tseq.rest.now) (shown c.in_ok-generation.rest.now) c.in_ok-history.rest.now c.in_ok-tseq.tseq c.in_ok-generation.generation c.in_ok-history.history read (sym c.if-not-is_empty.ensures))
+    rw (c.unwrap_or.ensures, c.unwrap_or-2.ensures, c.unwrap_or-3.ensures) (all_read (shown c.args.words.now) (shown c.in_ok-tseq.rest.now) (shown c.in_ok-generation.rest.now) (shown c.in_ok-history.rest.now) c.in_ok-tseq.tseq c.in_ok-generation.generation c.in_ok-history.history c.in_ok-policy.policy read c.in_ok-policy.ensures)

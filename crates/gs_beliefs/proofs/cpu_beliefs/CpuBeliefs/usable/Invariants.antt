@@ -1,5 +1,5 @@
 use Rattle.gs_beliefs.specs.Cpus.{is_usable}
-use Rattle.gs_beliefs.proofs.Marking.{IsMarked}
+use Rattle.gs_status.proofs.Marking.{IsMarked}
 use Rattle.gs_beliefs.proofs.cpu_beliefs.CpuBeliefs.usable.Given as goal
 
 abbrev pub invariant-loop-cpu : goal.invariant-loop-cpu

@@ -1,21 +1,26 @@
-use Rattle.std.proofs.Common.{◌≡◌, Option, Some, None, ap, sym, subst, refl, ◌∙◌, option_map}
+use Rattle.std.proofs.Common.{◌≡◌, Option, Some, None, List, map, ap, sym, subst, refl, ◌∙◌}
 use Rattle.gs_journal.specs.History.{torn}
 use Rattle.gs_agent.specs.Role.{RoleOf}
-use Rattle.gs_mind.specs.Picture.{after_slots}
+use Rattle.gs_policy.specs.declared.any.AnyPolicy.{AnyPolicy}
+use Rattle.gs_slots.specs.declared.state.SlotState.{SlotState}
+use Rattle.gs_slots.specs.State.{collected}
+use Rattle.gs_mind.specs.Mind.{picture_of}
+use Rattle.gs_mind.specs.Picture.{Picture, after_slots}
 use Rattle.gs_kernel.specs.Commit.{fitted}
 use Rattle.gs_core.specs.declared.event.Event.TheVariants as events
 use Rattle.gs_core.specs.declared.reply.Reply.{Reply}
 use Rattle.gs_core.specs.declared.reply.Reply.TheVariants as replies
-use Rattle.gs_core.specs.Machine.{Agent, State, Step, thinking}
+use Rattle.gs_core.specs.Machine.{Agent, State, Step}
 use Rattle.gs_core.specs.Held.{machine_view}
 use Rattle.gs_core.proofs.Landed.{commit_step}
 use Rattle.gs_core.proofs.Posting.{with_kernel}
 use Rattle.gs_core.proofs.Roles.{agent_of, lands_roles}
-use Rattle.gs_core.proofs.Whole.{step_good}
+use Rattle.gs_core.proofs.Keeping.{step_keeps}
+use Rattle.gs_core.proofs.Thinking.{thinks_commit, thinks_same}
 use Rattle.gs_core.proofs.machine.Machine.commit.Goals as goal
 
 -- the agent that a role is
-abbrev agent_in : RoleOf (Unit {0}) → Option Agent
+abbrev agent_in : RoleOf AnyPolicy → Option Agent
 agent_in role = Some (record { mind = role.mind; next = None })
 
 abbrev after : goal.After-is_torn → State
@@ -36,10 +41,17 @@ invariant_of-self c =
     let e = c.in-Ok.ensures in
     let i = c.self.invariant in
     let k = c.txns_commit.new.self in
+    let kept = step_keeps m (events.Commit c.args.mask) _ _ i.good i.trusts tt (step c) in
+    let p : Picture = picture_of c.self.inside.role.mind in
+    let cpus_is = ap (λ (x : RoleOf AnyPolicy). x.mind.cpus) c.collect.ensures.role ∙ ap (λ (xs : List SlotState). (after_slots 0 xs p).cpus) e.slots in
+    let slots_is = c.collect.ensures.region ∙ ap (map collected) e.slots in
     record {
-      good = step_good m (events.Commit c.args.mask) _ _ i.good (step c);
+      good = kept.good;
       told = e.told;
-      generation = λ a p. i.generation a (agent_of m.history _ k.history e.history (lands_roles (fitted k.history) m.settings c.args.mask 0 m.slots m.history) a p) ∙ sym (ap (λ (x : RoleOf (Unit {0})). x.generation) c.collect.ensures.role);
+      trusts = kept.trusts;
+      thinks = thinks_same _ _ _ _ cpus_is slots_is (thinks_commit (fitted k.history) m.settings c.args.mask m.slots m.history p i.trusts.none_done i.thinks);
+      plans = ap (λ (x : RoleOf AnyPolicy). x.policy) c.collect.ensures.role ∙ i.plans;
+      generation = λ a p. i.generation a (agent_of m.history _ k.history e.history (lands_roles (fitted k.history) m.settings c.args.mask 0 m.slots m.history) a p) ∙ sym (ap (λ (x : RoleOf AnyPolicy). x.generation) c.collect.ensures.role);
     }
 
 pub returns-in-Ok : goal.returns-in-Ok

@@ -3,7 +3,9 @@ use Rattle.std.proofs.lemmas.Grind.{common_steps}
 use Rattle.std.proofs.Common.{List, drop, arith}
 use Rattle.gs_layout.specs.declared.message.Message.{Message}
 use Rattle.gs_mind.specs.Mind.{MindState, picture_of}
+use Rattle.gs_mind.specs.Picture.{Picture}
 use Rattle.gs_agent.specs.Role.{RoleOf}
+use Rattle.gs_policy.specs.declared.any.AnyPolicy.{AnyPolicy}
 use Rattle.gs_journal.specs.History.{History, posted, active}
 use Rattle.gs_kernel.specs.Kernel.{KernelOf, SameKernel}
 use Rattle.gs_ring.specs.RingState.{RingState}
@@ -17,7 +19,8 @@ use Rattle.gs_core.specs.Held.{machine_view}
 use Rattle.gs_core.proofs.Draining.{takes_from}
 use Rattle.gs_core.proofs.Posting.{done}
 use Rattle.gs_core.proofs.Serving.{drains_as, with_drained}
-use Rattle.gs_core.proofs.Steps.{drain_kept}
+use Rattle.gs_core.proofs.Keeping.{step_keeps}
+use Rattle.gs_core.proofs.Thinking.{thinks_messages, thinks_same}
 use Rattle.gs_core.proofs.machine.Machine.drain.Goals as goal
 
 abbrev Kernel : Type 0
@@ -51,22 +54,32 @@ drains c =
     drains_as m c.args.max new.settings new.poster new.history c.drain.result c.drain.new.self.mind refl refl x.beside.settings x.passed.capacity (x.passed.taken ∙ ap (λ n. m.consumed + n) (sym x.took.count)) x.beside.history
     (subst (λ (ms : List Message). Takes (picture_of c.self.inside.role.mind) ms c.args.max c.drain.result (picture_of c.drain.new.self.mind)) (sym unread) takes)
 
-pub invariant_of-self : goal.invariant_of-self
-invariant_of-self c =
-    let m : State = machine_view c.self.inside in
-    let x = drained c in
-    let new : Kernel = c.drain.new.taker.kernel.now in
-    record {
-      good = drain_kept m c.args.max c.drain.result _ c.self.invariant.good (drains c);
-      told = subst (λ (h : History). Posted new.poster (posted h)) (sym x.beside.history) (Posted-keeps c.self.inside.kernel.poster new.poster (posted m.history) x.ms c.self.invariant.told x.passed);
-      generation = λ a p. c.self.invariant.generation a (ap active (sym x.beside.history) ∙ p) ∙ sym (ap (λ (x : RoleOf (Unit {0})). x.generation) c.drain.ensures.others);
-    }
-
-pub returns : goal.returns
-returns c =
+step : (c : goal.After-drain) → Step (machine_view c.self.inside) (events.Drain c.args.max) (replies.Drained c.drain.result)
+    (with_drained (machine_view c.self.inside) c.drain.new.taker.kernel.now.settings c.drain.new.taker.kernel.now.poster c.drain.new.taker.kernel.now.history c.drain.new.self.mind)
+step c =
     let m : State = machine_view c.self.inside in
     let none : refusal m (events.Drain c.args.max) ≡ None = grind (arith, common_steps) in
     let new : Kernel = c.drain.new.taker.kernel.now in
     let m' : State = with_drained m new.settings new.poster new.history c.drain.new.self.mind in
-    subst (λ (x : State). Step x (events.Drain c.args.max) (replies.Drained c.drain.result) m') c.self.view_is
-    (done (refusal m (events.Drain c.args.max)) m (events.Drain c.args.max) (replies.Drained c.drain.result) m' none (c.drain.result, refl, drains c))
+    done (refusal m (events.Drain c.args.max)) m (events.Drain c.args.max) (replies.Drained c.drain.result) m' none (c.drain.result, refl, drains c)
+
+pub invariant_of-self : goal.invariant_of-self
+invariant_of-self c =
+    let m : State = machine_view c.self.inside in
+    let x = drained c in
+    let i = c.self.invariant in
+    let new : Kernel = c.drain.new.taker.kernel.now in
+    let kept = step_keeps m (events.Drain c.args.max) _ _ i.good i.trusts tt (step c) in
+    record {
+      good = kept.good;
+      told = subst (λ (h : History). Posted new.poster (posted h)) (sym x.beside.history) (Posted-keeps c.self.inside.kernel.poster new.poster (posted m.history) x.ms i.told x.passed);
+      trusts = kept.trusts;
+      thinks = thinks_same _ _ _ _ (ap (λ (p : Picture). p.cpus) x.took.picture) refl (thinks_messages (picture_of c.self.inside.role.mind) x.ms c.self.inside.region i.thinks);
+      plans = ap (λ (x : RoleOf AnyPolicy). x.policy) c.drain.ensures.others ∙ i.plans;
+      generation = λ a p. i.generation a (ap active (sym x.beside.history) ∙ p) ∙ sym (ap (λ (x : RoleOf AnyPolicy). x.generation) c.drain.ensures.others);
+    }
+
+pub returns : goal.returns
+returns c =
+    let new : Kernel = c.drain.new.taker.kernel.now in
+    subst (λ (x : State). Step x (events.Drain c.args.max) (replies.Drained c.drain.result) (with_drained (machine_view c.self.inside) new.settings new.poster new.history c.drain.new.self.mind)) c.self.view_is (step c)

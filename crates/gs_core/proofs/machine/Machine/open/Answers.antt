@@ -1,4 +1,4 @@
-use Rattle.std.proofs.Common.{◌≡◌, List, ◌∷◌, [], Some, replicate, ap, subst, sym, ◌∙◌}
+use Rattle.std.proofs.Common.{◌≡◌, refl, List, ◌∷◌, [], Some, replicate, ap, subst, sym, ◌∙◌}
 use Rattle.gs_layout.specs.declared.message.Message.{Message}
 use Rattle.gs_journal.specs.declared.entry.Entry.TheVariants.{Role}
 use Rattle.gs_journal.specs.History.{posted, active}
@@ -10,9 +10,13 @@ use Rattle.gs_core.specs.Config.{settings_of}
 use Rattle.gs_core.specs.Good.{Good}
 use Rattle.gs_slots.specs.declared.state.SlotState.TheVariants.{Idle}
 use Rattle.gs_agent.specs.Role.{RoleOf}
+use Rattle.gs_policy.specs.declared.any.AnyPolicy.{AnyPolicy}
 use Rattle.gs_mind.specs.Mind.{MindState, nothing}
 use Rattle.gs_core.proofs.Roles.{first_agent}
 use Rattle.gs_core.proofs.Serving.{starts}
+use Rattle.gs_core.specs.Trust.{Trusts}
+use Rattle.gs_core.proofs.Thinking.{thinks_first, thinks_same}
+use Rattle.gs_core.proofs.Trusts.{start_trusts}
 use Rattle.gs_core.proofs.Whole.{start_good}
 use Rattle.gs_core.proofs.machine.Machine.open.Goals as goal
 
@@ -26,12 +30,16 @@ invariant_of-result c =
     let ring : k.poster ≡ empty f.ring = e.poster ∙ c.in-Ok-new.ensures.made in
     let history : k.history ≡ Role f.first_generation 0 ∷ [] = e.history ∙ ap (λ (x : Settings). Role x.first_generation 0 ∷ []) is in
     let slots : c.in-Ok.region ≡ replicate f.cpus Idle = c.in-Ok.ensures ∙ ap (λ (x : Settings). replicate x.cpus Idle) is in
-    let mind : c.in-Ok-new-3.role.mind ≡ nothing f.cpus (Some 0) = ap (λ (x : RoleOf (Unit {0})). x.mind) c.in-Ok-new-3.ensures ∙ ap (λ (x : Settings). nothing x.cpus (Some 0)) is in
+    let mind : c.in-Ok-new-3.role.mind ≡ nothing f.cpus (Some 0) = ap (λ (x : RoleOf AnyPolicy). x.mind) c.in-Ok-new-3.ensures ∙ ap (λ (x : Settings). nothing x.cpus (Some 0)) is in
+    let first = starts f k.settings k.poster k.history f.policy c.in-Ok.region c.in-Ok-new-3.role.mind c.new-5.result.items settings ring history refl slots mind c.new-5.ensures.items in
     record {
-      good = subst Good (sym (starts f k.settings k.poster k.history c.in-Ok.region c.in-Ok-new-3.role.mind c.new-5.result.items settings ring history slots mind c.new-5.ensures.items)) (start_good f);
+      good = subst Good (sym first) (start_good f);
+      trusts = subst Trusts (sym first) (start_trusts f);
+      thinks = thinks_same _ _ _ _ (ap (λ (x : MindState). x.cpus) mind) slots (thinks_first f.cpus (Some 0));
       told = subst (λ (r : RingState). Posted r (posted k.history)) (sym ring)
           (subst (λ (ms : List Message). Posted (empty f.ring) ms) (sym (ap posted history ∙ posted_new f.first_generation 0)) (Posted-empty f.ring));
-      generation = λ a p. first_agent f.first_generation 0 a (ap active (sym history) ∙ p) ∙ sym (ap (λ (x : RoleOf (Unit {0})). x.generation) c.in-Ok-new-3.ensures ∙ ap (λ (x : Settings). x.first_generation) is);
+      plans = ap (λ (x : RoleOf AnyPolicy). x.policy) c.in-Ok-new-3.ensures;
+      generation = λ a p. first_agent f.first_generation 0 a (ap active (sym history) ∙ p) ∙ sym (ap (λ (x : RoleOf AnyPolicy). x.generation) c.in-Ok-new-3.ensures ∙ ap (λ (x : Settings). x.first_generation) is);
     }
 
 pub returns : goal.returns
@@ -44,5 +52,5 @@ returns c =
     let ring : k.poster ≡ empty f.ring = e.poster ∙ c.in-Ok-new.ensures.made in
     let history : k.history ≡ Role f.first_generation 0 ∷ [] = e.history ∙ ap (λ (x : Settings). Role x.first_generation 0 ∷ []) is in
     let slots : c.in-Ok.region ≡ replicate f.cpus Idle = c.in-Ok.ensures ∙ ap (λ (x : Settings). replicate x.cpus Idle) is in
-    let mind : c.in-Ok-new-3.role.mind ≡ nothing f.cpus (Some 0) = ap (λ (x : RoleOf (Unit {0})). x.mind) c.in-Ok-new-3.ensures ∙ ap (λ (x : Settings). nothing x.cpus (Some 0)) is in
-    starts f k.settings k.poster k.history c.in-Ok.region c.in-Ok-new-3.role.mind c.new-5.result.items settings ring history slots mind c.new-5.ensures.items
+    let mind : c.in-Ok-new-3.role.mind ≡ nothing f.cpus (Some 0) = ap (λ (x : RoleOf AnyPolicy). x.mind) c.in-Ok-new-3.ensures ∙ ap (λ (x : Settings). nothing x.cpus (Some 0)) is in
+    starts f k.settings k.poster k.history f.policy c.in-Ok.region c.in-Ok-new-3.role.mind c.new-5.result.items settings ring history refl slots mind c.new-5.ensures.items
