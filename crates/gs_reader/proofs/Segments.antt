@@ -100,18 +100,10 @@ first_fault first rest second (Ok m) fault e = absurd cc
 first_fault first rest second (Err f) fault e =
     ap (λ (x : Found). and_then x (segment second)) e ∙ ap (λ (x : Found). Err f ∷ and_then x x) (sym segment_end)
 
-pub first_message : (first rest second : List ℕ) (found : Result Message ReadFault) → is_err found ≡ false → segment first ≡ found ∷ segment rest
-    → and_then (segment first) (segment second) ≡ found ∷ and_then (segment rest) (segment second)
-first_message first rest second (Ok m) fine e = ap (λ (x : Found). and_then x (segment second)) e
-first_message first rest second (Err f) fine e = absurd cc
-
 pub second_found : (first second rest : List ℕ) (found : Result Message ReadFault) → segment first ≡ [] → segment second ≡ found ∷ segment rest
     → and_then (segment first) (segment second) ≡ found ∷ and_then (segment []) (segment rest)
 second_found first second rest found none e =
     ap (λ (x : Found). and_then x (segment second)) none ∙ e ∙ ap (λ (x : Found). found ∷ and_then x (segment rest)) (sym segment_end)
-
-pub none_found : (first second : List ℕ) → segment first ≡ [] → segment second ≡ [] → and_then (segment first) (segment second) ≡ []
-none_found first second none last = ap (λ (x : Found). and_then x (segment second)) none ∙ last
 
 -- ---- a segment by what its bytes spell
 

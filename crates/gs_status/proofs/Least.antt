@@ -66,17 +66,6 @@ least_passes test (suc n) c found = by_place (least_passes test n c) (least test
     by_place more None is true here e = let same : n ≡ c = cc in ap test (sym same) ∙ here
     by_place more None is false here e = absurd cc
 
--- and is below n
-pub least_within : (test : ℕ → Bool) (n c : ℕ) → least test n ≡ Some c → c < n
-unfolding least
-least_within test zero c found = absurd cc
-least_within test (suc n) c found = by_place (least_within test n c) (least test n) refl (test n) found
-  where
-    by_place : (least test n ≡ Some c → c < n) → (o : Option ℕ) → least test n ≡ o → (b : Bool) → found_or o b n ≡ Some c → c < suc n
-    by_place more (Some d) is b e = let lt : c < n = more (is ∙ e) in omega (arith, lt)
-    by_place more None is true e = let same : n ≡ c = cc in omega (arith, same)
-    by_place more None is false e = absurd cc
-
 -- where none is the least, none passes
 pub least_is_all : (test : ℕ → Bool) (n : ℕ) → least test n ≡ None → (c : ℕ) → c < n → test c ≡ false
 unfolding least

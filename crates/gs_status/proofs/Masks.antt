@@ -1,5 +1,5 @@
 -- A shift says which bits are left, and a bit that is set or cleared says which CPUs are in the mask.
-use Rattle.std.proofs.Common.{◌≡◌, ◌≢◌, ℕ, ◌+◌, ◌*◌, ◌^◌, ◌/◌, ◌%◌, ◌<◌, ◌≤◌, ◌⊎◌, inl, inr, Bool, true, false, zero, suc, ◌&&◌, None, Some, ap, ◌∙◌, sym, subst, refl, arith, min, bit_or, w64}
+use Rattle.std.proofs.Common.{◌≡◌, ◌≢◌, ℕ, ◌+◌, ◌*◌, ◌^◌, ◌/◌, ◌%◌, ◌<◌, ◌≤◌, ◌⊎◌, inl, inr, Bool, true, false, zero, suc, ◌&&◌, None, Some, ap, ◌∙◌, sym, subst, refl, arith, min, w64}
 use Rattle.std.specs.Prelude.{nat_le, not, ◌==◌, bit_and}
 use Rattle.std.specs.Int.{bit_at, bit_not, trailing_zeros}
 use Rattle.std.proofs.lemmas.Bool.{cases_lt}
