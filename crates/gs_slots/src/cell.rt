@@ -1,6 +1,7 @@
 ghost use Rattle.std.specs.Prelude.{◌≡◌, true, false};
 ghost use Rattle.gs_layout.specs.Spelling.{IsCpuOrNone};
 ghost use Rattle.gs_slots.specs.declared.state.SlotState.{SlotState};
+ghost use Rattle.gs_slots.specs.Reading.{state_in};
 ghost use Rattle.gs_slots.specs.Spelling.{IsSpellableStamp};
 ghost use Rattle.gs_slots.specs.State.{finished, is_malformed, is_stamped};
 
@@ -42,6 +43,14 @@ impl SlotCell {
         ensures { result ≡ self.now }
     {
         state_at(&self.bytes)
+    }
+
+    /// Its bytes.
+    #[cfg(test)]
+    pub(crate) fn bytes(&self) -> [u8; 32]
+        ensures { self.now ≡ state_in result }
+    {
+        self.bytes
     }
 
     /// Makes it idle.

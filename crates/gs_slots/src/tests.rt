@@ -185,6 +185,45 @@ fn writes_the_layout(rt: HostRuntime) {
     assert_eq!(rt; bytes::state_at(&slot), done);
 }
 
+/// A CPU, and the two bytes in which it stands in its slot.
+const CPUS: [(u16, u8, u8); 6] = [
+    (0, 0, 0),
+    (1, 1, 0),
+    (63, 63, 0),
+    (255, 255, 0),
+    (256, 0, 1),
+    (65_534, 254, 255),
+];
+
+#[test]
+fn names_its_cpu_in_its_bytes(rt: HostRuntime) {
+    for (cpu, low, high) in CPUS {
+        let mut cell = SlotCell::idle();
+        assert_eq!(rt; cell.bytes(), [0; 32], "CPU {cpu}");
+        assert_eq!(rt;
+            SlotMut::over(&mut cell, cpu).stamp(3, 258, 5, true),
+            Ok(())
+        );
+        assert_eq!(rt;
+            cell.bytes(),
+            [
+                1, 1, low, high, 3, 0, 0, 0, 2, 1, 0, 0, 5, 0, 0, 0, 0, 0, 0, 0, 0, 0, 0, 0, 0, 0,
+                0, 0, 0, 0, 0, 0
+            ],
+            "stamped for CPU {cpu}"
+        );
+        SlotMut::over(&mut cell, cpu).finish(Outcome::Stale, None, 259);
+        assert_eq!(rt;
+            cell.bytes(),
+            [
+                2, 1, low, high, 3, 0, 0, 0, 2, 1, 0, 0, 5, 0, 0, 0, 4, 0, 255, 255, 3, 1, 0, 0, 0,
+                0, 0, 0, 0, 0, 0, 0
+            ],
+            "done on CPU {cpu}"
+        );
+    }
+}
+
 #[test]
 fn opens_idle(rt: HostRuntime) -> Result<(), AllocError> {
     for cpus in [0, 1, 2, 64] {
