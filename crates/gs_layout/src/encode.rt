@@ -4,15 +4,13 @@ ghost use Rattle.std.specs.Prelude.{◌≡◌, ◌+◌, ◌≤◌, ◌++◌, len
 ghost use Rattle.gs_layout.specs.Header.{numbered};
 ghost use Rattle.gs_layout.specs.Spelling.{facts_bytes, flags_of, header_of, more_of, name_bytes, round_up, size_of, spelling};
 
+use crate::cpu::cpu_number;
 use crate::facts::Facts;
 use crate::message::{Change, Message};
 use byteorder::{ByteOrder, LittleEndian};
 
 /// How many bytes the header has.
 const HEADER: usize = 16;
-
-/// Stands for no CPU.
-const NO_CPU: u16 = 65_535;
 
 /// The numbers of a message's first 16 bytes.
 #[derive(Clone, Copy)]
@@ -84,7 +82,7 @@ fn header_of(message: &Message) -> Header
         kind: message.kind().number(),
         tid: message.tid(),
         tseq: message.tseq(),
-        cpu: message.cpu().unwrap_or(NO_CPU),
+        cpu: cpu_number(message.cpu()),
         flags: flags(message),
     }
 }

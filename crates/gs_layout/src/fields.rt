@@ -5,23 +5,15 @@ ghost use Rattle.gs_layout.specs.declared.message.Message.{Message};
 ghost use Rattle.gs_layout.specs.declared.kind.Kind.TheVariants as kinds;
 ghost use Rattle.gs_layout.specs.Message.{tseq_of};
 ghost use Rattle.gs_layout.specs.Name.{is_name};
-ghost use Rattle.gs_layout.specs.Reading.{Begins, IsMessage, change_with, class_numbered, cpu_numbered, facts_in, least, name_in};
+ghost use Rattle.gs_layout.specs.Reading.{Begins, IsMessage, change_with, class_numbered, facts_in, least, name_in};
 ghost use Rattle.gs_layout.specs.Spelling.{class_of, cpu_of, flags_of, kind_of, mask_of, name_of, tid_of};
 
+use crate::cpu::cpu_numbered;
 use crate::facts::{Class, Facts};
 use crate::kind::Kind;
 use crate::message::{Change, Message};
 use crate::name::Name;
 use crate::number::{u16_at, u32_at, u64_at};
-
-fn cpu_numbered(number: u16) -> Option<u16>
-    ensures { result ≡ cpu_numbered number }
-{
-    match number {
-        65_535 => None,
-        cpu => Some(cpu),
-    }
-}
 
 /// The kind of the message that the bytes begin with.
 pub fn kind_of(bytes: &[u8]) -> Kind

@@ -2,6 +2,7 @@
 //! outcomes, with the bytes of a message.
 #![tactic(auto)]
 
+mod cpu;
 mod encode;
 mod facts;
 mod fields;
@@ -18,6 +19,7 @@ mod refusal;
 #[cfg(test)]
 mod tests;
 
+pub use cpu::{NO_CPU, cpu_number, cpu_numbered};
 pub use encode::{creation_len, encode_message, message_len};
 pub use facts::{Class, Facts};
 pub use fields::{

@@ -6,10 +6,7 @@ ghost use Rattle.std.specs.List.{list_all};
 ghost use Rattle.gs_layout.specs.Reading.{least};
 ghost use Rattle.gs_reader.specs.Reading.{cpu_fits, fields_fit, flags_fit, more_fits, name_fits, numbers_fit, sizes_fit};
 
-use gs_layout::{Kind, Name, creation_len, u16_at, u32_at, u64_at};
-
-/// Stands for no CPU.
-const NO_CPU: u16 = 65_535;
+use gs_layout::{Kind, NO_CPU, Name, creation_len, u16_at, u32_at, u64_at};
 
 /// The CPUs are numbered below this.
 const CPUS: u16 = 64;

@@ -1,15 +1,13 @@
 //! A slot as 32 bytes.
 
 ghost use Rattle.std.specs.Prelude.{◌≡◌, ◌≤◌, ◌++◌, length, drop};
-ghost use Rattle.gs_layout.specs.Reading.{cpu_numbered};
-ghost use Rattle.gs_layout.specs.Spelling.{cpu_number};
 ghost use Rattle.gs_slots.specs.declared.state.SlotState.{SlotState};
 ghost use Rattle.gs_slots.specs.Spelling.{done_bytes, result_bytes, spelling, stamp_bytes};
 ghost use Rattle.gs_slots.specs.Reading.{outcome_in, stamp_in, state_in};
 
 use crate::state::{SlotState, Stamp};
 use byteorder::{ByteOrder, LittleEndian};
-use gs_layout::{Outcome, u16_at, u32_at};
+use gs_layout::{Outcome, cpu_number, cpu_numbered, u16_at, u32_at};
 
 /// How many bytes a slot has.
 pub(crate) const SIZE: usize = 32;
@@ -21,18 +19,6 @@ const DONE: u8 = 2;
 
 /// Where what became of a transaction stands.
 const RESULT: usize = 16;
-
-/// Stands for no CPU.
-const NO_CPU: u16 = 65_535;
-
-fn cpu_numbered(number: u16) -> Option<u16>
-    ensures { result ≡ cpu_numbered number }
-{
-    match number {
-        NO_CPU => None,
-        cpu => Some(cpu),
-    }
-}
 
 fn stamp_at(bytes: &[u8]) -> Stamp
     requires { length bytes.now ≡ 32 }
@@ -90,7 +76,7 @@ fn write_result(outcome: Outcome, at: Option<u16>, seen: u32, out: &mut [u8])
     ensures { out.new ≡ result_bytes outcome at seen ++ drop 8 out.old }
 {
     LittleEndian::write_u16(out, outcome.number());
-    LittleEndian::write_u16(&mut out[2..], at.unwrap_or(NO_CPU));
+    LittleEndian::write_u16(&mut out[2..], cpu_number(at));
     LittleEndian::write_u32(&mut out[4..], seen);
 }
 

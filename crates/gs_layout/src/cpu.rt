@@ -1,0 +1,25 @@
+//! A CPU, or none, as a number of two bytes.
+
+ghost use Rattle.std.specs.Prelude.{◌≡◌};
+ghost use Rattle.gs_layout.specs.Reading.{cpu_numbered};
+ghost use Rattle.gs_layout.specs.Spelling.{cpu_number};
+
+/// The number that stands for no CPU.
+pub const NO_CPU: u16 = 65_535;
+
+/// The CPU of this number, or `None` where it stands for none.
+pub fn cpu_numbered(number: u16) -> Option<u16>
+    ensures { result ≡ cpu_numbered number }
+{
+    match number {
+        NO_CPU => None,
+        cpu => Some(cpu),
+    }
+}
+
+/// The number of a CPU, or the one that stands for none.
+pub fn cpu_number(cpu: Option<u16>) -> u16
+    ensures { result ≡ cpu_number cpu }
+{
+    cpu.unwrap_or(NO_CPU)
+}
