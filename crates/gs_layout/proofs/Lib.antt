@@ -4,3 +4,4 @@ pub mod ReadBack
 pub mod Parcels
 pub mod NumberBytes
 pub mod Rows
+mod Corners
