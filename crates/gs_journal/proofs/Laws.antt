@@ -14,13 +14,13 @@ use Rattle.gs_layout.specs.declared.message.Message.TheVariants.{Thread, TimerTi
 use Rattle.gs_journal.specs.declared.entry.Entry.{Entry}
 use Rattle.gs_journal.specs.declared.entry.Entry.TheVariants.{Posted, Placed, Role, Begin, Left, Taken, Given, Torn}
 use Rattle.gs_layout.specs.declared.record.Record.TheVariants as records
-use Rattle.gs_layout.specs.declared.record.Record.TheVariants.{Absent, Live}
+use Rattle.gs_layout.specs.declared.record.Record.TheVariants.{Absent}
 use Rattle.gs_journal.specs.Walk.{record_then, posts_about}
 use Rattle.gs_journal.specs.Standing.{or_here, last_of, unless_ended, standing, latest, never, then_stands, then_latest}
 use Rattle.gs_layout.specs.Message.{is_about, is_creation, is_death}
 use Rattle.gs_layout.specs.Record.{after}
 use Rattle.gs_journal.specs.Record.{record_of, live_of, starts_by, created_by, runnable_by, mask_by}
-use Rattle.gs_journal.specs.History.{History, posted, posted_by, messages, seq, seq_after, record_in, on, placed_on, ends_run, at, at_below, is_thread, active, role_by, ends_role, attaching, begin_by, ends_begin, created, generation, generation_by, taken, taken_by, last_taken, torn, is_torn, AtEach, AtEachPrefix}
+use Rattle.gs_journal.specs.History.{History, posted, posted_by, messages, seq, seq_after, record_in, on, placed_on, ends_run, at, at_below, is_thread, active, role_by, ends_role, attaching, begin_by, ends_begin, created, taken, taken_by, last_taken, torn, is_torn, AtEach, AtEachPrefix}
 
 -- the last starter after one more element
 abbrev pub last_then : {E A : Type 0} → Option A → E → Option (A × List E) → Option (A × List E)
@@ -120,10 +120,6 @@ pub attaching-push : (h : History) (e : Entry) → attaching (h ++ e ∷ []) ≡
 unfolding attaching
 attaching-push h e = standing-push begin_by ends_begin h e
 
-pub generation-push : (h : History) (e : Entry) → generation (h ++ e ∷ []) ≡ then_latest (generation_by e) (generation h)
-unfolding generation
-generation-push h e = latest-push generation_by h e
-
 pub last_taken-push : (h : History) (e : Entry) (c : ℕ) → last_taken (h ++ e ∷ []) c ≡ then_latest (taken_by c e) (last_taken h c)
 unfolding last_taken
 last_taken-push h e c = latest-push (taken_by c) h e
@@ -220,7 +216,7 @@ record_posted : (ms : List Message) (m : Message) (b : Bool) → record_of (ms +
 record_posted ms m true = record_of-push ms m
 record_posted ms m false = ap record_of (append-nil ms)
 
-record_push : (t : ℕ) (h : History) (e : Entry) → record_in (h ++ e ∷ []) t ≡ record_then t (record_in h t) e
+pub record_push : (t : ℕ) (h : History) (e : Entry) → record_in (h ++ e ∷ []) t ≡ record_then t (record_in h t) e
 unfolding record_in
 record_push t h (Posted m) = ap record_of (messages-push h (Posted m) t) ∙ record_posted (messages h t) m (is_about t m)
 record_push t h (Placed u s c g) = ap record_of (messages-push h (Placed u s c g) t ∙ append-nil (messages h t))

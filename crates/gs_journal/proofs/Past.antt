@@ -140,10 +140,6 @@ Was-now first h t k w now =
 pub same_view : (v w : Look) → ((t : ℕ) → v t ≡ w t) → v ≡ w
 same_view v w h = λ i. λ t. h t i
 
-pub catch_up-append : (v : Look) (xs ys : List Message) → catch_up v (xs ++ ys) ≡ catch_up (catch_up v xs) ys
-catch_up-append v [] ys = refl
-catch_up-append v (x ∷ xs) ys = catch_up-append (apply v x) xs ys
-
 apply_was : (first : ℕ) (h : History) (v : Look) (a b : List Message) (m : Message) → posted h ≡ a ++ m ∷ b → IsNumbered first h → AllWas first h v
     → AllWas first h (apply v m)
 unfolding messages

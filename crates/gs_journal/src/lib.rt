@@ -5,9 +5,11 @@
 
 mod entry;
 mod journal;
+mod law;
 mod query;
 #[cfg(test)]
 mod tests;
 
 pub use entry::Entry;
 pub use journal::Journal;
+pub use law::record_is_fold;

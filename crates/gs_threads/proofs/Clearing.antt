@@ -1,7 +1,9 @@
 -- After a tear-down nobody is on a CPU.
-use Rattle.std.proofs.Common.{◌≡◌, refl, ap, sym, ◌∙◌, ℕ, ◌+◌, ◌<◌, ◌≤◌, ◌==◌, Bool, true, false, ◌⊎◌, inl, inr, Option, None, Some, List, [], ◌∷◌, ◌++◌, arith}
+use Rattle.std.proofs.Common.{◌≡◌, refl, ap, sym, ◌∙◌, ℕ, ◌+◌, ◌<◌, ◌≤◌, ◌==◌, Bool, true, false, ◌⊎◌, inl, inr, Option, None, Some, List, [], ◌∷◌, ◌++◌, zero, suc, map, arith}
 use Rattle.std.specs.Option.{option_map}
 use Rattle.std.proofs.lemmas.Bool.Decides.{nat_tests}
+use Rattle.std.proofs.lemmas.List.{length-map}
+use Rattle.std.proofs.lemmas.Option.{slice_get-map}
 use Rattle.gs_journal.specs.declared.entry.Entry.TheVariants.{Torn}
 use Rattle.gs_journal.specs.Standing.{then_stands}
 use Rattle.gs_journal.specs.History.{History, on, ends_run}
@@ -12,15 +14,12 @@ use Rattle.gs_threads.specs.Table.{row_of, rows_placed, place_at, cpu_of}
 use Rattle.gs_threads.specs.Mirrors.{Mirrors}
 use Rattle.gs_threads.proofs.Entries.{eqb_same, eqb_other}
 use Rattle.gs_threads.proofs.Told.{place_row}
-use Rattle.gs_threads.proofs.Placing.{row_placed_same, length-rows_placed, SameButPlaces, same_facts, placed_keeps, place_other, same_rows}
+use Rattle.gs_threads.proofs.Placing.{row_placed_same, length-rows_placed, SameButPlaces, same_facts, placed_keeps, place_other}
 
 -- rows in which whoever was on one of the first n CPUs was taken off, and nothing else changed
 pub record IsClearedBelow (n : ℕ) (rows rows' : List ThreadRow) : Type 0 where
   pub same : SameButPlaces rows rows'
   pub left : (t c : ℕ) → place_at rows' t ≡ Some c → (n ≤ c) × (place_at rows t ≡ Some c)
-
-pub cleared_none : (rows : List ThreadRow) → IsClearedBelow 0 rows rows
-cleared_none rows = record { same = same_rows rows; left = λ t c e. (omega arith, e) }
 
 -- nobody was on the next CPU
 pub cleared_nobody : (n : ℕ) (rows rows' : List ThreadRow) → IsClearedBelow n rows rows' → ((t : ℕ) → place_at rows t ≡ Some n → ⊥) → IsClearedBelow (n + 1) rows rows'
@@ -85,3 +84,27 @@ mirrors_torn first h rows rows' cpus was cleared within =
       λ x. absurd (let l = cleared.left u d x in let lt = within u d ((was.same_place u d).0 l.1) in omega (arith, l.0, lt)),
       λ x. absurd (let y : None ≡ Some u = sym (torn_off h d) ∙ x in cc),
     ))
+
+-- rows of which each was taken off
+all_off : (rows : List ThreadRow) (u : ℕ) → row_of (map (λ row. row_placed row None) rows) u ≡ option_map (λ row. row_placed row None) (row_of rows u)
+unfolding row_of
+all_off rows zero = refl
+all_off rows (suc n) = slice_get-map (λ row. row_placed row None) rows n
+
+off_nowhere : (rows : List ThreadRow) (u : ℕ) → place_at (map (λ row. row_placed row None) rows) u ≡ None
+off_nowhere rows u =
+    place_row (map (λ row. row_placed row None) rows) u (option_map (λ row. row_placed row None) (row_of rows u)) (all_off rows u) ∙ off (row_of rows u)
+  where
+    off : (o : Option ThreadRow) → cpu_of (option_map (λ row. row_placed row None) o) ≡ None
+    off None = refl
+    off (Some row) = refl
+
+pub mirrors_all_off : (first : ℕ) (h : History) (rows : List ThreadRow) → Mirrors first h rows → Mirrors first (h ++ Torn ∷ []) (map (λ row. row_placed row None) rows)
+mirrors_all_off first h rows was =
+    same_facts first h (h ++ Torn ∷ []) rows (map (λ row. row_placed row None) rows) was same (λ u. same_messages h Torn u refl) (same_created h Torn refl) (λ u d. (
+      λ x. absurd (let y : None ≡ Some d = sym (off_nowhere rows u) ∙ x in cc),
+      λ x. absurd (let y : None ≡ Some u = sym (torn_off h d) ∙ x in cc),
+    ))
+  where
+    same : SameButPlaces rows (map (λ row. row_placed row None) rows)
+    same = record { count = length-map rows (λ row. row_placed row None); kept = λ u. inr (None, all_off rows u) }

@@ -1,15 +1,17 @@
 -- What a table that mirrors the history says of it.
-use Rattle.std.proofs.Common.{◌≡◌, refl, ap, sym, ◌∙◌, ℕ, zero, suc, ◌+◌, ◌<◌, ◌⊎◌, inl, inr, length, Option, None, Some, List, [], arith}
+use Rattle.std.proofs.Common.{◌≡◌, refl, ap, sym, ◌∙◌, ℕ, zero, suc, ◌+◌, ◌<◌, ◌↔◌, length, fold, Option, None, Some, List, [], ◌∷◌, arith}
 use Rattle.std.specs.Option.{option_map_or}
+use Rattle.gs_layout.specs.declared.message.Message.{Message}
 use Rattle.gs_layout.specs.declared.record.Record.TheVariants.{Absent}
+use Rattle.gs_layout.specs.Record.{after}
 use Rattle.gs_journal.specs.Standing.{standing, last_of, latest}
 use Rattle.gs_journal.specs.Record.{record_of}
-use Rattle.gs_journal.specs.History.{History, posted, messages, created, seq, record_in, on, at, at_below}
-use Rattle.gs_journal.proofs.Laws.{at_is, at_found, at_not}
+use Rattle.gs_journal.specs.History.{History, posted, messages, created, seq, seq_after, record_in, on, at, at_below}
+use Rattle.gs_journal.proofs.Folds.{record_in-fold}
+use Rattle.gs_journal.proofs.Laws.{at_is, at_found, at_not, seq_is}
 use Rattle.gs_threads.specs.declared.row.ThreadRow.{ThreadRow}
 use Rattle.gs_threads.specs.Table.{row_of, record_at, number_at, place_at, cpu_of}
 use Rattle.gs_threads.specs.Mirrors.{Mirrors}
-use Rattle.gs_threads.proofs.Lookups.{row_never}
 use Rattle.gs_threads.proofs.Told.{record_row, number_row, place_row, record_none, number_none}
 
 -- nobody is on two CPUs
@@ -48,10 +50,23 @@ pub mirrors_never : (first : ℕ) (h : History) (rows : List ThreadRow) (cpus t 
 mirrors_never first h rows cpus t was within is =
     (sym (was.same_record t) ∙ record_none rows t is, sym (was.same_number t) ∙ number_none rows t is, sym (mirrors_at first h rows cpus t was within) ∙ place_row rows t None is)
 
--- no thread before the first or past the last has messages
-pub mirrors_fresh : (first : ℕ) (h : History) (rows : List ThreadRow) (t : ℕ) → Mirrors first h rows → (t ≡ 0) ⊎ (length (created h) < t) → messages h t ≡ []
-mirrors_fresh first h rows t was (inl z) = (was.absent t).0 (row_never rows t (inl z))
-mirrors_fresh first h rows t was (inr past) = (was.absent t).0 (row_never rows t (inr (let e : length rows ≡ length (created h) = was.count in omega (arith, e, past))))
+-- the row of a thread is what its messages make of it, one after another
+pub mirrored_record : (first : ℕ) (h : History) (rows : List ThreadRow) (t : ℕ) (row : ThreadRow) → Mirrors first h rows → row_of rows t ≡ Some row → row.record ≡ fold after Absent (messages h t)
+mirrored_record first h rows t row was is = sym (record_row rows t row is) ∙ (was.same_record t ∙ record_in-fold h t)
+
+-- its number is the first one and one more for each of them
+pub mirrored_number : (first : ℕ) (h : History) (rows : List ThreadRow) (t : ℕ) (row : ThreadRow) → Mirrors first h rows → row_of rows t ≡ Some row → row.tseq ≡ first + length (messages h t)
+mirrored_number first h rows t row was is = sym (number_row rows t row is) ∙ (was.same_number t ∙ (seq_is first h t ∙ by_messages (messages h t) refl))
+  where
+    by_messages : (ms : List Message) → messages h t ≡ ms → seq_after first (length ms) ≡ first + length ms
+    by_messages [] none = absurd (let gone : row_of rows t ≡ None = (was.absent t).1 none in let x : None ≡ Some row = sym gone ∙ is in cc)
+    by_messages (m ∷ ms) some = refl
+
+-- and it is on a CPU just where the history says so
+pub mirrored_place : (first : ℕ) (h : History) (rows : List ThreadRow) (t c : ℕ) (row : ThreadRow) → Mirrors first h rows → row_of rows t ≡ Some row → (row.cpu ≡ Some c) ↔ (on h c ≡ Some t)
+mirrored_place first h rows t c row was is =
+    let there : place_at rows t ≡ row.cpu = place_row rows t (Some row) is in
+    (λ e. (was.same_place t c).0 (there ∙ e), λ e. sym there ∙ (was.same_place t c).1 e)
 
 -- an enclave in which nothing has happened
 pub mirrors_none : (first : ℕ) → Mirrors first [] []
