@@ -1,5 +1,5 @@
 -- What a ring of fixed places is to its callers.
-use Rattle.std.proofs.Common.{◌≡◌, ◌⊎◌, inl, inr, ⊎_elim, ℕ, ◌+◌, ◌≤◌, List, [], ◌∷◌, ◌++◌, length, take, drop, refl, ap, sym, ◌∙◌, append_assoc, arith, length-append}
+use Rattle.std.proofs.Common.{◌≡◌, ◌⊎◌, inl, inr, ⊎_elim, ℕ, ◌+◌, ◌≤◌, List, [], ◌∷◌, ◌++◌, length, take, drop, refl, ap, sym, ◌∙◌, append_assoc, arith, length-append, length-drop}
 use Rattle.std.proofs.lemmas.List.{drop-drop, take_at}
 use Rattle.gs_layout.specs.declared.message.Message.{Message}
 use Rattle.gs_ring.specs.Splits.{two_splits}
@@ -29,9 +29,10 @@ IsEmpty r = r.taken ≡ length r.posts
 abbrev pub SamePlaces : PlacesState → PlacesState → Type 0
 SamePlaces a b = b.places ≡ a.places
 
--- these are what was posted so far
-abbrev pub Posted : PlacesState → List Message → Type 0
-Posted r xs = xs ≡ r.posts
+-- these are what was posted so far, and no more of them were taken
+pub record Posted (r : PlacesState) (xs : List Message) : Type 0 where
+  pub all : xs ≡ r.posts
+  pub within : r.taken ≤ length r.posts
 
 -- these passed from one state of a ring to a later one
 pub record Passed (a : PlacesState) (ms : List Message) (b : PlacesState) : Type 0 where
@@ -64,16 +65,19 @@ pub Passed-agrees : (a b : PlacesState) (xs ys : List Message) → Passed a xs b
 Passed-agrees a b xs ys p h = ⊎_elim (λ s. inl (s.0, s.1, (h.0, s.2))) inr (two_splits xs (waiting b) ys h.0 (sym p.waiting ∙ h.1))
 
 pub Posted-keeps : (a b : PlacesState) (xs ms : List Message) → Posted a xs → Passed a ms b → Posted b xs
-Posted-keeps a b xs ms h p = h ∙ sym p.posts
+Posted-keeps a b xs ms h p = record {
+  all = h.all ∙ sym p.posts;
+  within = omega (arith, h.within, p.taken, ap length p.posts, length-drop a.taken a.posts, ap length p.waiting, length-append ms (waiting b));
+}
 
 pub Posted-passes : (a b : PlacesState) (xs ms : List Message) → Posted a xs → Passed a ms b → (b.taken ≡ a.taken + length ms) × (ms ≡ take (length ms) (drop a.taken xs))
 Posted-passes a b xs ms h p = (
   p.taken,
-  sym (take_at ms (waiting b) (length ms) refl) ∙ ap (λ l. take (length ms) l) (sym p.waiting ∙ ap (λ l. drop a.taken l) (sym h)),
+  sym (take_at ms (waiting b) (length ms) refl) ∙ ap (λ l. take (length ms) l) (sym p.waiting ∙ ap (λ l. drop a.taken l) (sym h.all)),
 )
 
 pub Posted-ends : (r : PlacesState) (xs : List Message) → Posted r xs → IsEmpty r → r.taken ≡ length xs
-Posted-ends r xs h e = e ∙ ap length (sym h)
+Posted-ends r xs h e = e ∙ ap length (sym h.all)
 
 -- the message that waits first passes as one more is taken
 pub Passed-next : (r : PlacesState) (m : Message) → Ahead r (m ∷ []) → Passed r (m ∷ []) (record r { taken = r.taken + 1 })

@@ -74,8 +74,8 @@ impl FixedPlaces {
 }
 
 impl Poster for FixedPlaces {
-    ghost use Rattle.std.proofs.Common.{ap, refl, sym, ◌∙◌};
-    ghost use Rattle.std.specs.Prelude.{length};
+    ghost use Rattle.std.proofs.Common.{ap, refl, subst, sym, ◌∙◌};
+    ghost use Rattle.std.specs.Prelude.{◌≤◌, drop, length};
     ghost use Rattle.acceptance.specs.FixedPlaces.{Posted, SamePlaces};
 
     ghost posted = { Posted };
@@ -96,7 +96,11 @@ impl Poster for FixedPlaces {
         Ok(())
     }
 
-    ghost counted = { λ r xs h. ap length (sym h) };
+    ghost counted = { λ r xs h. ap length (sym h.all) };
+
+    ghost within = { λ r xs h. subst (λ ys. r.taken ≤ length ys) (sym h.all) h.within };
+
+    ghost tells = { λ r xs ys h k. ap (drop r.taken) (h.all ∙ sym k.all) };
 
     ghost same_refl = { λ r. refl };
 

@@ -98,6 +98,14 @@ Passed-same a b ms p = p.capacity
 pub Posted-unread : (r : RingState) (xs : List Message) → Posted r xs → drop r.taken xs ≡ r.unread
 Posted-unread r xs h = ap (λ l. drop r.taken l) h.all ∙ drop_at h.consumed r.unread r.taken h.count
 
+-- so they are the same behind any list that may have been posted
+pub Posted-tells : (r : RingState) (xs ys : List Message) → Posted r xs → Posted r ys → drop r.taken xs ≡ drop r.taken ys
+Posted-tells r xs ys h k = Posted-unread r xs h ∙ sym (Posted-unread r ys k)
+
+-- and no more were taken than were posted
+pub Posted-within : (r : RingState) (xs : List Message) → Posted r xs → r.taken ≤ length xs
+Posted-within r xs h = omega (arith, ap length h.all, length-append h.consumed r.unread, h.count)
+
 pub Posted-passes : (a b : RingState) (xs ms : List Message) → Posted a xs → Passed a ms b → (b.taken ≡ a.taken + length ms) × (ms ≡ take (length ms) (drop a.taken xs))
 Posted-passes a b xs ms h p = (
   p.taken,

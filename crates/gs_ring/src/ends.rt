@@ -1,6 +1,6 @@
 //! The two ends of a ring of messages.
 
-ghost use Rattle.std.specs.Prelude.{◌≡◌, ℕ, ◌+◌, ◌^◌, ◌<◌, List, [], ◌∷◌, ◌++◌, length, take, drop, OnOk, OnErr, IfNone, MatchOption, ◌⊎◌};
+ghost use Rattle.std.specs.Prelude.{◌≡◌, ℕ, ◌+◌, ◌^◌, ◌<◌, ◌≤◌, List, [], ◌∷◌, ◌++◌, length, take, drop, OnOk, OnErr, IfNone, MatchOption, ◌⊎◌};
 ghost use Rattle.std.specs.Borrow.{sem};
 ghost use Rattle.std.specs.Io.BufRead.{Rests};
 ghost use Rattle.gs_layout.specs.Spelling.{IsSpellable};
@@ -48,6 +48,12 @@ pub trait Poster {
 
     /// Laws.
     ghost counted: { (p : Self) (xs : List Message) → posted p xs → count p ≡ length xs };
+
+    /// No more are taken than were posted.
+    ghost within: { (p : Self) (xs : List Message) → posted p xs → taken p ≤ length xs };
+
+    /// Behind those that are taken, what was posted is known.
+    ghost tells: { (p : Self) (xs ys : List Message) → posted p xs → posted p ys → drop (taken p) xs ≡ drop (taken p) ys };
 
     ghost same_refl: { (p : Self) → same p p };
 

@@ -178,7 +178,7 @@ impl ByteRing {
 
 impl Poster for ByteRing {
     ghost use Rattle.std.proofs.Common.{refl, ◌∙◌};
-    ghost use Rattle.gs_ring.specs.Ends.{Posted, Posted-counted, SameRing};
+    ghost use Rattle.gs_ring.specs.Ends.{Posted, Posted-counted, Posted-tells, Posted-within, SameRing};
 
     ghost posted = { Posted };
 
@@ -208,6 +208,10 @@ impl Poster for ByteRing {
     }
 
     ghost counted = { Posted-counted };
+
+    ghost within = { Posted-within };
+
+    ghost tells = { Posted-tells };
 
     ghost same_refl = { λ p. refl };
 
