@@ -12,7 +12,7 @@ use Rattle.gs_slots.specs.declared.state.SlotState.TheVariants.{Stamped}
 use Rattle.gs_slots.specs.State.{collected}
 use Rattle.gs_journal.specs.History.{History, posted, torn}
 use Rattle.gs_ring.specs.RingState.{RingState, IsTight}
-use Rattle.gs_ring.specs.Ends.{Posted as Sent, SameRing}
+use Rattle.gs_ring.specs.Ends.{Posted as Sent, SameCapacity}
 use Rattle.gs_kernel.specs.declared.settings.Settings.{Settings}
 use Rattle.gs_kernel.specs.declared.landing.Landing.{Landing}
 use Rattle.gs_kernel.specs.Kernel.{preemption}
@@ -34,14 +34,14 @@ use Rattle.gs_core.proofs.Posting.{IsRingOf, done, with_kernel}
 abbrev pub MayTear : State → History → RingState → Type 0
 MayTear m h r = torn m.history ≡ false → torn h ≡ true → (t : ℕ) × (n : ℕ) × (c : ℕ) × IsTight r (Thread t n (Preempted c))
 
-left_by : (m : State) (h : History) (r0 r : RingState) → IsRingOf m r0 → SameRing r0 r → r.taken ≡ r0.taken → Sent r (posted h) → torn m.history ≡ false → MayTear m h r → IsLeft m.ring m.consumed h r
+left_by : (m : State) (h : History) (r0 r : RingState) → IsRingOf m r0 → SameCapacity r0 r → r.taken ≡ r0.taken → Sent r (posted h) → torn m.history ≡ false → MayTear m h r → IsLeft m.ring m.consumed h r
 left_by m h r0 r i same stays told up tight = record { capacity = same ∙ i.ring; taken = stays ∙ i.consumed; told = told; tight = tight up }
 
 stood : (s : Settings) (h : History) (mask : ℕ) → commit_refusal s h mask ≡ None → torn h ≡ false
 unfolding commit_refusal
 stood s h mask e = (first_passed (torn h) refusals.Gone _ e).0
 
-pub commit_step : (m : State) (mask : ℕ) (s : Settings) (r0 r : RingState) (h : History) (answers : List Landing) (agent : Option Agent) (slots left : List SlotState) → IsRingOf m r0 → SameRing r0 r → r.taken ≡ r0.taken → Sent r (posted h) → s ≡ m.settings
+pub commit_step : (m : State) (mask : ℕ) (s : Settings) (r0 r : RingState) (h : History) (answers : List Landing) (agent : Option Agent) (slots left : List SlotState) → IsRingOf m r0 → SameCapacity r0 r → r.taken ≡ r0.taken → Sent r (posted h) → s ≡ m.settings
     → m.consumed ≤ length (posted m.history) → MayTear m h r → commit_refusal m.settings m.history mask ≡ None → answers ≡ (lands (fitted h) m.settings mask 0 m.slots m.history).answers → h ≡ (lands (fitted h) m.settings mask 0 m.slots m.history).history
     → left ≡ (lands (fitted h) m.settings mask 0 m.slots m.history).slots → agent ≡ option_map (thinking (after_slots 0 left)) m.agent → slots ≡ map collected left → Step m (events.Commit mask) (replies.Landed answers (torn h)) (record (with_kernel m s r h) { agent = agent; slots = slots })
 commit_step m mask s r0 r h answers agent slots left i same stays told is_s few tight none is_answers is_h is_left is_agent is_slots =
@@ -86,7 +86,7 @@ late_fits m n x up is =
 first_of : (x y : Landing) → x ∷ [] ≡ y ∷ [] → x ≡ y
 first_of x y e = cc
 
-pub late_step : (m : State) (n : ℕ) (x : Transaction) (q : Result Landing AllocError) (s : Settings) (r0 r : RingState) (h : History) → IsRingOf m r0 → SameRing r0 r → r.taken ≡ r0.taken → Sent r (posted h) → s ≡ m.settings
+pub late_step : (m : State) (n : ℕ) (x : Transaction) (q : Result Landing AllocError) (s : Settings) (r0 r : RingState) (h : History) → IsRingOf m r0 → SameCapacity r0 r → r.taken ≡ r0.taken → Sent r (posted h) → s ≡ m.settings
     → m.consumed ≤ length (posted m.history) → MayTear m h r → torn m.history ≡ false → transaction_of m.transactions n ≡ Some x → IfOk q (λ l. l ≡ landing (not (torn h)) m.settings m.history x.cpu x.slot) → OnOk q (h ≡ after_landing (not (torn h)) m.settings m.history x.cpu x.slot)
     → OnErr q (h ≡ m.history) → Step m (events.Late n) (late_reply n (torn h) q) (with_kernel m s r h)
 late_step m n x (Ok l) s r0 r h i same stays told is_s few tight up is is_l is_h unchanged =

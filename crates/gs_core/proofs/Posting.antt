@@ -7,7 +7,7 @@ use Rattle.gs_journal.specs.History.{posted}
 use Rattle.gs_journal.proofs.Laws.{posted-push, same_posted}
 use Rattle.gs_ring.specs.Places.{free_after, need, record_len, written}
 use Rattle.gs_ring.specs.RingState.{RingState, IsTight}
-use Rattle.gs_ring.specs.Ends.{Posted as Sent, SameRing, Posted-free, Posted-need, Posted-fits}
+use Rattle.gs_ring.specs.Ends.{Posted as Sent, SameCapacity, Posted-free, Posted-need, Posted-fits}
 use Rattle.gs_layout.specs.declared.refusal.Refusal.{Refusal}
 use Rattle.gs_layout.specs.declared.refusal.Refusal.TheVariants as refusals
 use Rattle.gs_journal.specs.declared.entry.Entry.{Entry}
@@ -39,7 +39,7 @@ fits_not m r k i tight =
     let lt : free_after m.ring (posted m.history) m.consumed < need m.ring (written m.ring (posted m.history)) (record_len k) = omega (arith, a, b, tight) in
     grind (arith, nat_tests)
 
-pub fits_then : (m : State) (r r' : RingState) (k : Message) → IsRingOf m r → SameRing r r' → r'.taken ≡ r.taken → Sent r' (posted (m.history ++ Posted k ∷ [])) → fits m k ≡ true
+pub fits_then : (m : State) (r r' : RingState) (k : Message) → IsRingOf m r → SameCapacity r r' → r'.taken ≡ r.taken → Sent r' (posted (m.history ++ Posted k ∷ [])) → fits m k ≡ true
 fits_then m r r' k i same stays told =
     let le = Posted-fits r r' (posted m.history) k same stays i.told (subst (Sent r') (posted-push m.history (Posted k)) told) in
     let a = asked m r k i in
@@ -48,7 +48,7 @@ fits_then m r r' k i same stays told =
     grind (arith, nat_tests)
 
 -- a message that was posted or tore the enclave down, as it fits or does not
-posted_does : (m m' : State) (k : Message) (r reply : Reply) (r0 r1 : RingState) (b : Bool) → IsRingOf m r0 → SameRing r0 r1 → r1.taken ≡ r0.taken → Sent r1 (posted (after_post b m.history k)) → (b ≡ false → IsTight r0 k)
+posted_does : (m m' : State) (k : Message) (r reply : Reply) (r0 r1 : RingState) (b : Bool) → IsRingOf m r0 → SameCapacity r0 r1 → r1.taken ≡ r0.taken → Sent r1 (posted (after_post b m.history k)) → (b ≡ false → IsTight r0 k)
     → m' ≡ record m { history = after_post b m.history k } → reply ≡ cond b r replies.Torn → (reply ≡ (posts m k r).0) × (m' ≡ (posts m k r).1)
 posted_does m m' k r reply r0 r1 true i same stays told tight is_m is_r =
     let e = fits_then m r0 r1 k i same stays told in
@@ -79,7 +79,7 @@ refused None x m e r m' is is_r short same = inr (short (is_r ∙ ap replies.Ref
 -- an event that posts a message
 pub post_step : {A : Type 0} (m : State) (e : Event) (k : Message) (r : Reply) (q : Result A Refusal) (b : A → Bool) (rep : A → Reply) (s : Settings) (r0 r1 : RingState) (h : List Entry)
     → ((reply : Reply) (m' : State) → (reply ≡ (posts m k r).0) × (m' ≡ (posts m k r).1) → Does m e reply m') → ((reply : Reply) → reply ≡ replies.Refused refusals.OutOfMemory → IsShort e reply)
-    → IsRingOf m r0 → SameRing r0 r1 → r1.taken ≡ r0.taken → Sent r1 (posted h) → s ≡ m.settings
+    → IsRingOf m r0 → SameCapacity r0 r1 → r1.taken ≡ r0.taken → Sent r1 (posted h) → s ≡ m.settings
     → IfOk q (λ x. refusal m e ≡ None) → IfOk q (λ x. b x ≡ false → IsTight r0 k) → IfOk q (λ x. h ≡ after_post (b x) m.history k) → IfOk q (λ x. rep x ≡ cond (b x) r replies.Torn) → IfErr q (IsRefusal (refusal m e))
     → OnErr q (h ≡ m.history) → Step m e (reply_of rep q) (with_kernel m s r1 h)
 post_step m e k r (Ok x) b rep s r0 r1 h does short i same stays told is_s none tight is_h is_rep refusal_is unchanged =
@@ -90,7 +90,7 @@ post_step m e k r (Err f) b rep s r0 r1 h does short i same stays told is_s none
     refused (refusal m e) f m e (replies.Refused f) (with_kernel m s r1 h) refusal_is refl (short (replies.Refused f)) (same_beside m s r1 h m.history is_s (same ∙ i.ring) (stays ∙ i.consumed) unchanged)
 
 -- the other class took a CPU
-takes_does : (m m' : State) (c : ℕ) (o : Option Message) (reply : Reply) (r0 r1 : RingState) (b : Bool) → IsRingOf m r0 → SameRing r0 r1 → r1.taken ≡ r0.taken → Sent r1 (posted (after_take b m.history o c))
+takes_does : (m m' : State) (c : ℕ) (o : Option Message) (reply : Reply) (r0 r1 : RingState) (b : Bool) → IsRingOf m r0 → SameCapacity r0 r1 → r1.taken ≡ r0.taken → Sent r1 (posted (after_take b m.history o c))
     → (b ≡ false → (k : Message) × (o ≡ Some k) × IsTight r0 k) → m' ≡ record m { history = after_take b m.history o c } → reply ≡ cond b (replies.Taken c) replies.Torn
     → (reply ≡ cond (fits_if_any (fits_into m.ring m.consumed) m.history o) (replies.Taken c) replies.Torn) × (m' ≡ record m { history = after_take (fits_if_any (fits_into m.ring m.consumed) m.history o) m.history o c })
 takes_does m m' c None reply r0 r1 true i same stays told tight is_m is_r = (is_r, is_m)
@@ -106,7 +106,7 @@ takes_does m m' c (Some k) reply r0 r1 false i same stays told tight is_m is_r =
     let e = fits_not m r0 k i (subst (IsTight r0) (sym z) x.2) in
     (is_r ∙ ap (λ y. cond y (replies.Taken c) replies.Torn) (sym e), is_m ∙ ap (λ y. record m { history = after_take y m.history (Some k) c }) (sym e))
 
-pub take_step : (m : State) (c : ℕ) (q : Result Bool Refusal) (rep : Bool → Reply) (s : Settings) (r0 r1 : RingState) (h : List Entry) → IsRingOf m r0 → SameRing r0 r1 → r1.taken ≡ r0.taken → Sent r1 (posted h) → s ≡ m.settings
+pub take_step : (m : State) (c : ℕ) (q : Result Bool Refusal) (rep : Bool → Reply) (s : Settings) (r0 r1 : RingState) (h : List Entry) → IsRingOf m r0 → SameCapacity r0 r1 → r1.taken ≡ r0.taken → Sent r1 (posted h) → s ≡ m.settings
     → IfOk q (λ b. take_refusal m.settings m.history c ≡ None) → IfOk q (λ b. b ≡ false → (k : Message) × (preemption m.settings m.history c ≡ Some k) × IsTight r0 k) → IfOk q (λ b. h ≡ after_take b m.history (preemption m.settings m.history c) c)
     → ((b : Bool) → rep b ≡ cond b (replies.Taken c) replies.Torn) → IfErr q (IsRefusal (take_refusal m.settings m.history c)) → OnErr q (h ≡ m.history) → Step m (events.Take c) (reply_of rep q) (with_kernel m s r1 h)
 take_step m c (Ok b) rep s r0 r1 h i same stays told is_s none tight is_h is_rep refusal_is unchanged =

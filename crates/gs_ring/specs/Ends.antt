@@ -14,8 +14,8 @@ pub record Posted (r : RingState) (xs : List Message) : Type 0 where
   pub place : written r.capacity consumed ≡ r.read
   pub room : end r ≤ r.read + r.capacity
 
-abbrev pub SameRing : RingState → RingState → Type 0
-SameRing a b = b.capacity ≡ a.capacity
+abbrev pub SameCapacity : RingState → RingState → Type 0
+SameCapacity a b = b.capacity ≡ a.capacity
 
 -- these passed from one state of a ring to a later one
 pub record Passed (a : RingState) (ms : List Message) (b : RingState) : Type 0 where
@@ -91,7 +91,7 @@ Posted-keeps a b xs ms h p = record {
       omega (arith, same, h.room, p.capacity, p.read, place_behind-grows a.capacity a.read ms);
 }
 
-pub Passed-same : (a b : RingState) (ms : List Message) → Passed a ms b → SameRing a b
+pub Passed-same : (a b : RingState) (ms : List Message) → Passed a ms b → SameCapacity a b
 Passed-same a b ms p = p.capacity
 
 -- behind what was consumed come those that wait
@@ -149,7 +149,7 @@ Posted-fitted r xs ys m few h =
     omega (arith, read, last, h.room, place_behind-grows r.capacity (written r.capacity xs + need r.capacity (written r.capacity xs) (record_len m)) ys, consumed_below r.capacity r.taken xs)
 
 -- where a message was posted behind others, nothing taken, it had room
-pub Posted-fits : (r r' : RingState) (xs : List Message) (m : Message) → SameRing r r' → r'.taken ≡ r.taken → Posted r xs → Posted r' (xs ++ m ∷ [])
+pub Posted-fits : (r r' : RingState) (xs : List Message) (m : Message) → SameCapacity r r' → r'.taken ≡ r.taken → Posted r xs → Posted r' (xs ++ m ∷ [])
     → need r.capacity (written r.capacity xs) (record_len m) ≤ free_after r.capacity xs r.taken
 Posted-fits r r' xs m ring taken h h' =
     let few : r'.taken ≤ length xs = omega (arith, taken, ap length h.all, length-append h.consumed r.unread, h.count) in

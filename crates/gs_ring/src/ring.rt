@@ -178,7 +178,7 @@ impl ByteRing {
 
 impl Poster for ByteRing {
     ghost use Rattle.std.proofs.Common.{refl, ◌∙◌};
-    ghost use Rattle.gs_ring.specs.Ends.{Posted, Posted-counted, Posted-tells, Posted-within, SameRing};
+    ghost use Rattle.gs_ring.specs.Ends.{Posted, Posted-counted, Posted-tells, Posted-within, SameCapacity};
 
     ghost posted = { Posted };
 
@@ -188,12 +188,12 @@ impl Poster for ByteRing {
 
     ghost tight = { IsTight };
 
-    ghost same = { SameRing };
+    ghost same = { SameCapacity };
 
     fn post(&mut self, message: &Message) -> Result<(), Full>
         requires few { posts self.old < 2 ^ 24 }
         requires spellable { IsSpellable message.now }
-        ensures ring { SameRing self.old self.new }
+        ensures ring { SameCapacity self.old self.new }
         ensures posts { OnOk result ((xs : List Message) → Posted self.old xs → Posted self.new (xs ++ message.now ∷ [])) }
         ensures counts { OnOk result (posts self.new ≡ posts self.old + 1) }
         ensures stays { self.new.taken ≡ self.old.taken }
