@@ -6,3 +6,4 @@ pub mod Rows
 pub mod Held
 pub mod Next
 pub mod Waits
+pub mod Posting

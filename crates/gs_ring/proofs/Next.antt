@@ -1,5 +1,5 @@
 -- The message that waits first, where it lies in the block.
-use Rattle.std.proofs.Common.{◌≡◌, Bool, true, false, cond, ℕ, zero, suc, ◌+◌, ◌-◌, ◌%◌, ◌<◌, ◌≤◌, ⊎_elim, List, [], ◌∷◌, ◌++◌, length, take, drop, refl, ap, sym, subst, ◌∙◌, append_assoc, arith, length-append}
+use Rattle.std.proofs.Common.{◌≡◌, Bool, true, false, cond, ℕ, ◌+◌, ◌-◌, ◌%◌, ◌<◌, ◌≤◌, ⊎_elim, List, [], ◌∷◌, ◌++◌, length, take, drop, refl, ap, sym, subst, ◌∙◌, append_assoc, arith, length-append}
 use Rattle.std.specs.Prelude.{◌==◌, min}
 use Rattle.std.proofs.lemmas.Bool.{cases_lt}
 use Rattle.std.proofs.lemmas.List.{drop_at, take-append-drop, take_at}
@@ -13,7 +13,7 @@ use Rattle.gs_layout.specs.Pad.{pad}
 use Rattle.gs_layout.specs.Reading.{number_at}
 use Rattle.gs_layout.specs.Spelling.{IsSpellable, size_of, size_of_change, spelling}
 use Rattle.gs_layout.proofs.Spelled.{spelled_length}
-use Rattle.gs_ring.specs.Block.{IsRing, Lies, behind_front, front_message, messages_in, record_index, ring_of, seen}
+use Rattle.gs_ring.specs.Block.{IsRing, Lies, record_index, ring_of, seen}
 use Rattle.gs_ring.specs.Ends.{Ahead, Passed, Passed-join, Passed-none, place_behind-append, place_behind-grows}
 use Rattle.gs_ring.specs.Places.{bytes, need, pad_bytes, pad_len, place_behind, record_len, record_of, rest}
 use Rattle.gs_ring.specs.RingState.{RingState, end}
@@ -96,13 +96,6 @@ names_length b r m h =
     let z = record_size m h.spellable in
     let n : size_of m ≡ record_len m = sym (spelled_length m) ∙ ap length (sym (record_is m)) in
     ap (λ (t : List ℕ). number_at 0 2 t) h.front ∙ little_number-reads_back 2 (size_of m) [] (omega (arith, n, z.most)) ∙ n
-
--- the messages that wait in a ring of these parts, by the first of them
-pub some_wait : (b : List ℕ) (r w n : ℕ) → 0 < n → (m : Message) × (ms : List Message) × (waiting b r w n ≡ m ∷ ms) × (length ms + 1 ≡ n)
-some_wait b r w zero h = absurd (omega arith)
-some_wait b r w (suc n) h =
-    let text = seen b r (w - r) in
-    (front_message text, messages_in n (behind_front text), refl, omega (arith, length-messages_in n (behind_front text)))
 
 -- the first message of a ring, and the ring after it is taken
 pub record First (b : List ℕ) (r w t p : ℕ) (v : RingState) (m : Message) : Type 0 where

@@ -61,19 +61,6 @@ Passed-join a b c xs ys p q = record {
 pub Passed-agrees : (a b : RingState) (xs ys : List Message) → Passed a xs b → Ahead a ys → ((more : List Message) × (xs ++ more ≡ ys) × Ahead b more) ⊎ ((more : List Message) × (xs ≡ ys ++ more))
 Passed-agrees a b xs ys p h = ⊎_elim (λ s. inl (s.0, s.1, (h.0, s.2))) inr (two_splits xs b.unread ys h.0 (sym p.unread ∙ h.1))
 
--- a message that has room is posted behind them
-pub Posted-posts : (r r' : RingState) (xs : List Message) (m : Message) → r' ≡ record r { unread = r.unread ++ m ∷ [] } → need_of r m ≤ free r → Posted r xs → Posted r' (xs ++ m ∷ [])
-Posted-posts r r' xs m is fits h =
-    let q : RingState = record r { unread = r.unread ++ m ∷ [] } in
-    let last : end q ≡ end r + need_of r m = place_behind-append r.capacity r.read r.unread (m ∷ []) in
-    subst (λ (x : RingState). Posted x (xs ++ m ∷ [])) (sym is) (record {
-      consumed = h.consumed;
-      all = ap (λ l. l ++ m ∷ []) h.all ∙ append_assoc h.consumed r.unread (m ∷ []);
-      count = h.count;
-      place = h.place;
-      room = omega (arith, last, fits, h.room, place_behind-grows r.capacity r.read r.unread);
-    })
-
 pub Posted-keeps : (a b : RingState) (xs ms : List Message) → Posted a xs → Passed a ms b → Posted b xs
 Posted-keeps a b xs ms h p = record {
   consumed = h.consumed ++ ms;

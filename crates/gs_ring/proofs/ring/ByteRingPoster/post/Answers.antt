@@ -2,8 +2,9 @@ use Rattle.std.proofs.Common.{◌≡◌, List, [], ◌∷◌, ◌++◌, Result, 
 use Rattle.std.proofs.lemmas.Bool.{cases_lt, false≢true}
 use Rattle.gs_layout.specs.declared.message.Message.{Message}
 use Rattle.gs_ring.specs.declared.fault.Full.{Full}
-use Rattle.gs_ring.specs.Ends.{Posted, Posted-posts}
+use Rattle.gs_ring.specs.Ends.{Posted}
 use Rattle.gs_ring.specs.RingState.{RingState, IsTight, free, need_of}
+use Rattle.gs_ring.proofs.Posting.{Posted-posts}
 use Rattle.gs_ring.proofs.ring.ByteRingPoster.post.Goals as goal
 
 posted : (q : Result Unit Full) (r r' : RingState) (m : Message) → (IsErr q ↔ IsTight r m) → OnOk q (r' ≡ record r { unread = r.unread ++ m ∷ [] })
