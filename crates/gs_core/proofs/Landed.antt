@@ -4,6 +4,7 @@ use Rattle.std.specs.Option.{is_some, option_map}
 use Rattle.std.specs.declared.alloc.AllocError.{AllocError}
 use Rattle.gs_layout.specs.declared.facts.Facts.{Facts}
 use Rattle.gs_layout.specs.declared.message.Change.TheVariants.{Preempted}
+use Rattle.gs_layout.specs.declared.message.Message.{Message}
 use Rattle.gs_layout.specs.declared.message.Message.TheVariants.{Thread}
 use Rattle.gs_layout.specs.declared.refusal.Refusal.TheVariants as refusals
 use Rattle.gs_slots.specs.declared.state.Stamp.{Stamp}
@@ -19,6 +20,7 @@ use Rattle.gs_kernel.specs.Kernel.{preemption}
 use Rattle.gs_kernel.specs.Landing.{landing, after_landing}
 use Rattle.gs_kernel.specs.Commit.{Landings, commit_refusal, fits_if_any, fitted, lands, one_lands, slot_lands}
 use Rattle.gs_kernel.proofs.Commits.{Grows, slot_asked}
+use Rattle.gs_kernel.proofs.Placings.{preempted_shape}
 use Rattle.gs_kernel.proofs.Refusals.{first_passed}
 use Rattle.gs_core.specs.declared.transaction.Transaction.{Transaction}
 use Rattle.gs_core.specs.declared.event.Event.TheVariants as events
@@ -33,6 +35,10 @@ use Rattle.gs_core.proofs.Posting.{IsRingOf, done, with_kernel}
 -- what the kernel's landings left of its ring
 abbrev pub MayTear : State → History → RingState → Type 0
 MayTear m h r = torn m.history ≡ false → torn h ≡ true → (t : ℕ) × (n : ℕ) × (c : ℕ) × IsTight r (Thread t n (Preempted c))
+
+-- as the kernel says it: what it may have refused is the message to the thread on a CPU
+pub refused_there : (s : Settings) (h : History) (k : ℕ) (r : RingState) → (m : Message) × (preemption s h k ≡ Some m) × IsTight r m → (t : ℕ) × (n : ℕ) × (c : ℕ) × IsTight r (Thread t n (Preempted c))
+refused_there s h k r x = let shape = preempted_shape s h k x.0 x.1 in (shape.0, shape.1, shape.2, subst (IsTight r) shape.3 x.2)
 
 left_by : (m : State) (h : History) (r0 r : RingState) → IsRingOf m r0 → SameCapacity r0 r → r.taken ≡ r0.taken → Sent r (posted h) → torn m.history ≡ false → MayTear m h r → IsLeft m.ring m.consumed h r
 left_by m h r0 r i same stays told up tight = record { capacity = same ∙ i.ring; taken = stays ∙ i.consumed; told = told; tight = tight up }

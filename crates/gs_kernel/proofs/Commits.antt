@@ -3,6 +3,7 @@ use Rattle.std.proofs.Common.{◌≡◌, refl, ap, sym, ◌∙◌, ℕ, suc, ◌
 use Rattle.std.specs.declared.alloc.AllocError.{AllocError}
 use Rattle.std.proofs.lemmas.Bool.Decides.{nat_tests}
 use Rattle.std.proofs.lemmas.List.{take_more}
+use Rattle.std.proofs.lemmas.Option.{slice_get-get_or}
 use Rattle.gs_layout.specs.declared.message.Message.{Message}
 use Rattle.gs_layout.specs.declared.outcome.Outcome.{Outcome}
 use Rattle.gs_layout.specs.declared.outcome.Outcome.TheVariants as outcomes
@@ -17,7 +18,7 @@ use Rattle.gs_kernel.specs.declared.settings.Settings.{Settings}
 use Rattle.gs_kernel.specs.declared.landing.Landing.{Landing}
 use Rattle.gs_kernel.specs.Kernel.{made_way, preemption}
 use Rattle.gs_kernel.specs.Landing.{verdict, landing, after_landing, after_verdict, placing, placing_entries, settled}
-use Rattle.gs_kernel.specs.Commit.{Fits, Landings, fits_if_any, fitted, history_after, slot_lands, one_lands, then_others, lands, verdict_in}
+use Rattle.gs_kernel.specs.Commit.{Fits, Landings, TearDown, fits_if_any, fitted, history_after, slot_lands, one_lands, then_others, lands, verdict_in}
 use Rattle.gs_kernel.proofs.Placings.{IsIdle, placed_or_not, placing_when, torn_way}
 
 others_assoc : (a b c : Landings) → then_others a (then_others b c) ≡ then_others (then_others a b) c
@@ -177,6 +178,16 @@ still_fitted now later longer ended same x m lt = by_torn (torn now) refl
             let is : later ≡ now = same (omega (arith, len, longer, lt)) in
             let z : false ≡ true = sym e ∙ (ap torn (sym is) ∙ p) in absurd cc
 
+-- a slot that has not landed yet is as it was
+untouched : (f : Fits) (s : Settings) (mask i : ℕ) (old region : List SlotState) (x : SlotState) (h : History) → i < length old → region ≡ (lands f s mask 0 (take i old) h).slots ++ drop i old → slice_get region i ≡ Some x → slice_get old i ≡ Some x
+untouched f s mask i old region x h lt is found =
+    let a : Landings = lands f s mask 0 (take i old) h in
+    let z : SlotState = get_or old i x in
+    let front : length (take i old) ≡ i = omega (arith, length-take i old) in
+    let n : length a.slots ≡ i = slots_count f s mask 0 (take i old) h ∙ front in
+    let whole : region ≡ a.slots ++ z ∷ drop (suc i) old = is ∙ ap (λ w. a.slots ++ w) (drop-cons old i x lt) in
+    slice_get-get_or old i x lt ∙ (sym (get_middle a.slots (drop (suc i) old) z) ∙ (ap (slice_get (a.slots ++ z ∷ drop (suc i) old)) n ∙ (ap (λ w. slice_get w i) (sym whole) ∙ found)))
+
 -- what the slots so far answered and left, with the next one
 pub record More (s : Settings) (mask i : ℕ) (old left : List SlotState) (h h' : History) (xs zs : List Landing) : Type 0 where
   pub answers : zs ≡ xs ++ (lands (fitted h') s mask 0 (take (i + 1) old) h).answers
@@ -200,7 +211,7 @@ land_more s mask i old region x y h now h' xs ys zs lt grows was was_now was_ys 
     let n : length a.slots ≡ i = slots_count f s mask 0 (take i old) h ∙ front in
     let cut : drop i old ≡ z ∷ rest = drop-cons old i x lt ∙ ap (λ m. z ∷ drop m old) (let q : suc i ≡ i + 1 = omega arith in q) in
     let whole : region ≡ a.slots ++ z ∷ rest = is ∙ ap (λ w. a.slots ++ w) cut in
-    let here : Some z ≡ Some x = sym (get_middle a.slots rest z) ∙ (ap (slice_get (a.slots ++ z ∷ rest)) n ∙ (ap (λ w. slice_get w i) (sym whole) ∙ found)) in
+    let here : Some z ≡ Some x = sym (slice_get-get_or old i x lt) ∙ untouched f s mask i old region x h lt is found in
     let same : z ≡ x = cc in
     let one : Landings = one_lands f s (has mask i) i z a.history in
     let now_one : one_lands f s (has mask i) i x now ≡ one = λ j. one_lands f s (has mask i) i (sym same j) (is_now j) in
@@ -212,6 +223,60 @@ land_more s mask i old region x y h now h' xs ys zs lt grows was was_now was_ys 
       history = gone ∙ (ap (λ (l : Landings). l.history) now_one ∙ ap (λ (l : Landings). l.history) (sym step));
       slots = set_here
           ∙ (sym (append_assoc a.slots (y ∷ []) rest) ∙ (ap (λ w. (a.slots ++ w) ++ rest) (left ∙ ap (λ (l : Landings). l.slots) now_one) ∙ ap (λ (l : Landings). l.slots ++ rest) (sym step)));
+    }
+
+-- a landing that tore the enclave down: its slot was wanted and was to be placed, and nothing but the tear-down came of it
+record Fell (s : Settings) (wanted : Bool) (k : ℕ) (z : SlotState) (h h' : History) : Type 0 where
+  stamp : Stamp
+  wants : wanted ≡ true
+  stamped : z ≡ Stamped stamp
+  placed : verdict s h k stamp ≡ outcomes.Placed
+  ended : h' ≡ h ++ Torn ∷ []
+
+not_torn : {A : Type 0} (h h' : History) → torn h ≡ false → torn h' ≡ true → h' ≡ h → A
+not_torn h h' up down same = let z : false ≡ true = sym up ∙ (ap torn (sym same) ∙ down) in absurd cc
+
+way_ends : (s : Settings) (fits : Bool) (h : History) (o : Option Message) (k : ℕ) (b : Stamp) → torn h ≡ false → torn (made_way fits h o (placing k b)) ≡ true → made_way fits h o (placing k b) ≡ h ++ Torn ∷ []
+way_ends s true h None k b up down = let z : false ≡ true = sym (torn_way s true h None k b up (λ p. absurd cc)) ∙ down in absurd cc
+way_ends s false h None k b up down = let z : false ≡ true = sym (torn_way s true h None k b up (λ p. absurd cc)) ∙ down in absurd cc
+way_ends s true h (Some m) k b up down = let z : false ≡ true = sym (torn_way s true h (Some m) k b up (λ p. absurd cc)) ∙ down in absurd cc
+way_ends s false h (Some m) k b up down = refl
+
+fell : (f : Fits) (s : Settings) (wanted : Bool) (k : ℕ) (z : SlotState) (h h' : History) → torn h ≡ false → torn h' ≡ true → h' ≡ (one_lands f s wanted k z h).history → Fell s wanted k z h h'
+fell f s false k z h h' up down is = not_torn h h' up down is
+fell f s true k Idle h h' up down is = not_torn h h' up down is
+fell f s true k (Done b o a n) h h' up down is = not_torn h h' up down is
+fell f s true k (Stamped b) h h' up down is = by_outcome (placed_or_not (verdict s h k b))
+  where
+    fits : Bool
+    fits = fits_if_any f h (preemption s h k)
+
+    by_outcome : (verdict s h k b ≡ outcomes.Placed) ⊎ IsIdle (verdict s h k b) → Fell s true k (Stamped b) h h'
+    by_outcome (inr i) = not_torn h h' up down (is ∙ i.history fits s h k b)
+    by_outcome (inl e) =
+        let made : h' ≡ made_way fits h (preemption s h k) (placing k b) = is ∙ ap (λ o. after_verdict fits s h o k b) e in
+        record { stamp = b; wants = refl; stamped = refl; placed = e; ended = made ∙ way_ends s fits h (preemption s h k) k b up (ap torn (sym made) ∙ down) }
+
+-- where a landing among others tore the enclave down
+pub tears_down : (tight : Message → Type 0) (s : Settings) (mask i : ℕ) (old region : List SlotState) (x : SlotState) (h now h' : History) → i < length old → Grows now h' → torn now ≡ false → torn h' ≡ true
+    → region ≡ (lands (fitted now) s mask 0 (take i old) h).slots ++ drop i old → now ≡ (lands (fitted now) s mask 0 (take i old) h).history → slice_get region i ≡ Some x → h' ≡ (one_lands (fitted h') s (has mask i) i x now).history
+    → (m : Message) × (preemption s now i ≡ Some m) × tight m → TearDown tight s mask old h h'
+tears_down tight s mask i old region x h now h' lt grows up down was was_now found gone told =
+    let alike : lands (fitted now) s mask 0 (take i old) h ≡ lands (fitted h') s mask 0 (take i old) h =
+    lands_alike (fitted now) (fitted h') s mask 0 (take i old) h (length now) (omega (arith, ap length was_now)) (still_fitted now h' grows.longer grows.ended grows.same) in
+    let w = fell (fitted h') s (has mask i) i x now h' up down gone in
+    record {
+      cpu = i;
+      stamp = w.stamp;
+      message = told.0;
+      found = now;
+      wanted = w.wants;
+      stamped = untouched (fitted now) s mask i old region x h lt was found ∙ ap Some w.stamped;
+      reached = was_now ∙ ap (λ (l : Landings). l.history) alike;
+      placed = w.placed;
+      told = told.1;
+      ended = w.ended;
+      refused = told.2;
     }
 
 -- where one slot landed by itself, it landed as one of several

@@ -1,12 +1,15 @@
 -- What the landing of slots answers and leaves.
-use Rattle.std.specs.Prelude.{Bool, true, false, not, ◌&&◌, ℕ, suc, ◌+◌, ◌==◌, Option, None, Some, List, [], ◌∷◌, ◌++◌, length, is_some}
+use Rattle.std.specs.Prelude.{Bool, true, false, not, ◌&&◌, ℕ, suc, ◌+◌, ◌==◌, ◌≡◌, Option, None, Some, List, [], ◌∷◌, ◌++◌, length, take, slice_get, is_some}
 use Rattle.gs_layout.specs.declared.message.Message.{Message}
 use Rattle.gs_layout.specs.declared.outcome.Outcome.{Outcome}
+use Rattle.gs_layout.specs.declared.outcome.Outcome.TheVariants as outcomes
 use Rattle.gs_layout.specs.declared.refusal.Refusal.{Refusal}
 use Rattle.gs_layout.specs.declared.refusal.Refusal.TheVariants as refusals
 use Rattle.gs_slots.specs.declared.state.SlotState.{SlotState}
 use Rattle.gs_slots.specs.declared.state.SlotState.TheVariants.{Idle, Stamped, Done}
+use Rattle.gs_slots.specs.declared.state.Stamp.{Stamp}
 use Rattle.gs_status.specs.Masks.{has, has_past}
+use Rattle.gs_journal.specs.declared.entry.Entry.TheVariants.{Torn}
 use Rattle.gs_journal.specs.History.{History, seq, at, active, torn}
 use Rattle.gs_kernel.specs.declared.settings.Settings.{Settings}
 use Rattle.gs_kernel.specs.declared.landing.Landing.{Landing}
@@ -80,6 +83,21 @@ abbrev pub lands : Fits → Settings → ℕ → ℕ → List SlotState → Hist
 lands fits s mask k [] h = record { answers = []; history = h; slots = [] }
 lands fits s mask k (slot ∷ slots) h =
     then_others (one_lands fits s (has mask k) k slot h) (lands fits s mask (suc k) slots (one_lands fits s (has mask k) k slot h).history)
+
+-- where landings tore the enclave down: at the slot of a CPU of the mask, which was to be placed on the history that the landings before it
+-- left; that history then ended with the tear-down, and the message to the thread there is one that may be refused
+pub record TearDown (tight : Message → Type 0) (s : Settings) (mask : ℕ) (slots : List SlotState) (h now : History) : Type 0 where
+  pub cpu : ℕ
+  pub stamp : Stamp
+  pub message : Message
+  pub found : History
+  pub wanted : has mask cpu ≡ true
+  pub stamped : slice_get slots cpu ≡ Some (Stamped stamp)
+  pub reached : found ≡ (lands (fitted now) s mask 0 (take cpu slots) h).history
+  pub placed : verdict s found cpu stamp ≡ outcomes.Placed
+  pub told : preemption s found cpu ≡ Some message
+  pub ended : now ≡ found ++ Torn ∷ []
+  pub refused : tight message
 
 -- the refusals of a commit, in order
 unfoldable pub commit_refusal : Settings → History → ℕ → Option Refusal

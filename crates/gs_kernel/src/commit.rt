@@ -1,12 +1,11 @@
 //! Commits: slots land together.
 
-ghost use Rattle.std.specs.Prelude.{◌≡◌, ℕ, ◌+◌, ◌-◌, ◌*◌, ◌<◌, ◌≤◌, ◌++◌, ◌∷◌, [], None, true, false, IfOk, IfErr, OnOk, OnErr, length, min, vec_len, vec_capacity};
-ghost use Rattle.gs_layout.specs.declared.message.Change.{Change};
+ghost use Rattle.std.specs.Prelude.{◌≡◌, ℕ, ◌+◌, ◌-◌, ◌*◌, ◌<◌, ◌≤◌, ◌++◌, ◌∷◌, [], None, Some, true, false, IfOk, IfErr, OnOk, OnErr, length, min, vec_len, vec_capacity};
 ghost use Rattle.gs_layout.specs.declared.message.Message.{Message};
 ghost use Rattle.gs_slots.specs.SlotMut.{cpu_of, left_in, state_of};
 ghost use Rattle.gs_journal.specs.History.{posted, torn};
-ghost use Rattle.gs_kernel.specs.Commit.{commit_refusal, fitted, lands, one_lands};
-ghost use Rattle.gs_kernel.specs.Kernel.{IsRefusal};
+ghost use Rattle.gs_kernel.specs.Commit.{TearDown, commit_refusal, fitted, lands, one_lands};
+ghost use Rattle.gs_kernel.specs.Kernel.{IsRefusal, preemption};
 
 use crate::kernel::Kernel;
 use crate::landing::Landing;
@@ -17,9 +16,8 @@ use gs_status::Mask;
 use std::alloc::Global;
 
 impl<P: Poster> Kernel<P> {
-    /// The stamped slots of a mask land, by rising CPU, each on what the one before left (the ghOSt
-    /// paper's TXNS_COMMIT). Answers what became of each, and leaves that in its slot too. No other slot
-    /// changes. Where a message to a thread that is taken off does not fit, the enclave is torn down: that
+    /// The stamped slots of a mask land, by rising CPU, each on what the one before left. Answers what
+    /// became of each, and leaves that in its slot too. No other slot changes. Where a message to a thread that is taken off does not fit, the enclave is torn down: that
     /// slot and all later ones are [`Gone`](gs_layout::Outcome::Gone). The region has a slot for each CPU
     /// of the enclave.
     ///
@@ -39,7 +37,7 @@ impl<P: Poster> Kernel<P> {
         ensures answers { IfOk result (λ l. l.items ≡ (lands (fitted self.new.history) self.old.settings mask 0 region.old self.old.history).answers) }
         ensures history { OnOk result (self.new.history ≡ (lands (fitted self.new.history) self.old.settings mask 0 region.old self.old.history).history) }
         ensures slots { OnOk result (region.new ≡ (lands (fitted self.new.history) self.old.settings mask 0 region.old self.old.history).slots) }
-        ensures tight { torn self.old.history ≡ false → torn self.new.history ≡ true → (t s c : ℕ) × P.tight self.new.poster (Message.Thread t s (Change.Preempted c)) }
+        ensures tight { torn self.old.history ≡ false → torn self.new.history ≡ true → TearDown (P.tight self.new.poster) self.old.settings mask region.old self.old.history self.new.history }
         ensures refused { IfErr result (IsRefusal (commit_refusal self.old.settings self.old.history mask)) }
         ensures unchanged { OnErr result (self.new.history ≡ self.old.history) }
         ensures kept { OnErr result (region.new ≡ region.old) }
@@ -90,7 +88,7 @@ impl<P: Poster> Kernel<P> {
         ensures answers { landings.new.items ≡ landings.old.items ++ (lands (fitted self.new.history) self.old.settings mask 0 region.old self.old.history).answers }
         ensures history { self.new.history ≡ (lands (fitted self.new.history) self.old.settings mask 0 region.old self.old.history).history }
         ensures slots { region.new ≡ (lands (fitted self.new.history) self.old.settings mask 0 region.old self.old.history).slots }
-        ensures tight { torn self.old.history ≡ false → torn self.new.history ≡ true → (t s c : ℕ) × P.tight self.new.poster (Message.Thread t s (Change.Preempted c)) }
+        ensures tight { torn self.old.history ≡ false → torn self.new.history ≡ true → TearDown (P.tight self.new.poster) self.old.settings mask region.old self.old.history self.new.history }
         ensures nothing_posted { self.new.history ≡ self.old.history → self.new.poster ≡ self.old.poster }
         ensures told { P.posted self.new.poster (posted self.new.history) }
         ensures ring { P.same self.old.poster self.new.poster }
@@ -112,7 +110,7 @@ impl<P: Poster> Kernel<P> {
         ensures answers { landings.new.items ≡ landings.old.items ++ (one_lands (fitted self.new.history) self.old.settings wanted (cpu_of slot.entry) (state_of slot.entry) self.old.history).answers }
         ensures history { self.new.history ≡ (one_lands (fitted self.new.history) self.old.settings wanted (cpu_of slot.entry) (state_of slot.entry) self.old.history).history }
         ensures slot { left_in slot.exit ∷ [] ≡ (one_lands (fitted self.new.history) self.old.settings wanted (cpu_of slot.entry) (state_of slot.entry) self.old.history).slots }
-        ensures tight { torn self.old.history ≡ false → torn self.new.history ≡ true → (t s c : ℕ) × P.tight self.new.poster (Message.Thread t s (Change.Preempted c)) }
+        ensures tight { torn self.old.history ≡ false → torn self.new.history ≡ true → (m : Message) × (preemption self.old.settings self.old.history (cpu_of slot.entry) ≡ Some m) × P.tight self.new.poster m }
         ensures nothing_posted { self.new.history ≡ self.old.history → self.new.poster ≡ self.old.poster }
         ensures told { P.posted self.new.poster (posted self.new.history) }
         ensures ring { P.same self.old.poster self.new.poster }

@@ -1,7 +1,6 @@
 //! Landings: what becomes of what was stamped.
 
 ghost use Rattle.std.specs.Prelude.{◌≡◌, ℕ, ◌+◌, ◌<◌, ◌≤◌, IfOk, OnOk, OnErr, Some, true, false, not, length};
-ghost use Rattle.gs_layout.specs.declared.message.Change.{Change};
 ghost use Rattle.gs_layout.specs.declared.message.Message.{Message};
 ghost use Rattle.gs_layout.specs.Spelling.{IsCpuOrNone};
 ghost use Rattle.gs_slots.specs.State.{is_malformed};
@@ -104,7 +103,7 @@ impl<P: Poster> Kernel<P> {
         ensures landing { IfOk result (λ l. l ≡ landing_in (not (torn self.new.history)) self.old.settings self.old.history (cpu_of slot.entry) (state_of slot.entry)) }
         ensures history { OnOk result (self.new.history ≡ history_after (not (torn self.new.history)) self.old.settings self.old.history (cpu_of slot.entry) (state_of slot.entry)) }
         ensures slot { OnOk result (left_in slot.exit ≡ slot_after (not (torn self.new.history)) self.old.settings self.old.history (cpu_of slot.entry) (state_of slot.entry)) }
-        ensures tight { torn self.old.history ≡ false → torn self.new.history ≡ true → (t s c : ℕ) × P.tight self.new.poster (Message.Thread t s (Change.Preempted c)) }
+        ensures tight { torn self.old.history ≡ false → torn self.new.history ≡ true → (m : Message) × (preemption self.old.settings self.old.history (cpu_of slot.entry) ≡ Some m) × P.tight self.new.poster m }
         ensures unchanged { OnErr result (self.new.history ≡ self.old.history) }
         ensures kept { OnErr result (left_in slot.exit ≡ state_of slot.entry) }
         ensures memory { OnErr result (verdict_in self.old.settings self.old.history (cpu_of slot.entry) (state_of slot.entry) ≡ Some Outcome.Placed) }
@@ -140,7 +139,7 @@ impl<P: Poster> Kernel<P> {
         ensures known { IfOk result (λ l. is_malformed l.outcome ≡ false) }
         ensures below { IfOk result (λ l. IsCpuOrNone l.at) }
         ensures history { OnOk result (self.new.history ≡ after_landing (not (torn self.new.history)) self.old.settings self.old.history cpu slot.now) }
-        ensures tight { torn self.old.history ≡ false → torn self.new.history ≡ true → (t s c : ℕ) × P.tight self.new.poster (Message.Thread t s (Change.Preempted c)) }
+        ensures tight { torn self.old.history ≡ false → torn self.new.history ≡ true → (m : Message) × (preemption self.old.settings self.old.history cpu ≡ Some m) × P.tight self.new.poster m }
         ensures unchanged { OnErr result (self.new.history ≡ self.old.history) }
         ensures memory { OnErr result (verdict self.old.settings self.old.history cpu slot.now ≡ Outcome.Placed) }
         ensures reserved { OnErr result (self.old.room < placing_entries (on self.old.history cpu)) }
@@ -171,7 +170,7 @@ impl<P: Poster> Kernel<P> {
         ensures outcome { IfOk result (λ o. o ≡ settled (not (torn self.new.history)) judged) }
         ensures known { IfOk result (λ o. is_malformed o ≡ false) }
         ensures history { OnOk result (self.new.history ≡ after_verdict (not (torn self.new.history)) self.old.settings self.old.history judged cpu slot.now) }
-        ensures tight { torn self.old.history ≡ false → torn self.new.history ≡ true → (t s c : ℕ) × P.tight self.new.poster (Message.Thread t s (Change.Preempted c)) }
+        ensures tight { torn self.old.history ≡ false → torn self.new.history ≡ true → (m : Message) × (preemption self.old.settings self.old.history cpu ≡ Some m) × P.tight self.new.poster m }
         ensures unchanged { OnErr result (self.new.history ≡ self.old.history) }
         ensures memory { OnErr result (judged ≡ Outcome.Placed) }
         ensures reserved { OnErr result (self.old.room < placing_entries (on self.old.history cpu)) }

@@ -7,7 +7,7 @@ use Rattle.gs_core.specs.declared.reply.Reply.{Reply}
 use Rattle.gs_core.specs.declared.reply.Reply.TheVariants as replies
 use Rattle.gs_core.specs.Machine.{State, Step, transaction_of}
 use Rattle.gs_core.specs.Held.{machine_view}
-use Rattle.gs_core.proofs.Landed.{late_agent, late_reply, late_step, with_facts}
+use Rattle.gs_core.proofs.Landed.{late_agent, late_reply, late_step, refused_there, with_facts}
 use Rattle.gs_core.proofs.Posting.{with_kernel}
 use Rattle.gs_core.proofs.Steps.{is_in}
 use Rattle.gs_core.proofs.Keeping.{step_keeps}
@@ -34,7 +34,7 @@ step c =
     let is : transaction_of m.transactions c.args.number ≡ Some x = known.1 in
     let up : torn m.history ≡ false = grind (arith, common_steps) in
     late_step m c.args.number x c.land_stamp.result k.settings c.self.inside.kernel.poster k.poster k.history
-    (record { ring = refl; consumed = refl; told = i.told }) e.ring e.stays e.told e.settings i.good.faces.consumed e.tight up is e.landing e.history e.unchanged
+    (record { ring = refl; consumed = refl; told = i.told }) e.ring e.stays e.told e.settings i.good.faces.consumed (λ stood down. refused_there m.settings m.history x.cpu k.poster (e.tight stood down)) up is e.landing e.history e.unchanged
 
 pub invariant_of-self : goal.invariant_of-self
 invariant_of-self c =

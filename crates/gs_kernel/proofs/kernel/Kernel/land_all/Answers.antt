@@ -1,12 +1,12 @@
-use Rattle.std.proofs.Common.{◌≡◌, ◌∙◌, ◌<◌, ap, sym, subst, ◌++◌, Bool, true, false, length, take, drop, length-append, length-take, length-drop, refl, arith}
-use Rattle.gs_layout.specs.declared.message.Change.TheVariants.{Preempted}
-use Rattle.gs_layout.specs.declared.message.Message.TheVariants.{Thread}
+use Rattle.std.proofs.Common.{◌≡◌, ◌∙◌, ◌<◌, ap, sym, subst, ◌++◌, Bool, true, false, Some, length, take, drop, length-append, length-take, length-drop, refl, arith}
+use Rattle.gs_layout.specs.declared.message.Message.{Message}
 use Rattle.gs_slots.specs.SlotMut.{cpu_of, state_of}
 use Rattle.gs_status.specs.Masks.{has}
-use Rattle.gs_journal.specs.History.{torn}
+use Rattle.gs_journal.specs.History.{History, torn}
 use Rattle.gs_kernel.specs.declared.settings.Settings.{Settings}
-use Rattle.gs_kernel.specs.Commit.{Fits, Landings, fitted, lands, one_lands}
-use Rattle.gs_kernel.proofs.Commits.{land_more, lands_more, one_more, slots_count}
+use Rattle.gs_kernel.specs.Kernel.{preemption}
+use Rattle.gs_kernel.specs.Commit.{Fits, Landings, TearDown, fitted, lands, one_lands}
+use Rattle.gs_kernel.proofs.Commits.{land_more, lands_more, one_more, slots_count, tears_down}
 use Rattle.gs_kernel.proofs.kernel.Kernel.land_all.Goals as goal
 
 in_case : {A : Type 0} (b : Bool) → (b ≡ true → A) → (b ≡ false → A) → A
@@ -42,6 +42,8 @@ loop-cpu-preserved g c =
     (e.slot ∙ ap (λ (l : Landings). l.slots) one)
     gone
     (e.answers ∙ ap (λ (l : Landings). c.loop-cpu.landings.items ++ l.answers) one) in
+    let refused : (m : Message) × (preemption c.loop-cpu.self.settings now (cpu_of c.slot.result) ≡ Some m) × g.P.Poster.tight c.land_if.new.self.poster m → (m : Message) × (preemption s now k ≡ Some m) × g.P.Poster.tight c.land_if.new.self.poster m =
+    λ t. (t.0, (λ j. preemption (sym i.settings j) now (sym c.slot.ensures.cpu j)) ∙ t.1, t.2) in
     let longer = (lands_more (fitted now) s c.args.mask 0 (take k old) c.args.self.now.history).longer in
     let was : length now ≡ length (lands (fitted now) s c.args.mask 0 (take k old) c.args.self.now.history).history = ap length i.history in
     record {
@@ -49,8 +51,9 @@ loop-cpu-preserved g c =
       history = more.history;
       slots = more.slots;
       tight = λ up down. in_case (torn now)
-          (λ q. let z = i.tight up q in (z.0, z.1, z.2, subst (λ p. g.P.Poster.tight p (Thread z.0 z.1 (Preempted z.2))) (sym (e.nothing_posted (grows.ended q))) z.3))
-          (λ q. e.tight q down);
+          (λ q. subst (λ p. TearDown (g.P.Poster.tight p) s c.args.mask old c.args.self.now.history later) (sym (e.nothing_posted (grows.ended q)))
+          (subst (λ (x : History). TearDown (g.P.Poster.tight c.loop-cpu.self.poster) s c.args.mask old c.args.self.now.history x) (sym (grows.ended q)) (i.tight up q)))
+          (λ q. tears_down (g.P.Poster.tight c.land_if.new.self.poster) s c.args.mask k old c.loop-cpu.region x c.args.self.now.history now later lt grows q down i.slots i.history c.slot.ensures.state gone (refused (e.tight q down)));
       nothing_posted = λ q. e.nothing_posted (grows.same (omega (arith, q, grows.longer, longer, was))) ∙ i.nothing_posted (omega (arith, q, grows.longer, longer, was));
       told = e.told;
       ring = g.met.P.Poster.same_trans _ _ _ i.ring e.ring;
