@@ -89,7 +89,7 @@ impl ByteRing {
         ensures value { result ≡ free self.now }
         ensures within { result ≤ self.now.capacity }
     {
-        self.block.len() - (self.written - self.read) as usize
+        self.capacity() - (self.written - self.read) as usize
     }
 
     /// How many bytes a record of so many bytes takes up that is posted next, with its PAD.
