@@ -6,9 +6,8 @@ ghost use Rattle.gs_kernel.specs.Inside.{vacated};
 ghost use Rattle.gs_kernel.specs.Kernel.{IsRefusal, after_post, change_by, happening, own_refusal, thread_refusal};
 ghost use Rattle.gs_kernel.specs.Threads.{NamesMask};
 
-use crate::calls::post;
 use crate::kernel::Kernel;
-use crate::tear::tear_down;
+use crate::post::post;
 use crate::thread_event::ThreadEvent;
 use gs_layout::{Change, Message, Refusal};
 use gs_ring::Poster;
@@ -51,12 +50,7 @@ impl<P: Poster> Kernel<P> {
             return Err(Refusal::OutOfMemory);
         }
         if !post(&mut self.journal, &mut self.poster, &message) {
-            tear_down(
-                &mut self.threads,
-                &mut self.running,
-                &mut self.agent,
-                &mut self.torn,
-            );
+            self.tear_down();
             return Ok(None);
         }
         self.threads.apply(&message);
@@ -108,8 +102,7 @@ impl<P: Poster> Kernel<P> {
             }
             ThreadEvent::Die => None,
             ThreadEvent::Affinity { mask } => {
-                let mask = Mask::new(mask);
-                if mask.is_empty() || mask.has_past(self.settings.cpus) {
+                if self.is_bad_mask(mask) {
                     Some(Refusal::EmptyMask)
                 } else {
                     None

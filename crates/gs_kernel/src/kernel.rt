@@ -2,7 +2,7 @@ ghost use Rattle.std.specs.Prelude.{◌≡◌, ℕ, ◌-◌, ◌≤◌, ◌∷�
 ghost use Rattle.gs_journal.specs.History.{posted, active, taken, torn};
 ghost use Rattle.gs_status.specs.Masks.{has};
 ghost use Rattle.gs_kernel.specs.Settings.{IsInRange};
-ghost use Rattle.gs_kernel.specs.Kernel.{has_agent};
+ghost use Rattle.gs_kernel.specs.Kernel.{has_agent, is_bad_mask, is_full};
 
 use crate::settings::Settings;
 use gs_journal::{Entry, Journal};
@@ -143,6 +143,21 @@ impl<P: Poster> Kernel<P> {
             Ok(()) => Ok(()),
             Err(_) => Err(AllocError),
         }
+    }
+
+    /// Whether not one entry more fits into the journal.
+    pub(crate) fn is_full(&self) -> bool
+        ensures { result ≡ is_full self.now.settings self.now.history 1 }
+    {
+        self.journal.len() >= self.settings.history as usize
+    }
+
+    /// Whether a mask names no CPU, or one past the last.
+    pub(crate) fn is_bad_mask(&self, mask: u64) -> bool
+        ensures { result ≡ is_bad_mask self.now.settings mask }
+    {
+        let mask = Mask::new(mask);
+        mask.is_empty() || mask.has_past(self.settings.cpus)
     }
 
     /// The CPUs that the other class holds.

@@ -2,8 +2,8 @@
 //! agent's transactions. It keeps a journal of all that happens.
 #![tactic(auto)]
 
-mod calls;
 mod commit;
+mod create;
 mod happen;
 mod head;
 mod kernel;
@@ -11,12 +11,14 @@ mod land;
 mod landing;
 mod live_thread;
 mod other_class;
+mod post;
 mod preempt;
 mod settings;
 mod shown;
 mod tear;
 mod thread_event;
 mod threads;
+mod tick;
 
 pub use head::Head;
 pub use kernel::Kernel;

@@ -5,9 +5,8 @@ ghost use Rattle.gs_layout.specs.declared.message.Message.{Message};
 ghost use Rattle.gs_journal.specs.History.{on, posted};
 ghost use Rattle.gs_kernel.specs.Kernel.{after_preemption, is_spent_there, preemption};
 
-use crate::calls::post;
 use crate::kernel::Kernel;
-use crate::tear::tear_down;
+use crate::post::post;
 use gs_layout::{Change, Message};
 use gs_ring::Poster;
 
@@ -38,12 +37,7 @@ impl<P: Poster> Kernel<P> {
             change: Change::Preempted { cpu },
         };
         if !post(&mut self.journal, &mut self.poster, &message) {
-            tear_down(
-                &mut self.threads,
-                &mut self.running,
-                &mut self.agent,
-                &mut self.torn,
-            );
+            self.tear_down();
             return false;
         }
         self.threads.apply(&message);

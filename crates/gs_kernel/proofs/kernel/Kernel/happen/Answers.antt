@@ -1,10 +1,10 @@
-use Rattle.std.proofs.Common.{◌≡◌, ℕ, ◌+◌, ◌<◌, ◌++◌, ◌∷◌, [], List, Option, length, true, false, None, Some, refl, ap, sym, subst, ◌∙◌, arith}
+use Rattle.std.proofs.Common.{◌≡◌, ℕ, ◌+◌, ◌<◌, ◌++◌, ◌∷◌, [], List, Option, length, true, false, None, Some, ap, sym, subst, ◌∙◌, arith}
 use Rattle.std.proofs.lemmas.Grind.{common_steps}
 use Rattle.std.specs.Vec.{with_items}
 use Rattle.std.proofs.lemmas.List.{with_items_is}
 use Rattle.gs_layout.specs.declared.message.Change.{Change}
 use Rattle.gs_layout.specs.Spelling.{IsSpellableChange}
-use Rattle.gs_journal.specs.declared.entry.Entry.TheVariants.{Posted, Torn}
+use Rattle.gs_journal.specs.declared.entry.Entry.TheVariants.{Posted}
 use Rattle.gs_journal.specs.History.{History, posted, on, at, record_in, seq}
 use Rattle.gs_layout.specs.Record.{after}
 use Rattle.gs_kernel.specs.Threads.{may_be_on}
@@ -17,7 +17,6 @@ use Rattle.gs_layout.specs.declared.message.Message.TheVariants.{Thread}
 use Rattle.gs_layout.specs.Message.{is_creation, takes_off_cpu}
 use Rattle.gs_threads.specs.Table.{TableState, rows_after}
 use Rattle.gs_kernel.specs.Inside.{IsKept, vacated}
-use Rattle.gs_kernel.proofs.Kernels.{cleared_by, kept_torn}
 use Rattle.gs_kernel.proofs.Refusals.{happens_when}
 use Rattle.gs_kernel.proofs.kernel.Kernel.happen.Goals as goal
 
@@ -59,17 +58,13 @@ invariant_of-self-then-not-post g c =
     let i = c.self.invariant in
     let k = c.self.inside in
     let same : c.reserve.new.self.entries ≡ k.journal.entries = grind (arith, common_steps) in
-    let now : c.post.new.journal.entries ≡ k.journal.entries ++ Torn ∷ [] = grind (arith, common_steps) in
-    let new = c.tear_down.new.running in
-    let seats = with_items_is k.running new (c.tear_down.ensures.count ∙ (ap length c.deref_mut.ensures.value ∙ sym k.running.ok.0)) in
-    let cleared = cleared_by k.threads k.threads c.tear_down.new.threads k.running.items c.deref_mut.result.now new (with_items k.running new).items refl refl c.deref_mut.ensures.value seats c.tear_down.ensures.cleared c.tear_down.ensures.first_tseq c.tear_down.ensures.nobody c.tear_down.ensures.count in
+    let now : c.post.new.journal.entries ≡ k.journal.entries = grind (arith, common_steps) in
     record {
       in_range = i.in_range;
       limit = grind (arith, common_steps);
       first = grind (arith, common_steps);
       told = c.post.ensures.told (subst (λ (h : History). g.P.Poster.posted k.poster (posted h)) (sym same) i.told);
-      kept = subst (λ (h : History). IsKept k.settings h c.tear_down.new.threads (with_items k.running new).items k.taken c.tear_down.new.agent c.tear_down.new.torn) (sym now)
-          (kept_torn k.settings k.journal.entries k.threads c.tear_down.new.threads k.running.items (with_items k.running new).items k.taken k.agent c.tear_down.new.agent k.torn c.tear_down.new.torn i.kept cleared c.tear_down.ensures.agent c.tear_down.ensures.torn);
+      kept = subst (λ (h : History). IsKept k.settings h k.threads k.running.items k.taken k.agent k.torn) (sym now) i.kept;
     }
 
 pub vacate-requires : goal.vacate-requires
@@ -79,7 +74,7 @@ vacate-requires g c =
     let there : c.at-there.result ≡ at k.settings.cpus k.journal.entries c.args.tid = grind (arith, common_steps) in
     λ d e.
     let lt = on_cpu_below k.settings k.journal.entries k.threads k.running.items k.taken k.agent k.torn c.args.tid d i.kept (sym there ∙ e) in
-    omega (arith, lt, i.kept.count, ap length c.deref_mut-2.ensures.value)
+    omega (arith, lt, i.kept.count, ap length c.deref_mut.ensures.value)
 
 pub invariant_of-self-2 : goal.invariant_of-self-2
 invariant_of-self-2 g c =
@@ -106,11 +101,11 @@ invariant_of-self-2 g c =
     (λ d q off. stays_allowed k.settings h u d c.at-there.result c.args.event (i.kept.allowed u d q) (there ∙ seated_at k.settings h k.threads k.running.items k.taken k.agent k.torn u d i.kept q) off) in
     let new = c.vacate.new.running in
     let count : length new ≡ k.running.len =
-    ap length c.vacate.ensures ∙ (length_vacated c.deref_mut-2.result.now c.at-there.result c.takes_off_cpu.result ∙ (ap length c.deref_mut-2.ensures.value ∙ sym k.running.ok.0)) in
+    ap length c.vacate.ensures ∙ (length_vacated c.deref_mut.result.now c.at-there.result c.takes_off_cpu.result ∙ (ap length c.deref_mut.ensures.value ∙ sym k.running.ok.0)) in
     let seats : (with_items k.running new).items ≡ vacated k.running.items c.at-there.result (takes_off_cpu ch) =
     with_items_is k.running new count
     ∙ (c.vacate.ensures
-    ∙ (ap (λ (x : List (Option ℕ)). vacated x c.at-there.result c.takes_off_cpu.result) c.deref_mut-2.ensures.value ∙ ap (vacated k.running.items c.at-there.result) c.takes_off_cpu.ensures)) in
+    ∙ (ap (λ (x : List (Option ℕ)). vacated x c.at-there.result c.takes_off_cpu.result) c.deref_mut.ensures.value ∙ ap (vacated k.running.items c.at-there.result) c.takes_off_cpu.ensures)) in
     let kept = kept_about k.settings h k.threads c.apply.new.self k.running.items k.taken k.agent k.torn u ch c.at-there.result i.kept row no_new there rows first stays in
     record {
       in_range = i.in_range;

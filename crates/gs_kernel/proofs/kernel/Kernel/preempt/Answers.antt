@@ -1,6 +1,4 @@
-use Rattle.std.proofs.Common.{◌≡◌, ◌+◌, ◌<◌, ◌++◌, ◌∷◌, [], length, true, false, None, Some, slice_set, refl, ap, sym, subst, ◌∙◌, arith}
-use Rattle.std.specs.Vec.{with_items}
-use Rattle.std.proofs.lemmas.List.{with_items_is}
+use Rattle.std.proofs.Common.{◌≡◌, ◌+◌, ◌<◌, ◌++◌, ◌∷◌, [], length, true, false, None, Some, slice_set, ap, sym, subst, ◌∙◌, arith}
 use Rattle.std.proofs.lemmas.Grind.{common_steps}
 use Rattle.gs_layout.specs.declared.message.Change.TheVariants.{Preempted}
 use Rattle.gs_layout.specs.declared.message.Message.{Message}
@@ -12,7 +10,6 @@ use Rattle.gs_threads.specs.Table.{TableState, rows_after}
 use Rattle.gs_kernel.specs.Inside.{IsKept}
 use Rattle.gs_kernel.specs.Kernel.{after_preemption, is_spent_there, next_about}
 use Rattle.gs_kernel.proofs.Abouts.{row_number}
-use Rattle.gs_kernel.proofs.Kernels.{cleared_by, kept_torn}
 use Rattle.gs_kernel.proofs.OtherClass.{kept_preempted, not_spent, preempted_is, seated_row, who_runs}
 use Rattle.gs_kernel.proofs.kernel.Kernel.preempt.Goals as goal
 
@@ -43,17 +40,13 @@ pub invariant_of-self : goal.invariant_of-self
 invariant_of-self g c =
     let i = c.self.invariant in
     let k = c.self.inside in
-    let now : c.post.new.journal.entries ≡ k.journal.entries ++ Torn ∷ [] = grind (arith, common_steps) in
-    let new = c.tear_down.new.running in
-    let seats = with_items_is k.running new (c.tear_down.ensures.count ∙ (ap length c.deref_mut.ensures.value ∙ sym k.running.ok.0)) in
-    let cleared = cleared_by k.threads k.threads c.tear_down.new.threads k.running.items c.deref_mut.result.now new (with_items k.running new).items refl refl c.deref_mut.ensures.value seats c.tear_down.ensures.cleared c.tear_down.ensures.first_tseq c.tear_down.ensures.nobody c.tear_down.ensures.count in
+    let now : c.post.new.journal.entries ≡ k.journal.entries = grind (arith, common_steps) in
     record {
       in_range = i.in_range;
       limit = grind (arith, common_steps);
       first = grind (arith, common_steps);
       told = c.post.ensures.told i.told;
-      kept = subst (λ (h : History). IsKept k.settings h c.tear_down.new.threads (with_items k.running new).items k.taken c.tear_down.new.agent c.tear_down.new.torn) (sym now)
-          (kept_torn k.settings k.journal.entries k.threads c.tear_down.new.threads k.running.items (with_items k.running new).items k.taken k.agent c.tear_down.new.agent k.torn c.tear_down.new.torn i.kept cleared c.tear_down.ensures.agent c.tear_down.ensures.torn);
+      kept = subst (λ (h : History). IsKept k.settings h k.threads k.running.items k.taken k.agent k.torn) (sym now) i.kept;
     }
 
 pub returns-then-not-post-clause-history : goal.returns-then-not-post-clause-history
@@ -66,7 +59,7 @@ returns-then-not-post-clause-history g c =
     let there : on h c.args.cpu ≡ Some u = who_runs k.running.items c.args.cpu u (on h c.args.cpu) _ (omega (arith, lt, i.kept.count)) (i.kept.runs c.args.cpu lt) (sym c.index.ensures ∙ c.in-Some.is) in
     let number : c.seq.result ≡ seq k.settings.first_tseq h u = grind (arith, common_steps) in
     let is : Thread u (c.seq.result + 1) (Preempted c.args.cpu) ≡ next_about k.settings h u (Preempted c.args.cpu) = ap (λ n. Thread u (n + 1) (Preempted c.args.cpu)) number in
-    let now : c.post.new.journal.entries ≡ h ++ Torn ∷ [] = grind (arith, common_steps) in
+    let now : c.tear_down.new.self.history ≡ h ++ Torn ∷ [] = grind (arith, common_steps) in
     rw (← c.self.view_is) (now ∙ ap (after_preemption false h) (sym (preempted_is k.settings h c.args.cpu u there)))
 
 pub returns-then-not-post-clause-tight : goal.returns-then-not-post-clause-tight

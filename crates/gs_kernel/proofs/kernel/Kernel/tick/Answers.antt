@@ -1,14 +1,12 @@
-use Rattle.std.proofs.Common.{◌≡◌, ◌++◌, ◌∷◌, [], length, None, refl, ap, sym, subst, ◌∙◌, arith}
-use Rattle.std.specs.Vec.{with_items}
-use Rattle.std.proofs.lemmas.List.{with_items_is}
+use Rattle.std.proofs.Common.{◌≡◌, ◌++◌, ◌∷◌, [], None, sym, subst, arith}
 use Rattle.std.proofs.lemmas.Grind.{common_steps}
-use Rattle.gs_journal.specs.declared.entry.Entry.TheVariants.{Posted, Torn}
+use Rattle.gs_journal.specs.declared.entry.Entry.TheVariants.{Posted}
 use Rattle.gs_journal.specs.History.{History, posted}
 use Rattle.gs_journal.proofs.Laws.{posted-length}
 use Rattle.gs_kernel.specs.Inside.{IsKept}
 use Rattle.gs_layout.specs.declared.message.Message.TheVariants.{TimerTick}
 use Rattle.gs_kernel.specs.Kernel.{tick_refusal}
-use Rattle.gs_kernel.proofs.Kernels.{cleared_by, kept_tick, kept_torn}
+use Rattle.gs_kernel.proofs.Kernels.{kept_tick}
 use Rattle.gs_kernel.proofs.Refusals.{ticks_when}
 use Rattle.gs_kernel.proofs.kernel.Kernel.tick.Goals as goal
 
@@ -30,17 +28,13 @@ invariant_of-self-then-not-fits g c =
     let i = c.self.invariant in
     let k = c.self.inside in
     let same : c.reserve.new.self.entries ≡ k.journal.entries = grind (arith, common_steps) in
-    let now : c.post-fits.new.journal.entries ≡ k.journal.entries ++ Torn ∷ [] = grind (arith, common_steps) in
-    let new = c.tear_down.new.running in
-    let seats = with_items_is k.running new (c.tear_down.ensures.count ∙ (ap length c.deref_mut.ensures.value ∙ sym k.running.ok.0)) in
-    let cleared = cleared_by k.threads k.threads c.tear_down.new.threads k.running.items c.deref_mut.result.now new (with_items k.running new).items refl refl c.deref_mut.ensures.value seats c.tear_down.ensures.cleared c.tear_down.ensures.first_tseq c.tear_down.ensures.nobody c.tear_down.ensures.count in
+    let now : c.post-fits.new.journal.entries ≡ k.journal.entries = grind (arith, common_steps) in
     record {
       in_range = i.in_range;
       limit = grind (arith, common_steps);
       first = grind (arith, common_steps);
       told = c.post-fits.ensures.told (subst (λ (h : History). g.P.Poster.posted k.poster (posted h)) (sym same) i.told);
-      kept = subst (λ (h : History). IsKept k.settings h c.tear_down.new.threads (with_items k.running new).items k.taken c.tear_down.new.agent c.tear_down.new.torn) (sym now)
-          (kept_torn k.settings k.journal.entries k.threads c.tear_down.new.threads k.running.items (with_items k.running new).items k.taken k.agent c.tear_down.new.agent k.torn c.tear_down.new.torn i.kept cleared c.tear_down.ensures.agent c.tear_down.ensures.torn);
+      kept = subst (λ (h : History). IsKept k.settings h k.threads k.running.items k.taken k.agent k.torn) (sym now) i.kept;
     }
 
 pub invariant_of-self-else-not-fits : goal.invariant_of-self-else-not-fits

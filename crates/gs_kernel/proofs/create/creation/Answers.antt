@@ -1,6 +1,6 @@
 use Rattle.std.proofs.Common.{arith, rules}
 use Rattle.std.proofs.lemmas.Grind.{common_steps}
-use Rattle.gs_kernel.proofs.calls.creation.Goals as goal
+use Rattle.gs_kernel.proofs.create.creation.Goals as goal
 
 pub returns-clause-spellable : goal.returns-clause-spellable
 returns-clause-spellable c = λ low high first some.
