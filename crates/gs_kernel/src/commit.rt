@@ -33,7 +33,7 @@ impl<P: Poster> Kernel<P> {
         mask: Mask,
     ) -> Result<Vec<Landing>, Refusal>
         requires cpus { length region.old ≡ self.old.settings.cpus }
-        ensures fits { IfOk result (λ _. commit_refusal self.old.settings self.old.history mask ≡ None) }
+        ensures accepted { IfOk result (λ _. commit_refusal self.old.settings self.old.history mask ≡ None) }
         ensures answers { IfOk result (λ l. l.items ≡ (lands (fitted self.new.history) self.old.settings mask 0 region.old self.old.history).answers) }
         ensures history { OnOk result (self.new.history ≡ (lands (fitted self.new.history) self.old.settings mask 0 region.old self.old.history).history) }
         ensures slots { OnOk result (region.new ≡ (lands (fitted self.new.history) self.old.settings mask 0 region.old self.old.history).slots) }

@@ -23,7 +23,7 @@ impl<P: Poster> Kernel<P> {
     /// `EmptyMask` where the mask has no CPU or one past the last, `TidsSpent` where 65,536 threads were
     /// created, `HistoryFull` where the journal is full, `OutOfMemory`.
     pub fn create(&mut self, facts: &Facts) -> Result<Option<(u32, u32)>, Refusal>
-        ensures fits { IfOk result (λ _. create_refusal self.old.settings self.old.history facts.now ≡ None) }
+        ensures accepted { IfOk result (λ _. create_refusal self.old.settings self.old.history facts.now ≡ None) }
         ensures answer { IfOk result (λ o. MatchOption o (P.tight self.old.poster (creation self.old.settings.first_tseq self.old.history facts.now)) (λ t. t ≡ record { 0 = new_tid self.old.history; 1 = self.old.settings.first_tseq + 1 })) }
         ensures history { IfOk result (λ o. self.new.history ≡ after_post (is_some o) self.old.history (creation self.old.settings.first_tseq self.old.history facts.now)) }
         ensures refused { IfErr result (IsRefusal (create_refusal self.old.settings self.old.history facts.now)) }

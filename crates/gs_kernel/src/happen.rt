@@ -25,7 +25,7 @@ impl<P: Poster> Kernel<P> {
     /// past the last; `SeqSpent` where its sequence number is 4,294,967,295, `HistoryFull` where the journal
     /// is full, `OutOfMemory`.
     pub fn happen(&mut self, tid: u32, event: ThreadEvent) -> Result<Option<Message>, Refusal>
-        ensures fits { IfOk result (λ _. thread_refusal self.old.settings self.old.history tid event ≡ None) }
+        ensures accepted { IfOk result (λ _. thread_refusal self.old.settings self.old.history tid event ≡ None) }
         ensures answer { IfOk result (λ o. MatchOption o (P.tight self.old.poster (happening self.old.settings self.old.history tid event)) (λ m. m ≡ happening self.old.settings self.old.history tid event)) }
         ensures history { IfOk result (λ o. self.new.history ≡ after_post (is_some o) self.old.history (happening self.old.settings self.old.history tid event)) }
         ensures refused { IfErr result (IsRefusal (thread_refusal self.old.settings self.old.history tid event)) }

@@ -22,7 +22,7 @@ impl<P: Poster> Kernel<P> {
     /// class holds it, `SeqSpent` where the sequence number of the thread there is 4,294,967,295,
     /// `HistoryFull` where the journal has no room for two entries, `OutOfMemory`.
     pub fn take(&mut self, cpu: u16) -> Result<bool, Refusal>
-        ensures fits { IfOk result (λ _. take_refusal self.old.settings self.old.history cpu ≡ None) }
+        ensures accepted { IfOk result (λ _. take_refusal self.old.settings self.old.history cpu ≡ None) }
         ensures tight { IfOk result (λ fits. fits ≡ false → (m : Message) × (preemption self.old.settings self.old.history cpu ≡ Some m) × P.tight self.old.poster m) }
         ensures history { IfOk result (λ fits. self.new.history ≡ after_take fits self.old.history (preemption self.old.settings self.old.history cpu) cpu) }
         ensures refused { IfErr result (IsRefusal (take_refusal self.old.settings self.old.history cpu)) }
@@ -92,7 +92,7 @@ impl<P: Poster> Kernel<P> {
     /// where there is no such CPU, `NotTaken` where the other class does not hold it, `HistoryFull` where the
     /// journal is full, `OutOfMemory`.
     pub fn give(&mut self, cpu: u16) -> Result<(), Refusal>
-        ensures fits { IfOk result (λ _. give_refusal self.old.settings self.old.history cpu ≡ None) }
+        ensures accepted { IfOk result (λ _. give_refusal self.old.settings self.old.history cpu ≡ None) }
         ensures history { OnOk result (self.new.history ≡ after_give self.old.history cpu) }
         ensures refused { IfErr result (IsRefusal (give_refusal self.old.settings self.old.history cpu)) }
         ensures unchanged { OnErr result (self.new.history ≡ self.old.history) }

@@ -19,7 +19,7 @@ impl<P: Poster> Kernel<P> {
     /// The first that applies, and then nothing changes: `Gone` where the enclave was torn down, `BadCpu`
     /// where there is no such CPU, `HistoryFull` where the journal is full, `OutOfMemory`.
     pub fn tick(&mut self, cpu: u16) -> Result<bool, Refusal>
-        ensures fits { IfOk result (λ _. tick_refusal self.old.settings self.old.history cpu ≡ None) }
+        ensures accepted { IfOk result (λ _. tick_refusal self.old.settings self.old.history cpu ≡ None) }
         ensures answer { IfOk result (λ fits. fits ≡ false → P.tight self.old.poster (Message.TimerTick cpu)) }
         ensures history { IfOk result (λ fits. self.new.history ≡ after_post fits self.old.history (Message.TimerTick cpu)) }
         ensures refused { IfErr result (IsRefusal (tick_refusal self.old.settings self.old.history cpu)) }

@@ -33,7 +33,7 @@ step c =
     let i = c.self.invariant in
     let k = c.txns_commit.new.self in
     commit_step m c.args.mask k.settings c.self.inside.kernel.poster k.poster k.history c.in-Ok.landings.items (agent_in c.collect.new.self) c.collect.new.region c.txns_commit.new.region
-    (record { ring = refl; consumed = refl; told = i.told }) e.ring e.stays e.told e.settings i.good.faces.consumed (λ stood down. let x = e.tight stood down in refused_there m.settings x.found x.cpu k.poster (x.message, x.told, x.refused)) e.fits e.answers e.history e.slots (ap agent_in c.collect.ensures.role) c.collect.ensures.region
+    (record { ring = refl; consumed = refl; told = i.told }) e.ring e.stays e.told e.settings i.good.faces.consumed (λ stood down. let x = e.tight stood down in refused_there m.settings x.found x.cpu k.poster (x.message, x.told, x.refused)) e.accepted e.answers e.history e.slots (ap agent_in c.collect.ensures.role) c.collect.ensures.region
 
 pub invariant_of-self : goal.invariant_of-self
 invariant_of-self c =

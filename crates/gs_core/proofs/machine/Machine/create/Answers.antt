@@ -39,7 +39,7 @@ step c =
     let msg : Message = creation m.settings.first_tseq m.history f in
     let n : ℕ × ℕ = (new_tid m.history, m.settings.first_tseq + 1) in
     post_step m (events.Create f) msg (replies.Created n.0 n.1) c.create.result is_some answers k.settings c.self.inside.kernel.poster k.poster k.history (λ r m2 d. d) (λ r s. s)
-    (record { ring = refl; consumed = refl; told = c.self.invariant.told }) e.ring e.stays e.told e.settings e.fits (tight_at c.create.result c.self.inside.kernel.poster msg n e.answer) e.history
+    (record { ring = refl; consumed = refl; told = c.self.invariant.told }) e.ring e.stays e.told e.settings e.accepted (tight_at c.create.result c.self.inside.kernel.poster msg n e.answer) e.history
     (answer_at c.create.result c.self.inside.kernel.poster msg n e.answer) e.refused e.unchanged
 
 pub invariant_of-self : goal.invariant_of-self

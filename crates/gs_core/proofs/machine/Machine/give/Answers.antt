@@ -32,7 +32,7 @@ step c =
     let m : State = machine_view c.self.inside in
     let e = c.give.ensures in
     let k = c.give.new.self in
-    give_step m c.args.cpu c.give.result (answers c.args.cpu) k.settings c.self.inside.kernel.poster k.poster k.history (record { ring = refl; consumed = refl; told = c.self.invariant.told }) e.ring e.settings e.fits e.history
+    give_step m c.args.cpu c.give.result (answers c.args.cpu) k.settings c.self.inside.kernel.poster k.poster k.history (record { ring = refl; consumed = refl; told = c.self.invariant.told }) e.ring e.settings e.accepted e.history
     (λ u. refl) e.refused e.unchanged
 
 pub invariant_of-self : goal.invariant_of-self

@@ -38,7 +38,7 @@ step c =
     let t = c.args.tid in
     let msg : Message = happening m.settings m.history t c.args.event in
     post_step m (events.Thread t c.args.event) msg (replies.Posted msg) c.happen.result is_some answers k.settings c.self.inside.kernel.poster k.poster k.history (λ r m2 d. d) (λ r s. s)
-    (record { ring = refl; consumed = refl; told = c.self.invariant.told }) e.ring e.stays e.told e.settings e.fits (tight_at c.happen.result c.self.inside.kernel.poster msg e.answer) e.history
+    (record { ring = refl; consumed = refl; told = c.self.invariant.told }) e.ring e.stays e.told e.settings e.accepted (tight_at c.happen.result c.self.inside.kernel.poster msg e.answer) e.history
     (answer_at c.happen.result c.self.inside.kernel.poster msg e.answer) e.refused e.unchanged
 
 pub invariant_of-self : goal.invariant_of-self

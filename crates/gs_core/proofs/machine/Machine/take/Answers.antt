@@ -20,7 +20,7 @@ step c =
     let m : State = machine_view c.self.inside in
     let e = c.take.ensures in
     let k = c.take.new.self in
-    take_step m c.args.cpu c.take.result (answers c.args.cpu) k.settings c.self.inside.kernel.poster k.poster k.history (record { ring = refl; consumed = refl; told = c.self.invariant.told }) e.ring e.stays e.told e.settings e.fits e.tight e.history
+    take_step m c.args.cpu c.take.result (answers c.args.cpu) k.settings c.self.inside.kernel.poster k.poster k.history (record { ring = refl; consumed = refl; told = c.self.invariant.told }) e.ring e.stays e.told e.settings e.accepted e.tight e.history
     (λ b. refl) e.refused e.unchanged
 
 pub invariant_of-self : goal.invariant_of-self

@@ -27,7 +27,7 @@ step c =
     let k = c.tick.new.self in
     let r : Reply = replies.Ticked c.args.cpu in
     post_step m (events.Tick c.args.cpu) (TimerTick c.args.cpu) r c.tick.result (λ b. b) (answers c.args.cpu) k.settings c.self.inside.kernel.poster k.poster k.history (λ r m2 d. d) (λ r s. s)
-    (record { ring = refl; consumed = refl; told = c.self.invariant.told }) e.ring e.stays e.told e.settings e.fits e.answer e.history (rep_is c.tick.result r) e.refused e.unchanged
+    (record { ring = refl; consumed = refl; told = c.self.invariant.told }) e.ring e.stays e.told e.settings e.accepted e.answer e.history (rep_is c.tick.result r) e.refused e.unchanged
 
 pub invariant_of-self : goal.invariant_of-self
 invariant_of-self c =
