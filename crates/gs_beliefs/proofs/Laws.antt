@@ -1,4 +1,4 @@
--- What is believed of a CPU after each change, and what stamp it has.
+-- What is believed of a CPU after each change.
 use Rattle.std.proofs.Common.{Bool, true, false, cond, ◌≡◌, ◌≢◌, ℕ, ◌<◌, ◌≤◌, ◌⊎◌, inl, inr, Option, None, Some, List, length, map, set, replicate, get_or, ap, sym, ◌∙◌, refl, subst, arith}
 use Rattle.std.specs.Prelude.{nat_lt, ◌==◌}
 use Rattle.std.proofs.Math.ListN as listn
@@ -13,7 +13,7 @@ use Rattle.gs_layout.specs.declared.outcome.Outcome.{Outcome}
 use Rattle.gs_layout.specs.Message.{takes_off_cpu, tseq_of}
 use Rattle.gs_layout.specs.Spelling.{kind_of, tid_of}
 use Rattle.gs_reader.specs.Taking.{takes_own_off}
-use Rattle.gs_beliefs.specs.Cpus.{Cpus, unknown, believed_on, stamp_on, cleared_at, raised_at, ticked, running, clears, raises, ticks, places, stamps, unstamps}
+use Rattle.gs_beliefs.specs.Cpus.{Cpus, unknown, believed_on, cleared_at, raised_at, ticked, running, clears, raises, ticks, places}
 use Rattle.gs_beliefs.specs.Belief.{hears, heard_at, shows_place, after_outcome}
 
 abbrev none : (X : Type 0) → Option X
@@ -24,12 +24,9 @@ nothing_on {X} n c (inl lt) = get_or-replicate n c (none X) None lt
 nothing_on {X} n c (inr le) =
     let past : length (replicate n (none X)) ≤ c = omega (arith, length-replicate n (none X)) in get_or_past (replicate n (none X)) c None past
 
--- nothing is believed yet, and there is no stamp
+-- nothing is believed yet
 pub believed_on_unknown : (cpus : ℕ) (a : Option ℕ) (c : ℕ) → believed_on (unknown cpus a) c ≡ None
 believed_on_unknown cpus a c = nothing_on cpus c (cases_lt c cpus)
-
-pub stamp_on_unknown : (cpus : ℕ) (a : Option ℕ) (c : ℕ) → stamp_on (unknown cpus a) c ≡ None
-stamp_on_unknown cpus a c = nothing_on cpus c (cases_lt c cpus)
 
 pub believed_on_clears : (t : ℕ) (s : Cpus) (c : ℕ) → believed_on (clears t s) c ≡ cleared_at t (believed_on s c)
 believed_on_clears t s c = listn.get_or-map (cleared_at t) s.believed c None
@@ -92,27 +89,6 @@ hears_number (TimerTick c) s s' k t n off kind other tid tseq e = absurd (other 
 hears_number (Thread u i change) s s' k t n off kind other tid tseq e =
     e ∙ (ap (λ x. raises x n s) tid ∙ (ap (λ y. raises u y s) tseq ∙ ap (λ (b : Bool). cond b (clears u s) (raises u i s)) (sym off)))
 
--- an outcome that says that the thread is on a CPU
-pub after_outcome_shown : (o : Outcome) (c t n : ℕ) (s : Cpus) → shows_place o ≡ true → after_outcome o (Some c) t n s ≡ places c t n s
-after_outcome_shown o c t n s shown = ap (λ (b : Bool). cond b (places c t n s) s) shown
-
--- any other outcome changes nothing
-pub after_outcome_other : (o : Outcome) (at : Option ℕ) (t n : ℕ) (s : Cpus) → shows_place o ≡ false → after_outcome o at t n s ≡ s
-after_outcome_other o None t n s other = refl
-after_outcome_other o (Some c) t n s other = ap (λ (b : Bool). cond b (places c t n s) s) other
-
-pub stamp_on_stamps : (c t : ℕ) (s : Cpus) → c < length s.stamped → stamp_on (stamps c t s) c ≡ Some t
-stamp_on_stamps c t s lt = get_or-set_same s.stamped c (Some t) None lt
-
-pub stamp_on_stamps_elsewhere : (c t : ℕ) (s : Cpus) (d : ℕ) → d ≢ c → stamp_on (stamps c t s) d ≡ stamp_on s d
-stamp_on_stamps_elsewhere c t s d other = get_or-set_other s.stamped c d (Some t) None other
-
-pub stamp_on_unstamps : (c : ℕ) (s : Cpus) → stamp_on (unstamps c s) c ≡ None
-stamp_on_unstamps c s = at_place s.stamped c None (λ le. refl) (cases_lt c (length s.stamped))
-
-pub stamp_on_unstamps_elsewhere : (c : ℕ) (s : Cpus) (d : ℕ) → d ≢ c → stamp_on (unstamps c s) d ≡ stamp_on s d
-stamp_on_unstamps_elsewhere c s d other = get_or-set_other s.stamped c d None None other
-
 -- the counts stay
 pub count_clears : (t : ℕ) (s : Cpus) → length (clears t s).believed ≡ length s.believed
 count_clears t s = length-map s.believed (cleared_at t)
@@ -145,9 +121,3 @@ count_by_outcome false c t n s = refl
 pub count_after_outcome : (o : Outcome) (at : Option ℕ) (t n : ℕ) (s : Cpus) → length (after_outcome o at t n s).believed ≡ length s.believed
 count_after_outcome o None t n s = refl
 count_after_outcome o (Some c) t n s = count_by_outcome (shows_place o) c t n s
-
-pub count_stamps : (c t : ℕ) (s : Cpus) → length (stamps c t s).stamped ≡ length s.stamped
-count_stamps c t s = length-set s.stamped c (Some t)
-
-pub count_unstamps : (c : ℕ) (s : Cpus) → length (unstamps c s).stamped ≡ length s.stamped
-count_unstamps c s = length-set s.stamped c None

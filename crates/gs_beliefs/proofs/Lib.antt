@@ -1,4 +1,3 @@
 pub mod Laws
-pub mod Found
 mod Changing
 mod Rows

@@ -4,7 +4,7 @@ use Rattle.std.proofs.Math.Bool.{and-false, and-or_distrib_right, or-false, or_a
 use Rattle.std.proofs.lemmas.Bool.Decides.{nat_tests}
 use Rattle.gs_layout.specs.declared.facts.Class.{Class}
 use Rattle.gs_layout.specs.declared.facts.Class.TheVariants.{Zero, One}
-use Rattle.gs_runq.specs.Queue.{Queue, empty, order, put, removed, is_in, without, IsOut, Apart}
+use Rattle.gs_runq.specs.Queue.{Queue, order, put, removed, is_in, without, IsOut, Apart}
 use Rattle.gs_runq.proofs.Links.{out_both, out_left, out_right, out_from, apart_push, stays}
 
 -- who is among these and those
@@ -126,15 +126,3 @@ removed_absent t q e =
     let zero_class = stays t q.zero_class (not_left t q.zero_class q.one_class e) in
     let one_class = stays t q.one_class (not_right t q.zero_class q.one_class e) in
     sym (ap (λ (xs : List ℕ). record q { zero_class = xs }) zero_class ∙ ap (λ (ys : List ℕ). record q { zero_class = without t q.zero_class; one_class = ys }) one_class)
-
--- nobody waits in an empty queue
-pub in_empty : (u : ℕ) → is_in u (order empty) ≡ false
-in_empty u = refl
-
--- nobody waits twice once a thread that did not wait is put into the queue, nor once a thread is taken out
-pub put_apart : (t : ℕ) (class : Class) (q : Queue) → Apart (order q) → is_in t (order q) ≡ false → Apart (order (put class t q))
-put_apart t Zero q a e = put_zero t q.zero_class q.one_class a e
-put_apart t One q a e = put_one t q.zero_class q.one_class a e
-
-pub removed_apart : (t : ℕ) (q : Queue) → Apart (order q) → Apart (order (removed t q))
-removed_apart t q a = leaves_both t q.zero_class q.one_class a
