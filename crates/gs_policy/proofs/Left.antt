@@ -1,5 +1,5 @@
 -- What the candidates that are left say of a plan.
-use Rattle.std.proofs.Common.{◌≡◌, refl, ap, sym, ◌∙◌, subst, ℕ, ◌+◌, ◌-◌, ◌≤◌, Bool, true, false, ◌&&◌, ◌||◌, Option, None, Some, List, [], ◌∷◌, ◌++◌, arith, length, append-nil}
+use Rattle.std.proofs.Common.{◌≡◌, refl, ap, sym, ◌∙◌, ℕ, ◌+◌, ◌-◌, ◌≤◌, Bool, true, false, ◌&&◌, ◌||◌, Option, None, Some, List, [], ◌∷◌, ◌++◌, arith, length, append-nil, append_assoc, length-append}
 use Rattle.std.specs.Prelude.{not, nat_lt}
 use Rattle.std.proofs.Math.Bool.{and-true}
 use Rattle.std.proofs.lemmas.Bool.Decides.{nat_tests}
@@ -21,95 +21,91 @@ pub record AreAll (takes : Taking) (v : Look) (s : Cpus) (l : Candidates) : Type
   pub free : (c : ℕ) → has l.free c ≡ is_free s c
   pub busy : (class : Class) (c : ℕ) → takes_in l class c ≡ takes v s class c
 
--- after these choices, with the later candidates left, the threads that come next complete the plan of all
-pub record IsPlanning (earlier later : Candidates) (v : Look) (xs : List Choice) (next queue : List ℕ) : Type 0 where
-  pub left : AreLeft earlier later xs
-  pub rest : planned_of earlier v xs next ≡ planned_of earlier v [] queue
-
 pub uses_append : (xs ys : List Choice) (c : ℕ) → uses (xs ++ ys) c ≡ (uses xs c || uses ys c)
 uses_append xs ys c = list_any-append (is_on c) xs ys
 
-without_more : (a b c : Bool) → ((a && not b) && not c) ≡ (a && not (b || c))
-without_more true true c = refl
-without_more true false c = refl
-without_more false b c = refl
+without_both : (a m x y : Bool) → ((a && m) && not (x || y)) ≡ (((a && not x) && m) && not y)
+without_both true true x y = by_first x
+  where
+    by_first : (x : Bool) → not (x || y) ≡ (not x && true) && not y
+    by_first true = refl
+    by_first false = refl
+without_both true false x y = without_none (not x) (not y)
+  where
+    without_none : (x y : Bool) → false ≡ ((x && false) && y)
+    without_none true y = refl
+    without_none false y = refl
+without_both false m x y = refl
 
-without_in : (a b c : Bool) → (((a && not b) && c) && not false) ≡ ((a && c) && not b)
-without_in true true true = refl
-without_in true true false = refl
-without_in true false true = refl
-without_in true false false = refl
-without_in false b c = refl
+-- the CPUs that pass a test, without those that these choices use
+abbrev unused : List Choice → (ℕ → Bool) → ℕ → Bool
+unused xs f c = f c && not (uses xs c)
 
--- at first all are left
-pub left_all : (l : Candidates) → AreLeft l l []
-left_all l = record { free = λ c. sym (and-true (has l.free c)); busy = λ class c. sym (and-true (takes_in l class c)) }
+least_behind : (f : ℕ → Bool) (k : Known) (xs ys : List Choice) (n : ℕ) → least (is_open f k (xs ++ ys)) n ≡ least (is_open (unused xs f) k ys) n
+least_behind f k xs ys n =
+    least_same (is_open f k (xs ++ ys)) (is_open (unused xs f) k ys) n
+    (λ c l. ap (λ (z : Bool). (f c && has k.facts.mask c) && not z) (uses_append xs ys c) ∙ without_both (f c) (has k.facts.mask c) (uses xs c) (uses ys c))
 
-left_next : (a b d : Bool) (xs ys : List Choice) (c : ℕ) → b ≡ (a && not (uses xs c)) → d ≡ (b && not (uses ys c)) → d ≡ (a && not (uses (xs ++ ys) c))
-left_next a b d xs ys c p q =
-    q ∙ (ap (λ (t : Bool). t && not (uses ys c)) p ∙ (without_more a (uses xs c) (uses ys c) ∙ ap (λ (t : Bool). a && not t) (sym (uses_append xs ys c))))
+-- a choice behind others is one among the CPUs that those do not use
+choice_behind : (n : ℕ) (f : ℕ → Bool) (p : Class → ℕ → Bool) (xs ys : List Choice) (t : ℕ) (o : Option Known) → choice n f p (xs ++ ys) t o ≡ choice n (unused xs f) (λ class. unused xs (p class)) ys t o
+choice_behind n f p xs ys t None = refl
+choice_behind n f p xs ys t (Some k) =
+    ap (λ (z : Option ℕ). placed t z (least (is_open (p k.facts.class) k (xs ++ ys)) n)) (least_behind f k xs ys n)
+    ∙ ap (λ (z : Option ℕ). placed t (least (is_open (unused xs f) k ys) n) z) (least_behind (p k.facts.class) k xs ys n)
 
--- after more choices fewer are
-pub left_more : (a b d : Candidates) (xs ys : List Choice) → AreLeft a b xs → AreLeft b d ys → AreLeft a d (xs ++ ys)
-left_more a b d xs ys p q =
-    record {
-      free = λ c. left_next (has a.free c) (has b.free c) (has d.free c) xs ys c (p.free c) (q.free c);
-      busy = λ class c. left_next (takes_in a class c) (takes_in b class c) (takes_in d class c) xs ys c (p.busy class c) (q.busy class c);
-    }
+-- and so are all that follow it
+planned_behind : (n : ℕ) (f : ℕ → Bool) (p : Class → ℕ → Bool) (v : Look) (xs ys : List Choice) (ts : List ℕ) → planned n f p v (xs ++ ys) ts ≡ xs ++ planned n (unused xs f) (λ class. unused xs (p class)) v ys ts
+planned_behind n f p v xs ys [] = refl
+planned_behind n f p v xs ys (t ∷ ts) =
+    ap (λ (zs : List Choice). planned n f p v zs ts) (ap (λ (zs : List Choice). (xs ++ ys) ++ zs) (choice_behind n f p xs ys t (v t)) ∙ append_assoc xs ys _)
+    ∙ planned_behind n f p v xs (ys ++ choice n (unused xs f) (λ class. unused xs (p class)) ys t (v t)) ts
 
-least_left : (f g : ℕ → Bool) (k : Known) (xs : List Choice) → ((c : ℕ) → g c ≡ (f c && not (uses xs c))) → least (is_open g k []) 64 ≡ least (is_open f k xs) 64
-least_left f g k xs left =
-    least_same (is_open g k []) (is_open f k xs) 64 (λ c l. ap (λ (z : Bool). (z && has k.facts.mask c) && not false) (left c) ∙ without_in (f c) (uses xs c) (has k.facts.mask c))
+-- the first thread's choice comes before those of the others among the CPUs that are left
+planned_next : (l l' : Candidates) (v : Look) (t : ℕ) (ts : List ℕ) → AreLeft l l' (picked l v t) → planned_of l v [] (t ∷ ts) ≡ picked l v t ++ planned_of l' v [] ts
+planned_next l l' v t ts left =
+    ap (λ (zs : List Choice). planned_of l v zs ts) (sym (append-nil (picked l v t)))
+    ∙ (planned_behind 64 (has l.free) (takes_in l) v (picked l v t) [] ts ∙ sym (λ i. picked l v t ++ planned 64 (λ c. left.free c i) (λ class c. left.busy class c i) v [] ts))
 
--- a choice among those that are left is one behind the choices before
-pub choice_left : (a b : Candidates) (xs : List Choice) (t : ℕ) (o : Option Known) → AreLeft a b xs
-    → choice 64 (has b.free) (takes_in b) [] t o ≡ choice 64 (has a.free) (takes_in a) xs t o
-choice_left a b xs t None p = refl
-choice_left a b xs t (Some k) p =
-    ap (λ (z : Option ℕ). placed t z (least (is_open (takes_in b k.facts.class) k []) 64)) (least_left (has a.free) (has b.free) k xs p.free)
-    ∙ ap (λ (z : Option ℕ). placed t (least (is_open (has a.free) k xs) 64) z) (least_left (takes_in a k.facts.class) (takes_in b k.facts.class) k xs (p.busy k.facts.class))
+pub planned_some : (l l' : Candidates) (v : Look) (x : Choice) (t : ℕ) (ts later : List ℕ) → ts ≡ t ∷ later → (x ∷ []) ≡ picked l v t → AreLeft l l' (picked l v t)
+    → planned_of l v [] ts ≡ x ∷ planned_of l' v [] later
+planned_some l l' v x t ts later first chosen left =
+    ap (planned_of l v []) first ∙ (planned_next l l' v t later left ∙ ap (λ (zs : List Choice). zs ++ planned_of l' v [] later) (sym chosen))
+
+pub planned_none : (l l' : Candidates) (v : Look) (t : ℕ) (ts later : List ℕ) → ts ≡ t ∷ later → [] ≡ picked l v t → AreLeft l l' (picked l v t) → planned_of l' v [] later ≡ planned_of l v [] ts
+planned_none l l' v t ts later first chosen left =
+    ap (λ (zs : List Choice). zs ++ planned_of l' v [] later) chosen ∙ sym (ap (planned_of l v []) first ∙ planned_next l l' v t later left)
 
 least_spent : (f : ℕ → Bool) (k : Known) → ((c : ℕ) → f c ≡ false) → least (is_open f k []) 64 ≡ None
 least_spent f k spent = least_none (is_open f k []) 64 (λ c l. ap (λ (z : Bool). (z && has k.facts.mask c) && not false) (spent c))
 
+choice_spent : (l : Candidates) (t : ℕ) (o : Option Known) → AreSpent l → choice 64 (has l.free) (takes_in l) [] t o ≡ []
+choice_spent l t None s = refl
+choice_spent l t (Some k) s =
+    ap (λ (z : Option ℕ). placed t z (least (is_open (takes_in l k.facts.class) k []) 64)) (least_spent (has l.free) k s.free)
+    ∙ ap (λ (z : Option ℕ). placed t None z) (least_spent (takes_in l k.facts.class) k (s.busy k.facts.class))
+
 -- where none is left nothing is chosen
-choice_spent : (b : Candidates) (t : ℕ) (o : Option Known) → AreSpent b → choice 64 (has b.free) (takes_in b) [] t o ≡ []
-choice_spent b t None s = refl
-choice_spent b t (Some k) s =
-    ap (λ (z : Option ℕ). placed t z (least (is_open (takes_in b k.facts.class) k []) 64)) (least_spent (has b.free) k s.free)
-    ∙ ap (λ (z : Option ℕ). placed t None z) (least_spent (takes_in b k.facts.class) k (s.busy k.facts.class))
+pub planned_spent : (l : Candidates) (v : Look) (ts : List ℕ) → AreSpent l → planned_of l v [] ts ≡ []
+planned_spent l v [] s = refl
+planned_spent l v (t ∷ ts) s = ap (λ (ys : List Choice). planned_of l v ys ts) (choice_spent l t (v t) s) ∙ planned_spent l v ts s
 
-pub planned_spent : (a b : Candidates) (v : Look) (xs : List Choice) (ts : List ℕ) → AreLeft a b xs → AreSpent b → planned_of a v xs ts ≡ xs
-planned_spent a b v xs [] p s = refl
-planned_spent a b v xs (t ∷ ts) p s =
-    let e : xs ++ choice 64 (has a.free) (takes_in a) xs t (v t) ≡ xs =
-    ap (λ (ys : List Choice). xs ++ ys) (sym (choice_left a b xs t (v t) p) ∙ choice_spent b t (v t) s) ∙ append-nil xs in
-    ap (λ (ys : List Choice). planned_of a v ys ts) e ∙ planned_spent a b v xs ts p s
+choice_one : (n : ℕ) (f : ℕ → Bool) (p : Class → ℕ → Bool) (xs : List Choice) (t : ℕ) (o : Option Known) → length (choice n f p xs t o) ≤ 1
+choice_one n f p xs t None = omega arith
+choice_one n f p xs t (Some k) = by_least (least (is_open f k xs) n) (least (is_open (p k.facts.class) k xs) n)
+  where
+    by_least : (free busy : Option ℕ) → length (placed t free busy) ≤ 1
+    by_least (Some c) busy = omega arith
+    by_least None (Some c) = omega arith
+    by_least None None = omega arith
 
--- going through the waiting threads
-pub planning_start : (a : Candidates) (v : Look) (xs : List Choice) (next queue : List ℕ) → xs ≡ [] → next ≡ queue → IsPlanning a a v xs next queue
-planning_start a v xs next queue none same =
-    record {
-      left = subst (AreLeft a a) (sym none) (left_all a);
-      rest = ap (λ (ys : List Choice). planned_of a v ys next) none ∙ ap (planned_of a v []) same;
-    }
+few_behind : (n : ℕ) (f : ℕ → Bool) (p : Class → ℕ → Bool) (v : Look) (xs : List Choice) (ts : List ℕ) → length (planned n f p v xs ts) ≤ length xs + length ts
+few_behind n f p v xs [] = omega arith
+few_behind n f p v xs (t ∷ ts) =
+    let more = few_behind n f p v (xs ++ choice n f p xs t (v t)) ts in omega (arith, more, length-append xs (choice n f p xs t (v t)), choice_one n f p xs t (v t))
 
-pub planning_more : (a b b' : Candidates) (v : Look) (xs xs' : List Choice) (t : ℕ) (next later queue : List ℕ)
-    → IsPlanning a b v xs next queue → next ≡ t ∷ later → xs' ≡ xs ++ picked b v t → AreLeft b b' (picked b v t) → IsPlanning a b' v xs' later queue
-planning_more a b b' v xs xs' t next later queue p first chosen left =
-    record {
-      left = subst (AreLeft a b') (sym chosen) (left_more a b b' xs (picked b v t) p.left left);
-      rest =
-          ap (λ (ys : List Choice). planned_of a v ys later) chosen
-          ∙ (ap (λ (ys : List Choice). planned_of a v (xs ++ ys) later) (choice_left a b xs t (v t) p.left)
-          ∙ (ap (planned_of a v xs) (sym first) ∙ p.rest));
-    }
-
-pub planning_spent : (a b : Candidates) (v : Look) (xs : List Choice) (next queue : List ℕ) → IsPlanning a b v xs next queue → AreSpent b → xs ≡ planned_of a v [] queue
-planning_spent a b v xs next queue p spent = sym (planned_spent a b v xs next p.left spent) ∙ p.rest
-
-pub planning_end : (a b : Candidates) (v : Look) (xs : List Choice) (next queue : List ℕ) → IsPlanning a b v xs next queue → next ≡ [] → xs ≡ planned_of a v [] queue
-planning_end a b v xs next queue p none = ap (planned_of a v xs) (sym none) ∙ p.rest
+-- no thread has more than one choice
+pub planned_few : (l : Candidates) (v : Look) (ts : List ℕ) → length (planned_of l v [] ts) ≤ length ts
+planned_few l v ts = omega (arith, few_behind 64 (has l.free) (takes_in l) v [] ts)
 
 -- the choice of a thread, by masks
 least_open : (f : ℕ → Bool) (k : Known) (mask : ℕ) (o : Option ℕ) → mask ≡ k.facts.mask → o ≡ least (λ c. f c && has mask c) 64 → least (is_open f k []) 64 ≡ o

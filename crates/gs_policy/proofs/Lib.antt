@@ -1,4 +1,3 @@
-pub mod Counting
 pub mod Left
 pub mod Plans
 mod Rows

@@ -4,3 +4,4 @@ pub mod FirstOnly
 pub mod Plan
 pub mod Safe
 pub mod Safety
+pub mod Walks

@@ -25,15 +25,13 @@ fn runs_class_one(view: &AgentView, cpus: &CpuBeliefs, ticks: u16, cpu: u16) -> 
 }
 
 /// The usable CPUs that are believed to run a thread of class 1 that has had so many ticks.
-#[tactic(auto, using(gs_status::proofs::Marking::marked_none, gs_status::proofs::Marking::marked_all))]
+#[tactic(auto, using(gs_status::proofs::Marking::marked_if))]
 pub(crate) fn class_one(view: &AgentView, cpus: &CpuBeliefs, ticks: u16) -> Mask
     ensures { (c : ℕ) → has result c ≡ runs_one ticks (look_up view.now) cpus.now c }
 {
     let mut mask = Mask::none();
     for cpu in 0..cpus.cpus() {
-        if runs_class_one(view, cpus, ticks, cpu) {
-            mask = mask.with(cpu);
-        }
+        mask = mask.with_if(cpu, runs_class_one(view, cpus, ticks, cpu));
     }
     mask
 }

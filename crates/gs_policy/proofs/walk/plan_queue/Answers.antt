@@ -1,5 +1,12 @@
-use Rattle.gs_policy.proofs.Left.{planning_more}
+use Rattle.std.proofs.Common.{rules, []}
+use Rattle.std.proofs.lemmas.Iterator.Adapters.{items_from_extend}
+use Rattle.std.proofs.lemmas.Iterator.Consumers.{YieldsList-from_first}
+use Rattle.gs_layout.specs.View.{look_up}
+use Rattle.gs_runq.specs.Queue.{order}
+use Rattle.gs_policy.specs.Candidates.{planned_of}
 use Rattle.gs_policy.proofs.walk.plan_queue.Goals as goal
 
-pub loop-tid-preserved : goal.loop-tid-preserved
-loop-tid-preserved c = (tt, tt, planning_more _ _ _ _ _ _ _ _ _ _ c.loop-tid.invariant.2 c.in-Some.ensures.steps c.in_ok-plan_one.ensures.choices c.in_ok-plan_one.ensures.left)
+pub returns : goal.returns
+returns c =
+    let all = planned_of c.args.all (look_up c.args.view.now) [] (order c.args.queue.now) in
+    let h = items_from_extend c.extend.result c.extend.ensures.ran (YieldsList-from_first (λ x. x) (λ xs. xs) all c.choose.ensures.choices) in search rules
