@@ -65,10 +65,6 @@ slot_queue v s s' q q' q'' q''' c at t named there a b d e f =
 pub same_waiting : (v : Look) (s s' : Cpus) (q q' : Queue) → s' ≡ s → q' ≡ q → HoldsWaiting v s q → HoldsWaiting v s' q'
 same_waiting v s s' q q' a b h = λ u. ap (λ (x : Queue). is_in u (order x)) b ∙ (h u ∙ ap (λ (x : Cpus). waits v x u) (sym a))
 
--- views that say the same are the same
-same_view : (v w : Look) → ((t : ℕ) → v t ≡ w t) → v ≡ w
-same_view v w h = λ i. λ t. h t i
-
 -- pictures with the same parts are the same
 abbrev pub picture : Look → Cpus → Queue → Picture
 picture v s q = record { view = v; cpus = s; queue = q }
@@ -80,7 +76,7 @@ same_picture v v' s s' q q' a b d = λ i. picture (λ t. a t i) (b i) (d i)
 pub news_picture : (v v' : Look) (s s' : Cpus) (q q' q'' : Queue) (m : Message) → word v m ≡ Applied → ((t : ℕ) → v' t ≡ apply v m t) → s' ≡ hears m s → bare q' ≡ bare q → q'' ≡ requeued v' s' m q'
     → picture v' s' (bare q'') ≡ takes_in m (picture v s (bare q))
 news_picture v v' s s' q q' q'' m w known a b d =
-    let one : v' ≡ apply v m = same_view v' (apply v m) known in
+    let one : v' ≡ apply v m = λ i. λ t. known t i in
     let queue : bare q'' ≡ requeued (apply v m) (hears m s) m (bare q) =
     ap bare d ∙ (bare_requeued v' s' m q' ∙ (ap (requeued v' s' m) b ∙ (ap (λ (x : Look). requeued x s' m (bare q)) one ∙ ap (λ (x : Cpus). requeued (apply v m) x m (bare q)) a))) in
     same_picture v' (apply v m) s' (hears m s) (bare q'') _ known a queue ∙ ap (λ (x : Word). takes_in_by x m (picture v s (bare q))) (sym w)
@@ -170,10 +166,10 @@ room_news v v' q q' m h known more fits p = record { least = λ t e. (tid t e).0
 
 -- who waits is the same where view, beliefs and the queue's threads are
 pub waiting_as_before : (v v' : Look) (s : Cpus) (q q' : Queue) → ((t : ℕ) → v' t ≡ v t) → bare q' ≡ bare q → HoldsWaiting v s q → HoldsWaiting v' s q'
-waiting_as_before v v' s q q' known b h = λ u. ap (λ (x : Queue). is_in u (order x)) b ∙ (h u ∙ ap (λ (x : Look). waits x s u) (sym (same_view v' v known)))
+waiting_as_before v v' s q q' known b h = λ u. ap (λ (x : Queue). is_in u (order x)) b ∙ (h u ∙ sym (λ i. waits (λ t. known t i) s u))
 
 pub news_waiting : (v v' : Look) (s s' : Cpus) (q q' : Queue) (m : Message) → HoldsWaiting v s q → ((t : ℕ) → v' t ≡ apply v m t) → s' ≡ hears m s → q' ≡ requeued v' s' m q → HoldsWaiting v' s' q'
 news_waiting v v' s s' q q' m h known a d =
-    let one : v' ≡ apply v m = same_view v' (apply v m) known in
+    let one : v' ≡ apply v m = λ i. λ t. known t i in
     let queue : q' ≡ requeued (apply v m) (hears m s) m q = d ∙ (ap (λ (x : Look). requeued x s' m q) one ∙ ap (λ (x : Cpus). requeued (apply v m) x m q) a) in
     subst (λ (x : Look). HoldsWaiting x s' q') (sym one) (same_waiting (apply v m) (hears m s) s' (requeued (apply v m) (hears m s) m q) q' a queue (holds_news v s q m h))

@@ -84,6 +84,10 @@ yield_row = refl
 told_row : (takes_in (Thread 7 6 Wakeup) all_wait).queue ≡ queue (7 ∷ 8 ∷ []) (9 ∷ [])
 told_row = refl
 
+-- and so does one that is created once more, with another class
+created_again_row : (takes_in (Thread 7 6 (Created (known One true 6).facts)) all_wait).queue ≡ queue (7 ∷ 8 ∷ []) (9 ∷ [])
+created_again_row = refl
+
 -- a preemption takes its thread off the CPU where it was believed to run, so it waits
 off_row : (takes_in (Thread 7 6 (Preempted 1)) (knows (cpus (at 7 5 2) None None None) (queue (8 ∷ []) []))).queue ≡ queue (8 ∷ 7 ∷ []) []
 off_row = refl

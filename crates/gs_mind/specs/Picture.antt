@@ -37,7 +37,7 @@ goes_last None t q = q
 goes_last (Some k) t q = put k.facts.class t q
 
 -- the queue brought up to date for a thread: one that begins to wait goes last of its class, one that waits already keeps its place,
--- and one that does not wait is not in the queue
+-- also where another class is known of it now, and one that does not wait is not in the queue
 abbrev pub settled : Look → Cpus → ℕ → Queue → Queue
 settled v s t q = if waits v s t then (if is_in t (order q) then q else goes_last (v t) t q) else removed t q
 

@@ -27,7 +27,9 @@ use std::marker::Model;
 /// A thread waits where it is known to be runnable, no CPU is believed to run it, and no uncollected
 /// stamp names it. The queue holds those threads at all times, and no other. A thread that begins to
 /// wait goes last of its class; one that stops waiting leaves; one whose turn ended, as a preemption or
-/// a yield says, goes last of its class anew. The queue has room for every thread of the view.
+/// a yield says, goes last of its class anew. One that waits already keeps its place, even where it is
+/// created once more and with another class, which no kernel sends. The queue has room for every
+/// thread of the view.
 #[derive(Drop)]
 pub struct Mind {
     view: AgentView,
