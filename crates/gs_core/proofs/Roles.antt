@@ -17,6 +17,7 @@ use Rattle.gs_kernel.specs.Landing.{verdict, after_verdict, after_landing, placi
 use Rattle.gs_kernel.specs.Commit.{Fits, fits_if_any, lands, one_lands}
 use Rattle.gs_kernel.proofs.Entries.{SameBeside, beside_posted, beside_placed, beside_quiet, active_none, attaching_none}
 use Rattle.gs_kernel.proofs.Placings.{IsIdle, made_way-push, placed_or_not}
+use Rattle.gs_core.specs.Held.{Acts}
 
 pub record NoNewRole (h h' : History) : Type 0 where
   pub active : (a : ℕ × ℕ) → active h' ≡ Some a → active h ≡ Some a
@@ -102,6 +103,10 @@ lands_roles f s mask k (z ∷ slots) h =
     let h' : History = (one_lands f s (has mask k) k z h).history in
     roles_then h h' (lands f s mask (suc k) slots h').history (one_roles f s (has mask k) k z h) (lands_roles f s mask (suc k) slots h')
 
-pub first_agent : (g c : ℕ) (a : ℕ × ℕ) → active (Role g c ∷ []) ≡ Some a → a.0 ≡ g
+-- a role goes on as that of the active agent, where it is of the same generation and CPU
+pub acts_on : (h h' : History) (g g' : ℕ) (own own' : Option ℕ) → NoNewAgent h h' → g' ≡ g → own' ≡ own → Acts h g own → Acts h' g' own'
+acts_on h h' g g' own own' same is_g is_own acts a p = let q = acts a (same a p) in (is_g ∙ q.0, is_own ∙ q.1)
+
+pub first_acts : (g c : ℕ) → Acts (Role g c ∷ []) g (Some c)
 unfolding active standing last_of
-first_agent g c a e = let z : a ≡ (g, c) = cc in ap (λ (x : ℕ × ℕ). x.0) z
+first_acts g c a e = let z : (g, c) ≡ a = cc in (ap (λ (x : ℕ × ℕ). x.0) z, ap (λ (x : ℕ × ℕ). Some x.1) z)

@@ -1,5 +1,5 @@
 -- What the agent believes goes with the slots.
-use Rattle.std.proofs.Common.{◌≡◌, refl, ap, sym, ◌∙◌, subst, ℕ, zero, suc, ◌+◌, ◌<◌, ◌⊎◌, inl, inr, ◌||◌, Bool, true, false, cond, Option, None, Some, List, [], ◌∷◌, ◌++◌, length, map, replicate, slice_get, slice_set, slice_index_or, append_assoc, arith}
+use Rattle.std.proofs.Common.{◌≡◌, refl, ap, sym, ◌∙◌, subst, ℕ, zero, suc, ◌+◌, ◌<◌, ◌⊎◌, inl, inr, ◌||◌, Bool, true, false, cond, Option, None, Some, List, [], ◌∷◌, ◌++◌, length, map, nat_lt, replicate, slice_get, slice_set, slice_index_or, append_assoc, arith}
 use Rattle.std.specs.List.{list_any}
 use Rattle.std.specs.Option.{is_some, is_none}
 use Rattle.std.proofs.lemmas.Bool.{or_parts}
@@ -8,6 +8,7 @@ use Rattle.gs_layout.specs.declared.message.Message.{Message}
 use Rattle.gs_layout.specs.declared.message.Message.TheVariants.{Thread, TimerTick}
 use Rattle.gs_layout.specs.declared.known.Word.{Word}
 use Rattle.gs_layout.specs.declared.known.Word.TheVariants.{Applied, Orphan, Skipped, Gap}
+use Rattle.gs_layout.specs.declared.outcome.Outcome.{Outcome}
 use Rattle.gs_layout.specs.Message.{takes_off_cpu}
 use Rattle.gs_layout.specs.View.{word}
 use Rattle.gs_slots.specs.declared.state.Stamp.{Stamp}
@@ -20,8 +21,8 @@ use Rattle.gs_kernel.specs.declared.settings.Settings.{Settings}
 use Rattle.gs_kernel.specs.Commit.{Fits, fits_if_any, history_after, lands, one_lands, slot_after}
 use Rattle.gs_kernel.proofs.Commits.{slots_count}
 use Rattle.gs_kernel.specs.Kernel.{preemption}
-use Rattle.gs_beliefs.specs.Cpus.{Cpus, clears, raises, stamps, ticks, unknown, unstamps}
-use Rattle.gs_beliefs.specs.Belief.{after_outcome, hears}
+use Rattle.gs_beliefs.specs.Cpus.{Cpus, cleared_at, clears, raises, running, stamps, ticks, unknown, unstamps}
+use Rattle.gs_beliefs.specs.Belief.{after_outcome, hears, shows_place}
 use Rattle.gs_beliefs.proofs.Laws.{count_after_outcome, count_hears}
 use Rattle.gs_mind.specs.Picture.{Picture, after_slot, after_slots, takes_in, takes_in_all, takes_in_by}
 use Rattle.gs_mind.proofs.Believing.{stamped_outcome}
@@ -74,6 +75,25 @@ thinks_message Gap m p slots t = t
 pub thinks_messages : (p : Picture) (ms : List Message) (slots : List SlotState) → Thinks p.cpus slots → Thinks (takes_in_all p ms).cpus slots
 thinks_messages p [] slots t = t
 thinks_messages p (m ∷ ms) slots t = thinks_messages (takes_in m p) ms slots (thinks_message (word p.view m) m p slots t)
+
+-- whatever an agent hears, its own CPU stays
+own_hears : (m : Message) (s : Cpus) → (hears m s).agent ≡ s.agent
+own_hears (TimerTick c) s = refl
+own_hears (Thread u n change) s = by_change (takes_off_cpu change)
+  where
+    by_change : (b : Bool) → (cond b (clears u s) (raises u n s)).agent ≡ s.agent
+    by_change true = refl
+    by_change false = refl
+
+own_message : (w : Word) (m : Message) (p : Picture) → (takes_in_by w m p).cpus.agent ≡ p.cpus.agent
+own_message Applied m p = own_hears m p.cpus
+own_message Orphan m p = refl
+own_message Skipped m p = refl
+own_message Gap m p = refl
+
+pub own_messages : (p : Picture) (ms : List Message) → (takes_in_all p ms).cpus.agent ≡ p.cpus.agent
+own_messages p [] = refl
+own_messages p (m ∷ ms) = own_messages (takes_in m p) ms ∙ own_message (word p.view m) m p
 
 -- whether a slot landed and was not collected yet
 abbrev pub is_done : SlotState → Bool
@@ -182,3 +202,22 @@ thinks_commit f s mask slots h p open' t =
       count = count_slots 0 xs p ∙ (t.count ∙ sym (length-map xs collected ∙ slots_count f s mask 0 slots h));
       named = stamped_slots 0 xs p ∙ (ap (left_of 0 xs) t.named ∙ names_left [] slots xs (lands_after f s mask 0 slots h) (not_done slots open'));
     }
+
+-- whatever slots are collected, the agent's own CPU stays
+own_outcome : (o : Outcome) (at : Option ℕ) (t q : ℕ) (s : Cpus) → (after_outcome o at t q s).agent ≡ s.agent
+own_outcome o None t q s = refl
+own_outcome o (Some c) t q s = by_shown (shows_place o) (nat_lt c (length s.believed))
+  where
+    by_shown : (a b : Bool) → (cond a (cond b (record s { believed = slice_set (map (cleared_at t) s.believed) c (Some (running t q)) }) s) s).agent ≡ s.agent
+    by_shown true true = refl
+    by_shown true false = refl
+    by_shown false b = refl
+
+own_slot : (c : ℕ) (x : SlotState) (p : Picture) → (after_slot c x p).cpus.agent ≡ p.cpus.agent
+own_slot c Idle p = refl
+own_slot c (Stamped b) p = refl
+own_slot c (Done b o at n) p = own_outcome o at b.tid b.tseq p.cpus
+
+pub own_slots : (c : ℕ) (xs : List SlotState) (p : Picture) → (after_slots c xs p).cpus.agent ≡ p.cpus.agent
+own_slots c [] p = refl
+own_slots c (x ∷ xs) p = own_slots (c + 1) xs (after_slot c x p) ∙ own_slot c x p

@@ -1,4 +1,4 @@
-ghost use Rattle.std.specs.Prelude.{◌≡◌, None, Some, IfOk, IfErr, IfSome, OnOk, OnErr, is_some, true, false};
+ghost use Rattle.std.specs.Prelude.{◌≡◌, ℕ, None, Some, IfOk, IfErr, IfSome, OnOk, OnErr, is_some, true, false};
 ghost use Rattle.std.specs.Option.{option_map};
 ghost use Rattle.gs_kernel.specs.Kernel.{IsRefusal};
 ghost use Rattle.gs_core.specs.Config.{config_fault, IsFault};
@@ -104,9 +104,13 @@ impl Machine {
         })
     }
 
-    /// The role of the agent, to look at.
+    /// The role of the agent, to look at. It plans by the machine's policy, and while an agent is active, it
+    /// is of the active generation and takes the active agent's CPU for its own.
     pub fn role(&self) -> &Role<AnyPolicy>
-        ensures { Some result.now.mind ≡ option_map (λ (a : Agent). a.mind) self.now.agent }
+        ensures mind { Some result.now.mind ≡ option_map (λ (a : Agent). a.mind) self.now.agent }
+        ensures policy { result.now.policy ≡ self.now.policy }
+        ensures generation { (a : ℕ × ℕ) → active self.now.history ≡ Some a → result.now.generation ≡ a.0 }
+        ensures cpu { (a : ℕ × ℕ) → active self.now.history ≡ Some a → result.now.mind.cpus.agent ≡ Some a.1 }
     {
         &self.role
     }

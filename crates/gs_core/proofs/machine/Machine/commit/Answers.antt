@@ -14,9 +14,9 @@ use Rattle.gs_core.specs.Machine.{Agent, State, Step}
 use Rattle.gs_core.specs.Held.{machine_view}
 use Rattle.gs_core.proofs.Landed.{commit_step, refused_there}
 use Rattle.gs_core.proofs.Posting.{with_kernel}
-use Rattle.gs_core.proofs.Roles.{agent_of, lands_roles}
+use Rattle.gs_core.proofs.Roles.{acts_on, agent_of, lands_roles}
 use Rattle.gs_core.proofs.Keeping.{step_keeps}
-use Rattle.gs_core.proofs.Thinking.{thinks_commit, thinks_same}
+use Rattle.gs_core.proofs.Thinking.{own_slots, thinks_commit, thinks_same}
 use Rattle.gs_core.proofs.machine.Machine.commit.Goals as goal
 
 -- the agent that a role is
@@ -51,7 +51,8 @@ invariant_of-self c =
       trusts = kept.trusts;
       thinks = thinks_same _ _ _ _ cpus_is slots_is (thinks_commit (fitted k.history) m.settings c.args.mask m.slots m.history p i.trusts.none_done i.thinks);
       plans = ap (λ (x : RoleOf AnyPolicy). x.policy) c.collect.ensures.role ∙ i.plans;
-      generation = λ a p. i.generation a (agent_of m.history _ k.history e.history (lands_roles (fitted k.history) m.settings c.args.mask 0 m.slots m.history) a p) ∙ sym (ap (λ (x : RoleOf AnyPolicy). x.generation) c.collect.ensures.role);
+      acts = acts_on m.history k.history _ _ _ _ (agent_of m.history _ k.history e.history (lands_roles (fitted k.history) m.settings c.args.mask 0 m.slots m.history))
+          (ap (λ (x : RoleOf AnyPolicy). x.generation) c.collect.ensures.role) (ap (λ (x : RoleOf AnyPolicy). x.mind.cpus.agent) c.collect.ensures.role ∙ own_slots 0 c.txns_commit.new.region p) i.acts;
     }
 
 pub returns-in-Ok : goal.returns-in-Ok

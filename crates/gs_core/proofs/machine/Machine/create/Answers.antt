@@ -55,7 +55,7 @@ invariant_of-self c =
       trusts = kept.trusts;
       thinks = i.thinks;
       plans = i.plans;
-      generation = λ a p. i.generation a (posted_agent c.create.result is_some m.history k.history (creation m.settings.first_tseq m.history c.args.facts.now) e.history e.unchanged a p);
+      acts = λ a p. i.acts a (posted_agent c.create.result is_some m.history k.history (creation m.settings.first_tseq m.history c.args.facts.now) e.history e.unchanged a p);
     }
 
 pub returns : goal.returns

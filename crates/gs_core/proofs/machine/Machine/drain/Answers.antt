@@ -6,7 +6,7 @@ use Rattle.gs_mind.specs.Mind.{MindState, picture_of}
 use Rattle.gs_mind.specs.Picture.{Picture}
 use Rattle.gs_agent.specs.Role.{RoleOf}
 use Rattle.gs_policy.specs.declared.any.AnyPolicy.{AnyPolicy}
-use Rattle.gs_journal.specs.History.{History, posted, active}
+use Rattle.gs_journal.specs.History.{History, posted}
 use Rattle.gs_kernel.specs.Kernel.{KernelOf, SameKernel}
 use Rattle.gs_ring.specs.RingState.{RingState}
 use Rattle.gs_ring.specs.Ends.{Passed, Posted, Posted-keeps, Posted-unread}
@@ -18,9 +18,10 @@ use Rattle.gs_core.specs.Machine.{State, Step, Takes, Drains, refusal}
 use Rattle.gs_core.specs.Held.{machine_view}
 use Rattle.gs_core.proofs.Draining.{takes_from}
 use Rattle.gs_core.proofs.Posting.{done}
+use Rattle.gs_core.proofs.Roles.{acts_on, agent_of, same_history}
 use Rattle.gs_core.proofs.Serving.{drains_as, with_drained}
 use Rattle.gs_core.proofs.Keeping.{step_keeps}
-use Rattle.gs_core.proofs.Thinking.{thinks_messages, thinks_same}
+use Rattle.gs_core.proofs.Thinking.{own_messages, thinks_messages, thinks_same}
 use Rattle.gs_core.proofs.machine.Machine.drain.Goals as goal
 
 abbrev Kernel : Type 0
@@ -76,7 +77,8 @@ invariant_of-self c =
       trusts = kept.trusts;
       thinks = thinks_same _ _ _ _ (ap (λ (p : Picture). p.cpus) x.took.picture) refl (thinks_messages (picture_of c.self.inside.role.mind) x.ms c.self.inside.region i.thinks);
       plans = ap (λ (x : RoleOf AnyPolicy). x.policy) c.drain.ensures.others ∙ i.plans;
-      generation = λ a p. i.generation a (ap active (sym x.beside.history) ∙ p) ∙ sym (ap (λ (x : RoleOf AnyPolicy). x.generation) c.drain.ensures.others);
+      acts = acts_on m.history new.history _ _ _ _ (agent_of m.history m.history new.history x.beside.history (same_history m.history m.history refl))
+          (ap (λ (x : RoleOf AnyPolicy). x.generation) c.drain.ensures.others) (ap (λ (p : Picture). p.cpus.agent) x.took.picture ∙ own_messages (picture_of c.self.inside.role.mind) x.ms) i.acts;
     }
 
 pub returns : goal.returns

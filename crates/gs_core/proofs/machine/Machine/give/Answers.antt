@@ -48,7 +48,7 @@ invariant_of-self c =
       trusts = kept.trusts;
       thinks = i.thinks;
       plans = i.plans;
-      generation = λ a p. i.generation a (given_agent c.give.result m.history k.history c.args.cpu e.history e.unchanged a p);
+      acts = λ a p. i.acts a (given_agent c.give.result m.history k.history c.args.cpu e.history e.unchanged a p);
     }
 
 pub returns : goal.returns

@@ -54,7 +54,7 @@ invariant_of-self c =
       trusts = kept.trusts;
       thinks = i.thinks;
       plans = i.plans;
-      generation = λ a p. i.generation a (posted_agent c.happen.result is_some m.history k.history (happening m.settings m.history c.args.tid c.args.event) e.history e.unchanged a p);
+      acts = λ a p. i.acts a (posted_agent c.happen.result is_some m.history k.history (happening m.settings m.history c.args.tid c.args.event) e.history e.unchanged a p);
     }
 
 pub returns : goal.returns

@@ -51,7 +51,7 @@ invariant_of-self c =
       trusts = kept.trusts;
       thinks = i.thinks;
       plans = i.plans;
-      generation = λ a p. i.generation a (late_agent c.land_stamp.result m k.history x e.history e.unchanged a p);
+      acts = λ a p. i.acts a (late_agent c.land_stamp.result m k.history x e.history e.unchanged a p);
     }
 
 pub returns : goal.returns

@@ -36,7 +36,7 @@ invariant_of-self c =
       trusts = kept.trusts;
       thinks = i.thinks;
       plans = i.plans;
-      generation = λ a p. i.generation a (taken_agent c.take.result m.history k.history (preemption m.settings m.history c.args.cpu) c.args.cpu e.history e.unchanged a p);
+      acts = λ a p. i.acts a (taken_agent c.take.result m.history k.history (preemption m.settings m.history c.args.cpu) c.args.cpu e.history e.unchanged a p);
     }
 
 pub returns : goal.returns

@@ -42,7 +42,7 @@ invariant_of-self c =
       trusts = kept.trusts;
       thinks = i.thinks;
       plans = i.plans;
-      generation = λ a p. i.generation a (posted_agent c.tick.result (λ b. b) m.history k.history (TimerTick c.args.cpu) e.history e.unchanged a p);
+      acts = λ a p. i.acts a (posted_agent c.tick.result (λ b. b) m.history k.history (TimerTick c.args.cpu) e.history e.unchanged a p);
     }
 
 pub returns : goal.returns
