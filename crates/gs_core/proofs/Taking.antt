@@ -2,13 +2,13 @@
 use Rattle.std.proofs.Common.{◌≡◌, refl, ap, sym, ◌∙◌, subst, ℕ, ◌<◌, Bool, true, false, Option, None, Some, List, [], ◌∷◌, ◌++◌, length, arith, append_assoc}
 use Rattle.std.specs.List.{filter}
 use Rattle.std.specs.Option.{option_map}
-use Rattle.std.proofs.lemmas.List.{append-nil, take_all}
+use Rattle.std.proofs.lemmas.List.{append-nil}
 use Rattle.gs_layout.specs.declared.message.Change.TheVariants.{Preempted}
 use Rattle.gs_layout.specs.declared.message.Message.{Message}
 use Rattle.gs_layout.specs.Message.{is_about, is_creation}
 use Rattle.gs_journal.specs.declared.entry.Entry.{Entry}
 use Rattle.gs_journal.specs.declared.entry.Entry.TheVariants.{Posted, Placed, Role, Begin, Left, Taken, Given, Torn}
-use Rattle.gs_journal.specs.History.{History, messages, on, active, attaching, AtEachPrefix}
+use Rattle.gs_journal.specs.History.{History, messages, on, active, attaching}
 use Rattle.gs_journal.specs.State.{Numbered}
 use Rattle.gs_journal.proofs.Laws.{same_posted, same_messages, same_created, AtEach-push, AtEachPrefix-push}
 use Rattle.gs_journal.proofs.Past.{Was-mono}
@@ -21,6 +21,7 @@ use Rattle.gs_core.specs.Machine.{State, view, page_of}
 use Rattle.gs_core.specs.Safe.{IsBacked, OnOne}
 use Rattle.gs_core.specs.Good.{GoodHistory, Good}
 use Rattle.gs_core.proofs.Faces.{faces_same}
+use Rattle.gs_core.proofs.Histories.{whole_one}
 use Rattle.gs_core.proofs.Used.{nobody_quiet, once_more, used_more, used_quiet}
 use Rattle.gs_core.proofs.Tears.{tear_good}
 use Rattle.gs_core.proofs.Roles.{NoNewRole, roles_given, roles_taken}
@@ -42,7 +43,7 @@ pub good_quiet : (s : Settings) (xs : List Transaction) (h : History) (e : Entry
 good_quiet s xs h e quiet g =
     record {
       backed = AtEach-push (IsBacked s xs) h e g.backed (needs_none s xs h e quiet);
-      one = AtEachPrefix-push OnOne h e g.one (λ u c d p q. whole_one g.one u c d (stood c u p) (stood d u q));
+      one = AtEachPrefix-push OnOne h e g.one (λ u c d p q. whole_one h g.one u c d (stood c u p) (stood d u q));
       numbered = λ u. subst (Numbered s.first_tseq 0) (sym (same u)) (g.numbered u);
       fresh = λ u above. same u ∙ g.fresh u (omega (arith, ap length (same_created h e (ap (filter is_creation) (posts_nothing e quiet))), above));
       no_zero = same 0 ∙ g.no_zero;
@@ -59,9 +60,6 @@ good_quiet s xs h e quiet g =
 
     stood : (c u : ℕ) → on (h ++ e ∷ []) c ≡ Some u → on h c ≡ Some u
     stood c u p = sym (on_quiet h e c quiet) ∙ p
-
-    whole_one : AtEachPrefix OnOne h → OnOne h
-    whole_one all = subst OnOne (take_all (length h) h (omega arith)) (all (length h))
 
 pub both_quiet : (m : State) (e : Entry) → is_quiet e ≡ true → Good m → BothOf m (m.history ++ e ∷ [])
 both_quiet m e quiet g =
