@@ -3,6 +3,7 @@
 
 mod config;
 mod event;
+mod items;
 mod known;
 mod machine;
 mod reply;
@@ -12,8 +13,9 @@ mod unread;
 
 pub use config::{Config, ConfigFault};
 pub use event::Event;
+pub use items::Items;
 pub use machine::Machine;
-pub use reply::{Items, Reply};
+pub use reply::Reply;
 pub use transaction::Transaction;
 
 #[cfg(test)]

@@ -9,8 +9,9 @@ ghost use Rattle.gs_core.specs.Safe.{Safe, IsFaithful, Run};
 
 use crate::config::{Config, ConfigFault};
 use crate::event::Event;
+use crate::items::Items;
 use crate::known::known_threads;
-use crate::reply::{Items, Reply};
+use crate::reply::Reply;
 use crate::stamping::{stamp_all, stamp_choice};
 use crate::transaction::Transaction;
 use crate::unread::waiting;

@@ -1,40 +1,8 @@
-ghost use Rattle.std.specs.Prelude.{◌≡◌};
-
+use crate::items::Items;
 use gs_agent::Drained;
 use gs_kernel::{Landing, LiveThread};
 use gs_layout::{Known, Message, Refusal};
 use gs_policy::Choice;
-use std::marker::Model;
-
-/// Items of a reply, in order. Clauses see them as a list.
-#[derive(Drop)]
-pub struct Items<T> {
-    items: Vec<T>,
-}
-
-impl<T> Model for Items<T> {
-    ghost use Rattle.std.specs.Prelude.{List};
-
-    ghost Value = { List T };
-
-    ghost view = { λ i. i.items.items };
-}
-
-impl<T> Items<T> {
-    /// These items.
-    pub fn new(items: Vec<T>) -> Items<T>
-        ensures { result ≡ items.items }
-    {
-        Items { items }
-    }
-
-    /// The items, in order.
-    pub fn as_slice(&self) -> &[T]
-        ensures { result.now ≡ self.now }
-    {
-        &self.items
-    }
-}
 
 /// What an event answers.
 #[derive(Drop)]
@@ -45,44 +13,56 @@ pub enum Reply {
     Torn,
     /// The new thread, with its first sequence number.
     Created {
+        /// The thread's number.
         tid: u32,
+        /// Its first sequence number.
         tseq: u32,
     },
     /// The message about the thread that was posted.
     Posted(Message),
     /// The other class took the CPU.
     Taken {
+        /// That CPU.
         cpu: u16,
     },
     /// The other class gave the CPU back.
     Given {
+        /// That CPU.
         cpu: u16,
     },
     /// The timer of the CPU ticked.
     Ticked {
+        /// That CPU.
         cpu: u16,
     },
+    /// How many messages the agent took in, what they were to it, and why it stopped early, where it did.
     Drained(Drained),
-    /// The number of the new transaction, counted from 1.
+    /// A transaction was stamped.
     Stamped {
+        /// Its number, counted from 1.
         number: usize,
     },
-    /// What the policy planned and the agent stamped, in order: the number of the first transaction, counted
-    /// from 1, those of the others following, and the choices.
+    /// What the policy planned was stamped.
     Decided {
+        /// The number of the first transaction, counted from 1. Those of the others follow.
         first: usize,
+        /// The plan, in the order in which it was stamped.
         choices: Items<Choice>,
     },
-    /// What became of each slot that landed, and whether that tore the enclave down.
+    /// Slots landed.
     Landed {
+        /// What became of each, by rising CPU.
         landings: Items<Landing>,
+        /// Whether that tore the enclave down.
         torn: bool,
     },
-    /// What became of the transaction of this number, which landed late, and whether that tore the enclave
-    /// down.
+    /// A transaction landed late.
     Late {
+        /// Its number, counted from 1.
         number: u32,
+        /// What became of it.
         landing: Landing,
+        /// Whether that tore the enclave down.
         torn: bool,
     },
     /// What the agent knows of each thread, by rising tid.
