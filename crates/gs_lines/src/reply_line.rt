@@ -1,5 +1,5 @@
 ghost use Rattle.std.specs.Prelude.{◌≡◌, ◌++◌, IfOk, OnOk, string_bytes};
-ghost use Rattle.gs_lines.specs.Lines.{refusal_text, outcome_text, drained_text, unless_zero, stop_text, line, landing_text, landing_lines, late_text, torn_line, reply_lines, lines};
+ghost use Rattle.gs_lines.specs.Lines.{refusal_text, outcome_text, drained_text, unless_zero, stop_text, line, landed_text, landing_text, landing_lines, late_text, torn_line, reply_lines, lines};
 
 use crate::choice_line::write_decided;
 use crate::message_line::{write_messages, write_posted};
@@ -60,19 +60,28 @@ fn outcome_name(outcome: Outcome) -> &'static str
     }
 }
 
-/// Adds the line of a landing.
-fn write_landing(out: &mut String, landing: &Landing) -> Result<(), AllocError>
-    ensures { OnOk result (string_bytes out.new ≡ string_bytes out.old ++ line (landing_text landing.now)) }
+/// Adds what became of a transaction, which ends a line.
+fn write_landed(out: &mut String, landing: &Landing) -> Result<(), AllocError>
+    ensures { OnOk result (string_bytes out.new ≡ string_bytes out.old ++ line (landed_text landing.now)) }
 {
     let Landing {
-        cpu,
+        cpu: _,
         tid,
         outcome,
         seen,
         at: _,
     } = *landing;
     let outcome = outcome_name(outcome);
-    write!(out, "cpu {cpu} {outcome} {tid} seq {seen}\n")
+    write!(out, "{outcome} {tid} seq {seen}\n")
+}
+
+/// Adds the line of a landing.
+fn write_landing(out: &mut String, landing: &Landing) -> Result<(), AllocError>
+    ensures { OnOk result (string_bytes out.new ≡ string_bytes out.old ++ line (landing_text landing.now)) }
+{
+    let cpu = landing.cpu;
+    write!(out, "cpu {cpu} ")?;
+    write_landed(out, landing)
 }
 
 /// Adds the lines of landings.
@@ -89,15 +98,8 @@ fn write_landings(out: &mut String, landings: &[Landing]) -> Result<(), AllocErr
 fn write_late(out: &mut String, number: u32, landing: &Landing) -> Result<(), AllocError>
     ensures { OnOk result (string_bytes out.new ≡ string_bytes out.old ++ line (late_text number landing.now)) }
 {
-    let Landing {
-        cpu: _,
-        tid,
-        outcome,
-        seen,
-        at: _,
-    } = *landing;
-    let outcome = outcome_name(outcome);
-    write!(out, "late {number} {outcome} {tid} seq {seen}\n")
+    write!(out, "late {number} ")?;
+    write_landed(out, landing)
 }
 
 /// Adds the line behind landings that tore the enclave down.
