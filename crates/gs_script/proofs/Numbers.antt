@@ -56,9 +56,6 @@ takes_it low high word t =
     (let e = t.low in grind (arith, nat_tests)))
     (let e = t.high in grind (arith, nat_tests))
 
-pub not_plain : (low high : ℕ) (word : List ℕ) → begins_plainly word ≡ false → number_between low high word ≡ Err BadNumber
-not_plain low high word h = untaken _ _ _ (λ k. let t = (taken low high word k).plain in cc)
-
 -- what is known where a number was parsed
 record Parsed (n : ℕ) (word : List ℕ) : Type 0 where
   digits : all_ascii_digits word ≡ true

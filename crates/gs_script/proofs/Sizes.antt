@@ -24,12 +24,6 @@ behind_cpus = map (λ form. literal (codes "ring") ∷ form) behind_ring
 read_in : (a r b : List ℕ) (ws : List (List ℕ)) → config_in (a ∷ r ∷ b ∷ ws) ≡ or_fault (first_fault header_forms (a ∷ r ∷ b ∷ ws)) (config_of (a ∷ r ∷ b ∷ ws))
 read_in a r b ws = rw (enough a r b ws) refl
 
--- the fault of the words, one after another
-pub bad_cpus : (a r b : List ℕ) (ws : List (List ℕ)) (e : Reason) → Err e ≡ number_between 2 64 a → Err e ≡ config_in (a ∷ r ∷ b ∷ ws)
-bad_cpus a r b ws e h =
-    let f = failed (takes (Number 2 64) a) (number a) e BadNumber h in
-    rw (read_in a r b ws, one_fault (Number 2 64) a (r ∷ b ∷ ws) (literal (codes "ring") ∷ Multiple 8 128 1048576 ∷ []) (drop 1 behind_cpus) f.0) (ap Err (sym f.1))
-
 after_cpus : (a r b : List ℕ) (ws : List (List ℕ)) → takes (Number 2 64) a ≡ true → first_fault header_forms (a ∷ r ∷ b ∷ ws) ≡ first_fault behind_cpus (r ∷ b ∷ ws)
 after_cpus a r b ws h = one_step (Number 2 64) a (r ∷ b ∷ ws) (literal (codes "ring") ∷ Multiple 8 128 1048576 ∷ []) (drop 1 behind_cpus) h
 
@@ -37,13 +31,10 @@ is_ring : (r : List ℕ) (b : Bool) → is r (codes "ring") ≡ b → takes (lit
 is_ring r true h = rw h refl
 is_ring r false h = rw h refl
 
-pub bad_ring : (a r b : List ℕ) (ws : List (List ℕ)) (n : ℕ) → Ok n ≡ number_between 2 64 a → is r (codes "ring") ≡ false → Err BadWord ≡ config_in (a ∷ r ∷ b ∷ ws)
-bad_ring a r b ws n h k =
-    rw (read_in a r b ws, after_cpus a r b ws (went (takes (Number 2 64) a) n (number a) BadNumber h).0, one_fault (literal (codes "ring")) r (b ∷ ws) (Multiple 8 128 1048576 ∷ []) (drop 1 behind_ring) (is_ring r false k)) refl
-
 after_ring : (a r b : List ℕ) (ws : List (List ℕ)) (n : ℕ) → Ok n ≡ number_between 2 64 a → is r (codes "ring") ≡ true → first_fault header_forms (a ∷ r ∷ b ∷ ws) ≡ first_fault behind_ring (b ∷ ws)
 after_ring a r b ws n h k = after_cpus a r b ws (went (takes (Number 2 64) a) n (number a) BadNumber h).0 ∙ one_step (literal (codes "ring")) r (b ∷ ws) (Multiple 8 128 1048576 ∷ []) (drop 1 behind_ring) (is_ring r true k)
 
+-- the fault of the words, one after another
 pub bad_capacity : (a r b : List ℕ) (ws : List (List ℕ)) (n : ℕ) (e : Reason) → Ok n ≡ number_between 2 64 a → is r (codes "ring") ≡ true → Err e ≡ capacity_in b → Err e ≡ config_in (a ∷ r ∷ b ∷ ws)
 bad_capacity a r b ws n e h k l =
     let f = failed (takes (Multiple 8 128 1048576) b) (number b) e BadNumber l in

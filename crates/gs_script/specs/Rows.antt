@@ -90,9 +90,12 @@ stamp =
       event = λ ws. events.Stamp (number (at 0 ws)) (number (at 1 ws)) (is (at 2 ws) (codes "p"));
     }
 
--- a form without words: nothing stands behind the first word
+-- a line whose first word says all: nothing stands behind it
+abbrev pub alone : List ℕ → Event → Row
+alone word e = record { word = word; forms = [] ∷ []; event = λ ws. e }
+
 abbrev pub decide : Row
-decide = record { word = codes "decide"; forms = [] ∷ []; event = λ ws. events.Decide }
+decide = alone (codes "decide") events.Decide
 
 abbrev pub commit : Row
 commit = record { word = codes "commit"; forms = (u64s ∷ []) ∷ []; event = λ ws. events.Commit (number (at 0 ws)) }
@@ -101,13 +104,13 @@ abbrev pub late : Row
 late = record { word = codes "late"; forms = (u32s ∷ []) ∷ []; event = λ ws. events.Late (number (at 0 ws)) }
 
 abbrev pub view : Row
-view = record { word = codes "view"; forms = [] ∷ []; event = λ ws. events.View }
+view = alone (codes "view") events.View
 
 abbrev pub state : Row
-state = record { word = codes "state"; forms = [] ∷ []; event = λ ws. events.State }
+state = alone (codes "state") events.State
 
 abbrev pub unread : Row
-unread = record { word = codes "unread"; forms = [] ∷ []; event = λ ws. events.Unread }
+unread = alone (codes "unread") events.Unread
 
 abbrev pub rows : List Row
 rows = create ∷ block ∷ wake ∷ yield ∷ die ∷ affinity ∷ take ∷ give ∷ tick ∷ drain ∷ stamp ∷ decide ∷ commit ∷ late ∷ view ∷ state ∷ unread ∷ []

@@ -43,7 +43,18 @@ fn is_runnable(word: &str) -> Result<bool, Reason>
     }
 }
 
-fn create(mask: &str, class: &str, state: &str, text: &str) -> Result<Event, Reason>
+/// A line whose first word says all.
+fn alone(words: &[&str], event: Event) -> Result<Event, Reason>
+    ensures { result ≡ reads (rows.alone [] event) (shown words.now) }
+{
+    match words {
+        [] => Ok(event),
+        _ => Err(Reason::BadCount),
+    }
+}
+
+/// A creation of a thread with these facts.
+fn create_of(mask: &str, class: &str, state: &str, text: &str) -> Result<Event, Reason>
     ensures { result ≡ reads rows.create (mask.now ∷ class.now ∷ state.now ∷ text.now ∷ []) }
 {
     let mask = number(mask, 0, u64::MAX)?;
@@ -59,17 +70,34 @@ fn create(mask: &str, class: &str, state: &str, text: &str) -> Result<Event, Rea
     Ok(Event::Create { facts })
 }
 
-/// What happens to the thread of this number.
-fn to_thread(tid: &str, event: ThreadEvent) -> Result<Event, Reason>
-    ensures { result ≡ reads (rows.to_thread [] event) (tid.now ∷ []) }
+#[tactic(auto, using(crate::proofs::Places::four_places))]
+fn create(words: &[&str]) -> Result<Event, Reason>
+    ensures { result ≡ reads rows.create (shown words.now) }
 {
+    match words {
+        [mask, class, state, text] => create_of(mask, class, state, text),
+        _ => Err(Reason::BadCount),
+    }
+}
+
+/// What happens to the thread of a number.
+fn to_thread(words: &[&str], event: ThreadEvent) -> Result<Event, Reason>
+    ensures { result ≡ reads (rows.to_thread [] event) (shown words.now) }
+{
+    let [tid] = words else {
+        return Err(Reason::BadCount);
+    };
     let tid = u32_number(tid)?;
     Ok(Event::Thread { tid, event })
 }
 
-fn affinity(tid: &str, mask: &str) -> Result<Event, Reason>
-    ensures { result ≡ reads rows.affinity (tid.now ∷ mask.now ∷ []) }
+#[tactic(auto, using(crate::proofs::Places::two_places))]
+fn affinity(words: &[&str]) -> Result<Event, Reason>
+    ensures { result ≡ reads rows.affinity (shown words.now) }
 {
+    let [tid, mask] = words else {
+        return Err(Reason::BadCount);
+    };
     let tid = u32_number(tid)?;
     let mask = number(mask, 0, u64::MAX)?;
     Ok(Event::Thread {
@@ -78,35 +106,48 @@ fn affinity(tid: &str, mask: &str) -> Result<Event, Reason>
     })
 }
 
-fn take(cpu: &str) -> Result<Event, Reason>
-    ensures { result ≡ reads rows.take (cpu.now ∷ []) }
+fn take(words: &[&str]) -> Result<Event, Reason>
+    ensures { result ≡ reads rows.take (shown words.now) }
 {
+    let [cpu] = words else {
+        return Err(Reason::BadCount);
+    };
     let cpu = cpu_number(cpu)?;
     Ok(Event::Take { cpu })
 }
 
-fn give(cpu: &str) -> Result<Event, Reason>
-    ensures { result ≡ reads rows.give (cpu.now ∷ []) }
+fn give(words: &[&str]) -> Result<Event, Reason>
+    ensures { result ≡ reads rows.give (shown words.now) }
 {
+    let [cpu] = words else {
+        return Err(Reason::BadCount);
+    };
     let cpu = cpu_number(cpu)?;
     Ok(Event::Give { cpu })
 }
 
-fn tick(cpu: &str) -> Result<Event, Reason>
-    ensures { result ≡ reads rows.tick (cpu.now ∷ []) }
+fn tick(words: &[&str]) -> Result<Event, Reason>
+    ensures { result ≡ reads rows.tick (shown words.now) }
 {
+    let [cpu] = words else {
+        return Err(Reason::BadCount);
+    };
     let cpu = cpu_number(cpu)?;
     Ok(Event::Tick { cpu })
 }
 
-fn drain(max: &str) -> Result<Event, Reason>
-    ensures { result ≡ reads rows.drain (max.now ∷ []) }
+fn drain(words: &[&str]) -> Result<Event, Reason>
+    ensures { result ≡ reads rows.drain (shown words.now) }
 {
+    let [max] = words else {
+        return Err(Reason::BadCount);
+    };
     let max = u32_number(max)?;
     Ok(Event::Drain { max })
 }
 
-fn stamp(cpu: &str, tid: &str) -> Result<Event, Reason>
+/// A stamp for a CPU that has to be free.
+fn stamp_plain(cpu: &str, tid: &str) -> Result<Event, Reason>
     ensures { result ≡ reads rows.stamp (cpu.now ∷ tid.now ∷ []) }
 {
     let cpu = cpu_number(cpu)?;
@@ -134,22 +175,38 @@ fn stamp_flagged(cpu: &str, tid: &str, flag: &str) -> Result<Event, Reason>
     })
 }
 
-fn late(number: &str) -> Result<Event, Reason>
-    ensures { result ≡ reads rows.late (number.now ∷ []) }
+#[tactic(auto, using(crate::proofs::Places::two_places, crate::proofs::Places::three_places))]
+fn stamp(words: &[&str]) -> Result<Event, Reason>
+    ensures { result ≡ reads rows.stamp (shown words.now) }
 {
-    let number = u32_number(number)?;
-    Ok(Event::Late { number })
+    match words {
+        [cpu, tid] => stamp_plain(cpu, tid),
+        [cpu, tid, flag] => stamp_flagged(cpu, tid, flag),
+        _ => Err(Reason::BadCount),
+    }
 }
 
-fn commit(mask: &str) -> Result<Event, Reason>
-    ensures { result ≡ reads rows.commit (mask.now ∷ []) }
+fn commit(words: &[&str]) -> Result<Event, Reason>
+    ensures { result ≡ reads rows.commit (shown words.now) }
 {
+    let [mask] = words else {
+        return Err(Reason::BadCount);
+    };
     let mask = Mask::new(number(mask, 0, u64::MAX)?);
     Ok(Event::Commit { mask })
 }
 
+fn late(words: &[&str]) -> Result<Event, Reason>
+    ensures { result ≡ reads rows.late (shown words.now) }
+{
+    let [number] = words else {
+        return Err(Reason::BadCount);
+    };
+    let number = u32_number(number)?;
+    Ok(Event::Late { number })
+}
+
 /// What an event line of these words says.
-#[tactic(auto, using(crate::proofs::Places::two_places, crate::proofs::Places::four_places))]
 pub(crate) fn event(words: &[&str]) -> Result<Event, Reason>
     ensures { result ≡ event_of (shown words.now) }
 {
@@ -157,75 +214,23 @@ pub(crate) fn event(words: &[&str]) -> Result<Event, Reason>
         return Err(Reason::BadWord);
     };
     match *first {
-        "create" => match words {
-            [mask, class, state, name] => create(mask, class, state, name),
-            _ => Err(Reason::BadCount),
-        },
-        "block" => match words {
-            [tid] => to_thread(tid, ThreadEvent::Block),
-            _ => Err(Reason::BadCount),
-        },
-        "wake" => match words {
-            [tid] => to_thread(tid, ThreadEvent::Wake),
-            _ => Err(Reason::BadCount),
-        },
-        "yield" => match words {
-            [tid] => to_thread(tid, ThreadEvent::Yield),
-            _ => Err(Reason::BadCount),
-        },
-        "die" => match words {
-            [tid] => to_thread(tid, ThreadEvent::Die),
-            _ => Err(Reason::BadCount),
-        },
-        "affinity" => match words {
-            [tid, mask] => affinity(tid, mask),
-            _ => Err(Reason::BadCount),
-        },
-        "take" => match words {
-            [cpu] => take(cpu),
-            _ => Err(Reason::BadCount),
-        },
-        "give" => match words {
-            [cpu] => give(cpu),
-            _ => Err(Reason::BadCount),
-        },
-        "tick" => match words {
-            [cpu] => tick(cpu),
-            _ => Err(Reason::BadCount),
-        },
-        "drain" => match words {
-            [max] => drain(max),
-            _ => Err(Reason::BadCount),
-        },
-        "stamp" => match words {
-            [cpu, tid] => stamp(cpu, tid),
-            [cpu, tid, flag] => stamp_flagged(cpu, tid, flag),
-            _ => Err(Reason::BadCount),
-        },
-        "decide" => match words {
-            [] => Ok(Event::Decide),
-            _ => Err(Reason::BadCount),
-        },
-        "commit" => match words {
-            [mask] => commit(mask),
-            _ => Err(Reason::BadCount),
-        },
-        "late" => match words {
-            [number] => late(number),
-            _ => Err(Reason::BadCount),
-        },
-        "view" => match words {
-            [] => Ok(Event::View),
-            _ => Err(Reason::BadCount),
-        },
-        "state" => match words {
-            [] => Ok(Event::State),
-            _ => Err(Reason::BadCount),
-        },
-        "unread" => match words {
-            [] => Ok(Event::Unread),
-            _ => Err(Reason::BadCount),
-        },
+        "create" => create(words),
+        "block" => to_thread(words, ThreadEvent::Block),
+        "wake" => to_thread(words, ThreadEvent::Wake),
+        "yield" => to_thread(words, ThreadEvent::Yield),
+        "die" => to_thread(words, ThreadEvent::Die),
+        "affinity" => affinity(words),
+        "take" => take(words),
+        "give" => give(words),
+        "tick" => tick(words),
+        "drain" => drain(words),
+        "stamp" => stamp(words),
+        "decide" => alone(words, Event::Decide),
+        "commit" => commit(words),
+        "late" => late(words),
+        "view" => alone(words, Event::View),
+        "state" => alone(words, Event::State),
+        "unread" => alone(words, Event::Unread),
         _ => Err(Reason::BadWord),
     }
 }

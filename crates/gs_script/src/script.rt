@@ -1,4 +1,5 @@
-ghost use Rattle.std.specs.Prelude.{◌≡◌, ◌+◌, ◌<◌, ◌^◌, IfOk, IfSome, length, None};
+ghost use Rattle.std.specs.Prelude.{◌≡◌, ◌+◌, ◌<◌, ◌^◌, IfOk, IfSome, length, None, Ok, option_map};
+ghost use Rattle.std.specs.Result.{result_map_both};
 ghost use Rattle.gs_core.specs.Config.{config_fault};
 ghost use Rattle.gs_script.specs.Words.{lines_of};
 ghost use Rattle.gs_script.specs.Rows.{event_of, shown};
@@ -60,9 +61,9 @@ fn is_comment(words: &[&str]) -> bool
     }
 }
 
-/// What an event line says, or `None` where it says nothing.
-fn event_line(alloc: Global, line: &[u8]) -> Result<Option<Event>, LineError>
-    ensures { Gives result (says event_of line.now) }
+/// The words of a line, or `None` where it says nothing.
+fn words_said(alloc: Global, line: &[u8]) -> Result<Option<Vec<&str>>, LineError>
+    ensures { Gives (result_map_both (option_map (λ words. shown words.items)) (λ e. e) result) (says Ok line.now) }
 {
     let Some(text) = text(line) else {
         return Err(LineError::Fault(Reason::BadByte));
@@ -73,6 +74,17 @@ fn event_line(alloc: Global, line: &[u8]) -> Result<Option<Event>, LineError>
     if is_comment(&words) {
         return Ok(None);
     }
+    Ok(Some(words))
+}
+
+/// What an event line says, or `None` where it says nothing.
+#[tactic(auto, using(crate::proofs::Said::value_said, crate::proofs::Said::reason_said, crate::proofs::Said::nothing_said, crate::proofs::Said::error_said))]
+fn event_line(alloc: Global, line: &[u8]) -> Result<Option<Event>, LineError>
+    ensures { Gives result (says event_of line.now) }
+{
+    let Some(words) = words_said(alloc, line)? else {
+        return Ok(None);
+    };
     match event(&words) {
         Ok(event) => Ok(Some(event)),
         Err(reason) => Err(LineError::Fault(reason)),
@@ -80,19 +92,14 @@ fn event_line(alloc: Global, line: &[u8]) -> Result<Option<Event>, LineError>
 }
 
 /// What a line in the header's place says, or `None` where it says nothing.
+#[tactic(auto, using(crate::proofs::Said::value_said, crate::proofs::Said::reason_said, crate::proofs::Said::nothing_said, crate::proofs::Said::error_said))]
 fn header_line(alloc: Global, line: &[u8]) -> Result<Option<Config>, LineError>
     ensures exact { Gives result (says header_of line.now) }
     ensures fits { IfOk result (λ o. IfSome o (λ config. config_fault config ≡ None)) }
 {
-    let Some(text) = text(line) else {
-        return Err(LineError::Fault(Reason::BadByte));
-    };
-    let Ok(words) = words(alloc, text) else {
-        return Err(LineError::OutOfMemory);
-    };
-    if is_comment(&words) {
+    let Some(words) = words_said(alloc, line)? else {
         return Ok(None);
-    }
+    };
     match header(&words) {
         Ok(config) => Ok(Some(config)),
         Err(reason) => Err(LineError::Fault(reason)),

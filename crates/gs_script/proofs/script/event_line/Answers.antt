@@ -1,0 +1,11 @@
+use Rattle.std.proofs.Common.{rules, ◌≡◌, Some, Ok, Err}
+use Rattle.gs_script.specs.Rows.{event_of, shown}
+use Rattle.gs_script.specs.Script.{says}
+use Rattle.gs_script.proofs.Said.{reason_said}
+use Rattle.gs_script.proofs.script.event_line.Goals as goal
+
+pub returns : goal.returns
+returns c =
+    let said : says Ok c.args.line.now ≡ Ok (Some (shown c.in-Some.words.items)) = search rules in
+    let read : Err c.in-Err.reason ≡ event_of (shown c.in-Some.words.items) = search rules in
+    reason_said event_of c.args.line.now (shown c.in-Some.words.items) c.in-Err.reason said read
