@@ -1,19 +1,13 @@
--- Two writes, or two reads, one after the other.
+-- Two writes, one after the other.
 use Rattle.std.proofs.Common.{◌≡◌, ℕ, ◌+◌, ◌≤◌, List, ◌++◌, take, drop, sym, ◌∙◌, ap, Option, None, Some, append_assoc, length, length-drop, take-add, ◌-◌, arith}
 use Rattle.std.proofs.lemmas.List.{take_rest}
-use Rattle.std.specs.Io.KnownBytes.{Appends, Consumes}
+use Rattle.std.specs.Io.KnownBytes.{Appends}
 
 pub appends_more : (a b c : Option (List ℕ)) (xs ys zs : List ℕ) → Appends a b xs → Appends b c ys → xs ++ ys ≡ zs → Appends a c zs
 appends_more None b c xs ys zs h k e = tt
 appends_more (Some a) None c xs ys zs h k e = absurd h
 appends_more (Some a) (Some b) None xs ys zs h k e = absurd k
 appends_more (Some a) (Some b) (Some c) xs ys zs h k e = k ∙ ap (λ bs. bs ++ ys) h ∙ append_assoc a xs ys ∙ ap (λ bs. a ++ bs) e
-
-pub consumes_more : (a b c : Option (List ℕ)) (xs ys zs : List ℕ) → Consumes a b xs → Consumes b c ys → zs ≡ xs ++ ys → Consumes a c zs
-consumes_more None b c xs ys zs h k e = tt
-consumes_more (Some a) None c xs ys zs h k e = absurd h
-consumes_more (Some a) (Some b) None xs ys zs h k e = absurd k
-consumes_more (Some a) (Some b) (Some c) xs ys zs h k e = h ∙ ap (λ bs. xs ++ bs) k ∙ sym (append_assoc xs ys c) ∙ ap (λ bs. bs ++ c) (sym e)
 
 pub pieces : (w n : ℕ) (bs : List ℕ) → take w bs ++ take n (take (length bs - w) (drop w bs)) ≡ take (w + n) bs
 pieces w n bs = ap (λ t. take w bs ++ take n t) (take_rest bs w) ∙ sym (take-add w n bs)

@@ -3,6 +3,7 @@ ghost use Rattle.clap.specs.Words.{app_of, found_of, kind_of, one_of, rows_of, r
 ghost use Rattle.clap.specs.Kinds.{HasKind};
 ghost use Rattle.clap.specs.Faults.{fault_of};
 ghost use Rattle.gs_trace.specs.Arguments.{IsInRange, command_given, command_in, ghost_program, last_rule, number_of};
+ghost use Rattle.gs_trace.specs.declared.arguments.Command.{Command};
 ghost use Rattle.gs_trace.specs.declared.arguments.Command.TheVariants.{Report};
 
 use clap::error::ErrorKind;
@@ -79,12 +80,14 @@ fn command_of(matches: &clap::ArgMatches<'_>) -> Option<Command>
 ///
 /// An error is clap's own: its text says what is wrong, or is the help or the version that was asked
 /// for. Its kind says which: it is that of the words' fault, or that no command is given, or that memory
-/// ran out. The help and the version are answered only where the words ask for them.
+/// ran out. The help and the version are answered only where the words ask for them, and words without a
+/// fault that give a command are refused only for want of memory.
 pub fn settings<'a, S: AsStr>(alloc: Global, words: &'a [S]) -> Result<Command, clap::Error>
     ensures given { IfOk result (λ command. command_in (map S.text words.entry.now) ≡ Some command) }
     ensures in_range { IfOk result IsInRange }
     ensures faultless { IfOk result (λ _. fault_of ghost_program (map S.text words.entry.now) ≡ []) }
     ensures failed { IfErr result (HasKind (ErrorKind.MissingSubcommand ∷ fault_of ghost_program (map S.text words.entry.now))) }
+    ensures answered { fault_of ghost_program (map S.text words.entry.now) ≡ [] → (command : Command) → command_in (map S.text words.entry.now) ≡ Some command → MatchResult result (λ given. given ≡ command) (λ e. kind_of e ≡ ErrorKind.OutOfMemory) }
     ensures run { (name : List ℕ) → map S.text words.entry.now ≡ name ∷ codes "run" ∷ [] → IfErr result (λ e. kind_of e ≡ ErrorKind.OutOfMemory) }
     ensures report { (name : List ℕ) → map S.text words.entry.now ≡ name ∷ codes "report" ∷ [] → MatchResult result (λ command. command ≡ Report 10) (λ e. kind_of e ≡ ErrorKind.OutOfMemory) }
 {

@@ -126,7 +126,8 @@ fn answer_to(alloc: Global, input: &[u8], form: Form) -> Result<Answer, AllocErr
 /// # Errors
 ///
 /// `ReadFailed` where a read fails, `OutOfMemory` where memory runs out, also where it does at an event:
-/// nothing was written. `WriteFailed` where a write fails or takes no byte: a beginning of the output was
+/// nothing was written. No clause tells these two apart, since a reader's contract does not say when it
+/// fails. `WriteFailed` where a write fails or takes no byte: a beginning of the output was
 /// written.
 pub fn run_script<R: Read, W: Write>(
     alloc: Global,

@@ -1,4 +1,4 @@
-use Rattle.std.proofs.Common.{rules, ◌≡◌, inl, inr, subst, Some, None, ◌∷◌, map, sym, ◌∙◌, ap, ap₂}
+use Rattle.std.proofs.Common.{rules, ◌≡◌, inl, inr, subst, Some, None, [], ◌∷◌, map, sym, ◌∙◌, ap, ap₂}
 use Rattle.std.specs.Prelude.{option_and_then}
 use Rattle.clap.specs.Words.{App, kind_of, is_simple, takes, subcommand_of}
 use Rattle.clap.specs.Kinds.{Kinds, HasKind}
@@ -62,4 +62,30 @@ pub returns-clause-report : goal.returns-clause-report
 returns-clause-report g c name h =
     let met = (c.in_ok-matches.ensures.ok.2 (ap is_simple c.in_ok-command_line.ensures ∙ ghost_is_simple)).1 ∙ ap₂ subcommand_of c.in_ok-command_line.ensures h in
     let given : None ≡ Some (Report 10) = c.in-None.ensures ∙ ap (option_and_then command_given) met ∙ report_is_ten name in
+    absurd (cc)
+
+-- words that have no fault fail for want of memory alone
+only_memory : (kinds : Kinds) (e : Error) → kinds ≡ [] → HasKind kinds e → kind_of e ≡ OutOfMemory
+only_memory kinds e none (inl h) = h
+only_memory [] e none (inr h) = absurd h
+only_memory (k ∷ ks) e none (inr h) = absurd (cc)
+
+pub returns-in_err-matches-clause-answered : goal.returns-in_err-matches-clause-answered
+returns-in_err-matches-clause-answered g c none command is =
+    let words = map g.S.AsStr.text c.args.words.now in
+    let e = c.in_err-matches.field-0.0 in
+    let had : HasKind (fault_of ghost_program words) e = subst (λ (app : App). HasKind (fault_of app words) e) c.in_ok-command_line.ensures (c.in_err-matches.ensures.kinds (ap is_simple_and_free c.in_ok-command_line.ensures ∙ ghost_is_free)) in
+    let kind : kind_of e ≡ OutOfMemory = only_memory (fault_of ghost_program words) e none had in
+    search (rules, kind)
+
+pub returns-in-Some-clause-answered : goal.returns-in-Some-clause-answered
+returns-in-Some-clause-answered g c none command is =
+    let same : Some c.in-Some.command ≡ Some command = sym (returns-in-Some-clause-given g c) ∙ is in
+    cc
+
+pub returns-clause-answered : goal.returns-clause-answered
+returns-clause-answered g c none command is =
+    let words = map g.S.AsStr.text c.args.words.now in
+    let met = (c.in_ok-matches.ensures.ok.2 (ap is_simple c.in_ok-command_line.ensures ∙ ghost_is_simple)).1 ∙ ap (λ app. subcommand_of app words) c.in_ok-command_line.ensures in
+    let given : None ≡ Some command = c.in-None.ensures ∙ ap (option_and_then command_given) met ∙ is in
     absurd (cc)
