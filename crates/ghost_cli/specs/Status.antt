@@ -1,9 +1,14 @@
 -- The exit status of the program.
-use Rattle.std.specs.Prelude.{ℕ}
+use Rattle.std.specs.Prelude.{◌≡◌, ◌≢◌, ◌⊎◌, ℕ}
+use Rattle.clap.specs.Values.{kind_of}
+use Rattle.clap.specs.declared.error.kind.ErrorKind.{ErrorKind}
+use Rattle.clap.specs.declared.error.kind.ErrorKind.TheVariants.{DisplayHelp, DisplayVersion}
 use Rattle.gs_trace.specs.declared.run.Ended.{Ended}
 use Rattle.gs_trace.specs.declared.run.Ended.TheVariants.{Ran, Faulted}
 use Rattle.gs_trace.specs.declared.run.TraceFault.{TraceFault}
 use Rattle.gs_trace.specs.declared.run.TraceFault.TheVariants.{ReadFailed, OutOfMemory, WriteFailed}
+use Rattle.ghost_cli.specs.declared.Failure.{Failure}
+use Rattle.ghost_cli.specs.declared.Failure.TheVariants.{Arguments, NotText, Script}
 
 -- 0 where a script ran, 2 where it has a fault
 abbrev pub ended_status : Ended → ℕ
@@ -15,3 +20,13 @@ abbrev pub fault_status : TraceFault → ℕ
 fault_status ReadFailed = 4
 fault_status OutOfMemory = 5
 fault_status WriteFailed = 4
+
+-- 3 where the arguments are wrong; where the help or the version was asked for 0, or 4 where it could not be written
+abbrev pub IsArgumentsStatus : ErrorKind → ℕ → Type 0
+IsArgumentsStatus kind status = (kind ≢ DisplayHelp → kind ≢ DisplayVersion → status ≡ 3) × ((kind ≡ DisplayHelp) ⊎ (kind ≡ DisplayVersion) → (status ≡ 0) ⊎ (status ≡ 4))
+
+-- the exit status of a failure
+abbrev pub IsFailureStatus : Failure → ℕ → Type 0
+IsFailureStatus (Arguments error) status = IsArgumentsStatus (kind_of error) status
+IsFailureStatus NotText status = status ≡ 3
+IsFailureStatus (Script fault) status = status ≡ fault_status fault

@@ -2,7 +2,8 @@
 #![tactic(auto)]
 
 ghost use Rattle.std.specs.Prelude.{◌≡◌};
-ghost use Rattle.ghost_cli.specs.Status.{ended_status, fault_status};
+ghost use Rattle.clap.specs.Values.{kind_of};
+ghost use Rattle.ghost_cli.specs.Status.{IsArgumentsStatus, IsFailureStatus, ended_status, fault_status};
 
 use clap::error::ErrorKind;
 use gs_trace::{Command, Ended, TraceFault, run_report, run_script, settings};
@@ -76,14 +77,28 @@ fn unsettled(error: clap::Error) -> Failure {
     }
 }
 
-/// Says what went wrong, and gives the exit status. The help and the version are no failure.
-fn report(rt: &HostRuntime, failure: &Failure) -> u8 {
+/// Says what is wrong with the arguments, or writes the help or the version, which are no failure, and
+/// gives the exit status.
+fn report_arguments(rt: &HostRuntime, error: &clap::Error) -> u8
+    ensures { IsArgumentsStatus (kind_of error.now) result }
+{
+    if error.use_stderr() {
+        let _ = eprint!(rt; "{error}");
+        return 3;
+    }
+    match error.print(rt) {
+        Ok(()) => 0,
+        Err(_) => 4,
+    }
+}
+
+/// Says what went wrong, and gives the exit status.
+fn report(rt: &HostRuntime, failure: &Failure) -> u8
+    ensures { IsFailureStatus failure.now result }
+{
     match failure {
-        Failure::Arguments(error) if !error.use_stderr() => match error.print(rt) {
-            Ok(()) => 0,
-            Err(_) => 4,
-        },
-        Failure::Arguments(_) | Failure::NotText => {
+        Failure::Arguments(error) => report_arguments(rt, error),
+        Failure::NotText => {
             let _ = eprint!(rt; "{failure}");
             3
         }
