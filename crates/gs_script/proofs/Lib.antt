@@ -6,6 +6,7 @@ pub mod Policies
 pub mod Firsts
 pub mod Taken
 pub mod Sizes
+pub mod Extends
 pub mod Said
 pub mod Lines
 pub mod HeaderLines

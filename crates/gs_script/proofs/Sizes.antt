@@ -3,7 +3,7 @@ use Rattle.std.proofs.Common.{◌≡◌, ℕ, List, [], ◌∷◌, map, Bool, tr
 use Rattle.std.proofs.lemmas.Bool.Decides.{nat_tests}
 use Rattle.gs_core.specs.declared.config.Config.{Config}
 use Rattle.gs_script.specs.declared.fault.Reason.{Reason}
-use Rattle.gs_script.specs.declared.fault.Reason.TheVariants.{BadWord, BadNumber}
+use Rattle.gs_script.specs.declared.fault.Reason.TheVariants.{BadNumber}
 use Rattle.gs_script.specs.declared.header.Firsts.{Firsts}
 use Rattle.gs_script.specs.Words.{number}
 use Rattle.gs_script.specs.Grammar.{takes, Number, Multiple, literal, Form, first_fault, or_fault}

@@ -1,4 +1,4 @@
-ghost use Rattle.std.specs.Prelude.{◌≡◌, ◌+◌, ◌<◌, ◌^◌, IfOk, IfSome, length, None, Ok, option_map};
+ghost use Rattle.std.specs.Prelude.{◌≡◌, ◌+◌, ◌<◌, ◌^◌, IfOk, IfSome, length, None, Some, Ok, if◌then◌else◌};
 ghost use Rattle.std.specs.Result.{result_map_both};
 ghost use Rattle.gs_core.specs.Config.{config_fault};
 ghost use Rattle.gs_script.specs.Words.{lines_of};
@@ -10,7 +10,7 @@ ghost use Rattle.gs_script.specs.Held.{Gives, Tells, placed, seen};
 use crate::event_line::event;
 use crate::fault::{Reason, ScriptFault};
 use crate::header::header;
-use crate::word::{text, words};
+use crate::word::{split, text};
 use gs_core::{Config, Event};
 use std::alloc::{AllocError, Global};
 use thiserror::Error;
@@ -61,31 +61,29 @@ fn is_comment(words: &[&str]) -> bool
     }
 }
 
-/// The words of a line, or `None` where it says nothing.
-fn words_said(alloc: Global, line: &[u8]) -> Result<Option<Vec<&str>>, LineError>
-    ensures { Gives (result_map_both (option_map (λ words. shown words.items)) (λ e. e) result) (says Ok line.now) }
+/// Whether a line says anything, by its words, which it leaves in the place of those that are there.
+fn words_said<'a>(line: &'a [u8], words: &mut Vec<&'a str>) -> Result<bool, LineError>
+    ensures { Gives (result_map_both (λ said. if said then Some (shown words.new.items) else None) (λ e. e) result) (says Ok line.now) }
 {
     let Some(text) = text(line) else {
         return Err(LineError::Fault(Reason::BadByte));
     };
-    let Ok(words) = words(alloc, text) else {
+    if split(text, words).is_err() {
         return Err(LineError::OutOfMemory);
-    };
-    if is_comment(&words) {
-        return Ok(None);
     }
-    Ok(Some(words))
+    Ok(!is_comment(words))
 }
 
-/// What an event line says, or `None` where it says nothing.
+/// What an event line says, or `None` where it says nothing. Its words are left in the place of those that are
+/// there.
 #[tactic(auto, using(crate::proofs::Said::value_said, crate::proofs::Said::reason_said, crate::proofs::Said::nothing_said, crate::proofs::Said::error_said))]
-fn event_line(alloc: Global, line: &[u8]) -> Result<Option<Event>, LineError>
+fn event_line<'a>(line: &'a [u8], words: &mut Vec<&'a str>) -> Result<Option<Event>, LineError>
     ensures { Gives result (says event_of line.now) }
 {
-    let Some(words) = words_said(alloc, line)? else {
+    if !words_said(line, words)? {
         return Ok(None);
-    };
-    match event(&words) {
+    }
+    match event(words) {
         Ok(event) => Ok(Some(event)),
         Err(reason) => Err(LineError::Fault(reason)),
     }
@@ -97,9 +95,10 @@ fn header_line(alloc: Global, line: &[u8]) -> Result<Option<Config>, LineError>
     ensures exact { Gives result (says header_of line.now) }
     ensures fits { IfOk result (λ o. IfSome o (λ config. config_fault config ≡ None)) }
 {
-    let Some(words) = words_said(alloc, line)? else {
+    let mut words = Vec::new(alloc);
+    if !words_said(line, &mut words)? {
         return Ok(None);
-    };
+    }
     match header(&words) {
         Ok(config) => Ok(Some(config)),
         Err(reason) => Err(LineError::Fault(reason)),
@@ -112,9 +111,10 @@ fn events(alloc: Global, first: usize, lines: &[&[u8]]) -> Result<Vec<Event>, Sc
     requires { first + length lines.now < 2 ^ 63 }
     ensures { Tells (λ v. v.items) result (events_of first (shown lines.now)) }
 {
+    let mut words = Vec::new(alloc);
     let mut events = Vec::new(alloc);
     for (i, line) in lines.iter().enumerate() {
-        match event_line(alloc, line) {
+        match event_line(line, &mut words) {
             Ok(None) => {}
             Ok(Some(event)) => {
                 if events.push(event).is_err() {

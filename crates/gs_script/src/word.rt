@@ -1,11 +1,11 @@
-ghost use Rattle.std.specs.Prelude.{◌≡◌, ◌≤◌, IfOk, MatchOption, true, false, map};
+ghost use Rattle.std.specs.Prelude.{◌≡◌, ◌≤◌, IfOk, OnOk, MatchOption, true, false, map};
 ghost use Rattle.gs_script.specs.Words.{is_text, words_of};
 ghost use Rattle.gs_script.specs.Rows.{number_between, name_in};
 ghost use Rattle.gs_script.specs.Held.{begins_plainly};
 
 use crate::fault::Reason;
 use gs_layout::Name;
-use std::alloc::{AllocError, Global};
+use std::alloc::AllocError;
 
 /// Whether each byte may stand in a line.
 fn is_printed(line: &[u8]) -> bool
@@ -28,13 +28,13 @@ pub(crate) fn text(line: &[u8]) -> Option<&str>
     }
 }
 
-/// The words of a line.
-pub(crate) fn words(alloc: Global, line: &str) -> Result<Vec<&str>, AllocError>
-    ensures { IfOk result (λ v. map (λ w. w.now) v.items ≡ words_of line.now) }
+/// Puts the words of a line in the place of those that are there, and so takes no memory for a line that
+/// has no more words than another before it.
+pub(crate) fn split<'a>(line: &'a str, words: &mut Vec<&'a str>) -> Result<(), AllocError>
+    ensures { OnOk result (map (λ w. w.now) words.new.items ≡ words_of line.now) }
 {
-    line.split(' ')
-        .filter(|word| !word.is_empty())
-        .collect(alloc)
+    words.clear();
+    words.extend(line.split(' ').filter(|word| !word.is_empty()))
 }
 
 /// Whether a word begins with neither a sign nor a needless zero.

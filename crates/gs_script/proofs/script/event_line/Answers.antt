@@ -4,8 +4,8 @@ use Rattle.gs_script.specs.Script.{says}
 use Rattle.gs_script.proofs.Said.{reason_said}
 use Rattle.gs_script.proofs.script.event_line.Goals as goal
 
-pub returns : goal.returns
-returns c =
-    let said : says Ok c.args.line.now ≡ Ok (Some (shown c.in-Some.words.items)) = search rules in
-    let read : Err c.in-Err.reason ≡ event_of (shown c.in-Some.words.items) = search rules in
-    reason_said event_of c.args.line.now (shown c.in-Some.words.items) c.in-Err.reason said read
+pub returns-in-Err : goal.returns-in-Err
+returns-in-Err c =
+    let said : says Ok c.args.line.now ≡ Ok (Some (shown c.words_said.new.words.items)) = search rules in
+    let read : Err c.in-Err.reason ≡ event_of (shown c.words_said.new.words.items) = search rules in
+    reason_said event_of c.args.line.now (shown c.words_said.new.words.items) c.in-Err.reason said read
