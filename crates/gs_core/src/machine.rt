@@ -4,7 +4,8 @@ ghost use Rattle.gs_kernel.specs.Kernel.{IsRefusal};
 ghost use Rattle.gs_core.specs.Config.{config_fault, IsFault};
 ghost use Rattle.gs_core.specs.Machine.{Agent, State, Step, decides, mind_of, plan_of, start, refusal, stamps, transaction_of, unread, without_agent};
 ghost use Rattle.gs_core.specs.Desk.{AreBelow, AreStampable};
-ghost use Rattle.gs_journal.specs.History.{active, torn};
+ghost use Rattle.gs_journal.specs.History.{active, posted, torn};
+ghost use Rattle.gs_ring.specs.Ends.{Posted};
 ghost use Rattle.gs_core.specs.Safe.{Safe, IsFaithful, Run};
 
 use crate::config::{Config, ConfigFault};
@@ -130,6 +131,7 @@ impl Machine {
         ensures ring { result.now.poster.capacity ≡ self.now.ring }
         ensures consumed { result.now.poster.taken ≡ self.now.consumed }
         ensures unread { result.now.poster.unread ≡ unread self.now }
+        ensures posted { Posted result.now.poster (posted self.now.history) }
     {
         &self.kernel
     }
