@@ -16,8 +16,9 @@ use gs_status::Mask;
 use std::alloc::Global;
 
 impl<P: Poster> Kernel<P> {
-    /// The stamped slots of a mask land, by rising CPU, each on what the one before left. Answers what
-    /// became of each, and leaves that in its slot too. No other slot changes. Where a message to a thread that is taken off does not fit, the enclave is torn down: that
+    /// The stamped slots of a mask land, by rising CPU, each on what the one before left (the ghOSt
+    /// paper's TXNS_COMMIT). Answers what became of each, and leaves that in its slot too. No other slot
+    /// changes. Where a message to a thread that is taken off does not fit, the enclave is torn down: that
     /// slot and all later ones are [`Gone`](gs_layout::Outcome::Gone). The region has a slot for each CPU
     /// of the enclave.
     ///
