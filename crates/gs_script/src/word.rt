@@ -28,8 +28,8 @@ pub(crate) fn text(line: &[u8]) -> Option<&str>
     }
 }
 
-/// Puts the words of a line in the place of those that are there, and so takes no memory for a line that
-/// has no more words than another before it.
+/// Puts the words of a line in the place of those that are there. Where it fails, some of the line's words
+/// may be there.
 pub(crate) fn split<'a>(line: &'a str, words: &mut Vec<&'a str>) -> Result<(), AllocError>
     ensures { OnOk result (map (λ w. w.now) words.new.items ≡ words_of line.now) }
 {
