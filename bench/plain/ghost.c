@@ -897,6 +897,20 @@ static char *spill(char *o)
 #define END_LINE() do { if (unlikely(*p != '\n')) goto odd; p++; events++; } while (0)
 #define REFUSE(refusal) do { o = refuse(o, refusal); goto next; } while (0)
 #define REFUSE_IF(condition, refusal) do { if (unlikely(condition)) REFUSE(refusal); } while (0)
+// The living thread that the next word names.
+#define LIVING_THREAD() do { NUMBER(tid, UINT32_MAX); t = living(tid); } while (0)
+// The thread's next message, in `m`.
+#define NEXT_MESSAGE(kind, bytes, cpu) do { \
+        REFUSE_IF(t->tseq == UINT32_MAX, SEQ_SPENT); \
+        REFUSE_IF(entries >= history, HISTORY_FULL); \
+        m = post(kind, bytes, tid, t->tseq + 1, cpu); \
+        if (unlikely(!m)) \
+            goto tear; \
+        t->tseq++; \
+    } while (0)
+// A reply that ends in a number, and one that ends in the thread and its number.
+#define PUT_WITH(text, number) do { PUT(text); o = put_number(o, number); *o++ = '\n'; } while (0)
+#define PUT_THREAD(text) do { PUT(text); o = put_sequence(o, tid, t->tseq); *o++ = '\n'; } while (0)
 
 // The words of the events as numbers, and their place in a table of 32.
 #define W(a, b, c, d, e, f, g, h) \
@@ -1013,77 +1027,50 @@ static const char *run(const char *p, const char *end, char **behind, enum fault
         case E_BLOCK:
         case E_YIELD: {
             bool blocks = event == E_BLOCK;
-            NUMBER(tid, UINT32_MAX);
+            LIVING_THREAD();
             END_LINE();
-            t = living(tid);
             REFUSE_IF(!t, NO_THREAD);
             REFUSE_IF(t->cpu == NO_CPU, NOT_RUNNING);
-            REFUSE_IF(t->tseq == UINT32_MAX, SEQ_SPENT);
-            REFUSE_IF(entries >= history, HISTORY_FULL);
-            if (unlikely(!post(blocks ? BLOCKED : YIELD, 16, tid, t->tseq + 1, t->cpu)))
-                goto tear;
-            t->tseq++;
+            NEXT_MESSAGE(blocks ? BLOCKED : YIELD, 16, t->cpu);
             leave_cpu(t);
             if (blocks) {
                 t->runnable = false;
-                PUT("blocked ");
+                PUT_THREAD("blocked ");
             } else {
-                PUT("yielded ");
+                PUT_THREAD("yielded ");
             }
-            o = put_sequence(o, tid, t->tseq);
-            *o++ = '\n';
             break;
         }
         case E_WAKE:
-            NUMBER(tid, UINT32_MAX);
+            LIVING_THREAD();
             END_LINE();
-            t = living(tid);
             REFUSE_IF(!t, NO_THREAD);
             REFUSE_IF(t->runnable, NOT_BLOCKED);
-            REFUSE_IF(t->tseq == UINT32_MAX, SEQ_SPENT);
-            REFUSE_IF(entries >= history, HISTORY_FULL);
-            if (unlikely(!post(WAKEUP, 16, tid, t->tseq + 1, NO_CPU)))
-                goto tear;
-            t->tseq++;
+            NEXT_MESSAGE(WAKEUP, 16, NO_CPU);
             t->runnable = true;
-            PUT("woken ");
-            o = put_sequence(o, tid, t->tseq);
-            *o++ = '\n';
+            PUT_THREAD("woken ");
             break;
         case E_DIE:
-            NUMBER(tid, UINT32_MAX);
+            LIVING_THREAD();
             END_LINE();
-            t = living(tid);
             REFUSE_IF(!t, NO_THREAD);
-            REFUSE_IF(t->tseq == UINT32_MAX, SEQ_SPENT);
-            REFUSE_IF(entries >= history, HISTORY_FULL);
-            if (unlikely(!post(DEAD, 16, tid, t->tseq + 1, t->cpu)))
-                goto tear;
-            t->tseq++;
+            NEXT_MESSAGE(DEAD, 16, t->cpu);
             if (t->cpu != NO_CPU)
                 leave_cpu(t);
             t->alive = false;
             alive[(tid - 1) / 64] &= ~(UINT64_C(1) << (tid - 1) % 64);
-            PUT("dead ");
-            o = put_sequence(o, tid, t->tseq);
-            *o++ = '\n';
+            PUT_THREAD("dead ");
             break;
         case E_AFFINITY: {
-            NUMBER(tid, UINT32_MAX);
+            LIVING_THREAD();
             MASK(mask);
             END_LINE();
-            t = living(tid);
             REFUSE_IF(!t, NO_THREAD);
             REFUSE_IF(!mask || mask & ~all_cpus, EMPTY_MASK);
-            REFUSE_IF(t->tseq == UINT32_MAX, SEQ_SPENT);
-            REFUSE_IF(entries >= history, HISTORY_FULL);
             uint8_t from = t->cpu;
-            m = post(AFFINITY, 24, tid, t->tseq + 1, from);
-            if (unlikely(!m))
-                goto tear;
+            NEXT_MESSAGE(AFFINITY, 24, from);
             m->mask = mask;
             t->mask = mask;
-            t->tseq++;
             PUT("affinity ");
             o = put_sequence(o, tid, t->tseq);
             if (from != NO_CPU && !mask_bit(mask, from)) {
@@ -1113,9 +1100,7 @@ static const char *run(const char *p, const char *end, char **behind, enum fault
             }
             taken |= UINT64_C(1) << cpu;
             entries++;
-            PUT("taken ");
-            o = put_number(o, cpu);
-            *o++ = '\n';
+            PUT_WITH("taken ", cpu);
             break;
         }
         case E_GIVE:
@@ -1126,9 +1111,7 @@ static const char *run(const char *p, const char *end, char **behind, enum fault
             REFUSE_IF(entries >= history, HISTORY_FULL);
             taken &= ~(UINT64_C(1) << cpu);
             entries++;
-            PUT("given ");
-            o = put_number(o, cpu);
-            *o++ = '\n';
+            PUT_WITH("given ", cpu);
             break;
         case E_TICK:
             NUMBER(cpu, 65535);
@@ -1137,16 +1120,12 @@ static const char *run(const char *p, const char *end, char **behind, enum fault
             REFUSE_IF(entries >= history, HISTORY_FULL);
             if (unlikely(!post(TICK, 16, 0, 0, (uint8_t)cpu)))
                 goto tear;
-            PUT("tick ");
-            o = put_number(o, cpu);
-            *o++ = '\n';
+            PUT_WITH("tick ", cpu);
             break;
         case E_DRAIN:
             NUMBER(n, UINT32_MAX);
             END_LINE();
-            PUT("drained ");
-            o = put_number(o, drain(n));
-            *o++ = '\n';
+            PUT_WITH("drained ", drain(n));
             break;
         case E_STAMP: {
             NUMBER(cpu, 65535);
@@ -1162,9 +1141,7 @@ static const char *run(const char *p, const char *end, char **behind, enum fault
             REFUSE_IF(mask_bit(stamped, cpu), SLOT_OPEN);
             REFUSE_IF(stamped_count >= history, HISTORY_FULL);
             stamp(cpu, tid, preempt);
-            PUT("stamped ");
-            o = put_number(o, stamped_count);
-            *o++ = '\n';
+            PUT_WITH("stamped ", stamped_count);
             break;
         }
         case E_DECIDE: {
@@ -1172,9 +1149,7 @@ static const char *run(const char *p, const char *end, char **behind, enum fault
             END_LINE();
             unsigned count = plan(choices);
             REFUSE_IF(count && stamped_count + count > history, HISTORY_FULL);
-            PUT("decided ");
-            o = put_number(o, count);
-            *o++ = '\n';
+            PUT_WITH("decided ", count);
             for (unsigned i = 0; i < count; i++) {
                 const struct choice *c = &choices[i];
                 stamp(c->cpu, c->tid, c->preempt);
