@@ -13,11 +13,7 @@ fn own_places(alloc: Global) -> Result<Vec<u32>, AllocError>
     ensures length { IfOk result (λ v. length v.items ≡ 65537) }
     ensures own { IfOk result (λ v. (t : ℕ) → t < 65537 → slice_index v.items t ≡ t) }
 {
-    let mut places = Vec::with_capacity(alloc, PLACES as usize)?;
-    for place in 0..PLACES {
-        places.push(place)?;
-    }
-    Ok(places)
+    (0..PLACES).collect(alloc)
 }
 
 /// Threads in line: those of one class that wait.
