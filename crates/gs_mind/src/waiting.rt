@@ -52,16 +52,15 @@ fn is_begun_by(view: &AgentView, message: &MessageRef<'_>) -> bool
     matches!(message.kind(), Kind::Created) && view.get(message.tid()).is_none()
 }
 
-/// The class of a thread that waits, `None` where it does not.
+/// The class of a thread that waits, `None` where it does not. The CPUs are asked first, of which there are few.
 fn waiting_class(view: &AgentView, cpus: &CpuBeliefs, tid: u32) -> Option<Class>
     ensures { result ≡ (if waits (look_up view.now) cpus.now tid then option_map (λ (k : Known). k.facts.class) (look_up view.now tid) else None) }
 {
-    let (facts, _) = view.get(tid)?;
-    if facts.runnable && !cpus.runs(tid) && !cpus.names(tid) {
-        Some(facts.class)
-    } else {
-        None
+    if cpus.runs(tid) || cpus.names(tid) {
+        return None;
     }
+    let (facts, _) = view.get(tid)?;
+    facts.runnable.then_some(facts.class)
 }
 
 /// Puts a thread that begins to wait last of its class, and takes one that does not wait out. One that
