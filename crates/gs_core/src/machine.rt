@@ -11,7 +11,7 @@ ghost use Rattle.gs_core.specs.Safe.{Safe, IsFaithful, Run};
 use crate::config::{Config, ConfigFault};
 use crate::event::Event;
 use crate::items::Items;
-use crate::known::known_threads;
+use crate::known::{known_of, known_threads};
 use crate::reply::Reply;
 use crate::stamping::{stamp_all, stamp_choice};
 use crate::transaction::Transaction;
@@ -290,9 +290,9 @@ impl Machine {
         if cpu >= self.region.cpus() {
             return Err(Refusal::BadCpu);
         }
-        if self.role.view().get(tid).is_none() {
+        let Some(known) = known_of(self.role.view(), tid) else {
             return Err(Refusal::NoThread);
-        }
+        };
         let Ok(SlotState::Idle) = self.region.state(cpu) else {
             return Err(Refusal::SlotOpen);
         };
@@ -308,6 +308,7 @@ impl Machine {
             &mut self.region,
             &mut self.transactions,
             Choice { cpu, tid, preempt },
+            known,
         );
         Ok(number + 1)
     }

@@ -1,5 +1,7 @@
 use Rattle.std.proofs.Common.{◌≡◌, ◌≤◌, ◌+◌, ℕ, suc, false, List, [], ◌∷◌, ◌++◌, subst, sym, ap, ◌∙◌, take, drop, length, slice_index_or, drop-cons, vec_len, vec_capacity, arith}
+use Rattle.std.specs.Option.{is_some}
 use Rattle.std.proofs.lemmas.List.{take_more}
+use Rattle.gs_layout.specs.declared.known.Known.{Known}
 use Rattle.gs_layout.specs.View.{look_up}
 use Rattle.gs_agent.specs.Role.{RoleOf}
 use Rattle.gs_policy.specs.declared.any.AnyPolicy.{AnyPolicy}
@@ -14,9 +16,13 @@ use Rattle.gs_core.proofs.stamping.stamp_all.Goals as goal
 abbrev at : List Choice → ℕ → Choice
 at xs i = slice_index_or xs i (record { cpu = 0; tid = 0; preempt = false })
 
-pub stamp_choice-requires-clause-stampable : goal.stamp_choice-requires-clause-stampable
-stamp_choice-requires-clause-stampable c = (subst (AreStampable c.loop-choice.role.mind.records c.loop-choice.region)
-    (drop-cons c.args.choices.now c.loop-choice.choice-index (record { cpu = 0; tid = 0; preempt = false }) c.loop-choice-test.true) c.loop-choice.invariant.stampable).0
+pub unwrap-known-requires : goal.unwrap-known-requires
+unwrap-known-requires c =
+    let i = c.loop-choice.choice-index in
+    let xs : List Choice = c.args.choices.now in
+    let none : Choice = record { cpu = 0; tid = 0; preempt = false } in
+    let first = (subst (AreStampable c.loop-choice.role.mind.records c.loop-choice.region) (drop-cons xs i none c.loop-choice-test.true) c.loop-choice.invariant.stampable).0 in
+    ap is_some (c.known_of.ensures ∙ ap (λ (r : List (ℕ × Known)). look_up r (at xs i).tid) c.view.ensures) ∙ first.known
 
 pub loop-choice-preserved : goal.loop-choice-preserved
 loop-choice-preserved c =
