@@ -12,7 +12,6 @@ mod events;
 #[cfg(test)]
 mod fixed_places;
 #[cfg(test)]
-mod hostile;
 #[cfg(test)]
 mod landings;
 #[cfg(test)]
