@@ -1,4 +1,4 @@
-ghost use Rattle.std.specs.Prelude.{◌≡◌, ◌↔◌, ◌⊎◌, ◌+◌, ◌^◌, ◌<◌, ◌≤◌, ◌==◌, [], ◌∷◌, ◌++◌, length, take, OnOk, IfErr, IsErrOf, IsOk};
+ghost use Rattle.std.specs.Prelude.{◌≡◌, ◌↔◌, ◌⊎◌, ◌+◌, ◌^◌, ◌<◌, ◌≤◌, ◌==◌, [], ◌∷◌, ◌++◌, length, take, OnOk, OnErr, IfErr, IsErrOf, IsOk};
 ghost use Rattle.gs_journal.specs.History.{active, at, on, record_in, seq, taken, torn};
 
 use crate::entry::Entry;
@@ -41,6 +41,7 @@ impl Journal {
         ensures entries { result.entries ≡ [] }
         ensures limit { result.limit ≡ limit }
         ensures first_tseq { result.first_tseq ≡ first_tseq }
+        ensures room { result.room ≡ 0 }
     {
         Journal {
             entries: Vec::new(alloc),
@@ -54,7 +55,7 @@ impl Journal {
     /// # Errors
     ///
     /// `HistoryFull` where the limit leaves fewer, and else `OutOfMemory` where memory runs out.
-    /// No entry changes, and room that was made before stays.
+    /// All is then as before.
     pub fn reserve(&mut self, additional: usize) -> Result<(), Refusal>
         ensures room { OnOk result (additional ≤ self.new.room) }
         ensures full { IsErrOf result Refusal.HistoryFull ↔ (self.old.limit < length self.old.entries + additional) }
@@ -62,6 +63,7 @@ impl Journal {
         ensures same { self.new ≡ record self.old { room = self.new.room } }
         ensures kept { self.old.room ≤ self.new.room }
         ensures enough { additional ≤ self.old.room → IsOk result }
+        ensures refused { OnErr result (self.new ≡ self.old) }
     {
         let left = self.limit as usize - self.len();
         if left < additional {
