@@ -1,4 +1,4 @@
-ghost use Rattle.std.specs.Prelude.{◌≡◌, ◌⊎◌, ◌==◌, ◌+◌, ◌^◌, ◌<◌, ◌≤◌, [], ◌∷◌, ◌++◌, length, MatchBool, OnOk, IsOk};
+ghost use Rattle.std.specs.Prelude.{◌≡◌, ◌⊎◌, ◌==◌, ◌+◌, ◌^◌, ◌<◌, ◌≤◌, [], ◌∷◌, ◌++◌, length, MatchBool, OnOk, OnErr, IsOk};
 ghost use Rattle.std.specs.Option.{option_copied};
 ghost use Rattle.gs_threads.specs.Rows.{new_row};
 ghost use Rattle.gs_threads.specs.Table.{row_of, rows_after, rows_placed};
@@ -42,6 +42,7 @@ impl ThreadTable {
         requires { first_tseq < u32.MAX }
         ensures rows { result.rows ≡ [] }
         ensures first_tseq { result.first_tseq ≡ first_tseq }
+        ensures room { result.room ≡ 0 }
     {
         ThreadTable {
             rows: Vec::new(alloc),
@@ -68,13 +69,14 @@ impl ThreadTable {
     ///
     /// # Errors
     ///
-    /// `AllocError` where memory runs out. No row changes, and room that was made before stays.
+    /// `AllocError` where memory runs out. All is then as before.
     pub fn reserve(&mut self) -> Result<(), AllocError>
         requires { length self.old.rows < u32.MAX }
         ensures room { OnOk result (0 < self.new.room) }
         ensures same { self.new ≡ record self.old { room = self.new.room } }
         ensures kept { self.old.room ≤ self.new.room }
         ensures enough { 0 < self.old.room → IsOk result }
+        ensures refused { OnErr result (self.new ≡ self.old) }
     {
         self.rows.reserve(1)
     }
