@@ -15,8 +15,9 @@ use Rattle.gs_slots.specs.declared.state.SlotState.TheVariants.{Idle, Stamped, D
 use Rattle.gs_status.specs.Masks.{has}
 use Rattle.gs_journal.specs.declared.entry.Entry.{Entry}
 use Rattle.gs_journal.specs.declared.entry.Entry.TheVariants.{Posted, Placed}
-use Rattle.gs_journal.specs.History.{History, at, at_below, is_thread, on, posted_by, record_in, seq, torn}
-use Rattle.gs_journal.proofs.Laws.{at_is, same_posted}
+use Rattle.gs_journal.specs.History.{History, at, on, posted_by, record_in, seq, torn}
+use Rattle.gs_journal.proofs.Laws.{same_posted}
+use Rattle.gs_journal.proofs.Least.{at_least}
 use Rattle.gs_threads.specs.Mirrors.{is_quiet}
 use Rattle.gs_threads.specs.Rows.{is_live}
 use Rattle.gs_threads.proofs.Entries.{eqb_same, on_off, same_eqb}
@@ -43,24 +44,8 @@ use Rattle.gs_core.proofs.Believing.{backs_posted, backs_same}
 use Rattle.gs_core.proofs.Seeing.{seen_landed, seen_now}
 
 -- where a thread is found, it is
-at_below_is : (n : ℕ) (h : History) (t c : ℕ) → at_below n h t ≡ Some c → on h c ≡ Some t
-at_below_is zero h t c e = absurd cc
-at_below_is (suc n) h t c e = by_rest (at_below_is n h t c) (at_below n h t) refl e
-  where
-    thread_is : (o : Option ℕ) → is_thread t o ≡ true → o ≡ Some t
-    thread_is None q = absurd cc
-    thread_is (Some u) q = ap Some (eqb_same u t q)
-
-    here : (b : Bool) → is_thread t (on h n) ≡ b → cond b (Some n) None ≡ Some c → on h c ≡ Some t
-    here true q e = let same : n ≡ c = cc in ap (on h) (sym same) ∙ thread_is (on h n) q
-    here false q e = absurd cc
-
-    by_rest : (at_below n h t ≡ Some c → on h c ≡ Some t) → (o : Option ℕ) → at_below n h t ≡ o → elim o as (λ _. Option ℕ) [ Some d ↦ Some d | None ↦ cond (is_thread t (on h n)) (Some n) None ] ≡ Some c → on h c ≡ Some t
-    by_rest rec (Some d) q e = rec (q ∙ e)
-    by_rest rec None q e = here (is_thread t (on h n)) refl e
-
 at_is_on : (n : ℕ) (h : History) (t c : ℕ) → at n h t ≡ Some c → on h c ≡ Some t
-at_is_on n h t c e = at_below_is n h t c (sym (at_is n h t) ∙ e)
+at_is_on n h t c e = (at_least n h t c e).1
 
 -- whatever is believed stays backed from one history to another, while the enclave stands
 abbrev pub Keeps : History → History → ℕ → Look → Option ℕ → Type 0

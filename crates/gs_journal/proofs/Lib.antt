@@ -1,4 +1,5 @@
 pub mod Laws
 pub mod Past
 pub mod Folds
+pub mod Least
 pub mod Rows

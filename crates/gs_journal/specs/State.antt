@@ -21,7 +21,7 @@ abbrev pub Numbered : ℕ → ℕ → List Message → Type 0
 Numbered first n [] = Unit {0}
 Numbered first n (m ∷ ms) = (tseq_of m ≡ first + suc n) × (is_creation m ≡ true → n ≡ 0) × Numbered first (suc n) ms
 
--- the messages of each thread are numbered from the first one on, and a creation is the first
+-- the messages of each thread are numbered from the first one on, and none but the first is a creation
 abbrev pub IsNumbered : ℕ → History → Type 0
 IsNumbered first h = (t : ℕ) → Numbered first 0 (messages h t)
 

@@ -12,4 +12,4 @@ mod tests;
 
 pub use entry::Entry;
 pub use journal::Journal;
-pub use law::record_is_fold;
+pub use law::{at_is_least, record_is_fold};
