@@ -1,4 +1,4 @@
-ghost use Rattle.std.specs.Prelude.{◌≡◌, ℕ, List, false, Some, [], ◌∷◌, map, codes, IfOk, IfErr, MatchResult, option_and_then};
+ghost use Rattle.std.specs.Prelude.{◌≡◌, ◌≢◌, ℕ, List, false, Some, [], ◌∷◌, map, codes, IfOk, IfErr, MatchResult, option_and_then};
 ghost use Rattle.clap.specs.Words.{app_of, found_of, kind_of, one_of, rows_of, rule_of, subcommand_rows_of};
 ghost use Rattle.clap.specs.Kinds.{HasKind};
 ghost use Rattle.clap.specs.Faults.{fault_of};
@@ -79,14 +79,16 @@ fn command_of(matches: &clap::ArgMatches<'_>) -> Option<Command>
 /// Reads the arguments. The first word is the name that the program was called by.
 ///
 /// An error is clap's own: its text says what is wrong, or is the help or the version that was asked
-/// for. Its kind says which: it is that of the words' fault, or that no command is given, or that memory
-/// ran out. The help and the version are answered only where the words ask for them, and words without a
-/// fault that give a command are refused only for want of memory.
+/// for. Its kind says which: it is that of the words' fault, or that memory ran out; or, where the words
+/// have no fault, that no command is given. So the help and the version are answered where the words ask
+/// for them, memory aside, and only there, and words without a fault that give a command are refused only
+/// for want of memory.
 pub fn settings<'a, S: AsStr>(alloc: Global, words: &'a [S]) -> Result<Command, clap::Error>
     ensures given { IfOk result (λ command. command_in (map S.text words.entry.now) ≡ Some command) }
     ensures in_range { IfOk result IsInRange }
     ensures faultless { IfOk result (λ _. fault_of ghost_program (map S.text words.entry.now) ≡ []) }
     ensures failed { IfErr result (HasKind (ErrorKind.MissingSubcommand ∷ fault_of ghost_program (map S.text words.entry.now))) }
+    ensures told { fault_of ghost_program (map S.text words.entry.now) ≢ [] → IfErr result (HasKind (fault_of ghost_program (map S.text words.entry.now))) }
     ensures answered { fault_of ghost_program (map S.text words.entry.now) ≡ [] → (command : Command) → command_in (map S.text words.entry.now) ≡ Some command → MatchResult result (λ given. given ≡ command) (λ e. kind_of e ≡ ErrorKind.OutOfMemory) }
     ensures run { (name : List ℕ) → map S.text words.entry.now ≡ name ∷ codes "run" ∷ [] → IfErr result (λ e. kind_of e ≡ ErrorKind.OutOfMemory) }
     ensures report { (name : List ℕ) → map S.text words.entry.now ≡ name ∷ codes "report" ∷ [] → MatchResult result (λ command. command ≡ Report 10) (λ e. kind_of e ≡ ErrorKind.OutOfMemory) }

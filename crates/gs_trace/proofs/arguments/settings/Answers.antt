@@ -89,3 +89,15 @@ returns-clause-answered g c none command is =
     let met = (c.in_ok-matches.ensures.ok.2 (ap is_simple c.in_ok-command_line.ensures ∙ ghost_is_simple)).1 ∙ ap (λ app. subcommand_of app words) c.in_ok-command_line.ensures in
     let given : None ≡ Some command = c.in-None.ensures ∙ ap (option_and_then command_given) met ∙ is in
     absurd (cc)
+
+pub returns-in_err-matches-clause-told : goal.returns-in_err-matches-clause-told
+returns-in_err-matches-clause-told g c faulty =
+    let words = map g.S.AsStr.text c.args.words.now in
+    let e = c.in_err-matches.field-0.0 in
+    let had : HasKind (fault_of ghost_program words) e = subst (λ (app : App). HasKind (fault_of app words) e) c.in_ok-command_line.ensures (c.in_err-matches.ensures.kinds (ap is_simple_and_free c.in_ok-command_line.ensures ∙ ghost_is_free)) in
+    search (rules, had)
+
+pub returns-clause-told : goal.returns-clause-told
+returns-clause-told g c faulty =
+    let none = sym (ap (λ app. fault_of app (map g.S.AsStr.text c.args.words.now)) c.in_ok-command_line.ensures) ∙ c.in_ok-matches.ensures.kinds (ap is_simple_and_free c.in_ok-command_line.ensures ∙ ghost_is_free) in
+    absurd (faulty none)
