@@ -1,4 +1,4 @@
-ghost use Rattle.std.specs.Prelude.{◌≡◌, ◌≢◌, ◌≤◌, ℕ, List, length, take, IfOk, IfErr, IfSome, IsErrOf, string_bytes};
+ghost use Rattle.std.specs.Prelude.{◌≡◌, ◌≢◌, ◌<◌, ◌≤◌, ℕ, List, length, take, IfOk, IfErr, IfSome, IsErrOf, string_bytes};
 ghost use Rattle.std.specs.List.{list_any};
 ghost use Rattle.std.specs.Io.KnownBytes.{Keeps, Appends, Consumes, IsAtEnd};
 ghost use Rattle.gs_trace.specs.Output.{IsOutput, IsReport, IsShown, fault_line, reason_text, shown_as, wants_memory};
@@ -32,7 +32,7 @@ pub enum TraceFault {
     /// Memory ran out, also where it did at an event. Nothing was written.
     #[error("out of memory")]
     OutOfMemory,
-    /// A write failed, or took no byte. A beginning of the output was written.
+    /// A write failed, or took no byte. A beginning of the output was written, short of the whole.
     #[error("the output could not be written")]
     WriteFailed,
 }
@@ -128,7 +128,7 @@ fn answer_to(alloc: Global, input: &[u8], form: Form) -> Result<Answer, AllocErr
 /// `ReadFailed` where a read fails, `OutOfMemory` where memory runs out, also where it does at an event:
 /// nothing was written. No clause tells these two apart, since a reader's contract does not say when it
 /// fails. `WriteFailed` where a write fails or takes no byte: a beginning of the output was
-/// written.
+/// written, short of the whole.
 pub fn run_script<R: Read, W: Write>(
     alloc: Global,
     reader: &mut R,
@@ -143,7 +143,7 @@ pub fn run_script<R: Read, W: Write>(
     ensures unwritten { IfErr result (λ e. e ≢ TraceFault.WriteFailed → Keeps (W.contents writer.old) (W.contents writer.new)) }
     ensures begun { IsErrOf result TraceFault.WriteFailed → IfSome (R.remaining reader.old) (λ input.
         (ended : Ended) × (out : List ℕ) × (n : ℕ) × IsOutput input ended out
-        × Appends (W.contents writer.old) (W.contents writer.new) (take n out)) }
+        × Appends (W.contents writer.old) (W.contents writer.new) (take n out) × (n < length out)) }
 {
     run(alloc, reader, writer, Form::Lines)
 }
@@ -170,7 +170,7 @@ pub fn run_report<R: Read, W: Write>(
     ensures unwritten { IfErr result (λ e. e ≢ TraceFault.WriteFailed → Keeps (W.contents writer.old) (W.contents writer.new)) }
     ensures begun { IsErrOf result TraceFault.WriteFailed → IfSome (R.remaining reader.old) (λ input.
         (ended : Ended) × (out : List ℕ) × (n : ℕ) × IsReport last input ended out
-        × Appends (W.contents writer.old) (W.contents writer.new) (take n out)) }
+        × Appends (W.contents writer.old) (W.contents writer.new) (take n out) × (n < length out)) }
 {
     run(alloc, reader, writer, Form::Report { last })
 }
@@ -191,7 +191,7 @@ fn run<R: Read, W: Write>(
     ensures unwritten { IfErr result (λ e. e ≢ TraceFault.WriteFailed → Keeps (W.contents writer.old) (W.contents writer.new)) }
     ensures begun { IsErrOf result TraceFault.WriteFailed → IfSome (R.remaining reader.old) (λ input.
         (ended : Ended) × (out : List ℕ) × (n : ℕ) × IsShown (shown_as form) input ended out
-        × Appends (W.contents writer.old) (W.contents writer.new) (take n out)) }
+        × Appends (W.contents writer.old) (W.contents writer.new) (take n out) × (n < length out)) }
 {
     let input = match read_all(alloc, reader) {
         Ok(input) => input,
