@@ -30,171 +30,250 @@ struct Enclave<P> {
 
 impl<P> Enclave<P> {
     /// An enclave without threads, whose agent plans by this policy.
-    fn new(alloc: Global, policy: P) -> Result<Enclave<P>, Fail>
+    fn new(alloc: Global, policy: P) -> Option<Enclave<P>>
     where
         P: Drop,
     {
-        let ring = ByteRing::new(alloc, 1024)?;
-        let kernel = Kernel::new(alloc, SETTINGS, ring)?;
-        let role = Role::new(alloc, policy, 4, 1, 0)?;
-        let region = Region::new(alloc, 4)?;
-        Ok(Enclave {
-            kernel,
-            role,
-            region,
+        let ring = ByteRing::new(alloc, 1024).ok()?;
+        Some(Enclave {
+            kernel: Kernel::new(alloc, SETTINGS, ring).ok()?,
+            role: Role::new(alloc, policy, 4, 1, 0).ok()?,
+            region: Region::new(alloc, 4).ok()?,
         })
     }
+}
 
-    /// Creates a runnable thread that may run on every CPU but the agent's.
-    fn create(&mut self, class: Class) -> Result<(), Fail> {
-        let facts = Facts {
-            runnable: true,
-            mask: 0b1110,
-            class,
-            name: Name::new(b"web").ok_or("a name")?,
+/// A runnable thread that may run on every CPU but the agent's.
+fn facts(class: Class) -> Option<Facts> {
+    Some(Facts {
+        runnable: true,
+        mask: 0b1110,
+        class,
+        name: Name::new(b"web")?,
+    })
+}
+
+/// Creates a thread of each class, in order. Answers whether all were created.
+fn create(kernel: &mut Kernel<ByteRing>, classes: &[Class]) -> bool {
+    for class in classes {
+        let Some(facts) = facts(*class) else {
+            return false;
         };
-        self.kernel.create(&facts)?;
-        Ok(())
-    }
-
-    /// Stamps each choice of a plan into the slot of its CPU.
-    fn stamp(&mut self, plan: &[Choice]) -> Result<(), Fail> {
-        for choice in plan {
-            if choice.cpu >= self.region.cpus() {
-                return Err(Fail::from("no such slot"));
-            }
-            let slot = self.region.slot(choice.cpu);
-            self.role.stamp(slot, choice.tid, choice.preempt)?;
-        }
-        Ok(())
-    }
-
-    /// The stamped slots of all CPUs land, and the agent learns what became of them.
-    fn land(&mut self, alloc: Global) -> Result<Vec<Landing>, Fail> {
-        if self.region.cpus() != self.kernel.settings().cpus {
-            return Err(Fail::from("not a slot for each CPU"));
-        }
-        let all = Mask::new(0b1111);
-        let landed = self.kernel.txns_commit(alloc, &mut self.region, all)?;
-        self.role.collect(&mut self.region);
-        Ok(landed)
-    }
-
-    fn slot(&self, cpu: u16) -> Option<SlotState> {
-        if cpu < self.region.cpus() {
-            self.region.state(cpu).ok()
-        } else {
-            None
+        if kernel.create(&facts).is_err() {
+            return false;
         }
     }
-
-    /// The thread that is believed to run on a CPU.
-    fn believed(&self, cpu: u16) -> Option<u32> {
-        Some(self.role.believed(cpu)?.tid)
-    }
+    true
 }
 
-impl<P: Policy> Enclave<P> {
-    /// A turn of the agent, where the other class holds the CPUs of `taken`: it takes in what the kernel has
-    /// told, decides, and stamps its choices. Answers these.
-    fn turn(&mut self, alloc: Global, taken: Mask) -> Result<Vec<Choice>, Fail> {
-        let drained = self.role.drain(&mut self.kernel.taker(), 9);
-        if drained.stop.is_some() {
-            return Err(Fail::from("memory"));
+/// Stamps each choice of a plan into the slot of its CPU. Answers whether all were stamped.
+fn stamp<P>(role: &mut Role<P>, region: &mut Region, plan: &[Choice]) -> bool {
+    for choice in plan {
+        if choice.cpu >= region.cpus() {
+            return false;
         }
-        let plan = self.role.decide(alloc, taken)?;
-        self.stamp(&plan)?;
-        Ok(plan)
+        let slot = region.slot(choice.cpu);
+        if role.stamp(slot, choice.tid, choice.preempt).is_err() {
+            return false;
+        }
     }
+    true
 }
 
-/// An enclave that plans from both ends, with threads 1, of class 0, and 2, of class 1.
-fn with_two(alloc: Global) -> Result<Enclave<BothEnds>, Fail> {
-    let mut enclave = Enclave::new(alloc, BothEnds)?;
-    enclave.create(Class::Zero)?;
-    enclave.create(Class::One)?;
-    Ok(enclave)
+/// A turn of the agent. Choices and landings are a CPU and a thread.
+#[derive(Clone, Copy)]
+struct Turn {
+    /// The threads that are created before it, by their classes. They are numbered from 1.
+    created: &'static [Class],
+    /// The CPUs that the other class holds.
+    taken: u64,
+    /// The choices, of which none preempts.
+    plan: &'static [(u16, u32)],
+    /// The threads that are stamped on the four CPUs behind it.
+    stamped: [Option<u32>; 4],
+    /// The first thread that waits behind it.
+    waits: Option<u32>,
+    /// The threads that are placed, where the slots land then.
+    placed: Option<&'static [(u16, u32)]>,
+    /// The thread that is believed to run on the last CPU then.
+    believed: Option<u32>,
 }
 
-/// What is in a slot into which a thread was stamped as it was created.
-fn stamped(tid: u32) -> Option<SlotState> {
-    let stamp = Stamp {
-        generation: 1,
-        tid,
-        tseq: 1,
-        preempt: false,
+/// Whether these are the choices.
+fn is_plan(plan: &[Choice], wanted: &[(u16, u32)]) -> bool {
+    for (choice, (cpu, tid)) in plan.iter().zip(wanted) {
+        let wanted = Choice {
+            cpu: *cpu,
+            tid: *tid,
+            preempt: false,
+        };
+        if *choice != wanted {
+            return false;
+        }
+    }
+    plan.len() == wanted.len()
+}
+
+/// The agent takes in what the kernel has told, decides, and stamps its choices. Answers whether that is the plan.
+fn plans<P: Policy>(alloc: Global, enclave: &mut Enclave<P>, turn: &Turn) -> bool {
+    let drained = enclave.role.drain(&mut enclave.kernel.taker(), 9);
+    if drained.stop.is_some() {
+        return false;
+    }
+    let Ok(plan) = enclave.role.decide(alloc, Mask::new(turn.taken)) else {
+        return false;
     };
-    Some(SlotState::Stamped { stamp })
+    is_plan(&plan, turn.plan) && stamp(&mut enclave.role, &mut enclave.region, &plan)
 }
 
-/// A choice that preempts nobody.
-fn choice(cpu: u16, tid: u32) -> Choice {
-    Choice {
-        cpu,
-        tid,
-        preempt: false,
+/// Whether what is in the slots are stamps of these threads, as they were created.
+fn holds(region: &Region, stamped: &[Option<u32>]) -> bool {
+    for (cpu, tid) in (0..4).zip(stamped) {
+        let wanted = match *tid {
+            Some(tid) => SlotState::Stamped {
+                stamp: Stamp {
+                    generation: 1,
+                    tid,
+                    tseq: 1,
+                    preempt: false,
+                },
+            },
+            None => SlotState::Idle,
+        };
+        if cpu >= region.cpus() || region.state(cpu) != Ok(wanted) {
+            return false;
+        }
     }
+    true
 }
 
-/// A thread was placed on the CPU of its slot, as it was created.
-fn placed(cpu: u16, tid: u32) -> Landing {
-    Landing {
-        cpu,
-        tid,
-        outcome: Outcome::Placed,
-        seen: 1,
-        at: Some(cpu),
+/// Whether these threads were placed on the CPUs of their slots, as they were created.
+fn are_placed(landings: &[Landing], wanted: &[(u16, u32)]) -> bool {
+    for (landing, (cpu, tid)) in landings.iter().zip(wanted) {
+        let wanted = Landing {
+            cpu: *cpu,
+            tid: *tid,
+            outcome: Outcome::Placed,
+            seen: 1,
+            at: Some(*cpu),
+        };
+        if *landing != wanted {
+            return false;
+        }
     }
+    landings.len() == wanted.len()
 }
 
-#[test]
-fn stamps_from_both_ends(rt: HostRuntime) -> Result<(), Fail> {
-    let mut enclave = with_two(rt.alloc())?;
-    let plan = enclave.turn(rt.alloc(), Mask::none())?;
-    assert_eq!(rt; plan.as_slice(), [choice(1, 1), choice(3, 2)].as_slice());
-    let idle = Some(SlotState::Idle);
-    let slots = [idle, stamped(1), idle, stamped(2)];
-    for cpu in 0..4 {
-        assert_eq!(rt; enclave.slot(cpu), slots[cpu as usize]);
+/// The stamped slots of all CPUs land, and the agent learns what became of them. Answers whether these were placed.
+fn lands<P>(alloc: Global, enclave: &mut Enclave<P>, wanted: &[(u16, u32)]) -> bool {
+    if enclave.region.cpus() != enclave.kernel.settings().cpus {
+        return false;
     }
-    Ok(())
+    let all = Mask::new(0b1111);
+    let Ok(landings) = enclave.kernel.txns_commit(alloc, &mut enclave.region, all) else {
+        return false;
+    };
+    enclave.role.collect(&mut enclave.region);
+    are_placed(&landings, wanted)
 }
 
-#[test]
-fn passes_a_taken_cpu_over(rt: HostRuntime) -> Result<(), Fail> {
-    let mut enclave = with_two(rt.alloc())?;
-    let plan = enclave.turn(rt.alloc(), Mask::new(0b1000))?;
-    assert_eq!(rt; plan.as_slice(), [choice(1, 1), choice(2, 2)].as_slice());
-    Ok(())
+/// Whether a turn goes as it has to.
+fn goes<P: Policy>(alloc: Global, enclave: &mut Enclave<P>, turn: &Turn) -> bool {
+    if !create(&mut enclave.kernel, turn.created) || !plans(alloc, enclave, turn) {
+        return false;
+    }
+    if !holds(&enclave.region, &turn.stamped) || enclave.role.waiting().next() != turn.waits {
+        return false;
+    }
+    if let Some(placed) = turn.placed {
+        if !lands(alloc, enclave, placed) {
+            return false;
+        }
+    }
+    enclave.role.believed(3).map(|running| running.tid) == turn.believed
 }
 
-/// Who was stamped is not planned again, and of those who come only the first finds a CPU that was not.
-#[test]
-fn passes_stamped_cpus_over(rt: HostRuntime) -> Result<(), Fail> {
-    let mut enclave = with_two(rt.alloc())?;
-    enclave.turn(rt.alloc(), Mask::none())?;
-    let plan = enclave.turn(rt.alloc(), Mask::none())?;
-    assert!(rt; plan.is_empty());
-    enclave.create(Class::One)?;
-    enclave.create(Class::Zero)?;
-    let plan = enclave.turn(rt.alloc(), Mask::none())?;
-    assert_eq!(rt; plan.as_slice(), [choice(2, 4)].as_slice());
-    Ok(())
+/// The first turn of an enclave that plans from both ends that goes otherwise.
+fn first_wrong(alloc: Global, turns: &[Turn]) -> Option<usize> {
+    let Some(mut enclave) = Enclave::new(alloc, BothEnds) else {
+        return Some(0);
+    };
+    for (i, turn) in turns.iter().enumerate() {
+        if !goes(alloc, &mut enclave, turn) {
+            return Some(i);
+        }
+    }
+    None
 }
+
+/// Class 0 from the low end, class 1 from the high one. Who was stamped is not planned again, and of those who come
+/// only the first finds a CPU that was not.
+const FROM_BOTH_ENDS: [Turn; 3] = [
+    Turn {
+        created: &[Class::Zero, Class::One],
+        taken: 0,
+        plan: &[(1, 1), (3, 2)],
+        stamped: [None, Some(1), None, Some(2)],
+        waits: None,
+        placed: None,
+        believed: None,
+    },
+    Turn {
+        created: &[],
+        taken: 0,
+        plan: &[],
+        stamped: [None, Some(1), None, Some(2)],
+        waits: None,
+        placed: None,
+        believed: None,
+    },
+    Turn {
+        created: &[Class::One, Class::Zero],
+        taken: 0,
+        plan: &[(2, 4)],
+        stamped: [None, Some(1), Some(4), Some(2)],
+        waits: Some(3),
+        placed: None,
+        believed: None,
+    },
+];
+
+/// A CPU that the other class holds is passed over.
+const LAST_CPU_TAKEN: [Turn; 1] = [Turn {
+    created: &[Class::Zero, Class::One],
+    taken: 0b1000,
+    plan: &[(1, 1), (2, 2)],
+    stamped: [None, Some(1), Some(2), None],
+    waits: None,
+    placed: None,
+    believed: None,
+}];
 
 /// A thread of class 0 waits while threads of class 1 run.
+const NOBODY_PREEMPTED: [Turn; 2] = [
+    Turn {
+        created: &[Class::Zero, Class::One, Class::One],
+        taken: 0,
+        plan: &[(1, 1), (3, 2), (2, 3)],
+        stamped: [None, Some(1), Some(3), Some(2)],
+        waits: None,
+        placed: Some(&[(1, 1), (2, 3), (3, 2)]),
+        believed: Some(2),
+    },
+    Turn {
+        created: &[Class::Zero],
+        taken: 0,
+        plan: &[],
+        stamped: [None; 4],
+        waits: Some(4),
+        placed: None,
+        believed: Some(2),
+    },
+];
+
 #[test]
-fn preempts_nobody(rt: HostRuntime) -> Result<(), Fail> {
-    let mut enclave = with_two(rt.alloc())?;
-    enclave.create(Class::One)?;
-    enclave.turn(rt.alloc(), Mask::none())?;
-    let landed = enclave.land(rt.alloc())?;
-    let expected = [placed(1, 1), placed(2, 3), placed(3, 2)];
-    assert_eq!(rt; landed.as_slice(), expected.as_slice());
-    assert_eq!(rt; enclave.believed(3), Some(2));
-    enclave.create(Class::Zero)?;
-    let plan = enclave.turn(rt.alloc(), Mask::none())?;
-    assert!(rt; plan.is_empty());
-    assert_eq!(rt; enclave.role.waiting().next(), Some(4));
-    Ok(())
+fn plans_from_both_ends(rt: HostRuntime) {
+    assert_eq!(rt; first_wrong(rt.alloc(), &FROM_BOTH_ENDS), None);
+    assert_eq!(rt; first_wrong(rt.alloc(), &LAST_CPU_TAKEN), None);
+    assert_eq!(rt; first_wrong(rt.alloc(), &NOBODY_PREEMPTED), None);
 }

@@ -1,21 +1,20 @@
-//! Tests that cross crates: scripts in at one end, reply lines out at the other; and a policy of one's own,
-//! as a user of the libraries writes it.
+//! Tests of the public calls that cross crates, and a policy of one's own, as a user of the libraries writes it.
+//! What a script can show is a case of the folder cases/.
 #![tactic(auto)]
 
 mod both_ends;
 #[cfg(test)]
-mod decisions;
-#[cfg(test)]
 mod driving;
-#[cfg(test)]
-mod events;
 #[cfg(test)]
 mod fixed_places;
 #[cfg(test)]
+mod looking;
 #[cfg(test)]
-mod landings;
+mod reading;
 #[cfg(test)]
-mod scripts;
+mod showing;
+#[cfg(test)]
+mod streams;
 #[cfg(test)]
 mod two_rings;
 

@@ -1,7 +1,7 @@
 //! The same calls over two rings: one of bytes, and one of fixed places.
 
 ghost use Rattle.std.specs.Prelude.{◌≡◌, ◌≤◌, List, map, None, IfOk};
-ghost use Rattle.acceptance.specs.FixedPlaces.{IsFull};
+ghost use Rattle.acceptance.specs.FixedPlaces.{IsFull, unused};
 ghost use Rattle.gs_journal.specs.History.{posted};
 ghost use Rattle.gs_layout.specs.Spelling.{IsSpellable, tid_of};
 ghost use Rattle.gs_layout.specs.declared.message.Message.{Message};
@@ -44,7 +44,7 @@ fn woken(tid: u32) -> Message
 }
 
 /// What a kernel answered to creations and then to a tick.
-#[derive(Clone, Copy, PartialEq, Eq, Debug)]
+#[derive(Clone, Copy)]
 struct Answers {
     created: [Result<Option<(u32, u32)>, Refusal>; 4],
     ticked: Result<bool, Refusal>,
@@ -89,23 +89,50 @@ fn fill<P: Poster>(kernel: &mut Kernel<P>, facts: &Facts) -> Answers
     }
 }
 
+/// Whether the messages that come next are about these threads, and no other waits. They are taken.
+fn takes<T: Taker>(alloc: Global, taker: &mut T, wanted: &[u32]) -> Result<bool, AllocError>
+    ensures { IfOk result (λ _. (ms : List Message) × T.passed taker.old ms taker.new) }
+{
+    let tids = take_tids(alloc, taker, 9)?;
+    Ok(tids.as_slice() == wanted)
+}
+
+/// Whether two places are used by one message each, also where the first was taken before the second comes.
+fn uses_each_once(alloc: Global, ring: &mut FixedPlaces) -> Result<bool, AllocError>
+    requires { ring.old ≡ unused 2 }
+{
+    let is_first = ring.post(&woken(1)).is_ok() && takes(alloc, ring, &[1])?;
+    let is_second = ring.post(&woken(2)).is_ok();
+    let is_third = ring.post(&woken(3)).is_ok();
+    let is_taken = takes(alloc, ring, &[2])?;
+    Ok(is_first && is_second && !is_third && is_taken && ring.is_full())
+}
+
 /// A place that was used is not used again.
 #[test]
 fn uses_a_place_once(rt: HostRuntime) -> Result<(), Fail> {
     let mut ring = FixedPlaces::new(rt.alloc(), 2)?;
-    assert!(rt; ring.post(&woken(1)).is_ok());
-    assert_eq!(rt;
-        take_tids(rt.alloc(), &mut ring, 9)?.as_slice(),
-        [1].as_slice()
-    );
-    assert!(rt; ring.post(&woken(2)).is_ok());
-    assert!(rt; ring.post(&woken(3)).is_err());
-    assert_eq!(rt;
-        take_tids(rt.alloc(), &mut ring, 9)?.as_slice(),
-        [2].as_slice()
-    );
-    assert!(rt; ring.is_full());
+    assert!(rt; uses_each_once(rt.alloc(), &mut ring)?);
     Ok(())
+}
+
+/// What creations are answered over two places, whether both are used then, and whether the enclave is torn down.
+const CREATIONS: [(Result<Option<(u32, u32)>, Refusal>, bool, bool); 4] = [
+    (Ok(Some((1, 1))), false, false),
+    (Ok(Some((2, 1))), true, false),
+    (Ok(None), true, true),
+    (Err(Refusal::Gone), true, true),
+];
+
+/// The first creation that is answered otherwise, or leaves another state.
+fn first_wrong(kernel: &mut Kernel<FixedPlaces>, facts: &Facts) -> Option<usize> {
+    for (i, (created, is_full, is_torn)) in CREATIONS.iter().enumerate() {
+        let is_so = create(kernel, facts) == *created;
+        if !is_so || kernel.poster().is_full() != *is_full || kernel.is_torn() != *is_torn {
+            return Some(i);
+        }
+    }
+    None
 }
 
 /// The third creation finds no place, and from then on the enclave is gone.
@@ -114,16 +141,24 @@ fn tears_down_at_the_last_place(rt: HostRuntime) -> Result<(), Fail> {
     let facts = web().ok_or("a name")?;
     let ring = FixedPlaces::new(rt.alloc(), 2)?;
     let mut kernel = Kernel::new(rt.alloc(), SETTINGS, ring)?;
-    assert_eq!(rt; create(&mut kernel, &facts), Ok(Some((1, 1))));
-    assert!(rt; !kernel.poster().is_full());
-    assert_eq!(rt; create(&mut kernel, &facts), Ok(Some((2, 1))));
-    assert!(rt; kernel.poster().is_full());
-    assert!(rt; !kernel.is_torn());
-    assert_eq!(rt; create(&mut kernel, &facts), Ok(None));
-    assert!(rt; kernel.is_torn());
-    assert_eq!(rt; create(&mut kernel, &facts), Err(Refusal::Gone));
-    assert_eq!(rt; kernel.tick(0), Err(Refusal::Gone));
+    let wrong = first_wrong(&mut kernel, &facts);
+    assert_eq!(rt; (wrong, kernel.tick(0)), (None, Err(Refusal::Gone)));
     Ok(())
+}
+
+/// Whether a kernel with room for two messages answers so, and these two are taken from its ring.
+fn answers_so<P: Ring>(
+    alloc: Global,
+    kernel: &mut Kernel<P>,
+    facts: &Facts,
+) -> Result<bool, AllocError> {
+    let Answers { created, ticked } = fill(kernel, facts);
+    for (answer, (wanted, _, _)) in created.iter().zip(&CREATIONS) {
+        if *answer != *wanted {
+            return Ok(false);
+        }
+    }
+    Ok(ticked == Err(Refusal::Gone) && takes(alloc, &mut kernel.taker(), &[1, 2])?)
 }
 
 /// Kernels over the two rings answer the same, and the same messages are taken from them.
@@ -131,23 +166,10 @@ fn tears_down_at_the_last_place(rt: HostRuntime) -> Result<(), Fail> {
 fn answers_alike_over_two_rings(rt: HostRuntime) -> Result<(), Fail> {
     let facts = web().ok_or("a name")?;
     let places = FixedPlaces::new(rt.alloc(), 2)?;
+    let mut kernel = Kernel::new(rt.alloc(), SETTINGS, places)?;
+    assert!(rt; answers_so(rt.alloc(), &mut kernel, &facts)?);
     let bytes = ByteRing::new(rt.alloc(), 128).ok().ok_or("a ring")?;
-    let mut over_places = Kernel::new(rt.alloc(), SETTINGS, places)?;
-    let mut over_bytes = Kernel::new(rt.alloc(), SETTINGS, bytes)?;
-    let wanted = Answers {
-        created: [
-            Ok(Some((1, 1))),
-            Ok(Some((2, 1))),
-            Ok(None),
-            Err(Refusal::Gone),
-        ],
-        ticked: Err(Refusal::Gone),
-    };
-    assert_eq!(rt; fill(&mut over_places, &facts), wanted);
-    assert_eq!(rt; fill(&mut over_bytes, &facts), wanted);
-    let from_places = take_tids(rt.alloc(), &mut over_places.taker(), 9)?;
-    let from_bytes = take_tids(rt.alloc(), &mut over_bytes.taker(), 9)?;
-    assert_eq!(rt; from_places.as_slice(), [1, 2].as_slice());
-    assert_eq!(rt; from_bytes.as_slice(), [1, 2].as_slice());
+    let mut kernel = Kernel::new(rt.alloc(), SETTINGS, bytes)?;
+    assert!(rt; answers_so(rt.alloc(), &mut kernel, &facts)?);
     Ok(())
 }

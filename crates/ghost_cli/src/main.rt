@@ -6,7 +6,8 @@ ghost use Rattle.clap.specs.Values.{kind_of};
 ghost use Rattle.ghost_cli.specs.Status.{IsArgumentsStatus, IsFailureStatus, ended_status, fault_status};
 
 use clap::error::ErrorKind;
-use gs_trace::{Command, Ended, TraceFault, run_report, run_script, settings};
+use gs_arguments::{Command, settings};
+use gs_trace::{Ended, TraceFault, run_report, run_script};
 use std::io;
 use std::process::ExitCode;
 use thiserror::Error;

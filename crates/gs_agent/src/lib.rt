@@ -6,8 +6,6 @@ mod collect;
 mod drain;
 mod drained;
 mod role;
-#[cfg(test)]
-mod tests;
 
 pub use drained::{Drained, Stop};
 pub use role::Role;

@@ -3,8 +3,6 @@
 
 mod cpu_beliefs;
 mod running;
-#[cfg(test)]
-mod tests;
 
 pub use cpu_beliefs::CpuBeliefs;
 pub use running::Running;

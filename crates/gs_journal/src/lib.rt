@@ -7,8 +7,6 @@ mod entry;
 mod journal;
 mod law;
 mod query;
-#[cfg(test)]
-mod tests;
 
 pub use entry::Entry;
 pub use journal::Journal;

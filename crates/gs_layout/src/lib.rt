@@ -16,8 +16,6 @@ mod outcome;
 mod parcel;
 mod record;
 mod refusal;
-#[cfg(test)]
-mod tests;
 
 pub use cpu::{NO_CPU, cpu_number, cpu_numbered};
 pub use encode::{creation_len, encode_message, message_len};

@@ -4,8 +4,6 @@
 mod choice_line;
 mod message_line;
 mod reply_line;
-#[cfg(test)]
-mod tests;
 mod thread_line;
 
 pub use reply_line::text_of;

@@ -6,8 +6,6 @@
 #![tactic(auto)]
 
 mod mind;
-#[cfg(test)]
-mod tests;
 mod waiting;
 
 pub use mind::Mind;

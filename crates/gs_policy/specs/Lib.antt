@@ -1,6 +1,5 @@
 pub mod Any
 pub mod Candidates
-pub mod FirstOnly
 pub mod Plan
 pub mod Safe
 pub mod Safety

@@ -9,8 +9,6 @@ mod counted;
 mod first_come;
 mod law;
 mod policy;
-#[cfg(test)]
-mod tests;
 mod two_class;
 mod walk;
 

@@ -8,8 +8,6 @@ mod law;
 mod message_ref;
 mod read;
 mod records;
-#[cfg(test)]
-mod tests;
 
 pub use fault::ReadFault;
 pub use item::Item;

@@ -59,7 +59,7 @@ fn is_placed(landing: &Landing) -> bool
 }
 
 /// How many of a reply's landings were answered `Placed`.
-pub(crate) fn placed_in(reply: &Reply) -> usize
+fn placed_in(reply: &Reply) -> usize
     ensures { result ≡ placed_in reply.now }
 {
     let landings = landings_of(reply).iter();
@@ -67,7 +67,7 @@ pub(crate) fn placed_in(reply: &Reply) -> usize
 }
 
 /// How many of a reply's landings were answered otherwise.
-pub(crate) fn unplaced_in(reply: &Reply) -> usize
+fn unplaced_in(reply: &Reply) -> usize
     ensures { result ≡ unplaced_in reply.now }
 {
     landings_of(reply).len() - placed_in(reply)

@@ -4,7 +4,5 @@
 mod counts;
 mod last_lines;
 mod report;
-#[cfg(test)]
-mod tests;
 
 pub use report::report_text;

@@ -43,7 +43,7 @@ fn report_value(
 }
 
 /// The line of a report.
-pub(crate) fn report_line(
+fn report_line(
     alloc: Global,
     counts: Counts,
     texts: &HeapCircularBuffer<&str>,

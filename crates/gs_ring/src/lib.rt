@@ -7,8 +7,6 @@ mod ends;
 mod fault;
 mod peeked;
 mod ring;
-#[cfg(test)]
-mod tests;
 mod waiting;
 
 pub use ends::{Poster, Ring, Taker};

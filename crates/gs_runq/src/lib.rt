@@ -3,8 +3,6 @@
 
 mod line;
 mod queue;
-#[cfg(test)]
-mod tests;
 mod walk;
 
 pub use queue::RunQueue;

@@ -5,8 +5,6 @@ mod event_line;
 mod fault;
 mod header;
 mod script;
-#[cfg(test)]
-mod tests;
 mod word;
 
 pub use fault::{Reason, ScriptFault};

@@ -2,7 +2,7 @@ ghost use Rattle.std.specs.Prelude.{◌≡◌, true, false};
 ghost use Rattle.gs_layout.specs.Spelling.{IsCpuOrNone};
 ghost use Rattle.gs_slots.specs.declared.state.SlotState.{SlotState};
 ghost use Rattle.gs_slots.specs.Reading.{state_in};
-ghost use Rattle.gs_slots.specs.Spelling.{IsSpellableStamp};
+ghost use Rattle.gs_slots.specs.Spelling.{IsSlot, IsSpellableStamp};
 ghost use Rattle.gs_slots.specs.State.{finished, is_malformed, is_stamped};
 
 use crate::bytes::{SIZE, state_at, write_done, write_stamped};
@@ -45,12 +45,12 @@ impl SlotCell {
         state_at(&self.bytes)
     }
 
-    /// Its bytes.
-    #[cfg(test)]
-    pub(crate) fn bytes(&self) -> [u8; 32]
-        ensures { self.now ≡ state_in result }
+    /// Its bytes: those of the slot of some CPU, with what is in it.
+    pub fn as_bytes(&self) -> &[u8; 32]
+        ensures value { self.now ≡ state_in result.now }
+        ensures slot { IsSlot result.now }
     {
-        self.bytes
+        &self.bytes
     }
 
     /// Makes it idle.

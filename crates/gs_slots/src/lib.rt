@@ -13,8 +13,6 @@ mod region;
 mod slot;
 mod slots;
 mod state;
-#[cfg(test)]
-mod tests;
 
 pub use cell::SlotCell;
 pub use region::Region;

@@ -3,8 +3,6 @@
 
 mod mask;
 mod status;
-#[cfg(test)]
-mod tests;
 
 pub use mask::Mask;
 pub use status::StatusWord;

@@ -7,8 +7,6 @@ mod law;
 mod live;
 mod row;
 mod table;
-#[cfg(test)]
-mod tests;
 
 pub use law::{row_is_fold, tables_mirror};
 pub use live::LiveRows;

@@ -1,5 +1,5 @@
--- What the definitions say of an output and of the arguments at their edge.
-use Rattle.std.proofs.Common.{◌≡◌, ℕ, List, [], ◌∷◌, ◌++◌, codes, refl, true, false, Option, Some, None}
+-- What the definitions say of an output at its edge.
+use Rattle.std.proofs.Common.{◌≡◌, ℕ, List, [], ◌∷◌, ◌++◌, codes, refl, true, false, Some}
 use Rattle.std.specs.Fmt.{digits}
 use Rattle.gs_layout.specs.declared.refusal.Refusal.TheVariants as refusals
 use Rattle.gs_policy.specs.declared.any.AnyPolicy.TheVariants as policies
@@ -10,18 +10,12 @@ use Rattle.gs_kernel.specs.Commit.{commit_refusal}
 use Rattle.gs_script.specs.declared.fault.Reason.TheVariants.{TooLong, NoHeader, BadName}
 use Rattle.gs_script.specs.Script.{fault}
 use Rattle.gs_lines.specs.Lines.{line, lines}
-use Rattle.clap.proofs.OnLiterals.{clap_on_literals}
-use Rattle.clap.specs.Faults.{fault_of}
-use Rattle.clap.specs.Kinds.{Kinds}
-use Rattle.clap.specs.declared.error.kind.ErrorKind.TheVariants as kinds
 use Rattle.gs_journal.specs.History.{active, torn}
 use Rattle.gs_journal.specs.Standing.{standing, last_of}
 use Rattle.gs_core.specs.Machine.{start}
 use Rattle.gs_core.proofs.Keeping.{kept_faithful, kept_safe, kept_start}
-use Rattle.gs_trace.specs.declared.arguments.Command.{Command}
 use Rattle.gs_trace.specs.declared.run.Ended.{Ended}
 use Rattle.gs_trace.specs.declared.run.Ended.TheVariants.{Ran, Faulted}
-use Rattle.gs_trace.specs.Arguments.{ghost_program, command_in}
 use Rattle.gs_trace.proofs.One.{one_output}
 use Rattle.gs_trace.specs.Output.{IsOutput, fault_line, wants_memory}
 
@@ -77,46 +71,3 @@ refused_runs = (
     shown = refl;
   },
 )
-
--- the arguments
-abbrev given : List (List ℕ) → Option Command
-given words = command_in (codes "ghost" ∷ words)
-
-abbrev wrong : List (List ℕ) → Kinds
-wrong words = fault_of ghost_program (codes "ghost" ∷ words)
-
-no_words : command_in [] ≡ None
-unfolding clap_on_literals
-no_words = refl
-
-no_command : wrong [] ≡ kinds.MissingSubcommand ∷ []
-unfolding clap_on_literals
-no_command = refl
-
-no_command_given : given [] ≡ None
-unfolding clap_on_literals
-no_command_given = refl
-
-other_command : wrong (codes "walk" ∷ []) ≡ kinds.UnknownArgument ∷ kinds.InvalidSubcommand ∷ []
-unfolding clap_on_literals
-other_command = refl
-
-beginning_of_command : given (codes "ru" ∷ []) ≡ None
-unfolding clap_on_literals
-beginning_of_command = refl
-
-too_many : wrong (codes "run" ∷ codes "fast" ∷ []) ≡ kinds.UnknownArgument ∷ []
-unfolding clap_on_literals
-too_many = refl
-
-asks_for_help : wrong (codes "--help" ∷ []) ≡ kinds.DisplayHelp ∷ []
-unfolding clap_on_literals
-asks_for_help = refl
-
-asks_for_version : wrong (codes "-V" ∷ []) ≡ kinds.DisplayVersion ∷ []
-unfolding clap_on_literals
-asks_for_version = refl
-
-run_then_dashes : wrong (codes "run" ∷ codes "--" ∷ []) ≡ []
-unfolding clap_on_literals
-run_then_dashes = refl

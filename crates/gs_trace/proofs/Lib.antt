@@ -1,5 +1,4 @@
 pub mod Known
-pub mod Given
 pub mod Lists
 mod One
 pub mod WorkedRuns

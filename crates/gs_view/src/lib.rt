@@ -3,8 +3,6 @@
 
 mod fault;
 mod taken;
-#[cfg(test)]
-mod tests;
 mod view;
 mod walk;
 

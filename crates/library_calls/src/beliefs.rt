@@ -1,0 +1,284 @@
+//! What is believed of three CPUs, of which the agent has the first, after each change.
+
+ghost use Rattle.gs_layout.specs.Spelling.{IsSpellable};
+
+use crate::messages::Told::{self, Thread, Tick};
+use crate::messages::Tried;
+use gs_beliefs::CpuBeliefs;
+use gs_layout::{Change, Message, Outcome, Parcel};
+use gs_reader::MessageRef;
+use gs_status::Mask;
+use std::alloc::Global;
+use std::test::Fail;
+
+/// What is done to the beliefs.
+#[derive(Clone, Copy)]
+enum Deed {
+    /// A thread is placed on a CPU, at a number: the CPU, the thread, the number.
+    Place(u16, u32, u32),
+    /// The timer of a CPU ticks so many times.
+    Ticks(u16, u32),
+    /// A thread has this number now.
+    Raise(u32, u32),
+    /// A thread runs nowhere.
+    Clear(u32),
+    /// A message is heard.
+    Hear(Told),
+    /// An outcome is learnt, with the CPU that the thread was then on, the thread, and its number.
+    Learn(Outcome, Option<u16>, u32, u32),
+    /// The other class holds the CPUs of this mask.
+    Take(u64),
+    /// A stamp on a CPU names a thread.
+    Stamp(u16, u32),
+    /// A CPU has no stamp.
+    Unstamp(u16),
+    /// The agent has this CPU.
+    Agent(Option<u16>),
+}
+
+use Deed::{Agent, Clear, Hear, Learn, Place, Raise, Stamp, Take, Ticks, Unstamp};
+
+/// A thread that is believed to run: its tid, its number and its ticks.
+type Runner = Option<(u32, u32, u16)>;
+
+/// What is done, who is then believed to run on CPU 1 and on CPU 2, and whether thread 7 is believed to run.
+type BeliefRow = (Deed, Runner, Runner, bool);
+
+/// What is done, and then the masks of the usable and of the free CPUs, the thread that a stamp on CPU 2 names,
+/// the mask of the CPUs that the other class holds, and the agent's CPU.
+type MaskRow = (Deed, u64, u64, Option<u32>, u64, Option<u16>);
+
+/// A thread is on one CPU, and its ticks begin anew where it is placed.
+const MOVES: [BeliefRow; 3] = [
+    (Place(1, 7, 4), Some((7, 4, 0)), None, true),
+    (Ticks(1, 1), Some((7, 4, 1)), None, true),
+    (Place(2, 7, 5), None, Some((7, 5, 0)), true),
+];
+
+/// What changes of one thread changes nothing of another.
+const CHANGES: [BeliefRow; 5] = [
+    (Place(1, 7, 4), Some((7, 4, 0)), None, true),
+    (Place(2, 8, 1), Some((7, 4, 0)), Some((8, 1, 0)), true),
+    (Ticks(1, 1), Some((7, 4, 1)), Some((8, 1, 0)), true),
+    (Raise(7, 5), Some((7, 5, 1)), Some((8, 1, 0)), true),
+    (Clear(7), None, Some((8, 1, 0)), false),
+];
+
+/// Ticks are counted up to 65,535.
+const MOST_TICKS: [BeliefRow; 2] = [
+    (Place(1, 7, 4), Some((7, 4, 0)), None, true),
+    (Ticks(1, 70_000), Some((7, 4, 65_535)), None, true),
+];
+
+/// A mask that leaves the thread on its CPU gives it a number, and a block takes it off.
+const HEARS: [BeliefRow; 4] = [
+    (Place(1, 7, 4), Some((7, 4, 0)), None, true),
+    (Hear(Tick(1)), Some((7, 4, 1)), None, true),
+    (
+        Hear(Thread(
+            7,
+            5,
+            Change::Affinity {
+                cpu: Some(1),
+                off: false,
+                mask: 2,
+            },
+        )),
+        Some((7, 5, 1)),
+        None,
+        true,
+    ),
+    (
+        Hear(Thread(7, 6, Change::Blocked { cpu: 1 })),
+        None,
+        None,
+        false,
+    ),
+];
+
+/// Only `Placed` and `AlreadyPlaced` say where a thread is.
+const LEARNS: [BeliefRow; 4] = [
+    (Place(1, 7, 4), Some((7, 4, 0)), None, true),
+    (
+        Learn(Outcome::Stale, Some(2), 7, 4),
+        Some((7, 4, 0)),
+        None,
+        true,
+    ),
+    (
+        Learn(Outcome::AlreadyPlaced, Some(2), 7, 6),
+        None,
+        Some((7, 6, 0)),
+        true,
+    ),
+    (
+        Learn(Outcome::Placed, Some(1), 8, 3),
+        Some((8, 3, 0)),
+        Some((7, 6, 0)),
+        true,
+    ),
+];
+
+/// The other class takes a CPU on which a thread is believed to run.
+const TAKEN: [MaskRow; 2] = [
+    (Place(1, 7, 4), 0b110, 0b100, None, 0, Some(0)),
+    (Take(0b010), 0b100, 0b100, None, 0b010, Some(0)),
+];
+
+/// A stamp keeps its CPU from use until it is collected, and the agent's own is usable while it attaches.
+const STAMPED: [MaskRow; 4] = [
+    (Place(1, 7, 4), 0b110, 0b100, None, 0, Some(0)),
+    (Stamp(2, 9), 0b010, 0, Some(9), 0, Some(0)),
+    (Unstamp(2), 0b110, 0b100, None, 0, Some(0)),
+    (Agent(None), 0b111, 0b101, None, 0, None),
+];
+
+/// The beliefs hear a message.
+fn hear(beliefs: &mut CpuBeliefs, message: &Message)
+    requires { IsSpellable message.now }
+{
+    let parcel = Parcel::new(message);
+    beliefs.hear(&MessageRef::in_parcel(&parcel));
+}
+
+/// Does what a row says. It answers whether that could be done: what is heard has to be a message.
+fn is_done(beliefs: &mut CpuBeliefs, deed: &Deed) -> bool {
+    match deed {
+        Deed::Place(cpu, tid, tseq) => beliefs.place(*cpu, *tid, *tseq),
+        Deed::Ticks(cpu, count) => {
+            for _ in 0..*count {
+                beliefs.tick(*cpu);
+            }
+        }
+        Deed::Raise(tid, tseq) => beliefs.raise(*tid, *tseq),
+        Deed::Clear(tid) => beliefs.clear(*tid),
+        Deed::Hear(told) => {
+            let Some(message) = told.message() else {
+                return false;
+            };
+            hear(beliefs, &message);
+        }
+        Deed::Learn(outcome, at, tid, tseq) => beliefs.learn(*outcome, *at, *tid, *tseq),
+        Deed::Take(mask) => beliefs.set_taken(Mask::new(*mask)),
+        Deed::Stamp(cpu, tid) => beliefs.stamp(*cpu, *tid),
+        Deed::Unstamp(cpu) => beliefs.unstamp(*cpu),
+        Deed::Agent(agent) => beliefs.set_agent(*agent),
+    }
+    true
+}
+
+/// Who is believed to run on a CPU.
+fn runner(beliefs: &CpuBeliefs, cpu: u16) -> Runner {
+    let running = beliefs.believed(cpu)?;
+    Some((running.tid, running.tseq, running.ticks))
+}
+
+/// The first row after which something else is believed than it says.
+fn first_wrong_belief(beliefs: &mut CpuBeliefs, rows: &[BeliefRow]) -> Option<usize> {
+    for (index, row) in rows.iter().enumerate() {
+        let (deed, first, second, runs) = row;
+        let well = is_done(beliefs, deed)
+            && runner(beliefs, 1) == *first
+            && runner(beliefs, 2) == *second
+            && beliefs.runs(7) == *runs;
+        if !well {
+            return Some(index);
+        }
+    }
+    None
+}
+
+/// Whether just these of the three CPUs are usable, and just these are free, by each call that says so.
+fn has_masks(beliefs: &CpuBeliefs, usable: u64, free: u64) -> bool {
+    beliefs.usable().bits() == usable
+        && beliefs.free().bits() == free
+        && (0..4).all(|cpu| beliefs.is_usable(cpu) == Mask::new(usable).has(cpu))
+        && (0..4).all(|cpu| beliefs.is_free(cpu) == Mask::new(free).has(cpu))
+}
+
+/// The first row after which other CPUs may be used than it says.
+fn first_wrong_mask(beliefs: &mut CpuBeliefs, rows: &[MaskRow]) -> Option<usize> {
+    for (index, row) in rows.iter().enumerate() {
+        let (deed, usable, free, stamp, taken, agent) = row;
+        let well = is_done(beliefs, deed)
+            && has_masks(beliefs, *usable, *free)
+            && beliefs.stamp_on(2) == *stamp
+            && beliefs.names(9) == stamp.is_some()
+            && !beliefs.names(7)
+            && beliefs.taken().bits() == *taken
+            && beliefs.agent() == *agent;
+        if !well {
+            return Some(index);
+        }
+    }
+    None
+}
+
+/// Tries rows on what is believed at the beginning.
+fn tried_beliefs(alloc: Global, rows: &[BeliefRow]) -> Tried {
+    match CpuBeliefs::new(alloc, 3, Some(0)) {
+        Ok(mut beliefs) => Tried::with(first_wrong_belief(&mut beliefs, rows)),
+        Err(_) => Tried::NotMade,
+    }
+}
+
+/// The same of rows of masks.
+fn tried_masks(alloc: Global, rows: &[MaskRow]) -> Tried {
+    match CpuBeliefs::new(alloc, 3, Some(0)) {
+        Ok(mut beliefs) => Tried::with(first_wrong_mask(&mut beliefs, rows)),
+        Err(_) => Tried::NotMade,
+    }
+}
+
+// A function for each table: a proof is cheaper where it sees one table alone.
+fn try_moves(alloc: Global) -> Tried {
+    tried_beliefs(alloc, &MOVES)
+}
+
+fn try_changes(alloc: Global) -> Tried {
+    tried_beliefs(alloc, &CHANGES)
+}
+
+fn try_most_ticks(alloc: Global) -> Tried {
+    tried_beliefs(alloc, &MOST_TICKS)
+}
+
+fn try_hears(alloc: Global) -> Tried {
+    tried_beliefs(alloc, &HEARS)
+}
+
+fn try_learns(alloc: Global) -> Tried {
+    tried_beliefs(alloc, &LEARNS)
+}
+
+fn try_taken(alloc: Global) -> Tried {
+    tried_masks(alloc, &TAKEN)
+}
+
+fn try_stamped(alloc: Global) -> Tried {
+    tried_masks(alloc, &STAMPED)
+}
+
+/// Whether nothing is believed yet of 64 CPUs, while the agent attaches.
+fn is_blank(beliefs: &CpuBeliefs) -> bool {
+    beliefs.cpus() == 64
+        && beliefs.agent().is_none()
+        && beliefs.taken().bits() == 0
+        && beliefs.believed(63).is_none()
+        && beliefs.stamp_on(63).is_none()
+        && beliefs.free().bits() == u64::MAX
+}
+
+#[test]
+fn believes_what_it_is_told(rt: HostRuntime) -> Result<(), Fail> {
+    let blank = is_blank(&CpuBeliefs::new(rt.alloc(), 64, None)?);
+    assert!(rt; blank);
+    assert_eq!(rt; try_moves(rt.alloc()), Tried::Well);
+    assert_eq!(rt; try_changes(rt.alloc()), Tried::Well);
+    assert_eq!(rt; try_most_ticks(rt.alloc()), Tried::Well);
+    assert_eq!(rt; try_hears(rt.alloc()), Tried::Well);
+    assert_eq!(rt; try_learns(rt.alloc()), Tried::Well);
+    assert_eq!(rt; try_taken(rt.alloc()), Tried::Well);
+    assert_eq!(rt; try_stamped(rt.alloc()), Tried::Well);
+    Ok(())
+}

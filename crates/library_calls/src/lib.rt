@@ -1,0 +1,33 @@
+//! What the public calls of each library answer, in tables of cases.
+#![tactic(auto)]
+
+#[cfg(test)]
+mod agent;
+#[cfg(test)]
+mod beliefs;
+#[cfg(test)]
+mod journal;
+#[cfg(test)]
+mod layout;
+#[cfg(test)]
+mod messages;
+#[cfg(test)]
+mod mind;
+#[cfg(test)]
+mod plans;
+#[cfg(test)]
+mod policy;
+#[cfg(test)]
+mod reader;
+#[cfg(test)]
+mod ring;
+#[cfg(test)]
+mod runq;
+#[cfg(test)]
+mod slots;
+#[cfg(test)]
+mod status;
+#[cfg(test)]
+mod threads;
+#[cfg(test)]
+mod view;

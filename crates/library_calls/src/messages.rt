@@ -1,0 +1,107 @@
+//! The messages that tables tell. Each is made as a test runs, where its fields are in their ranges, so that
+//! rows may be sent in a loop whatever they hold.
+
+ghost use Rattle.std.specs.Prelude.{◌≡◌, IfSome, true};
+ghost use Rattle.gs_layout.specs.Spelling.{IsSpellable, IsSpellableChange};
+
+use gs_layout::{Change, Class, Facts, Message, Name};
+
+/// What came of a table.
+#[derive(Clone, Copy, PartialEq, Eq, Debug)]
+pub(crate) enum Tried {
+    /// Each row was answered as it says.
+    Well,
+    /// This row was the first that was not.
+    WrongRow(usize),
+    /// What the rows are tried on could not be made.
+    NotMade,
+}
+
+impl Tried {
+    /// What came of a table, by its first row that was not answered as it says.
+    pub(crate) fn with(first_wrong: Option<usize>) -> Tried {
+        match first_wrong {
+            Some(row) => Tried::WrongRow(row),
+            None => Tried::Well,
+        }
+    }
+}
+
+/// What a row tells.
+#[derive(Clone, Copy)]
+pub(crate) enum Told {
+    /// A runnable thread is created: its tid, its number, its class, its mask and its name.
+    Creation(u32, u32, Class, u64, &'static str),
+    /// What happened to a thread, of this tid, at this number.
+    Thread(u32, u32, Change),
+    /// The timer of a CPU ticked.
+    Tick(u16),
+}
+
+impl Told {
+    /// The message, or `None` where a field of it is out of its range.
+    pub(crate) fn message(&self) -> Option<Message>
+        ensures { IfSome result IsSpellable }
+    {
+        match self {
+            Told::Creation(tid, tseq, class, mask, name) => {
+                about(*tid, *tseq, creation(*class, *mask, name)?)
+            }
+            Told::Thread(tid, tseq, change) => about(*tid, *tseq, *change),
+            Told::Tick(cpu) => tick(*cpu),
+        }
+    }
+}
+
+/// The creation of a runnable thread of this class, mask and name.
+pub(crate) fn creation(class: Class, mask: u64, name: &str) -> Option<Change> {
+    let facts = Facts {
+        runnable: true,
+        mask,
+        class,
+        name: Name::new(name.as_bytes())?,
+    };
+    Some(Change::Created { facts })
+}
+
+/// What happened to a thread, or `None` where a field of it is out of its range.
+pub(crate) fn about(tid: u32, tseq: u32, change: Change) -> Option<Message>
+    ensures { IfSome result IsSpellable }
+{
+    if tid < 1 || tid > 65_536 || tseq < 1 || !is_spellable(&change) {
+        return None;
+    }
+    Some(Message::Thread { tid, tseq, change })
+}
+
+/// A tick of a CPU's timer, or `None` where there can be no such CPU.
+pub(crate) fn tick(cpu: u16) -> Option<Message>
+    ensures { IfSome result IsSpellable }
+{
+    if cpu >= 64 {
+        return None;
+    }
+    Some(Message::TimerTick { cpu })
+}
+
+/// Whether the fields of a change are in their ranges.
+fn is_spellable(change: &Change) -> bool
+    ensures { result ≡ true → IsSpellableChange change.now }
+{
+    match change {
+        Change::Created { facts } => facts.mask > 0 && Name::is_name(facts.name.as_bytes()),
+        Change::Blocked { cpu } | Change::Preempted { cpu } | Change::Yield { cpu } => *cpu < 64,
+        Change::Wakeup | Change::Dead { cpu: None } => true,
+        Change::Dead { cpu: Some(cpu) } => *cpu < 64,
+        Change::Affinity {
+            cpu: None,
+            off,
+            mask,
+        } => !*off && *mask > 0,
+        Change::Affinity {
+            cpu: Some(cpu),
+            mask,
+            ..
+        } => *cpu < 64 && *mask > 0,
+    }
+}

@@ -1,0 +1,348 @@
+//! What is read of bytes.
+use crate::layout::{AFFINITY, BLOCKED, CREATED, TIMER_TICK, facts};
+use crate::messages::about;
+use gs_layout::{Change, Class, Kind, Message, Parcel};
+use gs_reader::{Item, MessageRef, ReadFault, Records, read_one};
+
+const PAD: [u8; 8] = [0x08, 0x00, 0x09, 0x00, 0x00, 0x00, 0x00, 0x00];
+
+/// A PAD, and then the message that blocks thread 7.
+const PAD_BLOCKED: [u8; 24] = [
+    0x08, 0x00, 0x09, 0x00, 0x00, 0x00, 0x00, 0x00, 0x10, 0x00, 0x02, 0x00, 0x07, 0x00, 0x00, 0x00,
+    0x03, 0x00, 0x00, 0x00, 0x02, 0x00, 0x00, 0x00,
+];
+
+/// The fields of a message.
+struct Fields<'a> {
+    kind: Kind,
+    tid: u32,
+    tseq: u32,
+    cpu: Option<u16>,
+    flags: u16,
+    mask: Option<u64>,
+    class: Option<Class>,
+    name: Option<&'a [u8]>,
+    takes_off_cpu: bool,
+}
+
+/// The bytes of a message, and its fields.
+const MESSAGES: [(&[u8], Fields); 4] = [
+    (
+        &CREATED,
+        Fields {
+            kind: Kind::Created,
+            tid: 1,
+            tseq: 1,
+            cpu: None,
+            flags: 1,
+            mask: Some(3),
+            class: Some(Class::Zero),
+            name: Some(b"web"),
+            takes_off_cpu: false,
+        },
+    ),
+    (
+        &AFFINITY,
+        Fields {
+            kind: Kind::Affinity,
+            tid: 1,
+            tseq: 2,
+            cpu: Some(1),
+            flags: 1,
+            mask: Some(1),
+            class: None,
+            name: None,
+            takes_off_cpu: true,
+        },
+    ),
+    (
+        &TIMER_TICK,
+        Fields {
+            kind: Kind::TimerTick,
+            tid: 0,
+            tseq: 0,
+            cpu: Some(1),
+            flags: 0,
+            mask: None,
+            class: None,
+            name: None,
+            takes_off_cpu: false,
+        },
+    ),
+    (
+        &BLOCKED,
+        Fields {
+            kind: Kind::Blocked,
+            tid: 7,
+            tseq: 3,
+            cpu: Some(2),
+            flags: 0,
+            mask: None,
+            class: None,
+            name: None,
+            takes_off_cpu: true,
+        },
+    ),
+];
+
+/// The message that all of these bytes are.
+fn only(bytes: &[u8]) -> Option<MessageRef<'_>> {
+    let (item, len) = read_one(bytes).ok()?;
+    match item {
+        Item::Message(message) if len == bytes.len() => Some(message),
+        _ => None,
+    }
+}
+
+/// Whether all of these bytes are a tick of CPU 1.
+fn is_tick(bytes: &[u8]) -> bool {
+    match only(bytes) {
+        Some(found) => matches!(found.message(), Message::TimerTick { cpu: 1 }),
+        None => false,
+    }
+}
+
+/// Why the bytes are refused.
+fn refused(bytes: &[u8]) -> Option<ReadFault> {
+    read_one(bytes).err()
+}
+
+/// Whether a message has these fields.
+fn has_fields(found: &MessageRef<'_>, wanted: &Fields<'_>) -> bool {
+    found.kind() == wanted.kind
+        && (found.tid(), found.tseq()) == (wanted.tid, wanted.tseq)
+        && (found.cpu(), found.flags()) == (wanted.cpu, wanted.flags)
+        && (found.mask(), found.class()) == (wanted.mask, wanted.class)
+        && found.name() == wanted.name
+        && found.takes_off_cpu() == wanted.takes_off_cpu
+}
+
+/// Whether all of these bytes are a message of these fields, also where it is borrowed again, and
+/// where it is held in a parcel.
+fn is_read(bytes: &[u8], wanted: &Fields<'_>) -> bool {
+    let Some(found) = only(bytes) else {
+        return false;
+    };
+    let again = found.again();
+    let parcel = Parcel::new(&found.message());
+    let held = MessageRef::in_parcel(&parcel);
+    has_fields(&found, wanted)
+        && has_fields(&again, wanted)
+        && has_fields(&held, wanted)
+        && again.as_bytes() == bytes
+        && parcel.as_bytes() == bytes
+}
+
+/// Bytes of a message or a PAD, which of them are changed to what, and why they are refused then.
+const DAMAGED: [(&[u8], &[(usize, u8)], ReadFault); 10] = [
+    // a length of 24
+    (&BLOCKED, &[(0, 0x18)], ReadFault::BadLength),
+    // kind 10
+    (&BLOCKED, &[(2, 0x0a)], ReadFault::BadKind),
+    // a flag
+    (&BLOCKED, &[(14, 0x02)], ReadFault::BadField),
+    // thread 65,537
+    (&BLOCKED, &[(4, 0x01), (6, 0x01)], ReadFault::BadField),
+    // number 0
+    (&BLOCKED, &[(8, 0x00)], ReadFault::BadField),
+    // CPU 64
+    (&BLOCKED, &[(12, 64)], ReadFault::BadField),
+    // a byte behind the name
+    (&CREATED, &[(31, 1)], ReadFault::BadField),
+    // a name of 7 bytes, which needs 8 bytes more
+    (&CREATED, &[(25, 7)], ReadFault::BadField),
+    // an empty mask
+    (&AFFINITY, &[(16, 0)], ReadFault::BadField),
+    // a byte of a PAD
+    (&PAD, &[(7, 1)], ReadFault::BadField),
+];
+
+/// Why bytes are refused, of which some are changed. `None` also where there is no such byte.
+fn refused_with(bytes: &[u8], changes: &[(usize, u8)]) -> Option<ReadFault> {
+    let mut buffer = [0; 32];
+    let damaged = buffer.get_mut(..bytes.len())?;
+    damaged.copy_from_slice(bytes);
+    for (place, value) in changes {
+        *damaged.get_mut(*place)? = *value;
+    }
+    refused(damaged)
+}
+
+/// The first beginning of a message that is not refused as short.
+fn first_not_short(bytes: &[u8]) -> Option<usize> {
+    for len in 0..bytes.len() {
+        if refused(&bytes[..len]) != Some(ReadFault::Short) {
+            return Some(len);
+        }
+    }
+    None
+}
+
+/// The first damage that is refused otherwise, or not at all.
+fn first_not_refused() -> Option<usize> {
+    for (index, (bytes, changes, fault)) in DAMAGED.iter().enumerate() {
+        if refused_with(bytes, changes) != Some(*fault) {
+            return Some(index);
+        }
+    }
+    None
+}
+
+#[test]
+fn refuses_damaged_bytes(rt: HostRuntime) {
+    assert_eq!(rt; first_not_refused(), None);
+}
+
+/// Whether the bytes are refused, or else are the spelling of what is read.
+fn is_respelt(bytes: &[u8]) -> bool {
+    match read_one(bytes) {
+        Err(_) => true,
+        Ok((item, len)) => match item {
+            Item::Pad => len <= 40,
+            Item::Message(found) => {
+                let text = found.as_bytes();
+                let parcel = Parcel::new(&found.message());
+                text == &bytes[..len] && parcel.as_bytes() == text
+            }
+        },
+    }
+}
+
+/// The first place of a message, and what its byte was changed by, after which the bytes are neither
+/// refused nor the spelling of what is read. The end where the message is too long to be tried.
+fn first_misspelt(bytes: &[u8]) -> Option<(usize, u8)> {
+    let mut buffer = [0; 32];
+    let Some(text) = buffer.get_mut(..bytes.len()) else {
+        return Some((bytes.len(), 0));
+    };
+    for place in 0..bytes.len() {
+        for change in 1..=255u8 {
+            text.copy_from_slice(bytes);
+            text[place] ^= change;
+            if !is_respelt(text) {
+                return Some((place, change));
+            }
+        }
+    }
+    None
+}
+
+/// The first message that is read otherwise, is read from its beginning alone, or is misspelt once a
+/// byte of it is changed.
+fn first_misread(rows: &[(&[u8], Fields<'_>)]) -> Option<usize> {
+    for (index, (bytes, wanted)) in rows.iter().enumerate() {
+        let is_respelt = first_misspelt(bytes).is_none();
+        if !is_read(bytes, wanted) || first_not_short(bytes).is_some() || !is_respelt {
+            return Some(index);
+        }
+    }
+    None
+}
+
+#[test]
+fn reads_messages(rt: HostRuntime) {
+    assert_eq!(rt; first_misread(&MESSAGES), None);
+    assert!(rt; is_tick(&TIMER_TICK));
+}
+
+/// What is yielded: a message, by its thread and its bytes, or a fault.
+type Yielded<'a> = Result<(u32, &'a [u8]), ReadFault>;
+
+fn is_found(found: &Result<MessageRef<'_>, ReadFault>, wanted: &Yielded<'_>) -> bool {
+    match (found, wanted) {
+        (Ok(message), Ok((tid, bytes))) => message.tid() == *tid && message.as_bytes() == *bytes,
+        (Err(fault), Err(other)) => *fault == *other,
+        _ => false,
+    }
+}
+
+/// Whether two segments yield just this.
+fn yields<'a>(first: &'a [u8], second: &'a [u8], wanted: &[Yielded<'_>]) -> bool {
+    let mut count: usize = 0;
+    for found in Records::new(first, second) {
+        match wanted.get(count) {
+            Some(next) if is_found(&found, next) => count = count.wrapping_add(1),
+            _ => return false,
+        }
+    }
+    count == wanted.len()
+}
+
+#[test]
+fn goes_over_two_segments(rt: HostRuntime) {
+    let blocked = Ok((7, &BLOCKED[..]));
+    let short = Err(ReadFault::Short);
+    assert!(rt; matches!(read_one(&PAD_BLOCKED), Ok((Item::Pad, 8))));
+    // A fault is the last that is yielded.
+    assert!(rt; yields(&PAD_BLOCKED, &BLOCKED[..15], &[blocked, short]));
+    // The end of the first segment cuts a message.
+    assert!(rt; yields(&BLOCKED[..8], &BLOCKED[8..], &[short]));
+    assert!(rt; yields(&PAD, &BLOCKED, &[blocked]));
+}
+
+/// A parcel with a message, or `None` where a field of it is out of its range.
+fn parcel_of(tid: u32, tseq: u32, change: Change) -> Option<Parcel> {
+    let message = about(tid, tseq, change)?;
+    Some(Parcel::new(&message))
+}
+
+/// Whether the creation of thread 1, named "web", is held in a parcel as it is spelt.
+fn is_creation_held() -> bool {
+    let [(bytes, fields), ..] = &MESSAGES;
+    let Some(facts) = facts(b"web") else {
+        return false;
+    };
+    match parcel_of(1, 1, Change::Created { facts }) {
+        Some(parcel) => {
+            parcel.as_bytes() == *bytes && has_fields(&MessageRef::in_parcel(&parcel), fields)
+        }
+        None => false,
+    }
+}
+
+/// What happened to thread 7, and whether that takes it off its CPU.
+const TAKES_OFF_CPU: [(Change, bool); 7] = [
+    (Change::Blocked { cpu: 1 }, true),
+    (Change::Wakeup, false),
+    (Change::Preempted { cpu: 1 }, true),
+    (Change::Yield { cpu: 1 }, true),
+    (Change::Dead { cpu: None }, true),
+    (
+        Change::Affinity {
+            cpu: Some(1),
+            off: true,
+            mask: 1,
+        },
+        true,
+    ),
+    (
+        Change::Affinity {
+            cpu: Some(1),
+            off: false,
+            mask: 3,
+        },
+        false,
+    ),
+];
+
+/// Whether a message in a parcel takes thread 7 off its CPU.
+fn takes_off_cpu(change: Change) -> Option<bool> {
+    let parcel = parcel_of(7, 3, change)?;
+    Some(MessageRef::in_parcel(&parcel).takes_off_cpu())
+}
+
+/// The first change that takes its thread off its CPU otherwise.
+fn first_wrong_change() -> Option<usize> {
+    for (index, (change, wanted)) in TAKES_OFF_CPU.iter().enumerate() {
+        if takes_off_cpu(*change) != Some(*wanted) {
+            return Some(index);
+        }
+    }
+    None
+}
+
+#[test]
+fn holds_messages_in_parcels(rt: HostRuntime) {
+    assert!(rt; is_creation_held());
+    assert_eq!(rt; first_wrong_change(), None);
+}

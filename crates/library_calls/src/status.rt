@@ -1,0 +1,209 @@
+//! What masks and status words answer.
+use gs_status::{Mask, StatusWord};
+
+/// A thread that runs on CPU 1.
+const RUNNING: StatusWord = StatusWord {
+    tseq: 1,
+    cpu: Some(1),
+    runnable: true,
+    alive: true,
+};
+
+/// A thread that waits for a CPU.
+const WAITING: StatusWord = StatusWord {
+    tseq: 1,
+    cpu: None,
+    runnable: true,
+    alive: true,
+};
+
+const DEAD: StatusWord = StatusWord {
+    tseq: 2,
+    cpu: None,
+    runnable: false,
+    alive: false,
+};
+
+/// What is shown of a thread, the word that shows it, and how many words differ from that one in one
+/// bit: by each bit of the sequence number, and by the six of the CPU of a thread that runs, or the one
+/// by which a thread that waits, or a dead one, differs from a blocked one.
+const WORDS: [(StatusWord, u64, usize); 3] = [
+    (RUNNING, 0x0000070100000001, 32 + 6),
+    (WAITING, 0x000003ff00000001, 32 + 1),
+    (DEAD, 0x000000ff00000002, 32 + 1),
+];
+
+/// Words that show nothing.
+const NO_WORDS: [u64; 9] = [
+    // on CPU 64
+    0x0000074000000001,
+    // on CPU 255
+    0x000007ff00000001,
+    // on CPU 1, and not told so
+    0x0000030100000001,
+    // blocked on CPU 1
+    0x0000060100000001,
+    // runnable and dead
+    0x000001ff00000001,
+    // bits 43 and 63
+    0x00000bff00000001,
+    0x800003ff00000001,
+    u64::MAX,
+    0,
+];
+
+/// How many words differ from this one in one bit. `None` where one of them shows the same, or is not
+/// the word of what it shows.
+fn count_neighbours(word: u64) -> Option<usize> {
+    let shown = StatusWord::unpack(word);
+    let mut count: usize = 0;
+    for bit in 0..64u32 {
+        let neighbour = word ^ (1 << bit);
+        if let Some(status) = StatusWord::unpack(neighbour) {
+            if status.pack() != neighbour || shown == Some(status) {
+                return None;
+            }
+            count = count.wrapping_add(1);
+        }
+    }
+    Some(count)
+}
+
+/// Whether a status has just this word, and the word so many neighbours.
+fn is_word(status: StatusWord, word: u64, neighbours: usize) -> bool {
+    status.pack() == word
+        && StatusWord::unpack(word) == Some(status)
+        && count_neighbours(word) == Some(neighbours)
+}
+
+/// The first word that is packed, read or refused otherwise.
+fn first_wrong_word() -> Option<u64> {
+    for (status, word, neighbours) in WORDS {
+        if !is_word(status, word, neighbours) {
+            return Some(word);
+        }
+    }
+    for word in NO_WORDS {
+        if StatusWord::unpack(word).is_some() {
+            return Some(word);
+        }
+    }
+    None
+}
+
+#[test]
+fn packs_and_unpacks(rt: HostRuntime) {
+    assert_eq!(rt; first_wrong_word(), None);
+}
+
+/// The bits of a mask, and whether no CPU is in it.
+const EMPTY: [(u64, bool); 2] = [(5, false), (0, true)];
+
+/// The bits of a mask, a CPU, whether the mask has it, and whether it has one that is not below it.
+const MEMBERS: [(u64, u16, bool, bool); 7] = [
+    (5, 0, true, true),
+    (5, 1, false, true),
+    (5, 2, true, true),
+    (5, 3, false, false),
+    (5, 64, false, false),
+    (1 << 63, 63, true, true),
+    (1 << 63, 64, false, false),
+];
+
+/// The bits of a mask, a CPU, and the bits with and without it.
+const CHANGED: [(u64, u16, u64, u64); 9] = [
+    (0, 63, 1 << 63, 0),
+    (4, 0, 5, 4),
+    (5, 0, 5, 4),
+    (5, 1, 7, 5),
+    (5, 2, 5, 1),
+    (5, 63, 0x8000_0000_0000_0005, 5),
+    (u64::MAX, 63, u64::MAX, 0x7fff_ffff_ffff_ffff),
+    (u64::MAX, 0, u64::MAX, 0xffff_ffff_ffff_fffe),
+    (0, 31, 0x8000_0000, 0),
+];
+
+/// The bits of two masks, those of both, and the least CPU of both.
+const BOTH: [(u64, u64, u64, Option<u16>); 6] = [
+    (6, 12, 4, Some(2)),
+    (6, 3, 2, Some(1)),
+    (5, 10, 0, None),
+    (0, u64::MAX, 0, None),
+    (u64::MAX, 1, 1, Some(0)),
+    (1 << 63, u64::MAX, 1 << 63, Some(63)),
+];
+
+/// The bits of a mask with a CPU, without it, with it where a test holds, and where none does. `None`
+/// for a CPU that no mask has.
+fn changed(bits: u64, cpu: u16) -> Option<[u64; 4]> {
+    if cpu >= 64 {
+        return None;
+    }
+    let mask = Mask::new(bits);
+    let with = mask.with(cpu).bits();
+    let without = mask.without(cpu).bits();
+    let where_it_holds = mask.with_if(cpu, true).bits();
+    let where_none_does = mask.with_if(cpu, false).bits();
+    Some([with, without, where_it_holds, where_none_does])
+}
+
+/// Masks that are made from none, by their bits: without a CPU, with CPUs 2 and 0, with CPU 63.
+fn made_from_none() -> [u64; 3] {
+    let two = Mask::none().with(2).with(0);
+    [
+        Mask::none().bits(),
+        two.bits(),
+        Mask::none().with(63).bits(),
+    ]
+}
+
+fn first_wrong_bits() -> Option<usize> {
+    for (index, (bits, is_empty)) in EMPTY.iter().enumerate() {
+        let mask = Mask::new(*bits);
+        if mask.bits() != *bits || mask.is_empty() != *is_empty {
+            return Some(index);
+        }
+    }
+    None
+}
+
+fn first_wrong_member() -> Option<usize> {
+    for (index, (bits, cpu, is_in, is_past)) in MEMBERS.iter().enumerate() {
+        let mask = Mask::new(*bits);
+        if mask.has(*cpu) != *is_in || mask.has_past(*cpu) != *is_past {
+            return Some(index);
+        }
+    }
+    None
+}
+
+fn first_wrong_change() -> Option<usize> {
+    for (index, (bits, cpu, with, without)) in CHANGED.iter().enumerate() {
+        if changed(*bits, *cpu) != Some([*with, *without, *with, *bits]) {
+            return Some(index);
+        }
+    }
+    None
+}
+
+fn first_wrong_both() -> Option<usize> {
+    for (index, (one, other, both, lowest)) in BOTH.iter().enumerate() {
+        let common = Mask::new(*one).both(Mask::new(*other));
+        if common.bits() != *both || common.lowest() != *lowest {
+            return Some(index);
+        }
+    }
+    None
+}
+
+#[test]
+fn sets_of_cpus(rt: HostRuntime) {
+    let wrong = [
+        first_wrong_bits(),
+        first_wrong_member(),
+        first_wrong_change(),
+        first_wrong_both(),
+    ];
+    assert_eq!(rt; wrong, [None; 4]);
+    assert_eq!(rt; made_from_none(), [0, 5, 1 << 63]);
+}

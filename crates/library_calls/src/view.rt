@@ -1,0 +1,296 @@
+//! A view through messages: what it answers, and what it knows then.
+
+ghost use Rattle.gs_layout.specs.Spelling.{IsSpellable};
+
+use crate::messages::Told::{self, Creation, Thread, Tick};
+use gs_layout::{Change, Class, Facts, Message, Parcel};
+use gs_reader::MessageRef;
+use gs_view::{AgentView, ApplyFault, Taken};
+use std::test::Fail;
+
+/// What a thread is known to be: whether it may run, its mask, and the number at which it was so.
+type Seen = Option<(bool, u64, u32)>;
+
+/// A message, what the view answers to it, a thread and what is then known of it, and of how many threads
+/// something is known.
+type Row = (Told, Result<Taken, ApplyFault>, u32, Seen, usize);
+
+const APPLIED: Result<Taken, ApplyFault> = Ok(Taken::Applied);
+
+const SKIPPED: Result<Taken, ApplyFault> = Ok(Taken::Skipped);
+
+const ORPHAN: Result<Taken, ApplyFault> = Ok(Taken::Orphan);
+
+const GAP: Result<Taken, ApplyFault> = Err(ApplyFault::Gap);
+
+/// Thread 7 from its creation to its death, with messages between that do not come next.
+const LIFE: [Row; 15] = [
+    (
+        Creation(7, 5, Class::Zero, 3, "web"),
+        APPLIED,
+        7,
+        Some((true, 3, 5)),
+        1,
+    ),
+    // The view knows these already.
+    (
+        Thread(7, 5, Change::Blocked { cpu: 1 }),
+        SKIPPED,
+        7,
+        Some((true, 3, 5)),
+        1,
+    ),
+    (
+        Thread(7, 1, Change::Dead { cpu: None }),
+        SKIPPED,
+        7,
+        Some((true, 3, 5)),
+        1,
+    ),
+    // It knows nothing of these threads.
+    (Thread(8, 6, Change::Wakeup), ORPHAN, 8, None, 1),
+    (Thread(6, 1, Change::Dead { cpu: None }), ORPHAN, 8, None, 1),
+    (Tick(1), APPLIED, 7, Some((true, 3, 5)), 1),
+    // A message is missing before these.
+    (
+        Thread(7, 7, Change::Blocked { cpu: 1 }),
+        GAP,
+        7,
+        Some((true, 3, 5)),
+        1,
+    ),
+    (
+        Thread(7, 9, Change::Dead { cpu: None }),
+        GAP,
+        7,
+        Some((true, 3, 5)),
+        1,
+    ),
+    // The one that was missing still fits.
+    (
+        Thread(7, 6, Change::Blocked { cpu: 1 }),
+        APPLIED,
+        7,
+        Some((false, 3, 6)),
+        1,
+    ),
+    (
+        Thread(7, 7, Change::Wakeup),
+        APPLIED,
+        7,
+        Some((true, 3, 7)),
+        1,
+    ),
+    (
+        Thread(
+            7,
+            8,
+            Change::Affinity {
+                cpu: Some(1),
+                off: true,
+                mask: 4,
+            },
+        ),
+        APPLIED,
+        7,
+        Some((true, 4, 8)),
+        1,
+    ),
+    (
+        Thread(7, 9, Change::Preempted { cpu: 2 }),
+        APPLIED,
+        7,
+        Some((true, 4, 9)),
+        1,
+    ),
+    (
+        Thread(7, 10, Change::Yield { cpu: 2 }),
+        APPLIED,
+        7,
+        Some((true, 4, 10)),
+        1,
+    ),
+    (
+        Thread(7, 11, Change::Dead { cpu: Some(2) }),
+        APPLIED,
+        7,
+        None,
+        0,
+    ),
+    (Thread(7, 12, Change::Wakeup), ORPHAN, 7, None, 0),
+];
+
+/// Threads that come in no order, of which one blocks and one dies.
+const SEVERAL: [Row; 7] = [
+    (
+        Creation(7, 5, Class::Zero, 3, "web"),
+        APPLIED,
+        7,
+        Some((true, 3, 5)),
+        1,
+    ),
+    (
+        Creation(3, 2, Class::Zero, 3, "x"),
+        APPLIED,
+        3,
+        Some((true, 3, 2)),
+        2,
+    ),
+    (
+        Creation(65_536, 2, Class::Zero, 3, "x"),
+        APPLIED,
+        65_536,
+        Some((true, 3, 2)),
+        3,
+    ),
+    (
+        Creation(1, 2, Class::Zero, 3, "x"),
+        APPLIED,
+        1,
+        Some((true, 3, 2)),
+        4,
+    ),
+    (
+        Creation(9, 2, Class::Zero, 3, "x"),
+        APPLIED,
+        9,
+        Some((true, 3, 2)),
+        5,
+    ),
+    (
+        Thread(9, 3, Change::Blocked { cpu: 0 }),
+        APPLIED,
+        9,
+        Some((false, 3, 3)),
+        5,
+    ),
+    (
+        Thread(3, 3, Change::Dead { cpu: None }),
+        APPLIED,
+        3,
+        None,
+        4,
+    ),
+];
+
+/// What a walk over them shows, by rising tid: the tid, whether the thread may run, and its number.
+const SHOWN: [(u32, bool, u32); 4] = [(1, true, 2), (7, true, 5), (9, false, 3), (65_536, true, 2)];
+
+/// What the view answers to a message.
+fn send(view: &mut AgentView, message: &Message) -> Result<Taken, ApplyFault>
+    requires { IsSpellable message.now }
+{
+    let parcel = Parcel::new(message);
+    view.apply(MessageRef::in_parcel(&parcel))
+}
+
+/// What is known of a thread.
+fn seen(view: &AgentView, tid: u32) -> Seen {
+    let (facts, tseq) = view.get(tid)?;
+    Some((facts.runnable, facts.mask, tseq))
+}
+
+/// Whether the view answers as a row says, and knows then what it says.
+fn is_answered(view: &mut AgentView, row: &Row) -> bool {
+    let (told, answer, tid, known, count) = row;
+    let Some(message) = told.message() else {
+        return false;
+    };
+    send(view, &message) == *answer
+        && seen(view, *tid) == *known
+        && view.len() == *count
+        && view.is_empty() == (*count == 0)
+}
+
+/// The first row that the view does not answer as it says.
+fn first_wrong(view: &mut AgentView, rows: &[Row]) -> Option<usize> {
+    for (index, row) in rows.iter().enumerate() {
+        if !is_answered(view, row) {
+            return Some(index);
+        }
+    }
+    None
+}
+
+/// Whether a walk shows this, and no more.
+fn shows(view: &AgentView, expected: &[(u32, bool, u32)]) -> bool {
+    let mut walk = view.walk();
+    for row in expected {
+        let Some((tid, facts, tseq)) = walk.next() else {
+            return false;
+        };
+        if (tid, facts.runnable, tseq) != *row {
+            return false;
+        }
+    }
+    walk.next().is_none()
+}
+
+/// Whether these are the facts of the creation of thread 7.
+fn is_web(facts: &Facts) -> bool {
+    facts.runnable
+        && facts.mask == 3
+        && facts.class == Class::Zero
+        && facts.name.as_bytes() == b"web".as_slice()
+}
+
+/// Whether the view knows thread 7, at number 5 and by all facts of its creation, and no neighbour of it.
+fn knows_seventh_alone(view: &AgentView) -> bool {
+    let Some((facts, tseq)) = view.get(7) else {
+        return false;
+    };
+    let mut neighbours = [0, 6, 8, u32::MAX].iter();
+    is_web(facts) && tseq == 5 && neighbours.all(|tid| view.get(*tid).is_none())
+}
+
+/// Whether nothing is known yet.
+fn is_blank(view: &AgentView) -> bool {
+    view.is_empty() && view.get(7).is_none() && shows(view, &[])
+}
+
+// A function for each table: a proof is cheaper where it sees one table alone.
+fn try_life(view: &mut AgentView) -> Option<usize> {
+    first_wrong(view, &LIFE)
+}
+
+/// Creates thread 7 anew, after its life.
+fn try_birth(view: &mut AgentView) -> Option<usize> {
+    first_wrong(view, &LIFE[..1])
+}
+
+fn try_several(view: &mut AgentView) -> Option<usize> {
+    first_wrong(view, &SEVERAL)
+}
+
+#[test]
+fn takes_messages_in(rt: HostRuntime) {
+    let mut view = AgentView::new(rt.alloc());
+    let blank = is_blank(&view);
+    let life = try_life(&mut view);
+    let birth = try_birth(&mut view);
+    let known = knows_seventh_alone(&view);
+    assert_eq!(rt; (blank, life, birth, known), (true, None, None, true));
+    let mut view = AgentView::new(rt.alloc());
+    let several = try_several(&mut view);
+    let shown = shows(&view, &SHOWN);
+    assert_eq!(rt; (several, shown), (None, true));
+}
+
+#[test]
+fn a_fault_says_why(rt: HostRuntime) -> Result<(), Fail> {
+    let texts = [
+        (
+            ApplyFault::Gap,
+            "messages about the thread are missing before this one",
+        ),
+        (
+            ApplyFault::OutOfMemory,
+            "no memory for the record of a new thread",
+        ),
+    ];
+    for (fault, text) in texts {
+        let said = format!(in rt.alloc(); "{fault}")?;
+        assert_eq!(rt; said.as_str(), text);
+    }
+    Ok(())
+}
