@@ -251,13 +251,21 @@ fn first_unplanned<P: Counted>(
     Ok(None)
 }
 
-/// Whether nothing is known or believed yet.
-fn is_blank(mind: &Mind) -> bool {
+/// Whether nothing is known or believed yet, and just these CPUs are free.
+fn is_blank(mind: &Mind, free: u64) -> bool {
     mind.view().is_empty()
         && is_order(mind.waiting(), &[])
         && runner(mind, 1).is_none()
         && mind.beliefs().cpus() == 3
-        && mind.beliefs().free().bits() == 0b110
+        && mind.beliefs().free().bits() == free
+}
+
+/// Whether the mind of an agent on this CPU of three, `None` while it attaches, begins blank.
+fn begins_blank(alloc: Global, agent: Option<u16>, free: u64) -> bool {
+    match Mind::new(alloc, 3, agent) {
+        Ok(mind) => is_blank(&mind, free),
+        Err(_) => false,
+    }
 }
 
 /// A mind of three CPUs, of which the agent has CPU 0.
@@ -300,15 +308,15 @@ fn try_displaced(alloc: Global) -> Tried {
 }
 
 #[test]
-fn keeps_who_waits(rt: HostRuntime) -> Result<(), Fail> {
-    let blank = is_blank(&three(rt.alloc())?);
-    assert!(rt; blank);
+fn keeps_who_waits(rt: HostRuntime) {
+    let active = begins_blank(rt.alloc(), Some(0), 0b110);
+    let attaching = begins_blank(rt.alloc(), None, 0b111);
+    assert_eq!(rt; (active, attaching), (true, true));
     assert_eq!(rt; try_not_applied(rt.alloc()), Tried::Well);
     assert_eq!(rt; try_goes_last(rt.alloc()), Tried::Well);
     assert_eq!(rt; try_runs(rt.alloc()), Tried::Well);
     assert_eq!(rt; try_not_placed(rt.alloc()), Tried::Well);
     assert_eq!(rt; try_displaced(rt.alloc()), Tried::Well);
-    Ok(())
 }
 
 /// A mind in which threads 7, 8 and 9 wait.
