@@ -1,7 +1,7 @@
 //! What a machine and a kernel show to those who call them, beyond the lines of their replies.
 
 use gs_core::{Config, ConfigFault, Event, Machine, Reply};
-use gs_kernel::{Kernel, Landing, Settings, ThreadEvent};
+use gs_kernel::{Answer, Command, Kernel, Landing, Settings, ThreadEvent};
 use gs_layout::{Class, Facts, Name, Outcome};
 use gs_policy::{AnyPolicy, FirstCome, TwoClass};
 use gs_ring::ByteRing;
@@ -165,6 +165,10 @@ fn first_wrong_of_new(
     Ok(first_wrong(&mut machine, rows))
 }
 
+fn tell(command: Command) -> Event {
+    Event::Kernel { command }
+}
+
 /// A runnable thread that may run on these CPUs is created.
 fn creation(mask: u64) -> Option<Event> {
     let facts = Facts {
@@ -173,7 +177,7 @@ fn creation(mask: u64) -> Option<Event> {
         class: Class::Zero,
         name: Name::new(b"web")?,
     };
-    Some(Event::Create { facts })
+    Some(tell(Command::Create { facts }))
 }
 
 fn stamp(cpu: u16, tid: u32) -> Event {
@@ -191,7 +195,7 @@ fn commit(mask: u64) -> Event {
 }
 
 fn happens(event: ThreadEvent) -> Event {
-    Event::Thread { tid: 1, event }
+    tell(Command::Thread { tid: 1, event })
 }
 
 /// The other class takes a CPU off which it takes a thread, and gives it back.
@@ -214,14 +218,18 @@ fn shows_a_taken_cpu(rt: HostRuntime) -> Result<(), Fail> {
             ],
         ),
         (
-            Event::Take { cpu: 1 },
+            tell(Command::Take { cpu: 1 }),
             None,
             &[
                 Look::Taken(1, true),
                 Look::Status(1, Some(0x0000_03ff_0000_0002)),
             ],
         ),
-        (Event::Give { cpu: 1 }, None, &[Look::Taken(1, false)]),
+        (
+            tell(Command::Give { cpu: 1 }),
+            None,
+            &[Look::Taken(1, false)],
+        ),
     ];
     assert_eq!(rt; first_wrong_of_new(rt.alloc(), TWO_CPUS, &rows)?, None);
     Ok(())
@@ -259,10 +267,10 @@ fn shows_decisions(rt: HostRuntime) -> Result<(), Fail> {
         (Event::Decide, Some(1), &[]),
         (creation, None, &[]),
         (creation, None, &[]),
-        (Event::Take { cpu: 1 }, None, &[]),
+        (tell(Command::Take { cpu: 1 }), None, &[]),
         (Event::Drain { max: 2 }, None, &[]),
         (Event::Decide, Some(1), &[]),
-        (Event::Give { cpu: 1 }, None, &[]),
+        (tell(Command::Give { cpu: 1 }), None, &[]),
         (Event::Decide, Some(2), &[]),
         (
             commit(6),
@@ -320,7 +328,7 @@ fn with_one(alloc: Global) -> Option<Kernel<ByteRing>> {
     };
     let ring = ByteRing::new(alloc, 128).ok()?;
     let mut kernel = Kernel::new(alloc, settings, ring).ok()?;
-    if kernel.create(&facts) == Ok(Some((1, 1))) {
+    if matches!(kernel.create(&facts), Answer::Done { .. }) {
         Some(kernel)
     } else {
         None

@@ -7,7 +7,8 @@ ghost use Rattle.gs_layout.specs.Spelling.{IsSpellable, tid_of};
 ghost use Rattle.gs_layout.specs.declared.message.Message.{Message};
 
 use crate::fixed_places::FixedPlaces;
-use gs_kernel::{Kernel, Settings};
+use gs_journal::Entry;
+use gs_kernel::{Answer, Kernel, Settings};
 use gs_layout::{Change, Class, Facts, Message, Name, Refusal};
 use gs_ring::{ByteRing, Poster, Ring, Taker};
 use std::alloc::{AllocError, Global};
@@ -46,8 +47,25 @@ fn woken(tid: u32) -> Message
 /// What a kernel answered to creations and then to a tick.
 #[derive(Clone, Copy)]
 struct Answers {
-    created: [Result<Option<(u32, u32)>, Refusal>; 4],
-    ticked: Result<bool, Refusal>,
+    created: [Answer; 4],
+    ticked: Answer,
+}
+
+/// What an answer says: the thread and the number of the message that was posted, `None` where it did not fit,
+/// or the refusal.
+fn said(answer: &Answer) -> Result<Option<(u32, u32)>, Refusal> {
+    match answer {
+        Answer::Refused { refusal } => Err(*refusal),
+        Answer::Torn => Ok(None),
+        Answer::Done { entry } => Ok(numbers(entry)),
+    }
+}
+
+fn numbers(entry: &Entry) -> Option<(u32, u32)> {
+    match entry {
+        Entry::Posted { message } => Some((message.tid(), message.tseq())),
+        _ => None,
+    }
 }
 
 /// The tids of the messages that come next, at most so many, which are taken.
@@ -66,9 +84,11 @@ fn take_tids<T: Taker>(alloc: Global, taker: &mut T, max: usize) -> Result<Vec<u
 }
 
 /// Creates a thread. Where its message did not fit, every place was used.
-fn create(kernel: &mut Kernel<FixedPlaces>, facts: &Facts) -> Result<Option<(u32, u32)>, Refusal>
-    ensures { IfOk result (λ thread. thread ≡ None → IsFull kernel.old.poster) }
+fn create(kernel: &mut Kernel<FixedPlaces>, facts: &Facts) -> Answer
+    ensures { result ≡ Answer.Torn → IsFull kernel.old.poster }
 {
+    // A look at the ring, by which the proof has what was posted to it.
+    let _ring = kernel.poster();
     kernel.create(facts)
 }
 
@@ -127,7 +147,7 @@ const CREATIONS: [(Result<Option<(u32, u32)>, Refusal>, bool, bool); 4] = [
 /// The first creation that is answered otherwise, or leaves another state.
 fn first_wrong(kernel: &mut Kernel<FixedPlaces>, facts: &Facts) -> Option<usize> {
     for (i, (created, is_full, is_torn)) in CREATIONS.iter().enumerate() {
-        let is_so = create(kernel, facts) == *created;
+        let is_so = said(&create(kernel, facts)) == *created;
         if !is_so || kernel.poster().is_full() != *is_full || kernel.is_torn() != *is_torn {
             return Some(i);
         }
@@ -142,7 +162,7 @@ fn tears_down_at_the_last_place(rt: HostRuntime) -> Result<(), Fail> {
     let ring = FixedPlaces::new(rt.alloc(), 2)?;
     let mut kernel = Kernel::new(rt.alloc(), SETTINGS, ring)?;
     let wrong = first_wrong(&mut kernel, &facts);
-    assert_eq!(rt; (wrong, kernel.tick(0)), (None, Err(Refusal::Gone)));
+    assert_eq!(rt; (wrong, said(&kernel.tick(0))), (None, Err(Refusal::Gone)));
     Ok(())
 }
 
@@ -154,11 +174,11 @@ fn answers_so<P: Ring>(
 ) -> Result<bool, AllocError> {
     let Answers { created, ticked } = fill(kernel, facts);
     for (answer, (wanted, _, _)) in created.iter().zip(&CREATIONS) {
-        if *answer != *wanted {
+        if said(answer) != *wanted {
             return Ok(false);
         }
     }
-    Ok(ticked == Err(Refusal::Gone) && takes(alloc, &mut kernel.taker(), &[1, 2])?)
+    Ok(said(&ticked) == Err(Refusal::Gone) && takes(alloc, &mut kernel.taker(), &[1, 2])?)
 }
 
 /// Kernels over the two rings answer the same, and the same messages are taken from them.

@@ -1,8 +1,7 @@
 -- Whoever is active or attaches after an event was so before it: no event so far brings a new agent.
-use Rattle.std.proofs.Common.{◌≡◌, refl, ap, sym, subst, ◌∙◌, ℕ, suc, ◌⊎◌, inl, inr, Bool, true, false, Option, None, Some, Result, Ok, Err, IfOk, OnOk, OnErr, List, [], ◌∷◌, ◌++◌}
+use Rattle.std.proofs.Common.{◌≡◌, refl, ap, sym, subst, ◌∙◌, ℕ, suc, ◌⊎◌, inl, inr, Bool, true, false, Option, None, Some, List, [], ◌∷◌, ◌++◌}
 use Rattle.gs_journal.specs.Standing.{standing, last_of}
 use Rattle.gs_layout.specs.declared.message.Message.{Message}
-use Rattle.gs_layout.specs.declared.refusal.Refusal.{Refusal}
 use Rattle.gs_layout.specs.declared.outcome.Outcome.TheVariants as outcomes
 use Rattle.gs_slots.specs.declared.state.Stamp.{Stamp}
 use Rattle.gs_slots.specs.declared.state.SlotState.{SlotState}
@@ -12,7 +11,16 @@ use Rattle.gs_journal.specs.declared.entry.Entry.{Entry}
 use Rattle.gs_journal.specs.declared.entry.Entry.TheVariants.{Posted, Role, Taken, Given, Torn}
 use Rattle.gs_journal.specs.History.{History, active, attaching}
 use Rattle.gs_kernel.specs.declared.settings.Settings.{Settings}
-use Rattle.gs_kernel.specs.Kernel.{after_post, after_take, after_give, made_way, preemption}
+use Rattle.gs_kernel.specs.Kernel.{creation, happening, made_way, preemption}
+use Rattle.gs_kernel.specs.declared.command.Command.{Command}
+use Rattle.gs_kernel.specs.declared.command.Command.TheVariants as commands
+use Rattle.gs_kernel.specs.declared.answer.Answer.{Answer}
+use Rattle.gs_kernel.specs.declared.answer.Answer.TheVariants as answers
+use Rattle.gs_layout.specs.declared.message.Message.TheVariants.{TimerTick}
+use Rattle.gs_kernel.specs.declared.effect.Effect.TheVariants.{Append}
+use Rattle.gs_kernel.specs.Legal.{Legal, Room, effect, entries_in}
+use Rattle.std.proofs.Common.{append_assoc}
+use Rattle.std.proofs.lemmas.List.{append-nil}
 use Rattle.gs_kernel.specs.Landing.{verdict, after_verdict, after_landing, placing}
 use Rattle.gs_kernel.specs.Commit.{Fits, fits_if_any, lands, one_lands}
 use Rattle.gs_kernel.proofs.Entries.{SameBeside, beside_posted, beside_placed, beside_quiet, active_none, attaching_none}
@@ -51,10 +59,6 @@ roles_taken h c = let b = beside_quiet h (Taken c) (λ x. refl) (λ x. refl) ref
 pub roles_given : (h : History) (c : ℕ) → NoNewRole h (h ++ Given c ∷ [])
 roles_given h c = let b = beside_quiet h (Given c) (λ x. refl) (λ x. refl) refl refl refl in same_roles h _ b.0 b.1
 
-then_posted : (b : Bool) (h : History) (m : Message) → NoNewRole h (after_post b h m)
-then_posted true h m = roles_posted h m
-then_posted false h m = roles_torn h
-
 -- somebody makes way for an entry
 made_roles : (b : Bool) (h : History) (o : Option Message) (e : Entry) → ((g : History) → NoNewRole g (g ++ e ∷ [])) → NoNewRole h (made_way b h o e)
 made_roles true h None e then = then h
@@ -69,17 +73,21 @@ NoNewAgent h h' = (a : ℕ × ℕ) → active h' ≡ Some a → active h ≡ Som
 pub agent_of : (h h' h'' : History) → h'' ≡ h' → NoNewRole h h' → NoNewAgent h h''
 agent_of h h' h'' e r a p = r.active a (ap active (sym e) ∙ p)
 
-pub posted_agent : {A : Type 0} (q : Result A Refusal) (b : A → Bool) (h h' : History) (m : Message) → IfOk q (λ x. h' ≡ after_post (b x) h m) → OnErr q (h' ≡ h) → NoNewAgent h h'
-posted_agent (Ok x) b h h' m ok err = agent_of h _ h' ok (then_posted (b x) h m)
-posted_agent (Err f) b h h' m ok err = agent_of h h h' err (same_history h h refl)
+entry_roles : (h : History) (o : Option Message) (e : Entry) → ((g : History) → NoNewRole g (g ++ e ∷ [])) → NoNewRole h (h ++ entries_in (Append o e))
+entry_roles h None e then = then h
+entry_roles h (Some k) e then = subst (NoNewRole h) (append_assoc h (Posted k ∷ []) (e ∷ [])) (roles_then h (h ++ Posted k ∷ []) _ (roles_posted h k) (then (h ++ Posted k ∷ [])))
 
-pub taken_agent : (q : Result Bool Refusal) (h h' : History) (o : Option Message) (c : ℕ) → IfOk q (λ b. h' ≡ after_take b h o c) → OnErr q (h' ≡ h) → NoNewAgent h h'
-taken_agent (Ok b) h h' o c ok err = agent_of h _ h' ok (made_roles b h o (Taken c) (λ g. roles_taken g c))
-taken_agent (Err f) h h' o c ok err = agent_of h h h' err (same_history h h refl)
+effect_roles : (s : Settings) (h : History) (c : Command) → NoNewRole h (h ++ entries_in (effect s h c))
+effect_roles s h (commands.Create f) = roles_posted h (creation s.first_tseq h f)
+effect_roles s h (commands.Thread t e) = roles_posted h (happening s h t e)
+effect_roles s h (commands.Take c) = entry_roles h (preemption s h c) (Taken c) (λ g. roles_taken g c)
+effect_roles s h (commands.Give c) = roles_given h c
+effect_roles s h (commands.Tick c) = roles_posted h (TimerTick c)
 
-pub given_agent : (q : Result (Unit {0}) Refusal) (h h' : History) (c : ℕ) → OnOk q (h' ≡ after_give h c) → OnErr q (h' ≡ h) → NoNewAgent h h'
-given_agent (Ok u) h h' c ok err = agent_of h _ h' ok (roles_given h c)
-given_agent (Err f) h h' c ok err = agent_of h h h' err (same_history h h refl)
+pub served_agent : (room : Room) (s : Settings) (h : History) (c : Command) (a : Answer) (h' : History) → Legal room s h c a h' → NoNewAgent h h'
+served_agent room s h c (answers.Refused f) h' l = agent_of h h h' l.1 (same_history h h refl)
+served_agent room s h c (answers.Done k) h' l = agent_of h _ h' l.1.tells.1 (effect_roles s h c)
+served_agent room s h c answers.Torn h' l = agent_of h _ h' l.tells.1 (roles_torn h)
 
 -- landings place threads, or tear the enclave down
 pub landing_roles : (fits : Bool) (s : Settings) (h : History) (k : ℕ) (b : Stamp) → NoNewRole h (after_landing fits s h k b)

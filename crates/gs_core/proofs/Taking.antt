@@ -1,5 +1,5 @@
 -- An entry that concerns no thread keeps what the machine keeps, and so do taking a CPU and giving it back.
-use Rattle.std.proofs.Common.{◌≡◌, refl, ap, sym, ◌∙◌, subst, ℕ, ◌<◌, Bool, true, false, Option, None, Some, List, [], ◌∷◌, ◌++◌, length, arith, append_assoc}
+use Rattle.std.proofs.Common.{◌≡◌, refl, ap, sym, ◌∙◌, subst, ℕ, ◌<◌, true, Option, None, Some, List, [], ◌∷◌, ◌++◌, length, arith, append_assoc}
 use Rattle.std.specs.List.{filter}
 use Rattle.std.specs.Option.{option_map}
 use Rattle.std.proofs.lemmas.List.{append-nil}
@@ -15,7 +15,9 @@ use Rattle.gs_journal.proofs.Past.{Was-mono}
 use Rattle.gs_threads.specs.Mirrors.{is_quiet}
 use Rattle.gs_threads.proofs.Placing.{on_quiet, posts_nothing}
 use Rattle.gs_kernel.specs.declared.settings.Settings.{Settings}
-use Rattle.gs_kernel.specs.Kernel.{next_about, preemption, after_take}
+use Rattle.gs_kernel.specs.Kernel.{next_about, preemption}
+use Rattle.gs_kernel.specs.declared.effect.Effect.TheVariants.{Append}
+use Rattle.gs_kernel.specs.Legal.{entries_in}
 use Rattle.gs_core.specs.declared.transaction.Transaction.{Transaction}
 use Rattle.gs_core.specs.Machine.{State, view, page_of}
 use Rattle.gs_core.specs.Safe.{IsBacked, OnOne}
@@ -23,7 +25,6 @@ use Rattle.gs_core.specs.Good.{GoodHistory, Good}
 use Rattle.gs_core.proofs.Faces.{faces_same}
 use Rattle.gs_core.proofs.Histories.{whole_one}
 use Rattle.gs_core.proofs.Used.{nobody_quiet, once_more, used_more, used_quiet}
-use Rattle.gs_core.proofs.Tears.{tear_good}
 use Rattle.gs_core.proofs.Roles.{NoNewRole, roles_given, roles_taken}
 use Rattle.gs_core.proofs.Steps.{BothOf, post_good, was_role}
 use Rattle.gs_core.proofs.Happens.{both_about}
@@ -87,15 +88,13 @@ taken_good m c g = quiet_good m (Taken c) refl (roles_taken m.history c) g
 pub give_good : (m : State) (c : ℕ) → Good m → Good (record m { history = m.history ++ Given c ∷ [] })
 give_good m c g = quiet_good m (Given c) refl (roles_given m.history c) g
 
-pub take_good : (m : State) (c : ℕ) (b : Bool) → Good m → Good (record m { history = after_take b m.history (preemption m.settings m.history c) c })
-take_good m c b g = by_who (on m.history c) refl b
+pub take_good : (m : State) (c : ℕ) → Good m → Good (record m { history = m.history ++ entries_in (Append (preemption m.settings m.history c) (Taken c)) })
+take_good m c g = by_who (on m.history c) refl
   where
-    by_who : (o : Option ℕ) → on m.history c ≡ o → (b : Bool) → Good (record m { history = after_take b m.history (option_map (λ t. next_about m.settings m.history t (Preempted c)) o) c })
-    by_who None e b = taken_good m c g
-    by_who (Some t) e false = tear_good m g
-    by_who (Some t) e true =
+    by_who : (o : Option ℕ) → on m.history c ≡ o → Good (record m { history = m.history ++ entries_in (Append (option_map (λ t. next_about m.settings m.history t (Preempted c)) o) (Taken c)) })
+    by_who None e = taken_good m c g
+    by_who (Some t) e =
         let k : Message = next_about m.settings m.history t (Preempted c) in
-        let told : Good (record m { history = m.history ++ Posted k ∷ [] }) =
-        post_good m k true (both_about m t (Preempted c) refl (g.history.on_known t c e) g) g in
+        let posted_too : Good (record m { history = m.history ++ Posted k ∷ [] }) = post_good m k true (both_about m t (Preempted c) refl (g.history.on_known t c e) g) g in
         subst (λ h. Good (record m { history = h })) (append_assoc m.history (Posted k ∷ []) (Taken c ∷ []))
-        (taken_good (record m { history = m.history ++ Posted k ∷ [] }) c told)
+        (taken_good (record m { history = m.history ++ Posted k ∷ [] }) c posted_too)

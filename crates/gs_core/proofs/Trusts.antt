@@ -24,6 +24,11 @@ use Rattle.gs_threads.proofs.Placing.{on_quiet}
 use Rattle.gs_kernel.specs.declared.settings.Settings.{Settings}
 use Rattle.gs_kernel.specs.Kernel.{after_post, creation, happening, made_way, preemption}
 use Rattle.gs_kernel.specs.Landing.{after_landing}
+use Rattle.gs_kernel.specs.declared.command.Command.{Command}
+use Rattle.gs_kernel.specs.declared.command.Command.TheVariants as commands
+use Rattle.gs_kernel.specs.declared.effect.Effect.TheVariants.{Append}
+use Rattle.gs_kernel.specs.Legal.{Tells, effect, entries_in, refusal as command_refusal}
+use Rattle.gs_kernel.proofs.Refusals.{free_when}
 use Rattle.gs_kernel.specs.Commit.{Fits, commit_refusal}
 use Rattle.gs_kernel.proofs.Entries.{torn_now}
 use Rattle.gs_kernel.proofs.Refusals.{first_passed, not_not}
@@ -37,7 +42,7 @@ use Rattle.gs_core.specs.declared.event.Event.{Event}
 use Rattle.gs_core.specs.declared.event.Event.TheVariants as events
 use Rattle.gs_core.specs.declared.reply.Reply.{Reply}
 use Rattle.gs_core.specs.declared.transaction.Transaction.{Transaction}
-use Rattle.gs_core.specs.Machine.{Agent, State, Does, Drains, Serves, Step, Takes, commits, fits, fits_into, landings, lands_late, lates, makes_way, mind_of, page_of, picture, plan_of, refusal, stamp_of, stamps, stamps_all, stamps_with, start, thinking, transaction_of, unread, view}
+use Rattle.gs_core.specs.Machine.{Agent, State, IsFit, Does, Drains, Serves, Step, Takes, commits, fits, fits_into, landings, lands_late, lates, makes_way, mind_of, page_of, picture, plan_of, refusal, stamp_of, stamps, stamps_all, stamps_with, start, thinking, transaction_of, unread, view}
 use Rattle.gs_core.specs.Good.{Good, is_given}
 use Rattle.gs_core.specs.Trust.{AreSeen, IsSeen, NoneDone, Trusted, Trusts}
 use Rattle.gs_core.specs.Safe.{IsTrusted}
@@ -224,13 +229,29 @@ drain_trusts_with m max c d a g r t =
 drain_trusts : (m : State) (max : ℕ) (d : Drained) (m' : State) → Good m → Drains m max d m' → Trusts m → Trusts m'
 drain_trusts m max d m' g r t = subst Trusts (sym r.others) (drain_trusts_with m max m'.consumed d m'.agent g (subst (Drains m max d) r.others r) t)
 
+-- what a command tells
+torn_trusts : (m : State) → Trusts m → Trusts (record m { history = m.history ++ Torn ∷ [] })
+torn_trusts m t =
+    grown m (m.history ++ Torn ∷ []) (stood_before m.history Torn) (λ up. absurd (torn_before m.history up)) (λ b p. seen_same m.history (m.history ++ Torn ∷ []) (view m) b (same_posted m.history Torn refl) p) t
+
+way_told : (h : History) (o : Option Message) (e : Entry) → made_way true h o e ≡ h ++ entries_in (Append o e)
+way_told h None e = refl
+way_told h (Some k) e = refl
+
+told_trusts : (m : State) (c : Command) → command_refusal m.settings m.history c ≡ None → Good m → Trusts m → Trusts (record m { history = m.history ++ entries_in (effect m.settings m.history c) })
+told_trusts m (commands.Create f) none g t = post_trusts m (creation m.settings.first_tseq m.history f) true g (both_creation m f g) t
+told_trusts m (commands.Thread u e) none g t = post_trusts m (happening m.settings m.history u e) true g (both_happening m u e (free_when m.settings m.history (commands.Thread u e) none).own g) t
+told_trusts m (commands.Take c) none g t = subst (λ (x : History). Trusts (record m { history = x })) (way_told m.history (preemption m.settings m.history c) (Taken c)) (take_trusts m c true g t)
+told_trusts m (commands.Give c) none g t = give_trusts m c t
+told_trusts m (commands.Tick c) none g t = post_trusts m (TimerTick c) true g (both_ticked m c g) t
+
+carries_trusts : (m : State) (c : Command) (b : Bool) (h : History) → command_refusal m.settings m.history c ≡ None → Tells (IsFit m.ring m.consumed) m.history (effect m.settings m.history c) b h → Good m → Trusts m → Trusts (record m { history = h })
+carries_trusts m c true h none d g t = subst (λ (x : History). Trusts (record m { history = x })) (sym d.1) (told_trusts m c none g t)
+carries_trusts m c false h none d g t = subst (λ (x : History). Trusts (record m { history = x })) (sym d.1) (torn_trusts m t)
+
 -- an event that is not refused, and does what it says, keeps beliefs trusted
 pub trusts_does : (m : State) (e : Event) (r : Reply) (m' : State) → Good m → Trusts m → refusal m e ≡ None → Does m e r m' → Trusts m'
-trusts_does m (events.Create f) r m' g t none d = let k = creation m.settings.first_tseq m.history f in subst Trusts (sym d.1) (post_trusts m k (fits m k) g (both_creation m f g) t)
-trusts_does m (events.Thread u e) r m' g t none d = let k = happening m.settings m.history u e in subst Trusts (sym d.1) (post_trusts m k (fits m k) g (both_happening m u e none g) t)
-trusts_does m (events.Take c) r m' g t none d = subst Trusts (sym d.1) (take_trusts m c (makes_way m c) g t)
-trusts_does m (events.Give c) r m' g t none d = subst Trusts (sym d.1) (give_trusts m c t)
-trusts_does m (events.Tick c) r m' g t none d = subst Trusts (sym d.1) (post_trusts m (TimerTick c) (fits m (TimerTick c)) g (both_ticked m c g) t)
+trusts_does m (events.Kernel c) r m' g t none d = subst Trusts (sym d.others) (carries_trusts m c d.fit m'.history none d.tells g t)
 trusts_does m (events.Drain max) r m' g t none d = drain_trusts m max d.0 m' g d.2 t
 trusts_does m (events.Stamp c u p) r m' g t none d = subst Trusts (sym d.1) (trusts_stamp m c u p t)
 trusts_does m events.Decide r m' g t none d = subst Trusts (sym d.1) (trusts_choices m (plan_of m) t)

@@ -23,12 +23,19 @@ use Rattle.gs_core.specs.Desk.{AreBelow}
 use Rattle.gs_core.specs.Machine.{refusal, view, plan_of, stamps, stamps_all, stamps_with, Does, Serves, Step}
 use Rattle.gs_layout.specs.declared.known.Known.{Known}
 use Rattle.gs_policy.specs.declared.choice.Choice.{Choice}
-use Rattle.gs_kernel.proofs.Refusals.{first_passed}
-use Rattle.gs_kernel.specs.Kernel.{happening}
-use Rattle.gs_core.specs.Machine.{fits, makes_way}
+use Rattle.gs_kernel.proofs.Refusals.{first_passed, free_when}
+use Rattle.std.proofs.Common.{◌++◌}
+use Rattle.gs_layout.specs.declared.message.Message.TheVariants.{TimerTick}
+use Rattle.gs_journal.specs.History.{History}
+use Rattle.gs_kernel.specs.Kernel.{creation}
+use Rattle.gs_kernel.specs.declared.command.Command.{Command}
+use Rattle.gs_kernel.specs.declared.command.Command.TheVariants as commands
+use Rattle.gs_kernel.specs.Legal.{Tells, effect, entries_in, refusal as command_refusal}
+use Rattle.gs_core.specs.Machine.{IsFit}
+use Rattle.gs_core.proofs.Tears.{tear_good}
 use Rattle.gs_core.proofs.Happens.{happen_good}
 use Rattle.gs_core.proofs.Taking.{take_good, give_good}
-use Rattle.gs_core.proofs.Steps.{create_good, tick_good, drain_kept, stamp_good, commit_good, late_good, idle}
+use Rattle.gs_core.proofs.Steps.{post_good, both_creation, both_ticked, drain_kept, stamp_good, commit_good, late_good, idle}
 use Rattle.gs_slots.specs.declared.state.SlotState.TheVariants.{Idle}
 use Rattle.std.proofs.lemmas.List.{length-replicate}
 
@@ -61,13 +68,21 @@ abbrev pub PlansBelow : State → Event → Type 0
 PlansBelow m events.Decide = AreBelow m.settings.cpus (plan_of m)
 PlansBelow m _ = Unit {0}
 
+-- what a command tells
+told_good : (m : State) (c : Command) → command_refusal m.settings m.history c ≡ None → Good m → Good (record m { history = m.history ++ entries_in (effect m.settings m.history c) })
+told_good m (commands.Create f) none g = post_good m (creation m.settings.first_tseq m.history f) true (both_creation m f g) g
+told_good m (commands.Thread t e) none g = happen_good m t e true (free_when m.settings m.history (commands.Thread t e) none).own g
+told_good m (commands.Take c) none g = take_good m c g
+told_good m (commands.Give c) none g = give_good m c g
+told_good m (commands.Tick c) none g = post_good m (TimerTick c) true (both_ticked m c g) g
+
+carries_good : (m : State) (c : Command) (b : Bool) (h : History) → command_refusal m.settings m.history c ≡ None → Tells (IsFit m.ring m.consumed) m.history (effect m.settings m.history c) b h → Good m → Good (record m { history = h })
+carries_good m c true h none t g = subst (λ (x : History). Good (record m { history = x })) (sym t.1) (told_good m c none g)
+carries_good m c false h none t g = subst (λ (x : History). Good (record m { history = x })) (sym t.1) (tear_good m g)
+
 -- an event that is not refused, and does what it says, keeps what the machine keeps
 does_good : (m : State) (e : Event) (r : Reply) (m' : State) → Good m → PlansBelow m e → refusal m e ≡ None → Does m e r m' → Good m'
-does_good m (events.Create f) r m' g b none d = subst Good (sym d.1) (create_good m f g)
-does_good m (events.Thread t e) r m' g b none d = subst Good (sym d.1) (happen_good m t e (fits m (happening m.settings m.history t e)) none g)
-does_good m (events.Take c) r m' g b none d = subst Good (sym d.1) (take_good m c (makes_way m c) g)
-does_good m (events.Give c) r m' g b none d = subst Good (sym d.1) (give_good m c g)
-does_good m (events.Tick c) r m' g b none d = subst Good (sym d.1) (tick_good m c g)
+does_good m (events.Kernel c) r m' g b none d = subst Good (sym d.others) (carries_good m c d.fit m'.history none d.tells g)
 does_good m (events.Drain max) r m' g b none d = drain_kept m max d.0 m' g d.2
 does_good m (events.Stamp c t p) r m' g b none d = subst Good (sym d.1) (stamp_good m c t p (below_count m c (stamps_on_cpu m c t p none)) g)
 does_good m events.Decide r m' g b none d = subst Good (sym d.1) (choices_good m (plan_of m) b g)

@@ -1,9 +1,7 @@
 -- The machine: what each event answers and leaves.
-use Rattle.std.specs.Prelude.{Bool, true, false, not, ◌||◌, ◌&&◌, ℕ, zero, suc, ◌+◌, ◌-◌, ◌<◌, ◌≤◌, ◌≡◌, ◌⊎◌, nat_le, nat_lt, min, Option, None, Some, IsSome, List, [], ◌∷◌, ◌++◌, length, take, drop, slice_get, slice_set, map, replicate, if◌then◌else◌, is_some, option_map}
+use Rattle.std.specs.Prelude.{Bool, true, false, not, ◌||◌, ◌&&◌, ℕ, zero, suc, ◌+◌, ◌-◌, ◌<◌, ◌≤◌, ◌≡◌, ◌⊎◌, nat_le, nat_lt, min, Option, None, Some, IsSome, List, [], ◌∷◌, ◌++◌, length, take, drop, slice_get, slice_set, map, replicate, is_some, option_map}
 use Rattle.std.specs.List.{list_any, count_by}
-use Rattle.gs_layout.specs.declared.facts.Facts.{Facts}
 use Rattle.gs_layout.specs.declared.message.Message.{Message}
-use Rattle.gs_layout.specs.declared.message.Message.TheVariants.{TimerTick}
 use Rattle.gs_layout.specs.declared.known.Known.{Known}
 use Rattle.gs_slots.specs.declared.state.Stamp.{Stamp}
 use Rattle.gs_slots.specs.declared.state.SlotState.{SlotState}
@@ -19,9 +17,10 @@ use Rattle.gs_kernel.specs.declared.settings.Settings.{Settings}
 use Rattle.gs_slots.specs.State.{collected}
 use Rattle.gs_kernel.specs.Commit.{Fits, Landings, commit_refusal, fits_if_any, lands}
 use Rattle.gs_kernel.specs.Landing.{landing, after_landing}
-use Rattle.gs_kernel.specs.declared.thread_event.ThreadEvent.{ThreadEvent}
+use Rattle.gs_kernel.specs.declared.command.Command.{Command}
+use Rattle.gs_kernel.specs.Legal.{Room, Tells, effect, last_in, refusal as command_refusal}
 use Rattle.gs_kernel.specs.First.{first_that}
-use Rattle.gs_kernel.specs.Kernel.{has_agent, create_refusal, tick_refusal, thread_refusal, take_refusal, give_refusal, creation, new_tid, happening, preemption, after_post, after_take, after_give}
+use Rattle.gs_kernel.specs.Kernel.{has_agent, preemption}
 use Rattle.gs_kernel.specs.Shown.{live_threads}
 use Rattle.gs_ring.specs.Places.{free_after, need, record_len, written}
 use Rattle.gs_status.specs.Masks.{mask_of}
@@ -120,11 +119,7 @@ without_agent m other =
 
 -- the first refusal of an event whose condition holds
 abbrev pub refusal : State → Event → Option Refusal
-refusal m (events.Create f) = create_refusal m.settings m.history f
-refusal m (events.Thread t e) = thread_refusal m.settings m.history t e
-refusal m (events.Take c) = take_refusal m.settings m.history c
-refusal m (events.Give c) = give_refusal m.settings m.history c
-refusal m (events.Tick c) = tick_refusal m.settings m.history c
+refusal m (events.Kernel c) = command_refusal m.settings m.history c
 refusal m (events.Drain max) = first_that ((torn m.history, Some refusals.Gone) ∷ (not (has_agent m.history), Some refusals.NotActive) ∷ []) None
 refusal m (events.Stamp c t p) =
     without_agent m (
@@ -153,36 +148,25 @@ fits_into ring consumed h k = nat_le (need ring (written ring (posted h)) (recor
 abbrev pub fits : State → Message → Bool
 fits m k = fits_into m.ring m.consumed m.history k
 
--- a message is posted and answered, or does not fit and tears the enclave down
-abbrev pub posts : State → Message → Reply → Reply × State
-posts m k r = (if fits m k then r else replies.Torn, record m { history = after_post (fits m k) m.history k })
-
--- a thread is created
-abbrev pub creates : State → Facts → Reply × State
-creates m f = posts m (creation m.settings.first_tseq m.history f) (replies.Created (new_tid m.history) (m.settings.first_tseq + 1))
-
--- something happens to a thread
-abbrev pub happens : State → ℕ → ThreadEvent → Reply × State
-happens m t e = posts m (happening m.settings m.history t e) (replies.Posted (happening m.settings m.history t e))
-
 -- whether the message to the thread on a CPU fits, where there is one
 abbrev pub makes_way : State → ℕ → Bool
 makes_way m c = fits_if_any (fits_into m.ring m.consumed) m.history (preemption m.settings m.history c)
 
--- the other class takes a CPU: the thread there is told first
-abbrev pub takes : State → ℕ → Reply × State
-takes m c = (
-  if makes_way m c then replies.Taken c else replies.Torn,
-  record m { history = after_take (makes_way m c) m.history (preemption m.settings m.history c) c },
-)
+-- the ring's condition: what fits, by its bytes
+abbrev pub IsFit : ℕ → ℕ → Room
+IsFit ring consumed h b k = fits_into ring consumed h k ≡ b
 
--- and gives a CPU back
-abbrev pub gives : State → ℕ → Reply × State
-gives m c = (replies.Given c, record m { history = after_give m.history c })
+-- what a command answers that was carried out, or tore the enclave down
+abbrev pub carried : State → Command → Bool → Reply
+carried m c true = replies.Done (last_in (effect m.settings m.history c))
+carried m c false = replies.Torn
 
--- the timer of a CPU ticks
-abbrev pub ticks : State → ℕ → Reply × State
-ticks m c = posts m (TimerTick c) (replies.Ticked c)
+-- a command is carried out, or tears the enclave down, as its message fits or does not
+pub record Carries (m : State) (c : Command) (r : Reply) (m' : State) : Type 0 where
+  pub fit : Bool
+  pub reply : r ≡ carried m c fit
+  pub tells : Tells (IsFit m.ring m.consumed) m.history (effect m.settings m.history c) fit m'.history
+  pub others : m' ≡ record m { history = m'.history }
 
 -- what is stamped: the active generation, the record's sequence number, and whether a thread on the CPU is to be taken off
 abbrev pub stamp_of : ℕ → Bool → (ℕ × ℕ) → Known → Stamp
@@ -278,11 +262,7 @@ Shows v r = (xs : List (ℕ × Known)) × (r ≡ replies.View xs) × IsListOf v 
 
 -- what an event answers and leaves that is not refused and finds memory; a drain and a look at the view have their own words
 abbrev pub Does : State → Event → Reply → State → Type 0
-Does m (events.Create f) r m' = (r ≡ (creates m f).0) × (m' ≡ (creates m f).1)
-Does m (events.Thread t e) r m' = (r ≡ (happens m t e).0) × (m' ≡ (happens m t e).1)
-Does m (events.Take c) r m' = (r ≡ (takes m c).0) × (m' ≡ (takes m c).1)
-Does m (events.Give c) r m' = (r ≡ (gives m c).0) × (m' ≡ (gives m c).1)
-Does m (events.Tick c) r m' = (r ≡ (ticks m c).0) × (m' ≡ (ticks m c).1)
+Does m (events.Kernel c) r m' = Carries m c r m'
 Does m (events.Drain max) r m' = (d : Drained) × (r ≡ replies.Drained d) × Drains m max d m'
 Does m (events.Stamp c t p) r m' = (r ≡ (stamps m c t p).0) × (m' ≡ (stamps m c t p).1)
 Does m events.Decide r m' = (r ≡ (decides m).0) × (m' ≡ (decides m).1)

@@ -17,8 +17,8 @@ use crate::stamping::{stamp_all, stamp_choice};
 use crate::transaction::Transaction;
 use crate::unread::waiting;
 use gs_agent::Role;
-use gs_kernel::{Kernel, ThreadEvent};
-use gs_layout::{Facts, Refusal};
+use gs_kernel::{Answer, Command, Kernel};
+use gs_layout::Refusal;
 use gs_policy::{AnyPolicy, Choice};
 use gs_ring::ByteRing;
 use gs_slots::{Region, SlotState, Stamp};
@@ -152,52 +152,13 @@ impl Machine {
         Some((transaction.cpu, transaction.slot))
     }
 
-    fn create(&mut self, facts: &Facts) -> Reply
-        ensures { Step self.old (Event.Create facts.now) result self.new }
+    fn serve(&mut self, command: &Command) -> Reply
+        ensures { Step self.old (Event.Kernel command.now) result self.new }
     {
-        match self.kernel.create(facts) {
-            Ok(Some((tid, tseq))) => Reply::Created { tid, tseq },
-            Ok(None) => Reply::Torn,
-            Err(refusal) => Reply::Refused(refusal),
-        }
-    }
-
-    fn tick(&mut self, cpu: u16) -> Reply
-        ensures { Step self.old (Event.Tick cpu) result self.new }
-    {
-        match self.kernel.tick(cpu) {
-            Ok(true) => Reply::Ticked { cpu },
-            Ok(false) => Reply::Torn,
-            Err(refusal) => Reply::Refused(refusal),
-        }
-    }
-
-    fn happen(&mut self, tid: u32, event: ThreadEvent) -> Reply
-        ensures { Step self.old (Event.Thread tid event) result self.new }
-    {
-        match self.kernel.happen(tid, event) {
-            Ok(Some(message)) => Reply::Posted(message),
-            Ok(None) => Reply::Torn,
-            Err(refusal) => Reply::Refused(refusal),
-        }
-    }
-
-    fn take(&mut self, cpu: u16) -> Reply
-        ensures { Step self.old (Event.Take cpu) result self.new }
-    {
-        match self.kernel.take(cpu) {
-            Ok(true) => Reply::Taken { cpu },
-            Ok(false) => Reply::Torn,
-            Err(refusal) => Reply::Refused(refusal),
-        }
-    }
-
-    fn give(&mut self, cpu: u16) -> Reply
-        ensures { Step self.old (Event.Give cpu) result self.new }
-    {
-        match self.kernel.give(cpu) {
-            Ok(()) => Reply::Given { cpu },
-            Err(refusal) => Reply::Refused(refusal),
+        match self.kernel.serve(command) {
+            Answer::Refused { refusal } => Reply::Refused(refusal),
+            Answer::Torn => Reply::Torn,
+            Answer::Done { entry } => Reply::Done(entry),
         }
     }
 
@@ -414,11 +375,7 @@ impl Machine {
         ensures faithful { IsFaithful self.new }
     {
         let reply = match event {
-            Event::Create { facts } => self.create(facts),
-            Event::Thread { tid, event } => self.happen(*tid, *event),
-            Event::Take { cpu } => self.take(*cpu),
-            Event::Give { cpu } => self.give(*cpu),
-            Event::Tick { cpu } => self.tick(*cpu),
+            Event::Kernel { command } => self.serve(command),
             Event::Drain { max } => self.drain(*max),
             Event::Stamp { cpu, tid, preempt } => self.stamp(*cpu, *tid, *preempt),
             Event::Decide => self.decide(),

@@ -1,5 +1,6 @@
 use crate::items::Items;
 use gs_agent::Drained;
+use gs_journal::Entry;
 use gs_kernel::{Landing, LiveThread};
 use gs_layout::{Known, Message, Refusal};
 use gs_policy::Choice;
@@ -11,30 +12,9 @@ pub enum Reply {
     Refused(Refusal),
     /// The event's message did not fit into the ring, and the enclave was torn down.
     Torn,
-    /// The new thread, with its first sequence number.
-    Created {
-        /// The thread's number.
-        tid: u32,
-        /// Its first sequence number.
-        tseq: u32,
-    },
-    /// The message about the thread that was posted.
-    Posted(Message),
-    /// The other class took the CPU.
-    Taken {
-        /// That CPU.
-        cpu: u16,
-    },
-    /// The other class gave the CPU back.
-    Given {
-        /// That CPU.
-        cpu: u16,
-    },
-    /// The timer of the CPU ticked.
-    Ticked {
-        /// That CPU.
-        cpu: u16,
-    },
+    /// The kernel did what it was told. This is the last entry that it added to the journal: what was
+    /// posted, taken or given.
+    Done(Entry),
     /// How many messages the agent took in, what they were to it, and why it stopped early, where it did.
     Drained(Drained),
     /// A transaction was stamped.

@@ -1,5 +1,5 @@
 -- What a kernel keeps when the other class takes a CPU or gives it back.
-use Rattle.std.proofs.Common.{◌≡◌, ◌≢◌, ℕ, ◌+◌, ◌<◌, ◌++◌, ◌∷◌, List, [], length, Bool, true, false, ◌==◌, nat_le, cond, Option, None, Some, IsSome, slice_get, slice_set, get_or, refl, ap, sym, subst, ◌∙◌, unwrap_or, arith}
+use Rattle.std.proofs.Common.{◌≡◌, ◌≢◌, ℕ, ◌+◌, ◌<◌, ◌++◌, ◌∷◌, List, [], length, Bool, true, false, not, ◌==◌, nat_le, cond, Option, None, Some, IsSome, slice_get, slice_set, get_or, refl, ap, sym, subst, ◌∙◌, unwrap_or, arith}
 use Rattle.std.specs.Option.{option_map}
 use Rattle.std.proofs.lemmas.Option.{slice_get-get_or}
 use Rattle.std.proofs.lemmas.Bool.Decides.{nat_tests}
@@ -29,31 +29,7 @@ use Rattle.gs_kernel.proofs.Abouts.{kept_about}
 use Rattle.gs_kernel.proofs.Entries.{beside_quiet}
 use Rattle.gs_kernel.proofs.Refusals.{first_passed}
 
--- who holds a CPU after one was taken, or given back
-latest_taken : (x y : Bool) (o : Option Bool) → unwrap_or (then_latest (cond x (Some y) None) o) false ≡ cond x y (unwrap_or o false)
-latest_taken true y o = refl
-latest_taken false y None = refl
-latest_taken false y (Some b) = refl
-
-taken_then : (h : History) (c d : ℕ) → taken (h ++ Taken c ∷ []) d ≡ cond (c == d) true (taken h d)
-taken_then h c d =
-    taken_is (h ++ Taken c ∷ []) d
-    ∙ (ap (λ o. unwrap_or o false) (last_taken-push h (Taken c) d) ∙ (latest_taken (c == d) true (last_taken h d) ∙ ap (cond (c == d) true) (sym (taken_is h d))))
-
-given_then : (h : History) (c d : ℕ) → taken (h ++ Given c ∷ []) d ≡ cond (c == d) false (taken h d)
-given_then h c d =
-    taken_is (h ++ Given c ∷ []) d
-    ∙ (ap (λ o. unwrap_or o false) (last_taken-push h (Given c) d) ∙ (latest_taken (c == d) false (last_taken h d) ∙ ap (cond (c == d) false) (sym (taken_is h d))))
-
--- a mask with one CPU changed
-changed : (c : ℕ) (x : Bool) (held held' : ℕ) (f : ℕ → Bool) → has held' c ≡ x → ((d : ℕ) → d ≢ c → has held' d ≡ has held d) → ((d : ℕ) → has held d ≡ f d) → (d : ℕ) → has held' d ≡ cond (c == d) x (f d)
-changed c x held held' f here others was d = by_test (c == d) refl
-  where
-    by_test : (b : Bool) → (c == d) ≡ b → has held' d ≡ cond b x (f d)
-    by_test true q = let e : c ≡ d = grind (arith, nat_tests) in ap (has held') (sym e) ∙ here
-    by_test false q = others d (λ e. let y : (c == d) ≡ true = grind (arith, nat_tests) in let z : false ≡ true = sym q ∙ y in absurd cc) ∙ was d
-
-kept_held : (s : Settings) (h : History) (t : TableState) (running : List (Option ℕ)) (held held' : ℕ) (a : Option (ℕ × ℕ)) (down : Bool) (e : Entry) → is_quiet e ≡ true → active (h ++ e ∷ []) ≡ active h → attaching (h ++ e ∷ []) ≡ attaching h
+pub kept_held : (s : Settings) (h : History) (t : TableState) (running : List (Option ℕ)) (held held' : ℕ) (a : Option (ℕ × ℕ)) (down : Bool) (e : Entry) → is_quiet e ≡ true → active (h ++ e ∷ []) ≡ active h → attaching (h ++ e ∷ []) ≡ attaching h
     → torn (h ++ e ∷ []) ≡ torn h → ((d : ℕ) → has held' d ≡ taken (h ++ e ∷ []) d) → IsKept s h t running held a down → IsKept s (h ++ e ∷ []) t running held' a down
 kept_held s h t running held held' a down e quiet same_active same_attaching same_torn holds k =
     record {
@@ -69,18 +45,6 @@ kept_held s h t running held held' a down e quiet same_active same_attaching sam
       never_begun = same_attaching ∙ k.never_begun;
       down_when_torn = k.down_when_torn ∙ sym same_torn;
     }
-
-pub kept_taken : (s : Settings) (h : History) (t : TableState) (running : List (Option ℕ)) (held held' : ℕ) (a : Option (ℕ × ℕ)) (down : Bool) (c : ℕ) → has held' c ≡ true → ((d : ℕ) → d ≢ c → has held' d ≡ has held d) → IsKept s h t running held a down
-    → IsKept s (h ++ Taken c ∷ []) t running held' a down
-kept_taken s h t running held held' a down c here others k =
-    let b = beside_quiet h (Taken c) (λ x. refl) (λ x. refl) refl refl refl in
-    kept_held s h t running held held' a down (Taken c) refl b.0 b.1 b.2 (λ d. changed c true held held' (taken h) here others k.held_by_other d ∙ sym (taken_then h c d)) k
-
-pub kept_given : (s : Settings) (h : History) (t : TableState) (running : List (Option ℕ)) (held held' : ℕ) (a : Option (ℕ × ℕ)) (down : Bool) (c : ℕ) → has held' c ≡ false → ((d : ℕ) → d ≢ c → has held' d ≡ has held d) → IsKept s h t running held a down
-    → IsKept s (h ++ Given c ∷ []) t running held' a down
-kept_given s h t running held held' a down c here others k =
-    let b = beside_quiet h (Given c) (λ x. refl) (λ x. refl) refl refl refl in
-    kept_held s h t running held held' a down (Given c) refl b.0 b.1 b.2 (λ d. changed c false held held' (taken h) here others k.held_by_other d ∙ sym (given_then h c d)) k
 
 -- the thread on a CPU has a row, and is there
 pub seated_at : (s : Settings) (h : History) (t : TableState) (running : List (Option ℕ)) (held : ℕ) (a : Option (ℕ × ℕ)) (down : Bool) (u c : ℕ) → IsKept s h t running held a down → on h c ≡ Some u → at s.cpus h u ≡ Some c
@@ -103,7 +67,6 @@ kept_preempted s h t t' running held a down u c k there rows first =
 pub record Takes (s : Settings) (h : History) (c : ℕ) : Type 0 where
   pub cpu : c < s.cpus
   pub numbers : is_spent_there s h (on h c) ≡ false
-  pub room : length h + 1 < s.history
 
 not_le : (m n : ℕ) → nat_le m n ≡ false → n < m
 not_le m n e = grind (arith, nat_tests)
@@ -111,20 +74,16 @@ not_le m n e = grind (arith, nat_tests)
 pub takes_when : (s : Settings) (h : History) (c : ℕ) → take_refusal s h c ≡ None → Takes s h c
 unfolding take_refusal
 takes_when s h c e =
-    let p1 = first_passed (torn h) refusals.Gone _ e in
-    let p2 = first_passed (nat_le s.cpus c) refusals.BadCpu _ p1.1 in
-    let p3 = first_passed (is_agent_on c (active h)) refusals.AgentThere _ p2.1 in
-    let p4 = first_passed (taken h c) refusals.CpuTaken _ p3.1 in
-    let p5 = first_passed (is_spent_there s h (on h c)) refusals.SeqSpent _ p4.1 in
-    let p6 = first_passed (is_full s h 2) refusals.HistoryFull None p5.1 in
-    record { cpu = not_le s.cpus c p2.0; numbers = p5.0; room = omega (arith, not_le (s.history + 1) (length h + 2) p6.0) }
+    let p1 = first_passed (nat_le s.cpus c) refusals.BadCpu _ e in
+    let p2 = first_passed (is_agent_on c (active h)) refusals.AgentThere _ p1.1 in
+    let p3 = first_passed (taken h c) refusals.CpuTaken _ p2.1 in
+    let p4 = first_passed (is_spent_there s h (on h c)) refusals.SeqSpent None p3.1 in
+    record { cpu = not_le s.cpus c p1.0; numbers = p4.0 }
 
+-- a giving back that is not refused is of a CPU of the enclave
 pub gives_when : (s : Settings) (h : History) (c : ℕ) → give_refusal s h c ≡ None → c < s.cpus
 unfolding give_refusal
-gives_when s h c e =
-    let p1 = first_passed (torn h) refusals.Gone _ e in
-    let p2 = first_passed (nat_le s.cpus c) refusals.BadCpu _ p1.1 in
-    not_le s.cpus c p2.0
+gives_when s h c e = not_le s.cpus c (first_passed (nat_le s.cpus c) refusals.BadCpu _ e).0
 
 pub not_spent : (s : Settings) (h : History) (o : Option ℕ) (u : ℕ) → o ≡ Some u → is_spent_there s h o ≡ false → seq s.first_tseq h u < 4294967295
 not_spent s h None u e q = absurd cc
@@ -133,6 +92,3 @@ not_spent s h (Some v) u e q = let same : v ≡ u = cc in subst (λ x. seq s.fir
 -- who is on a CPU, by its seat
 pub who_runs : (running : List (Option ℕ)) (c u : ℕ) (o d : Option ℕ) → c < length running → slice_get running c ≡ Some o → get_or running c d ≡ Some u → o ≡ Some u
 who_runs running c u o d lt seat read = let e : Some o ≡ Some (get_or running c d) = sym seat ∙ slice_get-get_or running c d lt in let z : o ≡ get_or running c d = cc in z ∙ read
-
-pub preempted_is : (s : Settings) (h : History) (c u : ℕ) → on h c ≡ Some u → preemption s h c ≡ Some (next_about s h u (Preempted c))
-preempted_is s h c u e = ap (option_map (λ t. next_about s h t (Preempted c))) e

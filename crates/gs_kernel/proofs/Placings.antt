@@ -1,12 +1,11 @@
 -- What holds where a landing is placed.
-use Rattle.std.proofs.Common.{◌≡◌, ℕ, zero, suc, ◌+◌, ◌<◌, ◌≤◌, ◌==◌, ◌++◌, ◌∷◌, [], ◌⊎◌, inl, inr, length, Bool, true, false, not, nat_le, cond, Option, None, Some, refl, ap, sym, subst, ◌∙◌, append_assoc, length-append, arith}
-use Rattle.std.specs.Option.{is_some, option_map}
+use Rattle.std.proofs.Common.{◌≡◌, ℕ, zero, suc, ◌+◌, ◌<◌, ◌≤◌, ◌==◌, ◌++◌, ◌∷◌, [], ◌⊎◌, inl, inr, length, Bool, true, false, nat_le, cond, Option, None, Some, refl, ap, sym, subst, ◌∙◌, append_assoc, arith}
+use Rattle.std.specs.Option.{is_some}
 use Rattle.std.proofs.lemmas.Bool.{false≢true}
 use Rattle.std.proofs.lemmas.Bool.Decides.{nat_tests}
 use Rattle.gs_slots.specs.declared.state.Stamp.{Stamp}
 use Rattle.gs_layout.specs.declared.message.Change.TheVariants.{Preempted}
 use Rattle.gs_layout.specs.declared.message.Message.{Message}
-use Rattle.gs_layout.specs.declared.message.Message.TheVariants.{Thread}
 use Rattle.gs_layout.specs.declared.outcome.Outcome.{Outcome}
 use Rattle.gs_layout.specs.declared.outcome.Outcome.TheVariants as outcomes
 use Rattle.gs_layout.specs.Message.{is_about}
@@ -17,10 +16,11 @@ use Rattle.gs_journal.specs.History.{History, seq, record_in, on, at, at_below, 
 use Rattle.gs_journal.proofs.Laws.{at_is, on-push}
 use Rattle.gs_threads.proofs.Entries.{messages_other, on_off, record_by, seq_by}
 use Rattle.gs_kernel.specs.declared.settings.Settings.{Settings}
-use Rattle.gs_kernel.specs.Kernel.{after_preemption, is_spent_there, made_way, next_about, preemption}
-use Rattle.gs_kernel.specs.Landing.{verdict, after_verdict, cpu_verdict, is_generation, placing, placing_entries, settled}
+use Rattle.gs_kernel.specs.Kernel.{after_preemption, is_spent_there, made_way, next_about}
+use Rattle.gs_kernel.specs.Landing.{verdict, after_verdict, cpu_verdict, is_generation, placing_entries, settled}
+use Rattle.gs_kernel.specs.Lands.{is_to_place}
 use Rattle.gs_kernel.specs.Threads.{is_runnable, may_run_on}
-use Rattle.gs_kernel.proofs.Entries.{beside_placed, beside_posted, torn_now}
+use Rattle.gs_kernel.proofs.Entries.{beside_posted}
 use Rattle.gs_kernel.proofs.Refusals.{not_not}
 
 is_placed : Outcome → Bool
@@ -171,72 +171,29 @@ placing_then s h k u b lt there p =
     by_test t none false q = q
     by_test t none true q = let e : u ≡ t = grind (arith, nat_tests) in absurd (on_none s.cpus k h t none lt (there ∙ ap Some e))
 
-pub placing_after : (s : Settings) (h : History) (k : ℕ) (b : Stamp) → k < s.cpus → IsToPlace s h k b → IsPlacing s (after_preemption true h (preemption s h k)) k b
-placing_after s h k b lt p = by_who (on h k) refl
-  where
-    by_who : (o : Option ℕ) → on h k ≡ o → IsPlacing s (after_preemption true h (option_map (λ t. next_about s h t (Preempted k)) o)) k b
-    by_who None e = placing_free s h k b e p
-    by_who (Some u) e = placing_then s h k u b lt e p
-
--- making way is the message, and then the entry
 pub made_way-push : (h : History) (o : Option Message) (e : Entry) → made_way true h o e ≡ after_preemption true h o ++ e ∷ []
 made_way-push h None e = refl
 made_way-push h (Some m) e = sym (append_assoc h (Posted m ∷ []) (e ∷ []))
 
--- whether the enclave stands then: where it stood, and the message fits
-pub torn_way : (s : Settings) (fits : Bool) (h : History) (o : Option Message) (k : ℕ) (b : Stamp) → torn h ≡ false → (fits ≡ false → (m : Message) × (o ≡ Some m)) → torn (made_way fits h o (placing k b)) ≡ not fits
-torn_way s true h None k b up any = (beside_placed h b.tid b.tseq k b.generation).torn ∙ up
-torn_way s false h None k b up any = let z : None ≡ Some (any refl).0 = (any refl).1 in absurd cc
-torn_way s true h (Some m) k b up any =
-    ap torn (made_way-push h (Some m) (placing k b)) ∙ ((beside_placed (h ++ Posted m ∷ []) b.tid b.tseq k b.generation).torn ∙ ((beside_posted h m).torn ∙ up))
-torn_way s false h (Some m) k b up any = torn_now h
-
-pub torn_refused : (s : Settings) (h h' : History) (k : ℕ) (b : Bool) → b ≡ false → h' ≡ after_preemption b h (preemption s h k) → (m : Message) × (preemption s h k ≡ Some m) → false ≡ not (torn h')
-torn_refused s h h' k b e is x = sym (ap (λ y. not (torn y)) (is ∙ (ap (λ y. after_preemption y h (preemption s h k)) e ∙ ap (after_preemption false h) x.1)) ∙ ap not (torn_now h))
-
-pub stands_placed : (h h1 h' : History) (o : Option Message) (k : ℕ) (b : Stamp) → torn h ≡ false → h1 ≡ after_preemption true h o → h' ≡ h1 ++ placing k b ∷ [] → true ≡ not (torn h')
-stands_placed h h1 h' o k b up told is =
-    let stood : torn h1 ≡ false = ap torn told ∙ by_message o in
-    sym (ap not (ap torn is ∙ ((beside_placed h1 b.tid b.tseq k b.generation).torn ∙ stood)))
-  where
-    by_message : (o : Option Message) → torn (after_preemption true h o) ≡ false
-    by_message None = up
-    by_message (Some m) = (beside_posted h m).torn ∙ up
-
--- so many entries there are then, and the placing is one more
-pub way_length : (s : Settings) (h : History) (k : ℕ) → length (after_preemption true h (preemption s h k)) + 1 ≡ length h + placing_entries (on h k)
-way_length s h k = by_who (on h k)
-  where
-    by_who : (o : Option ℕ) → length (after_preemption true h (option_map (λ t. next_about s h t (Preempted k)) o)) + 1 ≡ length h + placing_entries o
-    by_who None = refl
-    by_who (Some t) = omega (arith, length-append h (Posted (next_about s h t (Preempted k)) ∷ []))
-
 -- nothing comes of this verdict
 pub record IsIdle (o : Outcome) : Type 0 where
+  pub other : is_to_place o ≡ false
   pub outcome : (fits : Bool) → settled fits o ≡ o
   pub history : (fits : Bool) (s : Settings) (h : History) (k : ℕ) (b : Stamp) → after_verdict fits s h o k b ≡ h
 
 -- a verdict is to place, or nothing comes of it
 pub placed_or_not : (o : Outcome) → (o ≡ outcomes.Placed) ⊎ IsIdle o
 placed_or_not outcomes.Placed = inl refl
-placed_or_not outcomes.Gone = inr (record { outcome = λ fits. refl; history = λ fits s h k b. refl })
-placed_or_not outcomes.Displaced = inr (record { outcome = λ fits. refl; history = λ fits s h k b. refl })
-placed_or_not outcomes.NoThread = inr (record { outcome = λ fits. refl; history = λ fits s h k b. refl })
-placed_or_not outcomes.Stale = inr (record { outcome = λ fits. refl; history = λ fits s h k b. refl })
-placed_or_not outcomes.NotRunnable = inr (record { outcome = λ fits. refl; history = λ fits s h k b. refl })
-placed_or_not outcomes.AlreadyPlaced = inr (record { outcome = λ fits. refl; history = λ fits s h k b. refl })
-placed_or_not outcomes.NotAllowed = inr (record { outcome = λ fits. refl; history = λ fits s h k b. refl })
-placed_or_not outcomes.CpuIsAgent = inr (record { outcome = λ fits. refl; history = λ fits s h k b. refl })
-placed_or_not outcomes.CpuTaken = inr (record { outcome = λ fits. refl; history = λ fits s h k b. refl })
-placed_or_not outcomes.CpuBusy = inr (record { outcome = λ fits. refl; history = λ fits s h k b. refl })
-placed_or_not outcomes.SeqSpent = inr (record { outcome = λ fits. refl; history = λ fits s h k b. refl })
-placed_or_not outcomes.HistoryFull = inr (record { outcome = λ fits. refl; history = λ fits s h k b. refl })
-placed_or_not outcomes.Malformed = inr (record { outcome = λ fits. refl; history = λ fits s h k b. refl })
-
--- who is taken off is told that he was preempted
-pub preempted_shape : (s : Settings) (h : History) (k : ℕ) (m : Message) → preemption s h k ≡ Some m → (t : ℕ) × (n : ℕ) × (c : ℕ) × (m ≡ Thread t n (Preempted c))
-preempted_shape s h k m e = by_who (on h k) e
-  where
-    by_who : (o : Option ℕ) → option_map (λ t. next_about s h t (Preempted k)) o ≡ Some m → (t : ℕ) × (n : ℕ) × (c : ℕ) × (m ≡ Thread t n (Preempted c))
-    by_who None q = absurd cc
-    by_who (Some t) q = (t, seq s.first_tseq h t + 1, k, let z : m ≡ next_about s h t (Preempted k) = cc in z)
+placed_or_not outcomes.Gone = inr (record { other = refl; outcome = λ fits. refl; history = λ fits s h k b. refl })
+placed_or_not outcomes.Displaced = inr (record { other = refl; outcome = λ fits. refl; history = λ fits s h k b. refl })
+placed_or_not outcomes.NoThread = inr (record { other = refl; outcome = λ fits. refl; history = λ fits s h k b. refl })
+placed_or_not outcomes.Stale = inr (record { other = refl; outcome = λ fits. refl; history = λ fits s h k b. refl })
+placed_or_not outcomes.NotRunnable = inr (record { other = refl; outcome = λ fits. refl; history = λ fits s h k b. refl })
+placed_or_not outcomes.AlreadyPlaced = inr (record { other = refl; outcome = λ fits. refl; history = λ fits s h k b. refl })
+placed_or_not outcomes.NotAllowed = inr (record { other = refl; outcome = λ fits. refl; history = λ fits s h k b. refl })
+placed_or_not outcomes.CpuIsAgent = inr (record { other = refl; outcome = λ fits. refl; history = λ fits s h k b. refl })
+placed_or_not outcomes.CpuTaken = inr (record { other = refl; outcome = λ fits. refl; history = λ fits s h k b. refl })
+placed_or_not outcomes.CpuBusy = inr (record { other = refl; outcome = λ fits. refl; history = λ fits s h k b. refl })
+placed_or_not outcomes.SeqSpent = inr (record { other = refl; outcome = λ fits. refl; history = λ fits s h k b. refl })
+placed_or_not outcomes.HistoryFull = inr (record { other = refl; outcome = λ fits. refl; history = λ fits s h k b. refl })
+placed_or_not outcomes.Malformed = inr (record { other = refl; outcome = λ fits. refl; history = λ fits s h k b. refl })

@@ -1,12 +1,23 @@
 -- How the kernel keeps what it has.
-use Rattle.std.specs.Prelude.{Bool, true, false, ℕ, ◌<◌, ◌≤◌, ◌≡◌, Option, None, Some, List, length, slice_get, slice_set}
+use Rattle.std.specs.Prelude.{Bool, true, false, ℕ, ◌<◌, ◌≤◌, ◌≡◌, Option, None, Some, List, [], ◌∷◌, ◌++◌, length, slice_get, slice_set, if◌then◌else◌, unwrap_or}
+use Rattle.gs_layout.specs.declared.facts.Facts.{Facts}
+use Rattle.gs_layout.specs.declared.message.Change.{Change}
+use Rattle.gs_layout.specs.declared.message.Change.TheVariants.{Created, Blocked, Wakeup, Preempted, Yield, Dead, Affinity}
 use Rattle.gs_layout.specs.declared.message.Message.{Message}
+use Rattle.gs_layout.specs.declared.message.Message.TheVariants.{Thread, TimerTick}
+use Rattle.gs_journal.specs.declared.entry.Entry.{Entry}
+use Rattle.gs_journal.specs.declared.entry.Entry.TheVariants.{Posted, Placed, Taken, Given}
+use Rattle.gs_threads.specs.declared.row.ThreadRow.{ThreadRow}
+use Rattle.gs_threads.specs.Rows.{new_row}
+use Rattle.gs_threads.specs.Table.{rows_after, rows_placed}
 use Rattle.gs_status.specs.Masks.{has}
-use Rattle.gs_journal.specs.History.{History, posted, on, record_in, active, attaching, taken, torn}
+use Rattle.gs_journal.specs.History.{History, posted, on, record_in, active, attaching, taken, taken_by, torn}
 use Rattle.gs_journal.specs.JournalState.{JournalState}
 use Rattle.gs_threads.specs.Table.{TableState}
 use Rattle.gs_threads.specs.Mirrors.{Mirrors}
 use Rattle.gs_kernel.specs.declared.settings.Settings.{Settings}
+use Rattle.gs_kernel.specs.declared.effect.Effect.{Effect}
+use Rattle.gs_kernel.specs.declared.effect.Effect.TheVariants.{Post, Append}
 use Rattle.gs_kernel.specs.Settings.{IsInRange}
 use Rattle.gs_kernel.specs.Threads.{may_be_on}
 
@@ -30,6 +41,80 @@ abbrev pub vacated : List (Option ℕ) → Option ℕ → Bool → List (Option 
 vacated running None off = running
 vacated running (Some c) true = slice_set running c None
 vacated running (Some c) false = running
+
+-- the facts of the thread that a message creates, if it does
+abbrev pub created_in : Message → Option Facts
+created_in (Thread t n (Created f)) = Some f
+created_in _ = None
+
+-- the CPU that a change takes its thread off, if it does
+abbrev pub left_in : Change → Option ℕ
+left_in (Created f) = None
+left_in (Blocked c) = Some c
+left_in Wakeup = None
+left_in (Preempted c) = Some c
+left_in (Yield c) = Some c
+left_in (Dead o) = o
+left_in (Affinity o off mask) = if off then o else None
+
+abbrev pub left_by : Message → Option ℕ
+left_by (TimerTick c) = None
+left_by (Thread t n c) = left_in c
+
+abbrev pub freed : List (Option ℕ) → Option ℕ → List (Option ℕ)
+freed running None = running
+freed running (Some c) = slice_set running c None
+
+-- the entry behind the message of a step, if there is one
+abbrev pub behind : Effect → Option Entry
+behind (Post m) = None
+behind (Append victim e) = Some e
+
+-- what a message adds, if there is one, and what an entry adds behind it
+abbrev pub listed_message : Option Message → List Entry
+listed_message None = []
+listed_message (Some m) = Posted m ∷ []
+
+abbrev pub listed_entry : Option Entry → List Entry
+listed_entry None = []
+listed_entry (Some e) = e ∷ []
+
+-- the rows and the seats after a message, if there is one
+abbrev pub rows_with : ℕ → List ThreadRow → Message → Option Facts → List ThreadRow
+rows_with first rows m None = rows_after rows m
+rows_with first rows m (Some f) = rows ++ new_row first f ∷ []
+
+abbrev pub rows_told : ℕ → List ThreadRow → Option Message → List ThreadRow
+rows_told first rows None = rows
+rows_told first rows (Some m) = rows_with first rows m (created_in m)
+
+abbrev pub seats_told : List (Option ℕ) → Option Message → List (Option ℕ)
+seats_told running None = running
+seats_told running (Some m) = freed running (left_by m)
+
+-- and after an entry, if there is one
+abbrev pub rows_seated : List ThreadRow → Option Entry → List ThreadRow
+rows_seated rows (Some (Placed t q c g)) = rows_placed rows t (Some c)
+rows_seated rows _ = rows
+
+abbrev pub seats_seated : List (Option ℕ) → Option Entry → List (Option ℕ)
+seats_seated running (Some (Placed t q c g)) = slice_set running c (Some t)
+seats_seated running _ = running
+
+abbrev pub SeatsBelow : ℕ → Entry → Type 0
+SeatsBelow n (Placed t q c g) = c < n
+SeatsBelow n _ = Unit {0}
+
+-- whether the other class holds a CPU after an entry, if there is one
+abbrev pub held_by : Option Entry → ℕ → Bool → Bool
+held_by None c held = held
+held_by (Some e) c held = unwrap_or (taken_by c e) held
+
+-- the CPU that an entry says to be held or not, if it does, is below 64
+abbrev pub HoldsNear : Entry → Type 0
+HoldsNear (Taken c) = c < 64
+HoldsNear (Given c) = c < 64
+HoldsNear _ = Unit {0}
 
 -- what was sent to the ring is what was posted
 pub record IsKernel (sent : List Message → Type 0) (s : Settings) (j : JournalState) (t : TableState) (running : List (Option ℕ)) (held : ℕ) (a : Option (ℕ × ℕ)) (down : Bool) : Type 0 where

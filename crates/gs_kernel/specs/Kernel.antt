@@ -9,7 +9,7 @@ use Rattle.gs_layout.specs.declared.message.Message.TheVariants.{Thread}
 use Rattle.gs_layout.specs.declared.refusal.Refusal.{Refusal}
 use Rattle.gs_layout.specs.declared.refusal.Refusal.TheVariants as refusals
 use Rattle.gs_journal.specs.declared.entry.Entry.{Entry}
-use Rattle.gs_journal.specs.declared.entry.Entry.TheVariants.{Posted, Taken, Given, Torn}
+use Rattle.gs_journal.specs.declared.entry.Entry.TheVariants.{Posted, Torn}
 use Rattle.gs_status.specs.Masks.{has, has_past, has_none}
 use Rattle.gs_journal.specs.History.{History, created, seq, record_in, on, at, active, attaching, taken, torn}
 use Rattle.gs_journal.specs.Holder.{is_agent_on}
@@ -20,12 +20,13 @@ use Rattle.gs_kernel.specs.First.{first_that}
 use Rattle.gs_threads.specs.Rows.{is_live}
 use Rattle.gs_kernel.specs.Threads.{is_runnable}
 
--- what a kernel is to its callers: its numbers, its history, how many more entries may be appended without more memory, and the end of the
--- ring that it posts to
+-- what a kernel is to its callers: its numbers, its history, how many more entries may be appended and threads created without more
+-- memory, and the end of the ring that it posts to
 pub record KernelOf (P : Type 0) : Type 0 where
   pub settings : Settings
   pub history : List Entry
   pub room : ℕ
+  pub rows : ℕ
   pub poster : P
 
 -- the kernels are the same, their rings aside
@@ -33,6 +34,7 @@ pub record SameKernel {P : Type 0} (a b : KernelOf P) : Type 0 where
   pub settings : b.settings ≡ a.settings
   pub history : b.history ≡ a.history
   pub room : b.room ≡ a.room
+  pub rows : b.rows ≡ a.rows
 
 -- a mask that names no CPU, or one past the last
 abbrev pub is_bad_mask : Settings → ℕ → Bool
@@ -42,20 +44,14 @@ is_bad_mask s mask = has_none mask || has_past mask s.cpus
 abbrev pub is_full : Settings → History → ℕ → Bool
 is_full s h n = nat_le (s.history + 1) (length h + n)
 
--- the refusals of a creation, in order
+-- the refusals that a creation has of its own, in order
 unfoldable pub create_refusal : Settings → History → Facts → Option Refusal
 create_refusal s h f =
-    first_that (
-    (torn h, Some refusals.Gone)
-    ∷ (is_bad_mask s f.mask, Some refusals.EmptyMask)
-    ∷ (nat_le 65536 (length (created h)), Some refusals.TidsSpent)
-    ∷ (is_full s h 1, Some refusals.HistoryFull)
-    ∷ []
-    ) None
+    first_that ((is_bad_mask s f.mask, Some refusals.EmptyMask) ∷ (nat_le 65536 (length (created h)), Some refusals.TidsSpent) ∷ []) None
 
--- the refusals of a tick of a CPU, in order
-unfoldable pub tick_refusal : Settings → History → ℕ → Option Refusal
-tick_refusal s h c = first_that ((torn h, Some refusals.Gone) ∷ (nat_le s.cpus c, Some refusals.BadCpu) ∷ (is_full s h 1, Some refusals.HistoryFull) ∷ []) None
+-- the refusal that a tick of a CPU has of its own
+unfoldable pub tick_refusal : Settings → ℕ → Option Refusal
+tick_refusal s c = first_that ((nat_le s.cpus c, Some refusals.BadCpu) ∷ []) None
 
 -- a thread lives
 abbrev pub lives : History → ℕ → Bool
@@ -66,23 +62,23 @@ abbrev pub is_spent : Settings → History → ℕ → Bool
 is_spent s h t = nat_le 4294967295 (seq s.first_tseq h t)
 
 -- the refusal that one kind of event has of its own
-abbrev pub own_refusal : Settings → History → ℕ → ThreadEvent → Option Refusal
-own_refusal s h t happens.Block = if is_some (at s.cpus h t) then None else Some refusals.NotRunning
-own_refusal s h t happens.Wake = if is_runnable (record_in h t) then Some refusals.NotBlocked else None
-own_refusal s h t happens.Yield = if is_some (at s.cpus h t) then None else Some refusals.NotRunning
-own_refusal s h t happens.Die = None
-own_refusal s h t (happens.Affinity mask) = if is_bad_mask s mask then Some refusals.EmptyMask else None
+abbrev pub event_refusal : Settings → History → ℕ → ThreadEvent → Option Refusal
+event_refusal s h t happens.Block = if is_some (at s.cpus h t) then None else Some refusals.NotRunning
+event_refusal s h t happens.Wake = if is_runnable (record_in h t) then Some refusals.NotBlocked else None
+event_refusal s h t happens.Yield = if is_some (at s.cpus h t) then None else Some refusals.NotRunning
+event_refusal s h t happens.Die = None
+event_refusal s h t (happens.Affinity mask) = if is_bad_mask s mask then Some refusals.EmptyMask else None
 
 -- the first of two refusals, if either applies
 abbrev pub or_else : Option Refusal → Option Refusal → Option Refusal
 or_else (Some r) later = Some r
 or_else None later = later
 
--- the refusals of what happens to a thread, in order
+-- the refusals that what happens to a thread has of its own, in order
 unfoldable pub thread_refusal : Settings → History → ℕ → ThreadEvent → Option Refusal
 thread_refusal s h t e =
-    first_that ((torn h, Some refusals.Gone) ∷ (not (lives h t), Some refusals.NoThread) ∷ [])
-    (or_else (own_refusal s h t e) (first_that ((is_spent s h t, Some refusals.SeqSpent) ∷ (is_full s h 1, Some refusals.HistoryFull) ∷ []) None))
+    first_that ((not (lives h t), Some refusals.NoThread) ∷ [])
+    (or_else (event_refusal s h t e) (first_that ((is_spent s h t, Some refusals.SeqSpent) ∷ []) None))
 
 -- whether a thread on this CPU, if any, has to leave it under a new mask
 abbrev pub must_leave : Option ℕ → ℕ → Bool
@@ -110,29 +106,20 @@ abbrev pub is_spent_there : Settings → History → Option ℕ → Bool
 is_spent_there s h None = false
 is_spent_there s h (Some t) = is_spent s h t
 
--- the refusals of the other class's taking a CPU, in order: there has to be room for the message of a thread there too
+-- the refusals that the other class's taking a CPU has of its own, in order
 unfoldable pub take_refusal : Settings → History → ℕ → Option Refusal
 take_refusal s h c =
     first_that (
-    (torn h, Some refusals.Gone)
-    ∷ (nat_le s.cpus c, Some refusals.BadCpu)
+    (nat_le s.cpus c, Some refusals.BadCpu)
     ∷ (is_agent_on c (active h), Some refusals.AgentThere)
     ∷ (taken h c, Some refusals.CpuTaken)
     ∷ (is_spent_there s h (on h c), Some refusals.SeqSpent)
-    ∷ (is_full s h 2, Some refusals.HistoryFull)
     ∷ []
     ) None
 
--- and of its giving a CPU back
+-- and its giving a CPU back
 unfoldable pub give_refusal : Settings → History → ℕ → Option Refusal
-give_refusal s h c =
-    first_that (
-    (torn h, Some refusals.Gone)
-    ∷ (nat_le s.cpus c, Some refusals.BadCpu)
-    ∷ (not (taken h c), Some refusals.NotTaken)
-    ∷ (is_full s h 1, Some refusals.HistoryFull)
-    ∷ []
-    ) None
+give_refusal s h c = first_that ((nat_le s.cpus c, Some refusals.BadCpu) ∷ (not (taken h c), Some refusals.NotTaken) ∷ []) None
 
 -- the message to a thread on a CPU, if there is one, that it was taken off
 abbrev pub preemption : Settings → History → ℕ → Option Message
@@ -161,13 +148,6 @@ abbrev pub made_way : Bool → History → Option Message → Entry → History
 made_way fits h None e = h ++ e ∷ []
 made_way true h (Some m) e = h ++ Posted m ∷ e ∷ []
 made_way false h (Some m) e = h ++ Torn ∷ []
-
--- the history after the other class took a CPU
-abbrev pub after_take : Bool → History → Option Message → ℕ → History
-after_take fits h victim c = made_way fits h victim (Taken c)
-
-abbrev pub after_give : History → ℕ → History
-after_give h c = h ++ Given c ∷ []
 
 -- an agent is active, or one attaches
 abbrev pub has_agent : History → Bool

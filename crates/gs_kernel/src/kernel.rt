@@ -1,4 +1,4 @@
-ghost use Rattle.std.specs.Prelude.{◌≡◌, ℕ, ◌-◌, ◌≤◌, ◌∷◌, [], IfOk, OnOk, length, min};
+ghost use Rattle.std.specs.Prelude.{◌≡◌, ℕ, ◌-◌, ◌≤◌, ◌∷◌, [], IfOk, OnOk, OnErr, length, min};
 ghost use Rattle.gs_journal.specs.History.{posted, active, taken, torn};
 ghost use Rattle.gs_status.specs.Masks.{has};
 ghost use Rattle.gs_kernel.specs.Settings.{IsInRange};
@@ -36,7 +36,7 @@ impl<P: Poster> Model for Kernel<P> {
 
     ghost use Rattle.gs_kernel.specs.Inside.{IsKernel};
 
-    ghost view = { λ k. record { settings = k.settings; history = k.journal.entries; room = k.journal.room; poster = k.poster } };
+    ghost view = { λ k. record { settings = k.settings; history = k.journal.entries; room = k.journal.room; rows = k.threads.room; poster = k.poster } };
 
     ghost invariant = { λ k. IsKernel (P.posted k.poster) k.settings k.journal k.threads k.running.items k.taken k.agent k.torn };
 }
@@ -134,9 +134,8 @@ impl<P: Poster> Kernel<P> {
     pub fn reserve(&mut self, additional: usize) -> Result<(), AllocError>
         ensures room { OnOk result (min additional (self.old.settings.history - length self.old.history) ≤ self.new.room) }
         ensures kept { self.old.room ≤ self.new.room }
-        ensures history { self.new.history ≡ self.old.history }
-        ensures ring { self.new.poster ≡ self.old.poster }
-        ensures settings { self.new.settings ≡ self.old.settings }
+        ensures same { self.new ≡ record self.old { room = self.new.room } }
+        ensures refused { OnErr result (self.new ≡ self.old) }
     {
         let left = self.settings.history as usize - self.journal.len();
         match self.journal.reserve(additional.min(left)) {
@@ -145,11 +144,12 @@ impl<P: Poster> Kernel<P> {
         }
     }
 
-    /// Whether not one entry more fits into the journal.
-    pub(crate) fn is_full(&self) -> bool
-        ensures { result ≡ is_full self.now.settings self.now.history 1 }
+    /// Whether so many more entries, two at most, do not fit into the journal.
+    pub(crate) fn is_full(&self, additional: usize) -> bool
+        requires { additional ≤ 2 }
+        ensures { result ≡ is_full self.now.settings self.now.history additional }
     {
-        self.journal.len() >= self.settings.history as usize
+        self.journal.len() + additional > self.settings.history as usize
     }
 
     /// Whether a mask names no CPU, or one past the last.

@@ -7,10 +7,12 @@ ghost use Rattle.gs_slots.specs.State.{is_malformed};
 ghost use Rattle.gs_slots.specs.SlotMut.{cpu_of, left_in, state_of};
 ghost use Rattle.gs_journal.specs.History.{on, posted, torn};
 ghost use Rattle.gs_journal.specs.Holder.{is_agent_on};
-ghost use Rattle.gs_kernel.specs.Kernel.{made_way, preemption};
-ghost use Rattle.gs_kernel.specs.Commit.{history_after, landing_in, slot_after, verdict_in};
-ghost use Rattle.gs_kernel.specs.Landing.{landing, after_landing, after_verdict, verdict, cpu_verdict, is_generation, placing, placing_entries, settled};
+ghost use Rattle.gs_kernel.specs.Commit.{verdict_in};
+ghost use Rattle.gs_kernel.specs.Landing.{verdict, cpu_verdict, is_generation, placing_entries};
+ghost use Rattle.gs_kernel.specs.Legal.{Frame, RoomOf, Tells};
+ghost use Rattle.gs_kernel.specs.Lands.{Lands, LandsIn, Settles, placement};
 
+use crate::effect::Effect;
 use crate::kernel::Kernel;
 use crate::landing::Landing;
 use gs_journal::Entry;
@@ -69,7 +71,7 @@ impl<P: Poster> Kernel<P> {
         if self.is_spent_there(cpu) {
             return Outcome::SeqSpent;
         }
-        if self.journal.len() + self.placing_entries(cpu) > self.settings.history as usize {
+        if self.is_full(self.placing_entries(cpu)) {
             return Outcome::HistoryFull;
         }
         Outcome::Placed
@@ -78,7 +80,8 @@ impl<P: Poster> Kernel<P> {
     /// How many entries a placing on a CPU appends.
     fn placing_entries(&self, cpu: u16) -> usize
         requires { cpu < self.now.settings.cpus }
-        ensures { result ≡ placing_entries (on self.now.history cpu) }
+        ensures value { result ≡ placing_entries (on self.now.history cpu) }
+        ensures most { result ≤ 2 }
     {
         match self.running[cpu as usize] {
             Some(_) => 2,
@@ -97,22 +100,13 @@ impl<P: Poster> Kernel<P> {
     ///
     /// Where the transaction is to be placed, no room was reserved for its entries (one, and one more where a
     /// thread is taken off), and memory runs out. Then nothing changes.
-    #[tactic(auto, unfolding(crate::specs::Landing::landing))]
     pub fn land(&mut self, slot: SlotMut<'_>) -> Result<Option<Landing>, AllocError>
         requires { cpu_of slot < self.old.settings.cpus }
-        ensures landing { IfOk result (λ l. l ≡ landing_in (not (torn self.new.history)) self.old.settings self.old.history (cpu_of slot.entry) (state_of slot.entry)) }
-        ensures history { OnOk result (self.new.history ≡ history_after (not (torn self.new.history)) self.old.settings self.old.history (cpu_of slot.entry) (state_of slot.entry)) }
-        ensures slot { OnOk result (left_in slot.exit ≡ slot_after (not (torn self.new.history)) self.old.settings self.old.history (cpu_of slot.entry) (state_of slot.entry)) }
-        ensures tight { torn self.old.history ≡ false → torn self.new.history ≡ true → (m : Message) × (preemption self.old.settings self.old.history (cpu_of slot.entry) ≡ Some m) × P.tight self.new.poster m }
-        ensures unchanged { OnErr result (self.new.history ≡ self.old.history) }
-        ensures kept { OnErr result (left_in slot.exit ≡ state_of slot.entry) }
+        ensures lands { IfOk result (λ o. LandsIn (RoomOf P.same P.taken P.posted P.tight self.old.poster) self.old.settings self.old.history (cpu_of slot.entry) (state_of slot.entry) o (left_in slot.exit) self.new.history) }
+        ensures refused { OnErr result ((self.new ≡ self.old) × (left_in slot.exit ≡ state_of slot.entry)) }
         ensures memory { OnErr result (verdict_in self.old.settings self.old.history (cpu_of slot.entry) (state_of slot.entry) ≡ Some Outcome.Placed) }
         ensures reserved { OnErr result (self.old.room < placing_entries (on self.old.history (cpu_of slot.entry))) }
-        ensures nothing_posted { self.new.history ≡ self.old.history → self.new.poster ≡ self.old.poster }
-        ensures told { P.posted self.new.poster (posted self.new.history) }
-        ensures ring { P.same self.old.poster self.new.poster }
-        ensures stays { P.taken self.new.poster ≡ P.taken self.old.poster }
-        ensures settings { self.new.settings ≡ self.old.settings }
+        ensures frame { Frame P.same P.taken P.posted self.old self.new }
         ensures room { self.old.room + length self.old.history ≤ self.new.room + length self.new.history }
     {
         // A look at a field, by which the proof has what the kernel keeps.
@@ -132,22 +126,15 @@ impl<P: Poster> Kernel<P> {
     /// # Errors
     ///
     /// As of [`Kernel::land`].
-    #[tactic(auto, unfolding(crate::specs::Landing::landing))]
     pub fn land_stamp(&mut self, cpu: u16, slot: &Stamp) -> Result<Landing, AllocError>
         requires { cpu < self.old.settings.cpus }
-        ensures landing { IfOk result (λ l. l ≡ landing (not (torn self.new.history)) self.old.settings self.old.history cpu slot.now) }
+        ensures lands { IfOk result (λ l. Lands (RoomOf P.same P.taken P.posted P.tight self.old.poster) self.old.settings self.old.history cpu slot.now l self.new.history) }
         ensures known { IfOk result (λ l. is_malformed l.outcome ≡ false) }
         ensures below { IfOk result (λ l. IsCpuOrNone l.at) }
-        ensures history { OnOk result (self.new.history ≡ after_landing (not (torn self.new.history)) self.old.settings self.old.history cpu slot.now) }
-        ensures tight { torn self.old.history ≡ false → torn self.new.history ≡ true → (m : Message) × (preemption self.old.settings self.old.history cpu ≡ Some m) × P.tight self.new.poster m }
-        ensures unchanged { OnErr result (self.new.history ≡ self.old.history) }
+        ensures refused { OnErr result (self.new ≡ self.old) }
         ensures memory { OnErr result (verdict self.old.settings self.old.history cpu slot.now ≡ Outcome.Placed) }
         ensures reserved { OnErr result (self.old.room < placing_entries (on self.old.history cpu)) }
-        ensures nothing_posted { self.new.history ≡ self.old.history → self.new.poster ≡ self.old.poster }
-        ensures told { P.posted self.new.poster (posted self.new.history) }
-        ensures ring { P.same self.old.poster self.new.poster }
-        ensures stays { P.taken self.new.poster ≡ P.taken self.old.poster }
-        ensures settings { self.new.settings ≡ self.old.settings }
+        ensures frame { Frame P.same P.taken P.posted self.old self.new }
         ensures room { self.old.room + length self.old.history ≤ self.new.room + length self.new.history }
     {
         let judged = self.verdict(cpu, slot);
@@ -167,18 +154,12 @@ impl<P: Poster> Kernel<P> {
         requires cpu { cpu < self.old.settings.cpus }
         requires verdict { judged ≡ verdict self.old.settings self.old.history cpu slot.now }
         requires known { is_malformed judged ≡ false }
-        ensures outcome { IfOk result (λ o. o ≡ settled (not (torn self.new.history)) judged) }
+        ensures settles { IfOk result (λ o. Settles (RoomOf P.same P.taken P.posted P.tight self.old.poster) self.old.settings self.old.history cpu slot.now judged o self.new.history) }
         ensures known { IfOk result (λ o. is_malformed o ≡ false) }
-        ensures history { OnOk result (self.new.history ≡ after_verdict (not (torn self.new.history)) self.old.settings self.old.history judged cpu slot.now) }
-        ensures tight { torn self.old.history ≡ false → torn self.new.history ≡ true → (m : Message) × (preemption self.old.settings self.old.history cpu ≡ Some m) × P.tight self.new.poster m }
-        ensures unchanged { OnErr result (self.new.history ≡ self.old.history) }
+        ensures refused { OnErr result (self.new ≡ self.old) }
         ensures memory { OnErr result (judged ≡ Outcome.Placed) }
         ensures reserved { OnErr result (self.old.room < placing_entries (on self.old.history cpu)) }
-        ensures nothing_posted { self.new.history ≡ self.old.history → self.new.poster ≡ self.old.poster }
-        ensures told { P.posted self.new.poster (posted self.new.history) }
-        ensures ring { P.same self.old.poster self.new.poster }
-        ensures stays { P.taken self.new.poster ≡ P.taken self.old.poster }
-        ensures settings { self.new.settings ≡ self.old.settings }
+        ensures frame { Frame P.same P.taken P.posted self.old self.new }
         ensures room { self.old.room + length self.old.history ≤ self.new.room + length self.new.history }
     {
         // A look at a field, by which the proof has what the kernel keeps.
@@ -198,34 +179,26 @@ impl<P: Poster> Kernel<P> {
     fn place(&mut self, cpu: u16, slot: &Stamp) -> Result<bool, AllocError>
         requires cpu { cpu < self.old.settings.cpus }
         requires placed { verdict self.old.settings self.old.history cpu slot.now ≡ Outcome.Placed }
-        ensures stands { IfOk result (λ fits. fits ≡ not (torn self.new.history)) }
-        ensures placed { IfOk result (λ fits. self.new.history ≡ made_way fits self.old.history (preemption self.old.settings self.old.history cpu) (placing cpu slot.now)) }
-        ensures tight { IfOk result (λ fits. fits ≡ false → (m : Message) × (preemption self.old.settings self.old.history cpu ≡ Some m) × P.tight self.new.poster m) }
-        ensures unchanged { OnErr result (self.new.history ≡ self.old.history) }
+        ensures tells { IfOk result (λ fit. Tells (RoomOf P.same P.taken P.posted P.tight self.old.poster) self.old.history (placement self.old.settings self.old.history cpu slot.now) fit self.new.history) }
+        ensures refused { OnErr result (self.new ≡ self.old) }
         ensures reserved { OnErr result (self.old.room < placing_entries (on self.old.history cpu)) }
-        ensures nothing_posted { OnErr result (self.new.poster ≡ self.old.poster) }
-        ensures told { P.posted self.new.poster (posted self.new.history) }
-        ensures ring { P.same self.old.poster self.new.poster }
-        ensures stays { P.taken self.new.poster ≡ P.taken self.old.poster }
-        ensures settings { self.new.settings ≡ self.old.settings }
+        ensures frame { Frame P.same P.taken P.posted self.old self.new }
         ensures room { self.old.room + length self.old.history ≤ self.new.room + length self.new.history }
     {
         let entries = self.placing_entries(cpu);
         if self.journal.reserve(entries).is_err() {
             return Err(AllocError);
         }
-        if !self.preempt(cpu) {
-            return Ok(false);
-        }
-        self.journal.append(Entry::Placed {
-            tid: slot.tid,
-            tseq: slot.tseq,
-            cpu,
-            generation: slot.generation,
-        });
-        self.threads.place(slot.tid, Some(cpu));
-        self.running[cpu as usize] = Some(slot.tid);
-        Ok(true)
+        let effect = Effect::Append {
+            victim: self.preemption(cpu),
+            entry: Entry::Placed {
+                tid: slot.tid,
+                tseq: slot.tseq,
+                cpu,
+                generation: slot.generation,
+            },
+        };
+        Ok(self.tell(&effect))
     }
 }
 

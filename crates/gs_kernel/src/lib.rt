@@ -2,8 +2,11 @@
 //! agent's transactions. It keeps a journal of all that happens.
 #![tactic(auto)]
 
+mod answer;
+mod command;
 mod commit;
 mod create;
+mod effect;
 mod happen;
 mod head;
 mod kernel;
@@ -12,14 +15,18 @@ mod landing;
 mod live_thread;
 mod other_class;
 mod post;
-mod preempt;
+mod serve;
 mod settings;
 mod shown;
 mod tear;
+mod tell;
 mod thread_event;
 mod threads;
 mod tick;
 
+pub use answer::Answer;
+pub use command::Command;
+pub use effect::Effect;
 pub use head::Head;
 pub use kernel::Kernel;
 pub use landing::Landing;

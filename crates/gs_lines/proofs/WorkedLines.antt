@@ -4,7 +4,9 @@ use Rattle.std.specs.Fmt.{digits}
 use Rattle.gs_layout.specs.declared.refusal.Refusal.TheVariants as refusals
 use Rattle.gs_layout.specs.declared.outcome.Outcome.TheVariants as outcomes
 use Rattle.gs_agent.specs.declared.drained.Stop.TheVariants.{Gap}
-use Rattle.gs_core.specs.declared.reply.Reply.TheVariants.{Refused, Torn, Created, Posted, Taken, Given, Ticked, Drained, Stamped, Decided, Landed, Late, View, State, Unread}
+use Rattle.gs_core.specs.declared.reply.Reply.TheVariants.{Refused, Torn, Done, Drained, Stamped, Decided, Landed, Late, View, State, Unread}
+use Rattle.gs_journal.specs.declared.entry.Entry.TheVariants as entries
+use Rattle.gs_journal.specs.declared.entry.Entry.TheVariants.{Posted, Taken, Given, Placed, Role, Begin, Left}
 use Rattle.gs_layout.specs.declared.facts.Class.TheVariants.{Zero, One}
 use Rattle.gs_layout.specs.declared.message.Change.TheVariants as changes
 use Rattle.gs_layout.specs.declared.message.Message.TheVariants.{Thread, TimerTick}
@@ -13,7 +15,7 @@ use Rattle.gs_lines.specs.Lines.{lines, line}
 refused : lines (Refused refusals.SlotOpen ∷ []) ≡ line (codes "refused 16 SlotOpen")
 refused = refl
 
-created : lines (Created 1 4294967295 ∷ Stamped 12 ∷ []) ≡ line (codes "created 1 seq 4294967295") ++ line (codes "stamped 12")
+created : lines (Done (Posted (Thread 1 4294967295 (changes.Created (record { runnable = true; mask = 3; class = Zero; name = codes "web" })))) ∷ Stamped 12 ∷ []) ≡ line (codes "created 1 seq 4294967295") ++ line (codes "stamped 12")
 unfolding digits
 created = refl
 
@@ -61,7 +63,7 @@ landed = refl
 torn : lines (Torn ∷ []) ≡ line (codes "torn")
 torn = refl
 
-ticked : lines (Ticked 0 ∷ Ticked 63 ∷ Torn ∷ []) ≡ line (codes "tick 0") ++ line (codes "tick 63") ++ line (codes "torn")
+ticked : lines (Done (Posted (TimerTick 0)) ∷ Done (Posted (TimerTick 63)) ∷ Torn ∷ []) ≡ line (codes "tick 0") ++ line (codes "tick 63") ++ line (codes "torn")
 unfolding digits
 ticked = refl
 
@@ -110,15 +112,15 @@ waits_anywhere = refl
 
 -- what happened to a thread
 happened : lines (
-    Posted (Thread 1 2 (changes.Blocked 1))
-    ∷ Posted (Thread 1 3 changes.Wakeup)
-    ∷ Posted (Thread 1 4 (changes.Yield 1))
-    ∷ Posted (Thread 1 5 (changes.Affinity (Some 1) true 1))
-    ∷ Posted (Thread 1 6 (changes.Affinity (Some 1) false 3))
-    ∷ Posted (Thread 1 7 (changes.Affinity None false 3))
-    ∷ Posted (Thread 1 8 (changes.Dead None))
-    ∷ Taken 1
-    ∷ Given 63
+    Done (Posted (Thread 1 2 (changes.Blocked 1)))
+    ∷ Done (Posted (Thread 1 3 changes.Wakeup))
+    ∷ Done (Posted (Thread 1 4 (changes.Yield 1)))
+    ∷ Done (Posted (Thread 1 5 (changes.Affinity (Some 1) true 1)))
+    ∷ Done (Posted (Thread 1 6 (changes.Affinity (Some 1) false 3)))
+    ∷ Done (Posted (Thread 1 7 (changes.Affinity None false 3)))
+    ∷ Done (Posted (Thread 1 8 (changes.Dead None)))
+    ∷ Done (Taken 1)
+    ∷ Done (Given 63)
     ∷ []
     ) ≡ line (codes "blocked 1 seq 2")
     ++ line (codes "woken 1 seq 3")
@@ -149,3 +151,9 @@ known : lines (View ((1, record { facts = record { runnable = true; mask = 3; cl
     ≡ line (codes "view 1 seq 1 r mask 3 class 0 name web") ++ line (codes "view 2 seq 9 b mask 1 class 1 name -")
 unfolding digits
 known = refl
+
+-- each other entry of the journal
+each_entry : lines (Done (Placed 1 2 3 4) ∷ Done (Role 2 1) ∷ Done (Begin 3) ∷ Done Left ∷ Done entries.Torn ∷ [])
+    ≡ line (codes "placed 1 seq 2 cpu 3 generation 4") ++ line (codes "agent 1 generation 2") ++ line (codes "begun generation 3") ++ line (codes "left") ++ line (codes "torn")
+unfolding digits
+each_entry = refl

@@ -17,6 +17,8 @@ use Rattle.gs_layout.specs.declared.message.Message.{Message}
 use Rattle.gs_layout.specs.declared.message.Message.TheVariants.{Thread, TimerTick}
 use Rattle.gs_layout.specs.Message.{tseq_of}
 use Rattle.gs_layout.specs.Spelling.{kind_of, tid_of, cpu_of}
+use Rattle.gs_journal.specs.declared.entry.Entry.{Entry}
+use Rattle.gs_journal.specs.declared.entry.Entry.TheVariants.{Posted, Placed, Role, Begin, Left, Taken, Given, Torn}
 use Rattle.gs_kernel.specs.declared.landing.Landing.{Landing}
 use Rattle.gs_kernel.specs.declared.live_thread.LiveThread.{LiveThread}
 use Rattle.gs_agent.specs.declared.drained.Drained.{Drained}
@@ -163,6 +165,24 @@ abbrev pub posted_text : Message → List ℕ
 posted_text (Thread t s c) = change_text c ++ codes " " ++ decimal t ++ codes " seq " ++ decimal s ++ off_text c
 posted_text (TimerTick c) = codes "tick " ++ decimal c
 
+-- an agent that became active, and one that began to attach
+abbrev pub role_text : ℕ → ℕ → List ℕ
+role_text g c = codes "agent " ++ decimal c ++ codes " generation " ++ decimal g
+
+abbrev pub begin_text : ℕ → List ℕ
+begin_text g = codes "begun" ++ codes " generation " ++ decimal g
+
+-- an entry of the journal
+abbrev pub entry_text : Entry → List ℕ
+entry_text (Posted m) = posted_text m
+entry_text (Placed t s c g) = codes "placed " ++ decimal t ++ codes " seq " ++ decimal s ++ codes " cpu " ++ decimal c ++ codes " generation " ++ decimal g
+entry_text (Role g c) = role_text g c
+entry_text (Begin g) = begin_text g
+entry_text Left = codes "left"
+entry_text (Taken c) = codes "taken " ++ decimal c
+entry_text (Given c) = codes "given " ++ decimal c
+entry_text Torn = codes "torn"
+
 -- whether a thread may run
 abbrev pub runnable_text : Bool → List ℕ
 runnable_text true = codes "r"
@@ -205,11 +225,7 @@ live_lines threads = flat_map (λ a. line (live_text a)) threads
 abbrev pub reply_lines : Reply → List ℕ
 reply_lines (replies.Refused f) = line (codes "refused " ++ refusal_text f)
 reply_lines replies.Torn = line (codes "torn")
-reply_lines (replies.Created tid tseq) = line (codes "created " ++ decimal tid ++ codes " seq " ++ decimal tseq)
-reply_lines (replies.Posted m) = line (posted_text m)
-reply_lines (replies.Taken cpu) = line (codes "taken " ++ decimal cpu)
-reply_lines (replies.Given cpu) = line (codes "given " ++ decimal cpu)
-reply_lines (replies.Ticked cpu) = line (codes "tick " ++ decimal cpu)
+reply_lines (replies.Done e) = line (entry_text e)
 reply_lines (replies.Drained d) = line (drained_text d)
 reply_lines (replies.Stamped number) = line (codes "stamped " ++ decimal number)
 reply_lines (replies.Decided first choices) = line (decided_text choices) ++ choice_lines first choices

@@ -2,7 +2,7 @@ ghost use Rattle.std.specs.Prelude.{◌≡◌, ◌++◌, IfOk, OnOk, string_byte
 ghost use Rattle.gs_lines.specs.Lines.{refusal_text, outcome_text, drained_text, unless_zero, stop_text, line, landed_text, landing_text, landing_lines, late_text, torn_line, reply_lines, lines};
 
 use crate::choice_line::write_decided;
-use crate::message_line::{write_messages, write_posted};
+use crate::message_line::{write_entry, write_messages};
 use crate::thread_line::{write_threads, write_view};
 use gs_agent::{Drained, Stop};
 use gs_core::Reply;
@@ -156,11 +156,7 @@ fn write_reply(out: &mut String, reply: &Reply) -> Result<(), AllocError>
             write!(out, "refused {name}\n")
         }
         Reply::Torn => out.push_str("torn\n"),
-        Reply::Created { tid, tseq } => write!(out, "created {tid} seq {tseq}\n"),
-        Reply::Posted(message) => write_posted(out, message),
-        Reply::Taken { cpu } => write!(out, "taken {cpu}\n"),
-        Reply::Given { cpu } => write!(out, "given {cpu}\n"),
-        Reply::Ticked { cpu } => write!(out, "tick {cpu}\n"),
+        Reply::Done(entry) => write_entry(out, entry),
         Reply::Drained(drained) => write_drained(out, drained),
         Reply::Stamped { number } => write!(out, "stamped {number}\n"),
         Reply::Decided { first, choices } => write_decided(out, *first, choices.as_slice()),

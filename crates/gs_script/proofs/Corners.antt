@@ -4,6 +4,7 @@ use Rattle.gs_layout.specs.declared.facts.Class.TheVariants.{Zero, One}
 use Rattle.gs_policy.specs.declared.any.AnyPolicy.TheVariants as policies
 use Rattle.gs_core.specs.declared.config.Config.{Config}
 use Rattle.gs_core.specs.declared.event.Event.{Event}
+use Rattle.gs_kernel.specs.declared.command.Command.TheVariants as commands
 use Rattle.gs_core.specs.declared.event.Event.TheVariants as events
 use Rattle.gs_script.specs.declared.fault.Reason.{Reason}
 use Rattle.gs_script.specs.declared.fault.Reason.TheVariants.{NoHeader, BadWord, BadCount, BadNumber, BadName, BadByte}
@@ -150,10 +151,10 @@ late_short = refl
 commit_least : event (codes "commit 0") ≡ Ok (events.Commit 0)
 commit_least = refl
 
-create_most : event (codes "create 18446744073709551615 1 b --") ≡ Ok (events.Create (record { runnable = false; mask = 18446744073709551615; class = One; name = codes "--" }))
+create_most : event (codes "create 18446744073709551615 1 b --") ≡ Ok (events.Kernel (commands.Create (record { runnable = false; mask = 18446744073709551615; class = One; name = codes "--" })))
 create_most = refl
 
-create_hash : event (codes "create 1 0 r #") ≡ Ok (events.Create (record { runnable = true; mask = 1; class = Zero; name = codes "#" }))
+create_hash : event (codes "create 1 0 r #") ≡ Ok (events.Kernel (commands.Create (record { runnable = true; mask = 1; class = Zero; name = codes "#" })))
 create_hash = refl
 
 create_past : event (codes "create 18446744073709551616 1 b a") ≡ Err BadNumber
@@ -174,7 +175,7 @@ create_nameless = refl
 create_two_names : event (codes "create x 9 x a b") ≡ Err BadCount
 create_two_names = refl
 
-create_edge : event (codes "create 3 0 r 1234567890123456") ≡ Ok (events.Create (record { runnable = true; mask = 3; class = Zero; name = codes "1234567890123456" }))
+create_edge : event (codes "create 3 0 r 1234567890123456") ≡ Ok (events.Kernel (commands.Create (record { runnable = true; mask = 3; class = Zero; name = codes "1234567890123456" })))
 create_edge = refl
 
 create_over : event (codes "create 3 0 r 12345678901234567") ≡ Err BadName

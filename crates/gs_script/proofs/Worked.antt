@@ -2,6 +2,7 @@
 use Rattle.std.proofs.Common.{◌≡◌, ℕ, List, [], ◌∷◌, ◌++◌, codes, refl, Ok, Err, true, false, Option, Some, None}
 use Rattle.gs_layout.specs.declared.facts.Class.TheVariants.{Zero, One}
 use Rattle.gs_policy.specs.declared.any.AnyPolicy.TheVariants as policies
+use Rattle.gs_kernel.specs.declared.command.Command.TheVariants as commands
 use Rattle.gs_core.specs.declared.event.Event.TheVariants as events
 use Rattle.gs_kernel.specs.declared.thread_event.ThreadEvent.TheVariants as threads
 use Rattle.gs_script.specs.declared.fault.Reason.{Reason}
@@ -69,10 +70,10 @@ create_class = refl
 create_name : event_of (words_of (codes "create 3 0 r seventeenbytesxyz")) ≡ Err BadName
 create_name = refl
 
-created : event_of (words_of (codes "create 3 1 b sixteenbytesname")) ≡ Ok (events.Create (record { runnable = false; mask = 3; class = One; name = codes "sixteenbytesname" }))
+created : event_of (words_of (codes "create 3 1 b sixteenbytesname")) ≡ Ok (events.Kernel (commands.Create (record { runnable = false; mask = 3; class = One; name = codes "sixteenbytesname" })))
 created = refl
 
-created_nameless : event_of (words_of (codes "create 0 0 r -")) ≡ Ok (events.Create (record { runnable = true; mask = 0; class = Zero; name = [] }))
+created_nameless : event_of (words_of (codes "create 0 0 r -")) ≡ Ok (events.Kernel (commands.Create (record { runnable = true; mask = 0; class = Zero; name = [] })))
 created_nameless = refl
 
 stamp_flag : event_of (words_of (codes "stamp 1 1 p")) ≡ Ok (events.Stamp 1 1 true)
@@ -96,13 +97,13 @@ committed = refl
 committed_past : event_of (words_of (codes "commit 18446744073709551616")) ≡ Err BadNumber
 committed_past = refl
 
-ticked : event_of (words_of (codes "tick 1")) ≡ Ok (events.Tick 1)
+ticked : event_of (words_of (codes "tick 1")) ≡ Ok (events.Kernel (commands.Tick 1))
 ticked = refl
 
-tick_least : event_of (words_of (codes "tick 0")) ≡ Ok (events.Tick 0)
+tick_least : event_of (words_of (codes "tick 0")) ≡ Ok (events.Kernel (commands.Tick 0))
 tick_least = refl
 
-tick_most : event_of (words_of (codes "tick 65535")) ≡ Ok (events.Tick 65535)
+tick_most : event_of (words_of (codes "tick 65535")) ≡ Ok (events.Kernel (commands.Tick 65535))
 tick_most = refl
 
 tick_past : event_of (words_of (codes "tick 65536")) ≡ Err BadNumber
@@ -189,25 +190,25 @@ all_given : header_of (words_of (codes "cpus 64 ring 1048576 first-tseq 7 first-
 all_given = refl
 
 -- what happens to a thread and to a CPU
-blocks : event_of (words_of (codes "block 65536")) ≡ Ok (events.Thread 65536 threads.Block)
+blocks : event_of (words_of (codes "block 65536")) ≡ Ok (events.Kernel (commands.Thread 65536 threads.Block))
 blocks = refl
 
-wakes : event_of (words_of (codes "wake 0")) ≡ Ok (events.Thread 0 threads.Wake)
+wakes : event_of (words_of (codes "wake 0")) ≡ Ok (events.Kernel (commands.Thread 0 threads.Wake))
 wakes = refl
 
-yields : event_of (words_of (codes " yield  4294967295")) ≡ Ok (events.Thread 4294967295 threads.Yield)
+yields : event_of (words_of (codes " yield  4294967295")) ≡ Ok (events.Kernel (commands.Thread 4294967295 threads.Yield))
 yields = refl
 
 dies : event_of (words_of (codes "die 4294967296")) ≡ Err BadNumber
 dies = refl
 
-moves : event_of (words_of (codes "affinity 1 18446744073709551615")) ≡ Ok (events.Thread 1 (threads.Affinity 18446744073709551615))
+moves : event_of (words_of (codes "affinity 1 18446744073709551615")) ≡ Ok (events.Kernel (commands.Thread 1 (threads.Affinity 18446744073709551615)))
 moves = refl
 
 moves_alone : event_of (words_of (codes "affinity x")) ≡ Err BadCount
 moves_alone = refl
 
-taken : event_of (words_of (codes "take 65535")) ≡ Ok (events.Take 65535)
+taken : event_of (words_of (codes "take 65535")) ≡ Ok (events.Kernel (commands.Take 65535))
 taken = refl
 
 given : event_of (words_of (codes "give 65536")) ≡ Err BadNumber

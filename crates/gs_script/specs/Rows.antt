@@ -4,6 +4,8 @@ use denote.Ref.{Bor}
 use Rattle.gs_layout.specs.declared.facts.Class.{Class}
 use Rattle.gs_layout.specs.declared.facts.Class.TheVariants.{Zero, One}
 use Rattle.gs_layout.specs.declared.name.Name.{Name as TheName}
+use Rattle.gs_kernel.specs.declared.command.Command.{Command}
+use Rattle.gs_kernel.specs.declared.command.Command.TheVariants as commands
 use Rattle.gs_kernel.specs.declared.thread_event.ThreadEvent.{ThreadEvent}
 use Rattle.gs_kernel.specs.declared.thread_event.ThreadEvent.TheVariants as happens
 use Rattle.gs_core.specs.declared.event.Event.{Event}
@@ -47,12 +49,12 @@ create =
     record {
       word = codes "create";
       forms = (u64s ∷ Number 0 1 ∷ OneOf (codes "r" ∷ codes "b" ∷ []) ∷ Name ∷ []) ∷ [];
-      event = λ ws. events.Create (record { runnable = is (at 2 ws) (codes "r"); mask = number (at 0 ws); class = class_of (number (at 1 ws)); name = name_of (at 3 ws) });
+      event = λ ws. events.Kernel (commands.Create (record { runnable = is (at 2 ws) (codes "r"); mask = number (at 0 ws); class = class_of (number (at 1 ws)); name = name_of (at 3 ws) }));
     }
 
 -- a line that says what happens to a thread
 abbrev pub to_thread : List ℕ → ThreadEvent → Row
-to_thread word e = record { word = word; forms = (u32s ∷ []) ∷ []; event = λ ws. events.Thread (number (at 0 ws)) e }
+to_thread word e = record { word = word; forms = (u32s ∷ []) ∷ []; event = λ ws. events.Kernel (commands.Thread (number (at 0 ws)) e) }
 
 abbrev pub block : Row
 block = to_thread (codes "block") happens.Block
@@ -67,16 +69,20 @@ abbrev pub die : Row
 die = to_thread (codes "die") happens.Die
 
 abbrev pub affinity : Row
-affinity = record { word = codes "affinity"; forms = (u32s ∷ u64s ∷ []) ∷ []; event = λ ws. events.Thread (number (at 0 ws)) (happens.Affinity (number (at 1 ws))) }
+affinity = record { word = codes "affinity"; forms = (u32s ∷ u64s ∷ []) ∷ []; event = λ ws. events.Kernel (commands.Thread (number (at 0 ws)) (happens.Affinity (number (at 1 ws)))) }
+
+-- a line that tells the kernel something of a CPU
+abbrev pub to_cpu : List ℕ → (ℕ → Command) → Row
+to_cpu word command = record { word = word; forms = (u16s ∷ []) ∷ []; event = λ ws. events.Kernel (command (number (at 0 ws))) }
 
 abbrev pub take : Row
-take = record { word = codes "take"; forms = (u16s ∷ []) ∷ []; event = λ ws. events.Take (number (at 0 ws)) }
+take = to_cpu (codes "take") commands.Take
 
 abbrev pub give : Row
-give = record { word = codes "give"; forms = (u16s ∷ []) ∷ []; event = λ ws. events.Give (number (at 0 ws)) }
+give = to_cpu (codes "give") commands.Give
 
 abbrev pub tick : Row
-tick = record { word = codes "tick"; forms = (u16s ∷ []) ∷ []; event = λ ws. events.Tick (number (at 0 ws)) }
+tick = to_cpu (codes "tick") commands.Tick
 
 abbrev pub drain : Row
 drain = record { word = codes "drain"; forms = (u32s ∷ []) ∷ []; event = λ ws. events.Drain (number (at 0 ws)) }

@@ -5,7 +5,7 @@ ghost use Rattle.gs_script.specs.Rows.{shown, reads, event_of};
 use crate::fault::Reason;
 use crate::word::{name, number};
 use gs_core::Event;
-use gs_kernel::ThreadEvent;
+use gs_kernel::{Command, ThreadEvent};
 use gs_layout::{Class, Facts};
 use gs_status::Mask;
 
@@ -67,7 +67,9 @@ fn create_of(mask: &str, class: &str, state: &str, text: &str) -> Result<Event, 
         class,
         name,
     };
-    Ok(Event::Create { facts })
+    Ok(Event::Kernel {
+        command: Command::Create { facts },
+    })
 }
 
 #[tactic(auto, using(crate::proofs::Places::four_places))]
@@ -88,7 +90,9 @@ fn to_thread(words: &[&str], event: ThreadEvent) -> Result<Event, Reason>
         return Err(Reason::BadCount);
     };
     let tid = u32_number(tid)?;
-    Ok(Event::Thread { tid, event })
+    Ok(Event::Kernel {
+        command: Command::Thread { tid, event },
+    })
 }
 
 #[tactic(auto, using(crate::proofs::Places::two_places))]
@@ -100,9 +104,11 @@ fn affinity(words: &[&str]) -> Result<Event, Reason>
     };
     let tid = u32_number(tid)?;
     let mask = number(mask, 0, u64::MAX)?;
-    Ok(Event::Thread {
-        tid,
-        event: ThreadEvent::Affinity { mask },
+    Ok(Event::Kernel {
+        command: Command::Thread {
+            tid,
+            event: ThreadEvent::Affinity { mask },
+        },
     })
 }
 
@@ -113,7 +119,9 @@ fn take(words: &[&str]) -> Result<Event, Reason>
         return Err(Reason::BadCount);
     };
     let cpu = cpu_number(cpu)?;
-    Ok(Event::Take { cpu })
+    Ok(Event::Kernel {
+        command: Command::Take { cpu },
+    })
 }
 
 fn give(words: &[&str]) -> Result<Event, Reason>
@@ -123,7 +131,9 @@ fn give(words: &[&str]) -> Result<Event, Reason>
         return Err(Reason::BadCount);
     };
     let cpu = cpu_number(cpu)?;
-    Ok(Event::Give { cpu })
+    Ok(Event::Kernel {
+        command: Command::Give { cpu },
+    })
 }
 
 fn tick(words: &[&str]) -> Result<Event, Reason>
@@ -133,7 +143,9 @@ fn tick(words: &[&str]) -> Result<Event, Reason>
         return Err(Reason::BadCount);
     };
     let cpu = cpu_number(cpu)?;
-    Ok(Event::Tick { cpu })
+    Ok(Event::Kernel {
+        command: Command::Tick { cpu },
+    })
 }
 
 fn drain(words: &[&str]) -> Result<Event, Reason>

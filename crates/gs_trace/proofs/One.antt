@@ -14,7 +14,7 @@ use Rattle.gs_agent.specs.declared.drained.Drained.{Drained}
 use Rattle.gs_agent.specs.declared.drained.Stop.{Stop}
 use Rattle.gs_agent.specs.declared.drained.Stop.TheVariants.{Gap, Memory}
 use Rattle.gs_core.specs.declared.event.Event.{Event}
-use Rattle.gs_core.specs.declared.event.Event.TheVariants.{Create, Thread, Take, Give, Tick, Drain, Stamp, Decide, Commit, Late, Unread}
+use Rattle.gs_core.specs.declared.event.Event.TheVariants.{Kernel, Drain, Stamp, Decide, Commit, Late, Unread}
 use Rattle.gs_core.specs.declared.event.Event.TheVariants as events
 use Rattle.gs_core.specs.declared.reply.Reply.{Reply}
 use Rattle.gs_core.specs.declared.reply.Reply.TheVariants as replies
@@ -25,9 +25,12 @@ use Rattle.gs_runq.specs.Queue.{order}
 use Rattle.gs_status.specs.Masks.{mask_of}
 use Rattle.gs_mind.specs.Mind.{picture_of}
 use Rattle.gs_mind.specs.Picture.{Picture, after_slots, after_stamp, takes_in_all}
-use Rattle.gs_core.specs.Machine.{State, Agent, mind_of, picture, thinking, landings, view, unread, is_idle, refusal, Serves, Step, Does, IsShort, Takes, Drains, creates, happens, takes, gives, ticks, stamps, stamps_with, stamps_all, plan_of, commits, lates, lands_late, transaction_of}
+use Rattle.gs_core.specs.Machine.{State, Agent, mind_of, picture, thinking, landings, view, unread, is_idle, refusal, Serves, Step, Does, IsShort, Takes, Drains, carried, stamps, stamps_with, stamps_all, plan_of, commits, lates, lands_late, transaction_of}
 use Rattle.gs_core.specs.declared.transaction.Transaction.{Transaction}
 use Rattle.gs_core.specs.Safe.{IsFaithful, Run}
+use Rattle.gs_journal.specs.declared.entry.Entry.{Entry}
+use Rattle.gs_kernel.specs.Legal.{effect}
+use Rattle.gs_core.proofs.Exact.{tells_one}
 use Rattle.gs_core.proofs.Faces.{drop_drop}
 use Rattle.gs_script.specs.declared.fault.ScriptFault.{ScriptFault}
 use Rattle.gs_trace.specs.declared.run.Ended.{Ended}
@@ -79,11 +82,7 @@ one_plan m a same = ap (plan_by m) same.pictured
 
 one_refusal : (m : State) (a : Option Agent) → Same a m.agent → (e : Event) → refusal (record m { agent = a }) e ≡ refusal m e
 unfolding stamp_refusal
-one_refusal m a same (Create f) = refl
-one_refusal m a same (Thread t e) = refl
-one_refusal m a same (Take c) = refl
-one_refusal m a same (Give c) = refl
-one_refusal m a same (Tick c) = refl
+one_refusal m a same (Kernel c) = refl
 one_refusal m a same (Drain max) = refl
 one_refusal m a same (Stamp c t p) = ap (λ (x : Picture). stamp_refusal m c t x.view) same.pictured
 one_refusal m a same Decide = cc (one_plan m a same)
@@ -236,21 +235,14 @@ refused_is r p e = let k = sym p ∙ ap wants_memory e in absurd (cc)
 one_done : (m : State) (a : Option Agent) → Same a m.agent → (e : Event) (r r' : Reply) (m' n' : State)
     → Does m e r m' ⊎ (IsShort e r × (m' ≡ m)) → Does (record m { agent = a }) e r' n' ⊎ (IsShort e r' × (n' ≡ record m { agent = a }))
     → IsFaithful m' → IsFaithful n' → wants_memory r ≡ false → wants_memory r' ≡ false → One r r' m' n'
-one_done m a same (Create f) r r' m' n' (inl x) (inl y) g h p q = record { reply = x.0 ∙ sym y.0; left = alike_at m' n' (creates m f).1 a x.1 y.1 same }
-one_done m a same (Create f) r r' m' n' (inr x) y g h p q = absurd (refused_is r p x.0)
-one_done m a same (Create f) r r' m' n' (inl x) (inr y) g h p q = absurd (refused_is r' q y.0)
-one_done m a same (Thread t e) r r' m' n' (inl x) (inl y) g h p q = record { reply = x.0 ∙ sym y.0; left = alike_at m' n' (happens m t e).1 a x.1 y.1 same }
-one_done m a same (Thread t e) r r' m' n' (inr x) y g h p q = absurd (refused_is r p x.0)
-one_done m a same (Thread t e) r r' m' n' (inl x) (inr y) g h p q = absurd (refused_is r' q y.0)
-one_done m a same (Take c) r r' m' n' (inl x) (inl y) g h p q = record { reply = x.0 ∙ sym y.0; left = alike_at m' n' (takes m c).1 a x.1 y.1 same }
-one_done m a same (Take c) r r' m' n' (inr x) y g h p q = absurd (refused_is r p x.0)
-one_done m a same (Take c) r r' m' n' (inl x) (inr y) g h p q = absurd (refused_is r' q y.0)
-one_done m a same (Give c) r r' m' n' (inl x) (inl y) g h p q = record { reply = x.0 ∙ sym y.0; left = alike_at m' n' (gives m c).1 a x.1 y.1 same }
-one_done m a same (Give c) r r' m' n' (inr x) y g h p q = absurd (refused_is r p x.0)
-one_done m a same (Give c) r r' m' n' (inl x) (inr y) g h p q = absurd (refused_is r' q y.0)
-one_done m a same (Tick c) r r' m' n' (inl x) (inl y) g h p q = record { reply = x.0 ∙ sym y.0; left = alike_at m' n' (ticks m c).1 a x.1 y.1 same }
-one_done m a same (Tick c) r r' m' n' (inr x) y g h p q = absurd (refused_is r p x.0)
-one_done m a same (Tick c) r r' m' n' (inl x) (inr y) g h p q = absurd (refused_is r' q y.0)
+one_done m a same (Kernel c) r r' m' n' (inl x) (inl y) g h p q =
+    let one = tells_one m.ring m.consumed m.history (effect m.settings m.history c) x.fit y.fit m'.history n'.history x.tells y.tells in
+    record {
+      reply = x.reply ∙ (ap (carried m c) one.0 ∙ sym y.reply);
+      left = alike_at m' n' (record m { history = m'.history }) a x.others (y.others ∙ ap (λ (z : List Entry). record m { history = z; agent = a }) (sym one.1)) same;
+    }
+one_done m a same (Kernel c) r r' m' n' (inr x) y g h p q = absurd (refused_is r p x.0)
+one_done m a same (Kernel c) r r' m' n' (inl x) (inr y) g h p q = absurd (refused_is r' q y.0)
 one_done m a same (Drain max) r r' m' n' (inl x) (inl y) g h p q =
     let o = one_drain m a same max x.0 y.0 m' n' x.2 y.2 g h (sym (ap wants_memory x.1) ∙ p) (sym (ap wants_memory y.1) ∙ q) in
     record { reply = x.1 ∙ o.reply ∙ sym y.1; left = o.left }

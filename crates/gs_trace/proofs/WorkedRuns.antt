@@ -1,5 +1,5 @@
 -- Whole scripts, and what is written for them.
-use Rattle.std.proofs.Common.{refl, inl, ℕ, true, List, [], ◌∷◌, ◌++◌, map, take, codes}
+use Rattle.std.proofs.Common.{refl, inl, ℕ, true, false, List, [], ◌∷◌, ◌++◌, map, take, codes}
 use Rattle.std.specs.Fmt.{digits}
 use Rattle.gs_layout.specs.declared.facts.Class.TheVariants.{Zero}
 use Rattle.gs_layout.specs.declared.facts.Facts.{Facts}
@@ -10,6 +10,7 @@ use Rattle.gs_layout.specs.declared.refusal.Refusal.TheVariants as refusals
 use Rattle.gs_journal.specs.declared.entry.Entry.TheVariants.{Posted, Role, Torn}
 use Rattle.gs_journal.specs.History.{posted, created, torn}
 use Rattle.gs_kernel.specs.Kernel.{create_refusal, tick_refusal}
+use Rattle.gs_kernel.specs.declared.command.Command.TheVariants as commands
 use Rattle.gs_ring.specs.Places as places
 use Rattle.gs_ring.specs.Places.{need, pad_len}
 use Rattle.gs_policy.specs.declared.any.AnyPolicy.TheVariants as policies
@@ -44,19 +45,19 @@ torn_after ms = record (start two) { history = Role 1 0 ∷ (map Posted ms ++ To
 
 -- a tick waits until it is drained
 abbrev seen : List Reply
-seen = replies.Ticked 1 ∷ replies.Unread (TimerTick 1 ∷ []) ∷ []
+seen = replies.Done (Posted (TimerTick 1)) ∷ replies.Unread (TimerTick 1 ∷ []) ∷ []
 
-seen_tick : Step (start two) (events.Tick 1) (replies.Ticked 1) (after (TimerTick 1 ∷ []))
+seen_tick : Step (start two) (events.Kernel (commands.Tick 1)) (replies.Done (Posted (TimerTick 1))) (after (TimerTick 1 ∷ []))
 unfolding two torn tick_refusal posted need pad_len places.record_of
-seen_tick = inl (refl, refl)
+seen_tick = inl (record { fit = true; reply = refl; tells = (refl, refl); others = refl })
 
 seen_look : Step (after (TimerTick 1 ∷ [])) events.Unread (replies.Unread (TimerTick 1 ∷ [])) (after (TimerTick 1 ∷ []))
 unfolding two torn posted
 seen_look = inl (refl, refl)
 
-seen_run : Run (start two) (events.Tick 1 ∷ events.Unread ∷ []) seen (after (TimerTick 1 ∷ []))
+seen_run : Run (start two) (events.Kernel (commands.Tick 1) ∷ events.Unread ∷ []) seen (after (TimerTick 1 ∷ []))
 seen_run =
-    let g = kept_step _ (events.Tick 1) (replies.Ticked 1) _ (kept_start two) tt seen_tick in
+    let g = kept_step _ (events.Kernel (commands.Tick 1)) (replies.Done (Posted (TimerTick 1))) _ (kept_start two) tt seen_tick in
     (after (TimerTick 1 ∷ []), seen_tick, kept_safe _ g, kept_faithful _ g, (after (TimerTick 1 ∷ []), seen_look, kept_safe _ g, kept_faithful _ g, refl))
 
 seen_written : IsOutput (codes "cpus 2 ring 128" ++ 10 ∷ codes "tick 1" ++ 10 ∷ codes "unread") Ran (line (codes "tick 1") ++ line (codes "unread tick 0 seq 0 cpu 1"))
@@ -68,42 +69,42 @@ abbrev four : List Message
 four = made 1 (codes "a") ∷ made 2 (codes "b") ∷ made 3 (codes "c") ∷ made 4 (codes "d") ∷ []
 
 abbrev torn_replies : List Reply
-torn_replies = replies.Created 1 1 ∷ replies.Created 2 1 ∷ replies.Created 3 1 ∷ replies.Created 4 1 ∷ replies.Torn ∷ replies.Refused refusals.Gone ∷ []
+torn_replies = replies.Done (Posted (made 1 (codes "a"))) ∷ replies.Done (Posted (made 2 (codes "b"))) ∷ replies.Done (Posted (made 3 (codes "c"))) ∷ replies.Done (Posted (made 4 (codes "d"))) ∷ replies.Torn ∷ replies.Refused refusals.Gone ∷ []
 
-first : Step (start two) (events.Create (facts (codes "a"))) (replies.Created 1 1) (after (take 1 four))
+first : Step (start two) (events.Kernel (commands.Create (facts (codes "a")))) (replies.Done (Posted (made 1 (codes "a")))) (after (take 1 four))
 unfolding two facts made torn create_refusal created posted need pad_len places.record_of
-first = inl (refl, refl)
+first = inl (record { fit = true; reply = refl; tells = (refl, refl); others = refl })
 
-second : Step (after (take 1 four)) (events.Create (facts (codes "b"))) (replies.Created 2 1) (after (take 2 four))
+second : Step (after (take 1 four)) (events.Kernel (commands.Create (facts (codes "b")))) (replies.Done (Posted (made 2 (codes "b")))) (after (take 2 four))
 unfolding two facts made torn create_refusal created posted need pad_len places.record_of
-second = inl (refl, refl)
+second = inl (record { fit = true; reply = refl; tells = (refl, refl); others = refl })
 
-third : Step (after (take 2 four)) (events.Create (facts (codes "c"))) (replies.Created 3 1) (after (take 3 four))
+third : Step (after (take 2 four)) (events.Kernel (commands.Create (facts (codes "c")))) (replies.Done (Posted (made 3 (codes "c")))) (after (take 3 four))
 unfolding two facts made torn create_refusal created posted need pad_len places.record_of
-third = inl (refl, refl)
+third = inl (record { fit = true; reply = refl; tells = (refl, refl); others = refl })
 
-fourth : Step (after (take 3 four)) (events.Create (facts (codes "d"))) (replies.Created 4 1) (after four)
+fourth : Step (after (take 3 four)) (events.Kernel (commands.Create (facts (codes "d")))) (replies.Done (Posted (made 4 (codes "d")))) (after four)
 unfolding two facts made torn create_refusal created posted need pad_len places.record_of
-fourth = inl (refl, refl)
+fourth = inl (record { fit = true; reply = refl; tells = (refl, refl); others = refl })
 
-tears : Step (after four) (events.Tick 1) replies.Torn (torn_after four)
+tears : Step (after four) (events.Kernel (commands.Tick 1)) replies.Torn (torn_after four)
 unfolding two facts made torn tick_refusal posted need pad_len places.record_of
-tears = inl (refl, refl)
+tears = inl (record { fit = false; reply = refl; tells = ((TimerTick 1, refl, refl), refl); others = refl })
 
 gone : Step (torn_after four) (events.Drain 1) (replies.Refused refusals.Gone) (torn_after four)
 unfolding two facts made torn
 gone = (refl, refl)
 
 abbrev torn_events : List Event
-torn_events = events.Create (facts (codes "a")) ∷ events.Create (facts (codes "b")) ∷ events.Create (facts (codes "c")) ∷ events.Create (facts (codes "d")) ∷ events.Tick 1 ∷ events.Drain 1 ∷ []
+torn_events = events.Kernel (commands.Create (facts (codes "a"))) ∷ events.Kernel (commands.Create (facts (codes "b"))) ∷ events.Kernel (commands.Create (facts (codes "c"))) ∷ events.Kernel (commands.Create (facts (codes "d"))) ∷ events.Kernel (commands.Tick 1) ∷ events.Drain 1 ∷ []
 
 torn_run : Run (start two) torn_events torn_replies (torn_after four)
 torn_run =
-    let g1 = kept_step _ (events.Create (facts (codes "a"))) (replies.Created 1 1) _ (kept_start two) tt first in
-    let g2 = kept_step _ (events.Create (facts (codes "b"))) (replies.Created 2 1) _ g1 tt second in
-    let g3 = kept_step _ (events.Create (facts (codes "c"))) (replies.Created 3 1) _ g2 tt third in
-    let g4 = kept_step _ (events.Create (facts (codes "d"))) (replies.Created 4 1) _ g3 tt fourth in
-    let g5 = kept_step _ (events.Tick 1) replies.Torn _ g4 tt tears in
+    let g1 = kept_step _ (events.Kernel (commands.Create (facts (codes "a")))) (replies.Done (Posted (made 1 (codes "a")))) _ (kept_start two) tt first in
+    let g2 = kept_step _ (events.Kernel (commands.Create (facts (codes "b")))) (replies.Done (Posted (made 2 (codes "b")))) _ g1 tt second in
+    let g3 = kept_step _ (events.Kernel (commands.Create (facts (codes "c")))) (replies.Done (Posted (made 3 (codes "c")))) _ g2 tt third in
+    let g4 = kept_step _ (events.Kernel (commands.Create (facts (codes "d")))) (replies.Done (Posted (made 4 (codes "d")))) _ g3 tt fourth in
+    let g5 = kept_step _ (events.Kernel (commands.Tick 1)) replies.Torn _ g4 tt tears in
     let end : Run (torn_after four) (events.Drain 1 ∷ []) (replies.Refused refusals.Gone ∷ []) (torn_after four) = (torn_after four, gone, kept_safe _ g5, kept_faithful _ g5, refl) in
     (after (take 1 four), first, kept_safe _ g1, kept_faithful _ g1, (after (take 2 four), second, kept_safe _ g2, kept_faithful _ g2, (after (take 3 four), third, kept_safe _ g3, kept_faithful _ g3, (after four, fourth, kept_safe _ g4, kept_faithful _ g4, (torn_after four, tears, kept_safe _ g5, kept_faithful _ g5, end)))))
 
@@ -118,5 +119,5 @@ torn_script =
     ++ 10 ∷ codes "drain 1"
 
 torn_written : IsOutput torn_script Ran (line (codes "created 1 seq 1") ++ line (codes "created 2 seq 1") ++ line (codes "created 3 seq 1") ++ line (codes "created 4 seq 1") ++ line (codes "torn") ++ line (codes "refused 18 Gone"))
-unfolding two facts digits
+unfolding two facts digits made
 torn_written = (refl, record { replies = torn_replies; left = torn_after four; run = torn_run; sufficed = refl; shown = refl })

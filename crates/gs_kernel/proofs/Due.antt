@@ -1,0 +1,348 @@
+-- What a kernel keeps when what comes next is told.
+use Rattle.std.proofs.Common.{◌≡◌, ℕ, ◌+◌, ◌<◌, ◌≤◌, ◌++◌, ◌∷◌, List, [], length, Bool, true, false, cond, Option, None, Some, IfSome, slice_set, refl, ap, sym, subst, ◌∙◌, unwrap_or, append_assoc, arith}
+use Rattle.std.specs.Option.{is_some, option_map}
+use Rattle.std.proofs.lemmas.List.{append-nil}
+use Rattle.gs_layout.specs.declared.message.Change.TheVariants.{Preempted}
+use Rattle.gs_layout.specs.declared.message.Message.{Message}
+use Rattle.gs_layout.specs.declared.message.Message.TheVariants.{Thread}
+use Rattle.gs_layout.specs.declared.refusal.Refusal.{Refusal}
+use Rattle.gs_layout.specs.Message.{takes_off_cpu}
+use Rattle.gs_journal.specs.declared.entry.Entry.{Entry}
+use Rattle.gs_journal.specs.declared.entry.Entry.TheVariants.{Posted, Placed, Role, Begin, Left, Taken, Given, Torn}
+use Rattle.gs_journal.specs.Standing.{then_latest}
+use Rattle.gs_journal.specs.History.{History, on, at, seq, taken, last_taken, taken_by, posted}
+use Rattle.gs_journal.proofs.Laws.{last_taken-push, taken_is, same_posted, posted-push}
+use Rattle.gs_status.specs.Masks.{has}
+use Rattle.gs_threads.specs.Table.{TableState, rows_after, rows_placed}
+use Rattle.gs_threads.proofs.Lookups.{after_tick}
+use Rattle.gs_kernel.specs.declared.settings.Settings.{Settings}
+use Rattle.gs_kernel.specs.declared.thread_event.ThreadEvent.{ThreadEvent}
+use Rattle.gs_kernel.specs.declared.thread_event.ThreadEvent.TheVariants as happens
+use Rattle.gs_kernel.specs.declared.command.Command.{Command}
+use Rattle.gs_kernel.specs.declared.command.Command.TheVariants as commands
+use Rattle.gs_kernel.specs.Kernel.{change_by, happening, must_leave, next_about, event_refusal, preemption}
+use Rattle.gs_kernel.specs.declared.effect.Effect.{Effect}
+use Rattle.gs_kernel.specs.declared.effect.Effect.TheVariants.{Post, Append}
+use Rattle.gs_kernel.specs.Inside.{HoldsNear, IsKept, SeatsBelow, behind, created_in, freed, held_by, left_by, left_in, listed_entry, listed_message, rows_seated, rows_told, rows_with, seats_seated, seats_told, vacated}
+use Rattle.gs_kernel.specs.Legal.{RoomOf, creates, effect, entries_in, message_in, most_entries, refusal}
+use Rattle.gs_kernel.proofs.Kernels.{kept_created, kept_placed, kept_rows, kept_tick}
+use Rattle.gs_kernel.proofs.Abouts.{kept_about, live_row, no_creation, on_cpu_below, stays_allowed}
+use Rattle.gs_kernel.proofs.OtherClass.{gives_when, kept_held, kept_preempted, seated_at, takes_when}
+use Rattle.gs_kernel.proofs.Entries.{beside_quiet}
+use Rattle.gs_kernel.proofs.Refusals.{creates_when, free_when, happens_when}
+use Rattle.gs_kernel.proofs.Seats.{length_set}
+use Rattle.gs_slots.specs.declared.state.Stamp.{Stamp}
+use Rattle.gs_kernel.specs.Landing.{placing, placing_entries}
+use Rattle.gs_kernel.specs.Lands.{ComesNext, placement}
+use Rattle.gs_kernel.proofs.Placings.{IsToPlace, placing_free, placing_then, placing_when}
+use Rattle.std.proofs.Common.{inl, inr, length-append}
+
+-- a kernel with the same rows, seats and CPUs held
+kept_like : (s : Settings) (h : History) (t t' : TableState) (running running' : List (Option ℕ)) (held held' : ℕ) (a : Option (ℕ × ℕ)) (down : Bool) → t'.rows ≡ t.rows → t'.first_tseq ≡ t.first_tseq → running' ≡ running
+    → ((d : ℕ) → has held' d ≡ has held d) → IsKept s h t running held a down → IsKept s h t' running' held' a down
+kept_like s h t t' running running' held held' a down rows first seats holds k =
+    let r = kept_rows s h t t' running held a down rows first k in
+    subst (λ (x : List (Option ℕ)). IsKept s h t' x held' a down) (sym seats)
+    (record {
+      rows = r.rows;
+      first = r.first;
+      few = r.few;
+      count = r.count;
+      runs = r.runs;
+      below = r.below;
+      allowed = r.allowed;
+      held_by_other = λ d. holds d ∙ r.held_by_other d;
+      agent = r.agent;
+      never_begun = r.never_begun;
+      down_when_torn = r.down_when_torn;
+    })
+
+-- who is held after one more entry
+held_after : (h : History) (e : Entry) (d : ℕ) → taken (h ++ e ∷ []) d ≡ held_by (Some e) d (taken h d)
+held_after h e d = taken_is (h ++ e ∷ []) d ∙ (ap (λ o. unwrap_or o false) (last_taken-push h e d) ∙ (latest (taken_by d e) (last_taken h d) ∙ ap (unwrap_or (taken_by d e)) (sym (taken_is h d))))
+  where
+    latest : (o l : Option Bool) → unwrap_or (then_latest o l) false ≡ unwrap_or o (unwrap_or l false)
+    latest None l = refl
+    latest (Some b) l = refl
+
+-- the other class takes a CPU or gives it back
+kept_takes : (s : Settings) (h : History) (t : TableState) (running : List (Option ℕ)) (held held' : ℕ) (a : Option (ℕ × ℕ)) (down : Bool) (c : ℕ) → ((d : ℕ) → has held' d ≡ held_by (Some (Taken c)) d (has held d)) → IsKept s h t running held a down
+    → IsKept s (h ++ Taken c ∷ []) t running held' a down
+kept_takes s h t running held held' a down c holds k =
+    let b = beside_quiet h (Taken c) (λ x. refl) (λ x. refl) refl refl refl in
+    kept_held s h t running held held' a down (Taken c) refl b.0 b.1 b.2 (λ d. holds d ∙ (ap (held_by (Some (Taken c)) d) (k.held_by_other d) ∙ sym (held_after h (Taken c) d))) k
+
+kept_gives : (s : Settings) (h : History) (t : TableState) (running : List (Option ℕ)) (held held' : ℕ) (a : Option (ℕ × ℕ)) (down : Bool) (c : ℕ) → ((d : ℕ) → has held' d ≡ held_by (Some (Given c)) d (has held d)) → IsKept s h t running held a down
+    → IsKept s (h ++ Given c ∷ []) t running held' a down
+kept_gives s h t running held held' a down c holds k =
+    let b = beside_quiet h (Given c) (λ x. refl) (λ x. refl) refl refl refl in
+    kept_held s h t running held held' a down (Given c) refl b.0 b.1 b.2 (λ d. holds d ∙ (ap (held_by (Some (Given c)) d) (k.held_by_other d) ∙ sym (held_after h (Given c) d))) k
+
+-- what happens to a thread creates none
+no_facts : (u n : ℕ) (there : Option ℕ) (e : ThreadEvent) → created_in (Thread u n (change_by there e)) ≡ None
+no_facts u n there happens.Block = refl
+no_facts u n there happens.Wake = refl
+no_facts u n there happens.Yield = refl
+no_facts u n there happens.Die = refl
+no_facts u n there (happens.Affinity mask) = refl
+
+refuses_not : (b : Bool) (x : Refusal) → cond b None (Some x) ≡ None → b ≡ true
+refuses_not true x e = refl
+refuses_not false x e = absurd cc
+
+-- the CPU that it takes the thread off is the one that it is on
+left_there : (s : Settings) (h : History) (u : ℕ) (e : ThreadEvent) (d : ℕ) → event_refusal s h u e ≡ None → left_in (change_by (at s.cpus h u) e) ≡ Some d → at s.cpus h u ≡ Some d
+left_there s h u happens.Block d own q = on_it (at s.cpus h u) (refuses_not _ _ own) q
+  where
+    on_it : (o : Option ℕ) → is_some o ≡ true → Some (unwrap_or o 0) ≡ Some d → o ≡ Some d
+    on_it None b q = absurd cc
+    on_it (Some c) b q = q
+left_there s h u happens.Wake d own q = absurd cc
+left_there s h u happens.Yield d own q = on_it (at s.cpus h u) (refuses_not _ _ own) q
+  where
+    on_it : (o : Option ℕ) → is_some o ≡ true → Some (unwrap_or o 0) ≡ Some d → o ≡ Some d
+    on_it None b q = absurd cc
+    on_it (Some c) b q = q
+left_there s h u happens.Die d own q = q
+left_there s h u (happens.Affinity mask) d own q = by_off (at s.cpus h u) (must_leave (at s.cpus h u) mask) q
+  where
+    by_off : (o : Option ℕ) (b : Bool) → cond b o None ≡ Some d → o ≡ Some d
+    by_off o true q = q
+    by_off o false q = absurd cc
+
+same_seats : (s : Settings) (h : History) (u : ℕ) (e : ThreadEvent) (running : List (Option ℕ)) → event_refusal s h u e ≡ None
+    → freed running (left_in (change_by (at s.cpus h u) e)) ≡ vacated running (at s.cpus h u) (takes_off_cpu (change_by (at s.cpus h u) e))
+same_seats s h u happens.Block running own = leaves (at s.cpus h u) (refuses_not _ _ own)
+  where
+    leaves : (o : Option ℕ) → is_some o ≡ true → freed running (Some (unwrap_or o 0)) ≡ vacated running o true
+    leaves None b = absurd cc
+    leaves (Some c) b = refl
+same_seats s h u happens.Wake running own = stays (at s.cpus h u)
+  where
+    stays : (o : Option ℕ) → running ≡ vacated running o false
+    stays None = refl
+    stays (Some c) = refl
+same_seats s h u happens.Yield running own = leaves (at s.cpus h u) (refuses_not _ _ own)
+  where
+    leaves : (o : Option ℕ) → is_some o ≡ true → freed running (Some (unwrap_or o 0)) ≡ vacated running o true
+    leaves None b = absurd cc
+    leaves (Some c) b = refl
+same_seats s h u happens.Die running own = leaves (at s.cpus h u)
+  where
+    leaves : (o : Option ℕ) → freed running o ≡ vacated running o true
+    leaves None = refl
+    leaves (Some c) = refl
+same_seats s h u (happens.Affinity mask) running own = moves (at s.cpus h u) (must_leave (at s.cpus h u) mask)
+  where
+    moves : (o : Option ℕ) (b : Bool) → freed running (cond b o None) ≡ vacated running o b
+    moves None true = refl
+    moves None false = refl
+    moves (Some c) true = refl
+    moves (Some c) false = refl
+
+-- what a command leaves that nothing refuses
+kept_command : (s : Settings) (h : History) (t t' : TableState) (running running' : List (Option ℕ)) (held held' : ℕ) (a : Option (ℕ × ℕ)) (down : Bool) (c : Command) → refusal s h c ≡ None → IsKept s h t running held a down
+    → t'.rows ≡ rows_seated (rows_told t.first_tseq t.rows (message_in (effect s h c))) (behind (effect s h c)) → t'.first_tseq ≡ t.first_tseq → running' ≡ seats_seated (seats_told running (message_in (effect s h c))) (behind (effect s h c))
+    → ((d : ℕ) → has held' d ≡ held_by (behind (effect s h c)) d (has held d)) → IsKept s (h ++ entries_in (effect s h c)) t' running' held' a down
+kept_command s h t t' running running' held held' a down (commands.Create f) none k rows first seats holds =
+    kept_like s _ t' t' running running' held held' a down refl refl seats holds
+    (kept_created s h t t' running held a down f k (creates_when s h f (free_when s h (commands.Create f) none).own).tids rows first)
+kept_command s h t t' running running' held held' a down (commands.Thread u e) none k rows first seats holds =
+    let w = happens_when s h u e (free_when s h (commands.Thread u e) none).own in
+    let there : Option ℕ = at s.cpus h u in
+    let row = live_row s h t running held a down u k w.live in
+    let changed : t'.rows ≡ rows_after t.rows (happening s h u e) = rows ∙ ap (λ o. rows_with t.first_tseq t.rows (happening s h u e) o) (no_facts u (seq s.first_tseq h u + 1) there e) in
+    kept_like s _ t' t' (vacated running there (takes_off_cpu (change_by there e))) running' held held' a down refl refl (seats ∙ same_seats s h u e running w.own) holds
+    (kept_about s h t t' running held a down u (change_by there e) there k row (no_creation u (seq s.first_tseq h u + 1) there e) refl changed first
+    (λ d q off. stays_allowed s h u d there e (k.allowed u d q) (seated_at s h t running held a down u d k q) off))
+kept_command s h t t' running running' held held' a down (commands.Take c) none k rows first seats holds = by_who (on h c) refl rows seats
+  where
+    by_who : (o : Option ℕ) → on h c ≡ o → t'.rows ≡ rows_told t.first_tseq t.rows (option_map (λ u. next_about s h u (Preempted c)) o) → running' ≡ seats_told running (option_map (λ u. next_about s h u (Preempted c)) o)
+        → IsKept s (h ++ entries_in (Append (option_map (λ u. next_about s h u (Preempted c)) o) (Taken c))) t' running' held' a down
+    by_who None e rows seats = kept_takes s h t' running' held held' a down c holds (kept_like s h t t' running running' held held a down rows first seats (λ d. refl) k)
+    by_who (Some u) e rows seats =
+        let m : Message = next_about s h u (Preempted c) in
+        let off = kept_preempted s h t t' running held a down u c k e rows first in
+        subst (λ (x : History). IsKept s x t' running' held' a down) (append_assoc h (Posted m ∷ []) (Taken c ∷ []))
+        (kept_takes s (h ++ Posted m ∷ []) t' running' held held' a down c holds (kept_like s _ t' t' (slice_set running c None) running' held held a down refl refl seats (λ d. refl) off))
+kept_command s h t t' running running' held held' a down (commands.Give c) none k rows first seats holds =
+    kept_gives s h t' running' held held' a down c holds (kept_like s h t t' running running' held held a down rows first seats (λ d. refl) k)
+kept_command s h t t' running running' held held' a down (commands.Tick c) none k rows first seats holds =
+    kept_like s _ t t' running running' held held' a down (rows ∙ after_tick t.rows c) first seats holds (kept_tick s h t running held a down c k)
+
+-- what a placing leaves
+kept_placing : (s : Settings) (h : History) (t t' : TableState) (running running' : List (Option ℕ)) (held held' : ℕ) (a : Option (ℕ × ℕ)) (down : Bool) (c : ℕ) (b : Stamp) → c < s.cpus → IsToPlace s h c b → IsKept s h t running held a down
+    → t'.rows ≡ rows_placed (rows_told t.first_tseq t.rows (preemption s h c)) b.tid (Some c) → t'.first_tseq ≡ t.first_tseq → running' ≡ slice_set (seats_told running (preemption s h c)) c (Some b.tid) → ((d : ℕ) → has held' d ≡ has held d)
+    → IsKept s (h ++ entries_in (placement s h c b)) t' running' held' a down
+kept_placing s h t t' running running' held held' a down c b lt w k rows first seats holds = by_who (on h c) refl rows seats
+  where
+    by_who : (o : Option ℕ) → on h c ≡ o → t'.rows ≡ rows_placed (rows_told t.first_tseq t.rows (option_map (λ u. next_about s h u (Preempted c)) o)) b.tid (Some c)
+        → running' ≡ slice_set (seats_told running (option_map (λ u. next_about s h u (Preempted c)) o)) c (Some b.tid) → IsKept s (h ++ entries_in (Append (option_map (λ u. next_about s h u (Preempted c)) o) (placing c b))) t' running' held' a down
+    by_who None e rows seats =
+        kept_like s _ (record t { rows = rows_placed t.rows b.tid (Some c) }) t' (slice_set running c (Some b.tid)) running' held held' a down rows first seats holds (kept_placed s h t running held a down c b k (placing_free s h c b e w) lt)
+    by_who (Some u) e rows seats =
+        let m : Message = next_about s h u (Preempted c) in
+        let t1 : TableState = record t { rows = rows_after t.rows m } in
+        let off = kept_preempted s h t t1 running held a down u c k e refl refl in
+        subst (λ (x : History). IsKept s x t' running' held' a down) (append_assoc h (Posted m ∷ []) (placing c b ∷ []))
+        (kept_like s _ (record t1 { rows = rows_placed t1.rows b.tid (Some c) }) t' (slice_set (slice_set running c None) c (Some b.tid)) running' held held' a down rows first seats holds
+        (kept_placed s (h ++ Posted m ∷ []) t1 (slice_set running c None) held a down c b off (placing_then s h c u b lt e w) lt))
+
+pub kept_next : (s : Settings) (h : History) (t t' : TableState) (running running' : List (Option ℕ)) (held held' : ℕ) (a : Option (ℕ × ℕ)) (down : Bool) (x : Effect) → ComesNext s h x → IsKept s h t running held a down
+    → t'.rows ≡ rows_seated (rows_told t.first_tseq t.rows (message_in x)) (behind x) → t'.first_tseq ≡ t.first_tseq → running' ≡ seats_seated (seats_told running (message_in x)) (behind x) → ((d : ℕ) → has held' d ≡ held_by (behind x) d (has held d))
+    → IsKept s (h ++ entries_in x) t' running' held' a down
+kept_next s h t t' running running' held held' a down x (inl due) k rows first seats holds =
+    subst (λ (y : Effect). IsKept s (h ++ entries_in y) t' running' held' a down) (sym due.effect_is)
+    (kept_command s h t t' running running' held held' a down due.command due.free k (rows ∙ ap (λ (y : Effect). rows_seated (rows_told t.first_tseq t.rows (message_in y)) (behind y)) due.effect_is) first
+    (seats ∙ ap (λ (y : Effect). seats_seated (seats_told running (message_in y)) (behind y)) due.effect_is) (λ d. holds d ∙ ap (λ (y : Effect). held_by (behind y) d (has held d)) due.effect_is))
+kept_next s h t t' running running' held held' a down x (inr due) k rows first seats holds =
+    subst (λ (y : Effect). IsKept s (h ++ entries_in y) t' running' held' a down) (sym due.effect_is)
+    (kept_placing s h t t' running running' held held' a down due.cpu due.stamp due.below (placing_when s h due.cpu due.stamp due.placed) k
+    (rows ∙ ap (λ (y : Effect). rows_seated (rows_told t.first_tseq t.rows (message_in y)) (behind y)) due.effect_is) first
+    (seats ∙ ap (λ (y : Effect). seats_seated (seats_told running (message_in y)) (behind y)) due.effect_is) (λ d. holds d ∙ ap (λ (y : Effect). held_by (behind y) d (has held d)) due.effect_is))
+
+-- there is room for an entry
+one_entry : (c : Command) → 1 ≤ most_entries c
+one_entry (commands.Create f) = omega arith
+one_entry (commands.Thread u e) = omega arith
+one_entry (commands.Take c) = omega arith
+one_entry (commands.Give c) = omega arith
+one_entry (commands.Tick c) = omega arith
+
+pub due_room : (s : Settings) (h : History) (x : Effect) → ComesNext s h x → length h < s.history
+due_room s h x (inl due) = omega (arith, (free_when s h due.command due.free).room, one_entry due.command)
+due_room s h x (inr due) = omega (arith, (placing_when s h due.cpu due.stamp due.placed).fits, some_entry (on h due.cpu))
+  where
+    some_entry : (o : Option ℕ) → 0 < placing_entries o
+    some_entry None = omega arith
+    some_entry (Some u) = omega arith
+
+-- a message takes a thread off a CPU of the enclave
+abbrev LeavesBelow : ℕ → Option Message → Type 0
+LeavesBelow n o = IfSome o (λ m. (d : ℕ) → left_by m ≡ Some d → d < n)
+
+preempted_left : (s : Settings) (h : History) (c : ℕ) → c < s.cpus → LeavesBelow s.cpus (preemption s h c)
+preempted_left s h c lt = by_who (on h c)
+  where
+    by_who : (o : Option ℕ) → LeavesBelow s.cpus (option_map (λ u. next_about s h u (Preempted c)) o)
+    by_who None = tt
+    by_who (Some u) = λ d q. let z : c ≡ d = cc in omega (arith, z, lt)
+
+command_left : (s : Settings) (h : History) (t : TableState) (running : List (Option ℕ)) (held : ℕ) (a : Option (ℕ × ℕ)) (down : Bool) (c : Command) → refusal s h c ≡ None → IsKept s h t running held a down
+    → LeavesBelow s.cpus (message_in (effect s h c))
+command_left s h t running held a down (commands.Create f) none k = λ d q. absurd cc
+command_left s h t running held a down (commands.Thread u e) none k =
+    λ d q. on_cpu_below s h t running held a down u d k (left_there s h u e d (happens_when s h u e (free_when s h (commands.Thread u e) none).own).own q)
+command_left s h t running held a down (commands.Take c) none k = preempted_left s h c (takes_when s h c (free_when s h (commands.Take c) none).own).cpu
+command_left s h t running held a down (commands.Give c) none k = tt
+command_left s h t running held a down (commands.Tick c) none k = λ d q. absurd cc
+
+pub due_left : (s : Settings) (h : History) (t : TableState) (running now : List (Option ℕ)) (held : ℕ) (a : Option (ℕ × ℕ)) (down : Bool) (x : Effect) → ComesNext s h x → IsKept s h t running held a down → now ≡ running
+    → LeavesBelow (length now) (message_in x)
+due_left s h t running now held a down x due k same = subst (λ n. LeavesBelow n (message_in x)) (sym (ap length same ∙ k.count)) (by_due due)
+  where
+    by_due : ComesNext s h x → LeavesBelow s.cpus (message_in x)
+    by_due (inl due) = subst (λ (y : Effect). LeavesBelow s.cpus (message_in y)) (sym due.effect_is) (command_left s h t running held a down due.command due.free k)
+    by_due (inr due) = subst (λ (y : Effect). LeavesBelow s.cpus (message_in y)) (sym due.effect_is) (preempted_left s h due.cpu due.below)
+
+-- and a placing is on one
+command_seats : (s : Settings) (h : History) (n : ℕ) (c : Command) → IfSome (behind (effect s h c)) (SeatsBelow n)
+command_seats s h n (commands.Create f) = tt
+command_seats s h n (commands.Thread u e) = tt
+command_seats s h n (commands.Take c) = tt
+command_seats s h n (commands.Give c) = tt
+command_seats s h n (commands.Tick c) = tt
+
+pub due_seats : (s : Settings) (h : History) (x : Effect) (n : ℕ) → ComesNext s h x → n ≡ s.cpus → IfSome (behind x) (SeatsBelow n)
+due_seats s h x n (inl due) is = subst (λ (y : Effect). IfSome (behind y) (SeatsBelow n)) (sym due.effect_is) (command_seats s h n due.command)
+due_seats s h x n (inr due) is = subst (λ (y : Effect). IfSome (behind y) (SeatsBelow n)) (sym due.effect_is) (omega (arith, due.below, is))
+
+-- a CPU that is taken or given back is below 64
+command_near : (s : Settings) (h : History) (c : Command) → refusal s h c ≡ None → s.cpus < 65 → IfSome (behind (effect s h c)) HoldsNear
+command_near s h (commands.Create f) none most = tt
+command_near s h (commands.Thread u e) none most = tt
+command_near s h (commands.Take c) none most = omega (arith, (takes_when s h c (free_when s h (commands.Take c) none).own).cpu, most)
+command_near s h (commands.Give c) none most = omega (arith, gives_when s h c (free_when s h (commands.Give c) none).own, most)
+command_near s h (commands.Tick c) none most = tt
+
+pub due_near : (s : Settings) (h : History) (x : Effect) → ComesNext s h x → s.cpus < 65 → IfSome (behind x) HoldsNear
+due_near s h x (inl due) most = subst (λ (y : Effect). IfSome (behind y) HoldsNear) (sym due.effect_is) (command_near s h due.command due.free most)
+due_near s h x (inr due) most = subst (λ (y : Effect). IfSome (behind y) HoldsNear) (sym due.effect_is) tt
+
+-- a message, and the entry behind it
+pub told_both : (h : History) (x : Effect) → (h ++ listed_message (message_in x)) ++ listed_entry (behind x) ≡ h ++ entries_in x
+told_both h (Post m) = append-nil (h ++ Posted m ∷ [])
+told_both h (Append None e) = ap (λ (y : History). y ++ e ∷ []) (append-nil h)
+told_both h (Append (Some m) e) = append_assoc h (Posted m ∷ []) (e ∷ [])
+
+-- the entry posts nothing
+command_quiet : (s : Settings) (h h' : History) (c : Command) → posted (h' ++ listed_entry (behind (effect s h c))) ≡ posted h'
+command_quiet s h h' (commands.Create f) = ap posted (append-nil h')
+command_quiet s h h' (commands.Thread u e) = ap posted (append-nil h')
+command_quiet s h h' (commands.Take c) = same_posted h' (Taken c) refl
+command_quiet s h h' (commands.Give c) = same_posted h' (Given c) refl
+command_quiet s h h' (commands.Tick c) = ap posted (append-nil h')
+
+pub due_quiet : (s : Settings) (h h' : History) (x : Effect) → ComesNext s h x → posted (h' ++ listed_entry (behind x)) ≡ posted h'
+due_quiet s h h' x (inl due) = ap (λ (y : Effect). posted (h' ++ listed_entry (behind y))) due.effect_is ∙ command_quiet s h h' due.command
+due_quiet s h h' x (inr due) = ap (λ (y : Effect). posted (h' ++ listed_entry (behind y))) due.effect_is ∙ same_posted h' (placing due.cpu due.stamp) refl
+
+-- how many entries are added
+pub entries_count : (x : Effect) → length (entries_in x) ≡ length (listed_message (message_in x)) + length (listed_entry (behind x))
+entries_count (Post m) = refl
+entries_count (Append None e) = refl
+entries_count (Append (Some m) e) = refl
+
+-- by a command no more than it may
+pub command_few : (s : Settings) (h : History) (c : Command) → length (entries_in (effect s h c)) ≤ most_entries c
+command_few s h (commands.Create f) = omega arith
+command_few s h (commands.Thread u e) = omega arith
+command_few s h (commands.Take c) = by_who (preemption s h c)
+  where
+    by_who : (o : Option Message) → length (entries_in (Append o (Taken c))) ≤ 2
+    by_who None = omega arith
+    by_who (Some m) = omega arith
+command_few s h (commands.Give c) = omega arith
+command_few s h (commands.Tick c) = omega arith
+
+-- a message to who makes way creates nobody
+pub no_victim : (s : Settings) (h : History) (c n : ℕ) → IfSome (preemption s h c) (λ m. is_some (created_in m) ≡ true → 0 < n)
+no_victim s h c n = by_who (on h c)
+  where
+    by_who : (o : Option ℕ) → IfSome (option_map (λ u. next_about s h u (Preempted c)) o) (λ m. is_some (created_in m) ≡ true → 0 < n)
+    by_who None = tt
+    by_who (Some u) = λ is. absurd cc
+
+-- only a creation adds a thread
+pub command_rows : (s : Settings) (h : History) (c : Command) (n : ℕ) → (creates c ≡ true → 0 < n) → IfSome (message_in (effect s h c)) (λ m. is_some (created_in m) ≡ true → 0 < n)
+command_rows s h (commands.Create f) n some = λ is. some refl
+command_rows s h (commands.Thread u e) n some = λ is. let z : is_some (created_in (happening s h u e)) ≡ false = ap is_some (no_facts u (seq s.first_tseq h u + 1) (at s.cpus h u) e) in absurd cc
+command_rows s h (commands.Take c) n some = no_victim s h c n
+command_rows s h (commands.Give c) n some = tt
+command_rows s h (commands.Tick c) n some = λ is. absurd cc
+
+pub seated_length : (running : List (Option ℕ)) (e : Option Entry) → length (seats_seated running e) ≡ length running
+seated_length running None = refl
+seated_length running (Some (Posted m)) = refl
+seated_length running (Some (Placed t q c g)) = length_set running c (Some t)
+seated_length running (Some (Role g c)) = refl
+seated_length running (Some (Begin g)) = refl
+seated_length running (Some Left) = refl
+seated_length running (Some (Taken c)) = refl
+seated_length running (Some (Given c)) = refl
+seated_length running (Some Torn) = refl
+
+-- and no seat more
+pub length_told : (running : List (Option ℕ)) (m : Option Message) → length (seats_told running m) ≡ length running
+length_told running None = refl
+length_told running (Some m) = by_seat (left_by m)
+  where
+    by_seat : (o : Option ℕ) → length (freed running o) ≡ length running
+    by_seat None = refl
+    by_seat (Some c) = length_set running c None
+
+-- what was posted behind a history, there was room for
+pub room_then : {P : Type 0} (same : P → P → Type 0) (taken : P → ℕ) (sent : P → List Message → Type 0) (tight : P → Message → Type 0) (p q : P) (h : History) (m : Option Message) → same p p → sent p (posted h) → same p q → taken q ≡ taken p
+    → sent q (posted (h ++ listed_message m)) → IfSome m (RoomOf same taken sent tight p h true)
+room_then same taken sent tight p q h None r was s t k = tt
+room_then same taken sent tight p q h (Some m) r was s t k = (p, r, refl, was, q, s, t, subst (sent q) (posted-push h (Posted m)) k)

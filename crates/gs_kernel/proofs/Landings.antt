@@ -1,0 +1,187 @@
+-- Landings one after another.
+use Rattle.std.proofs.Common.{◌≡◌, ℕ, suc, ◌+◌, ◌<◌, ◌≤◌, Bool, true, false, Option, None, Some, IfSome, List, [], ◌∷◌, ◌++◌, length, take, drop, slice_get, slice_set, get_or, drop-cons, length-take, refl, ap, sym, subst, ◌∙◌, append_assoc, length-append, arith}
+use Rattle.std.proofs.lemmas.List.{take_more}
+use Rattle.std.proofs.Common.{append-nil}
+use Rattle.gs_layout.specs.declared.message.Message.{Message}
+use Rattle.gs_layout.specs.declared.outcome.Outcome.{Outcome}
+use Rattle.gs_layout.specs.declared.outcome.Outcome.TheVariants as outcomes
+use Rattle.gs_slots.specs.declared.state.SlotState.{SlotState}
+use Rattle.gs_slots.specs.declared.state.SlotState.TheVariants.{Idle, Stamped, Done}
+use Rattle.gs_slots.specs.declared.state.Stamp.{Stamp}
+use Rattle.gs_status.specs.Masks.{has}
+use Rattle.gs_journal.specs.declared.entry.Entry.{Entry}
+use Rattle.gs_journal.specs.declared.entry.Entry.TheVariants.{Torn}
+use Rattle.gs_journal.specs.History.{History}
+use Rattle.gs_kernel.specs.declared.settings.Settings.{Settings}
+use Rattle.gs_kernel.specs.declared.landing.Landing.{Landing}
+use Rattle.gs_kernel.specs.Kernel.{preemption}
+use Rattle.gs_kernel.specs.Landing.{verdict, placing}
+use Rattle.gs_kernel.specs.Commit.{Landings, listed, then_others}
+use Rattle.gs_kernel.specs.declared.effect.Effect.{Effect}
+use Rattle.gs_kernel.specs.declared.effect.Effect.TheVariants.{Append}
+use Rattle.gs_kernel.specs.Legal.{Room, RoomOf, Tells, entries_in, message_in}
+use Rattle.gs_kernel.specs.Lands.{Adds, Lands, LandsAll, LandsIf, LandsIn, Settles, SettlesIf, is_to_place, placement}
+
+-- one condition of the ring in place of another
+abbrev pub Entails : Room → Room → Type 0
+Entails a b = (h : History) (fit : Bool) (m : Message) → a h fit m → b h fit m
+
+some_map : {A : Type 0} (P Q : A → Type 0) (o : Option A) → ((x : A) → P x → Q x) → IfSome o P → IfSome o Q
+some_map P Q None f p = tt
+some_map P Q (Some x) f p = f x p
+
+pub tells_map : (a b : Room) (h : History) (x : Effect) (fit : Bool) (h' : History) → Entails a b → Tells a h x fit h' → Tells b h x fit h'
+tells_map a b h x true h' f t = (some_map (a h true) (b h true) (message_in x) (f h true) t.0, t.1)
+tells_map a b h x false h' f t = ((t.0.0, t.0.1, f h false t.0.0 t.0.2), t.1)
+
+pub settles_map : (a b : Room) (s : Settings) (h : History) (k : ℕ) (x : Stamp) (v o : Outcome) (h' : History) → Entails a b → Settles a s h k x v o h' → Settles b s h k x v o h'
+settles_map a b s h k x v o h' f t = by_verdict (is_to_place v) t
+  where
+    by_verdict : (p : Bool) → SettlesIf p a s h k x v o h' → SettlesIf p b s h k x v o h'
+    by_verdict true t = (t.0, t.1, tells_map a b h (placement s h k x) t.0 h' f t.2)
+    by_verdict false t = t
+
+pub lands_map : (a b : Room) (s : Settings) (h : History) (k : ℕ) (x : Stamp) (l : Landing) (h' : History) → Entails a b → Lands a s h k x l h' → Lands b s h k x l h'
+lands_map a b s h k x l h' f t = record { settles = settles_map a b s h k x (verdict s h k x) l.outcome h' f t.settles; values = t.values }
+
+in_map : (a b : Room) (s : Settings) (h : History) (k : ℕ) (z : SlotState) (o : Option Landing) (z' : SlotState) (h' : History) → Entails a b → LandsIn a s h k z o z' h' → LandsIn b s h k z o z' h'
+in_map a b s h k (Stamped x) o z' h' f t = (t.0, lands_map a b s h k x t.0 h' f t.1, t.2, t.3)
+in_map a b s h k Idle o z' h' f t = t
+in_map a b s h k (Done x p q n) o z' h' f t = t
+
+pub if_map : (a b : Room) (s : Settings) (wanted : Bool) (k : ℕ) (z : SlotState) (h : History) (r : Landings) → Entails a b → LandsIf a s wanted k z h r → LandsIf b s wanted k z h r
+if_map a b s false k z h r f t = t
+if_map a b s true k z h r f t = (t.0, t.1, in_map a b s h k z t.0 t.1 r.history f t.2, t.3, t.4)
+
+pub all_map : (a b : Room) (s : Settings) (mask k : ℕ) (zs : List SlotState) (h : History) (r : Landings) → Entails a b → LandsAll a s mask k zs h r → LandsAll b s mask k zs h r
+all_map a b s mask k [] h r f t = t
+all_map a b s mask k (z ∷ zs) h r f t = (t.0, t.1, if_map a b s (has mask k) k z h t.0 f t.2, all_map a b s mask (suc k) zs t.0.history t.1 f t.3, t.4)
+
+-- a ring later on tells of no more
+pub room_later : {P : Type 0} (same : P → P → Type 0) (taken : P → ℕ) (sent : P → List Message → Type 0) (tight : P → Message → Type 0) (p q : P) → ((a b c : P) → same a b → same b c → same a c) → same p q → taken q ≡ taken p
+    → Entails (RoomOf same taken sent tight q) (RoomOf same taken sent tight p)
+room_later same taken sent tight p q trans s t h true m x = (x.0, trans p q x.0 s x.1, x.2 ∙ t, x.3, x.4, x.5, x.6, x.7)
+room_later same taken sent tight p q trans s t h false m x = (x.0, trans p q x.0 s x.1, x.2 ∙ t, x.3, x.4)
+
+-- one more slot lands behind others
+others_assoc : (a b c : Landings) → then_others a (then_others b c) ≡ then_others (then_others a b) c
+others_assoc a b c = λ i. record { answers = sym (append_assoc a.answers b.answers c.answers) i; history = c.history; slots = sym (append_assoc a.slots b.slots c.slots) i }
+
+pub all_push : (room : Room) (s : Settings) (mask k n : ℕ) (zs : List SlotState) (z : SlotState) (h : History) (r one : Landings) → n ≡ k + length zs → LandsAll room s mask k zs h r → LandsIf room s (has mask n) n z r.history one
+    → LandsAll room s mask k (zs ++ z ∷ []) h (then_others r one)
+all_push room s mask k n [] z h r one is t x = (
+  one,
+  record { answers = []; history = one.history; slots = [] },
+  subst (λ j. LandsIf room s (has mask j) j z h one) (omega (arith, is)) (subst (λ (y : History). LandsIf room s (has mask n) n z y one) (ap (λ (q : Landings). q.history) t) x),
+  refl,
+  ap (λ q. then_others q one) t ∙ (λ i. record { answers = sym (append-nil one.answers) i; history = one.history; slots = sym (append-nil one.slots) i }),
+)
+all_push room s mask k n (y ∷ zs) z h r one is t x = (
+  t.0,
+  then_others t.1 one,
+  t.2,
+  all_push room s mask (suc k) n zs z t.0.history t.1 one (omega (arith, is)) t.3 (subst (λ (w : History). LandsIf room s (has mask n) n z w one) (ap (λ (q : Landings). q.history) t.4) x),
+  ap (λ q. then_others q one) t.4 ∙ sym (others_assoc t.0 t.1 one),
+)
+
+-- each slot stays one
+if_count : (room : Room) (s : Settings) (wanted : Bool) (k : ℕ) (z : SlotState) (h : History) (r : Landings) → LandsIf room s wanted k z h r → length r.slots ≡ 1
+if_count room s false k z h r t = ap (λ (q : Landings). length q.slots) t
+if_count room s true k z h r t = ap length t.4
+
+pub all_count : (room : Room) (s : Settings) (mask k : ℕ) (zs : List SlotState) (h : History) (r : Landings) → LandsAll room s mask k zs h r → length r.slots ≡ length zs
+all_count room s mask k [] h r t = ap (λ (q : Landings). length q.slots) t
+all_count room s mask k (z ∷ zs) h r t =
+    ap (λ (q : Landings). length q.slots) t.4 ∙ (length-append t.0.slots t.1.slots ∙ omega (arith, if_count room s (has mask k) k z h t.0 t.2, all_count room s mask (suc k) zs t.0.history t.1 t.3))
+
+-- no more than two entries
+placement_few : (s : Settings) (h : History) (k : ℕ) (x : Stamp) → length (entries_in (placement s h k x)) ≤ 2
+placement_few s h k x = by_who (preemption s h k)
+  where
+    by_who : (o : Option Message) → length (entries_in (Append o (placing k x))) ≤ 2
+    by_who None = omega arith
+    by_who (Some m) = omega arith
+
+tells_few : (room : Room) (h : History) (x : Effect) (fit : Bool) (h' : History) → length (entries_in x) ≤ 2 → Tells room h x fit h' → (length h ≤ length h') × (length h' ≤ length h + 2)
+tells_few room h x true h' few t = let n = ap length t.1 ∙ length-append h (entries_in x) in (omega (arith, n), omega (arith, n, few))
+tells_few room h x false h' few t = let n = ap length t.1 ∙ length-append h (Torn ∷ []) in (omega (arith, n), omega (arith, n))
+
+same_few : (h h' : History) → h' ≡ h → (length h ≤ length h') × (length h' ≤ length h + 2)
+same_few h h' e = (omega (arith, ap length e), omega (arith, ap length e))
+
+settles_few : (room : Room) (s : Settings) (h : History) (k : ℕ) (x : Stamp) (v o : Outcome) (h' : History) → Settles room s h k x v o h' → (length h ≤ length h') × (length h' ≤ length h + 2)
+settles_few room s h k x v o h' t = by_verdict (is_to_place v) t
+  where
+    by_verdict : (p : Bool) → SettlesIf p room s h k x v o h' → (length h ≤ length h') × (length h' ≤ length h + 2)
+    by_verdict true t = tells_few room h (placement s h k x) t.0 h' (placement_few s h k x) t.2
+    by_verdict false t = same_few h h' t.1
+
+pub in_few : (room : Room) (s : Settings) (h : History) (k : ℕ) (z : SlotState) (o : Option Landing) (z' : SlotState) (h' : History) → LandsIn room s h k z o z' h' → (length h ≤ length h') × (length h' ≤ length h + 2)
+in_few room s h k (Stamped x) o z' h' t = settles_few room s h k x (verdict s h k x) t.0.outcome h' t.1.settles
+in_few room s h k Idle o z' h' t = same_few h h' t.2
+in_few room s h k (Done x p q n) o z' h' t = same_few h h' t.2
+
+-- nothing comes of a verdict that is not to place
+pub idle_settles : (room : Room) (s : Settings) (h : History) (k : ℕ) (x : Stamp) (v : Outcome) → is_to_place v ≡ false → Settles room s h k x v v h
+idle_settles room s h k x v is = subst (λ p. SettlesIf p room s h k x v v h) (sym is) (refl, refl)
+
+-- a slot that was not wanted, and one that was
+pub unasked_adds : (room : Room) (s : Settings) (wanted : Bool) (k : ℕ) (z : SlotState) (h : History) (before : List Landing) → wanted ≡ false → Adds (LandsIf room s wanted k z h) before before (z ∷ []) h
+unasked_adds room s wanted k z h before is =
+    record {
+      made = record { answers = []; history = h; slots = z ∷ [] };
+      lands = subst (λ w. LandsIf room s w k z h (record { answers = []; history = h; slots = z ∷ [] })) (sym is) refl;
+      answers = sym (append-nil before);
+      slots = refl;
+      history = refl;
+    }
+
+pub asked_adds : (room : Room) (s : Settings) (wanted : Bool) (k : ℕ) (z : SlotState) (h : History) (o : Option Landing) (z' : SlotState) (h' : History) (before after : List Landing) → wanted ≡ true → LandsIn room s h k z o z' h' → after ≡ before ++ listed o
+    → Adds (LandsIf room s wanted k z h) before after (z' ∷ []) h'
+asked_adds room s wanted k z h o z' h' before after is t q =
+    record {
+      made = record { answers = listed o; history = h'; slots = z' ∷ [] };
+      lands = subst (λ w. LandsIf room s w k z h (record { answers = listed o; history = h'; slots = z' ∷ [] })) (sym is) (o, z', t, refl, refl);
+      answers = q;
+      slots = refl;
+      history = refl;
+    }
+
+-- the first slots landed, and the rest is as it was
+pub record SoFar (R : Landings → Type 0) (before after : List Landing) (region rest : List SlotState) (h' : History) : Type 0 where
+  pub made : Landings
+  pub lands : R made
+  pub answers : after ≡ before ++ made.answers
+  pub slots : region ≡ made.slots ++ rest
+  pub history : h' ≡ made.history
+
+get_middle : {A : Type 0} (xs ys : List A) (z : A) → slice_get (xs ++ z ∷ ys) (length xs) ≡ Some z
+get_middle [] ys z = refl
+get_middle (x ∷ xs) ys z = get_middle xs ys z
+
+set_middle : {A : Type 0} (xs ys : List A) (z w : A) → slice_set (xs ++ z ∷ ys) (length xs) w ≡ xs ++ w ∷ ys
+set_middle [] ys z w = refl
+set_middle (x ∷ xs) ys z w = ap (λ r. x ∷ r) (set_middle xs ys z w)
+
+pub so_far_push : (room : Room) (s : Settings) (mask i : ℕ) (old region : List SlotState) (x y : SlotState) (h now later : History) (before mid after : List Landing) → i < length old
+    → SoFar (LandsAll room s mask 0 (take i old) h) before mid region (drop i old) now → slice_get region i ≡ Some x → Adds (LandsIf room s (has mask i) i x now) mid after (y ∷ []) later
+    → SoFar (LandsAll room s mask 0 (take (i + 1) old) h) before after (slice_set region i y) (drop (i + 1) old) later
+so_far_push room s mask i old region x y h now later before mid after lt t found one =
+    let a : Landings = t.made in
+    let z : SlotState = get_or old i x in
+    let rest : List SlotState = drop (i + 1) old in
+    let front : length (take i old) ≡ i = omega (arith, length-take i old) in
+    let n : length a.slots ≡ i = all_count room s mask 0 (take i old) h a t.lands ∙ front in
+    let cut : drop i old ≡ z ∷ rest = drop-cons old i x lt ∙ ap (λ m. z ∷ drop m old) (let q : suc i ≡ i + 1 = omega arith in q) in
+    let whole : region ≡ a.slots ++ z ∷ rest = t.slots ∙ ap (λ (w : List SlotState). a.slots ++ w) cut in
+    let here : Some z ≡ Some x = sym (get_middle a.slots rest z) ∙ (ap (slice_get (a.slots ++ z ∷ rest)) n ∙ (ap (λ (w : List SlotState). slice_get w i) (sym whole) ∙ found)) in
+    let same : x ≡ z = cc in
+    let lands : LandsIf room s (has mask i) i z a.history one.made = subst (λ (w : SlotState). LandsIf room s (has mask i) i w a.history one.made) same (subst (λ (w : History). LandsIf room s (has mask i) i x w one.made) t.history one.lands) in
+    let set_here : slice_set region i y ≡ a.slots ++ y ∷ rest = ap (λ (w : List SlotState). slice_set w i y) whole ∙ (ap (λ j. slice_set (a.slots ++ z ∷ rest) j y) (sym n) ∙ set_middle a.slots rest z y) in
+    record {
+      made = then_others a one.made;
+      lands = subst (λ (zs : List SlotState). LandsAll room s mask 0 zs h (then_others a one.made)) (sym (take_more old i x lt)) (all_push room s mask 0 i (take i old) z h a one.made (omega (arith, front)) t.lands lands);
+      answers = one.answers ∙ (ap (λ (w : List Landing). w ++ one.made.answers) t.answers ∙ append_assoc before a.answers one.made.answers);
+      slots = set_here ∙ (sym (append_assoc a.slots (y ∷ []) rest) ∙ ap (λ (w : List SlotState). (a.slots ++ w) ++ rest) one.slots);
+      history = one.history;
+    }

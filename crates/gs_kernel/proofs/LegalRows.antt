@@ -1,0 +1,110 @@
+-- What commands add, and rows of a legal step, computed.
+use Rattle.std.proofs.Common.{◌≡◌, [], ◌∷◌, ◌++◌, None, Some, true, false, refl}
+use Rattle.gs_layout.specs.declared.facts.Facts.{Facts}
+use Rattle.gs_layout.specs.declared.facts.Class.TheVariants.{Zero}
+use Rattle.gs_layout.specs.declared.message.Change.TheVariants as changes
+use Rattle.gs_layout.specs.declared.message.Change.TheVariants.{Blocked, Created, Preempted}
+use Rattle.gs_layout.specs.declared.message.Message.TheVariants.{Thread, TimerTick}
+use Rattle.gs_layout.specs.declared.refusal.Refusal.TheVariants as refusals
+use Rattle.gs_journal.specs.declared.entry.Entry.TheVariants.{Posted, Placed, Role, Taken, Torn}
+use Rattle.gs_journal.specs.History.{History, on, at, active, taken, last_taken, torn, seq, created, messages, posted}
+use Rattle.gs_journal.specs.Standing.{standing, latest, last_of}
+use Rattle.gs_kernel.specs.declared.settings.Settings.{Settings}
+use Rattle.gs_kernel.specs.declared.command.Command.TheVariants as commands
+use Rattle.gs_kernel.specs.declared.answer.Answer.TheVariants as answers
+use Rattle.gs_kernel.specs.declared.thread_event.ThreadEvent.TheVariants as threads
+use Rattle.gs_kernel.specs.declared.effect.Effect.TheVariants.{Post}
+use Rattle.gs_kernel.specs.Kernel.{create_refusal, take_refusal, give_refusal, tick_refusal}
+use Rattle.gs_kernel.specs.Legal.{Legal, Room, effect, refusal}
+
+two : Settings
+two = record { cpus = 2; first_tseq = 0; first_generation = 1; history = 16 }
+
+never : Room
+never h true m = Unit {0}
+never h false m = ⊥
+
+always : Room
+always h b m = Unit {0}
+
+opened : History
+opened = Role 1 0 ∷ []
+
+facts : Facts
+facts = record { runnable = true; mask = 3; class = Zero; name = [] }
+
+runs : History
+runs = opened ++ Posted (Thread 1 1 (Created facts)) ∷ Placed 1 1 1 1 ∷ []
+
+tick_done : Legal never two opened (commands.Tick 1) (answers.Done (Posted (TimerTick 1))) (opened ++ Posted (TimerTick 1) ∷ [])
+unfolding never two opened tick_refusal torn
+tick_done = (refl, record { free = refl; tells = (tt, refl) })
+
+tick_torn : Legal always two opened (commands.Tick 1) answers.Torn (opened ++ Torn ∷ [])
+unfolding always two opened tick_refusal torn
+tick_torn = record { free = refl; tells = ((TimerTick 1, refl, tt), refl) }
+
+tick_refused : Legal always two opened (commands.Tick 2) (answers.Refused refusals.BadCpu) opened
+unfolding never two opened tick_refusal torn
+tick_refused = (refl, refl)
+
+tick_short : Legal always two opened (commands.Tick 1) (answers.Refused refusals.OutOfMemory) opened
+unfolding never two opened tick_refusal torn
+tick_short = (refl, refl)
+
+create_done : Legal never two opened (commands.Create facts) (answers.Done (Posted (Thread 1 1 (Created facts)))) (opened ++ Posted (Thread 1 1 (Created facts)) ∷ [])
+unfolding never two opened facts create_refusal torn created posted
+create_done = (refl, record { free = refl; tells = (tt, refl) })
+
+take_free : Legal never two opened (commands.Take 1) (answers.Done (Taken 1)) (opened ++ Taken 1 ∷ [])
+unfolding never two opened take_refusal torn active taken last_taken on standing latest last_of
+take_free = (refl, record { free = refl; tells = (tt, refl) })
+
+take_over : Legal never two runs (commands.Take 1) (answers.Done (Taken 1)) (runs ++ Posted (Thread 1 2 (Preempted 1)) ∷ Taken 1 ∷ [])
+unfolding never two opened runs facts take_refusal torn active taken last_taken on standing latest last_of seq messages posted
+take_over = (refl, record { free = refl; tells = (tt, refl) })
+
+take_torn : Legal always two runs (commands.Take 1) answers.Torn (runs ++ Torn ∷ [])
+unfolding always two opened runs facts take_refusal torn active taken last_taken on standing latest last_of seq messages posted
+take_torn = record { free = refl; tells = ((Thread 1 2 (Preempted 1), refl, tt), refl) }
+
+take_refused : Legal always two runs (commands.Take 0) (answers.Refused refusals.AgentThere) runs
+unfolding never two opened runs facts take_refusal torn active standing last_of
+take_refused = (refl, refl)
+
+give_refused : Legal always two opened (commands.Give 1) (answers.Refused refusals.NotTaken) opened
+unfolding never two opened give_refusal torn taken last_taken standing latest last_of
+give_refused = (refl, refl)
+
+-- what happens to thread 1 on CPU 1 is told of it
+blocks : effect two runs (commands.Thread 1 threads.Block) ≡ Post (Thread 1 2 (Blocked 1))
+unfolding two opened runs facts on at standing last_of seq messages posted
+blocks = refl
+
+yields : effect two runs (commands.Thread 1 threads.Yield) ≡ Post (Thread 1 2 (changes.Yield 1))
+unfolding two opened runs facts on at standing last_of seq messages posted
+yields = refl
+
+dies : effect two runs (commands.Thread 1 threads.Die) ≡ Post (Thread 1 2 (changes.Dead (Some 1)))
+unfolding two opened runs facts on at standing last_of seq messages posted
+dies = refl
+
+-- a new mask takes it off, or leaves it
+moves : effect two runs (commands.Thread 1 (threads.Affinity 1)) ≡ Post (Thread 1 2 (changes.Affinity (Some 1) true 1))
+unfolding two opened runs facts on at standing last_of seq messages posted
+moves = refl
+
+stays_there : effect two runs (commands.Thread 1 (threads.Affinity 2)) ≡ Post (Thread 1 2 (changes.Affinity (Some 1) false 2))
+unfolding two opened runs facts on at standing last_of seq messages posted
+stays_there = refl
+
+no_taking : (refusal two runs (commands.Take 0) ∷ refusal two runs (commands.Take 2) ∷ refusal two runs (commands.Give 1) ∷ refusal two (runs ++ Taken 1 ∷ []) (commands.Take 1) ∷ [])
+    ≡ Some refusals.AgentThere ∷ Some refusals.BadCpu ∷ Some refusals.NotTaken ∷ Some refusals.CpuTaken ∷ []
+unfolding two opened runs facts take_refusal give_refusal torn active taken last_taken on standing latest last_of
+no_taking = refl
+
+-- the journal is full: two entries more have no room, one has
+no_room : (refusal (record two { history = 4 }) runs (commands.Take 1) ∷ refusal (record two { history = 4 }) runs (commands.Tick 1) ∷ [])
+    ≡ Some refusals.HistoryFull ∷ None ∷ []
+unfolding two opened runs facts take_refusal tick_refusal torn active taken last_taken on standing latest last_of seq messages posted
+no_room = refl

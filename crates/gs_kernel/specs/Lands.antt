@@ -1,0 +1,83 @@
+-- How transactions land, as legal steps of the kernel.
+use Rattle.std.specs.Prelude.{Bool, true, false, ℕ, suc, ◌<◌, ◌≡◌, ◌⊎◌, Option, None, Some, List, [], ◌∷◌, ◌++◌, if◌then◌else◌}
+use Rattle.gs_layout.specs.declared.outcome.Outcome.{Outcome}
+use Rattle.gs_layout.specs.declared.outcome.Outcome.TheVariants as outcomes
+use Rattle.gs_slots.specs.declared.state.SlotState.{SlotState}
+use Rattle.gs_slots.specs.declared.state.SlotState.TheVariants.{Idle, Stamped, Done}
+use Rattle.gs_slots.specs.declared.state.Stamp.{Stamp}
+use Rattle.gs_status.specs.Masks.{has}
+use Rattle.gs_journal.specs.History.{History, seq, at}
+use Rattle.gs_kernel.specs.declared.settings.Settings.{Settings}
+use Rattle.gs_kernel.specs.declared.landing.Landing.{Landing}
+use Rattle.gs_kernel.specs.Kernel.{preemption}
+use Rattle.gs_kernel.specs.Landing.{verdict, placing}
+use Rattle.gs_kernel.specs.Commit.{Landings, listed, then_others}
+use Rattle.gs_kernel.specs.declared.command.Command.{Command}
+use Rattle.gs_kernel.specs.declared.effect.Effect.{Effect}
+use Rattle.gs_kernel.specs.declared.effect.Effect.TheVariants.{Append}
+use Rattle.gs_kernel.specs.Legal.{Room, Tells, effect, refusal}
+
+-- what a placing adds: the message to the thread that makes way, if there is one, and the placing
+abbrev pub placement : Settings → History → ℕ → Stamp → Effect
+placement s h k b = Append (preemption s h k) (placing k b)
+
+-- whether a verdict is to place
+abbrev pub is_to_place : Outcome → Bool
+is_to_place outcomes.Placed = true
+is_to_place _ = false
+
+-- what becomes of a transaction with this verdict: one that is to be placed is placed, or is gone with the enclave where the message to the
+-- thread there does not fit; of any other nothing comes
+abbrev pub SettlesIf : Bool → Room → Settings → History → ℕ → Stamp → Outcome → Outcome → History → Type 0
+SettlesIf true room s h k b v o h' = (fit : Bool) × (o ≡ (if fit then outcomes.Placed else outcomes.Gone)) × Tells room h (placement s h k b) fit h'
+SettlesIf false room s h k b v o h' = (o ≡ v) × (h' ≡ h)
+
+abbrev pub Settles : Room → Settings → History → ℕ → Stamp → Outcome → Outcome → History → Type 0
+Settles room s h k b v o h' = SettlesIf (is_to_place v) room s h k b v o h'
+
+-- what was stamped into the slot of CPU k lands, with this answer
+pub record Lands (room : Room) (s : Settings) (h : History) (k : ℕ) (b : Stamp) (l : Landing) (h' : History) : Type 0 where
+  pub settles : Settles room s h k b (verdict s h k b) l.outcome h'
+  pub values : l ≡ record { cpu = k; tid = b.tid; outcome = l.outcome; seen = seq s.first_tseq h b.tid; at = at s.cpus h' b.tid }
+
+-- the slot of CPU k lands: a stamped one is done then, with what became of its transaction
+abbrev pub LandsIn : Room → Settings → History → ℕ → SlotState → Option Landing → SlotState → History → Type 0
+LandsIn room s h k (Stamped b) o z h' = (l : Landing) × Lands room s h k b l h' × (o ≡ Some l) × (z ≡ Done b l.outcome l.at l.seen)
+LandsIn room s h k Idle o z h' = (o ≡ None) × (z ≡ Idle) × (h' ≡ h)
+LandsIn room s h k (Done b p a n) o z h' = (o ≡ None) × (z ≡ Done b p a n) × (h' ≡ h)
+
+-- or stays, where it is not wanted
+abbrev pub LandsIf : Room → Settings → Bool → ℕ → SlotState → History → Landings → Type 0
+LandsIf room s false k z h r = r ≡ record { answers = []; history = h; slots = z ∷ [] }
+LandsIf room s true k z h r = (o : Option Landing) × (z' : SlotState) × LandsIn room s h k z o z' r.history × (r.answers ≡ listed o) × (r.slots ≡ z' ∷ [])
+
+-- the stamped slots of the mask land, by rising CPU from k on, each on the history that the one before left
+abbrev pub LandsAll : Room → Settings → ℕ → ℕ → List SlotState → History → Landings → Type 0
+LandsAll room s mask k [] h r = r ≡ record { answers = []; history = h; slots = [] }
+LandsAll room s mask k (z ∷ zs) h r = (one : Landings) × (rest : Landings) × LandsIf room s (has mask k) k z h one × LandsAll room s mask (suc k) zs one.history rest × (r ≡ then_others one rest)
+
+-- landings add their answers to these, and leave these slots and this history
+pub record Adds (R : Landings → Type 0) (before after : List Landing) (left : List SlotState) (h' : History) : Type 0 where
+  pub made : Landings
+  pub lands : R made
+  pub answers : after ≡ before ++ made.answers
+  pub slots : left ≡ made.slots
+  pub history : h' ≡ made.history
+
+-- this is what a command adds that nothing refuses
+pub record IsDue (s : Settings) (h : History) (x : Effect) : Type 0 where
+  pub command : Command
+  pub free : refusal s h command ≡ None
+  pub effect_is : x ≡ effect s h command
+
+-- this is what a transaction adds that is to be placed
+pub record IsPlaced (s : Settings) (h : History) (x : Effect) : Type 0 where
+  pub cpu : ℕ
+  pub stamp : Stamp
+  pub below : cpu < s.cpus
+  pub placed : verdict s h cpu stamp ≡ outcomes.Placed
+  pub effect_is : x ≡ placement s h cpu stamp
+
+-- this comes next: by a command that nothing refuses, or by a placing
+abbrev pub ComesNext : Settings → History → Effect → Type 0
+ComesNext s h x = IsDue s h x ⊎ IsPlaced s h x

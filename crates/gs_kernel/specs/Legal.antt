@@ -1,0 +1,112 @@
+-- A legal step of the kernel, over histories alone.
+use Rattle.std.specs.Prelude.{Bool, true, false, ℕ, ◌≡◌, ◌⊎◌, Option, None, Some, IfSome, List, [], ◌++◌, ◌∷◌}
+use Rattle.gs_layout.specs.declared.message.Message.{Message}
+use Rattle.gs_layout.specs.declared.message.Message.TheVariants.{TimerTick}
+use Rattle.gs_layout.specs.declared.refusal.Refusal.{Refusal}
+use Rattle.gs_layout.specs.declared.refusal.Refusal.TheVariants as refusals
+use Rattle.gs_journal.specs.declared.entry.Entry.{Entry}
+use Rattle.gs_journal.specs.declared.entry.Entry.TheVariants.{Posted, Taken, Given, Torn}
+use Rattle.gs_journal.specs.History.{History, posted, torn}
+use Rattle.gs_kernel.specs.First.{first_that}
+use Rattle.gs_kernel.specs.declared.settings.Settings.{Settings}
+use Rattle.gs_kernel.specs.declared.command.Command.{Command}
+use Rattle.gs_kernel.specs.declared.command.Command.TheVariants as commands
+use Rattle.gs_kernel.specs.declared.effect.Effect.{Effect}
+use Rattle.gs_kernel.specs.declared.effect.Effect.TheVariants.{Post, Append}
+use Rattle.gs_kernel.specs.declared.answer.Answer.{Answer}
+use Rattle.gs_kernel.specs.declared.answer.Answer.TheVariants as answers
+use Rattle.gs_kernel.specs.Kernel.{KernelOf, IsRefusal, or_else, is_full, create_refusal, thread_refusal, take_refusal, give_refusal, tick_refusal, creation, happening, preemption}
+
+-- the first refusal that a command has of its own
+abbrev pub own_refusal : Settings → History → Command → Option Refusal
+own_refusal s h (commands.Create f) = create_refusal s h f
+own_refusal s h (commands.Thread t e) = thread_refusal s h t e
+own_refusal s h (commands.Take c) = take_refusal s h c
+own_refusal s h (commands.Give c) = give_refusal s h c
+own_refusal s h (commands.Tick c) = tick_refusal s c
+
+-- the most entries that it adds
+abbrev pub most_entries : Command → ℕ
+most_entries (commands.Take c) = 2
+most_entries _ = 1
+
+-- the first refusal of a command that holds: before its own that the enclave was torn down, after them that the journal has no room
+abbrev pub refusal : Settings → History → Command → Option Refusal
+refusal s h c =
+    first_that ((torn h, Some refusals.Gone) ∷ [])
+    (or_else (own_refusal s h c) (first_that ((is_full s h (most_entries c), Some refusals.HistoryFull) ∷ []) None))
+
+-- what a command adds to the history
+abbrev pub effect : Settings → History → Command → Effect
+effect s h (commands.Create f) = Post (creation s.first_tseq h f)
+effect s h (commands.Thread t e) = Post (happening s h t e)
+effect s h (commands.Take c) = Append (preemption s h c) (Taken c)
+effect s h (commands.Give c) = Append None (Given c)
+effect s h (commands.Tick c) = Post (TimerTick c)
+
+-- whether it adds a thread
+abbrev pub creates : Command → Bool
+creates (commands.Create f) = true
+creates _ = false
+
+-- the message among what is added, if there is one
+abbrev pub message_in : Effect → Option Message
+message_in (Post m) = Some m
+message_in (Append victim e) = victim
+
+-- all that is added
+abbrev pub entries_in : Effect → List Entry
+entries_in (Post m) = Posted m ∷ []
+entries_in (Append None e) = e ∷ []
+entries_in (Append (Some m) e) = Posted m ∷ e ∷ []
+
+-- the last of it
+abbrev pub last_in : Effect → Entry
+last_in (Post m) = Posted m
+last_in (Append victim e) = e
+
+-- the ring's condition: behind this history this message fits, or does not
+abbrev pub Room : Type 1
+Room = History → Bool → Message → Type 0
+
+-- as an end of a ring tells: from where it is, with nothing taken, it can come to where the history is posted, and from there to where
+-- the message is too; or to where the history is posted and the message may be refused
+abbrev pub RoomOf : {P : Type 0} → (P → P → Type 0) → (P → ℕ) → (P → List Message → Type 0) → (P → Message → Type 0) → P → Room
+RoomOf {P = P} same taken sent tight p h true m = (q : P) × same p q × (taken q ≡ taken p) × sent q (posted h) × (r : P) × same q r × (taken r ≡ taken q) × sent r (posted h ++ m ∷ [])
+RoomOf {P = P} same taken sent tight p h false m = (q : P) × same p q × (taken q ≡ taken p) × sent q (posted h) × tight q m
+
+-- the message, if there is one, fits, and all is added; or it does not, and in place of all of it the enclave is torn down
+abbrev pub Tells : Room → History → Effect → Bool → History → Type 0
+Tells room h x true h' = IfSome (message_in x) (room h true) × (h' ≡ h ++ entries_in x)
+Tells room h x false h' = ((m : Message) × (message_in x ≡ Some m) × room h false m) × (h' ≡ h ++ Torn ∷ [])
+
+-- a command that nothing refuses, and what it adds
+pub record Serves (room : Room) (s : Settings) (h : History) (c : Command) (fits : Bool) (h' : History) : Type 0 where
+  pub free : refusal s h c ≡ None
+  pub tells : Tells room h (effect s h c) fits h'
+
+-- refused by the first refusal that holds, or for want of memory where none does, and nothing changed; or done; or torn down
+abbrev pub Legal : Room → Settings → History → Command → Answer → History → Type 0
+Legal room s h c (answers.Refused r) h' = IsRefusal (refusal s h c) r × (h' ≡ h)
+Legal room s h c (answers.Done e) h' = (e ≡ last_in (effect s h c)) × Serves room s h c true h'
+Legal room s h c answers.Torn h' = Serves room s h c false h'
+
+-- what no call touches: the ring and what was taken from it, and the numbers; what was sent is what the journal says was posted
+pub record Frame {P : Type 0} (same : P → P → Type 0) (taken : P → ℕ) (sent : P → List Message → Type 0) (a b : KernelOf P) : Type 0 where
+  pub ring : same a.poster b.poster
+  pub stays : taken b.poster ≡ taken a.poster
+  pub told : sent b.poster (posted b.history)
+  pub settings : b.settings ≡ a.settings
+
+-- an answer that refuses
+abbrev pub Refuses : Answer → Type 0
+Refuses (answers.Refused r) = Unit {0}
+Refuses (answers.Done e) = ⊥
+Refuses answers.Torn = ⊥
+
+-- a call that tells a kernel to do something: the step is legal; where it is refused, all is as before, but that more threads may find
+-- room; and the frame stays
+pub record IsServed {P : Type 0} (same : P → P → Type 0) (taken : P → ℕ) (sent : P → List Message → Type 0) (tight : P → Message → Type 0) (a : KernelOf P) (c : Command) (r : Answer) (b : KernelOf P) : Type 0 where
+  pub legal : Legal (RoomOf same taken sent tight a.poster) a.settings a.history c r b.history
+  pub refused : Refuses r → b ≡ record a { rows = b.rows }
+  pub frame : Frame same taken sent a b

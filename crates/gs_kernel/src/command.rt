@@ -1,0 +1,40 @@
+ghost use Rattle.std.specs.Prelude.{◌≡◌, ◌≤◌};
+ghost use Rattle.gs_kernel.specs.Legal.{creates, most_entries};
+
+use crate::thread_event::ThreadEvent;
+use gs_layout::Facts;
+
+/// What the kernel can be told to do.
+#[derive(Clone, Copy)]
+pub enum Command {
+    /// A thread with these facts is created.
+    Create { facts: Facts },
+    /// Something happens to a thread.
+    Thread { tid: u32, event: ThreadEvent },
+    /// The other scheduling class takes a CPU. A thread there is taken off, and told so first.
+    Take { cpu: u16 },
+    /// The other scheduling class gives a CPU back.
+    Give { cpu: u16 },
+    /// The timer of a CPU ticks.
+    Tick { cpu: u16 },
+}
+
+impl Command {
+    /// The most entries that it adds: the journal has to have room for so many.
+    pub(crate) fn most_entries(&self) -> usize
+        ensures value { result ≡ most_entries self.now }
+        ensures most { result ≤ 2 }
+    {
+        match self {
+            Command::Take { .. } => 2,
+            _ => 1,
+        }
+    }
+
+    /// Whether it adds a thread.
+    pub(crate) fn creates(&self) -> bool
+        ensures { result ≡ creates self.now }
+    {
+        matches!(self, Command::Create { .. })
+    }
+}

@@ -1,0 +1,32 @@
+ghost use Rattle.std.specs.Prelude.{◌≡◌, length};
+ghost use Rattle.gs_kernel.specs.Legal.{entries_in, last_in};
+
+use gs_journal::Entry;
+use gs_layout::Message;
+
+/// What a step of the kernel adds to the journal. Of its entries at most one is a message, and that one
+/// has to fit into the ring.
+#[derive(Clone, Copy)]
+pub enum Effect {
+    /// A message is posted.
+    Post {
+        message: Message,
+    },
+    /// An entry is appended, behind the message to the thread that makes way for it, if there is one.
+    Append {
+        victim: Option<Message>,
+        entry: Entry,
+    },
+}
+
+impl Effect {
+    /// The last entry that it adds.
+    pub(crate) fn last(&self) -> Entry
+        ensures { result ≡ last_in self.now }
+    {
+        match self {
+            Effect::Post { message } => Entry::Posted { message: *message },
+            Effect::Append { entry, .. } => *entry,
+        }
+    }
+}
