@@ -24,7 +24,7 @@ use Rattle.gs_kernel.specs.Kernel.{change_by, happening, must_leave, next_about,
 use Rattle.gs_kernel.specs.declared.effect.Effect.{Effect}
 use Rattle.gs_kernel.specs.declared.effect.Effect.TheVariants.{Post, Append}
 use Rattle.gs_kernel.specs.Inside.{HoldsNear, IsKept, SeatsBelow, behind, created_in, freed, held_by, left_by, left_in, listed_entry, listed_message, rows_seated, rows_told, rows_with, seats_seated, seats_told, vacated}
-use Rattle.gs_kernel.specs.Legal.{RoomOf, creates, effect, entries_in, message_in, most_entries, refusal}
+use Rattle.gs_kernel.specs.Legal.{RoomOf, effect, entries_in, message_in, most_entries, refusal}
 use Rattle.gs_kernel.proofs.Kernels.{kept_created, kept_placed, kept_rows, kept_tick}
 use Rattle.gs_kernel.proofs.Abouts.{kept_about, live_row, no_creation, on_cpu_below, stays_allowed}
 use Rattle.gs_kernel.proofs.OtherClass.{gives_when, kept_held, kept_preempted, seated_at, takes_when}
@@ -287,40 +287,7 @@ pub due_quiet : (s : Settings) (h h' : History) (x : Effect) → ComesNext s h x
 due_quiet s h h' x (inl due) = ap (λ (y : Effect). posted (h' ++ listed_entry (behind y))) due.effect_is ∙ command_quiet s h h' due.command
 due_quiet s h h' x (inr due) = ap (λ (y : Effect). posted (h' ++ listed_entry (behind y))) due.effect_is ∙ same_posted h' (placing due.cpu due.stamp) refl
 
--- how many entries are added
-pub entries_count : (x : Effect) → length (entries_in x) ≡ length (listed_message (message_in x)) + length (listed_entry (behind x))
-entries_count (Post m) = refl
-entries_count (Append None e) = refl
-entries_count (Append (Some m) e) = refl
-
--- by a command no more than it may
-pub command_few : (s : Settings) (h : History) (c : Command) → length (entries_in (effect s h c)) ≤ most_entries c
-command_few s h (commands.Create f) = omega arith
-command_few s h (commands.Thread u e) = omega arith
-command_few s h (commands.Take c) = by_who (preemption s h c)
-  where
-    by_who : (o : Option Message) → length (entries_in (Append o (Taken c))) ≤ 2
-    by_who None = omega arith
-    by_who (Some m) = omega arith
-command_few s h (commands.Give c) = omega arith
-command_few s h (commands.Tick c) = omega arith
-
--- a message to who makes way creates nobody
-pub no_victim : (s : Settings) (h : History) (c n : ℕ) → IfSome (preemption s h c) (λ m. is_some (created_in m) ≡ true → 0 < n)
-no_victim s h c n = by_who (on h c)
-  where
-    by_who : (o : Option ℕ) → IfSome (option_map (λ u. next_about s h u (Preempted c)) o) (λ m. is_some (created_in m) ≡ true → 0 < n)
-    by_who None = tt
-    by_who (Some u) = λ is. absurd cc
-
--- only a creation adds a thread
-pub command_rows : (s : Settings) (h : History) (c : Command) (n : ℕ) → (creates c ≡ true → 0 < n) → IfSome (message_in (effect s h c)) (λ m. is_some (created_in m) ≡ true → 0 < n)
-command_rows s h (commands.Create f) n some = λ is. some refl
-command_rows s h (commands.Thread u e) n some = λ is. let z : is_some (created_in (happening s h u e)) ≡ false = ap is_some (no_facts u (seq s.first_tseq h u + 1) (at s.cpus h u) e) in absurd cc
-command_rows s h (commands.Take c) n some = no_victim s h c n
-command_rows s h (commands.Give c) n some = tt
-command_rows s h (commands.Tick c) n some = λ is. absurd cc
-
+-- an entry frees no seat and adds none
 pub seated_length : (running : List (Option ℕ)) (e : Option Entry) → length (seats_seated running e) ≡ length running
 seated_length running None = refl
 seated_length running (Some (Posted m)) = refl
@@ -332,7 +299,7 @@ seated_length running (Some (Taken c)) = refl
 seated_length running (Some (Given c)) = refl
 seated_length running (Some Torn) = refl
 
--- and no seat more
+-- nor does a message
 pub length_told : (running : List (Option ℕ)) (m : Option Message) → length (seats_told running m) ≡ length running
 length_told running None = refl
 length_told running (Some m) = by_seat (left_by m)

@@ -121,10 +121,6 @@ in_few room s h k (Stamped x) o z' h' t = settles_few room s h k x (verdict s h 
 in_few room s h k Idle o z' h' t = same_few h h' t.2
 in_few room s h k (Done x p q n) o z' h' t = same_few h h' t.2
 
--- nothing comes of a verdict that is not to place
-pub idle_settles : (room : Room) (s : Settings) (h : History) (k : ℕ) (x : Stamp) (v : Outcome) → is_to_place v ≡ false → Settles room s h k x v v h
-idle_settles room s h k x v is = subst (λ p. SettlesIf p room s h k x v v h) (sym is) (refl, refl)
-
 -- a slot that was not wanted, and one that was
 pub unasked_adds : (room : Room) (s : Settings) (wanted : Bool) (k : ℕ) (z : SlotState) (h : History) (before : List Landing) → wanted ≡ false → Adds (LandsIf room s wanted k z h) before before (z ∷ []) h
 unasked_adds room s wanted k z h before is =
