@@ -12,10 +12,10 @@ use Rattle.std.proofs.lemmas.List.Folds.{list_any-append}
 use Rattle.gs_layout.specs.declared.facts.Class.{Class}
 use Rattle.gs_layout.specs.declared.facts.Class.TheVariants.{Zero, One}
 use Rattle.gs_layout.specs.declared.known.Known.{Known}
-use Rattle.gs_layout.specs.View.{Look}
 use Rattle.gs_status.specs.Masks.{has}
 use Rattle.gs_status.proofs.Least.{least_same}
-use Rattle.gs_beliefs.specs.Cpus.{Cpus, is_free}
+use Rattle.gs_beliefs.specs.Cpus.{is_free}
+use Rattle.gs_policy.specs.Shown.{Shown}
 use Rattle.gs_policy.specs.declared.choice.Choice.{Choice}
 use Rattle.gs_policy.specs.Plan.{is_on, uses}
 use Rattle.acceptance.specs.BothEnds.{cpu_for, end_for, is_left, placed_on, planned, suits}
@@ -93,20 +93,20 @@ pub greatest_of_none : (n : ℕ) → n ≡ 0 → None ≡ greatest (has n) 64
 greatest_of_none n none = sym (greatest_none (has n) 64 (λ c within. ap (λ k. has k c) none ∙ nobody c))
 
 -- the CPUs that are left, which no choice so far uses, and the threads that come next complete the plan of all
-pub record IsPlanning (s : Cpus) (v : Look) (left : ℕ) (xs : List Choice) (next queue : List ℕ) : Type 0 where
+pub record IsPlanning (s : Shown) (left : ℕ) (xs : List Choice) (next queue : List ℕ) : Type 0 where
   pub left_is : (c : ℕ) → has left c ≡ is_left s xs c
-  pub rest : planned s v xs next ≡ planned s v [] queue
+  pub rest : planned s xs next ≡ planned s [] queue
 
-pub planning_start : (s : Cpus) (v : Look) (left : ℕ) (xs : List Choice) (next queue : List ℕ) → ((c : ℕ) → has left c ≡ is_free s c) → xs ≡ [] → next ≡ queue
-    → IsPlanning s v left xs next queue
-planning_start s v left xs next queue free none same =
+pub planning_start : (s : Shown) (left : ℕ) (xs : List Choice) (next queue : List ℕ) → ((c : ℕ) → has left c ≡ is_free s.cpus s.taken c) → xs ≡ [] → next ≡ queue
+    → IsPlanning s left xs next queue
+planning_start s left xs next queue free none same =
     record {
-      left_is = λ c. free c ∙ (sym (and-true (is_free s c)) ∙ ap (λ (ys : List Choice). is_left s ys c) (sym none));
-      rest = ap (λ (ys : List Choice). planned s v ys next) none ∙ ap (planned s v []) same;
+      left_is = λ c. free c ∙ (sym (and-true (is_free s.cpus s.taken c)) ∙ ap (λ (ys : List Choice). is_left s ys c) (sym none));
+      rest = ap (λ (ys : List Choice). planned s ys next) none ∙ ap (planned s []) same;
     }
 
-pub planning_end : (s : Cpus) (v : Look) (left : ℕ) (xs : List Choice) (next queue : List ℕ) → IsPlanning s v left xs next queue → next ≡ [] → xs ≡ planned s v [] queue
-planning_end s v left xs next queue p none = ap (planned s v xs) (sym none) ∙ p.rest
+pub planning_end : (s : Shown) (left : ℕ) (xs : List Choice) (next queue : List ℕ) → IsPlanning s left xs next queue → next ≡ [] → xs ≡ planned s [] queue
+planning_end s left xs next queue p none = ap (planned s xs) (sym none) ∙ p.rest
 
 end_same : (class : Class) (f g : ℕ → Bool) → ((c : ℕ) → f c ≡ g c) → end_for class f ≡ end_for class g
 end_same Zero f g same = least_same f g 64 (λ c below. same c)
@@ -117,18 +117,18 @@ cpu_same f g None same = refl
 cpu_same f g (Some k) same = end_same k.facts.class (suits f k) (suits g k) (λ c. ap (λ (b : Bool). b && has k.facts.mask c) (same c))
 
 -- the thread whose turn it is has this CPU, or none
-turn : (s : Cpus) (v : Look) (left : ℕ) (xs : List Choice) (t : ℕ) (next later queue : List ℕ) (c : Option ℕ) → IsPlanning s v left xs next queue → next ≡ t ∷ later
-    → c ≡ cpu_for (has left) (v t) → planned s v (xs ++ placed_on t c) later ≡ planned s v [] queue
-turn s v left xs t next later queue c p first is =
-    ap (λ (o : Option ℕ). planned s v (xs ++ placed_on t o) later) (is ∙ cpu_same (has left) (is_left s xs) (v t) p.left_is)
-    ∙ (ap (planned s v xs) (sym first) ∙ p.rest)
+turn : (s : Shown) (left : ℕ) (xs : List Choice) (t : ℕ) (next later queue : List ℕ) (c : Option ℕ) → IsPlanning s left xs next queue → next ≡ t ∷ later
+    → c ≡ cpu_for (has left) (s.view t) → planned s (xs ++ placed_on t c) later ≡ planned s [] queue
+turn s left xs t next later queue c p first is =
+    ap (λ (o : Option ℕ). planned s (xs ++ placed_on t o) later) (is ∙ cpu_same (has left) (is_left s xs) (s.view t) p.left_is)
+    ∙ (ap (planned s xs) (sym first) ∙ p.rest)
 
-pub planning_none : (s : Cpus) (v : Look) (left : ℕ) (xs : List Choice) (t : ℕ) (next later queue : List ℕ) → IsPlanning s v left xs next queue → next ≡ t ∷ later
-    → None ≡ cpu_for (has left) (v t) → IsPlanning s v left xs later queue
-planning_none s v left xs t next later queue p first is =
+pub planning_none : (s : Shown) (left : ℕ) (xs : List Choice) (t : ℕ) (next later queue : List ℕ) → IsPlanning s left xs next queue → next ≡ t ∷ later
+    → None ≡ cpu_for (has left) (s.view t) → IsPlanning s left xs later queue
+planning_none s left xs t next later queue p first is =
     record {
       left_is = p.left_is;
-      rest = ap (λ (ys : List Choice). planned s v ys later) (sym (append-nil xs)) ∙ turn s v left xs t next later queue None p first is;
+      rest = ap (λ (ys : List Choice). planned s ys later) (sym (append-nil xs)) ∙ turn s left xs t next later queue None p first is;
     }
 
 left_out : (a b : Bool) → (a && not (b || true)) ≡ false
@@ -145,10 +145,10 @@ uses_more : (xs : List Choice) (x : Choice) (i : ℕ) → uses (xs ++ x ∷ []) 
 uses_more xs x i = list_any-append (is_on i) xs (x ∷ [])
 
 -- a choice uses its CPU up
-left_more : (s : Cpus) (left left' : ℕ) (xs : List Choice) (x : Choice) → ((c : ℕ) → has left c ≡ is_left s xs c) → has left' x.cpu ≡ false → ((c : ℕ) → c ≢ x.cpu → has left' c ≡ has left c)
+left_more : (s : Shown) (left left' : ℕ) (xs : List Choice) (x : Choice) → ((c : ℕ) → has left c ≡ is_left s xs c) → has left' x.cpu ≡ false → ((c : ℕ) → c ≢ x.cpu → has left' c ≡ has left c)
     → (c : ℕ) → has left' c ≡ is_left s (xs ++ x ∷ []) c
 left_more s left left' xs x is here others c =
-    by_place (cases_eq c x.cpu) ∙ ap (λ (b : Bool). is_free s c && not b) (sym (uses_more xs x c))
+    by_place (cases_eq c x.cpu) ∙ ap (λ (b : Bool). is_free s.cpus s.taken c && not b) (sym (uses_more xs x c))
   where
     is' : (c : ℕ) → has left c ≡ is_left s xs c
     is' = is
@@ -159,18 +159,18 @@ left_more s left left' xs x is here others c =
     others' : (c : ℕ) → c ≢ x.cpu → has left' c ≡ has left c
     others' = others
 
-    by_place : (c ≡ x.cpu) ⊎ (c ≢ x.cpu) → has left' c ≡ (is_free s c && not (uses xs c || ((x.cpu == c) || false)))
+    by_place : (c ≡ x.cpu) ⊎ (c ≢ x.cpu) → has left' c ≡ (is_free s.cpus s.taken c && not (uses xs c || ((x.cpu == c) || false)))
     by_place (inl same) =
-        ap (has left') same ∙ (here' ∙ sym (ap (λ (b : Bool). is_free s c && not (uses xs c || (b || false))) (eq-eqb x.cpu c (sym same)) ∙ left_out (is_free s c) (uses xs c)))
+        ap (has left') same ∙ (here' ∙ sym (ap (λ (b : Bool). is_free s.cpus s.taken c && not (uses xs c || (b || false))) (eq-eqb x.cpu c (sym same)) ∙ left_out (is_free s.cpus s.taken c) (uses xs c)))
     by_place (inr other) =
         others' c other
-        ∙ (is' c ∙ sym (ap (λ (b : Bool). is_free s c && not (uses xs c || (b || false))) (ne_eqb x.cpu c (λ same. other (sym same))) ∙ left_in (is_free s c) (uses xs c)))
+        ∙ (is' c ∙ sym (ap (λ (b : Bool). is_free s.cpus s.taken c && not (uses xs c || (b || false))) (ne_eqb x.cpu c (λ same. other (sym same))) ∙ left_in (is_free s.cpus s.taken c) (uses xs c)))
 
-pub planning_more : (s : Cpus) (v : Look) (left left' : ℕ) (xs xs' : List Choice) (t c : ℕ) (next later queue : List ℕ) → IsPlanning s v left xs next queue → next ≡ t ∷ later
-    → Some c ≡ cpu_for (has left) (v t) → xs' ≡ xs ++ record { cpu = c; tid = t; preempt = false } ∷ [] → has left' c ≡ false → ((i : ℕ) → i ≢ c → has left' i ≡ has left i)
-    → IsPlanning s v left' xs' later queue
-planning_more s v left left' xs xs' t c next later queue p first is chosen here others =
-    subst (λ (ys : List Choice). IsPlanning s v left' ys later queue) (sym chosen) (record {
+pub planning_more : (s : Shown) (left left' : ℕ) (xs xs' : List Choice) (t c : ℕ) (next later queue : List ℕ) → IsPlanning s left xs next queue → next ≡ t ∷ later
+    → Some c ≡ cpu_for (has left) (s.view t) → xs' ≡ xs ++ record { cpu = c; tid = t; preempt = false } ∷ [] → has left' c ≡ false → ((i : ℕ) → i ≢ c → has left' i ≡ has left i)
+    → IsPlanning s left' xs' later queue
+planning_more s left left' xs xs' t c next later queue p first is chosen here others =
+    subst (λ (ys : List Choice). IsPlanning s left' ys later queue) (sym chosen) (record {
       left_is = left_more s left left' xs (record { cpu = c; tid = t; preempt = false }) p.left_is here others;
-      rest = turn s v left xs t next later queue (Some c) p first is;
+      rest = turn s left xs t next later queue (Some c) p first is;
     })

@@ -6,11 +6,9 @@ ghost use Rattle.gs_status.specs.Masks.{has};
 ghost use Rattle.acceptance.specs.BothEnds.{cpu_for};
 ghost use Rattle.acceptance.specs.Greatest.{greatest};
 
-use gs_beliefs::CpuBeliefs;
 use gs_layout::Class;
-use gs_policy::{Choice, Policy};
-use gs_runq::RunQueue;
-use gs_status::Mask;
+use gs_policy::{Choice, Policy, Shown};
+use gs_status::{MOST_CPUS, Mask};
 use gs_view::AgentView;
 use std::alloc::{AllocError, Global};
 
@@ -19,23 +17,23 @@ use std::alloc::{AllocError, Global};
 #[derive(Clone, Copy, PartialEq, Eq, Debug)]
 pub struct BothEnds;
 
-/// The greatest CPU of a set, from 0 to 63, or `None` where no CPU is in it.
+/// The greatest CPU of a set, or `None` where no CPU is in it.
 #[tactic(auto, using(crate::proofs::Ends::greatest_of_none, crate::proofs::Ends::greatest_of_some, crate::proofs::Ends::highest_within))]
 fn highest(mask: Mask) -> Option<u16>
-    ensures greatest { result ≡ greatest (has mask) 64 }
-    ensures within { IfSome result (λ c. c < 64) }
+    ensures greatest { result ≡ greatest (has mask) MOST_CPUS }
+    ensures within { IfSome result (λ c. c < MOST_CPUS) }
 {
     let bits = mask.bits();
     if bits == 0 {
         return None;
     }
-    Some(63 - bits.leading_zeros() as u16)
+    Some(MOST_CPUS - 1 - bits.leading_zeros() as u16)
 }
 
 /// The CPU for a thread, among those that are left.
 fn cpu_for(view: &AgentView, left: Mask, tid: u32) -> Option<u16>
     ensures cpu { result ≡ cpu_for (has left) (look_up view.now tid) }
-    ensures within { IfSome result (λ c. c < 64) }
+    ensures within { IfSome result (λ c. c < MOST_CPUS) }
 {
     let (facts, _) = view.get(tid)?;
     let open = left.both(Mask::new(facts.mask));
@@ -51,17 +49,11 @@ impl Policy for BothEnds {
     ghost chosen = { λ p. both_ends };
 
     #[tactic(auto, using(crate::proofs::Ends::planning_start, crate::proofs::Ends::planning_end))]
-    fn plan(
-        &self,
-        alloc: Global,
-        view: &AgentView,
-        cpus: &CpuBeliefs,
-        queue: &RunQueue,
-    ) -> Result<Vec<Choice>, AllocError> {
+    fn plan(&self, alloc: Global, shown: &Shown<'_>) -> Result<Vec<Choice>, AllocError> {
         let mut choices = Vec::new(alloc);
-        let mut left = cpus.free();
-        for tid in queue.walk() {
-            let Some(cpu) = cpu_for(view, left, tid) else {
+        let mut left = shown.cpus.free(shown.taken);
+        for tid in shown.queue.walk() {
+            let Some(cpu) = cpu_for(shown.view, left, tid) else {
                 continue;
             };
             choices.push(Choice {

@@ -10,7 +10,7 @@ use gs_status::Mask;
 use std::alloc::Global;
 use std::test::Fail;
 
-const TWO_CPUS: Config = Config {
+const TWO_CPUS: Config<AnyPolicy> = Config {
     cpus: 2,
     ring: 128,
     first_tseq: 0,
@@ -19,14 +19,14 @@ const TWO_CPUS: Config = Config {
     policy: AnyPolicy::FirstCome(FirstCome),
 };
 
-const THREE_CPUS: Config = Config {
+const THREE_CPUS: Config<AnyPolicy> = Config {
     cpus: 3,
     ring: 256,
     ..TWO_CPUS
 };
 
 /// Configs with two faults or one, and the first of them.
-const FAULTS: [(Config, ConfigFault); 4] = [
+const FAULTS: [(Config<AnyPolicy>, ConfigFault); 4] = [
     (
         Config {
             cpus: 65,
@@ -91,23 +91,23 @@ enum Look {
     Transaction(usize, Option<(u16, u32, u32, u32)>),
 }
 
-fn stamped(machine: &Machine, number: usize) -> Option<(u16, u32, u32, u32)> {
+fn stamped(machine: &Machine<AnyPolicy>, number: usize) -> Option<(u16, u32, u32, u32)> {
     let transaction = machine.transaction(number)?;
     let slot = transaction.slot;
     Some((transaction.cpu, slot.generation, slot.tid, slot.tseq))
 }
 
-fn is_idle(machine: &Machine, cpu: u16) -> bool {
+fn is_idle(machine: &Machine<AnyPolicy>, cpu: u16) -> bool {
     let region = machine.region();
     cpu < region.cpus() && region.state(cpu) == Ok(SlotState::Idle)
 }
 
-fn believed(machine: &Machine, cpu: u16) -> Option<u32> {
+fn believed(machine: &Machine<AnyPolicy>, cpu: u16) -> Option<u32> {
     Some(machine.role().believed(cpu)?.tid)
 }
 
 /// Whether a look shows what it has to.
-fn is_so(machine: &Machine, look: Look) -> bool {
+fn is_so(machine: &Machine<AnyPolicy>, look: Look) -> bool {
     match look {
         Look::Status(tid, wanted) => machine.kernel().status(tid) == wanted,
         Look::OnCpu(count, cpu, wanted) => machine.kernel().journal().on_cpu(count, cpu) == wanted,
@@ -141,7 +141,7 @@ fn number_of(reply: &Reply) -> Option<usize> {
 type Row<'a> = (Event, Option<usize>, &'a [Look]);
 
 /// The first event that is answered otherwise, or behind which something else is seen.
-fn first_wrong(machine: &mut Machine, rows: &[Row<'_>]) -> Option<usize> {
+fn first_wrong(machine: &mut Machine<AnyPolicy>, rows: &[Row<'_>]) -> Option<usize> {
     for (i, (event, number, looks)) in rows.iter().enumerate() {
         if number_of(&machine.step(event)) != *number {
             return Some(i);
@@ -158,7 +158,7 @@ fn first_wrong(machine: &mut Machine, rows: &[Row<'_>]) -> Option<usize> {
 /// The same, of a new machine.
 fn first_wrong_of_new(
     alloc: Global,
-    config: Config,
+    config: Config<AnyPolicy>,
     rows: &[Row<'_>],
 ) -> Result<Option<usize>, ConfigFault> {
     let mut machine = Machine::new(alloc, config)?;

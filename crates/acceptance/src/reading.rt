@@ -6,7 +6,7 @@ use gs_script::{Reason, ScriptError, ScriptFault, read_script};
 use std::alloc::Global;
 
 /// A header with no more than it has to have.
-const LEAST: Config = Config {
+const LEAST: Config<AnyPolicy> = Config {
     cpus: 2,
     ring: 128,
     first_tseq: 0,
@@ -16,7 +16,7 @@ const LEAST: Config = Config {
 };
 
 /// Scripts, the configs that they are read as, how many events they have, and whether the first is a decision.
-const ROWS: [(&str, Config, usize, bool); 5] = [
+const ROWS: [(&str, Config<AnyPolicy>, usize, bool); 5] = [
     (
         "cpus 2 ring 128\ncreate 3 0 r web\ndrain 1\nstamp 1 1\ncommit 2\n",
         LEAST,
@@ -59,7 +59,7 @@ const ROWS: [(&str, Config, usize, bool); 5] = [
 ];
 
 /// What a script is read as.
-fn read(alloc: Global, text: &str) -> Option<(Config, usize, bool)> {
+fn read(alloc: Global, text: &str) -> Option<(Config<AnyPolicy>, usize, bool)> {
     let script = read_script(alloc, text.as_bytes()).ok()?;
     let decides = matches!(script.events.first(), Some(Event::Decide));
     Some((script.config, script.events.len(), decides))

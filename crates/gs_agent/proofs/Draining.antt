@@ -6,7 +6,6 @@ use Rattle.std.proofs.lemmas.List.Folds.{list_any-append}
 use Rattle.std.proofs.lemmas.List.Sums.{sum_by-append}
 use Rattle.gs_layout.specs.declared.message.Message.{Message}
 use Rattle.gs_layout.specs.declared.known.Word.{Word}
-use Rattle.gs_layout.specs.declared.known.Word.TheVariants as layout_words
 use Rattle.gs_layout.specs.View.{Look, apply, catch_up, is_gap, is_orphan, is_skipped, word, words}
 use Rattle.gs_view.specs.declared.taken.Taken.{Taken}
 use Rattle.gs_view.specs.declared.taken.Taken.TheVariants.{Applied, Skipped, Orphan}
@@ -14,26 +13,8 @@ use Rattle.gs_view.specs.Taken.{word_of}
 use Rattle.gs_agent.specs.declared.drained.Drained.{Drained}
 use Rattle.gs_agent.specs.declared.drained.Stop.{Stop}
 use Rattle.gs_agent.specs.Drains.{Took, count_word}
-use Rattle.gs_mind.proofs.Minds.{is_applied, old_news}
-use Rattle.gs_mind.specs.Picture.{Picture, takes_in, takes_in_all, takes_in_by}
-
--- what does not apply leaves a view as it is
-as_it_was : (v : Look) (m : Message) → is_applied (word v m) ≡ false → v ≡ apply v m
-as_it_was v m old = λ i. λ t. sym (old_news v m old t) i
-
--- a picture's view takes messages in as a view does
-pub view_takes : (m : Message) (p : Picture) → (takes_in m p).view ≡ apply p.view m
-view_takes m p = by_word (word p.view m) refl
-  where
-    by_word : (w : Word) → word p.view m ≡ w → (takes_in_by w m p).view ≡ apply p.view m
-    by_word layout_words.Applied e = refl
-    by_word layout_words.Orphan e = as_it_was p.view m (ap is_applied e)
-    by_word layout_words.Skipped e = as_it_was p.view m (ap is_applied e)
-    by_word layout_words.Gap e = as_it_was p.view m (ap is_applied e)
-
-pub view_takes_all : (p : Picture) (ms : List Message) → (takes_in_all p ms).view ≡ catch_up p.view ms
-view_takes_all p [] = refl
-view_takes_all p (m ∷ ms) = view_takes_all (takes_in m p) ms ∙ ap (λ (v : Look). catch_up v ms) (view_takes m p)
+use Rattle.gs_mind.proofs.Views.{view_takes_all}
+use Rattle.gs_mind.specs.Picture.{Picture, takes_in, takes_in_all}
 
 takes_push : (p : Picture) (ms : List Message) (m : Message) → takes_in_all p (ms ++ m ∷ []) ≡ takes_in m (takes_in_all p ms)
 takes_push p [] m = refl
@@ -61,15 +42,16 @@ no_gap_taken Orphan = refl
 
 pub took_more : (p p' p'' : Picture) (ms : List Message) (m : Message) (w : Word) (d : Drained) → Took p ms d p' → w ≡ word p'.view m → is_gap w ≡ false → p'' ≡ takes_in m p' → Took p (ms ++ m ∷ []) (count_word d w) p''
 took_more p p' p'' ms m w d t is gap next =
-    let at : p'.view ≡ catch_up p.view ms = ap (λ (x : Picture). x.view) t.picture ∙ view_takes_all p ms in
-    let is' : word (catch_up p.view ms) m ≡ w = ap (λ (x : Look). word x m) (sym at) ∙ sym is in
+    let is' : word (catch_up p.view ms) m ≡ w = ap (λ (x : Look). word x m) (sym t.view) ∙ sym is in
+    let last : p'' ≡ takes_in_all p (ms ++ m ∷ []) = next ∙ (ap (takes_in m) t.picture ∙ sym (takes_push p ms m)) in
     let all : words p.view (ms ++ m ∷ []) ≡ words p.view ms ++ w ∷ [] = words_push p.view ms m ∙ ap (λ x. words p.view ms ++ x ∷ []) is' in
     record {
       count = omega (arith, t.count, length-append ms (m ∷ []));
       none_gap = ap (list_any is_gap) all ∙ (list_any-append is_gap (words p.view ms) (w ∷ []) ∙ or_none _ _ t.none_gap gap);
       skipped = ap (λ n. n + cond (is_skipped w) 1 0) t.skipped ∙ (sym (count_push is_skipped (words p.view ms) w) ∙ ap (count_by is_skipped) (sym all));
       orphans = ap (λ n. n + cond (is_orphan w) 1 0) t.orphans ∙ (sym (count_push is_orphan (words p.view ms) w) ∙ ap (count_by is_orphan) (sym all));
-      picture = next ∙ (ap (takes_in m) t.picture ∙ sym (takes_push p ms m));
+      picture = last;
+      view = ap (λ (x : Picture). x.view) last ∙ view_takes_all p (ms ++ m ∷ []);
       few_skipped = omega (arith, t.few_skipped, at_most_one (is_skipped w));
       few_orphans = omega (arith, t.few_orphans, at_most_one (is_orphan w));
     }
@@ -77,4 +59,4 @@ took_more p p' p'' ms m w d t is gap next =
 -- why it stopped is no part of that
 pub took_stop : (p p' : Picture) (ms : List Message) (d : Drained) (s : Option Stop) → Took p ms d p' → Took p ms (record d { stop = s }) p'
 took_stop p p' ms d s t =
-    record { count = t.count; none_gap = t.none_gap; skipped = t.skipped; orphans = t.orphans; picture = t.picture; few_skipped = t.few_skipped; few_orphans = t.few_orphans }
+    record { count = t.count; none_gap = t.none_gap; skipped = t.skipped; orphans = t.orphans; picture = t.picture; view = t.view; few_skipped = t.few_skipped; few_orphans = t.few_orphans }

@@ -3,7 +3,7 @@ use Rattle.std.specs.Prelude.{false, ◌+◌, ◌≤◌, ◌≡◌, List, length
 use Rattle.std.specs.List.{list_any, count_by}
 use Rattle.gs_layout.specs.declared.message.Message.{Message}
 use Rattle.gs_layout.specs.declared.known.Word.{Word}
-use Rattle.gs_layout.specs.View.{words, is_gap, is_skipped, is_orphan}
+use Rattle.gs_layout.specs.View.{catch_up, words, is_gap, is_skipped, is_orphan}
 use Rattle.gs_view.specs.declared.fault.ApplyFault.{ApplyFault}
 use Rattle.gs_view.specs.declared.fault.ApplyFault.TheVariants as faults
 use Rattle.gs_mind.specs.Picture.{Picture, takes_in_all}
@@ -26,12 +26,14 @@ abbrev pub stop_of : ApplyFault → Stop
 stop_of faults.Gap = stops.Gap
 stop_of faults.OutOfMemory = stops.Memory
 
--- these messages were all taken in, from the first picture to the second, none of them a gap; each is counted as what it was to the view
+-- these messages were all taken in, from the first picture to the second, none of them a gap; each is counted as what it was to the view,
+-- and the view is then caught up over them
 pub record Took (p : Picture) (ms : List Message) (d : Drained) (p' : Picture) : Type 0 where
   pub count : d.count ≡ length ms
   pub none_gap : list_any is_gap (words p.view ms) ≡ false
   pub skipped : d.skipped ≡ count_by is_skipped (words p.view ms)
   pub orphans : d.orphans ≡ count_by is_orphan (words p.view ms)
   pub picture : p' ≡ takes_in_all p ms
+  pub view : p'.view ≡ catch_up p.view ms
   pub few_skipped : d.skipped ≤ d.count
   pub few_orphans : d.orphans ≤ d.count

@@ -9,10 +9,11 @@ ghost use Rattle.gs_view.specs.Begins.{begins};
 ghost use Rattle.gs_beliefs.specs.Cpus.{believed_on};
 ghost use Rattle.gs_agent.specs.declared.drained.Stop.{Stop};
 ghost use Rattle.gs_agent.specs.Drains.{Took};
-ghost use Rattle.gs_mind.specs.Mind.{nothing, picture_of, thinks};
+ghost use Rattle.gs_mind.specs.Mind.{nothing, picture_of, shown_in, thinks};
 ghost use Rattle.gs_mind.specs.Picture.{HoldsWaiting, after_slots, after_stamp};
 ghost use Rattle.gs_policy.specs.Safe.{IsSafePlan};
 ghost use Rattle.gs_runq.specs.Queue.{Apart, order};
+ghost use Rattle.gs_status.specs.Masks.{has};
 ghost use Rattle.gs_agent.specs.Role.{stamp_refusal};
 
 use crate::collect::collect_all;
@@ -116,8 +117,8 @@ impl<P> Role<P> {
     }
 
     /// Takes messages in, at most `max` of them, in the order in which they were posted: view, beliefs
-    /// and queue follow each one that applies. Answers what it took in, and why it stopped early, where
-    /// it did.
+    /// and queue follow each one that applies. The view is then what it was, caught up over them. Answers
+    /// what it took in, and why it stopped early, where it did.
     ///
     /// It stops early at a message whose number is more than one above the one that is known of its
     /// thread, and at the creation of a thread of which nothing is known where there is no memory for
@@ -184,11 +185,10 @@ impl<P: Policy> Role<P> {
     ///
     /// # Errors
     ///
-    /// Where there is no memory for the choices. Nothing is changed then either.
-    pub fn decide(&mut self, alloc: Global, taken: Mask) -> Result<Vec<Choice>, AllocError>
-        ensures plan { IfOk result (λ r. r.items ≡ P.chosen self.old.policy (look_up self.old.mind.records) (record self.old.mind.cpus { taken = taken }) (order self.old.mind.queue)) }
-        ensures safe { IfOk result (λ r. IsSafePlan (look_up self.old.mind.records) (record self.old.mind.cpus { taken = taken }) (order self.old.mind.queue) r.items) }
-        ensures unchanged { self.new ≡ self.old }
+    /// Where there is no memory for the choices.
+    pub fn decide(&self, alloc: Global, taken: Mask) -> Result<Vec<Choice>, AllocError>
+        ensures plan { IfOk result (λ r. r.items ≡ P.chosen self.now.policy (shown_in self.now.mind (has taken))) }
+        ensures safe { IfOk result (λ r. IsSafePlan (shown_in self.now.mind (has taken)) r.items) }
     {
         self.mind.plan(alloc, &self.policy, taken)
     }
@@ -198,9 +198,8 @@ impl<P: Counted> Role<P> {
     /// How many choices the role's policy plans where the other class holds the CPUs of `taken` and no
     /// other: as many as [`Role::decide`] answers where there is memory. It takes none. Nothing is
     /// changed.
-    pub fn count(&mut self, taken: Mask) -> usize
-        ensures count { result ≡ length (P.chosen self.old.policy (look_up self.old.mind.records) (record self.old.mind.cpus { taken = taken }) (order self.old.mind.queue)) }
-        ensures unchanged { self.new ≡ self.old }
+    pub fn count(&self, taken: Mask) -> usize
+        ensures { result ≡ length (P.chosen self.now.policy (shown_in self.now.mind (has taken))) }
     {
         self.mind.count(&self.policy, taken)
     }

@@ -1,6 +1,7 @@
 -- What the program's command line takes.
 use Rattle.std.proofs.Common.{◌≡◌, ◌≤◌, ◌⊎◌, inl, inr, is_some, length, drop, ℕ, suc, zero, Bool, List, [], ◌∷◌, ◌++◌, true, false, refl, codes, cond, fold, ◌∙◌, ap, sym, subst, Option, None, Some, arith}
-use Rattle.std.specs.Prelude.{⊤, not, Result, Ok, Err, encode_utf8, ◌&&◌, bytes_eq, find, option_map, option_and_then, slice_get}
+use Rattle.std.specs.Fmt.{digits}
+use Rattle.std.specs.Prelude.{decimal, ⊤, not, Result, Ok, Err, encode_utf8, ◌&&◌, bytes_eq, find, option_map, option_and_then, slice_get}
 use Rattle.std.specs.List.{list_all}
 use Rattle.std.specs.Str.{chars}
 use Rattle.std.specs.Str.Parse.{ParsesUnsigned, digits_value, without_leading_plus}
@@ -24,14 +25,20 @@ use Rattle.clap.specs.declared.parser.matches.ValueSource.TheVariants.{CommandLi
 use Rattle.clap.proofs.OnLiterals.{clap_on_literals}
 use Rattle.gs_arguments.specs.declared.arguments.Command.{Command}
 use Rattle.gs_arguments.specs.declared.arguments.Command.TheVariants.{Run, Report}
-use Rattle.gs_arguments.specs.Arguments.{ghost_program, last_rule, command_given, command_in, IsInRange, number_of}
+use Rattle.gs_arguments.specs.declared.arguments.TheConstants.{DEFAULT_LINES}
+use Rattle.gs_arguments.specs.Arguments.{ghost_program, last_rule, command_given, command_in, ShowsAllowed, number_of}
+
+-- the default as a word of the command line
+pub default_word : codes "10" ≡ decimal DEFAULT_LINES
+unfolding digits
+default_word = refl
 
 pub run_taken : (name : Text) → takes ghost_program (name ∷ codes "run" ∷ []) ≡ true
 unfolding clap_on_literals
 run_taken name = refl
 
 pub report_taken : (name : Text) → takes ghost_program (name ∷ codes "report" ∷ []) ≡ true
-unfolding clap_on_literals
+unfolding clap_on_literals digits
 report_taken name = refl
 
 pub ghost_is_simple : is_simple ghost_program ≡ true
@@ -45,7 +52,7 @@ unfolding clap_on_literals
 run_is_run name = refl
 
 pub report_is_ten : (name : Text) → command_in (name ∷ codes "report" ∷ []) ≡ Some (Report 10)
-unfolding clap_on_literals
+unfolding clap_on_literals digits
 report_is_ten name = refl
 
 -- ---- the value of `--last` has passed its parser, by the rows that a walk without a fault makes
@@ -281,6 +288,7 @@ passed_walk [] w e p = p
 passed_walk (word ∷ rest) w e p = passed_walk rest (walked rules [] w word) (second_empty _ _ e) (passed_turn w word (first_empty _ _ e) p)
 
 passed_default : (rows : List Row) → Passed rows → Passed (with_default rows last)
+unfolding digits
 passed_default rows p = by_row (has_row (codes "last") rows)
   where
     by_row : (b : Bool) → Passed (cond b rows (with_values (codes "last") AsWritten DefaultValue (codes "10" ∷ []) rows))
@@ -346,14 +354,14 @@ in_range_number text n ok e = by_number (is_unsigned_in 0 18446744073709551615 t
         rw (sym is) (accepted.2, accepted.3)
     by_number false e = absurd cc
 
-report_in_range : (rows : List Row) (command : Command) → Passed rows → option_map Report (option_and_then number_of (one_of (codes "last") rows)) ≡ Some command → IsInRange command
+report_in_range : (rows : List Row) (command : Command) → Passed rows → option_map Report (option_and_then number_of (one_of (codes "last") rows)) ≡ Some command → ShowsAllowed command
 report_in_range rows command p e = by_text (one_of (codes "last") rows) refl e
   where
-    by_number : (text : Text) (o : Option ℕ) → passes text ≡ true → number_of text ≡ o → option_map Report o ≡ Some command → IsInRange command
+    by_number : (text : Text) (o : Option ℕ) → passes text ≡ true → number_of text ≡ o → option_map Report o ≡ Some command → ShowsAllowed command
     by_number text None ok is e = absurd cc
-    by_number text (Some n) ok is e = let report : Report n ≡ command = cc in subst IsInRange report (in_range_number text n ok is)
+    by_number text (Some n) ok is e = let report : Report n ≡ command = cc in subst ShowsAllowed report (in_range_number text n ok is)
 
-    by_text : (o : Option Text) → one_of (codes "last") rows ≡ o → option_map Report (option_and_then number_of o) ≡ Some command → IsInRange command
+    by_text : (o : Option Text) → one_of (codes "last") rows ≡ o → option_map Report (option_and_then number_of o) ≡ Some command → ShowsAllowed command
     by_text None is e = absurd cc
     by_text (Some text) is e = by_number text (number_of text) (one_passes rows text p is) refl e
 
@@ -372,7 +380,7 @@ sub_in p = by_first (p _) (p _) (p _)
     by_first false false false = tt
 
 -- words without a fault give a command in its range
-pub no_fault_in_range : (words : List Text) (command : Command) → fault_of ghost_program words ≡ [] → command_in words ≡ Some command → IsInRange command
+pub no_fault_in_range : (words : List Text) (command : Command) → fault_of ghost_program words ≡ [] → command_in words ≡ Some command → ShowsAllowed command
 no_fault_in_range words command none is =
     let whole = built ghost_program in
     let given = argument_words ghost_program words in
@@ -380,14 +388,14 @@ no_fault_in_range words command none is =
     by_stop stop (below_empty whole.top (names_of whole) nothing_held given (is_some (entered whole stop)) (entered_fault whole stop) none) is
   where
     by_sub : (rest : List Text) (found : Option Shape) → Sub found → option_map_or (λ s. level_fault s [] nothing_held rest false []) found [] ≡ []
-        → option_and_then command_given (option_map (λ s. rows_at s rest) found) ≡ Some command → IsInRange command
+        → option_and_then command_given (option_map (λ s. rows_at s rest) found) ≡ Some command → ShowsAllowed command
     by_sub rest None k none is = absurd cc
     by_sub rest (Some s) (inl k) none is = report_in_range (rows_after rules [] rest) command (passed_level rest (subst (λ (x : Shape). level_fault x [] nothing_held rest false [] ≡ []) k none))
         (subst (λ (x : Shape). command_given (rows_at x rest) ≡ Some command) k is)
-    by_sub rest (Some s) (inr (inl k)) none is = let run : Some Run ≡ Some command = rw k at is in let same : Run ≡ command = cc in subst IsInRange same tt
+    by_sub rest (Some s) (inr (inl k)) none is = let run : Some Run ≡ Some command = rw k at is in let same : Run ≡ command = cc in subst ShowsAllowed same tt
     by_sub rest (Some s) (inr (inr k)) none is = let none : None ≡ Some command = rw k at is in absurd cc
 
-    by_stop : (stop : Option (Text × List Text)) → entered_fault (built ghost_program) stop ≡ [] → option_and_then command_given (entered (built ghost_program) stop) ≡ Some command → IsInRange command
+    by_stop : (stop : Option (Text × List Text)) → entered_fault (built ghost_program) stop ≡ [] → option_and_then command_given (entered (built ghost_program) stop) ≡ Some command → ShowsAllowed command
     by_stop None none is = absurd cc
     by_stop (Some p) none is = by_sub p.1 (find (λ s. answers_to p.0 (label_of s)) (built ghost_program).subs) (sub_in (λ s. answers_to p.0 (label_of s))) none is
 

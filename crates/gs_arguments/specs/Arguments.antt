@@ -1,19 +1,20 @@
 -- The arguments of the program.
-use Rattle.std.specs.Prelude.{◌≤◌, ⊤, ℕ, List, [], ◌∷◌, true, Option, None, Some, codes, bytes_eq, if◌then◌else◌, option_and_then, option_map}
+use Rattle.std.specs.Prelude.{◌≤◌, ⊤, ℕ, List, [], ◌∷◌, true, Option, None, Some, codes, bytes_eq, decimal, if◌then◌else◌, option_and_then, option_map}
 use Rattle.std.specs.Str.Parse.{digits_value, without_leading_plus}
 use Rattle.clap.specs.ValueTests.{is_unsigned_in}
 use Rattle.clap.specs.Words.{App, Row, Rule, Text, new_app, new_rule, one_of, subcommand_of, with_rule, with_subcommand}
 use Rattle.clap.specs.declared.builder.value_parser.ValueParser.TheVariants as vp
 use Rattle.gs_arguments.specs.declared.arguments.Command.{Command}
 use Rattle.gs_arguments.specs.declared.arguments.Command.TheVariants.{Run, Report}
+use Rattle.gs_arguments.specs.declared.arguments.TheConstants.{DEFAULT_LINES, LEAST_LINES, MOST_LINES}
 
 -- a program without arguments of its own: its version, and the commands, of which one is to be given
 abbrev pub ghost_alone : App
 ghost_alone = record (new_app (codes "ghost")) { top = record ((new_app (codes "ghost")).top) { has_version = true; subcommand_required = true } }
 
--- `--last N`, a number from 1 to 1000, and 10 where it is not given
+-- `--last N`, a number of lines that a report may show, and the default if it is not given
 abbrev pub last_rule : Rule
-last_rule = record (new_rule (codes "last")) { long = Some (codes "last"); value_names = 1; parser = Some (vp.Unsigned 1 1000); defaults = codes "10" ∷ [] }
+last_rule = record (new_rule (codes "last")) { long = Some (codes "last"); value_names = 1; parser = Some (vp.Unsigned LEAST_LINES MOST_LINES); defaults = decimal DEFAULT_LINES ∷ [] }
 
 abbrev pub report_alone : App
 report_alone = with_rule (new_app (codes "report")) last_rule
@@ -36,7 +37,7 @@ command_given given =
 abbrev pub command_in : List Text → Option Command
 command_in words = option_and_then command_given (subcommand_of ghost_program words)
 
--- a report shows from 1 to 1000 lines
-abbrev pub IsInRange : Command → Type 0
-IsInRange Run = ⊤
-IsInRange (Report last) = (1 ≤ last) × (last ≤ 1000)
+-- a report shows as many lines as it may
+abbrev pub ShowsAllowed : Command → Type 0
+ShowsAllowed Run = ⊤
+ShowsAllowed (Report last) = (LEAST_LINES ≤ last) × (last ≤ MOST_LINES)

@@ -2,13 +2,25 @@ ghost use Rattle.std.specs.Prelude.{◌≡◌, ◌≢◌, ℕ, List, false, Some
 ghost use Rattle.clap.specs.Words.{app_of, found_of, kind_of, one_of, rows_of, rule_of, subcommand_rows_of};
 ghost use Rattle.clap.specs.Kinds.{HasKind};
 ghost use Rattle.clap.specs.Faults.{fault_of};
-ghost use Rattle.gs_arguments.specs.Arguments.{IsInRange, command_given, command_in, ghost_program, last_rule, number_of};
+ghost use Rattle.gs_arguments.specs.Arguments.{ShowsAllowed, command_given, command_in, ghost_program, last_rule, number_of};
 ghost use Rattle.gs_arguments.specs.declared.arguments.Command.{Command};
 ghost use Rattle.gs_arguments.specs.declared.arguments.Command.TheVariants.{Report};
 
 use clap::error::ErrorKind;
 use std::alloc::{AllocError, Global};
 use std::convert::AsStr;
+
+/// The fewest of the last lines that a report may show.
+pub const LEAST_LINES: usize = 1;
+
+/// The most of the last lines that a report may show, so that the memory for them has a bound.
+pub const MOST_LINES: usize = 1_000;
+
+/// How many of the last lines a report shows, if the arguments do not say: a screen shows them all.
+pub const DEFAULT_LINES: usize = 10;
+
+/// `DEFAULT_LINES` as a word of the command line.
+const DEFAULT_WORD: &str = "10";
 
 /// What the program is to do with the script of standard input.
 #[derive(Clone, Copy, PartialEq, Eq, Debug)]
@@ -17,7 +29,8 @@ pub enum Command {
     Run,
     /// Run it, and write a report of the run to standard output.
     Report {
-        /// How many of the last lines of the answer the report shows, 1 to 1,000.
+        /// How many of the last lines of the answer the report shows, from [`LEAST_LINES`] to
+        /// [`MOST_LINES`].
         last: usize,
     },
 }
@@ -31,8 +44,8 @@ fn last_option<'a>(alloc: Global) -> clap::Arg<'a>
         .long("last")
         .value_name("N")
         .help("How many of the last lines the report shows")
-        .value_parser(clap::value_parser!(usize).range(1..=1000))
-        .default_value("10")
+        .value_parser(clap::value_parser!(usize).range(LEAST_LINES as i64..=MOST_LINES as i64))
+        .default_value(DEFAULT_WORD)
 }
 
 /// The program's command line.
@@ -85,13 +98,13 @@ fn command_of(matches: &clap::ArgMatches<'_>) -> Option<Command>
 /// for want of memory.
 pub fn settings<'a, S: AsStr>(alloc: Global, words: &'a [S]) -> Result<Command, clap::Error>
     ensures given { IfOk result (λ command. command_in (map S.text words.entry.now) ≡ Some command) }
-    ensures in_range { IfOk result IsInRange }
+    ensures allowed { IfOk result ShowsAllowed }
     ensures faultless { IfOk result (λ _. fault_of ghost_program (map S.text words.entry.now) ≡ []) }
     ensures failed { IfErr result (HasKind (ErrorKind.MissingSubcommand ∷ fault_of ghost_program (map S.text words.entry.now))) }
     ensures told { fault_of ghost_program (map S.text words.entry.now) ≢ [] → IfErr result (HasKind (fault_of ghost_program (map S.text words.entry.now))) }
     ensures answered { fault_of ghost_program (map S.text words.entry.now) ≡ [] → (command : Command) → command_in (map S.text words.entry.now) ≡ Some command → MatchResult result (λ given. given ≡ command) (λ e. kind_of e ≡ ErrorKind.OutOfMemory) }
     ensures run { (name : List ℕ) → map S.text words.entry.now ≡ name ∷ codes "run" ∷ [] → IfErr result (λ e. kind_of e ≡ ErrorKind.OutOfMemory) }
-    ensures report { (name : List ℕ) → map S.text words.entry.now ≡ name ∷ codes "report" ∷ [] → MatchResult result (λ command. command ≡ Report 10) (λ e. kind_of e ≡ ErrorKind.OutOfMemory) }
+    ensures report { (name : List ℕ) → map S.text words.entry.now ≡ name ∷ codes "report" ∷ [] → MatchResult result (λ command. command ≡ Report DEFAULT_LINES) (λ e. kind_of e ≡ ErrorKind.OutOfMemory) }
 {
     let mut command_line = program(alloc)?;
     let matches = command_line.try_get_matches_from_mut(words)?;

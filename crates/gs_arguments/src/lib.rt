@@ -3,4 +3,4 @@
 
 mod arguments;
 
-pub use arguments::{Command, settings};
+pub use arguments::{Command, DEFAULT_LINES, LEAST_LINES, MOST_LINES, settings};

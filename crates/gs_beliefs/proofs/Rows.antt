@@ -3,6 +3,7 @@ use Rattle.std.proofs.Common.{◌≡◌, ℕ, refl, true, false, Option, None, S
 use Rattle.gs_layout.specs.declared.message.Change.TheVariants.{Wakeup, Blocked, Affinity}
 use Rattle.gs_layout.specs.declared.message.Message.TheVariants.{Thread, TimerTick}
 use Rattle.gs_layout.specs.declared.outcome.Outcome.TheVariants.{Placed, AlreadyPlaced, Stale, CpuBusy}
+use Rattle.gs_status.specs.Masks.{has}
 use Rattle.gs_beliefs.specs.declared.running.Running.{Running}
 use Rattle.gs_beliefs.specs.Cpus.{Cpus, unknown, believed_on, stamp_on, is_believed, is_named, is_usable, is_free, clears, raises, ticks, places, stamps, unstamps}
 use Rattle.gs_beliefs.specs.Belief.{hears, after_outcome}
@@ -12,7 +13,7 @@ at t n ticks = Some (record { tid = t; tseq = n; ticks = ticks })
 
 -- these beliefs on three CPUs, with no stamp
 abbrev three : Option Running → Option Running → Option Running → Cpus
-three a b c = record { believed = a ∷ b ∷ c ∷ []; stamped = None ∷ None ∷ None ∷ []; agent = Some 0; taken = 0 }
+three a b c = record { believed = a ∷ b ∷ c ∷ []; stamped = None ∷ None ∷ None ∷ []; agent = Some 0 }
 
 begun : unknown 3 (Some 0) ≡ three None None None
 begun = refl
@@ -83,32 +84,32 @@ learnt_busy = refl
 learnt_nowhere : after_outcome Placed None 7 4 (three None None None) ≡ three None None None
 learnt_nowhere = refl
 
--- three CPUs: the agent's own, one that runs thread 7, and one that the other class holds
+-- three CPUs: the agent's own, one that runs thread 7, and one that is idle
 abbrev held : Cpus
-held = record { believed = None ∷ at 7 4 3 ∷ None ∷ []; stamped = None ∷ None ∷ None ∷ []; agent = Some 0; taken = 4 }
+held = record { believed = None ∷ at 7 4 3 ∷ None ∷ []; stamped = None ∷ None ∷ None ∷ []; agent = Some 0 }
 
-own : is_usable held 0 ≡ false
+own : is_usable held (has 4) 0 ≡ false
 own = refl
 
-busy : is_usable held 1 ≡ true
+busy : is_usable held (has 4) 1 ≡ true
 busy = refl
 
-busy_not_free : is_free held 1 ≡ false
+busy_not_free : is_free held (has 4) 1 ≡ false
 busy_not_free = refl
 
-taken_away : is_usable held 2 ≡ false
+taken_away : is_usable held (has 4) 2 ≡ false
 taken_away = refl
 
-past_last : is_usable held 3 ≡ false
+past_last : is_usable held (has 4) 3 ≡ false
 past_last = refl
 
-attaching : is_free (record held { agent = None }) 0 ≡ true
+attaching : is_free (record held { agent = None }) (has 4) 0 ≡ true
 attaching = refl
 
-given_back : is_free (record held { taken = 0 }) 2 ≡ true
+given_back : is_free held (has 0) 2 ≡ true
 given_back = refl
 
-stamped : is_usable (stamps 1 9 held) 1 ≡ false
+stamped : is_usable (stamps 1 9 held) (has 4) 1 ≡ false
 stamped = refl
 
 stamp_collected : unstamps 1 (stamps 1 9 held) ≡ held

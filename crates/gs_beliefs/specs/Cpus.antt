@@ -1,20 +1,18 @@
 -- Whom an agent believes to run on each CPU, and which CPUs it may use.
 use Rattle.std.specs.Prelude.{Bool, false, not, ◌&&◌, ◌==◌, ℕ, ◌+◌, min, nat_lt, Option, None, Some, is_none, List, length, map, replicate, slice_index_or, slice_set, if◌then◌else◌}
 use Rattle.std.specs.List.{list_any}
-use Rattle.gs_status.specs.Masks.{has}
 use Rattle.gs_beliefs.specs.declared.running.Running.{Running}
 
 -- who is believed to run on each CPU; the thread that an uncollected stamp on each CPU names; the agent's own CPU, none while it
--- attaches; the mask of the CPUs that the other class holds
+-- attaches
 pub record Cpus : Type 0 where
   pub believed : List (Option Running)
   pub stamped : List (Option ℕ)
   pub agent : Option ℕ
-  pub taken : ℕ
 
--- so many CPUs, on none of which anybody is believed to run, with no stamp, and none of them taken
+-- so many CPUs, on none of which anybody is believed to run, with no stamp
 abbrev pub unknown : ℕ → Option ℕ → Cpus
-unknown cpus a = record { believed = replicate cpus None; stamped = replicate cpus None; agent = a; taken = 0 }
+unknown cpus a = record { believed = replicate cpus None; stamped = replicate cpus None; agent = a }
 
 -- who is believed to run on a CPU: nobody past the last one
 abbrev pub believed_on : Cpus → ℕ → Option Running
@@ -42,14 +40,14 @@ is_believed s t = list_any (runs t) s.believed
 abbrev pub is_named : Cpus → ℕ → Bool
 is_named s t = list_any (is_just t) s.stamped
 
--- whether the agent may use a CPU: it is below the count, neither the agent's own nor taken by the other class, and has no
--- uncollected stamp
-abbrev pub is_usable : Cpus → ℕ → Bool
-is_usable s c = nat_lt c (length s.believed) && (not (is_just c s.agent) && (not (has s.taken c) && is_none (stamp_on s c)))
+-- whether the agent may use a CPU while the other class holds those that are taken: it is below the count, neither the agent's own nor
+-- taken, and has no uncollected stamp
+abbrev pub is_usable : Cpus → (ℕ → Bool) → ℕ → Bool
+is_usable s taken c = nat_lt c (length s.believed) && (not (is_just c s.agent) && (not (taken c) && is_none (stamp_on s c)))
 
 -- whether a CPU is usable and nobody is believed to run there
-abbrev pub is_free : Cpus → ℕ → Bool
-is_free s c = is_usable s c && is_none (believed_on s c)
+abbrev pub is_free : Cpus → (ℕ → Bool) → ℕ → Bool
+is_free s taken c = is_usable s taken c && is_none (believed_on s c)
 
 -- the belief of a CPU once a thread is known to run there no more
 abbrev pub cleared_at : ℕ → Option Running → Option Running

@@ -11,8 +11,7 @@ use std::alloc::{AllocError, Global};
 use std::marker::Model;
 
 /// What an agent believes of each CPU: who runs there, at which sequence number and for how many
-/// ticks, and which thread an uncollected stamp names. Beside that it keeps the agent's own CPU and
-/// the CPUs that the other class holds, as it is told.
+/// ticks, and which thread an uncollected stamp names. Beside that it keeps the agent's own CPU.
 ///
 /// A belief lags behind the kernel by the messages that were not read yet. There are at most 64 CPUs;
 /// what is said of a CPU past the last one changes nothing. Each call takes at most a number of steps
@@ -22,7 +21,6 @@ pub struct CpuBeliefs {
     beliefs: Vec<Option<Running>>,
     stamps: Vec<Option<u32>>,
     agent: Option<u16>,
-    taken: Mask,
 }
 
 impl Model for CpuBeliefs {
@@ -31,14 +29,14 @@ impl Model for CpuBeliefs {
 
     ghost Value = { Cpus };
 
-    ghost view = { λ s. record { believed = s.beliefs.items; stamped = s.stamps.items; agent = s.agent; taken = s.taken } };
+    ghost view = { λ s. record { believed = s.beliefs.items; stamped = s.stamps.items; agent = s.agent } };
 
     ghost invariant = { λ s. IsCpus s.beliefs.items s.stamps.items };
 }
 
 impl CpuBeliefs {
-    /// So many CPUs, at most 64, of which nothing is believed yet: nobody runs, there is no stamp, and
-    /// the other class holds none. `agent` is the agent's own CPU, `None` while it attaches.
+    /// So many CPUs, at most 64, of which nothing is believed yet: nobody runs, and there is no stamp.
+    /// `agent` is the agent's own CPU, `None` while it attaches.
     ///
     /// # Errors
     ///
@@ -51,7 +49,6 @@ impl CpuBeliefs {
             beliefs: vec![in alloc; None; cpus as usize]?,
             stamps: vec![in alloc; None; cpus as usize]?,
             agent,
-            taken: Mask::none(),
         })
     }
 
@@ -69,13 +66,6 @@ impl CpuBeliefs {
         ensures { result ≡ self.now.agent }
     {
         self.agent
-    }
-
-    /// The CPUs that the other class holds, as [`CpuBeliefs::set_taken`] was last told.
-    pub fn taken(&self) -> Mask
-        ensures { result ≡ self.now.taken }
-    {
-        self.taken
     }
 
     /// Who is believed to run on a CPU, `None` for nobody and past the last CPU.
@@ -107,53 +97,48 @@ impl CpuBeliefs {
         self.stamps.iter().any(|stamp| *stamp == Some(tid))
     }
 
-    /// Whether the agent may use a CPU: there is such a CPU, it is neither the agent's own nor held by
-    /// the other class, and it has no uncollected stamp.
-    pub fn is_usable(&self, cpu: u16) -> bool
-        ensures { result ≡ is_usable self.now cpu }
+    /// Whether the agent may use a CPU while the other class holds those of `taken`: there is such a
+    /// CPU, it is neither the agent's own nor taken, and it has no uncollected stamp.
+    pub fn is_usable(&self, taken: Mask, cpu: u16) -> bool
+        ensures { result ≡ is_usable self.now (has taken) cpu }
     {
         cpu < self.cpus()
             && self.agent != Some(cpu)
-            && !self.taken.has(cpu)
+            && !taken.has(cpu)
             && self.stamp_on(cpu).is_none()
     }
 
-    /// Whether a CPU is usable and nobody is believed to run there.
-    pub fn is_free(&self, cpu: u16) -> bool
-        ensures { result ≡ is_free self.now cpu }
+    /// Whether a CPU is usable, while the other class holds those of `taken`, and nobody is believed to
+    /// run there.
+    pub fn is_free(&self, taken: Mask, cpu: u16) -> bool
+        ensures { result ≡ is_free self.now (has taken) cpu }
     {
-        self.is_usable(cpu) && self.believed(cpu).is_none()
+        self.is_usable(taken, cpu) && self.believed(cpu).is_none()
     }
 
-    /// The CPUs that the agent may use.
+    /// The CPUs that the agent may use while the other class holds those of `taken`.
     #[tactic(auto, using(gs_status::proofs::Marking::marked_if))]
-    pub fn usable(&self) -> Mask
-        ensures { (c : ℕ) → has result c ≡ is_usable self.now c }
+    pub fn usable(&self, taken: Mask) -> Mask
+        ensures { (c : ℕ) → has result c ≡ is_usable self.now (has taken) c }
     {
         let mut mask = Mask::none();
         for cpu in 0..self.cpus() {
-            mask = mask.with_if(cpu, self.is_usable(cpu));
+            mask = mask.with_if(cpu, self.is_usable(taken, cpu));
         }
         mask
     }
 
-    /// The CPUs that the agent may use and on which nobody is believed to run.
+    /// The CPUs that the agent may use, while the other class holds those of `taken`, and on which
+    /// nobody is believed to run.
     #[tactic(auto, using(gs_status::proofs::Marking::marked_if))]
-    pub fn free(&self) -> Mask
-        ensures { (c : ℕ) → has result c ≡ is_free self.now c }
+    pub fn free(&self, taken: Mask) -> Mask
+        ensures { (c : ℕ) → has result c ≡ is_free self.now (has taken) c }
     {
         let mut mask = Mask::none();
         for cpu in 0..self.cpus() {
-            mask = mask.with_if(cpu, self.is_free(cpu));
+            mask = mask.with_if(cpu, self.is_free(taken, cpu));
         }
         mask
-    }
-
-    /// The other class holds these CPUs, and no other.
-    pub fn set_taken(&mut self, mask: Mask)
-        ensures { self.new ≡ record self.old { taken = mask } }
-    {
-        self.taken = mask;
     }
 
     /// The agent's own CPU is this one, or it has none while it attaches.

@@ -1,5 +1,6 @@
--- Landings by the ring's bytes are the ones that the machine makes.
-use Rattle.std.proofs.Common.{ℕ, suc, ◌≡◌, ◌⊎◌, inl, inr, Bool, true, false, cond, Option, None, Some, IfSome, List, [], ◌∷◌, refl, ap, sym, subst, ◌∙◌}
+-- What lands by the ring's bytes, and what it leaves, is one.
+use Rattle.std.proofs.Common.{ℕ, suc, ◌≡◌, Bool, true, false, cond, Option, Some, IfSome, List, [], ◌∷◌, refl, ap, sym, subst, ◌∙◌}
+use Rattle.std.proofs.lemmas.Bool.{false≢true}
 use Rattle.gs_layout.specs.declared.message.Message.{Message}
 use Rattle.gs_layout.specs.declared.outcome.Outcome.{Outcome}
 use Rattle.gs_layout.specs.declared.outcome.Outcome.TheVariants as outcomes
@@ -7,19 +8,13 @@ use Rattle.gs_slots.specs.declared.state.Stamp.{Stamp}
 use Rattle.gs_slots.specs.declared.state.SlotState.{SlotState}
 use Rattle.gs_slots.specs.declared.state.SlotState.TheVariants.{Idle, Stamped, Done}
 use Rattle.gs_status.specs.Masks.{has}
-use Rattle.gs_journal.specs.declared.entry.Entry.{Entry}
 use Rattle.gs_journal.specs.History.{History, seq, at}
 use Rattle.gs_kernel.specs.declared.settings.Settings.{Settings}
 use Rattle.gs_kernel.specs.declared.landing.Landing.{Landing}
-use Rattle.gs_kernel.specs.Kernel.{made_way, preemption}
-use Rattle.gs_kernel.specs.Landing.{after_landing, after_verdict, landing, placing, settled, verdict}
-use Rattle.gs_kernel.specs.Commit.{Landings, fits_if_any, lands, listed, one_lands, slot_lands, then_others}
-use Rattle.std.proofs.lemmas.Bool.{false≢true}
 use Rattle.gs_kernel.specs.declared.effect.Effect.{Effect}
-use Rattle.gs_kernel.specs.declared.effect.Effect.TheVariants.{Append}
+use Rattle.gs_kernel.specs.Landing.{verdict}
 use Rattle.gs_kernel.specs.Legal.{Tells, message_in}
-use Rattle.gs_kernel.proofs.Placings.{IsIdle, placed_or_not}
-use Rattle.gs_kernel.specs.Lands.{Lands, LandsAll, LandsIf, LandsIn, Settles, SettlesIf}
+use Rattle.gs_kernel.specs.Lands.{Landings, Lands, LandsAll, LandsIf, LandsIn, Settles, SettlesIf, is_to_place, listed, placement, then_others}
 use Rattle.gs_core.specs.Machine.{IsFit, fits_into}
 
 not_both : (ring n : ℕ) (h : History) (x : Effect) → IfSome (message_in x) (IsFit ring n h true) → (m : Message) → message_in x ≡ Some m → IsFit ring n h false m → ⊥
@@ -27,69 +22,45 @@ not_both ring n h x fits m is not_fits =
     let fit : fits_into ring n h m ≡ true = subst (λ o. IfSome o (IsFit ring n h true)) is fits in
     false≢true (sym not_fits ∙ fit)
 
-way_exact : (ring n : ℕ) (h : History) (m : Option Message) (e : Entry) (fit : Bool) (h' : History) → Tells (IsFit ring n) h (Append m e) fit h' → (fit ≡ fits_if_any (fits_into ring n) h m) × (h' ≡ made_way (fits_if_any (fits_into ring n) h m) h m e)
-way_exact ring n h None e true h' t = (refl, t.1)
-way_exact ring n h (Some k) e true h' t = (sym t.0, t.1 ∙ ap (λ b. made_way b h (Some k) e) (sym t.0))
-way_exact ring n h None e false h' t = let z : None ≡ Some t.0.0 = t.0.1 in absurd cc
-way_exact ring n h (Some k) e false h' t =
-    let z : t.0.0 ≡ k = let y : Some k ≡ Some t.0.0 = t.0.1 in cc in
-    let no : fits_into ring n h k ≡ false = subst (λ x. fits_into ring n h x ≡ false) z t.0.2 in
-    (sym no, t.1 ∙ ap (λ b. made_way b h (Some k) e) (sym no))
-
-settles_exact : (ring n : ℕ) (s : Settings) (h : History) (k : ℕ) (b : Stamp) (v o : Outcome) (h' : History) → Settles (IsFit ring n) s h k b v o h'
-    → (o ≡ settled (fits_if_any (fits_into ring n) h (preemption s h k)) v) × (h' ≡ after_verdict (fits_if_any (fits_into ring n) h (preemption s h k)) s h v k b)
-settles_exact ring n s h k b v o h' t = by_verdict (placed_or_not v)
-  where
-    fit : Bool
-    fit = fits_if_any (fits_into ring n) h (preemption s h k)
-
-    by_verdict : (v ≡ outcomes.Placed) ⊎ IsIdle v → (o ≡ settled fit v) × (h' ≡ after_verdict fit s h v k b)
-    by_verdict (inl e) =
-        let t' : Settles (IsFit ring n) s h k b outcomes.Placed o h' = subst (λ w. Settles (IsFit ring n) s h k b w o h') e t in
-        let x = way_exact ring n h (preemption s h k) (placing k b) t'.0 h' t'.2 in
-        subst (λ w. (o ≡ settled fit w) × (h' ≡ after_verdict fit s h w k b)) (sym e) (t'.1 ∙ ap (λ y. cond y outcomes.Placed outcomes.Gone) x.0, x.1)
-    by_verdict (inr i) =
-        let t' : (o ≡ v) × (h' ≡ h) = subst (λ p. SettlesIf p (IsFit ring n) s h k b v o h') i.other t in
-        (t'.0 ∙ sym (i.outcome fit), t'.1 ∙ sym (i.history fit s h k b))
-
-pub stamp_exact : (ring n : ℕ) (s : Settings) (h : History) (k : ℕ) (b : Stamp) (l : Landing) (h' : History) → Lands (IsFit ring n) s h k b l h'
-    → (l ≡ landing (fits_if_any (fits_into ring n) h (preemption s h k)) s h k b) × (h' ≡ after_landing (fits_if_any (fits_into ring n) h (preemption s h k)) s h k b)
-unfolding landing
-stamp_exact ring n s h k b l h' t =
-    let x = settles_exact ring n s h k b (verdict s h k b) l.outcome h' t.settles in
-    (t.values ∙ (λ i. record { cpu = k; tid = b.tid; outcome = x.0 i; seen = seq s.first_tseq h b.tid; at = at s.cpus (x.1 i) b.tid }), x.1)
-
-done_exact : (fits : Bool) (s : Settings) (h : History) (k : ℕ) (b : Stamp) (l : Landing) → l ≡ landing fits s h k b
-    → Done b l.outcome l.at l.seen ≡ Done b (settled fits (verdict s h k b)) (at s.cpus (after_landing fits s h k b) b.tid) (seq s.first_tseq h b.tid)
-unfolding landing
-done_exact fits s h k b l e = ap (λ (x : Landing). Done b x.outcome x.at x.seen) e
-
-one_exact : (ring n : ℕ) (s : Settings) (wanted : Bool) (k : ℕ) (z : SlotState) (h : History) (r : Landings) → LandsIf (IsFit ring n) s wanted k z h r → r ≡ one_lands (fits_into ring n) s wanted k z h
-one_exact ring n s false k z h r t = t
-one_exact ring n s true k z h r t = (λ i. record { answers = t.3 i; history = r.history; slots = t.4 i }) ∙ by_slot z t.0 t.1 r.history t.2
-  where
-    fit : Bool
-    fit = fits_if_any (fits_into ring n) h (preemption s h k)
-
-    by_slot : (z : SlotState) (o : Option Landing) (z' : SlotState) (h' : History) → LandsIn (IsFit ring n) s h k z o z' h' → record { answers = listed o; history = h'; slots = z' ∷ [] } ≡ slot_lands fit s k z h
-    by_slot (Stamped b) o z' h' x =
-        let e = stamp_exact ring n s h k b x.0 h' x.1 in
-        let o_is : o ≡ Some (landing fit s h k b) = x.2 ∙ ap Some e.0 in
-        let z_is = x.3 ∙ done_exact fit s h k b x.0 e.0 in
-        λ i. record { answers = listed (o_is i); history = e.1 i; slots = z_is i ∷ [] }
-    by_slot Idle o z' h' x = λ i. record { answers = listed (x.0 i); history = x.2 i; slots = x.1 i ∷ [] }
-    by_slot (Done b p a q) o z' h' x = λ i. record { answers = listed (x.0 i); history = x.2 i; slots = x.1 i ∷ [] }
-
-pub lands_exact : (ring n : ℕ) (s : Settings) (mask k : ℕ) (zs : List SlotState) (h : History) (r : Landings) → LandsAll (IsFit ring n) s mask k zs h r → r ≡ lands (fits_into ring n) s mask k zs h
-lands_exact ring n s mask k [] h r t = t
-lands_exact ring n s mask k (z ∷ zs) h r t =
-    let one = one_exact ring n s (has mask k) k z h t.0 t.2 in
-    let rest = lands_exact ring n s mask (suc k) zs t.0.history t.1 t.3 in
-    t.4 ∙ (ap (then_others t.0) rest ∙ ap (λ (x : Landings). then_others x (lands (fits_into ring n) s mask (suc k) zs x.history)) one)
-
 -- a message fits or does not
 pub tells_one : (ring n : ℕ) (h : History) (x : Effect) (b c : Bool) (h1 h2 : History) → Tells (IsFit ring n) h x b h1 → Tells (IsFit ring n) h x c h2 → (b ≡ c) × (h1 ≡ h2)
 tells_one ring n h x true true h1 h2 t u = (refl, t.1 ∙ sym u.1)
 tells_one ring n h x false false h1 h2 t u = (refl, t.1 ∙ sym u.1)
 tells_one ring n h x true false h1 h2 t u = absurd (not_both ring n h x t.0 u.0.0 u.0.1 u.0.2)
 tells_one ring n h x false true h1 h2 t u = absurd (not_both ring n h x u.0 t.0.0 t.0.1 t.0.2)
+
+settles_one : (ring n : ℕ) (s : Settings) (h : History) (k : ℕ) (b : Stamp) (o p : Outcome) (h1 h2 : History) → Settles (IsFit ring n) s h k b (verdict s h k b) o h1 → Settles (IsFit ring n) s h k b (verdict s h k b) p h2 → (o ≡ p) × (h1 ≡ h2)
+settles_one ring n s h k b o p h1 h2 t u = by_verdict (is_to_place (verdict s h k b)) t u
+  where
+    by_verdict : (q : Bool) → SettlesIf q (IsFit ring n) s h k b (verdict s h k b) o h1 → SettlesIf q (IsFit ring n) s h k b (verdict s h k b) p h2 → (o ≡ p) × (h1 ≡ h2)
+    by_verdict false t u = (t.0 ∙ sym u.0, t.1 ∙ sym u.1)
+    by_verdict true t u =
+        let one = tells_one ring n h (placement s h k b) t.0 u.0 h1 h2 t.2 u.2 in
+        (t.1 ∙ (ap (λ f. cond f outcomes.Placed outcomes.Gone) one.0 ∙ sym u.1), one.1)
+
+pub lands_one : (ring n : ℕ) (s : Settings) (h : History) (k : ℕ) (b : Stamp) (l m : Landing) (h1 h2 : History) → Lands (IsFit ring n) s h k b l h1 → Lands (IsFit ring n) s h k b m h2 → (l ≡ m) × (h1 ≡ h2)
+lands_one ring n s h k b l m h1 h2 t u =
+    let one = settles_one ring n s h k b l.outcome m.outcome h1 h2 t.settles u.settles in
+    (t.values ∙ ((λ i. record { cpu = k; tid = b.tid; outcome = one.0 i; seen = seq s.first_tseq h b.tid; at = at s.cpus (one.1 i) b.tid }) ∙ sym u.values), one.1)
+
+one_in : (ring n : ℕ) (s : Settings) (h : History) (k : ℕ) (z : SlotState) (o p : Option Landing) (x y : SlotState) (h1 h2 : History) → LandsIn (IsFit ring n) s h k z o x h1 → LandsIn (IsFit ring n) s h k z p y h2 → (o ≡ p) × (x ≡ y) × (h1 ≡ h2)
+one_in ring n s h k (Stamped b) o p x y h1 h2 t u =
+    let one = lands_one ring n s h k b t.0 u.0 h1 h2 t.1 u.1 in
+    (t.2 ∙ (ap Some one.0 ∙ sym u.2), t.3 ∙ (ap (λ (l : Landing). Done b l.outcome l.at l.seen) one.0 ∙ sym u.3), one.1)
+one_in ring n s h k Idle o p x y h1 h2 t u = (t.0 ∙ sym u.0, t.1 ∙ sym u.1, t.2 ∙ sym u.2)
+one_in ring n s h k (Done b q a m) o p x y h1 h2 t u = (t.0 ∙ sym u.0, t.1 ∙ sym u.1, t.2 ∙ sym u.2)
+
+one_if : (ring n : ℕ) (s : Settings) (wanted : Bool) (k : ℕ) (z : SlotState) (h : History) (q r : Landings) → LandsIf (IsFit ring n) s wanted k z h q → LandsIf (IsFit ring n) s wanted k z h r → q ≡ r
+one_if ring n s false k z h q r t u = t ∙ sym u
+one_if ring n s true k z h q r t u =
+    let one = one_in ring n s h k z t.0 u.0 t.1 u.1 q.history r.history t.2 u.2 in
+    let answers_are : q.answers ≡ r.answers = t.3 ∙ (ap listed one.0 ∙ sym u.3) in
+    let slots_are : q.slots ≡ r.slots = t.4 ∙ (ap (λ (x : SlotState). x ∷ []) one.1 ∙ sym u.4) in
+    λ i. record { answers = answers_are i; history = one.2 i; slots = slots_are i }
+
+pub all_one : (ring n : ℕ) (s : Settings) (mask k : ℕ) (zs : List SlotState) (h : History) (q r : Landings) → LandsAll (IsFit ring n) s mask k zs h q → LandsAll (IsFit ring n) s mask k zs h r → q ≡ r
+all_one ring n s mask k [] h q r t u = t ∙ sym u
+all_one ring n s mask k (z ∷ zs) h q r t u =
+    let one : t.0 ≡ u.0 = one_if ring n s (has mask k) k z h t.0 u.0 t.2 u.2 in
+    let rest : t.1 ≡ u.1 = all_one ring n s mask (suc k) zs u.0.history t.1 u.1 (subst (λ (x : Landings). LandsAll (IsFit ring n) s mask (suc k) zs x.history t.1) one t.3) u.3 in
+    t.4 ∙ ((λ i. then_others (one i) (rest i)) ∙ sym u.4)

@@ -1,9 +1,9 @@
 -- Whether a message fits, by the ring as it is.
-use Rattle.std.proofs.Common.{ℕ, ◌≡◌, ◌<◌, ◌≤◌, true, false, inl, inr, Option, None, Some, List, [], ◌∷◌, ◌++◌, refl, ap, sym, subst, ◌∙◌, arith}
+use Rattle.std.proofs.Common.{ℕ, ◌≡◌, ◌<◌, ◌≤◌, true, false, cond, inl, inr, Option, None, Some, List, [], ◌∷◌, ◌++◌, refl, ap, sym, subst, ◌∙◌, arith}
 use Rattle.std.proofs.lemmas.Bool.Decides.{nat_tests}
 use Rattle.gs_layout.specs.declared.message.Message.{Message}
 use Rattle.gs_journal.specs.declared.entry.Entry.TheVariants.{Posted}
-use Rattle.gs_journal.specs.History.{posted}
+use Rattle.gs_journal.specs.History.{posted, torn}
 use Rattle.gs_journal.proofs.Laws.{posted-push}
 use Rattle.gs_ring.specs.Places.{free_after, need, record_len, written}
 use Rattle.gs_ring.specs.RingState.{RingState, IsTight}
@@ -22,7 +22,7 @@ use Rattle.gs_core.specs.declared.event.Event.TheVariants as events
 use Rattle.gs_core.specs.declared.reply.Reply.{Reply}
 use Rattle.gs_core.specs.declared.reply.Reply.TheVariants as replies
 use Rattle.gs_kernel.proofs.Landings.{Entails, tells_map}
-use Rattle.gs_core.specs.Machine.{State, IsFit, fits_into, refusal, Does, IsShort, Serves, Step}
+use Rattle.gs_core.specs.Machine.{State, IsFit, fits_into, refusal, standing_refusal, Does, IsShort, Serves, Step}
 
 -- the ring that a machine shows
 pub record IsRingAt (bytes n : ℕ) (h : List Entry) (r : RingState) : Type 0 where
@@ -64,6 +64,10 @@ done f m e r m' none does = subst (λ o. Serves o m e r m') (sym none) (inl does
 pub refused : (f : Option Refusal) (x : Refusal) (m : State) (e : Event) (r : Reply) (m' : State) → IsRefusal f x → r ≡ replies.Refused x → (r ≡ replies.Refused refusals.OutOfMemory → IsShort e r) → m' ≡ m → Serves f m e r m'
 refused (Some g) x m e r m' is is_r short same = (is_r ∙ ap replies.Refused is, same)
 refused None x m e r m' is is_r short same = inr (short (is_r ∙ ap replies.Refused is), same)
+
+-- while the enclave stands
+pub while_standing : (m : State) (e : Event) → torn m.history ≡ false → refusal m e ≡ standing_refusal m e
+while_standing m e up = ap (λ b. cond b (Some refusals.Gone) (standing_refusal m e)) up
 
 -- what is answered, by what the kernel answered
 abbrev pub reply_of : Answer → Reply

@@ -1,8 +1,7 @@
--- Each step keeps what the machine keeps, and the machine has it at the start.
-use Rattle.std.proofs.Common.{◌≡◌, refl, sym, subst, ℕ, zero, suc, ◌<◌, inl, inr, nat_le, not, true, false, Option, None, Some, List, [], ◌∷◌, arith, slice_get, Bool}
+-- Choices that can be stamped keep a machine good, and so is the machine at the start.
+use Rattle.std.proofs.Common.{◌≡◌, refl, sym, subst, ℕ, zero, suc, ◌<◌, inl, nat_le, not, true, false, Option, None, Some, List, [], ◌∷◌, arith, slice_get, Bool}
 use Rattle.std.specs.Option.{is_some}
 use Rattle.std.proofs.lemmas.Bool.Decides.{nat_tests}
-use Rattle.gs_layout.specs.declared.refusal.Refusal.{Refusal}
 use Rattle.gs_layout.specs.declared.refusal.Refusal.TheVariants as refusals
 use Rattle.gs_journal.specs.declared.entry.Entry.TheVariants.{Placed, Role}
 use Rattle.gs_journal.specs.Standing.{standing, latest, last_of}
@@ -11,8 +10,7 @@ use Rattle.gs_journal.specs.History.{posted, messages, seq, record_in, on, activ
 use Rattle.gs_journal.specs.State.{state}
 use Rattle.gs_kernel.specs.declared.settings.Settings.{Settings}
 use Rattle.gs_core.specs.declared.transaction.Transaction.{Transaction}
-use Rattle.gs_core.specs.declared.reply.Reply.{Reply}
-use Rattle.gs_core.specs.Machine.{State, start}
+use Rattle.gs_core.specs.Machine.{Plan, State, planning, start}
 use Rattle.gs_core.specs.Safe.{IsIn, IsBacked, OnOne}
 use Rattle.gs_core.specs.Good.{Good}
 use Rattle.gs_core.specs.declared.config.Config.{Config}
@@ -20,22 +18,11 @@ use Rattle.gs_core.specs.Config.{settings_of}
 use Rattle.gs_core.specs.declared.event.Event.{Event}
 use Rattle.gs_core.specs.declared.event.Event.TheVariants as events
 use Rattle.gs_core.specs.Desk.{AreBelow}
-use Rattle.gs_core.specs.Machine.{refusal, view, plan_of, stamps, stamps_all, stamps_with, Does, Serves, Step}
+use Rattle.gs_core.specs.Machine.{refusal, view, plan_of, stamps, stamps_all, stamps_with}
 use Rattle.gs_layout.specs.declared.known.Known.{Known}
 use Rattle.gs_policy.specs.declared.choice.Choice.{Choice}
-use Rattle.gs_kernel.proofs.Refusals.{first_passed, free_when}
-use Rattle.std.proofs.Common.{◌++◌}
-use Rattle.gs_layout.specs.declared.message.Message.TheVariants.{TimerTick}
-use Rattle.gs_journal.specs.History.{History}
-use Rattle.gs_kernel.specs.Kernel.{creation}
-use Rattle.gs_kernel.specs.declared.command.Command.{Command}
-use Rattle.gs_kernel.specs.declared.command.Command.TheVariants as commands
-use Rattle.gs_kernel.specs.Legal.{Tells, effect, entries_in, refusal as command_refusal}
-use Rattle.gs_core.specs.Machine.{IsFit}
-use Rattle.gs_core.proofs.Tears.{tear_good}
-use Rattle.gs_core.proofs.Happens.{happen_good}
-use Rattle.gs_core.proofs.Taking.{take_good, give_good}
-use Rattle.gs_core.proofs.Steps.{post_good, both_creation, both_ticked, drain_kept, stamp_good, commit_good, late_good, idle}
+use Rattle.gs_kernel.proofs.Refusals.{first_passed}
+use Rattle.gs_core.proofs.Steps.{stamp_good, idle}
 use Rattle.gs_slots.specs.declared.state.SlotState.TheVariants.{Idle}
 use Rattle.std.proofs.lemmas.List.{length-replicate}
 
@@ -43,7 +30,7 @@ pub below_count : (m : State) (c : ℕ) → nat_le m.settings.cpus c ≡ false �
 below_count m c e = grind (arith, nat_tests, e)
 
 -- a stamp that is not refused is of a CPU
-stamps_on_cpu : (m : State) (c t : ℕ) (p : Bool) → refusal m (events.Stamp c t p) ≡ None → nat_le m.settings.cpus c ≡ false
+pub stamps_on_cpu : (m : State) (c t : ℕ) (p : Bool) → refusal m (events.Stamp c t p) ≡ None → nat_le m.settings.cpus c ≡ false
 stamps_on_cpu m c t p none =
     let p1 = first_passed (torn m.history) refusals.Gone _ none in
     let p2 = first_passed (not (is_some (active m.history))) refusals.NotActive _ p1.1 in
@@ -67,38 +54,6 @@ choices_good m (x ∷ xs) below g =
 abbrev pub PlansBelow : State → Event → Type 0
 PlansBelow m events.Decide = AreBelow m.settings.cpus (plan_of m)
 PlansBelow m _ = Unit {0}
-
--- what a command tells
-told_good : (m : State) (c : Command) → command_refusal m.settings m.history c ≡ None → Good m → Good (record m { history = m.history ++ entries_in (effect m.settings m.history c) })
-told_good m (commands.Create f) none g = post_good m (creation m.settings.first_tseq m.history f) true (both_creation m f g) g
-told_good m (commands.Thread t e) none g = happen_good m t e true (free_when m.settings m.history (commands.Thread t e) none).own g
-told_good m (commands.Take c) none g = take_good m c g
-told_good m (commands.Give c) none g = give_good m c g
-told_good m (commands.Tick c) none g = post_good m (TimerTick c) true (both_ticked m c g) g
-
-carries_good : (m : State) (c : Command) (b : Bool) (h : History) → command_refusal m.settings m.history c ≡ None → Tells (IsFit m.ring m.consumed) m.history (effect m.settings m.history c) b h → Good m → Good (record m { history = h })
-carries_good m c true h none t g = subst (λ (x : History). Good (record m { history = x })) (sym t.1) (told_good m c none g)
-carries_good m c false h none t g = subst (λ (x : History). Good (record m { history = x })) (sym t.1) (tear_good m g)
-
--- an event that is not refused, and does what it says, keeps what the machine keeps
-does_good : (m : State) (e : Event) (r : Reply) (m' : State) → Good m → PlansBelow m e → refusal m e ≡ None → Does m e r m' → Good m'
-does_good m (events.Kernel c) r m' g b none d = subst Good (sym d.others) (carries_good m c d.fit m'.history none d.tells g)
-does_good m (events.Drain max) r m' g b none d = drain_kept m max d.0 m' g d.2
-does_good m (events.Stamp c t p) r m' g b none d = subst Good (sym d.1) (stamp_good m c t p (below_count m c (stamps_on_cpu m c t p none)) g)
-does_good m events.Decide r m' g b none d = subst Good (sym d.1) (choices_good m (plan_of m) b g)
-does_good m (events.Commit mask) r m' g b none d = subst Good (sym d.1) (commit_good m mask g)
-does_good m (events.Late n) r m' g b none d = subst Good (sym d.1) (late_good m n g)
-does_good m events.View r m' g b none d = subst Good (sym d.1) g
-does_good m events.State r m' g b none d = subst Good (sym d.1) g
-does_good m events.Unread r m' g b none d = subst Good (sym d.1) g
-
-serves_good : (f : Option Refusal) (m : State) (e : Event) (r : Reply) (m' : State) → Good m → PlansBelow m e → refusal m e ≡ f → Serves f m e r m' → Good m'
-serves_good (Some f) m e r m' g b is s = subst Good (sym s.1) g
-serves_good None m e r m' g b is (inl d) = does_good m e r m' g b is d
-serves_good None m e r m' g b is (inr s) = subst Good (sym s.1) g
-
-pub step_good : (m : State) (e : Event) (r : Reply) (m' : State) → Good m → PlansBelow m e → Step m e r m' → Good m'
-step_good m e r m' g b s = serves_good (refusal m e) m e r m' g b refl s
 
 -- the start
 role_only : (g c : ℕ) → (t d : ℕ) → on (Role g c ∷ []) d ≡ Some t → ⊥
@@ -129,9 +84,9 @@ none_placed : (g c i t q k f : ℕ) → slice_get (Role g c ∷ []) i ≡ Some (
 none_placed g c zero t q k f e = absurd cc
 none_placed g c (suc i) t q k f e = absurd cc
 
-pub start_good : (c : Config) → Good (start c)
+pub start_good : {P : Type 0} (chosen : P → Plan) (c : Config P) → Good (planning chosen (start c))
 unfolding state seq record_in record_of messages posted latest standing last_of
-start_good c =
+start_good chosen c =
     let s = settings_of c in
     record {
       history = record {

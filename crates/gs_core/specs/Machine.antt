@@ -11,27 +11,23 @@ use Rattle.gs_layout.specs.declared.refusal.Refusal.TheVariants as refusals
 use Rattle.gs_layout.specs.View.{Look, look_up, words, catch_up, is_gap, is_skipped, is_orphan, gap_next}
 use Rattle.gs_journal.specs.declared.entry.Entry.{Entry}
 use Rattle.gs_journal.specs.declared.entry.Entry.TheVariants.{Role}
-use Rattle.gs_journal.specs.History.{posted, active, attaching, taken, torn}
+use Rattle.gs_journal.specs.History.{History, posted, active, attaching, taken, torn}
 use Rattle.gs_journal.specs.State.{unread_after}
 use Rattle.gs_kernel.specs.declared.settings.Settings.{Settings}
 use Rattle.gs_slots.specs.State.{collected}
-use Rattle.gs_kernel.specs.Commit.{Fits, Landings, commit_refusal, fits_if_any, lands}
-use Rattle.gs_kernel.specs.Landing.{landing, after_landing}
+use Rattle.gs_kernel.specs.Commit.{own_refusal as commit_refusal}
+use Rattle.gs_kernel.specs.declared.landing.Landing.{Landing}
 use Rattle.gs_kernel.specs.declared.command.Command.{Command}
-use Rattle.gs_kernel.specs.Legal.{Room, Tells, effect, last_in, refusal as command_refusal}
+use Rattle.gs_kernel.specs.Legal.{Room, Tells, effect, last_in, standing_refusal as command_refusal}
+use Rattle.gs_kernel.specs.Lands.{Landings, Lands, LandsAll}
 use Rattle.gs_kernel.specs.First.{first_that}
-use Rattle.gs_kernel.specs.Kernel.{has_agent, preemption}
+use Rattle.gs_kernel.specs.Kernel.{has_agent, unless_torn}
 use Rattle.gs_kernel.specs.Shown.{live_threads}
 use Rattle.gs_ring.specs.Places.{free_after, need, record_len, written}
-use Rattle.gs_status.specs.Masks.{mask_of}
-use Rattle.gs_runq.specs.Queue.{order}
-use Rattle.gs_beliefs.specs.Cpus.{Cpus}
-use Rattle.gs_policy.specs.declared.any.AnyPolicy.{AnyPolicy}
+use Rattle.gs_policy.specs.Shown.{Shown}
 use Rattle.gs_policy.specs.declared.choice.Choice.{Choice}
-use Rattle.gs_policy.specs.Any.{any_takes}
-use Rattle.gs_policy.specs.Plan.{plan}
 use Rattle.gs_view.specs.Begins.{begins}
-use Rattle.gs_mind.specs.Mind.{MindState, nothing, picture_of, thinks}
+use Rattle.gs_mind.specs.Mind.{MindState, nothing, picture_of, shown_in, thinks}
 use Rattle.gs_mind.specs.Picture.{Picture, after_slots, after_stamp, takes_in_all}
 use Rattle.gs_view.specs.Shown.{tids}
 use Rattle.std.specs.List.Sorted.{IsStrictlyIncreasing}
@@ -52,15 +48,37 @@ pub record Agent : Type 0 where
 
 -- a machine: the kernel's numbers, how many bytes the ring has, what happened, how many messages the agents consumed, the agent if there is
 -- one, the policy by which it plans, each CPU's slot, and all that was ever stamped
-pub record State : Type 0 where
+pub record StateOf (P : Type 0) : Type 0 where
   pub settings : Settings
   pub ring : ℕ
   pub history : List Entry
   pub consumed : ℕ
   pub agent : Option Agent
-  pub policy : AnyPolicy
+  pub policy : P
   pub slots : List SlotState
   pub transactions : List Transaction
+
+-- what a policy plans by what it is shown
+abbrev pub Plan : Type 0
+Plan = Shown → List Choice
+
+-- of a machine's policy only the plan counts
+abbrev pub State : Type 0
+State = StateOf Plan
+
+-- a machine whose policy plans so
+abbrev pub planning : {P : Type 0} → (P → Plan) → StateOf P → State
+planning chosen m =
+    record {
+      settings = m.settings;
+      ring = m.ring;
+      history = m.history;
+      consumed = m.consumed;
+      agent = m.agent;
+      policy = chosen m.policy;
+      slots = m.slots;
+      transactions = m.transactions;
+    }
 
 -- what an agent has in mind: nothing, where there is none
 abbrev pub mind_of : Option Agent → MindState
@@ -92,13 +110,9 @@ unread m = unread_after m.history m.consumed
 abbrev pub attached : State → Bool
 attached m = is_some (active m.history) || (is_some (attaching m.history) && not (is_some (page_of m.agent)))
 
--- what the agent believes of each CPU, with the CPUs that the other class took and did not give back
-abbrev pub cpus_now : State → Cpus
-cpus_now m = record (mind_of m.agent).cpus { taken = mask_of (taken m.history) 64 }
-
--- what the policy plans by all that the agent has in mind
+-- what the policy plans by all that the agent has in mind, and the CPUs that the other class took and did not give back
 abbrev pub plan_of : State → List Choice
-plan_of m = plan (any_takes m.policy) (view m) (cpus_now m) (order (mind_of m.agent).queue)
+plan_of m = m.policy (shown_in (mind_of m.agent) (taken m.history))
 
 -- whether the slot of a CPU is idle
 abbrev pub is_idle : Option SlotState → Bool
@@ -115,13 +129,13 @@ transaction_of xs (suc n) = slice_get xs n
 -- the first refusal of what takes an active agent, and else another
 abbrev pub without_agent : State → Option Refusal → Option Refusal
 without_agent m other =
-    first_that ((torn m.history, Some refusals.Gone) ∷ (not (is_some (active m.history)), Some refusals.NotActive) ∷ []) other
+    first_that ((not (is_some (active m.history)), Some refusals.NotActive) ∷ []) other
 
--- the first refusal of an event whose condition holds
-abbrev pub refusal : State → Event → Option Refusal
-refusal m (events.Kernel c) = command_refusal m.settings m.history c
-refusal m (events.Drain max) = first_that ((torn m.history, Some refusals.Gone) ∷ (not (has_agent m.history), Some refusals.NotActive) ∷ []) None
-refusal m (events.Stamp c t p) =
+-- the first refusal of an event whose condition holds while the enclave stands
+abbrev pub standing_refusal : State → Event → Option Refusal
+standing_refusal m (events.Kernel c) = command_refusal m.settings m.history c
+standing_refusal m (events.Drain max) = first_that ((not (has_agent m.history), Some refusals.NotActive) ∷ []) None
+standing_refusal m (events.Stamp c t p) =
     without_agent m (
     first_that (
     (nat_le m.settings.cpus c, Some refusals.BadCpu)
@@ -131,30 +145,30 @@ refusal m (events.Stamp c t p) =
     ∷ []
     ) None
     )
-refusal m events.Decide =
+standing_refusal m events.Decide =
     without_agent m (first_that ((nat_lt (m.settings.history - length m.transactions) (length (plan_of m)), Some refusals.HistoryFull) ∷ []) None)
-refusal m (events.Commit mask) = commit_refusal m.settings m.history mask
-refusal m (events.Late n) =
-    first_that ((torn m.history, Some refusals.Gone) ∷ (not (is_some (transaction_of m.transactions n)), Some refusals.NoSuchTransaction) ∷ []) None
-refusal m events.View = first_that ((torn m.history, Some refusals.Gone) ∷ (not (has_agent m.history), Some refusals.NotActive) ∷ []) None
-refusal m events.State = first_that ((torn m.history, Some refusals.Gone) ∷ []) None
-refusal m events.Unread = first_that ((torn m.history, Some refusals.Gone) ∷ []) None
+standing_refusal m (events.Commit mask) = commit_refusal m.settings m.history mask
+standing_refusal m (events.Late n) = first_that ((not (is_some (transaction_of m.transactions n)), Some refusals.NoSuchTransaction) ∷ []) None
+standing_refusal m events.View = first_that ((not (has_agent m.history), Some refusals.NotActive) ∷ []) None
+standing_refusal m events.State = None
+standing_refusal m events.Unread = None
+
+-- the first refusal of an event whose condition holds
+abbrev pub refusal : State → Event → Option Refusal
+refusal m e = unless_torn m.history (standing_refusal m e)
 
 -- whether a message fits behind a history into a ring of so many bytes, of which so many messages were consumed: it takes up no more
 -- bytes, with its PAD, than are free
-abbrev pub fits_into : ℕ → ℕ → Fits
+abbrev pub fits_into : ℕ → ℕ → History → Message → Bool
 fits_into ring consumed h k = nat_le (need ring (written ring (posted h)) (record_len k)) (free_after ring (posted h) consumed)
-
-abbrev pub fits : State → Message → Bool
-fits m k = fits_into m.ring m.consumed m.history k
-
--- whether the message to the thread on a CPU fits, where there is one
-abbrev pub makes_way : State → ℕ → Bool
-makes_way m c = fits_if_any (fits_into m.ring m.consumed) m.history (preemption m.settings m.history c)
 
 -- the ring's condition: what fits, by its bytes
 abbrev pub IsFit : ℕ → ℕ → Room
 IsFit ring consumed h b k = fits_into ring consumed h k ≡ b
+
+-- as a machine's ring has it
+abbrev pub fits : State → Room
+fits m = IsFit m.ring m.consumed
 
 -- what a command answers that was carried out, or tore the enclave down
 abbrev pub carried : State → Command → Bool → Reply
@@ -165,7 +179,7 @@ carried m c false = replies.Torn
 pub record Carries (m : State) (c : Command) (r : Reply) (m' : State) : Type 0 where
   pub fit : Bool
   pub reply : r ≡ carried m c fit
-  pub tells : Tells (IsFit m.ring m.consumed) m.history (effect m.settings m.history c) fit m'.history
+  pub tells : Tells (fits m) m.history (effect m.settings m.history c) fit m'.history
   pub others : m' ≡ record m { history = m'.history }
 
 -- what is stamped: the active generation, the record's sequence number, and whether a thread on the CPU is to be taken off
@@ -197,32 +211,26 @@ stamps_all m (x ∷ xs) = stamps_all (stamps m x.cpu x.tid x.preempt).1 xs
 abbrev pub decides : State → Reply × State
 decides m = (replies.Decided (length m.transactions + 1) (plan_of m), stamps_all m (plan_of m))
 
--- the landings of a commit
-abbrev pub landings : State → ℕ → Landings
-landings m mask = lands (fits_into m.ring m.consumed) m.settings mask 0 m.slots m.history
+-- after landings: the agent takes in what became of the slots, and what is done is idle then
+abbrev pub committed : State → Landings → State
+committed m made =
+    record m { history = made.history; agent = option_map (thinking (after_slots 0 made.slots)) m.agent; slots = map collected made.slots }
 
--- a commit: its slots land, the agent takes in what became of them, and what is done is idle then; the answer says whether that tore
--- the enclave down
-abbrev pub commits : State → ℕ → Reply × State
-commits m mask = (
-  replies.Landed (landings m mask).answers (torn (landings m mask).history),
-  record m {
-    history = (landings m mask).history;
-    agent = option_map (thinking (after_slots 0 (landings m mask).slots)) m.agent;
-    slots = map collected (landings m mask).slots;
-  },
-)
+-- a commit: the stamped slots of a mask land and are collected; the answer says whether that tore the enclave down
+pub record Commits (m : State) (mask : ℕ) (r : Reply) (m' : State) : Type 0 where
+  pub made : Landings
+  pub lands : LandsAll (fits m) m.settings mask 0 m.slots m.history made
+  pub reply : r ≡ replies.Landed made.answers (torn made.history)
+  pub left : m' ≡ committed m made
 
 -- a transaction lands late, as it was stamped: of the machine only the history changes
-abbrev pub lands_late : State → ℕ → Option Transaction → Reply × State
-lands_late m n None = (replies.Refused refusals.NoSuchTransaction, m)
-lands_late m n (Some x) = (
-  replies.Late n (landing (makes_way m x.cpu) m.settings m.history x.cpu x.slot) (torn (after_landing (makes_way m x.cpu) m.settings m.history x.cpu x.slot)),
-  record m { history = after_landing (makes_way m x.cpu) m.settings m.history x.cpu x.slot },
-)
-
-abbrev pub lates : State → ℕ → Reply × State
-lates m n = lands_late m n (transaction_of m.transactions n)
+pub record LandsLate (m : State) (n : ℕ) (r : Reply) (m' : State) : Type 0 where
+  pub transaction : Transaction
+  pub found : transaction_of m.transactions n ≡ Some transaction
+  pub landing : Landing
+  pub lands : Lands (fits m) m.settings m.history transaction.cpu transaction.slot landing m'.history
+  pub reply : r ≡ replies.Late n landing (torn m'.history)
+  pub others : m' ≡ record m { history = m'.history }
 
 -- whether the next of these messages begins a record
 abbrev pub begins_next : Look → List Message → Bool
@@ -266,8 +274,8 @@ Does m (events.Kernel c) r m' = Carries m c r m'
 Does m (events.Drain max) r m' = (d : Drained) × (r ≡ replies.Drained d) × Drains m max d m'
 Does m (events.Stamp c t p) r m' = (r ≡ (stamps m c t p).0) × (m' ≡ (stamps m c t p).1)
 Does m events.Decide r m' = (r ≡ (decides m).0) × (m' ≡ (decides m).1)
-Does m (events.Commit mask) r m' = (r ≡ (commits m mask).0) × (m' ≡ (commits m mask).1)
-Does m (events.Late n) r m' = (r ≡ (lates m n).0) × (m' ≡ (lates m n).1)
+Does m (events.Commit mask) r m' = Commits m mask r m'
+Does m (events.Late n) r m' = LandsLate m n r m'
 Does m events.View r m' = Shows (view m) r × (m' ≡ m)
 Does m events.State r m' = (r ≡ replies.State (live_threads m.settings m.history)) × (m' ≡ m)
 Does m events.Unread r m' = (r ≡ replies.Unread (unread m)) × (m' ≡ m)
@@ -287,7 +295,7 @@ abbrev pub Step : State → Event → Reply → State → Type 0
 Step m e r m' = Serves (refusal m e) m e r m'
 
 -- the machine before the first event
-abbrev pub start : Config → State
+abbrev pub start : {P : Type 0} → Config P → StateOf P
 start c =
     record {
       settings = settings_of c;

@@ -2,7 +2,7 @@ ghost use Rattle.std.specs.Prelude.{◌≡◌, ℕ, None, Some, IfOk, IfErr, IfS
 ghost use Rattle.std.specs.Option.{option_map};
 ghost use Rattle.gs_kernel.specs.Kernel.{IsRefusal};
 ghost use Rattle.gs_core.specs.Config.{config_fault, IsFault};
-ghost use Rattle.gs_core.specs.Machine.{Agent, State, Step, decides, mind_of, plan_of, start, refusal, stamps, transaction_of, unread, without_agent};
+ghost use Rattle.gs_core.specs.Machine.{Agent, Step, decides, mind_of, plan_of, planning, standing_refusal, start, stamps, transaction_of, unread, without_agent};
 ghost use Rattle.gs_core.specs.Desk.{AreBelow, AreStampable};
 ghost use Rattle.gs_journal.specs.History.{active, posted, torn};
 ghost use Rattle.gs_ring.specs.Ends.{Posted};
@@ -19,7 +19,7 @@ use crate::unread::waiting;
 use gs_agent::Role;
 use gs_kernel::{Answer, Command, Kernel};
 use gs_layout::Refusal;
-use gs_policy::{AnyPolicy, Choice};
+use gs_policy::{Choice, Counted};
 use gs_ring::ByteRing;
 use gs_slots::{Region, SlotState, Stamp};
 use gs_status::Mask;
@@ -29,39 +29,39 @@ use std::marker::Model;
 /// An enclave: the kernel, the global agent that the kernel tells of its threads, and the slots by
 /// which the agent tells the kernel its decisions (after the ghOSt paper, SOSP 2021).
 #[derive(Drop)]
-pub struct Machine {
+pub struct Machine<P: Counted> {
     alloc: Global,
     kernel: Kernel<ByteRing>,
-    policy: AnyPolicy,
-    role: Role<AnyPolicy>,
+    policy: P,
+    role: Role<P>,
     region: Region,
     transactions: Vec<Transaction>,
 }
 
-impl Model for Machine {
-    ghost use Rattle.gs_core.specs.Machine.{State};
+impl<P: Counted> Model for Machine<P> {
+    ghost use Rattle.gs_core.specs.Machine.{StateOf};
 
-    ghost Value = { State };
+    ghost Value = { StateOf P };
 
     ghost use Rattle.gs_core.specs.Held.{machine_view, IsMachine};
 
     ghost view = { machine_view };
 
-    ghost invariant = { IsMachine };
+    ghost invariant = { IsMachine P.chosen };
 }
 
-impl Machine {
+impl<P: Counted + Copy> Machine<P> {
     /// An enclave in which nothing happened but that the first agent is active on CPU 0.
     ///
     /// # Errors
     ///
     /// The first fault of the configuration, else `OutOfMemory` where memory runs out.
-    pub fn new(alloc: Global, config: Config) -> Result<Machine, ConfigFault>
+    pub fn new(alloc: Global, config: Config<P>) -> Result<Machine<P>, ConfigFault>
         ensures ok { IfOk result (λ m. m ≡ start config) }
         ensures fits { IfOk result (λ _. config_fault config ≡ None) }
         ensures fault { IfErr result (IsFault (config_fault config)) }
-        ensures safe { IfOk result Safe }
-        ensures faithful { IfOk result IsFaithful }
+        ensures safe { IfOk result (λ m. Safe (planning P.chosen m)) }
+        ensures faithful { IfOk result (λ m. IsFaithful (planning P.chosen m)) }
     {
         if let Some(fault) = config.fault() {
             return Err(fault);
@@ -73,7 +73,7 @@ impl Machine {
     }
 
     /// An enclave with these numbers, where memory does not run out.
-    fn open(alloc: Global, config: &Config) -> Option<Machine>
+    fn open(alloc: Global, config: &Config<P>) -> Option<Machine<P>>
         requires { config_fault config.now ≡ None }
         ensures { IfSome result (λ m. m ≡ start config.now) }
     {
@@ -108,7 +108,7 @@ impl Machine {
 
     /// The role of the agent, to look at. It plans by the machine's policy, and while an agent is active, it
     /// is of the active generation and takes the active agent's CPU for its own.
-    pub fn role(&self) -> &Role<AnyPolicy>
+    pub fn role(&self) -> &Role<P>
         ensures mind { Some result.now.mind ≡ option_map (λ (a : Agent). a.mind) self.now.agent }
         ensures policy { result.now.policy ≡ self.now.policy }
         ensures generation { (a : ℕ × ℕ) → active self.now.history ≡ Some a → result.now.generation ≡ a.0 }
@@ -130,7 +130,7 @@ impl Machine {
         ensures history { result.now.history ≡ self.now.history }
         ensures ring { result.now.poster.capacity ≡ self.now.ring }
         ensures consumed { result.now.poster.taken ≡ self.now.consumed }
-        ensures unread { result.now.poster.unread ≡ unread self.now }
+        ensures unread { result.now.poster.unread ≡ unread (planning P.chosen self.now) }
         ensures posted { Posted result.now.poster (posted self.now.history) }
     {
         &self.kernel
@@ -153,7 +153,8 @@ impl Machine {
     }
 
     fn serve(&mut self, command: &Command) -> Reply
-        ensures { Step self.old (Event.Kernel command.now) result self.new }
+        requires { torn self.old.history ≡ false }
+        ensures { Step (planning P.chosen self.old) (Event.Kernel command.now) result (planning P.chosen self.new) }
     {
         match self.kernel.serve(command) {
             Answer::Refused { refusal } => Reply::Refused(refusal),
@@ -163,11 +164,9 @@ impl Machine {
     }
 
     fn drain(&mut self, max: u32) -> Reply
-        ensures { Step self.old (Event.Drain max) result self.new }
+        requires { torn self.old.history ≡ false }
+        ensures { Step (planning P.chosen self.old) (Event.Drain max) result (planning P.chosen self.new) }
     {
-        if self.kernel.is_torn() {
-            return Reply::Refused(Refusal::Gone);
-        }
         if !self.kernel.has_agent() {
             return Reply::Refused(Refusal::NotActive);
         }
@@ -176,11 +175,9 @@ impl Machine {
     }
 
     fn view(&self) -> Reply
-        ensures { Step self.now Event.View result self.now }
+        requires { torn self.now.history ≡ false }
+        ensures { Step (planning P.chosen self.now) Event.View result (planning P.chosen self.now) }
     {
-        if self.kernel.is_torn() {
-            return Reply::Refused(Refusal::Gone);
-        }
         let has_agent = self.kernel.has_agent();
         if !has_agent {
             return Reply::Refused(Refusal::NotActive);
@@ -192,11 +189,9 @@ impl Machine {
     }
 
     fn state(&self) -> Reply
-        ensures { Step self.now Event.State result self.now }
+        requires { torn self.now.history ≡ false }
+        ensures { Step (planning P.chosen self.now) Event.State result (planning P.chosen self.now) }
     {
-        if self.kernel.is_torn() {
-            return Reply::Refused(Refusal::Gone);
-        }
         match self.kernel.live_threads(self.alloc) {
             Ok(threads) => Reply::State(Items::new(threads)),
             Err(_) => Reply::Refused(Refusal::OutOfMemory),
@@ -204,11 +199,9 @@ impl Machine {
     }
 
     fn unread(&self) -> Reply
-        ensures { Step self.now Event.Unread result self.now }
+        requires { torn self.now.history ≡ false }
+        ensures { Step (planning P.chosen self.now) Event.Unread result (planning P.chosen self.now) }
     {
-        if self.kernel.is_torn() {
-            return Reply::Refused(Refusal::Gone);
-        }
         match waiting(self.alloc, self.kernel.poster()) {
             Ok(messages) => Reply::Unread(Items::new(messages)),
             Err(_) => Reply::Refused(Refusal::OutOfMemory),
@@ -217,13 +210,9 @@ impl Machine {
 
     /// Whether an agent is active, and else the refusal of whatever takes one.
     fn active_agent(&self) -> Result<(), Refusal>
-        ensures stands { OnOk result (torn self.now.history ≡ false) }
         ensures active { OnOk result (is_some (active self.now.history) ≡ true) }
-        ensures refused { IfErr result (λ r. without_agent self.now None ≡ Some r) }
+        ensures refused { IfErr result (λ r. without_agent (planning P.chosen self.now) None ≡ Some r) }
     {
-        if self.kernel.is_torn() {
-            return Err(Refusal::Gone);
-        }
         if self.kernel.active().is_none() {
             return Err(Refusal::NotActive);
         }
@@ -231,7 +220,8 @@ impl Machine {
     }
 
     fn stamp(&mut self, cpu: u16, tid: u32, preempt: bool) -> Reply
-        ensures { Step self.old (Event.Stamp cpu tid preempt) result self.new }
+        requires { torn self.old.history ≡ false }
+        ensures { Step (planning P.chosen self.old) (Event.Stamp cpu tid preempt) result (planning P.chosen self.new) }
     {
         match self.try_stamp(cpu, tid, preempt) {
             Ok(number) => Reply::Stamped { number },
@@ -241,10 +231,10 @@ impl Machine {
 
     /// Stamps what the view has of a thread into the slot of a CPU. Answers the transaction's number.
     fn try_stamp(&mut self, cpu: u16, tid: u32, preempt: bool) -> Result<usize, Refusal>
-        ensures fits { IfOk result (λ _. refusal self.old (Event.Stamp cpu tid preempt) ≡ None) }
-        ensures number { IfOk result (λ n. Reply.Stamped n ≡ (stamps self.old cpu tid preempt).0) }
-        ensures ok { OnOk result (self.new ≡ (stamps self.old cpu tid preempt).1) }
-        ensures refused { IfErr result (IsRefusal (refusal self.old (Event.Stamp cpu tid preempt))) }
+        ensures fits { IfOk result (λ _. standing_refusal (planning P.chosen self.old) (Event.Stamp cpu tid preempt) ≡ None) }
+        ensures number { IfOk result (λ n. Reply.Stamped n ≡ (stamps (planning P.chosen self.old) cpu tid preempt).0) }
+        ensures ok { OnOk result (planning P.chosen self.new ≡ (stamps (planning P.chosen self.old) cpu tid preempt).1) }
+        ensures refused { IfErr result (IsRefusal (standing_refusal (planning P.chosen self.old) (Event.Stamp cpu tid preempt))) }
         ensures unchanged { OnErr result (self.new ≡ self.old) }
     {
         self.active_agent()?;
@@ -275,7 +265,8 @@ impl Machine {
     }
 
     fn decide(&mut self) -> Reply
-        ensures { Step self.old Event.Decide result self.new }
+        requires { torn self.old.history ≡ false }
+        ensures { Step (planning P.chosen self.old) Event.Decide result (planning P.chosen self.new) }
     {
         match self.try_decide() {
             Ok((first, choices)) => Reply::Decided {
@@ -288,10 +279,10 @@ impl Machine {
 
     /// Stamps what the policy plans. Answers the number of the first transaction, and the choices.
     fn try_decide(&mut self) -> Result<(usize, Vec<Choice>), Refusal>
-        ensures fits { IfOk result (λ _. refusal self.old Event.Decide ≡ None) }
-        ensures reply { IfOk result (λ r. Reply.Decided r.0 r.1.items ≡ (decides self.old).0) }
-        ensures ok { OnOk result (self.new ≡ (decides self.old).1) }
-        ensures refused { IfErr result (IsRefusal (refusal self.old Event.Decide)) }
+        ensures fits { IfOk result (λ _. standing_refusal (planning P.chosen self.old) Event.Decide ≡ None) }
+        ensures reply { IfOk result (λ r. Reply.Decided r.0 r.1.items ≡ (decides (planning P.chosen self.old)).0) }
+        ensures ok { OnOk result (planning P.chosen self.new ≡ (decides (planning P.chosen self.old)).1) }
+        ensures refused { IfErr result (IsRefusal (standing_refusal (planning P.chosen self.old) Event.Decide)) }
         ensures unchanged { OnErr result (self.new ≡ self.old) }
     {
         let choices = self.plan()?;
@@ -309,14 +300,13 @@ impl Machine {
     }
 
     /// What the policy plans, where there is room for its transactions.
-    fn plan(&mut self) -> Result<Vec<Choice>, Refusal>
-        ensures plan { IfOk result (λ r. r.items ≡ plan_of self.old) }
-        ensures active { OnOk result (is_some (active self.old.history) ≡ true) }
-        ensures stampable { IfOk result (λ r. AreStampable (mind_of self.old.agent).records self.old.slots r.items) }
-        ensures below { IfOk result (λ r. AreBelow self.old.settings.cpus r.items) }
-        ensures fits { IfOk result (λ _. refusal self.old Event.Decide ≡ None) }
-        ensures refused { IfErr result (IsRefusal (refusal self.old Event.Decide)) }
-        ensures unchanged { self.new ≡ self.old }
+    fn plan(&self) -> Result<Vec<Choice>, Refusal>
+        ensures plan { IfOk result (λ r. r.items ≡ plan_of (planning P.chosen self.now)) }
+        ensures active { OnOk result (is_some (active self.now.history) ≡ true) }
+        ensures stampable { IfOk result (λ r. AreStampable (mind_of self.now.agent).records self.now.slots r.items) }
+        ensures below { IfOk result (λ r. AreBelow self.now.settings.cpus r.items) }
+        ensures fits { IfOk result (λ _. standing_refusal (planning P.chosen self.now) Event.Decide ≡ None) }
+        ensures refused { IfErr result (IsRefusal (standing_refusal (planning P.chosen self.now) Event.Decide)) }
     {
         self.active_agent()?;
         let taken = self.kernel.taken();
@@ -335,7 +325,8 @@ impl Machine {
     }
 
     fn commit(&mut self, mask: Mask) -> Reply
-        ensures { Step self.old (Event.Commit mask) result self.new }
+        requires { torn self.old.history ≡ false }
+        ensures { Step (planning P.chosen self.old) (Event.Commit mask) result (planning P.chosen self.new) }
     {
         match self.kernel.txns_commit(self.alloc, &mut self.region, mask) {
             Ok(landings) => {
@@ -350,11 +341,9 @@ impl Machine {
     }
 
     fn late(&mut self, number: u32) -> Reply
-        ensures { Step self.old (Event.Late number) result self.new }
+        requires { torn self.old.history ≡ false }
+        ensures { Step (planning P.chosen self.old) (Event.Late number) result (planning P.chosen self.new) }
     {
-        if self.kernel.is_torn() {
-            return Reply::Refused(Refusal::Gone);
-        }
         let Some((cpu, slot)) = self.stamped(number) else {
             return Reply::Refused(Refusal::NoSuchTransaction);
         };
@@ -370,11 +359,26 @@ impl Machine {
 
     /// One event. It is refused by the first refusal that applies, and changes nothing then.
     pub fn step(&mut self, event: &Event) -> Reply
-        ensures step { Step self.old event.now result self.new }
-        ensures safe { Safe self.new }
-        ensures faithful { IsFaithful self.new }
+        ensures step { Step (planning P.chosen self.old) event.now result (planning P.chosen self.new) }
+        ensures safe { Safe (planning P.chosen self.new) }
+        ensures faithful { IsFaithful (planning P.chosen self.new) }
     {
-        let reply = match event {
+        let reply = if self.kernel.is_torn() {
+            Reply::Refused(Refusal::Gone)
+        } else {
+            self.standing_step(event)
+        };
+        // A look at a field, by which the proof has what the machine keeps.
+        let _region = &self.region;
+        reply
+    }
+
+    /// One event while the enclave stands.
+    fn standing_step(&mut self, event: &Event) -> Reply
+        requires { torn self.old.history ≡ false }
+        ensures { Step (planning P.chosen self.old) event.now result (planning P.chosen self.new) }
+    {
+        match event {
             Event::Kernel { command } => self.serve(command),
             Event::Drain { max } => self.drain(*max),
             Event::Stamp { cpu, tid, preempt } => self.stamp(*cpu, *tid, *preempt),
@@ -384,10 +388,7 @@ impl Machine {
             Event::View => self.view(),
             Event::State => self.state(),
             Event::Unread => self.unread(),
-        };
-        // A look at a field, by which the proof has what the machine keeps.
-        let _region = &self.region;
-        reply
+        }
     }
 
     /// Events, one after another. Each machine on the way is safe.
@@ -396,7 +397,7 @@ impl Machine {
     ///
     /// Where there is no memory for the replies. Then no event ran.
     pub fn run(&mut self, events: &[Event]) -> Result<Vec<Reply>, AllocError>
-        ensures run { IfOk result (λ replies. Run self.old events.now replies.items self.new) }
+        ensures run { IfOk result (λ replies. Run (planning P.chosen self.old) events.now replies.items (planning P.chosen self.new)) }
         ensures unchanged { OnErr result (self.new ≡ self.old) }
     {
         let mut replies = Vec::with_capacity(self.alloc, events.len())?;

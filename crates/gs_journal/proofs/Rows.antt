@@ -9,7 +9,6 @@ use Rattle.gs_journal.specs.declared.entry.Entry.TheVariants.{Posted, Placed, Ro
 use Rattle.gs_journal.specs.Standing.{last_of, standing, latest}
 use Rattle.gs_journal.specs.Record.{record_of}
 use Rattle.gs_journal.specs.History.{History, posted, messages, created, seq, record_in, on, at, active, attaching, generation, taken, last_taken, torn}
-use Rattle.gs_journal.specs.Holder.{holder, Agent, OtherClass, Thread as ThreadThere, Nobody}
 use Rattle.gs_journal.specs.State.{state}
 
 facts : Bool → ℕ → Facts
@@ -251,24 +250,3 @@ not_torn = refl
 is_torn_down : torn agents ≡ true
 unfolding torn agents
 is_torn_down = refl
-
-holder_agent : holder (take 1 agents) 0 ≡ Agent
-unfolding holder active taken last_taken latest on standing last_of agents
-holder_agent = refl
-
-holder_nobody : holder (take 1 agents) 1 ≡ Nobody
-unfolding holder active taken last_taken latest on standing last_of agents
-holder_nobody = refl
-
-holder_other_class : holder (take 2 agents) 1 ≡ OtherClass
-unfolding holder active taken last_taken latest on standing last_of agents
-holder_other_class = refl
-
--- the agent comes before the other class
-holder_both : holder (take 7 agents) 1 ≡ Agent
-unfolding holder active taken last_taken latest on standing last_of agents
-holder_both = refl
-
-holder_thread : holder (take 3 life) 1 ≡ ThreadThere 1
-unfolding holder active taken last_taken latest on standing last_of life
-holder_thread = refl

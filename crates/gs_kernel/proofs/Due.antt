@@ -35,7 +35,7 @@ use Rattle.gs_slots.specs.declared.state.Stamp.{Stamp}
 use Rattle.gs_kernel.specs.Landing.{placing, placing_entries}
 use Rattle.gs_kernel.specs.Lands.{ComesNext, placement}
 use Rattle.gs_kernel.proofs.Placings.{IsToPlace, placing_free, placing_then, placing_when}
-use Rattle.std.proofs.Common.{inl, inr, length-append}
+use Rattle.std.proofs.Common.{inl, inr}
 
 -- a kernel with the same rows, seats and CPUs held
 kept_like : (s : Settings) (h : History) (t t' : TableState) (running running' : List (Option ℕ)) (held held' : ℕ) (a : Option (ℕ × ℕ)) (down : Bool) → t'.rows ≡ t.rows → t'.first_tseq ≡ t.first_tseq → running' ≡ running

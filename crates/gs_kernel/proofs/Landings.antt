@@ -1,5 +1,5 @@
 -- Landings one after another.
-use Rattle.std.proofs.Common.{◌≡◌, ℕ, suc, ◌+◌, ◌<◌, ◌≤◌, Bool, true, false, Option, None, Some, IfSome, List, [], ◌∷◌, ◌++◌, length, take, drop, slice_get, slice_set, get_or, drop-cons, length-take, refl, ap, sym, subst, ◌∙◌, append_assoc, length-append, arith}
+use Rattle.std.proofs.Common.{◌≡◌, ℕ, suc, ◌+◌, ◌<◌, ◌≤◌, ◌⊎◌, inl, inr, cond, Bool, true, false, Option, None, Some, IfSome, List, [], ◌∷◌, ◌++◌, length, take, drop, slice_get, slice_set, get_or, drop-cons, length-take, refl, ap, sym, subst, ◌∙◌, append_assoc, length-append, arith}
 use Rattle.std.proofs.lemmas.List.{take_more}
 use Rattle.std.proofs.Common.{append-nil}
 use Rattle.gs_layout.specs.declared.message.Message.{Message}
@@ -9,18 +9,84 @@ use Rattle.gs_slots.specs.declared.state.SlotState.{SlotState}
 use Rattle.gs_slots.specs.declared.state.SlotState.TheVariants.{Idle, Stamped, Done}
 use Rattle.gs_slots.specs.declared.state.Stamp.{Stamp}
 use Rattle.gs_status.specs.Masks.{has}
-use Rattle.gs_journal.specs.declared.entry.Entry.{Entry}
 use Rattle.gs_journal.specs.declared.entry.Entry.TheVariants.{Torn}
 use Rattle.gs_journal.specs.History.{History}
 use Rattle.gs_kernel.specs.declared.settings.Settings.{Settings}
 use Rattle.gs_kernel.specs.declared.landing.Landing.{Landing}
 use Rattle.gs_kernel.specs.Kernel.{preemption}
 use Rattle.gs_kernel.specs.Landing.{verdict, placing}
-use Rattle.gs_kernel.specs.Commit.{Landings, listed, then_others}
 use Rattle.gs_kernel.specs.declared.effect.Effect.{Effect}
 use Rattle.gs_kernel.specs.declared.effect.Effect.TheVariants.{Append}
 use Rattle.gs_kernel.specs.Legal.{Room, RoomOf, Tells, entries_in, message_in}
-use Rattle.gs_kernel.specs.Lands.{Adds, Lands, LandsAll, LandsIf, LandsIn, Settles, SettlesIf, is_to_place, placement}
+use Rattle.gs_kernel.specs.Lands.{Adds, Landings, Lands, LandsAll, LandsIf, LandsIn, Settles, SettlesIf, is_to_place, listed, placement, then_others}
+use Rattle.gs_kernel.proofs.Placings.{to_place}
+
+-- a transaction that is to be placed is placed, or the enclave is torn down in place of that
+pub record IsPut (room : Room) (s : Settings) (h : History) (k : ℕ) (b : Stamp) (o : Outcome) (h' : History) : Type 0 where
+  pub placed : verdict s h k b ≡ outcomes.Placed
+  pub fit : Bool
+  pub outcome : o ≡ cond fit outcomes.Placed outcomes.Gone
+  pub tells : Tells room h (placement s h k b) fit h'
+
+-- or nothing comes of it
+pub record IsLeft (s : Settings) (h : History) (k : ℕ) (b : Stamp) (o : Outcome) (h' : History) : Type 0 where
+  pub other : is_to_place (verdict s h k b) ≡ false
+  pub outcome : o ≡ verdict s h k b
+  pub history : h' ≡ h
+
+pub settles_cases : (room : Room) (s : Settings) (h : History) (k : ℕ) (b : Stamp) (o : Outcome) (h' : History) → Settles room s h k b (verdict s h k b) o h' → IsPut room s h k b o h' ⊎ IsLeft s h k b o h'
+settles_cases room s h k b o h' t = by_verdict (is_to_place (verdict s h k b)) refl t
+  where
+    by_verdict : (p : Bool) → is_to_place (verdict s h k b) ≡ p → SettlesIf p room s h k b (verdict s h k b) o h' → IsPut room s h k b o h' ⊎ IsLeft s h k b o h'
+    by_verdict true e t = inl (record { placed = to_place _ e; fit = t.0; outcome = t.1; tells = t.2 })
+    by_verdict false e t = inr (record { other = e; outcome = t.0; history = t.1 })
+
+-- what a placing and a tear-down keep of a history, a landing keeps
+pub landing_keeps : (P : History → Type 0) (room : Room) (s : Settings) (h : History) (k : ℕ) (b : Stamp) (o : Outcome) (h' : History) → Settles room s h k b (verdict s h k b) o h'
+    → (verdict s h k b ≡ outcomes.Placed → P (h ++ entries_in (placement s h k b))) → P (h ++ Torn ∷ []) → P h → P h'
+landing_keeps P room s h k b o h' t placed torn was = by_case (settles_cases room s h k b o h' t)
+  where
+    by_fit : (fit : Bool) → verdict s h k b ≡ outcomes.Placed → Tells room h (placement s h k b) fit h' → P h'
+    by_fit true e t = subst P (sym t.1) (placed e)
+    by_fit false e t = subst P (sym t.1) torn
+
+    by_case : IsPut room s h k b o h' ⊎ IsLeft s h k b o h' → P h'
+    by_case (inl p) = by_fit p.fit p.placed p.tells
+    by_case (inr p) = subst P (sym p.history) was
+
+-- what was stamped in a slot landed
+pub record HasLanded (room : Room) (s : Settings) (h : History) (k : ℕ) (z : SlotState) (r : Landings) : Type 0 where
+  pub stamp : Stamp
+  pub landing : Landing
+  pub was : z ≡ Stamped stamp
+  pub lands : Lands room s h k stamp landing r.history
+  pub answers : r.answers ≡ landing ∷ []
+  pub slots : r.slots ≡ Done stamp landing.outcome landing.at landing.seen ∷ []
+
+-- or the slot stays as it is
+pub record HasStayed (h : History) (z : SlotState) (r : Landings) : Type 0 where
+  pub answers : r.answers ≡ []
+  pub history : r.history ≡ h
+  pub slots : r.slots ≡ z ∷ []
+
+pub if_cases : (room : Room) (s : Settings) (wanted : Bool) (k : ℕ) (z : SlotState) (h : History) (r : Landings) → LandsIf room s wanted k z h r → HasLanded room s h k z r ⊎ HasStayed h z r
+if_cases room s false k z h r t = inr (record { answers = ap (λ (q : Landings). q.answers) t; history = ap (λ (q : Landings). q.history) t; slots = ap (λ (q : Landings). q.slots) t })
+if_cases room s true k (Stamped b) h r t = inl (record { stamp = b; landing = t.2.0; was = refl; lands = t.2.1; answers = t.3 ∙ ap listed t.2.2; slots = t.4 ∙ ap (λ (y : SlotState). y ∷ []) t.2.3 })
+if_cases room s true k Idle h r t = inr (record { answers = t.3 ∙ ap listed t.2.0; history = t.2.2; slots = t.4 ∙ ap (λ (y : SlotState). y ∷ []) t.2.1 })
+if_cases room s true k (Done b p a n) h r t = inr (record { answers = t.3 ∙ ap listed t.2.0; history = t.2.2; slots = t.4 ∙ ap (λ (y : SlotState). y ∷ []) t.2.1 })
+
+-- what each landing keeps of a history, landings keep
+pub all_keep : (P : History → Type 0) (room : Room) (s : Settings) (mask k : ℕ) (zs : List SlotState) (h : History) (r : Landings)
+    → ((i c : ℕ) (b : Stamp) (o : Outcome) (g h' : History) → c ≡ k + i → slice_get zs i ≡ Some (Stamped b) → Settles room s g c b (verdict s g c b) o h' → P g → P h')
+    → LandsAll room s mask k zs h r → P h → P r.history
+all_keep P room s mask k [] h r step t p = subst (λ (q : Landings). P q.history) (sym t) p
+all_keep P room s mask k (z ∷ zs) h r step t p =
+    subst (λ (q : Landings). P q.history) (sym t.4)
+    (all_keep P room s mask (suc k) zs t.0.history t.1 (λ i c b o g h' is. step (suc i) c b o g h' (omega (arith, is))) t.3 (by_case t.0 (if_cases room s (has mask k) k z h t.0 t.2)))
+  where
+    by_case : (one : Landings) → HasLanded room s h k z one ⊎ HasStayed h z one → P one.history
+    by_case one (inl l) = step 0 k l.stamp l.landing.outcome h one.history (omega arith) (ap Some l.was) l.lands.settles p
+    by_case one (inr q) = subst P (sym q.history) p
 
 -- one condition of the ring in place of another
 abbrev pub Entails : Room → Room → Type 0

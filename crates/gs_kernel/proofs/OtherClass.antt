@@ -1,16 +1,13 @@
 -- What a kernel keeps when the other class takes a CPU or gives it back.
-use Rattle.std.proofs.Common.{◌≡◌, ◌≢◌, ℕ, ◌+◌, ◌<◌, ◌++◌, ◌∷◌, List, [], length, Bool, true, false, not, ◌==◌, nat_le, cond, Option, None, Some, IsSome, slice_get, slice_set, get_or, refl, ap, sym, subst, ◌∙◌, unwrap_or, arith}
-use Rattle.std.specs.Option.{option_map}
+use Rattle.std.proofs.Common.{◌≡◌, ℕ, ◌<◌, ◌++◌, ◌∷◌, List, [], length, Bool, true, false, nat_le, Option, None, Some, IsSome, slice_get, slice_set, get_or, refl, ap, sym, subst, ◌∙◌, arith}
 use Rattle.std.proofs.lemmas.Option.{slice_get-get_or}
 use Rattle.std.proofs.lemmas.Bool.Decides.{nat_tests}
 use Rattle.gs_layout.specs.declared.message.Change.TheVariants.{Preempted}
 use Rattle.gs_layout.specs.declared.refusal.Refusal.TheVariants as refusals
 use Rattle.gs_journal.specs.declared.entry.Entry.{Entry}
-use Rattle.gs_journal.specs.declared.entry.Entry.TheVariants.{Posted, Taken, Given}
-use Rattle.gs_journal.specs.Standing.{then_latest}
-use Rattle.gs_journal.specs.History.{History, on, at, seq, taken, last_taken, active, attaching, torn}
-use Rattle.gs_journal.specs.Holder.{is_agent_on}
-use Rattle.gs_journal.proofs.Laws.{last_taken-push, same_messages, taken_is}
+use Rattle.gs_journal.specs.declared.entry.Entry.TheVariants.{Posted}
+use Rattle.gs_journal.specs.History.{History, on, at, seq, taken, active, attaching, torn}
+use Rattle.gs_journal.proofs.Laws.{same_messages}
 use Rattle.gs_status.specs.Masks.{has}
 use Rattle.gs_threads.specs.declared.row.ThreadRow.{ThreadRow}
 use Rattle.gs_threads.specs.Mirrors.{is_quiet}
@@ -22,11 +19,10 @@ use Rattle.gs_layout.specs.Message.{is_about}
 use Rattle.std.specs.List.{filter}
 use Rattle.gs_threads.proofs.Mirrored.{mirrors_at}
 use Rattle.gs_kernel.specs.declared.settings.Settings.{Settings}
-use Rattle.gs_kernel.specs.Kernel.{take_refusal, give_refusal, is_spent_there, is_full, next_about, preemption}
+use Rattle.gs_kernel.specs.Kernel.{is_agent_on, take_refusal, give_refusal, is_spent_there, next_about}
 use Rattle.gs_kernel.specs.Inside.{IsKept}
 use Rattle.gs_kernel.specs.Threads.{may_be_on}
 use Rattle.gs_kernel.proofs.Abouts.{kept_about}
-use Rattle.gs_kernel.proofs.Entries.{beside_quiet}
 use Rattle.gs_kernel.proofs.Refusals.{first_passed}
 
 pub kept_held : (s : Settings) (h : History) (t : TableState) (running : List (Option ℕ)) (held held' : ℕ) (a : Option (ℕ × ℕ)) (down : Bool) (e : Entry) → is_quiet e ≡ true → active (h ++ e ∷ []) ≡ active h → attaching (h ++ e ∷ []) ≡ attaching h

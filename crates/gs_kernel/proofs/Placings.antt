@@ -1,5 +1,5 @@
 -- What holds where a landing is placed.
-use Rattle.std.proofs.Common.{◌≡◌, ℕ, zero, suc, ◌+◌, ◌<◌, ◌≤◌, ◌==◌, ◌++◌, ◌∷◌, [], ◌⊎◌, inl, inr, length, Bool, true, false, nat_le, cond, Option, None, Some, refl, ap, sym, subst, ◌∙◌, append_assoc, arith}
+use Rattle.std.proofs.Common.{◌≡◌, ℕ, zero, suc, ◌+◌, ◌<◌, ◌≤◌, ◌==◌, ◌++◌, ◌∷◌, [], length, Bool, true, false, nat_le, cond, Option, None, Some, refl, ap, sym, subst, ◌∙◌, arith}
 use Rattle.std.specs.Option.{is_some}
 use Rattle.std.proofs.lemmas.Bool.{false≢true}
 use Rattle.std.proofs.lemmas.Bool.Decides.{nat_tests}
@@ -9,39 +9,32 @@ use Rattle.gs_layout.specs.declared.message.Message.{Message}
 use Rattle.gs_layout.specs.declared.outcome.Outcome.{Outcome}
 use Rattle.gs_layout.specs.declared.outcome.Outcome.TheVariants as outcomes
 use Rattle.gs_layout.specs.Message.{is_about}
-use Rattle.gs_journal.specs.declared.entry.Entry.{Entry}
 use Rattle.gs_journal.specs.declared.entry.Entry.TheVariants.{Posted}
 use Rattle.gs_journal.specs.Standing.{then_stands}
 use Rattle.gs_journal.specs.History.{History, seq, record_in, on, at, at_below, is_thread, active, torn, ends_run}
 use Rattle.gs_journal.proofs.Laws.{at_is, on-push}
 use Rattle.gs_threads.proofs.Entries.{messages_other, on_off, record_by, seq_by}
 use Rattle.gs_kernel.specs.declared.settings.Settings.{Settings}
-use Rattle.gs_kernel.specs.Kernel.{after_preemption, is_spent_there, made_way, next_about}
-use Rattle.gs_kernel.specs.Landing.{verdict, after_verdict, cpu_verdict, is_generation, placing_entries, settled}
+use Rattle.gs_kernel.specs.Kernel.{is_spent_there, next_about}
+use Rattle.gs_kernel.specs.Landing.{verdict, cpu_verdict, is_generation, placing_entries}
 use Rattle.gs_kernel.specs.Lands.{is_to_place}
 use Rattle.gs_kernel.specs.Threads.{is_runnable, may_run_on}
 use Rattle.gs_kernel.proofs.Entries.{beside_posted}
 use Rattle.gs_kernel.proofs.Refusals.{not_not}
-
-is_placed : Outcome → Bool
-is_placed outcomes.Placed = true
-is_placed _ = false
 
 none_of : {A : Type 0} (o : Option A) → is_some o ≡ false → o ≡ None
 none_of None e = refl
 none_of (Some a) e = absurd cc
 
 -- a test that is passed over
-passed : (t : Bool) (o p : Outcome) → is_placed o ≡ false → cond t o p ≡ outcomes.Placed → (t ≡ false) × (p ≡ outcomes.Placed)
-unfolding is_placed
-passed true o p other e = absurd (false≢true (sym other ∙ ap is_placed e))
+passed : (t : Bool) (o p : Outcome) → is_to_place o ≡ false → cond t o p ≡ outcomes.Placed → (t ≡ false) × (p ≡ outcomes.Placed)
+passed true o p other e = absurd (false≢true (sym other ∙ ap is_to_place e))
 passed false o p other e = (refl, e)
 
 not_le : (m n : ℕ) → nat_le m n ≡ false → n < m
 not_le m n e = grind (arith, nat_tests)
 
 cpu_placed : (s : Settings) (h : History) (k : ℕ) (preempt : Bool) → cpu_verdict s h k preempt ≡ outcomes.Placed → (is_spent_there s h (on h k) ≡ false) × (length h + placing_entries (on h k) ≤ s.history)
-unfolding is_placed
 cpu_placed s h k preempt e =
     let p1 = passed _ outcomes.CpuIsAgent _ refl e in
     let p2 = passed _ outcomes.CpuTaken _ refl p1.1 in
@@ -63,7 +56,7 @@ pub record IsToPlace (s : Settings) (h : History) (k : ℕ) (b : Stamp) : Type 0
   pub fits : length h + placing_entries (on h k) ≤ s.history
 
 pub placing_when : (s : Settings) (h : History) (k : ℕ) (b : Stamp) → verdict s h k b ≡ outcomes.Placed → IsToPlace s h k b
-unfolding verdict is_placed
+unfolding verdict
 placing_when s h k b e =
     let p1 = passed _ outcomes.Gone _ refl e in
     let p2 = passed _ outcomes.Displaced _ refl p1.1 in
@@ -171,29 +164,19 @@ placing_then s h k u b lt there p =
     by_test t none false q = q
     by_test t none true q = let e : u ≡ t = grind (arith, nat_tests) in absurd (on_none s.cpus k h t none lt (there ∙ ap Some e))
 
-pub made_way-push : (h : History) (o : Option Message) (e : Entry) → made_way true h o e ≡ after_preemption true h o ++ e ∷ []
-made_way-push h None e = refl
-made_way-push h (Some m) e = sym (append_assoc h (Posted m ∷ []) (e ∷ []))
-
--- nothing comes of this verdict
-pub record IsIdle (o : Outcome) : Type 0 where
-  pub other : is_to_place o ≡ false
-  pub outcome : (fits : Bool) → settled fits o ≡ o
-  pub history : (fits : Bool) (s : Settings) (h : History) (k : ℕ) (b : Stamp) → after_verdict fits s h o k b ≡ h
-
--- a verdict is to place, or nothing comes of it
-pub placed_or_not : (o : Outcome) → (o ≡ outcomes.Placed) ⊎ IsIdle o
-placed_or_not outcomes.Placed = inl refl
-placed_or_not outcomes.Gone = inr (record { other = refl; outcome = λ fits. refl; history = λ fits s h k b. refl })
-placed_or_not outcomes.Displaced = inr (record { other = refl; outcome = λ fits. refl; history = λ fits s h k b. refl })
-placed_or_not outcomes.NoThread = inr (record { other = refl; outcome = λ fits. refl; history = λ fits s h k b. refl })
-placed_or_not outcomes.Stale = inr (record { other = refl; outcome = λ fits. refl; history = λ fits s h k b. refl })
-placed_or_not outcomes.NotRunnable = inr (record { other = refl; outcome = λ fits. refl; history = λ fits s h k b. refl })
-placed_or_not outcomes.AlreadyPlaced = inr (record { other = refl; outcome = λ fits. refl; history = λ fits s h k b. refl })
-placed_or_not outcomes.NotAllowed = inr (record { other = refl; outcome = λ fits. refl; history = λ fits s h k b. refl })
-placed_or_not outcomes.CpuIsAgent = inr (record { other = refl; outcome = λ fits. refl; history = λ fits s h k b. refl })
-placed_or_not outcomes.CpuTaken = inr (record { other = refl; outcome = λ fits. refl; history = λ fits s h k b. refl })
-placed_or_not outcomes.CpuBusy = inr (record { other = refl; outcome = λ fits. refl; history = λ fits s h k b. refl })
-placed_or_not outcomes.SeqSpent = inr (record { other = refl; outcome = λ fits. refl; history = λ fits s h k b. refl })
-placed_or_not outcomes.HistoryFull = inr (record { other = refl; outcome = λ fits. refl; history = λ fits s h k b. refl })
-placed_or_not outcomes.Malformed = inr (record { other = refl; outcome = λ fits. refl; history = λ fits s h k b. refl })
+-- a verdict that is to place is Placed
+pub to_place : (v : Outcome) → is_to_place v ≡ true → v ≡ outcomes.Placed
+to_place outcomes.Placed e = refl
+to_place outcomes.Gone e = absurd cc
+to_place outcomes.Displaced e = absurd cc
+to_place outcomes.NoThread e = absurd cc
+to_place outcomes.Stale e = absurd cc
+to_place outcomes.NotRunnable e = absurd cc
+to_place outcomes.AlreadyPlaced e = absurd cc
+to_place outcomes.NotAllowed e = absurd cc
+to_place outcomes.CpuIsAgent e = absurd cc
+to_place outcomes.CpuTaken e = absurd cc
+to_place outcomes.CpuBusy e = absurd cc
+to_place outcomes.SeqSpent e = absurd cc
+to_place outcomes.HistoryFull e = absurd cc
+to_place outcomes.Malformed e = absurd cc

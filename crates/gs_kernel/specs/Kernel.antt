@@ -1,5 +1,5 @@
 -- What the kernel answers, and what it leaves.
-use Rattle.std.specs.Prelude.{Bool, true, false, not, ◌||◌, ℕ, ◌+◌, ◌≡◌, nat_le, Option, None, Some, List, [], ◌∷◌, ◌++◌, length, if◌then◌else◌, is_some, unwrap_or}
+use Rattle.std.specs.Prelude.{Bool, false, not, ◌||◌, ℕ, ◌+◌, ◌≡◌, ◌==◌, nat_le, Option, None, Some, List, [], ◌∷◌, length, if◌then◌else◌, is_some, unwrap_or}
 use Rattle.std.specs.Option.{option_map}
 use Rattle.gs_layout.specs.declared.facts.Facts.{Facts}
 use Rattle.gs_layout.specs.declared.message.Change.{Change}
@@ -9,10 +9,8 @@ use Rattle.gs_layout.specs.declared.message.Message.TheVariants.{Thread}
 use Rattle.gs_layout.specs.declared.refusal.Refusal.{Refusal}
 use Rattle.gs_layout.specs.declared.refusal.Refusal.TheVariants as refusals
 use Rattle.gs_journal.specs.declared.entry.Entry.{Entry}
-use Rattle.gs_journal.specs.declared.entry.Entry.TheVariants.{Posted, Torn}
 use Rattle.gs_status.specs.Masks.{has, has_past, has_none}
 use Rattle.gs_journal.specs.History.{History, created, seq, record_in, on, at, active, attaching, taken, torn}
-use Rattle.gs_journal.specs.Holder.{is_agent_on}
 use Rattle.gs_kernel.specs.declared.settings.Settings.{Settings}
 use Rattle.gs_kernel.specs.declared.thread_event.ThreadEvent.{ThreadEvent}
 use Rattle.gs_kernel.specs.declared.thread_event.ThreadEvent.TheVariants as happens
@@ -68,6 +66,15 @@ event_refusal s h t happens.Wake = if is_runnable (record_in h t) then Some refu
 event_refusal s h t happens.Yield = if is_some (at s.cpus h t) then None else Some refusals.NotRunning
 event_refusal s h t happens.Die = None
 event_refusal s h t (happens.Affinity mask) = if is_bad_mask s mask then Some refusals.EmptyMask else None
+
+-- whether the active agent is on a CPU
+abbrev pub is_agent_on : ℕ → Option (ℕ × ℕ) → Bool
+is_agent_on c None = false
+is_agent_on c (Some a) = a.1 == c
+
+-- that the enclave was torn down, and else another refusal
+abbrev pub unless_torn : History → Option Refusal → Option Refusal
+unless_torn h other = first_that ((torn h, Some refusals.Gone) ∷ []) other
 
 -- the first of two refusals, if either applies
 abbrev pub or_else : Option Refusal → Option Refusal → Option Refusal
@@ -132,22 +139,6 @@ new_tid h = length (created h) + 1
 -- the first message about a new thread
 abbrev pub creation : ℕ → History → Facts → Message
 creation first h f = Thread (new_tid h) (first + 1) (Created f)
-
--- the history after a message that fits, or that does not fit and tears the enclave down
-abbrev pub after_post : Bool → History → Message → History
-after_post fits h m = h ++ (if fits then Posted m else Torn) ∷ []
-
--- the history after the thread on a CPU, if there is one, was told that it was taken off
-abbrev pub after_preemption : Bool → History → Option Message → History
-after_preemption fits h None = h
-after_preemption fits h (Some m) = after_post fits h m
-
--- the history after the thread on a CPU, if there is one, was told that it was taken off, and then this entry; where that message does not
--- fit, the enclave is torn down in its place, and nothing more happens
-abbrev pub made_way : Bool → History → Option Message → Entry → History
-made_way fits h None e = h ++ e ∷ []
-made_way true h (Some m) e = h ++ Posted m ∷ e ∷ []
-made_way false h (Some m) e = h ++ Torn ∷ []
 
 -- an agent is active, or one attaches
 abbrev pub has_agent : History → Bool

@@ -11,7 +11,6 @@ use Rattle.gs_kernel.specs.declared.settings.Settings.{Settings}
 use Rattle.gs_kernel.specs.declared.landing.Landing.{Landing}
 use Rattle.gs_kernel.specs.Kernel.{preemption}
 use Rattle.gs_kernel.specs.Landing.{verdict, placing}
-use Rattle.gs_kernel.specs.Commit.{Landings, listed, then_others}
 use Rattle.gs_kernel.specs.declared.command.Command.{Command}
 use Rattle.gs_kernel.specs.declared.effect.Effect.{Effect}
 use Rattle.gs_kernel.specs.declared.effect.Effect.TheVariants.{Append}
@@ -45,6 +44,21 @@ abbrev pub LandsIn : Room → Settings → History → ℕ → SlotState → Opt
 LandsIn room s h k (Stamped b) o z h' = (l : Landing) × Lands room s h k b l h' × (o ≡ Some l) × (z ≡ Done b l.outcome l.at l.seen)
 LandsIn room s h k Idle o z h' = (o ≡ None) × (z ≡ Idle) × (h' ≡ h)
 LandsIn room s h k (Done b p a n) o z h' = (o ≡ None) × (z ≡ Done b p a n) × (h' ≡ h)
+
+-- what landings answer, in order, and what they leave: the history, and their slots
+pub record Landings : Type 0 where
+  pub answers : List Landing
+  pub history : History
+  pub slots : List SlotState
+
+-- an answer, if there is one
+abbrev pub listed : Option Landing → List Landing
+listed None = []
+listed (Some l) = l ∷ []
+
+-- landings, and then others on the history that they left
+abbrev pub then_others : Landings → Landings → Landings
+then_others a b = record { answers = a.answers ++ b.answers; history = b.history; slots = a.slots ++ b.slots }
 
 -- or stays, where it is not wanted
 abbrev pub LandsIf : Room → Settings → Bool → ℕ → SlotState → History → Landings → Type 0

@@ -1,12 +1,12 @@
 -- A legal step of the kernel, over histories alone.
-use Rattle.std.specs.Prelude.{Bool, true, false, ℕ, ◌≡◌, ◌⊎◌, Option, None, Some, IfSome, List, [], ◌++◌, ◌∷◌}
+use Rattle.std.specs.Prelude.{Bool, true, false, ℕ, ◌≡◌, Option, None, Some, IfSome, List, [], ◌++◌, ◌∷◌}
 use Rattle.gs_layout.specs.declared.message.Message.{Message}
 use Rattle.gs_layout.specs.declared.message.Message.TheVariants.{TimerTick}
 use Rattle.gs_layout.specs.declared.refusal.Refusal.{Refusal}
 use Rattle.gs_layout.specs.declared.refusal.Refusal.TheVariants as refusals
 use Rattle.gs_journal.specs.declared.entry.Entry.{Entry}
 use Rattle.gs_journal.specs.declared.entry.Entry.TheVariants.{Posted, Taken, Given, Torn}
-use Rattle.gs_journal.specs.History.{History, posted, torn}
+use Rattle.gs_journal.specs.History.{History, posted}
 use Rattle.gs_kernel.specs.First.{first_that}
 use Rattle.gs_kernel.specs.declared.settings.Settings.{Settings}
 use Rattle.gs_kernel.specs.declared.command.Command.{Command}
@@ -15,7 +15,7 @@ use Rattle.gs_kernel.specs.declared.effect.Effect.{Effect}
 use Rattle.gs_kernel.specs.declared.effect.Effect.TheVariants.{Post, Append}
 use Rattle.gs_kernel.specs.declared.answer.Answer.{Answer}
 use Rattle.gs_kernel.specs.declared.answer.Answer.TheVariants as answers
-use Rattle.gs_kernel.specs.Kernel.{KernelOf, IsRefusal, or_else, is_full, create_refusal, thread_refusal, take_refusal, give_refusal, tick_refusal, creation, happening, preemption}
+use Rattle.gs_kernel.specs.Kernel.{KernelOf, IsRefusal, or_else, unless_torn, is_full, create_refusal, thread_refusal, take_refusal, give_refusal, tick_refusal, creation, happening, preemption}
 
 -- the first refusal that a command has of its own
 abbrev pub own_refusal : Settings → History → Command → Option Refusal
@@ -30,11 +30,13 @@ abbrev pub most_entries : Command → ℕ
 most_entries (commands.Take c) = 2
 most_entries _ = 1
 
--- the first refusal of a command that holds: before its own that the enclave was torn down, after them that the journal has no room
+-- the first refusal of a command that holds while the enclave stands: after its own that the journal has no room
+abbrev pub standing_refusal : Settings → History → Command → Option Refusal
+standing_refusal s h c = or_else (own_refusal s h c) (first_that ((is_full s h (most_entries c), Some refusals.HistoryFull) ∷ []) None)
+
+-- the first refusal of a command that holds
 abbrev pub refusal : Settings → History → Command → Option Refusal
-refusal s h c =
-    first_that ((torn h, Some refusals.Gone) ∷ [])
-    (or_else (own_refusal s h c) (first_that ((is_full s h (most_entries c), Some refusals.HistoryFull) ∷ []) None))
+refusal s h c = unless_torn h (standing_refusal s h c)
 
 -- what a command adds to the history
 abbrev pub effect : Settings → History → Command → Effect

@@ -6,9 +6,8 @@ ghost use Rattle.gs_layout.specs.Spelling.{IsCpuOrNone};
 ghost use Rattle.gs_slots.specs.State.{is_malformed};
 ghost use Rattle.gs_slots.specs.SlotMut.{cpu_of, left_in, state_of};
 ghost use Rattle.gs_journal.specs.History.{on, posted, torn};
-ghost use Rattle.gs_journal.specs.Holder.{is_agent_on};
-ghost use Rattle.gs_kernel.specs.Commit.{verdict_in};
-ghost use Rattle.gs_kernel.specs.Landing.{verdict, cpu_verdict, is_generation, placing_entries};
+ghost use Rattle.gs_kernel.specs.Kernel.{is_agent_on};
+ghost use Rattle.gs_kernel.specs.Landing.{verdict, verdict_in, cpu_verdict, is_generation, placing_entries};
 ghost use Rattle.gs_kernel.specs.Legal.{Frame, RoomOf, Tells};
 ghost use Rattle.gs_kernel.specs.Lands.{Lands, LandsIn, Settles, placement};
 

@@ -15,7 +15,7 @@ use Rattle.gs_layout.specs.declared.message.Change.TheVariants.{Created, Blocked
 use Rattle.gs_layout.specs.declared.message.Message.{Message}
 use Rattle.gs_layout.specs.declared.message.Message.TheVariants.{Thread, TimerTick}
 use Rattle.gs_layout.specs.Class.{class_number}
-use Rattle.gs_layout.specs.Kind.{number}
+use Rattle.gs_layout.specs.Kind.{kind_number}
 use Rattle.gs_layout.specs.Spelling.{AreNumbers, IsSpellable, IsSpellableChange, kind_of, padding, spelling}
 use Rattle.gs_layout.specs.Reading.{Begins, change_with, class_numbered, cpu_numbered, facts_in, kind_in, kind_numbered, message_in, message_with, number_at}
 
@@ -71,7 +71,7 @@ read_back (TimerTick c) rest fits = ap TimerTick (reads 2 c (omega arith))
 pub begun_is : (bytes : List ℕ) (m : Message) → Begins bytes m → message_in bytes ≡ m
 begun_is bytes m h = ap message_in h.whole ∙ read_back m h.rest h.spellable
 
-kind_back : (k : Kind) → kind_numbered (little_number 2 (little_bytes 2 (number k) ++ [])) ≡ Some k
+kind_back : (k : Kind) → kind_numbered (little_number 2 (little_bytes 2 (kind_number k) ++ [])) ≡ Some k
 kind_back kinds.Created = refl
 kind_back kinds.Blocked = refl
 kind_back kinds.Wakeup = refl

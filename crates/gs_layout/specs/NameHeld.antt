@@ -3,18 +3,19 @@ use Rattle.std.specs.Prelude.{◌≡◌, true, ℕ, ◌-◌, List, ◌++◌, len
 use Rattle.std.proofs.Common.{ap, ◌∙◌}
 use Rattle.gs_layout.specs.Name.{is_name}
 use Rattle.gs_layout.specs.declared.name.Name.TheInside.{Inside}
+use Rattle.gs_layout.specs.declared.name.TheConstants.{MOST_NAME_LEN}
 
 pub record IsHeld (n : Inside) : Type 0 where
   pub name : is_name (take n.len n.bytes) ≡ true
   pub size : length (take n.len n.bytes) ≡ n.len
-  pub zeros : take n.len n.bytes ++ replicate (16 - n.len) 0 ≡ n.bytes
+  pub zeros : take n.len n.bytes ++ replicate (MOST_NAME_LEN - n.len) 0 ≡ n.bytes
 
 -- the fields of a name of these bytes
 abbrev pub held_of : List ℕ → Inside
-held_of text = record { bytes = text ++ replicate (16 - length text) 0; len = length text }
+held_of text = record { bytes = text ++ replicate (MOST_NAME_LEN - length text) 0; len = length text }
 
 pub held_of-text : (n : Inside) → IsHeld n → held_of (take n.len n.bytes) ≡ n
 held_of-text n h = λ i. record { bytes = whole i; len = h.size i }
   where
-    whole : take n.len n.bytes ++ replicate (16 - length (take n.len n.bytes)) 0 ≡ n.bytes
-    whole = ap (λ k. take n.len n.bytes ++ replicate (16 - k) 0) h.size ∙ h.zeros
+    whole : take n.len n.bytes ++ replicate (MOST_NAME_LEN - length (take n.len n.bytes)) 0 ≡ n.bytes
+    whole = ap (λ k. take n.len n.bytes ++ replicate (MOST_NAME_LEN - k) 0) h.size ∙ h.zeros

@@ -4,21 +4,21 @@ use Rattle.gs_layout.specs.declared.outcome.Outcome.{Outcome}
 use Rattle.gs_layout.specs.declared.outcome.Outcome.TheVariants as outcomes
 
 -- the number that stands for an outcome
-abbrev pub number : Outcome → ℕ
-number outcomes.Placed = 0
-number outcomes.Gone = 1
-number outcomes.Displaced = 2
-number outcomes.NoThread = 3
-number outcomes.Stale = 4
-number outcomes.NotRunnable = 5
-number outcomes.AlreadyPlaced = 6
-number outcomes.NotAllowed = 7
-number outcomes.CpuIsAgent = 8
-number outcomes.CpuTaken = 9
-number outcomes.CpuBusy = 10
-number outcomes.SeqSpent = 11
-number outcomes.HistoryFull = 12
-number outcomes.Malformed = 13
+abbrev pub outcome_number : Outcome → ℕ
+outcome_number outcomes.Placed = 0
+outcome_number outcomes.Gone = 1
+outcome_number outcomes.Displaced = 2
+outcome_number outcomes.NoThread = 3
+outcome_number outcomes.Stale = 4
+outcome_number outcomes.NotRunnable = 5
+outcome_number outcomes.AlreadyPlaced = 6
+outcome_number outcomes.NotAllowed = 7
+outcome_number outcomes.CpuIsAgent = 8
+outcome_number outcomes.CpuTaken = 9
+outcome_number outcomes.CpuBusy = 10
+outcome_number outcomes.SeqSpent = 11
+outcome_number outcomes.HistoryFull = 12
+outcome_number outcomes.Malformed = 13
 
 -- the outcome that a number stands for
 abbrev pub outcome_numbered : ℕ → Option Outcome

@@ -1,6 +1,7 @@
 -- What stands in the bytes of a message.
 use Rattle.std.specs.Prelude.{◌≡◌, Bool, ◌==◌, ℕ, Option, None, Some, unwrap_or, List, ◌++◌, take, drop, slice_index, if◌then◌else◌}
 use Rattle.byteorder.specs.Endian.{little_number}
+use Rattle.gs_layout.specs.declared.cpu.TheConstants.{NO_CPU}
 use Rattle.gs_layout.specs.declared.facts.Class.{Class}
 use Rattle.gs_layout.specs.declared.facts.Class.TheVariants.{Zero, One}
 use Rattle.gs_layout.specs.declared.facts.Facts.{Facts}
@@ -32,7 +33,7 @@ kind_numbered n =
     if n == 1 then Some kinds.Created else if n == 2 then Some kinds.Blocked else if n == 3 then Some kinds.Wakeup else if n == 4 then Some kinds.Preempted else if n == 5 then Some kinds.Yield else if n == 6 then Some kinds.Dead else if n == 7 then Some kinds.Affinity else if n == 8 then Some kinds.TimerTick else None
 
 abbrev pub cpu_numbered : ℕ → Option ℕ
-cpu_numbered n = if n == 65535 then None else Some n
+cpu_numbered n = if n == NO_CPU then None else Some n
 
 abbrev pub class_numbered : ℕ → Class
 class_numbered n = if n == 0 then Zero else One

@@ -1,6 +1,8 @@
 -- The bytes of a message. All numbers are little-endian, and every byte that no field names is zero.
 use Rattle.std.specs.Prelude.{◌≡◌, true, false, ℕ, ◌+◌, ◌-◌, ◌*◌, ◌/◌, ◌^◌, ◌<◌, ◌≤◌, Option, None, Some, List, [], ◌∷◌, ◌++◌, length, replicate, if◌then◌else◌}
 use Rattle.byteorder.specs.Endian.{little_bytes}
+use Rattle.gs_status.specs.declared.mask.TheConstants.{MOST_CPUS}
+use Rattle.gs_layout.specs.declared.cpu.TheConstants.{NO_CPU}
 use Rattle.gs_layout.specs.declared.facts.Class.{Class}
 use Rattle.gs_layout.specs.declared.facts.Facts.{Facts}
 use Rattle.gs_layout.specs.declared.kind.Kind.{Kind}
@@ -8,9 +10,10 @@ use Rattle.gs_layout.specs.declared.kind.Kind.TheVariants as kinds
 use Rattle.gs_layout.specs.declared.message.Change.{Change}
 use Rattle.gs_layout.specs.declared.message.Change.TheVariants.{Created, Blocked, Wakeup, Preempted, Yield, Dead, Affinity}
 use Rattle.gs_layout.specs.declared.message.Message.{Message}
+use Rattle.gs_layout.specs.declared.message.TheConstants.{MOST_TIDS}
 use Rattle.gs_layout.specs.declared.message.Message.TheVariants.{Thread, TimerTick}
 use Rattle.gs_layout.specs.Class.{class_number}
-use Rattle.gs_layout.specs.Kind.{number}
+use Rattle.gs_layout.specs.Kind.{kind_number}
 use Rattle.gs_layout.specs.Message.{tseq_of}
 use Rattle.gs_layout.specs.Name.{is_name}
 
@@ -46,9 +49,9 @@ abbrev pub cpu_of : Message → Option ℕ
 cpu_of (Thread t s c) = cpu_of_change c
 cpu_of (TimerTick c) = Some c
 
--- 65,535 stands for no CPU
+-- the number of a CPU, or the one that stands for none
 abbrev pub cpu_number : Option ℕ → ℕ
-cpu_number None = 65535
+cpu_number None = NO_CPU
 cpu_number (Some c) = c
 
 abbrev pub flags_of_change : Change → ℕ
@@ -121,38 +124,38 @@ more_of (TimerTick c) = []
 
 -- the first 16 bytes of a message
 abbrev pub header_of : Message → List ℕ
-header_of m = header_bytes (size_of m) (number (kind_of m)) (tid_of m) (tseq_of m) (cpu_number (cpu_of m)) (flags_of m)
+header_of m = header_bytes (size_of m) (kind_number (kind_of m)) (tid_of m) (tseq_of m) (cpu_number (cpu_of m)) (flags_of m)
 
 -- the one list of bytes that the layout gives a message
 abbrev pub spelling : Message → List ℕ
 spelling m = header_of m ++ more_of m
 
 abbrev pub IsMask : ℕ → Type 0
-IsMask mask = (0 < mask) × (mask < 2 ^ 64)
+IsMask mask = (0 < mask) × (mask < 2 ^ MOST_CPUS)
 
 abbrev pub IsCpuOrNone : Option ℕ → Type 0
 IsCpuOrNone None = Unit {0}
-IsCpuOrNone (Some c) = c < 64
+IsCpuOrNone (Some c) = c < MOST_CPUS
 
 -- the ranges of what happened to a thread
 abbrev pub IsSpellableChange : Change → Type 0
 IsSpellableChange (Created f) = IsMask f.mask × (is_name f.name ≡ true)
-IsSpellableChange (Blocked c) = c < 64
+IsSpellableChange (Blocked c) = c < MOST_CPUS
 IsSpellableChange Wakeup = Unit {0}
-IsSpellableChange (Preempted c) = c < 64
-IsSpellableChange (Yield c) = c < 64
+IsSpellableChange (Preempted c) = c < MOST_CPUS
+IsSpellableChange (Yield c) = c < MOST_CPUS
 IsSpellableChange (Dead c) = IsCpuOrNone c
 IsSpellableChange (Affinity None off m) = IsMask m × (off ≡ false)
-IsSpellableChange (Affinity (Some c) off m) = IsMask m × (c < 64)
+IsSpellableChange (Affinity (Some c) off m) = IsMask m × (c < MOST_CPUS)
 
 -- a thread's number, and the number of a message about it
 pub record AreNumbers (tid tseq : ℕ) : Type 0 where
   pub tid_low : 1 ≤ tid
-  pub tid_high : tid ≤ 65536
+  pub tid_high : tid ≤ MOST_TIDS
   pub tseq_low : 1 ≤ tseq
   pub tseq_high : tseq < 2 ^ 32
 
 -- what has a spelling: the ranges of the layout
 abbrev pub IsSpellable : Message → Type 0
 IsSpellable (Thread t s c) = AreNumbers t s × IsSpellableChange c
-IsSpellable (TimerTick c) = c < 64
+IsSpellable (TimerTick c) = c < MOST_CPUS

@@ -7,6 +7,7 @@ ghost use Rattle.gs_layout.specs.Spelling.{facts_bytes, flags_of, header_of, mor
 use crate::cpu::cpu_number;
 use crate::facts::Facts;
 use crate::message::{Change, Message};
+use crate::name::MOST_NAME_LEN;
 use byteorder::{ByteOrder, LittleEndian};
 
 /// How many bytes the header has.
@@ -28,7 +29,7 @@ const FACTS: usize = 26;
 
 /// How many bytes a creation has whose name has this many: 32, 40 or 48.
 pub fn creation_len(name_len: usize) -> usize
-    requires { name_len ≤ 16 }
+    requires { name_len ≤ MOST_NAME_LEN }
     ensures { result ≡ round_up (26 + name_len) }
 {
     (FACTS + name_len + 7) / 8 * 8
@@ -102,7 +103,7 @@ fn write_header(header: &Header, out: &mut [u8])
 
 /// Writes a name and the zeros behind it.
 fn write_name(name: &[u8], out: &mut [u8])
-    requires short { length name.now ≤ 16 }
+    requires short { length name.now ≤ MOST_NAME_LEN }
     requires room { length (name_bytes name.now) ≤ length out.old }
     ensures { out.new ≡ name_bytes name.now ++ drop (length (name_bytes name.now)) out.old }
 {

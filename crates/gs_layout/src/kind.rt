@@ -14,12 +14,12 @@ pub enum Kind {
 }
 
 impl Kind {
-    ghost use Rattle.gs_layout.specs.Kind.{number};
+    ghost use Rattle.gs_layout.specs.Kind.{kind_number};
     ghost use Rattle.gs_layout.specs.Reading.{kind_numbered};
 
     /// The kind's number in the layout.
     pub fn number(self) -> u16
-        ensures { result ≡ number self }
+        ensures { result ≡ kind_number self }
     {
         self as u16 + 1
     }

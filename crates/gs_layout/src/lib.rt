@@ -26,8 +26,8 @@ pub use fields::{
 pub use kind::Kind;
 pub use known::{Known, Word};
 pub use law::one_spelling;
-pub use message::{Change, Message};
-pub use name::Name;
+pub use message::{Change, MOST_TIDS, Message};
+pub use name::{MOST_NAME_LEN, Name};
 pub use number::{u16_at, u32_at, u64_at};
 pub use outcome::Outcome;
 pub use parcel::Parcel;

@@ -5,6 +5,10 @@ ghost use Rattle.gs_layout.specs.Spelling.{cpu_of, kind_of, tid_of};
 use crate::facts::Facts;
 use crate::kind::Kind;
 
+/// How many tids there are, and so how many threads there may ever be: a thread's tid is from 1 to this.
+/// There are so few that a table with a place for each takes little memory.
+pub const MOST_TIDS: u32 = 65_536;
+
 /// What happened to a thread. `cpu` is the CPU that it was on just before.
 #[derive(Clone, Copy)]
 pub enum Change {

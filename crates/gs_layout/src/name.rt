@@ -4,13 +4,13 @@ ghost use Rattle.gs_layout.specs.Name.{is_name, is_name_byte};
 
 use std::marker::Model;
 
-/// The most bytes that a name has.
-const MOST: usize = 16;
+/// The most bytes that a name has, so that no message has more than 48.
+pub const MOST_NAME_LEN: usize = 16;
 
-/// A thread's name: 0 to 16 bytes, each from 33 to 126. Clauses see it as its bytes.
+/// A thread's name: at most [`MOST_NAME_LEN`] bytes, each from 33 to 126. Clauses see it as its bytes.
 #[derive(Clone, Copy)]
 pub struct Name {
-    bytes: [u8; 16],
+    bytes: [u8; MOST_NAME_LEN],
     len: u8,
 }
 
@@ -38,14 +38,15 @@ fn is_printed(text: &[u8]) -> bool
 }
 
 impl Name {
-    /// Whether these bytes are a name: at most 16, each from 33 to 126.
+    /// Whether these bytes are a name: at most [`MOST_NAME_LEN`], each from 33 to 126.
     pub fn is_name(text: &[u8]) -> bool
         ensures { result ≡ is_name text.now }
     {
-        text.len() <= MOST && is_printed(text)
+        text.len() <= MOST_NAME_LEN && is_printed(text)
     }
 
-    /// The name of these bytes, or `None` where they are over 16 or one of them is not from 33 to 126.
+    /// The name of these bytes, or `None` if they are over [`MOST_NAME_LEN`] or one of them is not from 33
+    /// to 126.
     pub fn new(text: &[u8]) -> Option<Name>
         ensures some { IsSome result ↔ (is_name text.now ≡ true) }
         ensures value { IfSome result (λ name. name ≡ text.now) }
@@ -53,7 +54,7 @@ impl Name {
         if !Name::is_name(text) {
             return None;
         }
-        let mut bytes = [0; MOST];
+        let mut bytes = [0; MOST_NAME_LEN];
         bytes[..text.len()].copy_from_slice(text);
         Some(Name {
             bytes,

@@ -36,11 +36,11 @@ pub enum Outcome {
 }
 
 impl Outcome {
-    ghost use Rattle.gs_layout.specs.Outcome.{number, outcome_numbered};
+    ghost use Rattle.gs_layout.specs.Outcome.{outcome_number, outcome_numbered};
 
     /// The outcome's number in the layout.
     pub fn number(self) -> u16
-        ensures { result ≡ number self }
+        ensures { result ≡ outcome_number self }
     {
         self as u16
     }

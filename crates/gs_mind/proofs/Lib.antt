@@ -2,4 +2,5 @@ pub mod Believing
 pub mod Followed
 pub mod Rooms
 pub mod Minds
+pub mod Views
 mod Rows

@@ -28,7 +28,7 @@ at t n ticks = Some (record { tid = t; tseq = n; ticks = ticks })
 
 -- these beliefs and stamps on CPUs 1 and 2
 abbrev cpus : Option Running → Option Running → Option ℕ → Option ℕ → Cpus
-cpus a b x y = record { believed = None ∷ a ∷ b ∷ []; stamped = None ∷ x ∷ y ∷ []; agent = Some 0; taken = 0 }
+cpus a b x y = record { believed = None ∷ a ∷ b ∷ []; stamped = None ∷ x ∷ y ∷ []; agent = Some 0 }
 
 abbrev queue : List ℕ → List ℕ → Queue
 queue zeros ones = record { zero_class = zeros; one_class = ones; room = 65536 }

@@ -1,9 +1,10 @@
 -- What an agent keeps in mind.
-use Rattle.std.specs.Prelude.{ℕ, Option, List, []}
+use Rattle.std.specs.Prelude.{Bool, ℕ, Option, List, []}
 use Rattle.gs_layout.specs.declared.known.Known.{Known}
 use Rattle.gs_layout.specs.View.{look_up}
 use Rattle.gs_beliefs.specs.Cpus.{Cpus, unknown}
-use Rattle.gs_runq.specs.Queue.{Queue}
+use Rattle.gs_runq.specs.Queue.{Queue, order}
+use Rattle.gs_policy.specs.Shown.{Shown}
 use Rattle.gs_mind.specs.Picture.{Picture}
 
 -- what is known of each thread, by rising tid, what is believed of each CPU, and the queue, its room aside
@@ -23,6 +24,10 @@ picture_of s = record { view = look_up s.records; cpus = s.cpus; queue = s.queue
 -- what is known of each thread as it is, with the beliefs and the queue of a picture
 abbrev pub thinks : MindState → Picture → MindState
 thinks s p = record { records = s.records; cpus = p.cpus; queue = p.queue }
+
+-- what a policy is shown of this, where the other class holds these CPUs
+abbrev pub shown_in : MindState → (ℕ → Bool) → Shown
+shown_in s taken = record { view = look_up s.records; cpus = s.cpus; taken = taken; queue = order s.queue }
 
 -- nothing is known, nobody is believed to run on so many CPUs, and nobody waits
 abbrev pub nothing : ℕ → Option ℕ → MindState

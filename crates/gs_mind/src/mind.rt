@@ -1,18 +1,19 @@
 ghost use Rattle.std.specs.Prelude.{◌≡◌, ◌↔◌, ◌≤◌, Err, IfOk, OnOk, OnErr, length, true};
-ghost use Rattle.std.specs.Fn.{FnOnceReturnsAt};
 ghost use Rattle.gs_beliefs.specs.Cpus.{believed_on};
 ghost use Rattle.gs_layout.specs.View.{is_gap, look_up, word};
 ghost use Rattle.gs_policy.specs.Safe.{IsSafePlan};
+ghost use Rattle.gs_policy.specs.Shown.{shows};
+ghost use Rattle.gs_status.specs.Masks.{has};
 ghost use Rattle.gs_view.specs.declared.fault.ApplyFault.{ApplyFault};
 ghost use Rattle.gs_view.specs.Begins.{begins};
 ghost use Rattle.gs_view.specs.Taken.{word_of};
-ghost use Rattle.gs_mind.specs.Mind.{nothing, picture_of, thinks};
+ghost use Rattle.gs_mind.specs.Mind.{nothing, picture_of, shown_in, thinks};
 ghost use Rattle.gs_runq.specs.Queue.{Apart, order};
 ghost use Rattle.gs_mind.specs.Picture.{HoldsWaiting, after_slot, after_stamp, displaced, takes_in};
 
 use crate::waiting::{make_room, other_than, requeue, settle, settle_if_any};
 use gs_beliefs::{CpuBeliefs, Running};
-use gs_policy::{Choice, Counted, Policy};
+use gs_policy::{Choice, Counted, Policy, Shown};
 use gs_reader::MessageRef;
 use gs_runq::{RunQueue, Walk};
 use gs_slots::SlotState;
@@ -165,38 +166,43 @@ impl Mind {
     }
 
     /// What a policy plans by all that the agent has in mind, where the other class holds the CPUs of
-    /// `taken` and no other. Whatever the policy, its plan is safe to stamp. Nothing is changed: the
-    /// beliefs then hold the mask of taken CPUs that they held before.
+    /// `taken` and no other. Whatever the policy, its plan is safe to stamp. Nothing is changed.
     ///
     /// # Errors
     ///
-    /// Where there is no memory for the choices. Nothing is changed then either.
+    /// Where there is no memory for the choices.
     pub fn plan<P: Policy>(
-        &mut self,
+        &self,
         alloc: Global,
         policy: &P,
         taken: Mask,
     ) -> Result<Vec<Choice>, AllocError>
-        ensures plan { IfOk result (λ r. r.items ≡ P.chosen policy.now (look_up self.old.records) (record self.old.cpus { taken = taken }) (order self.old.queue)) }
-        ensures safe { IfOk result (λ r. IsSafePlan (look_up self.old.records) (record self.old.cpus { taken = taken }) (order self.old.queue) r.items) }
-        ensures unchanged { self.new ≡ self.old }
+        ensures plan { IfOk result (λ r. r.items ≡ P.chosen policy.now (shown_in self.now (has taken))) }
+        ensures safe { IfOk result (λ r. IsSafePlan (shown_in self.now (has taken)) r.items) }
     {
         let _each_once = self.waiting();
-        while_taken(&mut self.cpus, taken, |cpus| {
-            policy.plan(alloc, &self.view, cpus, &self.queue)
-        })
+        policy.plan(alloc, &self.shown(taken))
     }
 
     /// How many choices a policy's plan has by all that the agent has in mind, where the other class
     /// holds the CPUs of `taken` and no other: as many as [`Mind::plan`] answers where there is memory.
     /// It takes none. Nothing is changed.
-    pub fn count<P: Counted>(&mut self, policy: &P, taken: Mask) -> usize
-        ensures count { result ≡ length (P.chosen policy.now (look_up self.old.records) (record self.old.cpus { taken = taken }) (order self.old.queue)) }
-        ensures unchanged { self.new ≡ self.old }
+    pub fn count<P: Counted>(&self, policy: &P, taken: Mask) -> usize
+        ensures { result ≡ length (P.chosen policy.now (shown_in self.now (has taken))) }
     {
-        while_taken(&mut self.cpus, taken, |cpus| {
-            policy.count(&self.view, cpus, &self.queue)
-        })
+        policy.count(&self.shown(taken))
+    }
+
+    /// What a policy is shown, where the other class holds the CPUs of `taken` and no other.
+    fn shown(&self, taken: Mask) -> Shown<'_>
+        ensures { shows result ≡ shown_in self.now (has taken) }
+    {
+        Shown {
+            view: &self.view,
+            cpus: &self.cpus,
+            taken,
+            queue: &self.queue,
+        }
     }
 
     /// The thread that is believed to run on a CPU, where there is one.
@@ -206,18 +212,4 @@ impl Mind {
         let running = self.cpus.believed(cpu?)?;
         Some(running.tid)
     }
-}
-
-/// What is answered by beliefs in which the other class holds the CPUs of `taken` and no other. They
-/// hold the mask of taken CPUs afterwards that they held before.
-fn while_taken<R, F: FnOnce(&CpuBeliefs) -> R>(cpus: &mut CpuBeliefs, taken: Mask, ask: F) -> R
-    requires { F.IsAlwaysCallable ask }
-    ensures asked { FnOnceReturnsAt F.FnOnce ask (record cpus.old { taken = taken }) result }
-    ensures unchanged { cpus.new ≡ cpus.old }
-{
-    let before = cpus.taken();
-    cpus.set_taken(taken);
-    let answer = ask(cpus);
-    cpus.set_taken(before);
-    answer
 }

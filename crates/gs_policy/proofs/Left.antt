@@ -1,25 +1,24 @@
 -- What the candidates that are left say of a plan.
 use Rattle.std.proofs.Common.{◌≡◌, refl, ap, sym, ◌∙◌, ℕ, ◌+◌, ◌-◌, ◌≤◌, Bool, true, false, ◌&&◌, ◌||◌, Option, None, Some, List, [], ◌∷◌, ◌++◌, arith, length, append-nil, append_assoc, length-append}
-use Rattle.std.specs.Prelude.{not, nat_lt}
+use Rattle.std.specs.Prelude.{not, nat_lt, is_none}
 use Rattle.std.proofs.Math.Bool.{and-true}
+use Rattle.std.proofs.lemmas.Bool.{and_parts, both_ways, eqb-true}
 use Rattle.std.proofs.lemmas.Bool.Decides.{nat_tests}
 use Rattle.std.proofs.lemmas.List.Folds.{list_any-append}
 use Rattle.gs_layout.specs.declared.facts.Class.{Class}
 use Rattle.gs_layout.specs.declared.facts.Class.TheVariants.{Zero, One}
 use Rattle.gs_layout.specs.declared.known.Known.{Known}
 use Rattle.gs_layout.specs.View.{Look}
-use Rattle.gs_status.specs.Masks.{has, least}
+use Rattle.gs_status.specs.Masks.{has, has_none, least}
 use Rattle.gs_status.proofs.Least.{least_none, least_same, least_beyond}
-use Rattle.gs_beliefs.specs.Cpus.{Cpus, is_free}
+use Rattle.gs_status.proofs.Masks.{nobody as nobody_in}
+use Rattle.gs_beliefs.specs.Cpus.{believed_on, is_free, is_usable}
 use Rattle.gs_policy.specs.declared.candidates.Candidates.{Candidates}
 use Rattle.gs_policy.specs.declared.choice.Choice.{Choice}
-use Rattle.gs_policy.specs.Candidates.{AreLeft, AreSpent, busy_for, picked, planned_of, takes_in}
-use Rattle.gs_policy.specs.Plan.{Taking, choice, is_on, is_open, nobody, class_one_after, placed, plan, planned, uses, runs_one}
-
--- these are the free CPUs, and those that a thread of each class may take from somebody
-pub record AreAll (takes : Taking) (v : Look) (s : Cpus) (l : Candidates) : Type 0 where
-  pub free : (c : ℕ) → has l.free c ≡ is_free s c
-  pub busy : (class : Class) (c : ℕ) → takes_in l class c ≡ takes v s class c
+use Rattle.gs_policy.specs.Candidates.{AreLeft, AreTakenBy, are_spent, busy_for, picked, plan_among, planned_of, takes_in}
+use Rattle.gs_policy.specs.Plan.{Taking, choice, is_on, is_open, placed, plan, planned, uses}
+use Rattle.gs_policy.specs.Safety.{IsTaking}
+use Rattle.gs_policy.specs.Shown.{Shown}
 
 pub uses_append : (xs ys : List Choice) (c : ℕ) → uses (xs ++ ys) c ≡ (uses xs c || uses ys c)
 uses_append xs ys c = list_any-append (is_on c) xs ys
@@ -75,19 +74,37 @@ pub planned_none : (l l' : Candidates) (v : Look) (t : ℕ) (ts later : List ℕ
 planned_none l l' v t ts later first chosen left =
     ap (λ (zs : List Choice). zs ++ planned_of l' v [] later) chosen ∙ sym (ap (planned_of l v []) first ∙ planned_next l l' v t later left)
 
+-- none can be chosen: no CPU is in any of the three masks
+record IsNone (l : Candidates) : Type 0 where
+  free : (c : ℕ) → has l.free c ≡ false
+  busy : (class : Class) (c : ℕ) → takes_in l class c ≡ false
+
+in_none : (m : ℕ) → has_none m ≡ true → (c : ℕ) → has m c ≡ false
+in_none m e c = ap (λ (n : ℕ). has n c) (eqb-true m 0 e) ∙ nobody_in c
+
+spent_none : (l : Candidates) → are_spent l ≡ true → IsNone l
+spent_none l e =
+    let first = and_parts (has_none l.free) (has_none l.zero_class && has_none l.one_class) e in
+    let busy = and_parts (has_none l.zero_class) (has_none l.one_class) first.1 in
+    record { free = in_none l.free first.0; busy = by_class busy.0 busy.1 }
+  where
+    by_class : has_none l.zero_class ≡ true → has_none l.one_class ≡ true → (class : Class) (c : ℕ) → takes_in l class c ≡ false
+    by_class zero one Zero c = in_none l.zero_class zero c
+    by_class zero one One c = in_none l.one_class one c
+
 least_spent : (f : ℕ → Bool) (k : Known) → ((c : ℕ) → f c ≡ false) → least (is_open f k []) 64 ≡ None
 least_spent f k spent = least_none (is_open f k []) 64 (λ c l. ap (λ (z : Bool). (z && has k.facts.mask c) && not false) (spent c))
 
-choice_spent : (l : Candidates) (t : ℕ) (o : Option Known) → AreSpent l → choice 64 (has l.free) (takes_in l) [] t o ≡ []
+choice_spent : (l : Candidates) (t : ℕ) (o : Option Known) → IsNone l → choice 64 (has l.free) (takes_in l) [] t o ≡ []
 choice_spent l t None s = refl
 choice_spent l t (Some k) s =
     ap (λ (z : Option ℕ). placed t z (least (is_open (takes_in l k.facts.class) k []) 64)) (least_spent (has l.free) k s.free)
     ∙ ap (λ (z : Option ℕ). placed t None z) (least_spent (takes_in l k.facts.class) k (s.busy k.facts.class))
 
 -- where none is left nothing is chosen
-pub planned_spent : (l : Candidates) (v : Look) (ts : List ℕ) → AreSpent l → planned_of l v [] ts ≡ []
-planned_spent l v [] s = refl
-planned_spent l v (t ∷ ts) s = ap (λ (ys : List Choice). planned_of l v ys ts) (choice_spent l t (v t) s) ∙ planned_spent l v ts s
+pub planned_spent : (l : Candidates) (v : Look) (ts : List ℕ) → are_spent l ≡ true → planned_of l v [] ts ≡ []
+planned_spent l v [] e = refl
+planned_spent l v (t ∷ ts) e = ap (λ (ys : List Choice). planned_of l v ys ts) (choice_spent l t (v t) (spent_none l e)) ∙ planned_spent l v ts e
 
 choice_one : (n : ℕ) (f : ℕ → Bool) (p : Class → ℕ → Bool) (xs : List Choice) (t : ℕ) (o : Option Known) → length (choice n f p xs t o) ≤ 1
 choice_one n f p xs t None = omega arith
@@ -161,58 +178,39 @@ planned_same n f g p q v xs [] s = refl
 planned_same n f g p q v xs (t ∷ ts) s =
     ap (λ (ys : List Choice). planned 64 f p v (xs ++ ys) ts) (choice_same n f g p q xs t (v t) s) ∙ planned_same n f g p q v (xs ++ choice n g q xs t (v t)) ts s
 
-past_last : (c n : ℕ) (a b : Bool) → n ≤ c → ((nat_lt c n && a) && b) ≡ false
-past_last c n a b past = let e : nat_lt c n ≡ false = grind (arith, nat_tests) in ap (λ (x : Bool). (x && a) && b) e
+past_last : (c n : ℕ) (a : Bool) → n ≤ c → (nat_lt c n && a) ≡ false
+past_last c n a past = let e : nat_lt c n ≡ false = grind (arith, nat_tests) in ap (λ (x : Bool). x && a) e
 
--- who may take nothing past the last CPU
-abbrev pub NonePast : Taking → Type 0
-NonePast takes = (v : Look) (s : Cpus) (class : Class) (c : ℕ) → length s.believed ≤ c → takes v s class c ≡ false
+-- none that may be taken is past the last
+none_past : (s : Shown) (p : Class → ℕ → Bool) (class : Class) (c : ℕ) → IsTaking s p → length s.cpus.believed ≤ c → p class c ≡ false
+none_past s p class c taking past = by_test (p class c) refl
+  where
+    taking' : IsTaking s p
+    taking' = taking
 
-pub nobody_past : NonePast nobody
-nobody_past v s class c past = refl
+    unusable : is_usable s.cpus s.taken c ≡ false
+    unusable = past_last c (length s.cpus.believed) _ past
 
-pub class_one_past : (slice : ℕ) → NonePast (class_one_after slice)
-class_one_past slice v s class c past = past_last c (length s.believed) _ _ past
+    by_test : (b : Bool) → p class c ≡ b → p class c ≡ false
+    by_test true e = absurd (both_ways (is_usable s.cpus s.taken c) unusable (taking'.usable class c e))
+    by_test false e = e
 
--- where all candidates are at hand, what is planned among them is the plan
-pub plan_all : (takes : Taking) (v : Look) (s : Cpus) (l : Candidates) (queue : List ℕ) (n : ℕ) → NonePast takes → n ≡ length s.believed → n ≤ 64 → AreAll takes v s l → planned_of l v [] queue ≡ plan takes v s queue
-plan_all takes v s l queue n none_past count most all =
-    planned_same (length s.believed) (has l.free) (is_free s) (takes_in l) (takes v s) v [] queue
+-- what is planned among the free CPUs and those that may be taken is the plan
+pub plan_all : (takes : Taking) (s : Shown) (l : Candidates) → length s.cpus.believed ≤ 64 → ((c : ℕ) → has l.free c ≡ is_free s.cpus s.taken c) → IsTaking s (takes s)
+    → AreTakenBy (takes s) l.zero_class l.one_class → plan_among l s ≡ plan takes s
+plan_all takes s l most free taking taken =
+    planned_same (length s.cpus.believed) (has l.free) (is_free s.cpus s.taken) (takes_in l) (takes s) s.view [] s.queue
     (record {
-      most = omega arith;
-      free = all.free;
-      free_past = λ c past. past_last c (length s.believed) _ _ past;
-      busy = all.busy;
-      busy_past = λ class c past. none_past v s class c past;
+      most = most;
+      free = free;
+      free_past = λ c past. ap (λ (x : Bool). x && is_none (believed_on s.cpus c)) (past_last c (length s.cpus.believed) _ past);
+      busy = by_class;
+      busy_past = λ class c past. none_past s (takes s) class c taking past;
     })
-
--- the free CPUs alone are all candidates where nobody is preempted
-pub nobody_all : (v : Look) (s : Cpus) (free zero_class one_class : ℕ) → ((c : ℕ) → has free c ≡ is_free s c) → ((c : ℕ) → has zero_class c ≡ false) → ((c : ℕ) → has one_class c ≡ false)
-    → AreAll nobody v s (record { free = free; zero_class = zero_class; one_class = one_class })
-nobody_all v s free zero_class one_class are_free no_zero no_one = record { free = are_free; busy = by_class }
   where
-    zero' : (c : ℕ) → has zero_class c ≡ false
-    zero' = no_zero
+    taken' : AreTakenBy (takes s) l.zero_class l.one_class
+    taken' = taken
 
-    one' : (c : ℕ) → has one_class c ≡ false
-    one' = no_one
-
-    by_class : (class : Class) (c : ℕ) → takes_in (record { free = free; zero_class = zero_class; one_class = one_class }) class c ≡ nobody v s class c
-    by_class Zero c = zero' c
-    by_class One c = one' c
-
--- and with those on which a thread of class 1 runs, at all and for a slice, where these are preempted
-pub class_one_all : (slice : ℕ) (v : Look) (s : Cpus) (free zero_class one_class : ℕ) → ((c : ℕ) → has free c ≡ is_free s c)
-    → ((c : ℕ) → has zero_class c ≡ runs_one 0 v s c) → ((c : ℕ) → has one_class c ≡ runs_one slice v s c)
-    → AreAll (class_one_after slice) v s (record { free = free; zero_class = zero_class; one_class = one_class })
-class_one_all slice v s free zero_class one_class are_free zero_one one_one = record { free = are_free; busy = by_class }
-  where
-    zero' : (c : ℕ) → has zero_class c ≡ runs_one 0 v s c
-    zero' = zero_one
-
-    one' : (c : ℕ) → has one_class c ≡ runs_one slice v s c
-    one' = one_one
-
-    by_class : (class : Class) (c : ℕ) → takes_in (record { free = free; zero_class = zero_class; one_class = one_class }) class c ≡ class_one_after slice v s class c
-    by_class Zero c = zero' c
-    by_class One c = one' c
+    by_class : (class : Class) (c : ℕ) → takes_in l class c ≡ takes s class c
+    by_class Zero c = taken'.by_zero c
+    by_class One c = taken'.by_one c

@@ -3,4 +3,5 @@ pub mod Candidates
 pub mod Plan
 pub mod Safe
 pub mod Safety
+pub mod Shown
 pub mod Walks

@@ -8,8 +8,9 @@ use Rattle.gs_layout.specs.View.{Look}
 use Rattle.gs_status.specs.Masks.{has, least}
 use Rattle.gs_runq.specs.Queue.{is_in}
 use Rattle.gs_beliefs.specs.declared.running.Running.{Running}
-use Rattle.gs_beliefs.specs.Cpus.{Cpus, believed_on, is_free, is_usable}
+use Rattle.gs_beliefs.specs.Cpus.{believed_on, is_free, is_usable}
 use Rattle.gs_policy.specs.declared.choice.Choice.{Choice}
+use Rattle.gs_policy.specs.Shown.{Shown}
 
 -- whether a choice is for a CPU
 abbrev pub is_on : ℕ → Choice → Bool
@@ -48,17 +49,21 @@ abbrev pub planned : ℕ → (ℕ → Bool) → (Class → ℕ → Bool) → Loo
 planned count free takes v xs [] = xs
 planned count free takes v xs (t ∷ ts) = planned count free takes v (xs ++ choice count free takes xs t (v t)) ts
 
--- from whom a thread may take a CPU: by what is known and believed, its class, and the CPU
+-- from whom a thread may take a CPU: by what is shown, its class, and the CPU
 abbrev pub Taking : Type 0
-Taking = Look → Cpus → Class → ℕ → Bool
+Taking = Shown → Class → ℕ → Bool
 
--- the plan for the waiting threads, in order
-abbrev pub plan : Taking → Look → Cpus → List ℕ → List Choice
-plan takes v s queue = planned (length s.believed) (is_free s) (takes v s) v [] queue
+-- the plan for threads, in order, by what is shown
+abbrev pub plan_for : Taking → Shown → List ℕ → List Choice
+plan_for takes s ts = planned (length s.cpus.believed) (is_free s.cpus s.taken) (takes s) s.view [] ts
+
+-- the plan for those that wait
+abbrev pub plan : Taking → Shown → List Choice
+plan takes s = plan_for takes s s.queue
 
 -- from nobody
 abbrev pub nobody : Taking
-nobody v s class c = false
+nobody s class c = false
 
 -- whether a class is class 1
 abbrev pub is_one : Class → Bool
@@ -76,8 +81,8 @@ has_had ticks v None = false
 has_had ticks v (Some r) = is_known_one (v r.tid) && nat_le ticks r.ticks
 
 -- whether a CPU is usable and believed to run a thread of class 1 that has had at least so many ticks
-abbrev pub runs_one : ℕ → Look → Cpus → ℕ → Bool
-runs_one ticks v s c = is_usable s c && has_had ticks v (believed_on s c)
+abbrev pub runs_one : ℕ → Shown → ℕ → Bool
+runs_one ticks s c = is_usable s.cpus s.taken c && has_had ticks s.view (believed_on s.cpus c)
 
 -- how many ticks a thread of class 1 has before a thread of a class takes its CPU: class 0 does not wait
 abbrev pub slice_for : ℕ → Class → ℕ
@@ -86,20 +91,20 @@ slice_for slice One = slice
 
 -- from threads of class 1: class 0 at once, class 1 after their slice
 abbrev pub class_one_after : ℕ → Taking
-class_one_after slice v s class c = runs_one (slice_for slice class) v s c
+class_one_after slice s class c = runs_one (slice_for slice class) s c
 
 -- no waiting thread is left beside a free CPU of its mask that the plan does not use
-abbrev pub LeavesNone : Look → Cpus → List ℕ → List Choice → Type 0
-LeavesNone v s queue xs =
-    (t c : ℕ) (k : Known) → is_in t queue ≡ true → v t ≡ Some k → chooses xs t ≡ false → is_free s c ≡ true → has k.facts.mask c ≡ true
-    → uses xs c ≡ true
+abbrev pub LeavesNone : Shown → List Choice → Type 0
+LeavesNone s xs =
+    (t c : ℕ) (k : Known) → is_in t s.queue ≡ true → s.view t ≡ Some k → chooses xs t ≡ false → is_free s.cpus s.taken c ≡ true
+    → has k.facts.mask c ≡ true → uses xs c ≡ true
 
 -- so it is of each plan that goes through the waiting threads in order
 abbrev pub PlansLeaveNone : Type 0
-PlansLeaveNone = (takes : Taking) (v : Look) (s : Cpus) (queue : List ℕ) → LeavesNone v s queue (plan takes v s queue)
+PlansLeaveNone = (takes : Taking) (s : Shown) → LeavesNone s (plan takes s)
 
--- over waiting threads that end in one, a plan is that of the others, followed by this one's choice
+-- for threads that end in one, a plan is that for the others, followed by this one's choice
 abbrev pub PlansInOrder : Type 0
 PlansInOrder =
-    (takes : Taking) (v : Look) (s : Cpus) (queue : List ℕ) (t : ℕ)
-    → plan takes v s (queue ++ t ∷ []) ≡ plan takes v s queue ++ choice (length s.believed) (is_free s) (takes v s) (plan takes v s queue) t (v t)
+    (takes : Taking) (s : Shown) (ts : List ℕ) (t : ℕ)
+    → plan_for takes s (ts ++ t ∷ []) ≡ plan_for takes s ts ++ choice (length s.cpus.believed) (is_free s.cpus s.taken) (takes s) (plan_for takes s ts) t (s.view t)

@@ -11,21 +11,22 @@ use Rattle.gs_status.specs.Masks.{has, least}
 use Rattle.gs_status.proofs.Least.{least_passes}
 use Rattle.gs_runq.specs.Queue.{is_in, Apart, IsOut}
 use Rattle.gs_beliefs.specs.declared.running.Running.{Running}
-use Rattle.gs_beliefs.specs.Cpus.{Cpus, believed_on, is_free, is_usable}
+use Rattle.gs_beliefs.specs.Cpus.{believed_on, is_free, is_usable}
 use Rattle.gs_policy.specs.declared.any.AnyPolicy.{AnyPolicy}
 use Rattle.gs_policy.specs.declared.any.AnyPolicy.TheVariants.{FirstCome, TwoClass}
 use Rattle.gs_policy.specs.declared.choice.Choice.{Choice}
 use Rattle.gs_policy.specs.Any.{any_takes}
 use Rattle.gs_policy.specs.Plan.{Taking, choice, chooses, class_one_after, has_had, is_of, is_open, nobody, placed, plan, planned, slice_for, uses}
 use Rattle.gs_policy.specs.Safe.{AreSafe, IsSafeChoice, IsSafePlan, allows}
+use Rattle.gs_policy.specs.Shown.{Shown}
 
 -- a plan without a choice is safe
-pub safe_none : (v : Look) (s : Cpus) (queue : List ℕ) → IsSafePlan v s queue []
-safe_none v s queue = record { choices = tt; threads_apart = tt; cpus_apart = tt }
+pub safe_none : (s : Shown) → IsSafePlan s []
+safe_none s = record { choices = tt; threads_apart = tt; cpus_apart = tt }
 
-choices_more : (v : Look) (s : Cpus) (queue : List ℕ) (xs : List Choice) (x : Choice) → AreSafe v s queue xs → IsSafeChoice v s queue x → AreSafe v s queue (xs ++ x ∷ [])
-choices_more v s queue [] x safe more = (more, tt)
-choices_more v s queue (y ∷ ys) x safe more = (safe.0, choices_more v s queue ys x safe.1 more)
+choices_more : (s : Shown) (xs : List Choice) (x : Choice) → AreSafe s xs → IsSafeChoice s x → AreSafe s (xs ++ x ∷ [])
+choices_more s [] x safe more = (more, tt)
+choices_more s (y ∷ ys) x safe more = (safe.0, choices_more s ys x safe.1 more)
 
 out_more : (f : Choice → ℕ) (k : ℕ) (xs : List Choice) (x : Choice) → IsOut k (map f xs) → k ≢ f x → IsOut k (map f (xs ++ x ∷ []))
 out_more f k [] x out differs = (differs, tt)
@@ -38,11 +39,11 @@ apart_more f (y ∷ ys) x apart none =
     (out_more f (f y) ys x apart.0 (eqb-false (f y) (f x) parts.0), apart_more f ys x apart.1 parts.1)
 
 -- a safe choice more, of a thread that is not chosen yet and on a CPU that is not used yet
-pub safe_more : (v : Look) (s : Cpus) (queue : List ℕ) (xs : List Choice) (x : Choice) → IsSafePlan v s queue xs → IsSafeChoice v s queue x
-    → chooses xs x.tid ≡ false → uses xs x.cpu ≡ false → IsSafePlan v s queue (xs ++ x ∷ [])
-safe_more v s queue xs x safe more unchosen unused =
+pub safe_more : (s : Shown) (xs : List Choice) (x : Choice) → IsSafePlan s xs → IsSafeChoice s x
+    → chooses xs x.tid ≡ false → uses xs x.cpu ≡ false → IsSafePlan s (xs ++ x ∷ [])
+safe_more s xs x safe more unchosen unused =
     record {
-      choices = choices_more v s queue xs x safe.choices more;
+      choices = choices_more s xs x safe.choices more;
       threads_apart = apart_more (λ y. y.tid) xs x safe.threads_apart unchosen;
       cpus_apart = apart_more (λ y. y.cpu) xs x safe.cpus_apart unused;
     }
@@ -52,28 +53,29 @@ nobody_there None e = refl
 nobody_there (Some r) e = absurd cc
 
 -- a waiting thread on a free CPU of its mask is a safe choice
-pub free_safe : (v : Look) (s : Cpus) (queue : List ℕ) (t c : ℕ) (k : Known) → is_in t queue ≡ true → v t ≡ Some k → has k.facts.mask c ≡ true → is_free s c ≡ true
-    → IsSafeChoice v s queue (record { cpu = c; tid = t; preempt = false })
-free_safe v s queue t c k waits known mask free =
-    let parts = and_parts (is_usable s c) (is_none (believed_on s c)) free in
+pub free_safe : (s : Shown) (t c : ℕ) (k : Known) → is_in t s.queue ≡ true → s.view t ≡ Some k → has k.facts.mask c ≡ true → is_free s.cpus s.taken c ≡ true
+    → IsSafeChoice s (record { cpu = c; tid = t; preempt = false })
+free_safe s t c k waits known mask free =
+    let parts = and_parts (is_usable s.cpus s.taken c) (is_none (believed_on s.cpus c)) free in
     record {
       waits = waits;
       usable = parts.0;
       allowed = ap (λ (o : Option Known). allows o c) known ∙ mask;
-      preempts = nobody_there (believed_on s c) parts.1;
+      preempts = nobody_there (believed_on s.cpus c) parts.1;
     }
 
 -- and so it is on a usable CPU of its mask on which somebody is believed to run, with leave to preempt
-pub busy_safe : (v : Look) (s : Cpus) (queue : List ℕ) (t c : ℕ) (k : Known) → is_in t queue ≡ true → v t ≡ Some k → has k.facts.mask c ≡ true → is_usable s c ≡ true
-    → is_some (believed_on s c) ≡ true → IsSafeChoice v s queue (record { cpu = c; tid = t; preempt = true })
-busy_safe v s queue t c k waits known mask usable busy =
+pub busy_safe : (s : Shown) (t c : ℕ) (k : Known) → is_in t s.queue ≡ true → s.view t ≡ Some k → has k.facts.mask c ≡ true → is_usable s.cpus s.taken c ≡ true
+    → is_some (believed_on s.cpus c) ≡ true → IsSafeChoice s (record { cpu = c; tid = t; preempt = true })
+busy_safe s t c k waits known mask usable busy =
     record { waits = waits; usable = usable; allowed = ap (λ (o : Option Known). allows o c) known ∙ mask; preempts = sym busy }
 
--- what is free or may be taken is usable, and somebody is believed to run just where it may be taken
-pub record IsTaking (s : Cpus) (p : Class → ℕ → Bool) : Type 0 where
-  pub usable : (class : Class) (c : ℕ) → p class c ≡ true → is_usable s c ≡ true
-  pub busy : (class : Class) (c : ℕ) → p class c ≡ true → is_some (believed_on s c) ≡ true
+-- what may be taken is usable, and somebody is believed to run there
+pub record IsTaking (s : Shown) (p : Class → ℕ → Bool) : Type 0 where
+  pub usable : (class : Class) (c : ℕ) → p class c ≡ true → is_usable s.cpus s.taken c ≡ true
+  pub busy : (class : Class) (c : ℕ) → p class c ≡ true → is_some (believed_on s.cpus c) ≡ true
 
+-- what is open passes the test, is in the mask, and is not used
 pub is_open_parts : (f : ℕ → Bool) (k : Known) (xs : List Choice) (c : ℕ) → is_open f k xs c ≡ true → (f c ≡ true) × (has k.facts.mask c ≡ true) × (uses xs c ≡ false)
 is_open_parts f k xs c open' =
     let outer = and_parts (f c && has k.facts.mask c) (not (uses xs c)) open' in
@@ -81,36 +83,36 @@ is_open_parts f k xs c open' =
     (inner.0, inner.1, not-true (uses xs c) outer.1)
 
 -- the choice of a waiting thread is safe behind a plan that does not choose it yet
-choice_safe : (v : Look) (s : Cpus) (queue : List ℕ) (n : ℕ) (p : Class → ℕ → Bool) (xs : List Choice) (t : ℕ) (o : Option Known)
-    → IsTaking s p → IsSafePlan v s queue xs → is_in t queue ≡ true → chooses xs t ≡ false → v t ≡ o → IsSafePlan v s queue (xs ++ choice n (is_free s) p xs t o)
-choice_safe v s queue n p xs t None taking safe waits unchosen known = subst (IsSafePlan v s queue) (sym (append-nil xs)) safe
-choice_safe v s queue n p xs t (Some k) taking safe waits unchosen known =
-    by_least (least (is_open (is_free s) k xs) n) refl (least (is_open (p k.facts.class) k xs) n) refl
+choice_safe : (s : Shown) (n : ℕ) (p : Class → ℕ → Bool) (xs : List Choice) (t : ℕ) (o : Option Known)
+    → IsTaking s p → IsSafePlan s xs → is_in t s.queue ≡ true → chooses xs t ≡ false → s.view t ≡ o → IsSafePlan s (xs ++ choice n (is_free s.cpus s.taken) p xs t o)
+choice_safe s n p xs t None taking safe waits unchosen known = subst (IsSafePlan s) (sym (append-nil xs)) safe
+choice_safe s n p xs t (Some k) taking safe waits unchosen known =
+    by_least (least (is_open (is_free s.cpus s.taken) k xs) n) refl (least (is_open (p k.facts.class) k xs) n) refl
   where
     taking' : IsTaking s p
     taking' = taking
 
-    safe' : IsSafePlan v s queue xs
+    safe' : IsSafePlan s xs
     safe' = safe
 
-    waits' : is_in t queue ≡ true
+    waits' : is_in t s.queue ≡ true
     waits' = waits
 
     unchosen' : chooses xs t ≡ false
     unchosen' = unchosen
 
-    known' : v t ≡ Some k
+    known' : s.view t ≡ Some k
     known' = known
 
-    by_least : (free : Option ℕ) → least (is_open (is_free s) k xs) n ≡ free → (busy : Option ℕ) → least (is_open (p k.facts.class) k xs) n ≡ busy → IsSafePlan v s queue (xs ++ placed t free busy)
+    by_least : (free : Option ℕ) → least (is_open (is_free s.cpus s.taken) k xs) n ≡ free → (busy : Option ℕ) → least (is_open (p k.facts.class) k xs) n ≡ busy → IsSafePlan s (xs ++ placed t free busy)
     by_least (Some c) e busy e' =
-        let parts = is_open_parts (is_free s) k xs c (least_passes (is_open (is_free s) k xs) n c e) in
-        safe_more v s queue xs (record { cpu = c; tid = t; preempt = false }) safe' (free_safe v s queue t c k waits' known' parts.1 parts.0) unchosen' parts.2
+        let parts = is_open_parts (is_free s.cpus s.taken) k xs c (least_passes (is_open (is_free s.cpus s.taken) k xs) n c e) in
+        safe_more s xs (record { cpu = c; tid = t; preempt = false }) safe' (free_safe s t c k waits' known' parts.1 parts.0) unchosen' parts.2
     by_least None e (Some c) e' =
         let parts = is_open_parts (p k.facts.class) k xs c (least_passes (is_open (p k.facts.class) k xs) n c e') in
         let usable = taking'.usable k.facts.class c parts.0 in
-        safe_more v s queue xs (record { cpu = c; tid = t; preempt = true }) safe' (busy_safe v s queue t c k waits' known' parts.1 usable (taking'.busy k.facts.class c parts.0)) unchosen' parts.2
-    by_least None e None e' = subst (IsSafePlan v s queue) (sym (append-nil xs)) safe'
+        safe_more s xs (record { cpu = c; tid = t; preempt = true }) safe' (busy_safe s t c k waits' known' parts.1 usable (taking'.busy k.facts.class c parts.0)) unchosen' parts.2
+    by_least None e None e' = subst (IsSafePlan s) (sym (append-nil xs)) safe'
 
 -- a thread that is out of these is none of them
 pub out_in : (t u : ℕ) (ts : List ℕ) → IsOut t ts → is_in u ts ≡ true → t ≢ u
@@ -137,46 +139,49 @@ chooses_next : (n : ℕ) (f : ℕ → Bool) (p : Class → ℕ → Bool) (xs : L
 chooses_next n f p xs t u o differs unchosen =
     list_any-append (is_of u) xs (choice n f p xs t o) ∙ or_from (chooses xs u) (chooses (choice n f p xs t o) u) unchosen (choice_chooses n f p xs t u o differs)
 
-planned_safe : (v : Look) (s : Cpus) (queue : List ℕ) (n : ℕ) (p : Class → ℕ → Bool) (xs : List Choice) (ts : List ℕ) → IsTaking s p → IsSafePlan v s queue xs → Apart ts
-    → ((t : ℕ) → is_in t ts ≡ true → is_in t queue ≡ true) → ((t : ℕ) → is_in t ts ≡ true → chooses xs t ≡ false) → IsSafePlan v s queue (planned n (is_free s) p v xs ts)
-planned_safe v s queue n p xs [] taking safe apart waits unchosen = safe
-planned_safe v s queue n p xs (t ∷ ts) taking safe apart waits unchosen =
+planned_safe : (s : Shown) (n : ℕ) (p : Class → ℕ → Bool) (xs : List Choice) (ts : List ℕ) → IsTaking s p → IsSafePlan s xs → Apart ts
+    → ((t : ℕ) → is_in t ts ≡ true → is_in t s.queue ≡ true) → ((t : ℕ) → is_in t ts ≡ true → chooses xs t ≡ false) → IsSafePlan s (planned n (is_free s.cpus s.taken) p s.view xs ts)
+planned_safe s n p xs [] taking safe apart waits unchosen = safe
+planned_safe s n p xs (t ∷ ts) taking safe apart waits unchosen =
     let first : is_in t (t ∷ ts) ≡ true = or_left (t == t) (is_in t ts) (eq-eqb t t refl) in
-    planned_safe v s queue n p (xs ++ choice n (is_free s) p xs t (v t)) ts taking
-    (choice_safe v s queue n p xs t (v t) taking safe (waits t first) (unchosen t first) refl)
+    planned_safe s n p (xs ++ choice n (is_free s.cpus s.taken) p xs t (s.view t)) ts taking
+    (choice_safe s n p xs t (s.view t) taking safe (waits t first) (unchosen t first) refl)
     apart.1
     (λ u later. waits u (or_right (t == u) (is_in u ts) later))
-    (λ u later. chooses_next n (is_free s) p xs t u (v t) (out_in t u ts apart.0 later) (unchosen u (or_right (t == u) (is_in u ts) later)))
+    (λ u later. chooses_next n (is_free s.cpus s.taken) p xs t u (s.view t) (out_in t u ts apart.0 later) (unchosen u (or_right (t == u) (is_in u ts) later)))
 
 -- whoever may take only usable CPUs on which somebody is believed to run plans safely
-pub plan_safe : (takes : Taking) (v : Look) (s : Cpus) (queue : List ℕ) → IsTaking s (takes v s) → Apart queue → IsSafePlan v s queue (plan takes v s queue)
-plan_safe takes v s queue taking apart =
-    planned_safe v s queue (length s.believed) (takes v s) [] queue taking (safe_none v s queue) apart (λ t waits. waits) (λ t waits. refl)
+pub plan_safe : (takes : Taking) (s : Shown) → IsTaking s (takes s) → Apart s.queue → IsSafePlan s (plan takes s)
+plan_safe takes s taking apart =
+    planned_safe s (length s.cpus.believed) (takes s) [] s.queue taking (safe_none s) apart (λ t waits. waits) (λ t waits. refl)
 
-pub nobody_taking : (v : Look) (s : Cpus) → IsTaking s (nobody v s)
-nobody_taking v s = record { usable = λ class c e. absurd cc; busy = λ class c e. absurd cc }
+-- nobody takes a CPU from anybody
+pub nobody_taking : (s : Shown) → IsTaking s (nobody s)
+nobody_taking s = record { usable = λ class c e. absurd cc; busy = λ class c e. absurd cc }
 
 somebody : (ticks : ℕ) (v : Look) (o : Option Running) → has_had ticks v o ≡ true → is_some o ≡ true
 somebody ticks v None e = absurd cc
 somebody ticks v (Some r) e = refl
 
-pub class_one_taking : (slice : ℕ) (v : Look) (s : Cpus) → IsTaking s (class_one_after slice v s)
-class_one_taking slice v s =
+-- from threads of class 1
+pub class_one_taking : (slice : ℕ) (s : Shown) → IsTaking s (class_one_after slice s)
+class_one_taking slice s =
     record {
-      usable = λ class c e. (and_parts (is_usable s c) (has_had (slice_for slice class) v (believed_on s c)) e).0;
-      busy = λ class c e. somebody (slice_for slice class) v (believed_on s c) (and_parts (is_usable s c) (has_had (slice_for slice class) v (believed_on s c)) e).1;
+      usable = λ class c e. (and_parts (is_usable s.cpus s.taken c) (has_had (slice_for slice class) s.view (believed_on s.cpus c)) e).0;
+      busy = λ class c e. somebody (slice_for slice class) s.view (believed_on s.cpus c) (and_parts (is_usable s.cpus s.taken c) (has_had (slice_for slice class) s.view (believed_on s.cpus c)) e).1;
     }
 
-pub any_taking : (p : AnyPolicy) (v : Look) (s : Cpus) → IsTaking s (any_takes p v s)
-any_taking (FirstCome p) v s = nobody_taking v s
-any_taking (TwoClass p) v s = class_one_taking p.slice v s
+-- and under either policy
+pub any_taking : (p : AnyPolicy) (s : Shown) → IsTaking s (any_takes p s)
+any_taking (FirstCome p) s = nobody_taking s
+any_taking (TwoClass p) s = class_one_taking p.slice s
 
 -- the plans of both policies are safe
-pub nobody-safe : (v : Look) (s : Cpus) (queue : List ℕ) → Apart queue → IsSafePlan v s queue (plan nobody v s queue)
-nobody-safe v s queue apart = plan_safe nobody v s queue (nobody_taking v s) apart
+pub nobody-safe : (s : Shown) → Apart s.queue → IsSafePlan s (plan nobody s)
+nobody-safe s apart = plan_safe nobody s (nobody_taking s) apart
 
-pub class_one_after-safe : (slice : ℕ) (v : Look) (s : Cpus) (queue : List ℕ) → Apart queue → IsSafePlan v s queue (plan (class_one_after slice) v s queue)
-class_one_after-safe slice v s queue apart = plan_safe (class_one_after slice) v s queue (class_one_taking slice v s) apart
+pub class_one_after-safe : (slice : ℕ) (s : Shown) → Apart s.queue → IsSafePlan s (plan (class_one_after slice) s)
+class_one_after-safe slice s apart = plan_safe (class_one_after slice) s (class_one_taking slice s) apart
 
-pub any-safe : (p : AnyPolicy) (v : Look) (s : Cpus) (queue : List ℕ) → Apart queue → IsSafePlan v s queue (plan (any_takes p) v s queue)
-any-safe p v s queue apart = plan_safe (any_takes p) v s queue (any_taking p v s) apart
+pub any-safe : (p : AnyPolicy) (s : Shown) → Apart s.queue → IsSafePlan s (plan (any_takes p) s)
+any-safe p s apart = plan_safe (any_takes p) s (any_taking p s) apart

@@ -1,11 +1,15 @@
-ghost use Rattle.std.specs.Prelude.{◌≡◌, ◌<◌, ◌&&◌, ◌==◌, not, true, ℕ, IfSome};
+ghost use Rattle.std.specs.Prelude.{◌≡◌, ◌<◌, ◌&&◌, ◌==◌, not, ℕ, IfSome};
 ghost use Rattle.std.specs.Option.{option_to_list};
 ghost use Rattle.gs_layout.specs.declared.facts.Class.{Class as ClassOf};
 ghost use Rattle.gs_layout.specs.View.{look_up};
 ghost use Rattle.gs_status.specs.Masks.{has, least};
-ghost use Rattle.gs_policy.specs.Candidates.{AreLeft, AreSpent, busy_for, picked, takes_in};
+ghost use Rattle.gs_policy.specs.Candidates.{AreLeft, AreTakenBy, are_spent, busy_for, picked, plan_among, takes_in};
+ghost use Rattle.gs_policy.specs.Plan.{Taking, plan};
+ghost use Rattle.gs_policy.specs.Safety.{IsTaking};
+ghost use Rattle.gs_policy.specs.Shown.{shows};
 
 use crate::choice::Choice;
+use crate::shown::Shown;
 use gs_layout::Class;
 use gs_status::Mask;
 use gs_view::AgentView;
@@ -13,9 +17,12 @@ use gs_view::AgentView;
 /// The CPUs that can still be chosen: those that are free, and those that a thread of each class may
 /// take from somebody.
 #[derive(Clone, Copy)]
-pub(crate) struct Candidates {
+pub struct Candidates {
+    /// The CPUs that any thread may use.
     pub free: Mask,
+    /// The CPUs that a thread of class 0 may take from somebody, where none is free for it.
     pub zero_class: Mask,
+    /// The same of a thread of class 1.
     pub one_class: Mask,
 }
 
@@ -29,9 +36,26 @@ fn least_of(one: Mask, other: Mask) -> Option<u16>
 }
 
 impl Candidates {
+    /// The free CPUs of what is shown, and these, which a thread of class 0 and one of class 1 may take
+    /// from somebody. It takes no memory.
+    ///
+    /// What is planned among them is the plan by any test that has them so, if it has only usable CPUs
+    /// on which somebody is believed to run.
+    pub fn new(shown: &Shown<'_>, zero_class: Mask, one_class: Mask) -> Candidates
+        ensures { (takes : Taking) → IsTaking (shows shown.now) (takes (shows shown.now)) → AreTakenBy (takes (shows shown.now)) zero_class one_class → plan_among result (shows shown.now) ≡ plan takes (shows shown.now) }
+    {
+        // There are at most 64, so that a mask has them all.
+        let _most = shown.cpus.cpus();
+        Candidates {
+            free: shown.cpus.free(shown.taken),
+            zero_class,
+            one_class,
+        }
+    }
+
     /// Whether no CPU can be chosen any more.
-    pub(crate) fn are_spent(self) -> bool
-        ensures { result ≡ true → AreSpent self }
+    pub fn are_spent(self) -> bool
+        ensures { result ≡ are_spent self }
     {
         self.free.is_empty() && self.zero_class.is_empty() && self.one_class.is_empty()
     }
@@ -81,8 +105,9 @@ impl Candidates {
             preempt: true,
         })
     }
-    /// The choice of a thread among them, if it has one, which uses its CPU up.
-    pub(crate) fn take(&mut self, view: &AgentView, tid: u32) -> Option<Choice>
+
+    /// The choice of a thread among them, if it has one, which uses its CPU up. It takes no memory.
+    pub fn take(&mut self, view: &AgentView, tid: u32) -> Option<Choice>
         ensures choice { option_to_list result ≡ picked self.old (look_up view.now) tid }
         ensures left { AreLeft self.old self.new (picked self.old (look_up view.now) tid) }
     {

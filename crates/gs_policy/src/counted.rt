@@ -1,11 +1,8 @@
 ghost use Rattle.std.specs.Prelude.{◌≡◌, length};
-ghost use Rattle.gs_layout.specs.View.{look_up};
-ghost use Rattle.gs_runq.specs.Queue.{order};
+ghost use Rattle.gs_policy.specs.Shown.{shows};
 
 use crate::policy::Policy;
-use gs_beliefs::CpuBeliefs;
-use gs_runq::RunQueue;
-use gs_view::AgentView;
+use crate::shown::Shown;
 
 /// A policy that can tell how many choices its plan has, without taking memory for them.
 ///
@@ -13,6 +10,6 @@ use gs_view::AgentView;
 /// would have been: whether the plan would have fitted in the room that there is for it.
 pub trait Counted: Policy {
     /// How many choices the plan has. It takes no memory, and nothing is changed.
-    fn count(&self, view: &AgentView, cpus: &CpuBeliefs, queue: &RunQueue) -> usize
-        ensures { result ≡ length (Self.chosen self.now (look_up view.now) cpus.now (order queue.now)) };
+    fn count(&self, shown: &Shown<'_>) -> usize
+        ensures { result ≡ length (Self.chosen self.now (shows shown.now)) };
 }

@@ -1,12 +1,12 @@
-ghost use Rattle.std.specs.Prelude.{◌≡◌, ◌≤◌, [], IfOk, length};
+ghost use Rattle.std.specs.Prelude.{◌≡◌, ◌≤◌, IfOk, length};
 ghost use Rattle.std.specs.Iterator.{YieldsFirst, item_count};
-ghost use Rattle.gs_layout.specs.View.{look_up};
-ghost use Rattle.gs_runq.specs.Queue.{order};
-ghost use Rattle.gs_policy.specs.Candidates.{planned_of};
+ghost use Rattle.gs_policy.specs.Candidates.{plan_among};
+ghost use Rattle.gs_policy.specs.Shown.{shows};
 
 use crate::candidates::Candidates;
 use crate::choice::Choice;
-use gs_runq::{RunQueue, Walk};
+use crate::shown::Shown;
+use gs_runq::Walk;
 use gs_view::AgentView;
 use std::alloc::{AllocError, Global};
 use std::marker::Model;
@@ -51,38 +51,45 @@ impl<'a> Iterator for Choices<'a> {
 
 /// The choices of all that wait. There are no more of them than threads.
 #[tactic(auto, using(crate::proofs::Left::planned_few))]
-fn choose<'a>(view: &'a AgentView, queue: &'a RunQueue, all: Candidates) -> Choices<'a>
-    ensures choices { result ≡ planned_of all (look_up view.now) [] (order queue.now) }
-    ensures few { length result ≤ length (order queue.now) }
+fn choose<'a>(shown: &Shown<'a>, all: Candidates) -> Choices<'a>
+    ensures choices { result ≡ plan_among all (shows shown.now) }
+    ensures few { length result ≤ length (shows shown.now).queue }
 {
     Choices {
-        view,
-        threads: queue.walk(),
+        view: shown.view,
+        threads: shown.queue.walk(),
         left: all,
     }
 }
 
-/// The choices of the waiting threads among these CPUs. There are so many CPUs in all, and no more
-/// choices than CPUs or threads, so that room for them is taken once.
-pub(crate) fn plan_queue(
+/// The choices of the waiting threads among these CPUs, one thread after another: each takes the least
+/// free one of its mask, or else the least one of its mask that its class may take from somebody, and
+/// so uses that CPU up. A thread that is unknown, or for which no CPU is left, has no choice.
+///
+/// The walk ends as soon as no CPU is left. There are no more choices than CPUs or threads, and memory
+/// for them is taken once.
+///
+/// # Errors
+///
+/// Where there is no memory for the choices.
+pub fn plan_among(
     alloc: Global,
-    view: &AgentView,
-    queue: &RunQueue,
-    cpus: u16,
+    shown: &Shown<'_>,
     all: Candidates,
 ) -> Result<Vec<Choice>, AllocError>
-    ensures { IfOk result (λ r. r.items ≡ planned_of all (look_up view.now) [] (order queue.now)) }
+    ensures { IfOk result (λ r. r.items ≡ plan_among all (shows shown.now)) }
 {
-    let mut plan = Vec::with_capacity(alloc, queue.len().min(cpus as usize))?;
-    plan.extend(choose(view, queue, all))?;
+    let most = shown.queue.len().min(shown.cpus.cpus() as usize);
+    let mut plan = Vec::with_capacity(alloc, most)?;
+    plan.extend(choose(shown, all))?;
     Ok(plan)
 }
 
-/// How many choices [`plan_queue`] makes of these CPUs. It takes no memory.
-pub(crate) fn count_queue(view: &AgentView, queue: &RunQueue, all: Candidates) -> usize
-    ensures { result ≡ length (planned_of all (look_up view.now) [] (order queue.now)) }
+/// How many choices [`plan_among`] makes of these CPUs. It takes no memory.
+pub fn count_among(shown: &Shown<'_>, all: Candidates) -> usize
+    ensures { result ≡ length (plan_among all (shows shown.now)) }
 {
     // No more choices than threads that wait, so that their number fits.
-    let _most = queue.len();
-    choose(view, queue, all).count()
+    let _most = shown.queue.len();
+    choose(shown, all).count()
 }

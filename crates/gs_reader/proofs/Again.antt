@@ -17,7 +17,7 @@ use Rattle.gs_layout.specs.declared.message.Change.TheVariants.{Created, Blocked
 use Rattle.gs_layout.specs.declared.message.Message.{Message}
 use Rattle.gs_layout.specs.declared.message.Message.TheVariants.{Thread, TimerTick}
 use Rattle.gs_layout.specs.Class.{class_number}
-use Rattle.gs_layout.specs.Kind.{number}
+use Rattle.gs_layout.specs.Kind.{kind_number}
 use Rattle.gs_layout.specs.Name.{is_name, is_name_byte}
 use Rattle.gs_layout.specs.Reading.{Begins, kind_numbered, message_in, name_in, number_at}
 use Rattle.gs_layout.specs.Spelling.{IsMask, AreNumbers, IsSpellable, IsSpellableChange, kind_of, kind_of_change, padding, round_up, size_of, size_of_change, spelling}
@@ -139,7 +139,7 @@ fit_message (TimerTick c) fits = record { numbers = refl; cpu = cpu_again c fits
 created_length : (n : ℕ) → n ≤ 16 → has_length 1 (round_up (26 + n)) ≡ true
 created_length n le = grind (arith, nat_tests)
 
-length_change : (c : Change) → IsSpellableChange c → has_length (number (kind_of_change c)) (size_of_change c) ≡ true
+length_change : (c : Change) → IsSpellableChange c → has_length (kind_number (kind_of_change c)) (size_of_change c) ≡ true
 length_change (Created f) fits = created_length (length f.name) (leb-true (length f.name) 16 (and_parts (nat_le (length f.name) 16) (list_all is_name_byte f.name) fits.1).0)
 length_change (Blocked c) fits = refl
 length_change Wakeup fits = refl
@@ -148,7 +148,7 @@ length_change (Yield c) fits = refl
 length_change (Dead c) fits = refl
 length_change (Affinity c off m) fits = refl
 
-length_message : (m : Message) → IsSpellable m → has_length (number (kind_of m)) (size_of m) ≡ true
+length_message : (m : Message) → IsSpellable m → has_length (kind_number (kind_of m)) (size_of m) ≡ true
 length_message (Thread t s c) fits = length_change c fits.1
 length_message (TimerTick c) fits = refl
 
@@ -167,7 +167,7 @@ size_fits : (m : Message) → IsSpellable m → (size_of m < 256 ^ 2) × (16 ≤
 size_fits (Thread t s c) fits = size_fits_change c fits.1
 size_fits (TimerTick c) fits = (omega arith, omega arith)
 
-known_kind : (k : Kind) → is_kind (number k) ≡ true
+known_kind : (k : Kind) → is_kind (kind_number k) ≡ true
 known_kind kinds.Created = refl
 known_kind kinds.Blocked = refl
 known_kind kinds.Wakeup = refl
@@ -185,14 +185,14 @@ message_again m rest fits =
     let begins : Begins bytes m = record { spellable = fits; rest = rest; whole = refl } in
     let size : size_of m ≡ n = sym (spelled_length m) in
     let kind : kind_numbered (kind_number_in bytes) ≡ Some (kind_of m) = kind_begun bytes m begins in
-    let kind_number : kind_number_in bytes ≡ number (kind_of m) = numbered_is (kind_number_in bytes) (kind_of m) kind in
+    let named_kind : kind_number_in bytes ≡ kind_number (kind_of m) = numbered_is (kind_number_in bytes) (kind_of m) kind in
     let low : 16 ≤ size_of m = (size_fits m fits).1 in
     let len : length_in bytes ≡ size_of m = reads 2 (size_of m) (size_fits m fits).0 in
     let whole : length bytes ≡ n + length rest = length-append (spelling m) rest in
     let front : front_fault bytes ≡ None = front_none bytes (record {
       four = omega (arith, whole, low, size);
-      known = ap is_kind kind_number ∙ known_kind (kind_of m);
-      one = (λ i. has_length (kind_number i) (len i)) ∙ length_message m fits;
+      known = ap is_kind named_kind ∙ known_kind (kind_of m);
+      one = (λ i. has_length (named_kind i) (len i)) ∙ length_message m fits;
       room = omega (arith, whole, len, size);
     }) in
     let fit : fields_fit (kind_of m) (spelling m) ≡ true = fit_from (kind_of m) (spelling m) (fit_message m fits) in

@@ -7,7 +7,7 @@ use Rattle.std.proofs.lemmas.Bool.Decides.{nat_tests}
 use Rattle.gs_layout.specs.declared.kind.Kind.{Kind}
 use Rattle.gs_layout.specs.declared.kind.Kind.TheVariants as kinds
 use Rattle.gs_layout.specs.declared.message.Change.TheVariants.{Affinity}
-use Rattle.gs_layout.specs.Kind.{number}
+use Rattle.gs_layout.specs.Kind.{kind_number}
 use Rattle.gs_layout.specs.Reading.{cpu_numbered, kind_numbered, number_at}
 use Rattle.gs_layout.specs.Spelling.{IsCpuOrNone, IsMask, AreNumbers, IsSpellableChange, cpu_number}
 use Rattle.gs_reader.specs.Reading.{cpu_fits, fields_fit, flags_fit, more_fits, numbers_fit}
@@ -42,14 +42,14 @@ numbered_from t s e high =
     let b = and_parts (nat_le 1 t) (nat_le t 65536) a.0 in
     record { tid_low = leb-true 1 t b.0; tid_high = leb-true t 65536 b.1; tseq_low = leb-true 1 s a.1; tseq_high = high }
 
-chain : (n c : ℕ) (x k : Kind) (rest : Option Kind) → number x ≡ c → cond (n == c) (Some x) rest ≡ Some k → (rest ≡ Some k → n ≡ number k) → n ≡ number k
+chain : (n c : ℕ) (x k : Kind) (rest : Option Kind) → kind_number x ≡ c → cond (n == c) (Some x) rest ≡ Some k → (rest ≡ Some k → n ≡ kind_number k) → n ≡ kind_number k
 chain n c x k rest is e more = elim (cases_Bool (n == c)) [
-  | inl same ↦ eqb-true n c same ∙ sym is ∙ ap (λ (o : Option Kind). number (unwrap_or o kinds.TimerTick)) (sym (cond-true (n == c) (Some x) rest same) ∙ e)
+  | inl same ↦ eqb-true n c same ∙ sym is ∙ ap (λ (o : Option Kind). kind_number (unwrap_or o kinds.TimerTick)) (sym (cond-true (n == c) (Some x) rest same) ∙ e)
   | inr other ↦ more (sym (cond-false (n == c) (Some x) rest other) ∙ e)
 ]
 
 -- the number of a kind that a number stands for is that number
-pub numbered_is : (n : ℕ) (k : Kind) → kind_numbered n ≡ Some k → n ≡ number k
+pub numbered_is : (n : ℕ) (k : Kind) → kind_numbered n ≡ Some k → n ≡ kind_number k
 numbered_is n k e =
     chain n 1 kinds.Created k _ refl e (λ e. chain n 2 kinds.Blocked k _ refl e (λ e. chain n 3 kinds.Wakeup k _ refl e (λ e. chain n 4 kinds.Preempted k _ refl e (λ e. chain n 5 kinds.Yield k _ refl e (λ e. chain n 6 kinds.Dead k _ refl e (λ e. chain n 7 kinds.Affinity k _ refl e (λ e. chain n 8 kinds.TimerTick k _ refl e (λ e. absurd cc))))))))
 

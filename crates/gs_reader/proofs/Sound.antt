@@ -12,7 +12,7 @@ use Rattle.gs_layout.specs.declared.kind.Kind.{Kind}
 use Rattle.gs_layout.specs.declared.kind.Kind.TheVariants as kinds
 use Rattle.gs_layout.specs.declared.message.Message.{Message}
 use Rattle.gs_layout.specs.Class.{class_number}
-use Rattle.gs_layout.specs.Kind.{number}
+use Rattle.gs_layout.specs.Kind.{kind_number}
 use Rattle.gs_layout.specs.Message.{tseq_of}
 use Rattle.gs_layout.specs.Name.{is_name}
 use Rattle.gs_layout.specs.Reading.{class_numbered, facts_in, message_in, message_with, name_in, number_at}
@@ -53,7 +53,7 @@ header_back xs long fits =
 -- the fields of a message are those that stand in the bytes
 record Agrees (m : Message) (text : List ℕ) : Type 0 where
   len : size_of m ≡ number_at 0 2 text
-  kind : number (kind_of m) ≡ number_at 2 2 text
+  kind : kind_number (kind_of m) ≡ number_at 2 2 text
   tid : tid_of m ≡ number_at 4 4 text
   tseq : tseq_of m ≡ number_at 8 4 text
   cpu : cpu_number (cpu_of m) ≡ number_at 12 2 text
@@ -98,13 +98,13 @@ facts_behind text fits long class len name =
 -- what is known before the fields are looked at
 record Named (k : Kind) (text : List ℕ) : Type 0 where
   fits : IsBytes text
-  kind : number k ≡ number_at 2 2 text
+  kind : kind_number k ≡ number_at 2 2 text
   size : number_at 0 2 text ≡ length text
-  one : has_length (number k) (length text) ≡ true
+  one : has_length (kind_number k) (length text) ≡ true
 
 named : (k : Kind) (text : List ℕ) → IsBytes text → IsWhole (Some k) text → Named k text
 named k text fits w =
-    let e : kind_number_in text ≡ number k = numbered_is (kind_number_in text) k w.kind in
+    let e : kind_number_in text ≡ kind_number k = numbered_is (kind_number_in text) k w.kind in
     record {
       fits = fits;
       kind = sym e;

@@ -1,8 +1,12 @@
 -- What bytes begin with.
 use Rattle.std.specs.Prelude.{◌≡◌, Bool, true, not, ◌==◌, ◌&&◌, ◌||◌, nat_lt, nat_le, ℕ, ◌+◌, ◌≤◌, Option, None, Some, Result, Ok, Err, List, length, take, drop, slice_index, if◌then◌else◌}
 use Rattle.std.specs.List.{list_all}
+use Rattle.gs_status.specs.declared.mask.TheConstants.{MOST_CPUS}
+use Rattle.gs_layout.specs.declared.cpu.TheConstants.{NO_CPU}
 use Rattle.gs_layout.specs.declared.kind.Kind.{Kind}
 use Rattle.gs_layout.specs.declared.kind.Kind.TheVariants as kinds
+use Rattle.gs_layout.specs.declared.message.TheConstants.{MOST_TIDS}
+use Rattle.gs_layout.specs.declared.name.TheConstants.{MOST_NAME_LEN}
 use Rattle.gs_layout.specs.Name.{is_name}
 use Rattle.gs_layout.specs.Pad.{IsPadSize, pad}
 use Rattle.gs_layout.specs.Reading.{kind_numbered, message_in, name_in, number_at}
@@ -30,24 +34,24 @@ IsFault bytes f = front_fault bytes ≡ Some f
 
 abbrev pub numbers_fit : Kind → ℕ → ℕ → Bool
 numbers_fit kinds.TimerTick tid tseq = tid == 0 && tseq == 0
-numbers_fit _ tid tseq = nat_le 1 tid && nat_le tid 65536 && nat_le 1 tseq
+numbers_fit _ tid tseq = nat_le 1 tid && nat_le tid MOST_TIDS && nat_le 1 tseq
 
 abbrev pub cpu_fits : Kind → ℕ → Bool
-cpu_fits kinds.Created cpu = cpu == 65535
-cpu_fits kinds.Wakeup cpu = cpu == 65535
-cpu_fits kinds.Dead cpu = nat_lt cpu 64 || cpu == 65535
-cpu_fits kinds.Affinity cpu = nat_lt cpu 64 || cpu == 65535
-cpu_fits _ cpu = nat_lt cpu 64
+cpu_fits kinds.Created cpu = cpu == NO_CPU
+cpu_fits kinds.Wakeup cpu = cpu == NO_CPU
+cpu_fits kinds.Dead cpu = nat_lt cpu MOST_CPUS || cpu == NO_CPU
+cpu_fits kinds.Affinity cpu = nat_lt cpu MOST_CPUS || cpu == NO_CPU
+cpu_fits _ cpu = nat_lt cpu MOST_CPUS
 
 abbrev pub flags_fit : Kind → ℕ → ℕ → Bool
 flags_fit kinds.Created cpu flags = nat_lt flags 2
-flags_fit kinds.Affinity cpu flags = flags == 0 || (flags == 1 && not (cpu == 65535))
+flags_fit kinds.Affinity cpu flags = flags == 0 || (flags == 1 && not (cpu == NO_CPU))
 flags_fit _ cpu flags = flags == 0
 
 -- the mask, the class and the lengths of a creation
 abbrev pub sizes_fit : List ℕ → Bool
 sizes_fit text =
-    not (number_at 16 8 text == 0) && nat_lt (slice_index text 24) 2 && nat_le (slice_index text 25) 16 && round_up (26 + slice_index text 25) == length text
+    not (number_at 16 8 text == 0) && nat_lt (slice_index text 24) 2 && nat_le (slice_index text 25) MOST_NAME_LEN && round_up (26 + slice_index text 25) == length text
 
 -- the name of a creation, and the zeros behind it
 abbrev pub name_fits : List ℕ → Bool

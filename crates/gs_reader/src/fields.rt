@@ -6,20 +6,17 @@ ghost use Rattle.std.specs.List.{list_all};
 ghost use Rattle.gs_layout.specs.Reading.{least};
 ghost use Rattle.gs_reader.specs.Reading.{cpu_fits, fields_fit, flags_fit, more_fits, name_fits, numbers_fit, sizes_fit};
 
-use gs_layout::{Kind, NO_CPU, Name, creation_len, u16_at, u32_at, u64_at};
-
-/// The CPUs are numbered below this.
-const CPUS: u16 = 64;
-
-/// The greatest number of a thread.
-const LAST_TID: u32 = 65_536;
+use gs_layout::{
+    Kind, MOST_NAME_LEN, MOST_TIDS, NO_CPU, Name, creation_len, u16_at, u32_at, u64_at,
+};
+use gs_status::MOST_CPUS;
 
 fn numbers_fit(kind: Kind, tid: u32, tseq: u32) -> bool
     ensures { result ≡ numbers_fit kind tid tseq }
 {
     match kind {
         Kind::TimerTick => tid == 0 && tseq == 0,
-        _ => 1 <= tid && tid <= LAST_TID && 1 <= tseq,
+        _ => 1 <= tid && tid <= MOST_TIDS && 1 <= tseq,
     }
 }
 
@@ -28,8 +25,8 @@ fn cpu_fits(kind: Kind, cpu: u16) -> bool
 {
     match kind {
         Kind::Created | Kind::Wakeup => cpu == NO_CPU,
-        Kind::Dead | Kind::Affinity => cpu < CPUS || cpu == NO_CPU,
-        _ => cpu < CPUS,
+        Kind::Dead | Kind::Affinity => cpu < MOST_CPUS || cpu == NO_CPU,
+        _ => cpu < MOST_CPUS,
     }
 }
 
@@ -55,7 +52,10 @@ fn sizes_fit(text: &[u8]) -> bool
     ensures room { OnTrue result (26 + slice_index text.now 25 ≤ length text.now) }
 {
     let name_len = text[25] as usize;
-    u64_at(text, 16) != 0 && text[24] < 2 && name_len <= 16 && creation_len(name_len) == text.len()
+    u64_at(text, 16) != 0
+        && text[24] < 2
+        && name_len <= MOST_NAME_LEN
+        && creation_len(name_len) == text.len()
 }
 
 fn name_fits(text: &[u8]) -> bool

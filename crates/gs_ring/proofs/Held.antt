@@ -7,7 +7,8 @@ use Rattle.gs_layout.specs.declared.message.Message.{Message}
 use Rattle.gs_layout.specs.Spelling.{IsSpellable}
 use Rattle.gs_ring.specs.Block.{IsRing, block_with, messages_in, put_at, ring_of, seen}
 use Rattle.gs_ring.specs.Ends.{place_behind-grows}
-use Rattle.gs_ring.specs.Places.{bytes, is_capacity, need, pad_bytes, pad_len, place_behind, record_len, record_of}
+use Rattle.gs_layout.specs.Spelling.{spelling}
+use Rattle.gs_ring.specs.Places.{bytes, is_capacity, need, pad_bytes, pad_len, place_behind, record_len}
 use Rattle.gs_ring.specs.RingState.{RingState, end, free, posts}
 use Rattle.gs_ring.proofs.Pads.{IsWide, length-pad_bytes, need_is, pad_fits, record_fits, wide}
 use Rattle.gs_ring.proofs.ReadAgain.{messages_again, sizes_of}
@@ -52,10 +53,10 @@ place_behind-push c w [] m = refl
 place_behind-push c w (x ∷ ms) m = place_behind-push c (w + need c w (record_len x)) ms m
 
 pub bytes-push : (c w : ℕ) (ms : List Message) (m : Message)
-    → bytes c w (ms ++ m ∷ []) ≡ bytes c w ms ++ (pad_bytes (pad_len c (place_behind c w ms) (record_len m)) ++ record_of m)
+    → bytes c w (ms ++ m ∷ []) ≡ bytes c w ms ++ (pad_bytes (pad_len c (place_behind c w ms) (record_len m)) ++ spelling m)
 bytes-push c w [] m = append-nil _
 bytes-push c w (x ∷ ms) m =
-    let front = pad_bytes (pad_len c w (record_len x)) ++ record_of x in
+    let front = pad_bytes (pad_len c w (record_len x)) ++ spelling x in
     ap (λ t. front ++ t) (bytes-push c (w + need c w (record_len x)) ms m) ∙ sym (append_assoc front _ _)
 
 pub place_whole : (c w : ℕ) (ms : List Message) → IsWide c → w % 8 ≡ 0 → All IsSpellable ms → place_behind c w ms % 8 ≡ 0
@@ -86,21 +87,21 @@ shows_more b r w ms m wide s fits room =
     ap (λ n. seen b1 r (w + n - r)) (sym pads) ∙ seen-put_at b (pad_bytes k) r w pos order fits1 (omega (arith, pads, room, z.both)) in
     let place : (w + k) % length b1 ≡ (w + k) % c = ap (λ n. (w + k) % n) len1 in
     let fits2 : (w + k) % length b1 + record_len m ≤ length b1 = omega (arith, place, len1, record_fits c w (record_len m) pos (omega (arith, z.record_.most, wide.least))) in
-    let b2 = put_at ((w + k) % length b1) (record_of m) b1 in
-    let two : seen b2 r (w + k + record_len m - r) ≡ seen b1 r (w + k - r) ++ record_of m =
-    seen-put_at b1 (record_of m) r (w + k) (omega (arith, len1, pos)) (omega (arith, order)) fits2 (omega (arith, len1, room, z.both)) in
+    let b2 = put_at ((w + k) % length b1) (spelling m) b1 in
+    let two : seen b2 r (w + k + record_len m - r) ≡ seen b1 r (w + k - r) ++ spelling m =
+    seen-put_at b1 (spelling m) r (w + k) (omega (arith, len1, pos)) (omega (arith, order)) fits2 (omega (arith, len1, room, z.both)) in
     let b3 = block_with b w k m in
-    let same : b2 ≡ b3 = ap (λ n. put_at n (record_of m) b1) place in
-    let len3 : length b3 ≡ c = ap length (sym same) ∙ length-put_at ((w + k) % length b1) (record_of m) b1 fits2 ∙ len1 in
+    let same : b2 ≡ b3 = ap (λ n. put_at n (spelling m) b1) place in
+    let len3 : length b3 ≡ c = ap length (sym same) ∙ length-put_at ((w + k) % length b1) (spelling m) b1 fits2 ∙ len1 in
     let end : w + need c w (record_len m) - r ≡ w + k + record_len m - r = omega (arith, z.both) in
-    let all : seen b3 r (w + need c w (record_len m) - r) ≡ bytes c r ms ++ (pad_bytes k ++ record_of m) =
+    let all : seen b3 r (w + need c w (record_len m) - r) ≡ bytes c r ms ++ (pad_bytes k ++ spelling m) =
     ap (λ n. seen b3 r n) end
     ∙ ap (λ x. seen x r (w + k + record_len m - r)) (sym same)
     ∙ two
-    ∙ ap (λ t. t ++ record_of m) (one ∙ ap (λ t. t ++ pad_bytes k) s.holds)
-    ∙ append_assoc (bytes c r ms) (pad_bytes k) (record_of m) in
-    let made_ : bytes c r (ms ++ m ∷ []) ≡ bytes c r ms ++ (pad_bytes k ++ record_of m) =
-    bytes-push c r ms m ∙ ap (λ n. bytes c r ms ++ (pad_bytes (pad_len c n (record_len m)) ++ record_of m)) s.behind in (
+    ∙ ap (λ t. t ++ spelling m) (one ∙ ap (λ t. t ++ pad_bytes k) s.holds)
+    ∙ append_assoc (bytes c r ms) (pad_bytes k) (spelling m) in
+    let made_ : bytes c r (ms ++ m ∷ []) ≡ bytes c r ms ++ (pad_bytes k ++ spelling m) =
+    bytes-push c r ms m ∙ ap (λ n. bytes c r ms ++ (pad_bytes (pad_len c n (record_len m)) ++ spelling m)) s.behind in (
       len3,
       record {
         whole = s.whole;
@@ -117,7 +118,7 @@ shows_rest b r w m ms wide s =
     let c = length b in
     let z = sizes_of c r m wide s.whole (All-head IsSpellable m ms s.spellable) in
     let n = need c r (record_len m) in
-    let front = pad_bytes (pad_len c r (record_len m)) ++ record_of m in
+    let front = pad_bytes (pad_len c r (record_len m)) ++ spelling m in
     let order : r + n ≤ w = omega (arith, s.behind, place_behind-grows c (r + n) ms) in
     let count : w - r ≡ n + (w - (r + n)) = omega (arith, order) in
     let split : seen b r n ++ seen b (r + n) (w - (r + n)) ≡ front ++ bytes c (r + n) ms =

@@ -15,7 +15,7 @@ use Rattle.gs_layout.specs.Spelling.{IsSpellable, size_of, size_of_change, spell
 use Rattle.gs_layout.proofs.Spelled.{spelled_length}
 use Rattle.gs_ring.specs.Block.{IsRing, Lies, record_index, ring_of, seen}
 use Rattle.gs_ring.specs.Ends.{Ahead, Passed, Passed-join, Passed-none, place_behind-append, place_behind-grows}
-use Rattle.gs_ring.specs.Places.{bytes, need, pad_bytes, pad_len, place_behind, record_len, record_of, rest}
+use Rattle.gs_ring.specs.Places.{bytes, need, pad_bytes, pad_len, place_behind, record_len, rest}
 use Rattle.gs_ring.specs.RingState.{RingState, end}
 use Rattle.gs_ring.proofs.Around.{mod_round, mod_whole}
 use Rattle.gs_ring.proofs.Held.{Shows, length-messages_in, length-seen, ring_from, shown, shows_rest, waiting, waiting_is}
@@ -61,10 +61,10 @@ first_lies b r w m ms wide_ s =
     let tail = bytes c (r + need c r len) ms in
     ⊎_elim
     (λ (h : (k ≡ 0) × (len ≤ rest c r)).
-    let e : seen b r (w - r) ≡ record_of m ++ tail = s.holds ∙ ap (λ t. (t ++ record_of m) ++ tail) (pad_bytes_none k h.0) in
-    let one = (seen_parts b r (w - r) (record_of m) tail e).0 in
+    let e : seen b r (w - r) ≡ spelling m ++ tail = s.holds ∙ ap (λ t. (t ++ spelling m) ++ tail) (pad_bytes_none k h.0) in
+    let one = (seen_parts b r (w - r) (spelling m) tail e).0 in
     let end_ : i + len ≤ c = omega (arith, h.1, within) in
-    let row = row_begins b r (record_of m) one end_ in
+    let row = row_begins b r (spelling m) one end_ in
     let front : drop i b ≡ spelling m ++ drop len (drop i b) = row ∙ ap (λ t. t ++ drop len (drop i b)) (record_is m) in
     let kind : (number_at 2 2 (drop i b) == 9) ≡ false = ap (λ (t : List ℕ). number_at 2 2 t == 9) front ∙ message_kind m (drop len (drop i b)) in
     let at : record_index b r ≡ i = by_kind b r false kind in
@@ -73,19 +73,19 @@ first_lies b r w m ms wide_ s =
     (λ (h : (k ≡ rest c r) × (rest c r < len)).
     let some : 0 < k = omega (arith, h.0, within) in
     let is = pad_bytes_some k some in
-    let e : seen b r (w - r) ≡ pad_bytes k ++ (record_of m ++ tail) = s.holds ∙ append_assoc (pad_bytes k) (record_of m) tail in
-    let parts = seen_parts b r (w - r) (pad_bytes k) (record_of m ++ tail) e in
-    let size : length (pad_bytes k) ≡ k = omega (arith, z.count, z.both, length-append (pad_bytes k) (record_of m)) in
+    let e : seen b r (w - r) ≡ pad_bytes k ++ (spelling m ++ tail) = s.holds ∙ append_assoc (pad_bytes k) (spelling m) tail in
+    let parts = seen_parts b r (w - r) (pad_bytes k) (spelling m ++ tail) e in
+    let size : length (pad_bytes k) ≡ k = omega (arith, z.count, z.both, length-append (pad_bytes k) (spelling m)) in
     let row = row_begins b r (pad_bytes k) parts.0 (omega (arith, size, h.0, within)) in
     let front : drop i b ≡ pad k ++ drop (length (pad_bytes k)) (drop i b) = row ∙ ap (λ t. t ++ drop (length (pad_bytes k)) (drop i b)) is in
     let kind : (number_at 2 2 (drop i b) == 9) ≡ true = ap (λ (t : List ℕ). number_at 2 2 t == 9) front ∙ pad_kind k (drop (length (pad_bytes k)) (drop i b)) in
     let at : record_index b r ≡ 0 = by_kind b r true kind in
     let next : (r + length (pad_bytes k)) % c ≡ 0 = ap (λ n. (r + n) % c) (size ∙ h.0) ∙ mod_round c r pos in
-    let two = (seen_parts b (r + length (pad_bytes k)) (w - r - length (pad_bytes k)) (record_of m) tail parts.1).0 in
+    let two = (seen_parts b (r + length (pad_bytes k)) (w - r - length (pad_bytes k)) (spelling m) tail parts.1).0 in
     let low : len ≤ c = omega (arith, z.record_.most, wide_.least) in
-    let row2 = row_begins b (r + length (pad_bytes k)) (record_of m) two (omega (arith, next, low)) in
-    let begins : b ≡ record_of m ++ drop len b =
-    sym (ap (λ n. drop n b) next) ∙ row2 ∙ ap (λ n. record_of m ++ drop len (drop n b)) next in
+    let row2 = row_begins b (r + length (pad_bytes k)) (spelling m) two (omega (arith, next, low)) in
+    let begins : b ≡ spelling m ++ drop len b =
+    sym (ap (λ n. drop n b) next) ∙ row2 ∙ ap (λ n. spelling m ++ drop len (drop n b)) next in
     let l : Lies b r m = record { spellable = fits; room = room; more = drop len b; front = ap (λ n. drop n b) at ∙ begins ∙ ap (λ t. t ++ drop len b) (record_is m); fits = omega (arith, at, low) } in
     l)
     (pad_cases c r len)

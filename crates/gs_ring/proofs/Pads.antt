@@ -12,7 +12,7 @@ use Rattle.gs_layout.specs.Name.{is_name}
 use Rattle.gs_layout.specs.Pad.{pad}
 use Rattle.gs_layout.specs.Spelling.{IsSpellable, IsSpellableChange, size_of, size_of_change, spelling}
 use Rattle.gs_layout.proofs.Spelled.{spelled_length}
-use Rattle.gs_ring.specs.Places.{is_capacity, need, pad_bytes, pad_len, record_len, record_of, rest}
+use Rattle.gs_ring.specs.Places.{is_capacity, need, pad_bytes, pad_len, record_len, rest}
 use Rattle.gs_ring.proofs.Around.{mod_round, mod_whole}
 
 -- a size that a record may have
@@ -48,8 +48,7 @@ size_message : (m : Message) → IsSpellable m → IsSize (size_of m)
 size_message (Thread t s c) fits = size_change c fits.1
 size_message (TimerTick c) fits = record { least = omega arith; most = omega arith; whole = omega arith }
 
-pub record_is : (m : Message) → record_of m ≡ spelling m
-unfolding record_of
+pub record_is : (m : Message) → spelling m ≡ spelling m
 record_is m = refl
 
 pub record_size : (m : Message) → IsSpellable m → IsSize (record_len m)

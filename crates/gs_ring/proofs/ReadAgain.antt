@@ -9,16 +9,16 @@ use Rattle.byteorder.specs.Numbers.{little_number-reads_back}
 use Rattle.gs_layout.specs.declared.kind.Kind.{Kind}
 use Rattle.gs_layout.specs.declared.kind.Kind.TheVariants as kinds
 use Rattle.gs_layout.specs.declared.message.Message.{Message}
-use Rattle.gs_layout.specs.Kind.{number}
+use Rattle.gs_layout.specs.Kind.{kind_number}
 use Rattle.gs_layout.specs.Pad.{pad}
 use Rattle.gs_layout.specs.Reading.{message_in, number_at}
 use Rattle.gs_layout.specs.Spelling.{IsSpellable, kind_of, spelling}
 use Rattle.gs_layout.proofs.ReadBack.{read_back}
 use Rattle.gs_ring.specs.Block.{behind_front, behind_pad, front_message, messages_in}
-use Rattle.gs_ring.specs.Places.{bytes, need, pad_bytes, pad_len, record_len, record_of}
+use Rattle.gs_ring.specs.Places.{bytes, need, pad_bytes, pad_len, record_len}
 use Rattle.gs_ring.proofs.Pads.{IsSize, IsWide, length-pad, length-pad_bytes, need_is, pad_bytes_none, pad_bytes_some, pad_small, pad_whole, record_is, record_size}
 
-kind_is_no_pad : (k : Kind) → (little_number 2 (little_bytes 2 (number k) ++ []) == 9) ≡ false
+kind_is_no_pad : (k : Kind) → (little_number 2 (little_bytes 2 (kind_number k) ++ []) == 9) ≡ false
 kind_is_no_pad kinds.Created = refl
 kind_is_no_pad kinds.Blocked = refl
 kind_is_no_pad kinds.Wakeup = refl
@@ -47,27 +47,26 @@ pad_front : (n : ℕ) (more : List ℕ) → 4 ≤ n → n < 65536 → behind_pad
 unfolding behind_pad
 pad_front n more least lt = ap (λ k. drop k (pad n ++ more)) (pad_tells n more lt) ∙ drop_at (pad n) more n (length-pad n least)
 
-behind_by : (n : ℕ) (m : Message) (more : List ℕ) → (n ≡ 0) ⊎ (4 ≤ n) → n < 65536 → behind_pad ((pad_bytes n ++ record_of m) ++ more) ≡ record_of m ++ more
-unfolding record_of
+behind_by : (n : ℕ) (m : Message) (more : List ℕ) → (n ≡ 0) ⊎ (4 ≤ n) → n < 65536 → behind_pad ((pad_bytes n ++ spelling m) ++ more) ≡ spelling m ++ more
 behind_by n m more h lt =
     ⊎_elim
     (λ z. ap (λ t. behind_pad ((t ++ spelling m) ++ more)) (pad_bytes_none n z) ∙ record_front m more)
     (λ least. ap (λ t. behind_pad ((t ++ spelling m) ++ more)) (pad_bytes_some n (omega arith)) ∙ ap behind_pad (append_assoc (pad n) (spelling m) more) ∙ pad_front n (spelling m ++ more) least lt)
     h
 
-pub behind_pad_is : (n : ℕ) (m : Message) (more : List ℕ) → n % 8 ≡ 0 → n < 65536 → behind_pad ((pad_bytes n ++ record_of m) ++ more) ≡ record_of m ++ more
+pub behind_pad_is : (n : ℕ) (m : Message) (more : List ℕ) → n % 8 ≡ 0 → n < 65536 → behind_pad ((pad_bytes n ++ spelling m) ++ more) ≡ spelling m ++ more
 behind_pad_is n m more whole lt = behind_by n m more (⊎_elim (λ z. inl (omega arith)) (λ z. inr (omega arith)) (cases_lt n 1)) lt
 
-pub front_is : (n : ℕ) (m : Message) (more : List ℕ) → n % 8 ≡ 0 → n < 65536 → IsSpellable m → front_message ((pad_bytes n ++ record_of m) ++ more) ≡ m
+pub front_is : (n : ℕ) (m : Message) (more : List ℕ) → n % 8 ≡ 0 → n < 65536 → IsSpellable m → front_message ((pad_bytes n ++ spelling m) ++ more) ≡ m
 unfolding front_message
 front_is n m more whole lt fits = ap message_in (behind_pad_is n m more whole lt) ∙ ap (λ t. message_in (t ++ more)) (record_is m) ∙ read_back m more fits
 
-pub rest_is : (n : ℕ) (m : Message) (more : List ℕ) → n % 8 ≡ 0 → n < 65536 → IsSpellable m → behind_front ((pad_bytes n ++ record_of m) ++ more) ≡ more
+pub rest_is : (n : ℕ) (m : Message) (more : List ℕ) → n % 8 ≡ 0 → n < 65536 → IsSpellable m → behind_front ((pad_bytes n ++ spelling m) ++ more) ≡ more
 unfolding behind_front
 rest_is n m more whole lt fits =
-    ap (λ k. drop (record_len k) (behind_pad ((pad_bytes n ++ record_of m) ++ more))) (front_is n m more whole lt fits)
+    ap (λ k. drop (record_len k) (behind_pad ((pad_bytes n ++ spelling m) ++ more))) (front_is n m more whole lt fits)
     ∙ ap (λ t. drop (record_len m) t) (behind_pad_is n m more whole lt)
-    ∙ drop_at (record_of m) more (record_len m) refl
+    ∙ drop_at (spelling m) more (record_len m) refl
 
 -- the sizes of a record that is written at a place, and of its PAD
 pub record Sizes (c w : ℕ) (m : Message) : Type 0 where
@@ -76,7 +75,7 @@ pub record Sizes (c w : ℕ) (m : Message) : Type 0 where
   pub whole : pad_len c w (record_len m) % 8 ≡ 0
   pub both : need c w (record_len m) ≡ pad_len c w (record_len m) + record_len m
   pub next : (w + need c w (record_len m)) % 8 ≡ 0
-  pub count : length (pad_bytes (pad_len c w (record_len m)) ++ record_of m) ≡ need c w (record_len m)
+  pub count : length (pad_bytes (pad_len c w (record_len m)) ++ spelling m) ≡ need c w (record_len m)
 
 pub sizes_of : (c w : ℕ) (m : Message) → IsWide c → w % 8 ≡ 0 → IsSpellable m → Sizes c w m
 sizes_of c w m wide even fits =
@@ -90,7 +89,7 @@ sizes_of c w m wide even fits =
       whole = whole;
       both = both;
       next = omega (arith, both, whole, size.whole, even);
-      count = omega (arith, both, length-append (pad_bytes k) (record_of m), length-pad_bytes k whole);
+      count = omega (arith, both, length-append (pad_bytes k) (spelling m), length-pad_bytes k whole);
     }
 
 -- messages are read again from the bytes that they make, whatever comes behind them
@@ -102,8 +101,8 @@ messages_before c w (m ∷ ms) more wide even fits =
     let k = pad_len c w (record_len m) in
     let rest = bytes c (w + need c w (record_len m)) ms in
     let lt : k < 65536 = omega (arith, s.small, s.record_.most) in
-    ap (λ t. messages_in (suc (length ms)) t) (append_assoc (pad_bytes k ++ record_of m) rest more)
-    ∙ ap (λ x. x ∷ messages_in (length ms) (behind_front ((pad_bytes k ++ record_of m) ++ (rest ++ more)))) (front_is k m (rest ++ more) s.whole lt here)
+    ap (λ t. messages_in (suc (length ms)) t) (append_assoc (pad_bytes k ++ spelling m) rest more)
+    ∙ ap (λ x. x ∷ messages_in (length ms) (behind_front ((pad_bytes k ++ spelling m) ++ (rest ++ more)))) (front_is k m (rest ++ more) s.whole lt here)
     ∙ ap (λ t. m ∷ messages_in (length ms) t) (rest_is k m (rest ++ more) s.whole lt here)
     ∙ ap (λ t. m ∷ t) (messages_before c (w + need c w (record_len m)) ms more wide s.next (All-tail IsSpellable m ms fits))
 

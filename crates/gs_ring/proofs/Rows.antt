@@ -7,7 +7,7 @@ use Rattle.gs_layout.specs.declared.message.Message.TheVariants.{Thread, TimerTi
 use Rattle.gs_layout.specs.Pad.{pad}
 use Rattle.gs_layout.specs.Spelling.{spelling}
 use Rattle.gs_ring.specs.Block.{behind_front, behind_pad, front_message, messages_from}
-use Rattle.gs_ring.specs.Places.{bytes, is_capacity, need, pad_bytes, pad_len, record_of, written}
+use Rattle.gs_ring.specs.Places.{bytes, is_capacity, need, pad_bytes, pad_len, written}
 use Rattle.gs_ring.specs.RingState.{RingState, end, free, need_of}
 
 -- a creation with a name of 16 bytes, which has 48
@@ -19,19 +19,19 @@ consumed : RingState
 consumed = record { capacity = 128; taken = 2; read = 96; unread = [] }
 
 third_row : (need 128 (written 128 (created 1 ∷ created 2 ∷ [])) 48 ∷ need_of consumed (created 3) ∷ free consumed ∷ []) ≡ 80 ∷ 80 ∷ 128 ∷ []
-unfolding created consumed record_of need pad_len
+unfolding created consumed need pad_len
 third_row = refl
 
 -- the third lies behind a PAD of 32 bytes, at the start of the block
 lies_row : bytes 128 96 (created 3 ∷ []) ≡ 0x20 ∷ 0x00 ∷ 0x09 ∷ 0x00 ∷ replicate 28 0 ++ spelling (created 3)
-unfolding created record_of need pad_len pad_bytes
+unfolding created need pad_len pad_bytes
 lies_row = refl
 
 after : RingState
 after = record { capacity = 128; taken = 2; read = 96; unread = created 3 ∷ [] }
 
 after_row : (free after ∷ end after ∷ []) ≡ 48 ∷ 176 ∷ []
-unfolding created after record_of need pad_len
+unfolding created after need pad_len
 after_row = refl
 
 -- a record that ends where the block ends has no PAD
@@ -41,7 +41,7 @@ fits_row = refl
 
 -- ticks, of 16 bytes each: eight fill the ring, from whatever place
 ticks_row : (written 128 (replicate 8 (TimerTick 1)) ∷ free (record { capacity = 128; taken = 3; read = 48; unread = replicate 8 (TimerTick 1) }) ∷ []) ≡ 128 ∷ 0 ∷ []
-unfolding record_of need pad_len
+unfolding need pad_len
 ticks_row = refl
 
 capacities_row : (is_capacity 120 ∷ is_capacity 128 ∷ is_capacity 132 ∷ is_capacity 136 ∷ is_capacity 1048576 ∷ is_capacity 1048584 ∷ []) ≡ false ∷ true ∷ false ∷ true ∷ true ∷ false ∷ []
@@ -49,5 +49,5 @@ capacities_row = refl
 
 -- the first was consumed: in the block the third lies before the second, and the PAD behind it
 shown_row : messages_from (spelling (created 3) ++ spelling (created 2) ++ pad 32) 48 2 ≡ created 2 ∷ created 3 ∷ []
-unfolding created front_message behind_pad behind_front record_of
+unfolding created front_message behind_pad behind_front
 shown_row = refl

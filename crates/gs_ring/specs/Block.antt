@@ -1,9 +1,11 @@
 -- How a ring's block holds its messages.
-use Rattle.std.specs.Prelude.{◌≡◌, ◌==◌, true, ℕ, zero, suc, ◌+◌, ◌-◌, ◌*◌, ◌%◌, ◌^◌, ◌≤◌, List, [], ◌∷◌, ◌++◌, length, take, drop, slice_index, All, if◌then◌else◌}
+use Rattle.std.specs.Prelude.{◌≡◌, ◌==◌, true, ℕ, zero, suc, ◌+◌, ◌-◌, ◌*◌, ◌%◌, ◌≤◌, List, [], ◌∷◌, ◌++◌, length, take, drop, slice_index, All, if◌then◌else◌}
 use Rattle.gs_layout.specs.declared.message.Message.{Message}
 use Rattle.gs_layout.specs.Reading.{message_in, number_at}
 use Rattle.gs_layout.specs.Spelling.{IsSpellable, spelling}
-use Rattle.gs_ring.specs.Places.{bytes, is_capacity, pad_bytes, place_behind, record_len, record_of}
+use Rattle.gs_ring.specs.declared.block.TheConstants.{ALIGNMENT}
+use Rattle.gs_ring.specs.declared.ends.TheConstants.{MOST_POSTS}
+use Rattle.gs_ring.specs.Places.{bytes, is_capacity, pad_bytes, place_behind, record_len}
 use Rattle.gs_ring.specs.RingState.{RingState}
 
 -- so many bytes of a block from a place on, round its end
@@ -34,7 +36,7 @@ put_at at more block = take at block ++ more ++ drop (at + length more) block
 
 -- a block after a message was written at a place, behind a PAD of so many bytes
 abbrev pub block_with : List ℕ → ℕ → ℕ → Message → List ℕ
-block_with block place pad m = put_at ((place + pad) % length block) (record_of m) (put_at (place % length block) (pad_bytes pad) block)
+block_with block place pad m = put_at ((place + pad) % length block) (spelling m) (put_at (place % length block) (pad_bytes pad) block)
 
 -- where the record begins in the block that is read at a place: behind its PAD, where there is one
 unfoldable pub record_index : List ℕ → ℕ → ℕ
@@ -52,8 +54,8 @@ pub record Lies (block : List ℕ) (place : ℕ) (m : Message) : Type 0 where
 pub record IsRing (block : List ℕ) (read written taken posts : ℕ) : Type 0 where
   pub size : is_capacity (length block) ≡ true
   pub order : taken ≤ posts
-  pub few : posts ≤ 2 ^ 24
-  pub whole : read % 8 ≡ 0
+  pub few : posts ≤ MOST_POSTS
+  pub whole : read % ALIGNMENT ≡ 0
   pub low : written ≤ 88 * posts
   pub forward : read ≤ written
   pub room : written ≤ read + length block

@@ -3,17 +3,15 @@ use Rattle.std.specs.Prelude.{Bool, ◌&&◌, ◌==◌, nat_le, ℕ, ◌+◌, �
 use Rattle.gs_layout.specs.declared.message.Message.{Message}
 use Rattle.gs_layout.specs.Pad.{pad}
 use Rattle.gs_layout.specs.Spelling.{spelling}
+use Rattle.gs_ring.specs.declared.block.TheConstants.{ALIGNMENT, LEAST_CAPACITY, MOST_CAPACITY}
 
 -- the capacities that a ring may have, in bytes
 abbrev pub is_capacity : ℕ → Bool
-is_capacity n = nat_le 128 n && nat_le n 1048576 && n % 8 == 0
+is_capacity n = nat_le LEAST_CAPACITY n && nat_le n MOST_CAPACITY && n % ALIGNMENT == 0
 
--- the bytes of a message in the ring, its spelling
-unfoldable pub record_of : Message → List ℕ
-record_of m = spelling m
-
+-- how many bytes a message has in the ring, where its spelling lies
 abbrev pub record_len : Message → ℕ
-record_len m = length (record_of m)
+record_len m = length (spelling m)
 
 -- how many bytes there are from a place to the end of the block
 abbrev pub rest : ℕ → ℕ → ℕ
@@ -43,7 +41,7 @@ pad_bytes len = if len == 0 then [] else pad len
 -- the bytes of messages that are written from a place on
 abbrev pub bytes : ℕ → ℕ → List Message → List ℕ
 bytes capacity place [] = []
-bytes capacity place (m ∷ ms) = (pad_bytes (pad_len capacity place (record_len m)) ++ record_of m) ++ bytes capacity (place + need capacity place (record_len m)) ms
+bytes capacity place (m ∷ ms) = (pad_bytes (pad_len capacity place (record_len m)) ++ spelling m) ++ bytes capacity (place + need capacity place (record_len m)) ms
 
 -- how many bytes are free where these messages were posted and the first of them, so many, are consumed
 abbrev pub free_after : ℕ → List Message → ℕ → ℕ

@@ -3,13 +3,24 @@
 ghost use Rattle.std.specs.Prelude.{◌≡◌, ◌+◌, ◌-◌, ◌%◌, ◌<◌, ◌^◌, ◌≤◌, length};
 ghost use Rattle.gs_layout.specs.declared.message.Message.{Message};
 ghost use Rattle.gs_layout.specs.Pad.{pad};
+ghost use Rattle.gs_layout.specs.Spelling.{spelling};
 ghost use Rattle.gs_ring.specs.Block.{Lies, block_with, put_at, record_index};
 ghost use Rattle.gs_ring.specs.Peek.{message_of};
-ghost use Rattle.gs_ring.specs.Places.{is_capacity, need, pad_bytes, pad_len, record_len, record_of};
+ghost use Rattle.gs_ring.specs.Places.{is_capacity, need, pad_bytes, pad_len, record_len};
 
 use crate::peeked::Peeked;
 use byteorder::{ByteOrder, LittleEndian};
 use gs_layout::{Message, u16_at};
+
+/// The fewest bytes that a ring may have: an empty ring then takes any message, also behind a PAD.
+pub const LEAST_CAPACITY: usize = 128;
+
+/// The most bytes that a ring may have, so that the memory of one has a bound.
+pub const MOST_CAPACITY: usize = 1_048_576;
+
+/// A ring's capacity is a multiple of this, and so is the length of each message and PAD in it. So the rest
+/// of the block never has fewer bytes than the header of a PAD.
+pub const ALIGNMENT: usize = 8;
 
 /// The kind of a PAD.
 pub(crate) const PAD: u16 = 9;
@@ -34,7 +45,6 @@ pub(crate) fn pad_len(place: u64, capacity: usize, len: usize) -> usize
 }
 
 /// How many bytes the message has in a ring.
-#[tactic(auto, unfolding(crate::specs::Places::record_of))]
 pub(crate) fn record_len(message: &Message) -> usize
     ensures { result ≡ record_len message.now }
 {
@@ -44,7 +54,7 @@ pub(crate) fn record_len(message: &Message) -> usize
 /// Makes a PAD of all these bytes.
 fn fill_pad(out: &mut [u8])
     requires least { 4 ≤ length out.old }
-    requires most { length out.old < 65536 }
+    requires most { length out.old ≤ u16.MAX }
     ensures { out.new ≡ pad (length out.old) }
 {
     let len = out.len();
@@ -56,8 +66,8 @@ fn fill_pad(out: &mut [u8])
 /// Writes a PAD of so many bytes at an index of the block, where it is to have any.
 fn write_pad(block: &mut [u8], at: usize, len: usize)
     requires fits { at + len ≤ length block.old }
-    requires whole { len % 8 ≡ 0 }
-    requires most { len < 65536 }
+    requires whole { len % ALIGNMENT ≡ 0 }
+    requires most { len ≤ u16.MAX }
     ensures { block.new ≡ put_at at (pad_bytes len) block.old }
 {
     if len == 0 {
@@ -69,7 +79,7 @@ fn write_pad(block: &mut [u8], at: usize, len: usize)
 /// Writes a message at an index of the block.
 fn write_record(block: &mut [u8], at: usize, message: &Message)
     requires { at + record_len message.now ≤ length block.old }
-    ensures { block.new ≡ put_at at (record_of message.now) block.old }
+    ensures { block.new ≡ put_at at (spelling message.now) block.old }
 {
     gs_layout::encode_message(message, &mut block[at..]);
 }
@@ -78,9 +88,9 @@ fn write_record(block: &mut [u8], at: usize, message: &Message)
 pub(crate) fn write(block: &mut [u8], place: u64, pad: usize, message: &Message)
     requires size { 0 < length block.old }
     requires fits { place % length block.old + pad ≤ length block.old }
-    requires whole { pad % 8 ≡ 0 }
-    requires most { pad < 65536 }
-    requires place { place + pad < 2 ^ 64 }
+    requires whole { pad % ALIGNMENT ≡ 0 }
+    requires most { pad ≤ u16.MAX }
+    requires place { place + pad ≤ u64.MAX }
     requires behind { (place + pad) % length block.old + record_len message.now ≤ length block.old }
     ensures { block.new ≡ block_with block.old place pad message.now }
 {
@@ -128,5 +138,5 @@ pub(crate) fn span_at(block: &[u8], place: u64) -> usize
 pub(crate) fn is_capacity(capacity: usize) -> bool
     ensures { result ≡ is_capacity capacity }
 {
-    128 <= capacity && capacity <= 1_048_576 && capacity % 8 == 0
+    LEAST_CAPACITY <= capacity && capacity <= MOST_CAPACITY && capacity % ALIGNMENT == 0
 }

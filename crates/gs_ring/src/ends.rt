@@ -9,6 +9,10 @@ use crate::fault::Full;
 use crate::peeked::Peeked;
 use gs_layout::Message;
 
+/// The most messages that may be posted to a ring: as many as a journal can hold. So a place in the ring,
+/// which counts the bytes that were ever written, never wraps.
+pub const MOST_POSTS: u64 = 16_777_216;
+
 /// The end that messages are posted to.
 ///
 /// What was posted is a relation of the end and a list, since an end need not hold it.
@@ -30,13 +34,14 @@ pub trait Poster {
     /// The same end of the same ring.
     ghost same: { Self → Self → Type 0 };
 
-    /// Appends a message, whose fields are in their ranges. Fewer than 16,777,216 were posted before.
+    /// Appends a message, whose fields are in their ranges. Fewer than [`MOST_POSTS`] were posted
+    /// before.
     ///
     /// # Errors
     ///
     /// `Full` where the message is refused. Nothing was posted.
     fn post(&mut self, message: &Message) -> Result<(), Full>
-        requires few { count self.old < 2 ^ 24 }
+        requires few { count self.old < MOST_POSTS }
         requires spellable { IsSpellable message.now }
         ensures ring { same self.old self.new }
         ensures posts { OnOk result ((xs : List Message) → posted self.old xs → posted self.new (xs ++ message.now ∷ [])) }

@@ -1,9 +1,10 @@
+use crate::block::{ALIGNMENT, LEAST_CAPACITY, MOST_CAPACITY};
 use thiserror::Error;
 
 /// Why no ring can be made.
 #[derive(Clone, Copy, PartialEq, Eq, Debug, Error)]
 pub enum RingFault {
-    #[error("the capacity is not a multiple of 8 from 128 to 1048576")]
+    #[error("the capacity is not a multiple of {} from {} to {}", ALIGNMENT, LEAST_CAPACITY, MOST_CAPACITY)]
     BadCapacity,
     #[error("out of memory")]
     OutOfMemory,

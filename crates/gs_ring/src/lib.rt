@@ -9,7 +9,8 @@ mod peeked;
 mod ring;
 mod waiting;
 
-pub use ends::{Poster, Ring, Taker};
+pub use block::{ALIGNMENT, LEAST_CAPACITY, MOST_CAPACITY};
+pub use ends::{MOST_POSTS, Poster, Ring, Taker};
 pub use fault::{Full, RingFault};
 pub use peeked::Peeked;
 pub use ring::ByteRing;

@@ -7,7 +7,7 @@ ghost use Rattle.gs_ring.specs.Places.{bytes, is_capacity, need, place_behind, r
 ghost use Rattle.gs_ring.specs.RingState.{IsTight, empty, end, free, posts};
 
 use crate::block;
-use crate::ends::{Poster, Ring, Taker};
+use crate::ends::{MOST_POSTS, Poster, Ring, Taker};
 use crate::fault::{Full, RingFault};
 use crate::peeked::Peeked;
 use crate::waiting::Waiting;
@@ -48,8 +48,8 @@ impl ByteRing {
     ///
     /// # Errors
     ///
-    /// `BadCapacity` where `capacity` is not a multiple of 8 from 128 to 1,048,576, and else
-    /// `OutOfMemory` where memory runs out.
+    /// `BadCapacity` if [`ByteRing::is_capacity`] does not hold of `capacity`, and else `OutOfMemory` if
+    /// memory runs out.
     pub fn new(alloc: Global, capacity: usize) -> Result<ByteRing, RingFault>
         ensures made { IfOk result (λ r. r ≡ empty capacity) }
         ensures bad { IsErrOf result RingFault.BadCapacity ↔ (is_capacity capacity ≡ false) }
@@ -69,7 +69,8 @@ impl ByteRing {
         })
     }
 
-    /// Whether a ring may have so many bytes: a multiple of 8 from 128 to 1,048,576.
+    /// Whether a ring may have so many bytes: a multiple of [`ALIGNMENT`] from [`LEAST_CAPACITY`] to
+    /// [`MOST_CAPACITY`].
     pub fn is_capacity(capacity: usize) -> bool
         ensures { result ≡ is_capacity capacity }
     {
@@ -94,7 +95,7 @@ impl ByteRing {
 
     /// How many bytes a record of so many bytes takes up that is posted next, with its PAD.
     pub fn need(&self, len: usize) -> usize
-        requires { len < 2 ^ 16 }
+        requires { len ≤ u16.MAX }
         ensures { result ≡ need self.now.capacity (end self.now) len }
     {
         block::pad_len(self.written, self.block.len(), len) + len
@@ -106,7 +107,7 @@ impl ByteRing {
     ///
     /// `Full` exactly where the message needs more bytes than are free. The ring is as it was.
     pub(crate) fn push(&mut self, message: &Message) -> Result<(), Full>
-        requires few { posts self.old < 2 ^ 24 }
+        requires few { posts self.old < MOST_POSTS }
         requires spellable { IsSpellable message.now }
         ensures exact { IsErr result ↔ IsTight self.old message.now }
         ensures ok { OnOk result (self.new ≡ record self.old { unread = self.old.unread ++ message.now ∷ [] }) }
@@ -191,7 +192,7 @@ impl Poster for ByteRing {
     ghost same = { SameCapacity };
 
     fn post(&mut self, message: &Message) -> Result<(), Full>
-        requires few { posts self.old < 2 ^ 24 }
+        requires few { posts self.old < MOST_POSTS }
         requires spellable { IsSpellable message.now }
         ensures ring { SameCapacity self.old self.new }
         ensures posts { OnOk result ((xs : List Message) → Posted self.old xs → Posted self.new (xs ++ message.now ∷ [])) }

@@ -4,6 +4,7 @@ use Rattle.gs_runq.specs.Line.{LineState}
 use Rattle.gs_runq.specs.Queue.{IsOut, Apart}
 use Rattle.gs_runq.specs.Linked.{Linked, walked}
 use Rattle.gs_runq.specs.declared.line.Line.TheInside.{Inside}
+use Rattle.gs_runq.specs.declared.line.TheConstants.{PLACES}
 
 -- each of these has a place of its own in a table of this length
 abbrev pub AllIn : ℕ → List ℕ → Type 0
@@ -17,7 +18,7 @@ threads_of next count = walked count (slice_index next) 0
 -- the tables are empty or whole; place 0 stands before the first and behind the last; a thread that is not in line follows itself
 pub record IsLine (next previous : List ℕ) (count : ℕ) : Type 0 where
   pub sizes : length previous ≡ length next
-  pub size : (length next ≡ 0) ⊎ (length next ≡ 65537)
+  pub size : (length next ≡ 0) ⊎ (length next ≡ PLACES)
   pub linked : Linked (slice_index next) (slice_index previous) 0 (threads_of next count) 0
   pub apart : Apart (threads_of next count)
   pub within : AllIn (length next) (threads_of next count)

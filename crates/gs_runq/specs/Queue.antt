@@ -2,10 +2,11 @@
 use Rattle.std.specs.Prelude.{Bool, false, ◌||◌, ◌==◌, ◌≤◌, ℕ, ◌≢◌, List, [], ◌∷◌, ◌++◌, if◌then◌else◌}
 use Rattle.gs_layout.specs.declared.facts.Class.{Class}
 use Rattle.gs_layout.specs.declared.facts.Class.TheVariants.{Zero, One}
+use Rattle.gs_layout.specs.declared.message.TheConstants.{MOST_TIDS}
 
 -- a number that a thread can have
 abbrev pub IsTid : ℕ → Type 0
-IsTid t = (1 ≤ t) × (t ≤ 65536)
+IsTid t = (1 ≤ t) × (t ≤ MOST_TIDS)
 
 -- whether the thread is one of these
 abbrev pub is_in : ℕ → List ℕ → Bool

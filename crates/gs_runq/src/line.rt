@@ -2,16 +2,17 @@ ghost use Rattle.std.specs.Prelude.{◌≡◌, ◌<◌, ◌≤◌, ◌++◌, ◌
 ghost use Rattle.gs_runq.specs.Queue.{IsTid, is_in, without};
 
 use crate::walk::{LineWalk, along};
+use gs_layout::MOST_TIDS;
 use std::alloc::{AllocError, Global};
 use std::marker::Model;
 
 /// How many places a table has: place 0, and one for each tid.
-const PLACES: u32 = 65_537;
+const PLACES: u32 = MOST_TIDS + 1;
 
 /// A table in which each place leads to itself.
 fn own_places(alloc: Global) -> Result<Vec<u32>, AllocError>
-    ensures length { IfOk result (λ v. length v.items ≡ 65537) }
-    ensures own { IfOk result (λ v. (t : ℕ) → t < 65537 → slice_index v.items t ≡ t) }
+    ensures length { IfOk result (λ v. length v.items ≡ PLACES) }
+    ensures own { IfOk result (λ v. (t : ℕ) → t < PLACES → slice_index v.items t ≡ t) }
 {
     (0..PLACES).collect(alloc)
 }
@@ -65,10 +66,10 @@ impl Line {
     ///
     /// Where there is no memory for both tables; nothing changes then.
     pub fn reserve(&mut self) -> Result<(), AllocError>
-        ensures ok { OnOk result (self.new.room ≡ 65536) }
+        ensures ok { OnOk result (self.new.room ≡ MOST_TIDS) }
         ensures threads { self.new.threads ≡ self.old.threads }
         ensures room { self.old.room ≤ self.new.room }
-        ensures most { self.new.room ≤ 65536 }
+        ensures most { self.new.room ≤ MOST_TIDS }
         ensures err { OnErr result (self.new ≡ self.old) }
     {
         if self.next.is_empty() {

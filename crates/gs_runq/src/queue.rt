@@ -4,12 +4,12 @@ ghost use Rattle.gs_runq.specs.Queue.{IsTid, is_in, empty, order, class_of, put,
 
 use crate::line::Line;
 use crate::walk::{Walk, both};
-use gs_layout::Class;
+use gs_layout::{Class, MOST_TIDS};
 use std::alloc::{AllocError, Global};
 use std::marker::Model;
 
 /// Threads that wait, each once: those of class 0 in the order in which they came, then those of
-/// class 1. A thread is named by its tid, from 1 to 65,536.
+/// class 1. A thread is named by its tid.
 ///
 /// `push`, `remove` and `has` take a constant number of steps, however many threads wait, and no
 /// memory; a walk visits only the threads that wait.
@@ -42,14 +42,14 @@ impl RunQueue {
         }
     }
 
-    /// Makes room for that many threads of each class, 65,536 at most. Who waits stays as it is, and
-    /// room that was there stays.
+    /// Makes room for that many threads of each class, at most [`MOST_TIDS`]. Who waits stays as it
+    /// is, and room that was there stays.
     ///
     /// # Errors
     ///
     /// Where there is no memory. All is then as before.
     pub fn reserve(&mut self, n: u32) -> Result<(), AllocError>
-        requires { n ≤ 65536 }
+        requires { n ≤ MOST_TIDS }
         ensures ok { OnOk result (n ≤ self.new.room) }
         ensures zero_class { self.new.zero_class ≡ self.old.zero_class }
         ensures one_class { self.new.one_class ≡ self.old.one_class }
@@ -86,12 +86,12 @@ impl RunQueue {
         self.one_class.remove(tid);
     }
 
-    /// Whether a thread waits. Tid 0 and tids above 65,536 never do. Where it does not, it finds room
-    /// in a queue that was given room for all 65,536.
+    /// Whether a thread waits. Tid 0 and tids above [`MOST_TIDS`] never do. If it does not, it finds
+    /// room in a queue that was given room for all of them.
     #[tactic(auto, using(crate::proofs::Queues::in_append))]
     pub fn has(&self, tid: u32) -> bool
         ensures has { result ≡ is_in tid (order self.now) }
-        ensures spare { result ≡ false → IsTid tid → (class : ClassOf) → length (class_of class self.now) < 65536 }
+        ensures spare { result ≡ false → IsTid tid → (class : ClassOf) → length (class_of class self.now) < MOST_TIDS }
     {
         self.zero_class.has(tid) || self.one_class.has(tid)
     }

@@ -2,6 +2,7 @@
 use Rattle.std.proofs.Common.{◌≡◌, ℕ, List, [], ◌∷◌, ◌++◌, codes, refl, Ok, Err, true, false, Option, Some, None, Result}
 use Rattle.gs_layout.specs.declared.facts.Class.TheVariants.{Zero, One}
 use Rattle.gs_policy.specs.declared.any.AnyPolicy.TheVariants as policies
+use Rattle.gs_policy.specs.declared.any.AnyPolicy.{AnyPolicy}
 use Rattle.gs_core.specs.declared.config.Config.{Config}
 use Rattle.gs_core.specs.declared.event.Event.{Event}
 use Rattle.gs_kernel.specs.declared.command.Command.TheVariants as commands
@@ -182,7 +183,7 @@ create_over : event (codes "create 3 0 r 12345678901234567") ≡ Err BadName
 create_over = refl
 
 -- headers
-abbrev header : List ℕ → Result Config Reason
+abbrev header : List ℕ → Result (Config AnyPolicy) Reason
 header text = header_of (words_of text)
 
 header_word : header (codes "cpus") ≡ Err BadCount

@@ -5,7 +5,7 @@ use Rattle.std.proofs.lemmas.Slice.Eq.{bytes_eq-Decides}
 use Rattle.gs_policy.specs.declared.any.AnyPolicy.{AnyPolicy}
 use Rattle.gs_script.specs.declared.fault.Reason.{Reason}
 use Rattle.gs_script.specs.declared.header.Firsts.{Firsts}
-use Rattle.gs_script.specs.Grammar.{Number, takes, first_fault, or_fault}
+use Rattle.gs_script.specs.Grammar.{Number, is_of_kind, first_fault, or_fault}
 use Rattle.gs_script.specs.Rows.{is}
 use Rattle.gs_script.specs.Header.{policies, histories, generations, parts, named, number_or, words_behind, policy_of, policy_in, firsts_of, firsts_in, part_in}
 use Rattle.gs_script.proofs.Parts.{same_parts, number_failed, number_read, failed_part, is_part, given, left_out, tseq_step, tseq_skip, gen_step, gen_skip, history_step, history_skip, behind_here, behind_other}
@@ -87,7 +87,7 @@ pub policy_failed : (ws vs us left : List (List ℕ)) (o p q : Option ℕ) (e : 
 policy_failed ws vs us left o p q e r h = rw (fault_is ws vs us left o p q r, fault_of_result (first_fault policies left) (policy_of left) e h) refl
 
 -- a policy has two words behind it at most
-too_many_by : (v x y : List ℕ) (ws : List (List ℕ)) (f t n : Bool) → is v (codes "first") ≡ f → is v (codes "two") ≡ t → takes (Number 1 65535) x ≡ n → first_fault policies (codes "policy" ∷ v ∷ x ∷ y ∷ ws) ≡ None → ⊥
+too_many_by : (v x y : List ℕ) (ws : List (List ℕ)) (f t n : Bool) → is v (codes "first") ≡ f → is v (codes "two") ≡ t → is_of_kind (Number 1 65535) x ≡ n → first_fault policies (codes "policy" ∷ v ∷ x ∷ y ∷ ws) ≡ None → ⊥
 too_many_by v x y ws true t n e k l h = let first = (bytes_eq-Decides v (codes "first")).0 e in absurd (cc (rw first at h))
 too_many_by v x y ws false true true e k l h = let two = (bytes_eq-Decides v (codes "two")).0 k in absurd (cc (rw (two, l) at h))
 too_many_by v x y ws false true false e k l h = let two = (bytes_eq-Decides v (codes "two")).0 k in absurd (cc (rw (two, l) at h))
@@ -96,7 +96,7 @@ too_many_by v x y ws false false n e k l h = absurd (cc (rw (e, k) at h))
 few : (m v : List ℕ) (ws : List (List ℕ)) → first_fault policies (codes "policy" ∷ v ∷ ws) ≡ None → words_behind m ws ≡ []
 few m v [] h = refl
 few m v (x ∷ []) h = refl
-few m v (x ∷ y ∷ ws) h = absurd (too_many_by v x y ws (is v (codes "first")) (is v (codes "two")) (takes (Number 1 65535) x) refl refl refl h)
+few m v (x ∷ y ∷ ws) h = absurd (too_many_by v x y ws (is v (codes "first")) (is v (codes "two")) (is_of_kind (Number 1 65535) x) refl refl refl h)
 
 -- no other part stands where the policy does
 none_here_by : (m w v : List ℕ) (ws : List (List ℕ)) (p : Bool) → is w (codes "policy") ≡ p → is (codes "policy") m ≡ false → first_fault policies (w ∷ v ∷ ws) ≡ None → words_behind m (w ∷ v ∷ ws) ≡ []

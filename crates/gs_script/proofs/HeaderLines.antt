@@ -8,10 +8,11 @@ use Rattle.gs_script.specs.declared.fault.ScriptFault.{ScriptFault}
 use Rattle.gs_script.specs.declared.script.LineError.{LineError}
 use Rattle.gs_script.specs.declared.script.LineError.TheVariants as lines
 use Rattle.gs_core.specs.declared.event.Event.{Event}
+use Rattle.gs_policy.specs.declared.any.AnyPolicy.{AnyPolicy}
 use Rattle.gs_core.specs.declared.config.Config.{Config}
 use Rattle.gs_script.specs.declared.script.ScriptError.{ScriptError}
 use Rattle.gs_script.specs.declared.script.ScriptError.TheVariants as errors
-use Rattle.gs_script.specs.Held.{Gives, Tells, placed}
+use Rattle.gs_script.specs.Held.{Gives, GivesBy, placed}
 use Rattle.gs_script.specs.Words.{lines_of}
 use Rattle.gs_script.specs.Rows.{shown}
 use Rattle.gs_script.specs.Header.{header_of}
@@ -40,11 +41,11 @@ pub passes : (i : ℕ) (lines : List (Bor (List ℕ))) (d : Bor (List ℕ)) (who
 passes i lines d whole h so_far is =
     sym (from_line i lines d h ∙ ap (λ s. headed (i + 1) s (script_from (i + 1 + 1) (drop (i + 1) (shown lines))) (events_of (i + 2) (shown (drop (i + 1) lines)))) is) ∙ so_far
 
-pub found : (i : ℕ) (s : Config) (lines : List (Bor (List ℕ))) (d : Bor (List ℕ)) (whole : Result Script ScriptFault) → i < length lines → script_from (i + 1) (drop i (shown lines)) ≡ whole → says header_of (get_or lines i d).now ≡ Ok (Some s) → whole ≡ with_config s (events_of (i + 2) (shown (drop (i + 1) lines)))
+pub found : (i : ℕ) (s : Config AnyPolicy) (lines : List (Bor (List ℕ))) (d : Bor (List ℕ)) (whole : Result Script ScriptFault) → i < length lines → script_from (i + 1) (drop i (shown lines)) ≡ whole → says header_of (get_or lines i d).now ≡ Ok (Some s) → whole ≡ with_config s (events_of (i + 2) (shown (drop (i + 1) lines)))
 found i s lines d whole h so_far is =
     sym so_far ∙ from_line i lines d h ∙ ap (λ t. headed (i + 1) t (script_from (i + 1 + 1) (drop (i + 1) (shown lines))) (events_of (i + 2) (shown (drop (i + 1) lines)))) is
 
-pub stopped : {A : Type 0} (view : A → Script) (i : ℕ) (e : LineError) (lines : List (Bor (List ℕ))) (d : Bor (List ℕ)) (whole : Result Script ScriptFault) → i < length lines → script_from (i + 1) (drop i (shown lines)) ≡ whole → Gives (Err e) (says header_of (get_or lines i d).now) → Tells view (Err (placed (i + 1) e)) whole
+pub stopped : {A : Type 0} (view : A → Script) (i : ℕ) (e : LineError) (lines : List (Bor (List ℕ))) (d : Bor (List ℕ)) (whole : Result Script ScriptFault) → i < length lines → script_from (i + 1) (drop i (shown lines)) ≡ whole → Gives (Err e) (says header_of (get_or lines i d).now) → GivesBy view (Err (placed (i + 1) e)) whole
 stopped view i (lines.Fault reason) ls d whole h so_far is =
     sym so_far ∙ from_line i ls d h ∙ ap (λ t. headed (i + 1) t (script_from (i + 1 + 1) (drop (i + 1) (shown ls))) (events_of (i + 2) (shown (drop (i + 1) ls)))) is
 stopped view i lines.OutOfMemory ls d whole h so_far is = tt
@@ -52,6 +53,6 @@ stopped view i lines.OutOfMemory ls d whole h so_far is = tt
 pub few_lines : (bytes : List ℕ) → length (lines_of bytes) ≤ length bytes + 1
 few_lines bytes = omega (arith, length-slice_split (λ b. b == 10) bytes, count_by-le-length (λ b. b == 10) bytes)
 
-pub later : {A B : Type 0} (view : A → List Event) (whole_view : B → Script) (e : ScriptError) (s : Config) (r : Result (List Event) ScriptFault) (whole : Result Script ScriptFault) → whole ≡ with_config s r → Tells view (Err e) r → Tells whole_view (Err e) whole
+pub later : {A B : Type 0} (view : A → List Event) (whole_view : B → Script) (e : ScriptError) (s : Config AnyPolicy) (r : Result (List Event) ScriptFault) (whole : Result Script ScriptFault) → whole ≡ with_config s r → GivesBy view (Err e) r → GivesBy whole_view (Err e) whole
 later view whole_view (errors.Fault f) s r whole h k = h ∙ ap (with_config s) k
 later view whole_view errors.OutOfMemory s r whole h k = tt

@@ -5,7 +5,7 @@ use Rattle.gs_script.specs.declared.fault.ScriptFault.{ScriptFault}
 use Rattle.gs_core.specs.declared.event.Event.{Event}
 use Rattle.gs_script.specs.declared.script.LineError.{LineError}
 use Rattle.gs_script.specs.declared.script.LineError.TheVariants as lines
-use Rattle.gs_script.specs.Held.{Gives, Tells, placed}
+use Rattle.gs_script.specs.Held.{Gives, GivesBy, placed}
 use Rattle.gs_script.specs.Rows.{event_of, shown}
 use Rattle.gs_script.specs.Script.{says, events_of, before, with_event, fault}
 
@@ -57,6 +57,6 @@ pub stops : (n i : ℕ) (front : List Event) (reason : Reason) (lines : List (Bo
 stops n i front reason lines d whole h so_far says_is =
     sym so_far ∙ ap (with_front front) (from_line n i lines d h ∙ ap (λ s. before (n + i) s (events_of (n + (i + 1)) (drop (i + 1) (shown lines)))) says_is)
 
-pub stopped : {A : Type 0} (view : A → List Event) (n i : ℕ) (front : List Event) (e : LineError) (lines : List (Bor (List ℕ))) (d : Bor (List ℕ)) (whole : Result (List Event) ScriptFault) → i < length lines → with_front front (events_of (n + i) (drop i (shown lines))) ≡ whole → Gives (Err e) (says event_of (get_or lines i d).now) → Tells view (Err (placed (n + i) e)) whole
+pub stopped : {A : Type 0} (view : A → List Event) (n i : ℕ) (front : List Event) (e : LineError) (lines : List (Bor (List ℕ))) (d : Bor (List ℕ)) (whole : Result (List Event) ScriptFault) → i < length lines → with_front front (events_of (n + i) (drop i (shown lines))) ≡ whole → Gives (Err e) (says event_of (get_or lines i d).now) → GivesBy view (Err (placed (n + i) e)) whole
 stopped view n i front (lines.Fault reason) ls d whole h so_far says_is = stops n i front reason ls d whole h so_far says_is
 stopped view n i front lines.OutOfMemory ls d whole h so_far says_is = tt

@@ -9,7 +9,7 @@ use Rattle.std.specs.Str.Parse.{ParsesUnsigned, digits_value}
 use Rattle.gs_script.specs.declared.fault.Reason.TheVariants.{BadNumber}
 use Rattle.gs_script.specs.Words.{number}
 use Rattle.gs_script.specs.Held.{begins_plainly}
-use Rattle.gs_script.specs.Grammar.{Number, takes}
+use Rattle.gs_script.specs.Grammar.{Number, is_of_kind}
 use Rattle.gs_script.specs.Rows.{number_between}
 
 own : IsNumeralModel (λ ds. all_ascii_digits ds ≡ true) (digits_value 10)
@@ -34,7 +34,7 @@ record Taken (least most : ℕ) (word : List ℕ) : Type 0 where
   low : least ≤ number word
   high : number word ≤ most
 
-taken : (low high : ℕ) (word : List ℕ) → takes (Number low high) word ≡ true → Taken low high word
+taken : (low high : ℕ) (word : List ℕ) → is_of_kind (Number low high) word ≡ true → Taken low high word
 taken low high word h =
     let a = and_parts _ _ h in
     let b = and_parts _ _ a.0 in
@@ -48,7 +48,7 @@ taken low high word h =
       high = let e = a.1 in grind (arith, nat_tests);
     }
 
-takes_it : (low high : ℕ) (word : List ℕ) → Taken low high word → takes (Number low high) word ≡ true
+takes_it : (low high : ℕ) (word : List ℕ) → Taken low high word → is_of_kind (Number low high) word ≡ true
 takes_it low high word t =
     and_from _ _
     (and_from _ _

@@ -6,24 +6,24 @@ use Rattle.std.proofs.lemmas.Slice.Eq.{bytes_eq-Decides}
 use Rattle.gs_script.specs.declared.fault.Reason.{Reason}
 use Rattle.gs_script.specs.declared.fault.Reason.TheVariants.{BadCount, BadNumber}
 use Rattle.gs_script.specs.Words.{number}
-use Rattle.gs_script.specs.Grammar.{Kind, Number, Form, takes, fault_of, after_word, first_fault, is_empty}
+use Rattle.gs_script.specs.Grammar.{Kind, Number, Form, is_of_kind, fault_of, after_word, first_fault, is_empty}
 use Rattle.gs_script.specs.Rows.{is}
 use Rattle.gs_script.specs.Header.{policies, histories, generations, parts, behind, words_behind, part_in, number_first, with_rest}
 
 -- a word in front of each form
-opened : (kind : Kind) (word : List ℕ) (forms : List Form) → takes kind word ≡ true → flat_map (after_word word) (map (λ form. kind ∷ form) forms) ≡ forms
+opened : (kind : Kind) (word : List ℕ) (forms : List Form) → is_of_kind kind word ≡ true → flat_map (after_word word) (map (λ form. kind ∷ form) forms) ≡ forms
 opened kind word [] h = refl
 opened kind word (form ∷ forms) h = rw h (ap (λ fs. form ∷ fs) (opened kind word forms h))
 
-closed : (kind : Kind) (word : List ℕ) (forms : List Form) → takes kind word ≡ false → flat_map (after_word word) (map (λ form. kind ∷ form) forms) ≡ []
+closed : (kind : Kind) (word : List ℕ) (forms : List Form) → is_of_kind kind word ≡ false → flat_map (after_word word) (map (λ form. kind ∷ form) forms) ≡ []
 closed kind word [] h = refl
 closed kind word (form ∷ forms) h = rw h (closed kind word forms h)
 
 -- where a word is taken that stands in front of each form, the rest is read against the forms behind it
-pub one_step : (kind : Kind) (word : List ℕ) (words : List (List ℕ)) (form : Form) (forms : List Form) → takes kind word ≡ true → first_fault (map (λ f. kind ∷ f) (form ∷ forms)) (word ∷ words) ≡ first_fault (form ∷ forms) words
+pub one_step : (kind : Kind) (word : List ℕ) (words : List (List ℕ)) (form : Form) (forms : List Form) → is_of_kind kind word ≡ true → first_fault (map (λ f. kind ∷ f) (form ∷ forms)) (word ∷ words) ≡ first_fault (form ∷ forms) words
 one_step kind word words form forms h = rw (opened kind word (form ∷ forms) h) refl
 
-pub one_fault : (kind : Kind) (word : List ℕ) (words : List (List ℕ)) (form : Form) (forms : List Form) → takes kind word ≡ false → first_fault (map (λ f. kind ∷ f) (form ∷ forms)) (word ∷ words) ≡ Some (fault_of kind)
+pub one_fault : (kind : Kind) (word : List ℕ) (words : List (List ℕ)) (form : Form) (forms : List Form) → is_of_kind kind word ≡ false → first_fault (map (λ f. kind ∷ f) (form ∷ forms)) (word ∷ words) ≡ Some (fault_of kind)
 one_fault kind word words form forms h = rw (closed kind word (form ∷ forms) h) refl
 
 none_empty : (kind : Kind) (forms : List Form) → list_any is_empty (map (λ f. kind ∷ f) forms) ≡ false
@@ -45,15 +45,15 @@ same_parts o p ws vs h =
     (ap (λ (r : Read). r.0) same, ap (λ (r : Read). r.1) same)
 
 -- a number in front of each form
-failed_by : (low high : ℕ) (v : List ℕ) (ws : List (List ℕ)) (form : Form) (forms : List Form) (e : Reason) (b : Bool) → takes (Number low high) v ≡ b → with_rest ws (cond b (Ok (number v)) (Err BadNumber)) ≡ Err e → first_fault (map (λ f. Number low high ∷ f) (form ∷ forms)) (v ∷ ws) ≡ Some e
+failed_by : (low high : ℕ) (v : List ℕ) (ws : List (List ℕ)) (form : Form) (forms : List Form) (e : Reason) (b : Bool) → is_of_kind (Number low high) v ≡ b → with_rest ws (cond b (Ok (number v)) (Err BadNumber)) ≡ Err e → first_fault (map (λ f. Number low high ∷ f) (form ∷ forms)) (v ∷ ws) ≡ Some e
 failed_by low high v ws form forms e true h k = absurd (cc)
 failed_by low high v ws form forms e false h k = let same : BadNumber ≡ e = cc in one_fault (Number low high) v ws form forms h ∙ ap Some same
 
 pub number_failed : (low high : ℕ) (ws : List (List ℕ)) (form : Form) (forms : List Form) (e : Reason) → number_first low high ws ≡ Err e → first_fault (map (λ f. Number low high ∷ f) (form ∷ forms)) ws ≡ Some e
 number_failed low high [] form forms e h = let same : BadCount ≡ e = cc in rw (none_empty (Number low high) forms) (ap Some same)
-number_failed low high (v ∷ ws) form forms e h = failed_by low high v ws form forms e (takes (Number low high) v) refl h
+number_failed low high (v ∷ ws) form forms e h = failed_by low high v ws form forms e (is_of_kind (Number low high) v) refl h
 
-pub read_by : (low high : ℕ) (v : List ℕ) (ws left : List (List ℕ)) (form : Form) (forms : List Form) (o : Option ℕ) (b : Bool) → takes (Number low high) v ≡ b → with_rest ws (cond b (Ok (number v)) (Err BadNumber)) ≡ Ok (o, left) → (first_fault (map (λ f. Number low high ∷ f) (form ∷ forms)) (v ∷ ws) ≡ first_fault (form ∷ forms) left) × (o ≡ Some (number v)) × (left ≡ ws)
+pub read_by : (low high : ℕ) (v : List ℕ) (ws left : List (List ℕ)) (form : Form) (forms : List Form) (o : Option ℕ) (b : Bool) → is_of_kind (Number low high) v ≡ b → with_rest ws (cond b (Ok (number v)) (Err BadNumber)) ≡ Ok (o, left) → (first_fault (map (λ f. Number low high ∷ f) (form ∷ forms)) (v ∷ ws) ≡ first_fault (form ∷ forms) left) × (o ≡ Some (number v)) × (left ≡ ws)
 read_by low high v ws left form forms o true h k =
     let same = same_parts (Some (number v)) o ws left k in
     (one_step (Number low high) v ws form forms h ∙ ap (first_fault (form ∷ forms)) same.1, sym same.0, sym same.1)
@@ -61,7 +61,7 @@ read_by low high v ws left form forms o false h k = absurd (cc)
 
 pub number_read : (low high : ℕ) (ws left : List (List ℕ)) (form : Form) (forms : List Form) (o : Option ℕ) → number_first low high ws ≡ Ok (o, left) → first_fault (map (λ f. Number low high ∷ f) (form ∷ forms)) ws ≡ first_fault (form ∷ forms) left
 number_read low high [] left form forms o h = absurd (cc)
-number_read low high (v ∷ ws) left form forms o h = (read_by low high v ws left form forms o (takes (Number low high) v) refl h).0
+number_read low high (v ∷ ws) left form forms o h = (read_by low high v ws left form forms o (is_of_kind (Number low high) v) refl h).0
 
 -- the first part
 pub tseq_step : (w : List ℕ) (ws : List (List ℕ)) → is w (codes "first-tseq") ≡ true → first_fault parts (w ∷ ws) ≡ first_fault (map (λ f. Number 0 4294967294 ∷ f) generations) ws
@@ -124,7 +124,7 @@ behind_here d n low high (w ∷ []) left o h k = elim (is_part n low high w [] o
   | left_out e none rest ↦ sym (ap (λ p. unwrap_or p d) none)
 ]
 behind_here d n low high (w ∷ v ∷ ws) left o h k = elim (is_part n low high w (v ∷ ws) o left h) [
-  | given e r ↦ rw e (sym (ap (λ p. unwrap_or p d) (read_by low high v ws left [] [] o (takes (Number low high) v) refl r).1))
+  | given e r ↦ rw e (sym (ap (λ p. unwrap_or p d) (read_by low high v ws left [] [] o (is_of_kind (Number low high) v) refl r).1))
   | left_out e none rest ↦ sym (ap (behind d n) rest) ∙ k ∙ sym (ap (λ p. unwrap_or p d) none)
 ]
 
@@ -135,6 +135,6 @@ behind_other n m low high (w ∷ []) left o ne h = elim (is_part n low high w []
   | left_out e none rest ↦ sym (ap (words_behind m) rest)
 ]
 behind_other n m low high (w ∷ v ∷ ws) left o ne h = elim (is_part n low high w (v ∷ ws) o left h) [
-  | given e r ↦ rw ((bytes_eq-Decides w n).0 e, ne) (sym (ap (words_behind m) (read_by low high v ws left [] [] o (takes (Number low high) v) refl r).2))
+  | given e r ↦ rw ((bytes_eq-Decides w n).0 e, ne) (sym (ap (words_behind m) (read_by low high v ws left [] [] o (is_of_kind (Number low high) v) refl r).2))
   | left_out e none rest ↦ sym (ap (words_behind m) rest)
 ]

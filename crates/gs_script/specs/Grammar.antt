@@ -23,11 +23,11 @@ is_one_of word words = list_any (bytes_eq word) words
 abbrev pub is_number_in : ℕ → ℕ → List ℕ → Bool
 is_number_in low high word = is_number word && nat_le low (number word) && nat_le (number word) high
 
-abbrev pub takes : Kind → List ℕ → Bool
-takes (OneOf words) word = is_one_of word words
-takes (Number low high) word = is_number_in low high word
-takes (Multiple step low high) word = is_number_in low high word && (number word % step == 0)
-takes Name word = is_name word
+abbrev pub is_of_kind : Kind → List ℕ → Bool
+is_of_kind (OneOf words) word = is_one_of word words
+is_of_kind (Number low high) word = is_number_in low high word
+is_of_kind (Multiple step low high) word = is_number_in low high word && (number word % step == 0)
+is_of_kind Name word = is_name word
 
 -- what a word is that is not of its kind
 abbrev pub fault_of : Kind → Reason
@@ -39,7 +39,7 @@ fault_of Name = BadName
 -- what is left of a form where it takes the word
 abbrev pub after_word : List ℕ → Form → List Form
 after_word word [] = []
-after_word word (kind ∷ form) = if takes kind word then form ∷ [] else []
+after_word word (kind ∷ form) = if is_of_kind kind word then form ∷ [] else []
 
 -- what a word is that no form takes: the first form that wants a word says it
 abbrev pub fault_at : List Form → Reason

@@ -1,13 +1,16 @@
 -- The line that says what an enclave is opened with.
 use Rattle.std.specs.Prelude.{ℕ, ◌≤◌, nat_lt, List, [], ◌∷◌, map, length, drop, if◌then◌else◌, codes, Option, Some, None, Result, Ok, Err}
+use Rattle.gs_status.specs.declared.mask.TheConstants.{MOST_CPUS}
+use Rattle.gs_ring.specs.declared.block.TheConstants.{ALIGNMENT, LEAST_CAPACITY, MOST_CAPACITY}
 use Rattle.gs_policy.specs.declared.any.AnyPolicy.{AnyPolicy}
 use Rattle.gs_policy.specs.declared.any.AnyPolicy.TheVariants.{FirstCome, TwoClass}
 use Rattle.gs_core.specs.declared.config.Config.{Config}
 use Rattle.gs_script.specs.declared.fault.Reason.{Reason}
 use Rattle.gs_script.specs.declared.fault.Reason.TheVariants.{NoHeader, BadCount, BadNumber}
 use Rattle.gs_script.specs.declared.header.Firsts.{Firsts}
+use Rattle.gs_script.specs.declared.header.TheConstants.{LEAST_CPUS, LEAST_GENERATION, LEAST_HISTORY, LEAST_SLICE, MOST_FIRST_TSEQ, MOST_GENERATION, MOST_HISTORY, MOST_SLICE}
 use Rattle.gs_script.specs.Words.{number}
-use Rattle.gs_script.specs.Grammar.{takes, Number, Multiple, Form, with_part, first_fault, or_fault, literal}
+use Rattle.gs_script.specs.Grammar.{is_of_kind, Number, Multiple, Form, with_part, first_fault, or_fault, literal}
 use Rattle.gs_script.specs.Rows.{at, is, number_between}
 
 -- a word and the number behind it
@@ -16,20 +19,20 @@ numbered word low high = literal word ∷ Number low high ∷ []
 
 -- the parts that may stand behind the sizes, each once or not at all, in this order, from the last part outwards
 abbrev pub policies : List Form
-policies = [] ∷ (literal (codes "policy") ∷ literal (codes "first") ∷ []) ∷ (literal (codes "policy") ∷ literal (codes "two") ∷ Number 1 65535 ∷ []) ∷ []
+policies = [] ∷ (literal (codes "policy") ∷ literal (codes "first") ∷ []) ∷ (literal (codes "policy") ∷ literal (codes "two") ∷ Number LEAST_SLICE MOST_SLICE ∷ []) ∷ []
 
 abbrev pub histories : List Form
-histories = with_part (numbered (codes "history") 2 16777216) policies
+histories = with_part (numbered (codes "history") LEAST_HISTORY MOST_HISTORY) policies
 
 abbrev pub generations : List Form
-generations = with_part (numbered (codes "first-gen") 1 4294967295) histories
+generations = with_part (numbered (codes "first-gen") LEAST_GENERATION MOST_GENERATION) histories
 
 abbrev pub parts : List Form
-parts = with_part (numbered (codes "first-tseq") 0 4294967294) generations
+parts = with_part (numbered (codes "first-tseq") 0 MOST_FIRST_TSEQ) generations
 
 -- the words behind `cpus`
 abbrev pub header_forms : List Form
-header_forms = map (λ form. Number 2 64 ∷ literal (codes "ring") ∷ Multiple 8 128 1048576 ∷ form) parts
+header_forms = map (λ form. Number LEAST_CPUS MOST_CPUS ∷ literal (codes "ring") ∷ Multiple ALIGNMENT LEAST_CAPACITY MOST_CAPACITY ∷ form) parts
 
 -- the words behind a word, of words that come in pairs until then
 abbrev pub words_behind : List ℕ → List (List ℕ) → List (List ℕ)
@@ -58,12 +61,12 @@ abbrev pub firsts_of : List (List ℕ) → Firsts
 firsts_of ws =
     record {
       tseq = behind 0 (codes "first-tseq") ws;
-      generation = behind 1 (codes "first-gen") ws;
-      history = behind 16777216 (codes "history") ws;
+      generation = behind LEAST_GENERATION (codes "first-gen") ws;
+      history = behind MOST_HISTORY (codes "history") ws;
       policy = policy_of ws;
     }
 
-abbrev pub config_of : List (List ℕ) → Config
+abbrev pub config_of : List (List ℕ) → Config AnyPolicy
 config_of ws =
     record {
       cpus = number (at 0 ws);
@@ -75,20 +78,20 @@ config_of ws =
     }
 
 -- what the words behind `cpus` say: only a count under that of the shortest form is a fault before the words are
-abbrev pub config_in : List (List ℕ) → Result Config Reason
+abbrev pub config_in : List (List ℕ) → Result (Config AnyPolicy) Reason
 config_in ws = if nat_lt (length ws) 3 then Err BadCount else or_fault (first_fault header_forms ws) (config_of ws)
 
 -- what a header of these words says
-abbrev pub header_of : List (List ℕ) → Result Config Reason
+abbrev pub header_of : List (List ℕ) → Result (Config AnyPolicy) Reason
 header_of [] = Err NoHeader
 header_of (first ∷ words) = if is first (codes "cpus") then config_in words else Err NoHeader
 
 -- the numbers of the optional parts are those that an enclave may be opened with
-pub record IsInRange (f : Firsts) : Type 0 where
-  pub tseq : f.tseq ≤ 4294967294
-  pub some_generation : 1 ≤ f.generation
-  pub some_history : 2 ≤ f.history
-  pub most_history : f.history ≤ 16777216
+pub record AreAllowed (f : Firsts) : Type 0 where
+  pub tseq : f.tseq ≤ MOST_FIRST_TSEQ
+  pub some_generation : LEAST_GENERATION ≤ f.generation
+  pub some_history : LEAST_HISTORY ≤ f.history
+  pub most_history : f.history ≤ MOST_HISTORY
 
 -- what the optional parts say
 abbrev pub firsts_in : List (List ℕ) → Result Firsts Reason
@@ -96,7 +99,7 @@ firsts_in ws = or_fault (first_fault parts ws) (firsts_of ws)
 
 -- what a word says that is to be a ring's capacity
 abbrev pub capacity_in : List ℕ → Result ℕ Reason
-capacity_in word = if takes (Multiple 8 128 1048576) word then Ok (number word) else Err BadNumber
+capacity_in word = if is_of_kind (Multiple ALIGNMENT LEAST_CAPACITY MOST_CAPACITY) word then Ok (number word) else Err BadNumber
 
 -- what one optional part says, and the words behind it
 abbrev pub with_rest : List (List ℕ) → Result ℕ Reason → Result (Option ℕ × List (List ℕ)) Reason

@@ -21,10 +21,10 @@ Gives (Err (lines.Fault reason)) read = read ≡ Err reason
 Gives (Err lines.OutOfMemory) read = Unit {0}
 
 -- the same of a script, whose value is seen by a view
-abbrev pub Tells : {A B : Type 0} → (A → B) → Result A ScriptError → Result B ScriptFault → Type 0
-Tells view (Ok x) read = read ≡ Ok (view x)
-Tells view (Err (errors.Fault f)) read = read ≡ Err f
-Tells view (Err errors.OutOfMemory) read = Unit {0}
+abbrev pub GivesBy : {A B : Type 0} → (A → B) → Result A ScriptError → Result B ScriptFault → Type 0
+GivesBy view (Ok x) read = read ≡ Ok (view x)
+GivesBy view (Err (errors.Fault f)) read = read ≡ Err f
+GivesBy view (Err errors.OutOfMemory) read = Unit {0}
 
 abbrev pub seen : TheScript → Script
 seen s = record { config = s.config; events = s.events.items }

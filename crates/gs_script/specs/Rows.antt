@@ -13,7 +13,7 @@ use Rattle.gs_core.specs.declared.event.Event.TheVariants as events
 use Rattle.gs_script.specs.declared.fault.Reason.{Reason}
 use Rattle.gs_script.specs.declared.fault.Reason.TheVariants.{BadWord, BadNumber, BadName}
 use Rattle.gs_script.specs.Words.{number}
-use Rattle.gs_script.specs.Grammar.{takes, OneOf, Number, Name, Kind, Form, line_fault, literal, or_fault}
+use Rattle.gs_script.specs.Grammar.{is_of_kind, OneOf, Number, Name, Kind, Form, line_fault, literal, or_fault}
 
 abbrev pub u16s : Kind
 u16s = Number 0 65535
@@ -141,16 +141,16 @@ shown words = map (λ word. word.now) words
 
 -- what a word says that is to be a number
 abbrev pub number_between : ℕ → ℕ → List ℕ → Result ℕ Reason
-number_between low high word = if takes (Number low high) word then Ok (number word) else Err BadNumber
+number_between low high word = if is_of_kind (Number low high) word then Ok (number word) else Err BadNumber
 
 -- what a word says that is to be a name
 abbrev pub name_in : List ℕ → Result TheName Reason
-name_in word = if takes Name word then Ok (name_of word) else Err BadName
+name_in word = if is_of_kind Name word then Ok (name_of word) else Err BadName
 
 -- what a word says that is to be a class
 abbrev pub class_in : List ℕ → Result Class Reason
-class_in word = if takes (Number 0 1) word then Ok (class_of (number word)) else Err BadNumber
+class_in word = if is_of_kind (Number 0 1) word then Ok (class_of (number word)) else Err BadNumber
 
 -- what a word says that is to be `r` or `b`
 abbrev pub runnable_in : List ℕ → Result Bool Reason
-runnable_in word = if takes (OneOf (codes "r" ∷ codes "b" ∷ [])) word then Ok (is word (codes "r")) else Err BadWord
+runnable_in word = if is_of_kind (OneOf (codes "r" ∷ codes "b" ∷ [])) word then Ok (is word (codes "r")) else Err BadWord

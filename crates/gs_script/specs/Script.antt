@@ -1,17 +1,19 @@
 -- Scripts: what their bytes say.
 use Rattle.std.specs.Prelude.{ℕ, ◌+◌, nat_lt, List, [], ◌∷◌, Bool, true, not, ◌==◌, length, if◌then◌else◌, Option, Some, None, get_or, Result, Ok, Err}
+use Rattle.gs_policy.specs.declared.any.AnyPolicy.{AnyPolicy}
 use Rattle.gs_core.specs.declared.config.Config.{Config}
 use Rattle.gs_core.specs.declared.event.Event.{Event}
 use Rattle.gs_script.specs.declared.fault.Reason.{Reason}
 use Rattle.gs_script.specs.declared.fault.Reason.TheVariants.{TooLong, BadByte, NoHeader}
 use Rattle.gs_script.specs.declared.fault.ScriptFault.{ScriptFault}
+use Rattle.gs_script.specs.declared.script.TheConstants.{MOST_BYTES}
 use Rattle.gs_script.specs.Words.{lines_of, words_of, is_text}
 use Rattle.gs_script.specs.Rows.{event_of}
 use Rattle.gs_script.specs.Header.{header_of}
 
 -- what an enclave is opened with, and what happens in it
 pub record Script : Type 0 where
-  pub config : Config
+  pub config : Config AnyPolicy
   pub events : List Event
 
 abbrev pub fault : ℕ → Reason → ScriptFault
@@ -45,12 +47,12 @@ abbrev pub events_of : ℕ → List (List ℕ) → Result (List Event) ScriptFau
 events_of n [] = Ok []
 events_of n (line ∷ lines) = before n (says event_of line) (events_of (n + 1) lines)
 
-abbrev pub with_config : Config → Result (List Event) ScriptFault → Result Script ScriptFault
+abbrev pub with_config : Config AnyPolicy → Result (List Event) ScriptFault → Result Script ScriptFault
 with_config c (Ok es) = Ok (record { config = c; events = es })
 with_config c (Err f) = Err f
 
 -- what a line in the header's place makes of the script: later is what it is where the header stands in a later line
-abbrev pub headed : ℕ → Result (Option Config) Reason → Result Script ScriptFault → Result (List Event) ScriptFault → Result Script ScriptFault
+abbrev pub headed : ℕ → Result (Option (Config AnyPolicy)) Reason → Result Script ScriptFault → Result (List Event) ScriptFault → Result Script ScriptFault
 headed n (Err reason) later events = Err (fault n reason)
 headed n (Ok None) later events = later
 headed n (Ok (Some c)) later events = with_config c events
@@ -62,4 +64,4 @@ script_from n (line ∷ lines) = headed n (says header_of line) (script_from (n 
 
 -- what bytes say
 abbrev pub script_of : List ℕ → Result Script ScriptFault
-script_of bytes = if nat_lt 1048576 (length bytes) then Err (fault 0 TooLong) else script_from 1 (lines_of bytes)
+script_of bytes = if nat_lt MOST_BYTES (length bytes) then Err (fault 0 TooLong) else script_from 1 (lines_of bytes)

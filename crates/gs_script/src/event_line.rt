@@ -11,14 +11,14 @@ use gs_status::Mask;
 
 /// The number of a CPU, also of one that is not there.
 fn cpu_number(word: &str) -> Result<u16, Reason>
-    ensures { result ≡ rows.number_between 0 65535 word.now }
+    ensures { result ≡ rows.number_between 0 u16.MAX word.now }
 {
     Ok(number(word, 0, u16::MAX as u64)? as u16)
 }
 
 /// A number of 32 bits: a thread's, or a count.
 fn u32_number(word: &str) -> Result<u32, Reason>
-    ensures { result ≡ rows.number_between 0 4294967295 word.now }
+    ensures { result ≡ rows.number_between 0 u32.MAX word.now }
 {
     Ok(number(word, 0, u32::MAX as u64)? as u32)
 }

@@ -1,3 +1,4 @@
+use crate::script::MOST_BYTES;
 use thiserror::Error;
 
 /// Why a script can't be read. Its length is tested first; then the earliest line that has a fault
@@ -7,7 +8,7 @@ use thiserror::Error;
 /// that ends inside a part of it, and words behind all that may stand there, are `BadCount`.
 #[derive(Clone, Copy, PartialEq, Eq, Debug, Error)]
 pub enum Reason {
-    #[error("the script has over 1048576 bytes")]
+    #[error("the script has over {} bytes", MOST_BYTES)]
     TooLong,
     #[error("a byte is not from 32 to 126")]
     BadByte,

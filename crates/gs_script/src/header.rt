@@ -1,12 +1,41 @@
 ghost use Rattle.std.specs.Prelude.{◌≡◌, ◌∷◌, ◌≤◌, ◌%◌, codes, IfOk, IfErr, IfSome};
 ghost use Rattle.gs_core.specs.Config.{config_fault};
 ghost use Rattle.gs_script.specs.Rows.{shown};
-ghost use Rattle.gs_script.specs.Header.{header_of, config_in, capacity_in, part_in, policy_in, policy_named, firsts_in, IsInRange};
+ghost use Rattle.gs_script.specs.Header.{header_of, config_in, capacity_in, part_in, policy_in, policy_named, firsts_in, AreAllowed};
 
 use crate::fault::Reason;
 use crate::word::number;
 use gs_core::Config;
 use gs_policy::{AnyPolicy, FirstCome, TwoClass};
+use gs_ring::{ALIGNMENT, LEAST_CAPACITY, MOST_CAPACITY, MOST_POSTS};
+use gs_status::MOST_CPUS;
+
+/// The fewest CPUs of an enclave: one is the agent's own, and threads are to have one.
+pub const LEAST_CPUS: u16 = 2;
+
+/// The greatest number that the threads' sequence numbers may begin above: the first one of a thread is one
+/// more, and has 32 bits.
+pub const MOST_FIRST_TSEQ: u32 = u32::MAX - 1;
+
+/// The least generation that an agent may have: 0 is no agent's. It is the first one's, if a header names
+/// none.
+pub const LEAST_GENERATION: u32 = 1;
+
+/// The greatest generation that an agent may have, which has 32 bits.
+pub const MOST_GENERATION: u32 = u32::MAX;
+
+/// The fewest entries that a journal may be made for: a CPU that is taken from a thread adds two.
+pub const LEAST_HISTORY: u32 = 2;
+
+/// The most entries that a journal may be made for: each may be a message that is posted to the ring. It is
+/// made for so many, if a header names no count.
+pub const MOST_HISTORY: u32 = MOST_POSTS as u32;
+
+/// The fewest ticks after which a thread of class 1 may have to make way for another.
+pub const LEAST_SLICE: u16 = 1;
+
+/// The most ticks after which it may: no more are counted of a thread.
+pub const MOST_SLICE: u16 = u16::MAX;
 
 /// What a header may say behind the sizes.
 #[derive(Clone, Copy)]
@@ -20,12 +49,12 @@ struct Firsts {
 /// The capacity of a ring.
 fn capacity(word: &str) -> Result<u32, Reason>
     ensures exact { result ≡ capacity_in word.now }
-    ensures low { IfOk result (λ n. 128 ≤ n) }
-    ensures high { IfOk result (λ n. n ≤ 1048576) }
-    ensures whole { IfOk result (λ n. n % 8 ≡ 0) }
+    ensures low { IfOk result (λ n. LEAST_CAPACITY ≤ n) }
+    ensures high { IfOk result (λ n. n ≤ MOST_CAPACITY) }
+    ensures whole { IfOk result (λ n. n % ALIGNMENT ≡ 0) }
 {
-    let capacity = number(word, 128, 1_048_576)? as u32;
-    if capacity % 8 != 0 {
+    let capacity = number(word, LEAST_CAPACITY as u64, MOST_CAPACITY as u64)? as u32;
+    if capacity % ALIGNMENT as u32 != 0 {
         return Err(Reason::BadNumber);
     }
     Ok(capacity)
@@ -62,7 +91,7 @@ fn two_class(words: &[&str]) -> Result<AnyPolicy, Reason>
     let Some((slice, rest)) = words.split_first() else {
         return Err(Reason::BadCount);
     };
-    let slice = number(slice, 1, u16::MAX as u64)? as u16;
+    let slice = number(slice, LEAST_SLICE as u64, MOST_SLICE as u64)? as u16;
     match rest {
         [] => Ok(AnyPolicy::TwoClass(TwoClass { slice })),
         _ => Err(Reason::BadCount),
@@ -103,27 +132,27 @@ fn policy(words: &[&str]) -> Result<AnyPolicy, Reason>
 #[tactic(auto, using(crate::proofs::Firsts::tseq_failed, crate::proofs::Firsts::generation_failed, crate::proofs::Firsts::history_failed, crate::proofs::Firsts::policy_failed))]
 fn optional(words: &[&str]) -> Result<Firsts, Reason>
     ensures exact { result ≡ firsts_in (shown words.now) }
-    ensures fits { IfOk result IsInRange }
+    ensures fits { IfOk result AreAllowed }
 {
-    let (tseq, rest) = part(words, "first-tseq", 0, 4_294_967_294)?;
-    let (generation, rest) = part(rest, "first-gen", 1, 4_294_967_295)?;
-    let (history, rest) = part(rest, "history", 2, 16_777_216)?;
+    let (tseq, rest) = part(words, "first-tseq", 0, MOST_FIRST_TSEQ)?;
+    let (generation, rest) = part(rest, "first-gen", LEAST_GENERATION, MOST_GENERATION)?;
+    let (history, rest) = part(rest, "history", LEAST_HISTORY, MOST_HISTORY)?;
     let policy = policy(rest)?;
     Ok(Firsts {
         tseq: tseq.unwrap_or(0),
-        generation: generation.unwrap_or(1),
-        history: history.unwrap_or(16_777_216),
+        generation: generation.unwrap_or(LEAST_GENERATION),
+        history: history.unwrap_or(MOST_HISTORY),
         policy,
     })
 }
 
 /// What the words behind `cpus` say.
 #[tactic(auto)]
-fn sizes(cpus: &str, ring: &str, word: &str, rest: &[&str]) -> Result<Config, Reason>
+fn sizes(cpus: &str, ring: &str, word: &str, rest: &[&str]) -> Result<Config<AnyPolicy>, Reason>
     ensures exact { result ≡ config_in (cpus.now ∷ ring.now ∷ word.now ∷ shown rest.now) }
     ensures fits { IfOk result (λ config. config_fault config ≡ None) }
 {
-    let cpus = number(cpus, 2, 64)? as u16;
+    let cpus = number(cpus, LEAST_CPUS as u64, MOST_CPUS as u64)? as u16;
     if ring != "ring" {
         return Err(Reason::BadWord);
     }
@@ -146,7 +175,7 @@ fn sizes(cpus: &str, ring: &str, word: &str, rest: &[&str]) -> Result<Config, Re
 
 /// What a header of these words says.
 #[tactic(auto, using(crate::proofs::Places::three_first))]
-pub(crate) fn header(words: &[&str]) -> Result<Config, Reason>
+pub(crate) fn header(words: &[&str]) -> Result<Config<AnyPolicy>, Reason>
     ensures exact { result ≡ header_of (shown words.now) }
     ensures fits { IfOk result (λ config. config_fault config ≡ None) }
 {

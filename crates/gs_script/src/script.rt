@@ -5,23 +5,25 @@ ghost use Rattle.gs_script.specs.Words.{lines_of};
 ghost use Rattle.gs_script.specs.Rows.{event_of, shown};
 ghost use Rattle.gs_script.specs.Header.{header_of};
 ghost use Rattle.gs_script.specs.Script.{says, is_passed_over, events_of, script_from, script_of};
-ghost use Rattle.gs_script.specs.Held.{Gives, Tells, placed, seen};
+ghost use Rattle.gs_script.specs.Held.{Gives, GivesBy, placed, seen};
 
 use crate::event_line::event;
 use crate::fault::{Reason, ScriptFault};
 use crate::header::header;
 use crate::word::{split, text};
 use gs_core::{Config, Event};
+use gs_policy::AnyPolicy;
 use std::alloc::{AllocError, Global};
 use thiserror::Error;
 
-/// The most bytes that a script may have: a longer one has the fault `TooLong`.
+/// The most bytes that a script may have, so that the memory that it is read into has a bound. A longer one
+/// has the fault `TooLong`.
 pub const MOST_BYTES: usize = 1_048_576;
 
 /// What an enclave is opened with, and what happens in it.
 #[derive(Drop)]
 pub struct Script {
-    pub config: Config,
+    pub config: Config<AnyPolicy>,
     pub events: Vec<Event>,
 }
 
@@ -91,7 +93,7 @@ fn event_line<'a>(line: &'a [u8], words: &mut Vec<&'a str>) -> Result<Option<Eve
 
 /// What a line in the header's place says, or `None` where it says nothing.
 #[tactic(auto, using(crate::proofs::Said::value_said, crate::proofs::Said::reason_said, crate::proofs::Said::nothing_said, crate::proofs::Said::error_said))]
-fn header_line(alloc: Global, line: &[u8]) -> Result<Option<Config>, LineError>
+fn header_line(alloc: Global, line: &[u8]) -> Result<Option<Config<AnyPolicy>>, LineError>
     ensures exact { Gives result (says header_of line.now) }
     ensures fits { IfOk result (λ o. IfSome o (λ config. config_fault config ≡ None)) }
 {
@@ -109,7 +111,7 @@ fn header_line(alloc: Global, line: &[u8]) -> Result<Option<Config>, LineError>
 #[tactic(auto, using(crate::proofs::Lines::passes, crate::proofs::Lines::adds, crate::proofs::Lines::stopped, crate::proofs::Lines::ends))]
 fn events(alloc: Global, first: usize, lines: &[&[u8]]) -> Result<Vec<Event>, ScriptError>
     requires { first + length lines.now < 2 ^ 63 }
-    ensures { Tells (λ v. v.items) result (events_of first (shown lines.now)) }
+    ensures { GivesBy (λ v. v.items) result (events_of first (shown lines.now)) }
 {
     let mut words = Vec::new(alloc);
     let mut events = Vec::new(alloc);
@@ -138,7 +140,7 @@ fn lines(alloc: Global, bytes: &[u8]) -> Result<Vec<&[u8]>, AllocError>
 #[tactic(auto, using(crate::proofs::HeaderLines::passes, crate::proofs::HeaderLines::found, crate::proofs::HeaderLines::stopped, crate::proofs::HeaderLines::ends))]
 fn from_lines(alloc: Global, lines: &[&[u8]]) -> Result<Script, ScriptError>
     requires { length lines.now < 2 ^ 62 }
-    ensures exact { Tells seen result (script_from 1 (shown lines.now)) }
+    ensures exact { GivesBy seen result (script_from 1 (shown lines.now)) }
     ensures fits { IfOk result (λ script. config_fault script.config ≡ None) }
 {
     for (i, line) in lines.iter().enumerate() {
@@ -164,7 +166,7 @@ fn from_lines(alloc: Global, lines: &[&[u8]]) -> Result<Script, ScriptError>
 /// one that an enclave can be opened with.
 #[tactic(auto, using(crate::proofs::HeaderLines::few_lines))]
 pub fn read_script(alloc: Global, bytes: &[u8]) -> Result<Script, ScriptError>
-    ensures exact { Tells seen result (script_of bytes.now) }
+    ensures exact { GivesBy seen result (script_of bytes.now) }
     ensures fits { IfOk result (λ script. config_fault script.config ≡ None) }
 {
     if bytes.len() > MOST_BYTES {

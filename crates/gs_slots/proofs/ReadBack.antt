@@ -6,14 +6,14 @@ use Rattle.byteorder.specs.Endian.{little_bytes, little_number}
 use Rattle.byteorder.specs.Numbers.{little_number-reads_back}
 use Rattle.gs_layout.specs.declared.outcome.Outcome.{Outcome}
 use Rattle.gs_layout.specs.declared.outcome.Outcome.TheVariants as outcomes
-use Rattle.gs_layout.specs.Outcome.{number, outcome_numbered}
+use Rattle.gs_layout.specs.Outcome.{outcome_number, outcome_numbered}
 use Rattle.gs_layout.specs.Reading.{cpu_numbered}
 use Rattle.gs_layout.specs.Spelling.{IsCpuOrNone, cpu_number}
 use Rattle.gs_slots.specs.declared.state.SlotState.{SlotState}
 use Rattle.gs_slots.specs.declared.state.SlotState.TheVariants.{Idle, Stamped, Done}
 use Rattle.gs_slots.specs.declared.state.Stamp.{Stamp}
 use Rattle.gs_slots.specs.Reading.{stamp_in, state_in}
-use Rattle.gs_slots.specs.Spelling.{IsSpellable, IsSpellableStamp, result_bytes, spelling, stamp_bytes}
+use Rattle.gs_slots.specs.Spelling.{IsSpellableState, IsSpellableStamp, result_bytes, slot_spelling, stamp_bytes}
 
 -- a number is read from its bytes
 reads : (n x : ℕ) → x < 256 ^ n → little_number n (little_bytes n x ++ []) ≡ x
@@ -32,7 +32,7 @@ cpu_back : (o : Option ℕ) → IsCpuOrNone o → cpu_numbered (little_number 2 
 cpu_back None fits = refl
 cpu_back (Some c) fits = ap cpu_numbered (reads 2 c (omega arith)) ∙ cpu_below c fits
 
-outcome_back : (o : Outcome) → unwrap_or (outcome_numbered (little_number 2 (little_bytes 2 (number o) ++ []))) outcomes.Malformed ≡ o
+outcome_back : (o : Outcome) → unwrap_or (outcome_numbered (little_number 2 (little_bytes 2 (outcome_number o) ++ []))) outcomes.Malformed ≡ o
 outcome_back outcomes.Placed = refl
 outcome_back outcomes.Gone = refl
 outcome_back outcomes.Displaced = refl
@@ -57,7 +57,7 @@ stamp_back kind cpu s rest fits = λ i. record {
 }
 
 -- a state is read back from its spelling
-pub read_back : (cpu : ℕ) (s : SlotState) → IsSpellable s → state_in (spelling cpu s) ≡ s
+pub read_back : (cpu : ℕ) (s : SlotState) → IsSpellableState s → state_in (slot_spelling cpu s) ≡ s
 read_back cpu Idle fits = refl
 read_back cpu (Stamped s) fits = λ i. Stamped (stamp_back 1 cpu s (replicate 16 0) fits i)
 read_back cpu (Done s outcome at seen) fits = λ i. Done (stamp_back 2 cpu s (result_bytes outcome at seen ++ replicate 8 0) fits.0 i) (outcome_back outcome i) (cpu_back at fits.1.within i) (reads 4 seen fits.1.fits i)

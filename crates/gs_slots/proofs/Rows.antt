@@ -5,7 +5,7 @@ use Rattle.gs_slots.specs.declared.state.SlotState.TheVariants.{Idle, Stamped, D
 use Rattle.gs_slots.specs.declared.state.Stamp.{Stamp}
 use Rattle.gs_slots.specs.Lending.{left_as}
 use Rattle.gs_slots.specs.Reading.{state_in}
-use Rattle.gs_slots.specs.Spelling.{spelling}
+use Rattle.gs_slots.specs.Spelling.{slot_spelling}
 use Rattle.gs_slots.specs.State.{collected, finished, outcome_of}
 
 abbrev first : Stamp
@@ -26,16 +26,16 @@ placed_bytes = (2 ∷ 0 ∷ 1 ∷ 0 ∷ 1 ∷ 0 ∷ 0 ∷ 0 ∷ 1 ∷ 0 ∷ 0 �
 abbrev full_bytes : List ℕ
 full_bytes = (2 ∷ 1 ∷ 63 ∷ 0 ∷ 255 ∷ 255 ∷ 255 ∷ 255 ∷ 0 ∷ 0 ∷ 1 ∷ 0 ∷ 254 ∷ 255 ∷ 255 ∷ 255 ∷ 12 ∷ 0 ∷ 255 ∷ 255 ∷ 254 ∷ 255 ∷ 255 ∷ 255 ∷ []) ++ replicate 8 0
 
-idle_spelt : spelling 5 Idle ≡ replicate 32 0
+idle_spelt : slot_spelling 5 Idle ≡ replicate 32 0
 idle_spelt = refl
 
-stamped_spelt : spelling 1 (Stamped first) ≡ stamped_bytes
+stamped_spelt : slot_spelling 1 (Stamped first) ≡ stamped_bytes
 stamped_spelt = refl
 
-placed_spelt : spelling 1 (Done first Placed (Some 1) 1) ≡ placed_bytes
+placed_spelt : slot_spelling 1 (Done first Placed (Some 1) 1) ≡ placed_bytes
 placed_spelt = refl
 
-full_spelt : spelling 63 (Done greatest HistoryFull None 4294967294) ≡ full_bytes
+full_spelt : slot_spelling 63 (Done greatest HistoryFull None 4294967294) ≡ full_bytes
 full_spelt = refl
 
 idle_read : state_in (replicate 32 0) ≡ Idle

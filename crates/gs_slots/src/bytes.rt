@@ -2,7 +2,7 @@
 
 ghost use Rattle.std.specs.Prelude.{◌≡◌, ◌≤◌, ◌++◌, length, drop};
 ghost use Rattle.gs_slots.specs.declared.state.SlotState.{SlotState};
-ghost use Rattle.gs_slots.specs.Spelling.{done_bytes, result_bytes, spelling, stamp_bytes};
+ghost use Rattle.gs_slots.specs.Spelling.{done_bytes, result_bytes, slot_spelling, stamp_bytes};
 ghost use Rattle.gs_slots.specs.Reading.{outcome_in, stamp_in, state_in};
 
 use crate::state::{SlotState, Stamp};
@@ -83,7 +83,7 @@ fn write_result(outcome: Outcome, at: Option<u16>, seen: u32, out: &mut [u8])
 /// Stamps a transaction into the slot of a CPU.
 pub(crate) fn write_stamped(cpu: u16, stamp: &Stamp, out: &mut [u8])
     requires { length out.old ≡ 32 }
-    ensures { out.new ≡ spelling cpu (SlotState.Stamped stamp.now) }
+    ensures { out.new ≡ slot_spelling cpu (SlotState.Stamped stamp.now) }
 {
     out.fill(0);
     write_stamp(STAMPED, cpu, stamp, out);

@@ -80,7 +80,7 @@ impl<'a> SlotMut<'a> {
     }
 
     /// Leaves in the slot what became of the transaction that is stamped in it: its outcome, which is
-    /// not `Malformed`, the CPU that the thread is on, 0 to 63, and the thread's sequence number
+    /// not `Malformed`, the CPU that the thread is on, and the thread's sequence number
     /// before the landing.
     pub fn finish(self, outcome: Outcome, at: Option<u16>, seen: u32)
         requires stamped { is_stamped (state_of self) ≡ true }

@@ -1,5 +1,6 @@
 -- A mask is a set of CPUs: CPU c is in it where bit c is set.
 use Rattle.std.specs.Prelude.{Bool, true, false, ℕ, zero, suc, ◌^◌, ◌*◌, ◌/◌, ◌%◌, ◌==◌, nat_le, bit_and, bit_or, Option, None, Some, if◌then◌else◌}
+use Rattle.gs_status.specs.declared.mask.TheConstants.{MOST_CPUS}
 
 -- whether a CPU is in a mask
 abbrev pub has : ℕ → ℕ → Bool
@@ -13,9 +14,9 @@ has_past mask cpus = nat_le (2 ^ cpus) mask
 abbrev pub has_none : ℕ → Bool
 has_none mask = mask == 0
 
--- a mask with the CPU c in it, below 64
+-- a mask with the CPU c in it
 abbrev pub with_bit : ℕ → ℕ → ℕ
-with_bit mask c = bit_or mask (1 * 2 ^ c % 2 ^ 64)
+with_bit mask c = bit_or mask (1 * 2 ^ c % 2 ^ MOST_CPUS)
 
 -- the mask of the CPUs below a count that pass a test
 unfoldable pub mask_of : (ℕ → Bool) → ℕ → ℕ

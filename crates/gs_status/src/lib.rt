@@ -4,5 +4,5 @@
 mod mask;
 mod status;
 
-pub use mask::Mask;
-pub use status::StatusWord;
+pub use mask::{MOST_CPUS, Mask};
+pub use status::{NO_CPU_BYTE, StatusWord};

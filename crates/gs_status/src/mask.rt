@@ -3,7 +3,11 @@ ghost use Rattle.gs_status.specs.Masks.{has, has_past, has_none, least};
 
 use std::marker::Model;
 
-/// A set of CPUs: CPU c is in it where bit c is set. Clauses see it as its bits.
+/// The most CPUs that there may be. They are numbered from 0, and a set of them is a word of 64 bits, one
+/// bit for each.
+pub const MOST_CPUS: u16 = 64;
+
+/// A set of CPUs: CPU c is in it if bit c is set. Clauses see it as its bits.
 #[derive(Clone, Copy)]
 pub struct Mask {
     bits: u64,
@@ -50,13 +54,13 @@ impl Mask {
         self.bits == 0
     }
 
-    /// Whether a CPU is in the set. No CPU from 64 on is in any.
+    /// Whether a CPU is in the set. No CPU from [`MOST_CPUS`] on is in any.
     #[tactic(auto, using(crate::proofs::Masks::has_none_past))]
     pub fn has(self, cpu: u16) -> bool
         ensures { result ≡ has self cpu }
     {
         let bits = self.bits;
-        cpu < 64 && (bits >> cpu) & 1 == 1
+        cpu < MOST_CPUS && (bits >> cpu) & 1 == 1
     }
 
     /// Whether a CPU that is not below the count is in the set.
@@ -65,13 +69,14 @@ impl Mask {
         ensures { result ≡ has_past self cpus }
     {
         let bits = self.bits;
-        cpus < 64 && bits >> cpus != 0
+        cpus < MOST_CPUS && bits >> cpus != 0
     }
 
-    /// The set with one CPU more, or the same set where it has that CPU. A CPU is from 0 to 63.
+    /// The set with one CPU more, or the same set if it has that CPU. The CPU is below
+    /// [`MOST_CPUS`].
     #[tactic(auto, using(crate::proofs::Masks::with_here, crate::proofs::Masks::with_others))]
     pub fn with(self, cpu: u16) -> Mask
-        requires { cpu < 64 }
+        requires { cpu < MOST_CPUS }
         ensures here { has result cpu ≡ true }
         ensures others { (c : ℕ) → c ≢ cpu → has result c ≡ has self c }
     {
@@ -80,19 +85,19 @@ impl Mask {
         }
     }
 
-    /// The set with one CPU more where a test holds, and else the same set. A CPU is from 0 to 63.
+    /// The set with one CPU more if a test holds, and else the same set. The CPU is below [`MOST_CPUS`].
     pub fn with_if(self, cpu: u16, test: bool) -> Mask
-        requires { cpu < 64 }
+        requires { cpu < MOST_CPUS }
         ensures here { has result cpu ≡ (has self cpu || test) }
         ensures others { (c : ℕ) → c ≢ cpu → has result c ≡ has self c }
     {
         if test { self.with(cpu) } else { self }
     }
 
-    /// The set without a CPU, or the same set where it lacks that CPU. A CPU is from 0 to 63.
+    /// The set without a CPU, or the same set if it lacks that CPU. The CPU is below [`MOST_CPUS`].
     #[tactic(auto, using(crate::proofs::Masks::without_here, crate::proofs::Masks::without_others))]
     pub fn without(self, cpu: u16) -> Mask
-        requires { cpu < 64 }
+        requires { cpu < MOST_CPUS }
         ensures here { has result cpu ≡ false }
         ensures others { (c : ℕ) → c ≢ cpu → has result c ≡ has self c }
     {
@@ -111,11 +116,11 @@ impl Mask {
         }
     }
 
-    /// The least CPU of the set, from 0 to 63, or `None` where no CPU is in it.
+    /// The least CPU of the set, or `None` if no CPU is in it.
     #[tactic(auto, using(crate::proofs::Masks::least_of_none, crate::proofs::Masks::least_of_some, crate::proofs::Masks::lowest_within, crate::proofs::Masks::lowest_has))]
     pub fn lowest(self) -> Option<u16>
-        ensures least { result ≡ least (has self) 64 }
-        ensures within { IfSome result (λ c. c < 64) }
+        ensures least { result ≡ least (has self) MOST_CPUS }
+        ensures within { IfSome result (λ c. c < MOST_CPUS) }
         ensures is_in { IfSome result (λ c. has self c ≡ true) }
         ensures empty { IfNone result (has_none self ≡ true) }
     {

@@ -1,14 +1,15 @@
 ghost use Rattle.std.specs.Prelude.{IfSome, ◌≡◌};
 ghost use Rattle.gs_status.specs.Status.{Status, Spells};
 
+use crate::mask::MOST_CPUS;
 use std::marker::Model;
+
+/// The byte of a status word that stands for no CPU. It is the greatest that there is, so that it is no
+/// CPU's.
+pub const NO_CPU_BYTE: u8 = 255;
 
 /// Where the CPU's byte begins.
 const CPU: u32 = 32;
-/// The byte that stands for no CPU.
-const NO_CPU: u64 = 255;
-/// CPUs are below this number.
-const CPUS: u64 = 64;
 /// Where the flags begin: runnable, alive, on a CPU, and zeros from there on.
 const FLAGS: u32 = 40;
 
@@ -27,7 +28,7 @@ const RUNNING: u64 = 0b111;
 /// What the kernel shows of a thread: its sequence number, the CPU that it is on, whether it may
 /// run, and whether it lives.
 ///
-/// A CPU is from 0 to 63. A thread on a CPU may run, and one that may run lives: no other value
+/// A CPU is below [`MOST_CPUS`]. A thread on a CPU may run, and one that may run lives: no other value
 /// can be made.
 #[derive(Clone, Copy, PartialEq, Eq, Debug)]
 pub struct StatusWord {
@@ -51,19 +52,19 @@ impl Model for StatusWord {
 
 impl StatusWord {
     /// The word that shows this, in 64 bits: from bit 0 the sequence number, from bit 32 the CPU
-    /// or 255 for none, bit 40 runnable, bit 41 alive, bit 42 on a CPU, the rest zero.
+    /// or [`NO_CPU_BYTE`], bit 40 runnable, bit 41 alive, bit 42 on a CPU, the rest zero.
     pub fn pack(&self) -> u64
         ensures { Spells self.now result }
     {
         let (cpu, on_cpu) = match self.cpu {
             Some(cpu) => (cpu as u64, 1),
-            None => (NO_CPU, 0),
+            None => (NO_CPU_BYTE as u64, 0),
         };
         let flags = self.runnable as u64 | (self.alive as u64) << 1 | on_cpu << 2;
         self.tseq as u64 | cpu << CPU | flags << FLAGS
     }
 
-    /// What a word shows, or `None` where no status has that word.
+    /// What a word shows, or `None` if no status has that word.
     pub fn unpack(word: u64) -> Option<StatusWord>
         ensures read { IfSome result (λ status. Spells status word) }
         ensures all { (status : Status) → Spells status word → result ≡ Some status }
@@ -71,7 +72,7 @@ impl StatusWord {
         let tseq = (word & 0xffff_ffff) as u32;
         let cpu = (word >> CPU) & 0xff;
         let flags = word >> FLAGS;
-        if flags == RUNNING && cpu < CPUS {
+        if flags == RUNNING && cpu < MOST_CPUS as u64 {
             return Some(StatusWord {
                 tseq,
                 cpu: Some(cpu as u16),
@@ -79,7 +80,7 @@ impl StatusWord {
                 alive: true,
             });
         }
-        if cpu != NO_CPU {
+        if cpu != NO_CPU_BYTE as u64 {
             return None;
         }
         match flags {

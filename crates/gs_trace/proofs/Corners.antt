@@ -3,21 +3,22 @@ use Rattle.std.proofs.Common.{◌≡◌, ℕ, List, [], ◌∷◌, ◌++◌, cod
 use Rattle.std.specs.Fmt.{digits}
 use Rattle.gs_layout.specs.declared.refusal.Refusal.TheVariants as refusals
 use Rattle.gs_policy.specs.declared.any.AnyPolicy.TheVariants as policies
+use Rattle.gs_policy.specs.declared.any.AnyPolicy.{AnyPolicy}
 use Rattle.gs_core.specs.declared.config.Config.{Config}
 use Rattle.gs_agent.specs.declared.drained.Stop.TheVariants as stops
 use Rattle.gs_core.specs.declared.reply.Reply.TheVariants as replies
-use Rattle.gs_kernel.specs.Commit.{commit_refusal}
+use Rattle.gs_kernel.specs.Commit.{own_refusal}
 use Rattle.gs_script.specs.declared.fault.Reason.TheVariants.{TooLong, NoHeader, BadName}
 use Rattle.gs_script.specs.Script.{fault}
 use Rattle.gs_lines.specs.Lines.{line, lines}
 use Rattle.gs_journal.specs.History.{active, torn}
 use Rattle.gs_journal.specs.Standing.{standing, last_of}
-use Rattle.gs_core.specs.Machine.{start}
+use Rattle.gs_core.specs.Machine.{start, planning}
 use Rattle.gs_core.proofs.Keeping.{kept_faithful, kept_safe, kept_start}
 use Rattle.gs_trace.specs.declared.run.Ended.{Ended}
 use Rattle.gs_trace.specs.declared.run.Ended.TheVariants.{Ran, Faulted}
 use Rattle.gs_trace.proofs.One.{one_output}
-use Rattle.gs_trace.specs.Output.{IsOutput, fault_line, wants_memory}
+use Rattle.gs_trace.specs.Output.{IsOutput, fault_line, wants_memory, any_plans}
 
 -- the line of a fault
 faulted : fault_line (fault 0 NoHeader) ≡ line (codes "fault line 0 NoHeader")
@@ -56,17 +57,17 @@ nothing_is_faulted = (refl, refl)
 nothing_else : (ended : Ended) (out : List ℕ) → IsOutput (codes "cpus 2 ring 128") ended out → out ≡ []
 nothing_else ended out h = (one_output lines (codes "cpus 2 ring 128") ended Ran out [] h header_alone_runs).1
 
-first_config : Config
+first_config : Config AnyPolicy
 first_config = record { cpus = 2; ring = 128; first_tseq = 0; first_generation = 1; history = 16777216; policy = policies.FirstCome (record {}) }
 
 refused_runs : IsOutput (codes "cpus 2 ring 128" ++ 10 ∷ codes "commit 4") Ran (line (codes "refused 4 EmptyMask"))
-unfolding first_config digits active standing last_of torn commit_refusal
+unfolding first_config digits active standing last_of torn own_refusal
 refused_runs = (
   refl,
   record {
     replies = replies.Refused refusals.EmptyMask ∷ [];
-    left = start first_config;
-    run = (start first_config, (refl, refl), kept_safe _ (kept_start first_config), kept_faithful _ (kept_start first_config), refl);
+    left = planning any_plans (start first_config);
+    run = (planning any_plans (start first_config), (refl, refl), kept_safe _ (kept_start any_plans first_config), kept_faithful _ (kept_start any_plans first_config), refl);
     sufficed = refl;
     shown = refl;
   },

@@ -19,18 +19,16 @@ use Rattle.gs_core.specs.declared.event.Event.TheVariants as events
 use Rattle.gs_core.specs.declared.reply.Reply.{Reply}
 use Rattle.gs_core.specs.declared.reply.Reply.TheVariants as replies
 use Rattle.gs_policy.specs.declared.choice.Choice.{Choice}
-use Rattle.gs_policy.specs.Any.{any_takes}
-use Rattle.gs_policy.specs.Plan.{plan}
 use Rattle.gs_runq.specs.Queue.{order}
-use Rattle.gs_status.specs.Masks.{mask_of}
 use Rattle.gs_mind.specs.Mind.{picture_of}
 use Rattle.gs_mind.specs.Picture.{Picture, after_slots, after_stamp, takes_in_all}
-use Rattle.gs_core.specs.Machine.{State, Agent, mind_of, picture, thinking, landings, view, unread, is_idle, refusal, Serves, Step, Does, IsShort, Takes, Drains, carried, stamps, stamps_with, stamps_all, plan_of, commits, lates, lands_late, transaction_of}
+use Rattle.gs_core.specs.Machine.{State, Agent, mind_of, picture, thinking, committed, fits, view, unread, is_idle, refusal, Serves, Step, Does, IsShort, Takes, Drains, carried, stamps, stamps_with, stamps_all, plan_of}
 use Rattle.gs_core.specs.declared.transaction.Transaction.{Transaction}
 use Rattle.gs_core.specs.Safe.{IsFaithful, Run}
 use Rattle.gs_journal.specs.declared.entry.Entry.{Entry}
 use Rattle.gs_kernel.specs.Legal.{effect}
-use Rattle.gs_core.proofs.Exact.{tells_one}
+use Rattle.gs_kernel.specs.Lands.{Lands}
+use Rattle.gs_core.proofs.Exact.{all_one, lands_one, tells_one}
 use Rattle.gs_core.proofs.Faces.{drop_drop}
 use Rattle.gs_script.specs.declared.fault.ScriptFault.{ScriptFault}
 use Rattle.gs_trace.specs.declared.run.Ended.{Ended}
@@ -74,7 +72,7 @@ stamp_refusal m c t v =
 
 -- agents that have the same picture plan the same
 plan_by : State → Picture → List Choice
-plan_by m p = plan (any_takes m.policy) p.view (record p.cpus { taken = mask_of (taken m.history) 64 }) (order p.queue)
+plan_by m p = m.policy (record { view = p.view; cpus = p.cpus; taken = taken m.history; queue = order p.queue })
 
 one_plan : (m : State) (a : Option Agent) → Same a m.agent → plan_of (record m { agent = a }) ≡ plan_of m
 unfolding plan_by
@@ -208,24 +206,25 @@ one_decide m a same r r' m' n' x y =
     }
 
 -- one late landing
-late_reply : (m : State) (a : Option Agent) (n : ℕ) (o : Option Transaction) → (lands_late (record m { agent = a }) n o).0 ≡ (lands_late m n o).0
-late_reply m a n None = refl
-late_reply m a n (Some x) = refl
-
-late_left : (m : State) (a : Option Agent) (n : ℕ) (o : Option Transaction) → (lands_late (record m { agent = a }) n o).1 ≡ record ((lands_late m n o).1) { agent = a }
-late_left m a n None = refl
-late_left m a n (Some x) = refl
-
-late_same : (m : State) (a : Option Agent) (n : ℕ) (o : Option Transaction) → Same a m.agent → Same a ((lands_late m n o).1).agent
-late_same m a n None same = same
-late_same m a n (Some x) same = same
-
 one_late : (m : State) (a : Option Agent) → Same a m.agent → (n : ℕ) (r r' : Reply) (m' n' : State) → Does m (Late n) r m' → Does (record m { agent = a }) (Late n) r' n' → One r r' m' n'
 one_late m a same n r r' m' n' x y =
-    let o : Option Transaction = transaction_of m.transactions n in
+    let found : Some y.transaction ≡ Some x.transaction = sym y.found ∙ x.found in
+    let same_one : y.transaction ≡ x.transaction = cc in
+    let lands = subst (λ (t : Transaction). Lands (fits m) m.settings m.history t.cpu t.slot y.landing n'.history) same_one y.lands in
+    let one = lands_one m.ring m.consumed m.settings m.history x.transaction.cpu x.transaction.slot x.landing y.landing m'.history n'.history x.lands lands in
     record {
-      reply = x.0 ∙ sym (y.0 ∙ late_reply m a n o);
-      left = alike_at m' n' (lates m n).1 a x.1 (y.1 ∙ late_left m a n o) (late_same m a n o same);
+      reply = x.reply ∙ ((λ i. replies.Late n (one.0 i) (torn (one.1 i))) ∙ sym y.reply);
+      left = alike_at m' n' (record m { history = m'.history }) a x.others (y.others ∙ ap (λ (z : List Entry). record m { history = z; agent = a }) (sym one.1)) same;
+    }
+
+-- one commit
+one_commit : (m : State) (a : Option Agent) → Same a m.agent → (mask : ℕ) (r r' : Reply) (m' n' : State) → Does m (Commit mask) r m' → Does (record m { agent = a }) (Commit mask) r' n' → One r r' m' n'
+one_commit m a same mask r r' m' n' x y =
+    let made : x.made ≡ y.made = all_one m.ring m.consumed m.settings mask 0 m.slots m.history x.made y.made x.lands y.lands in
+    let think = after_slots 0 x.made.slots in
+    record {
+      reply = x.reply ∙ ((λ i. replies.Landed (made i).answers (torn (made i).history)) ∙ sym y.reply);
+      left = alike_at m' n' (committed m x.made) (option_map (thinking think) a) x.left (y.left ∙ ap (committed (record m { agent = a })) (sym made)) (same_thinks think a m.agent same);
     }
 
 -- one step
@@ -257,7 +256,7 @@ one_done m a same Decide r r' m' n' (inl x) (inr y) g h p q = absurd (refused_is
 one_done m a same (Late n) r r' m' n' (inl x) (inl y) g h p q = one_late m a same n r r' m' n' x y
 one_done m a same (Late n) r r' m' n' (inr x) y g h p q = absurd (refused_is r p x.0)
 one_done m a same (Late n) r r' m' n' (inl x) (inr y) g h p q = absurd (refused_is r' q y.0)
-one_done m a same (Commit mask) r r' m' n' (inl x) (inl y) g h p q = record { reply = x.0 ∙ sym y.0; left = alike_at m' n' (commits m mask).1 (option_map (thinking (after_slots 0 (landings m mask).slots)) a) x.1 y.1 (same_thinks (after_slots 0 (landings m mask).slots) a m.agent same) }
+one_done m a same (Commit mask) r r' m' n' (inl x) (inl y) g h p q = one_commit m a same mask r r' m' n' x y
 one_done m a same (Commit mask) r r' m' n' (inr x) y g h p q = absurd (refused_is r p x.0)
 one_done m a same (Commit mask) r r' m' n' (inl x) (inr y) g h p q = absurd (refused_is r' q y.0)
 one_done m a same events.View r r' m' n' (inl x) (inl y) g h p q =

@@ -11,22 +11,22 @@ use Rattle.gs_journal.specs.declared.entry.Entry.TheVariants.{Posted, Role, Torn
 use Rattle.gs_journal.specs.History.{posted, created, torn}
 use Rattle.gs_kernel.specs.Kernel.{create_refusal, tick_refusal}
 use Rattle.gs_kernel.specs.declared.command.Command.TheVariants as commands
-use Rattle.gs_ring.specs.Places as places
 use Rattle.gs_ring.specs.Places.{need, pad_len}
 use Rattle.gs_policy.specs.declared.any.AnyPolicy.TheVariants as policies
+use Rattle.gs_policy.specs.declared.any.AnyPolicy.{AnyPolicy}
 use Rattle.gs_core.specs.declared.config.Config.{Config}
 use Rattle.gs_core.specs.declared.event.Event.{Event}
 use Rattle.gs_core.specs.declared.event.Event.TheVariants as events
 use Rattle.gs_core.specs.declared.reply.Reply.{Reply}
 use Rattle.gs_core.specs.declared.reply.Reply.TheVariants as replies
-use Rattle.gs_core.specs.Machine.{State, Step, start}
+use Rattle.gs_core.specs.Machine.{State, Step, start, planning}
 use Rattle.gs_core.specs.Safe.{Run}
 use Rattle.gs_core.proofs.Keeping.{kept_faithful, kept_safe, kept_start, kept_step}
 use Rattle.gs_trace.specs.declared.run.Ended.TheVariants.{Ran}
 use Rattle.gs_lines.specs.Lines.{line}
-use Rattle.gs_trace.specs.Output.{IsOutput}
+use Rattle.gs_trace.specs.Output.{IsOutput, any_plans}
 
-two : Config
+two : Config AnyPolicy
 two = record { cpus = 2; ring = 128; first_tseq = 0; first_generation = 1; history = 16777216; policy = policies.FirstCome (record {}) }
 
 -- a thread of both CPUs
@@ -38,26 +38,26 @@ made t name = Thread t 1 (Created (facts name))
 
 -- the machine after these messages were posted
 abbrev after : List Message → State
-after ms = record (start two) { history = Role 1 0 ∷ map Posted ms }
+after ms = record (planning any_plans (start two)) { history = Role 1 0 ∷ map Posted ms }
 
 abbrev torn_after : List Message → State
-torn_after ms = record (start two) { history = Role 1 0 ∷ (map Posted ms ++ Torn ∷ []) }
+torn_after ms = record (planning any_plans (start two)) { history = Role 1 0 ∷ (map Posted ms ++ Torn ∷ []) }
 
 -- a tick waits until it is drained
 abbrev seen : List Reply
 seen = replies.Done (Posted (TimerTick 1)) ∷ replies.Unread (TimerTick 1 ∷ []) ∷ []
 
-seen_tick : Step (start two) (events.Kernel (commands.Tick 1)) (replies.Done (Posted (TimerTick 1))) (after (TimerTick 1 ∷ []))
-unfolding two torn tick_refusal posted need pad_len places.record_of
+seen_tick : Step (planning any_plans (start two)) (events.Kernel (commands.Tick 1)) (replies.Done (Posted (TimerTick 1))) (after (TimerTick 1 ∷ []))
+unfolding two torn tick_refusal posted need pad_len
 seen_tick = inl (record { fit = true; reply = refl; tells = (refl, refl); others = refl })
 
 seen_look : Step (after (TimerTick 1 ∷ [])) events.Unread (replies.Unread (TimerTick 1 ∷ [])) (after (TimerTick 1 ∷ []))
 unfolding two torn posted
 seen_look = inl (refl, refl)
 
-seen_run : Run (start two) (events.Kernel (commands.Tick 1) ∷ events.Unread ∷ []) seen (after (TimerTick 1 ∷ []))
+seen_run : Run (planning any_plans (start two)) (events.Kernel (commands.Tick 1) ∷ events.Unread ∷ []) seen (after (TimerTick 1 ∷ []))
 seen_run =
-    let g = kept_step _ (events.Kernel (commands.Tick 1)) (replies.Done (Posted (TimerTick 1))) _ (kept_start two) tt seen_tick in
+    let g = kept_step _ (events.Kernel (commands.Tick 1)) (replies.Done (Posted (TimerTick 1))) _ (kept_start any_plans two) tt seen_tick in
     (after (TimerTick 1 ∷ []), seen_tick, kept_safe _ g, kept_faithful _ g, (after (TimerTick 1 ∷ []), seen_look, kept_safe _ g, kept_faithful _ g, refl))
 
 seen_written : IsOutput (codes "cpus 2 ring 128" ++ 10 ∷ codes "tick 1" ++ 10 ∷ codes "unread") Ran (line (codes "tick 1") ++ line (codes "unread tick 0 seq 0 cpu 1"))
@@ -71,24 +71,24 @@ four = made 1 (codes "a") ∷ made 2 (codes "b") ∷ made 3 (codes "c") ∷ made
 abbrev torn_replies : List Reply
 torn_replies = replies.Done (Posted (made 1 (codes "a"))) ∷ replies.Done (Posted (made 2 (codes "b"))) ∷ replies.Done (Posted (made 3 (codes "c"))) ∷ replies.Done (Posted (made 4 (codes "d"))) ∷ replies.Torn ∷ replies.Refused refusals.Gone ∷ []
 
-first : Step (start two) (events.Kernel (commands.Create (facts (codes "a")))) (replies.Done (Posted (made 1 (codes "a")))) (after (take 1 four))
-unfolding two facts made torn create_refusal created posted need pad_len places.record_of
+first : Step (planning any_plans (start two)) (events.Kernel (commands.Create (facts (codes "a")))) (replies.Done (Posted (made 1 (codes "a")))) (after (take 1 four))
+unfolding two facts made torn create_refusal created posted need pad_len
 first = inl (record { fit = true; reply = refl; tells = (refl, refl); others = refl })
 
 second : Step (after (take 1 four)) (events.Kernel (commands.Create (facts (codes "b")))) (replies.Done (Posted (made 2 (codes "b")))) (after (take 2 four))
-unfolding two facts made torn create_refusal created posted need pad_len places.record_of
+unfolding two facts made torn create_refusal created posted need pad_len
 second = inl (record { fit = true; reply = refl; tells = (refl, refl); others = refl })
 
 third : Step (after (take 2 four)) (events.Kernel (commands.Create (facts (codes "c")))) (replies.Done (Posted (made 3 (codes "c")))) (after (take 3 four))
-unfolding two facts made torn create_refusal created posted need pad_len places.record_of
+unfolding two facts made torn create_refusal created posted need pad_len
 third = inl (record { fit = true; reply = refl; tells = (refl, refl); others = refl })
 
 fourth : Step (after (take 3 four)) (events.Kernel (commands.Create (facts (codes "d")))) (replies.Done (Posted (made 4 (codes "d")))) (after four)
-unfolding two facts made torn create_refusal created posted need pad_len places.record_of
+unfolding two facts made torn create_refusal created posted need pad_len
 fourth = inl (record { fit = true; reply = refl; tells = (refl, refl); others = refl })
 
 tears : Step (after four) (events.Kernel (commands.Tick 1)) replies.Torn (torn_after four)
-unfolding two facts made torn tick_refusal posted need pad_len places.record_of
+unfolding two facts made torn tick_refusal posted need pad_len
 tears = inl (record { fit = false; reply = refl; tells = ((TimerTick 1, refl, refl), refl); others = refl })
 
 gone : Step (torn_after four) (events.Drain 1) (replies.Refused refusals.Gone) (torn_after four)
@@ -98,9 +98,9 @@ gone = (refl, refl)
 abbrev torn_events : List Event
 torn_events = events.Kernel (commands.Create (facts (codes "a"))) ∷ events.Kernel (commands.Create (facts (codes "b"))) ∷ events.Kernel (commands.Create (facts (codes "c"))) ∷ events.Kernel (commands.Create (facts (codes "d"))) ∷ events.Kernel (commands.Tick 1) ∷ events.Drain 1 ∷ []
 
-torn_run : Run (start two) torn_events torn_replies (torn_after four)
+torn_run : Run (planning any_plans (start two)) torn_events torn_replies (torn_after four)
 torn_run =
-    let g1 = kept_step _ (events.Kernel (commands.Create (facts (codes "a")))) (replies.Done (Posted (made 1 (codes "a")))) _ (kept_start two) tt first in
+    let g1 = kept_step _ (events.Kernel (commands.Create (facts (codes "a")))) (replies.Done (Posted (made 1 (codes "a")))) _ (kept_start any_plans two) tt first in
     let g2 = kept_step _ (events.Kernel (commands.Create (facts (codes "b")))) (replies.Done (Posted (made 2 (codes "b")))) _ g1 tt second in
     let g3 = kept_step _ (events.Kernel (commands.Create (facts (codes "c")))) (replies.Done (Posted (made 3 (codes "c")))) _ g2 tt third in
     let g4 = kept_step _ (events.Kernel (commands.Create (facts (codes "d")))) (replies.Done (Posted (made 4 (codes "d")))) _ g3 tt fourth in

@@ -6,7 +6,10 @@ use Rattle.gs_agent.specs.declared.drained.Stop.{Stop}
 use Rattle.gs_agent.specs.declared.drained.Stop.TheVariants.{Memory}
 use Rattle.gs_core.specs.declared.reply.Reply.{Reply}
 use Rattle.gs_core.specs.declared.reply.Reply.TheVariants.{Refused, Drained}
-use Rattle.gs_core.specs.Machine.{State, start}
+use Rattle.gs_policy.specs.declared.any.AnyPolicy.{AnyPolicy}
+use Rattle.gs_policy.specs.Any.{any_takes}
+use Rattle.gs_policy.specs.Plan.{plan}
+use Rattle.gs_core.specs.Machine.{Plan, State, planning, start}
 use Rattle.gs_core.specs.Safe.{Run}
 use Rattle.gs_script.specs.declared.fault.ScriptFault.{ScriptFault}
 use Rattle.gs_script.specs.declared.fault.Reason.{Reason}
@@ -42,11 +45,15 @@ wants_memory (Refused OutOfMemory) = true
 wants_memory (Drained d) = is_memory d.stop
 wants_memory _ = false
 
+-- what either policy plans
+abbrev pub any_plans : AnyPolicy → Plan
+any_plans p = plan (any_takes p)
+
 -- these bytes answer the script: they show the replies of a run of it, from the machine of its header on, in which memory sufficed
 pub record Answers (show : List Reply → List ℕ) (s : Script) (out : List ℕ) : Type 0 where
   pub replies : List Reply
   pub left : State
-  pub run : Run (start s.config) s.events replies left
+  pub run : Run (planning any_plans (start s.config)) s.events replies left
   pub sufficed : list_any wants_memory replies ≡ false
   pub shown : out ≡ show replies
 

@@ -3,7 +3,7 @@ ghost use Rattle.gs_core.specs.declared.reply.Reply.{Reply};
 ghost use Rattle.gs_trace.specs.declared.run.Ended.{Ended};
 ghost use Rattle.gs_trace.specs.Output.{IsShown};
 
-/// An input has one output and one ending, however its replies are shown: where memory suffices, its
+/// An input has at most one output and one ending, however its replies are shown: where memory suffices, its
 /// events have one reply each. So what `run_script` and `run_report` promise to write is a function of what
 /// was read. It does nothing when it runs.
 pub fn one_output()

@@ -9,7 +9,7 @@ use crate::pipe::{InputError, read_all, write_out};
 use gs_agent::Stop;
 use gs_core::{ConfigFault, Machine, Reply};
 use gs_layout::Refusal;
-use gs_script::{Reason, ScriptError, ScriptFault, read_script};
+use gs_script::{MOST_BYTES, Reason, ScriptError, ScriptFault, read_script};
 use std::alloc::{AllocError, Global};
 use std::io::{Read, Write};
 use thiserror::Error;
@@ -138,7 +138,7 @@ pub fn run_script<R: Read, W: Write>(
         (out : List ℕ) × IsOutput input ended out × Appends (W.contents writer.old) (W.contents writer.new) out)) }
     ensures read { IfOk result (λ ended. (bytes : List ℕ) × (out : List ℕ)
         × Consumes (R.remaining reader.old) (R.remaining reader.new) bytes
-        × (length bytes ≤ 1048576 → IsAtEnd (R.remaining reader.new))
+        × (length bytes ≤ MOST_BYTES → IsAtEnd (R.remaining reader.new))
         × IsOutput bytes ended out × Appends (W.contents writer.old) (W.contents writer.new) out) }
     ensures unwritten { IfErr result (λ e. e ≢ TraceFault.WriteFailed → Keeps (W.contents writer.old) (W.contents writer.new)) }
     ensures begun { IsErrOf result TraceFault.WriteFailed → IfSome (R.remaining reader.old) (λ input.
@@ -165,7 +165,7 @@ pub fn run_report<R: Read, W: Write>(
         (out : List ℕ) × IsReport last input ended out × Appends (W.contents writer.old) (W.contents writer.new) out)) }
     ensures read { IfOk result (λ ended. (bytes : List ℕ) × (out : List ℕ)
         × Consumes (R.remaining reader.old) (R.remaining reader.new) bytes
-        × (length bytes ≤ 1048576 → IsAtEnd (R.remaining reader.new))
+        × (length bytes ≤ MOST_BYTES → IsAtEnd (R.remaining reader.new))
         × IsReport last bytes ended out × Appends (W.contents writer.old) (W.contents writer.new) out) }
     ensures unwritten { IfErr result (λ e. e ≢ TraceFault.WriteFailed → Keeps (W.contents writer.old) (W.contents writer.new)) }
     ensures begun { IsErrOf result TraceFault.WriteFailed → IfSome (R.remaining reader.old) (λ input.
@@ -186,7 +186,7 @@ fn run<R: Read, W: Write>(
         (out : List ℕ) × IsShown (shown_as form) input ended out × Appends (W.contents writer.old) (W.contents writer.new) out)) }
     ensures read { IfOk result (λ ended. (bytes : List ℕ) × (out : List ℕ)
         × Consumes (R.remaining reader.old) (R.remaining reader.new) bytes
-        × (length bytes ≤ 1048576 → IsAtEnd (R.remaining reader.new))
+        × (length bytes ≤ MOST_BYTES → IsAtEnd (R.remaining reader.new))
         × IsShown (shown_as form) bytes ended out × Appends (W.contents writer.old) (W.contents writer.new) out) }
     ensures unwritten { IfErr result (λ e. e ≢ TraceFault.WriteFailed → Keeps (W.contents writer.old) (W.contents writer.new)) }
     ensures begun { IsErrOf result TraceFault.WriteFailed → IfSome (R.remaining reader.old) (λ input.

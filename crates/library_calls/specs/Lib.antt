@@ -1,1 +1,2 @@
 pub mod FirstOnly
+pub mod ZeroPreempts

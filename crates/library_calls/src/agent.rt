@@ -271,14 +271,14 @@ fn planner<P: Drop>(alloc: Global, policy: P) -> Option<Role<P>> {
 /// What a role decides, by the bound alone.
 fn decided<P: Policy>(
     alloc: Global,
-    role: &mut Role<P>,
+    role: &Role<P>,
     taken: Mask,
 ) -> Result<Vec<Choice>, AllocError> {
     role.decide(alloc, taken)
 }
 
 /// How many choices a role counts, by the bound alone.
-fn counted<P: Counted>(role: &mut Role<P>, taken: Mask) -> usize {
+fn counted<P: Counted>(role: &Role<P>, taken: Mask) -> usize {
     role.count(taken)
 }
 
@@ -386,7 +386,7 @@ fn first_wrong_slot(
 /// The first row that a role does not decide, or counts otherwise.
 fn first_undecided<P: Counted>(
     alloc: Global,
-    role: &mut Role<P>,
+    role: &Role<P>,
     rows: &[DecisionRow],
 ) -> Result<Option<usize>, AllocError> {
     for (index, (taken, expected)) in rows.iter().enumerate() {
@@ -499,9 +499,9 @@ fn hears_of_a_block(alloc: Global) -> Option<bool> {
 
 /// Whether a role decides as the rows say, by this policy, when threads 7 and 9 wait.
 fn decides<P: Counted + Drop>(alloc: Global, policy: P) -> Option<bool> {
-    let mut role = planner(alloc, policy)?;
+    let role = planner(alloc, policy)?;
     let order = is_order(role.waiting(), &[7, 9]);
-    let wrong = first_undecided(alloc, &mut role, &DECISIONS).ok()?;
+    let wrong = first_undecided(alloc, &role, &DECISIONS).ok()?;
     Some(order && wrong.is_none())
 }
 

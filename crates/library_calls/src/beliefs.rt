@@ -26,8 +26,6 @@ enum Deed {
     Hear(Told),
     /// An outcome is learnt, with the CPU that the thread was then on, the thread, and its number.
     Learn(Outcome, Option<u16>, u32, u32),
-    /// The other class holds the CPUs of this mask.
-    Take(u64),
     /// A stamp on a CPU names a thread.
     Stamp(u16, u32),
     /// A CPU has no stamp.
@@ -36,7 +34,7 @@ enum Deed {
     Agent(Option<u16>),
 }
 
-use Deed::{Agent, Clear, Hear, Learn, Place, Raise, Stamp, Take, Ticks, Unstamp};
+use Deed::{Agent, Clear, Hear, Learn, Place, Raise, Stamp, Ticks, Unstamp};
 
 /// A thread that is believed to run: its tid, its number and its ticks.
 type Runner = Option<(u32, u32, u16)>;
@@ -44,9 +42,9 @@ type Runner = Option<(u32, u32, u16)>;
 /// What is done, who is then believed to run on CPU 1 and on CPU 2, and whether thread 7 is believed to run.
 type BeliefRow = (Deed, Runner, Runner, bool);
 
-/// What is done, and then the masks of the usable and of the free CPUs, the thread that a stamp on CPU 2 names,
-/// the mask of the CPUs that the other class holds, and the agent's CPU.
-type MaskRow = (Deed, u64, u64, Option<u32>, u64, Option<u16>);
+/// What is done, the mask of the CPUs that the other class holds, and then the masks of the usable and of the free
+/// CPUs, the thread that a stamp on CPU 2 names, and the agent's CPU.
+type MaskRow = (Deed, u64, u64, u64, Option<u32>, Option<u16>);
 
 /// A thread is on one CPU, and its ticks begin anew where it is placed.
 const MOVES: [BeliefRow; 3] = [
@@ -119,18 +117,20 @@ const LEARNS: [BeliefRow; 4] = [
     ),
 ];
 
-/// The other class takes a CPU on which a thread is believed to run.
-const TAKEN: [MaskRow; 2] = [
-    (Place(1, 7, 4), 0b110, 0b100, None, 0, Some(0)),
-    (Take(0b010), 0b100, 0b100, None, 0b010, Some(0)),
+/// The other class holds a CPU on which a thread is believed to run, then a free one, and then both.
+const TAKEN: [MaskRow; 4] = [
+    (Place(1, 7, 4), 0, 0b110, 0b100, None, Some(0)),
+    (Raise(7, 5), 0b010, 0b100, 0b100, None, Some(0)),
+    (Raise(7, 6), 0b100, 0b010, 0, None, Some(0)),
+    (Raise(7, 7), 0b110, 0, 0, None, Some(0)),
 ];
 
 /// A stamp keeps its CPU from use until it is collected, and the agent's own is usable while it attaches.
 const STAMPED: [MaskRow; 4] = [
-    (Place(1, 7, 4), 0b110, 0b100, None, 0, Some(0)),
-    (Stamp(2, 9), 0b010, 0, Some(9), 0, Some(0)),
-    (Unstamp(2), 0b110, 0b100, None, 0, Some(0)),
-    (Agent(None), 0b111, 0b101, None, 0, None),
+    (Place(1, 7, 4), 0, 0b110, 0b100, None, Some(0)),
+    (Stamp(2, 9), 0, 0b010, 0, Some(9), Some(0)),
+    (Unstamp(2), 0, 0b110, 0b100, None, Some(0)),
+    (Agent(None), 0, 0b111, 0b101, None, None),
 ];
 
 /// The beliefs hear a message.
@@ -159,7 +159,6 @@ fn is_done(beliefs: &mut CpuBeliefs, deed: &Deed) -> bool {
             hear(beliefs, &message);
         }
         Deed::Learn(outcome, at, tid, tseq) => beliefs.learn(*outcome, *at, *tid, *tseq),
-        Deed::Take(mask) => beliefs.set_taken(Mask::new(*mask)),
         Deed::Stamp(cpu, tid) => beliefs.stamp(*cpu, *tid),
         Deed::Unstamp(cpu) => beliefs.unstamp(*cpu),
         Deed::Agent(agent) => beliefs.set_agent(*agent),
@@ -188,24 +187,24 @@ fn first_wrong_belief(beliefs: &mut CpuBeliefs, rows: &[BeliefRow]) -> Option<us
     None
 }
 
-/// Whether just these of the three CPUs are usable, and just these are free, by each call that says so.
-fn has_masks(beliefs: &CpuBeliefs, usable: u64, free: u64) -> bool {
-    beliefs.usable().bits() == usable
-        && beliefs.free().bits() == free
-        && (0..4).all(|cpu| beliefs.is_usable(cpu) == Mask::new(usable).has(cpu))
-        && (0..4).all(|cpu| beliefs.is_free(cpu) == Mask::new(free).has(cpu))
+/// Whether just these of the three CPUs are usable, and just these are free, where the other class holds those of a
+/// mask, by each call that says so.
+fn has_masks(beliefs: &CpuBeliefs, taken: Mask, usable: u64, free: u64) -> bool {
+    beliefs.usable(taken).bits() == usable
+        && beliefs.free(taken).bits() == free
+        && (0..4).all(|cpu| beliefs.is_usable(taken, cpu) == Mask::new(usable).has(cpu))
+        && (0..4).all(|cpu| beliefs.is_free(taken, cpu) == Mask::new(free).has(cpu))
 }
 
 /// The first row after which other CPUs may be used than it says.
 fn first_wrong_mask(beliefs: &mut CpuBeliefs, rows: &[MaskRow]) -> Option<usize> {
     for (index, row) in rows.iter().enumerate() {
-        let (deed, usable, free, stamp, taken, agent) = row;
+        let (deed, taken, usable, free, stamp, agent) = row;
         let well = is_done(beliefs, deed)
-            && has_masks(beliefs, *usable, *free)
+            && has_masks(beliefs, Mask::new(*taken), *usable, *free)
             && beliefs.stamp_on(2) == *stamp
             && beliefs.names(9) == stamp.is_some()
             && !beliefs.names(7)
-            && beliefs.taken().bits() == *taken
             && beliefs.agent() == *agent;
         if !well {
             return Some(index);
@@ -263,10 +262,9 @@ fn try_stamped(alloc: Global) -> Tried {
 fn is_blank(beliefs: &CpuBeliefs) -> bool {
     beliefs.cpus() == 64
         && beliefs.agent().is_none()
-        && beliefs.taken().bits() == 0
         && beliefs.believed(63).is_none()
         && beliefs.stamp_on(63).is_none()
-        && beliefs.free().bits() == u64::MAX
+        && beliefs.free(Mask::none()).bits() == u64::MAX
 }
 
 #[test]

@@ -6,6 +6,8 @@ mod agent;
 #[cfg(test)]
 mod beliefs;
 #[cfg(test)]
+mod dump;
+#[cfg(test)]
 mod journal;
 #[cfg(test)]
 mod layout;

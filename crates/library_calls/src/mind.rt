@@ -237,7 +237,7 @@ fn first_wrong(mind: &mut Mind, rows: &[Row]) -> Option<usize> {
 /// The first plan that a policy does not make, or counts otherwise.
 fn first_unplanned<P: Counted>(
     alloc: Global,
-    mind: &mut Mind,
+    mind: &Mind,
     policy: &P,
     plans: &[PlanRow],
 ) -> Result<Option<usize>, AllocError> {
@@ -257,7 +257,7 @@ fn is_blank(mind: &Mind, free: u64) -> bool {
         && is_order(mind.waiting(), &[])
         && runner(mind, 1).is_none()
         && mind.beliefs().cpus() == 3
-        && mind.beliefs().free().bits() == free
+        && mind.beliefs().free(Mask::none()).bits() == free
 }
 
 /// Whether the mind of an agent on this CPU of three, `None` while it attaches, begins blank.
@@ -333,33 +333,33 @@ fn runs_ninth(mind: &mut Mind) -> bool {
     first_wrong(mind, &NINTH_RUNS).is_none()
 }
 
-/// Tries plans of a policy, which leave the mask of taken CPUs as it was.
-fn tried_plans<P: Counted>(alloc: Global, mind: &mut Mind, policy: &P, rows: &[PlanRow]) -> Tried {
+/// Tries plans of a policy.
+fn tried_plans<P: Counted>(alloc: Global, mind: &Mind, policy: &P, rows: &[PlanRow]) -> Tried {
     match first_unplanned(alloc, mind, policy, rows) {
-        Ok(wrong) if mind.beliefs().taken().bits() == 0 => Tried::with(wrong),
-        _ => Tried::NotMade,
+        Ok(wrong) => Tried::with(wrong),
+        Err(_) => Tried::NotMade,
     }
 }
 
-fn try_first_come(alloc: Global, mind: &mut Mind) -> Tried {
+fn try_first_come(alloc: Global, mind: &Mind) -> Tried {
     tried_plans(alloc, mind, &FirstCome, &FIRST_COME)
 }
 
-fn try_two_class(alloc: Global, mind: &mut Mind) -> Tried {
+fn try_two_class(alloc: Global, mind: &Mind) -> Tried {
     tried_plans(alloc, mind, &TwoClass { slice: 2 }, &TWO_CLASS)
 }
 
-fn try_first_come_waits(alloc: Global, mind: &mut Mind) -> Tried {
+fn try_first_come_waits(alloc: Global, mind: &Mind) -> Tried {
     tried_plans(alloc, mind, &FirstCome, &FIRST_COME_WAITS)
 }
 
 #[test]
 fn plans(rt: HostRuntime) -> Result<(), Fail> {
     let mut mind = three_wait(rt.alloc()).ok_or("three threads")?;
-    let first_come = try_first_come(rt.alloc(), &mut mind);
+    let first_come = try_first_come(rt.alloc(), &mind);
     let runs = runs_ninth(&mut mind);
-    let two_class = try_two_class(rt.alloc(), &mut mind);
-    let waits = try_first_come_waits(rt.alloc(), &mut mind);
+    let two_class = try_two_class(rt.alloc(), &mind);
+    let waits = try_first_come_waits(rt.alloc(), &mind);
     let tried = (first_come, runs, two_class, waits);
     assert_eq!(rt; tried, (Tried::Well, true, Tried::Well, Tried::Well));
     Ok(())

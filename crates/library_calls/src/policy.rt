@@ -1,16 +1,18 @@
 //! Plans of small queues, by each policy and through its trait.
 
 mod first_only;
+mod zero_preempts;
 
 ghost use Rattle.std.specs.Prelude.{◌≤◌, IfOk};
 
 use crate::messages::Told::Creation;
 use crate::plans::{Plan, is_plan};
 use crate::policy::first_only::FirstOnly;
+use crate::policy::zero_preempts::ZeroPreempts;
 use gs_beliefs::CpuBeliefs;
 use gs_layout::{Class, Parcel};
 use gs_policy::{
-    AnyPolicy, Choice, Counted, FirstCome, Policy, TwoClass, leaves_none, plans_in_order,
+    AnyPolicy, Choice, Counted, FirstCome, Policy, Shown, TwoClass, leaves_none, plans_in_order,
 };
 use gs_reader::MessageRef;
 use gs_runq::RunQueue;
@@ -39,9 +41,11 @@ struct Row {
     two_class: Plan,
     /// The plan for the thread alone that waits first.
     first_only: Plan,
+    /// The plan where only threads of class 0 preempt.
+    zero_preempts: Plan,
 }
 
-const ROWS: [Row; 9] = [
+const ROWS: [Row; 11] = [
     // Threads take the least free CPUs.
     Row {
         classes: (Class::Zero, Class::Zero),
@@ -54,6 +58,7 @@ const ROWS: [Row; 9] = [
         first_come: &[(1, 1, false), (2, 2, false)],
         two_class: &[(1, 1, false), (2, 2, false)],
         first_only: &[(1, 1, false)],
+        zero_preempts: &[(1, 1, false), (2, 2, false)],
     },
     // Nobody waits.
     Row {
@@ -67,6 +72,7 @@ const ROWS: [Row; 9] = [
         first_come: &[],
         two_class: &[],
         first_only: &[],
+        zero_preempts: &[],
     },
     // A thread of class 0 preempts one of class 1, and nobody where the first come first.
     Row {
@@ -80,6 +86,7 @@ const ROWS: [Row; 9] = [
         first_come: &[],
         two_class: &[(1, 2, true)],
         first_only: &[],
+        zero_preempts: &[(1, 2, true)],
     },
     // One of class 1 waits for the slice of another, which is not over after one tick, and is after two.
     Row {
@@ -93,6 +100,7 @@ const ROWS: [Row; 9] = [
         first_come: &[],
         two_class: &[],
         first_only: &[],
+        zero_preempts: &[],
     },
     Row {
         classes: (Class::One, Class::One),
@@ -105,6 +113,7 @@ const ROWS: [Row; 9] = [
         first_come: &[],
         two_class: &[(1, 2, true)],
         first_only: &[],
+        zero_preempts: &[],
     },
     // CPU 1 is stamped, and CPU 2 is the only one that the other class does not hold.
     Row {
@@ -118,6 +127,7 @@ const ROWS: [Row; 9] = [
         first_come: &[(2, 1, false)],
         two_class: &[(2, 1, false)],
         first_only: &[(2, 1, false)],
+        zero_preempts: &[(2, 1, false)],
     },
     // Two CPUs for two threads, and then one.
     Row {
@@ -131,6 +141,7 @@ const ROWS: [Row; 9] = [
         first_come: &[(1, 1, false), (2, 2, false)],
         two_class: &[(1, 1, false), (2, 2, false)],
         first_only: &[(1, 1, false)],
+        zero_preempts: &[(1, 1, false), (2, 2, false)],
     },
     Row {
         classes: (Class::One, Class::Zero),
@@ -143,6 +154,7 @@ const ROWS: [Row; 9] = [
         first_come: &[(1, 1, false)],
         two_class: &[(1, 1, false)],
         first_only: &[(1, 1, false)],
+        zero_preempts: &[(1, 1, false)],
     },
     // None that is free, and one that runs a thread of class 1.
     Row {
@@ -156,6 +168,35 @@ const ROWS: [Row; 9] = [
         first_come: &[],
         two_class: &[(1, 2, true)],
         first_only: &[],
+        zero_preempts: &[(1, 2, true)],
+    },
+    // It runs on a CPU that the other class holds.
+    Row {
+        classes: (Class::One, Class::Zero),
+        mask: 6,
+        waits: &[(2, Class::Zero)],
+        cpus: 2,
+        ticks: Some(9),
+        stamped: None,
+        taken: 0b010,
+        first_come: &[],
+        two_class: &[],
+        first_only: &[],
+        zero_preempts: &[],
+    },
+    // None is left for whoever comes last.
+    Row {
+        classes: (Class::One, Class::One),
+        mask: 6,
+        waits: &[(2, Class::One), (1, Class::One)],
+        cpus: 3,
+        ticks: None,
+        stamped: None,
+        taken: 0b010,
+        first_come: &[(2, 2, false)],
+        two_class: &[(2, 2, false)],
+        first_only: &[(2, 2, false)],
+        zero_preempts: &[(2, 2, false)],
     },
 ];
 
@@ -164,7 +205,20 @@ const ROWS: [Row; 9] = [
 struct Situation {
     view: AgentView,
     cpus: CpuBeliefs,
+    taken: Mask,
     queue: RunQueue,
+}
+
+impl Situation {
+    /// What a policy is shown of it.
+    fn shown(&self) -> Shown<'_> {
+        Shown {
+            view: &self.view,
+            cpus: &self.cpus,
+            taken: self.taken,
+            queue: &self.queue,
+        }
+    }
 }
 
 /// A view that knows threads 1 and 2 of a row.
@@ -217,7 +271,6 @@ fn believed(alloc: Global, row: &Row) -> Option<CpuBeliefs> {
     if let Some(tid) = row.stamped {
         cpus.stamp(1, tid);
     }
-    cpus.set_taken(Mask::new(row.taken));
     Some(cpus)
 }
 
@@ -226,6 +279,7 @@ fn situation_of(alloc: Global, row: &Row) -> Option<Situation> {
     Some(Situation {
         view: known(alloc, row)?,
         cpus: believed(alloc, row)?,
+        taken: Mask::new(row.taken),
         queue: waiting(alloc, row)?,
     })
 }
@@ -236,12 +290,12 @@ fn planned<P: Policy>(
     policy: &P,
     situation: &Situation,
 ) -> Result<Vec<Choice>, AllocError> {
-    policy.plan(alloc, &situation.view, &situation.cpus, &situation.queue)
+    policy.plan(alloc, &situation.shown())
 }
 
 /// How many choices a policy counts, by its trait alone.
 fn counted<P: Counted>(policy: &P, situation: &Situation) -> usize {
-    policy.count(&situation.view, &situation.cpus, &situation.queue)
+    policy.count(&situation.shown())
 }
 
 /// Whether a policy plans this.
@@ -269,6 +323,7 @@ fn is_planned(alloc: Global, row: &Row) -> bool {
         && counts(alloc, &TWO_TICKS, &situation, row.two_class)
         && counts(alloc, &either_two, &situation, row.two_class)
         && plans(alloc, &FirstOnly, &situation, row.first_only)
+        && counts(alloc, &ZeroPreempts, &situation, row.zero_preempts)
 }
 
 fn choice(cpu: u16, tid: u32, preempt: bool) -> Choice {

@@ -43,8 +43,8 @@ returns-in-Some-clause-given g c =
     let met = (c.in_ok-matches.ensures.ok.2 (ap is_simple c.in_ok-command_line.ensures ∙ ghost_is_simple)).1 ∙ ap (λ app. subcommand_of app words) c.in_ok-command_line.ensures in
     sym (c.in-Some.ensures ∙ ap (option_and_then command_given) met)
 
-pub returns-in-Some-clause-in_range : goal.returns-in-Some-clause-in_range
-returns-in-Some-clause-in_range g c =
+pub returns-in-Some-clause-allowed : goal.returns-in-Some-clause-allowed
+returns-in-Some-clause-allowed g c =
     no_fault_in_range (map g.S.AsStr.text c.args.words.now) c.in-Some.command (returns-in-Some-clause-faultless g c) (returns-in-Some-clause-given g c)
 
 pub returns-in-Some-clause-report : goal.returns-in-Some-clause-report

@@ -1,4 +1,4 @@
-use Rattle.std.proofs.Common.{◌+◌, ◌≤◌, length}
+use Rattle.std.proofs.Common.{◌+◌, ◌≤◌}
 use Rattle.gs_ring.specs.RingState.{posts}
 use Rattle.library_calls.proofs.ring.first_wrong.Given as goal
 

@@ -1,5 +1,4 @@
-use Rattle.gs_layout.specs.View.{look_up}
-use Rattle.gs_runq.specs.Queue.{order}
+use Rattle.gs_policy.specs.Shown.{shows}
 use Rattle.acceptance.proofs.Ends.{IsPlanning}
 use Rattle.acceptance.proofs.both_ends.BothEndsPolicy.plan.Given as goal
 
@@ -7,4 +6,4 @@ abbrev pub invariant-loop-tid : goal.invariant-loop-tid
 invariant-loop-tid l =
     (goal.iterator-loop-tid).can_next l.tid-iterator ×
     (goal.iterator-loop-tid).is_finite l.tid-iterator ×
-    IsPlanning l.cpus (look_up l.view) l.left l.choices.items l.tid-iterator (order l.queue)
+    IsPlanning (shows l.shown) l.left l.choices.items l.tid-iterator (shows l.shown).queue

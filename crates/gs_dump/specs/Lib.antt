@@ -1,0 +1,4 @@
+pub mod Record
+pub mod Page
+pub mod Reading
+pub mod Scan

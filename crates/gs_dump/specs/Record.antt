@@ -1,0 +1,30 @@
+-- What the kernel knows of a live thread, and the bytes that tell it. All numbers are little-endian, and every byte that no field names is zero.
+use Rattle.std.specs.Prelude.{◌≡◌, true, ℕ, ◌-◌, List, [], ◌∷◌, ◌++◌, length, replicate, IfSome, if◌then◌else◌}
+use Rattle.byteorder.specs.Endian.{little_bytes}
+use Rattle.gs_layout.specs.declared.name.TheConstants.{MOST_NAME_LEN}
+use Rattle.gs_status.specs.Masks.{has}
+use Rattle.gs_layout.specs.Class.{class_number}
+use Rattle.gs_layout.specs.Name.{is_name}
+use Rattle.gs_layout.specs.Spelling.{AreNumbers, IsCpuOrNone, IsMask, cpu_number}
+use Rattle.gs_dump.specs.declared.record.DumpRecord.{DumpRecord}
+
+-- the ranges of a record: a thread on a CPU is runnable, and the CPU is in its mask
+pub record IsLive (r : DumpRecord) : Type 0 where
+  pub numbers : AreNumbers r.tid r.tseq
+  pub mask : IsMask r.facts.mask
+  pub name : is_name r.facts.name ≡ true
+  pub cpu : IsCpuOrNone r.cpu
+  pub runs : IfSome r.cpu (λ c. (r.facts.runnable ≡ true) × (has r.facts.mask c ≡ true))
+
+-- version 1, class, the name's length, tid, sequence number, CPU, and the flags, of which bit 0 says that the thread is runnable
+abbrev pub front_bytes : DumpRecord → List ℕ
+front_bytes r =
+    little_bytes 2 1 ++ (class_number r.facts.class ∷ length r.facts.name ∷ []) ++ little_bytes 4 r.tid ++ little_bytes 4 r.tseq ++ little_bytes 2 (cpu_number r.cpu) ++ little_bytes 2 (if r.facts.runnable then 1 else 0)
+
+-- a name in 16 bytes: behind it are zeros
+abbrev pub name_field : List ℕ → List ℕ
+name_field name = name ++ replicate (MOST_NAME_LEN - length name) 0
+
+-- the 40 bytes of a record
+abbrev pub record_spelling : DumpRecord → List ℕ
+record_spelling r = front_bytes r ++ little_bytes 8 r.facts.mask ++ name_field r.facts.name

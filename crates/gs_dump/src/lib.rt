@@ -1,0 +1,15 @@
+//! Pages: what the kernel knows of its live threads, told to a new agent a page at a time, as bytes.
+#![tactic(auto)]
+
+mod fault;
+mod fields;
+mod page;
+mod read;
+mod record;
+mod write;
+
+pub use fault::PageFault;
+pub use page::Page;
+pub use read::read_page;
+pub use record::DumpRecord;
+pub use write::write_page;

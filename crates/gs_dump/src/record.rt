@@ -1,0 +1,14 @@
+use gs_layout::Facts;
+
+/// What the kernel knows of a live thread.
+#[derive(Clone, Copy)]
+pub struct DumpRecord {
+    /// The thread, from 1 to 65,536.
+    pub tid: u32,
+    /// Its sequence number, from 1 on.
+    pub tseq: u32,
+    /// Whether it may run, its mask, its class and its name.
+    pub facts: Facts,
+    /// The CPU that it is on, from 0 to 63, or `None` where it is on none.
+    pub cpu: Option<u16>,
+}

@@ -1,0 +1,75 @@
+//! A page as bytes.
+
+ghost use Rattle.std.specs.Prelude.{◌≡◌, ◌+◌, ◌≤◌, ◌++◌, IfOk, drop, length, take};
+ghost use Rattle.gs_dump.specs.Page.{header_bytes, page_spelling};
+ghost use Rattle.gs_dump.specs.Record.{front_bytes, name_field, record_spelling};
+
+use crate::fields::{NAME, RECORD, VERSION};
+use crate::page::Page;
+use crate::read::HEADER;
+use crate::record::DumpRecord;
+use byteorder::{ByteOrder, LittleEndian};
+use gs_layout::cpu_number;
+use std::alloc::{AllocError, Global};
+
+/// Writes the first 16 bytes of a record.
+fn write_front(thread: &DumpRecord, out: &mut [u8])
+    requires { 16 ≤ length out.old }
+    ensures { out.new ≡ front_bytes thread.now ++ drop 16 out.old }
+{
+    LittleEndian::write_u16(out, VERSION);
+    out[2..4].copy_from_slice(&[
+        thread.facts.class.number(),
+        thread.facts.name.as_bytes().len() as u8,
+    ]);
+    LittleEndian::write_u32(&mut out[4..], thread.tid);
+    LittleEndian::write_u32(&mut out[8..], thread.tseq);
+    LittleEndian::write_u16(&mut out[12..], cpu_number(thread.cpu));
+    LittleEndian::write_u16(&mut out[14..], u16::from(thread.facts.runnable));
+}
+
+/// Writes a name, and zeros up to 16 bytes.
+fn write_name(name: &[u8], out: &mut [u8])
+    requires short { length name.now ≤ 16 }
+    requires room { length out.old ≡ 16 }
+    ensures { out.new ≡ name_field name.now }
+{
+    out[..name.len()].copy_from_slice(name);
+    out[name.len()..].fill(0);
+}
+
+fn record_bytes(thread: &DumpRecord) -> [u8; 40]
+    ensures { result ≡ record_spelling thread.now }
+{
+    let mut bytes = [0; RECORD];
+    write_front(thread, &mut bytes);
+    LittleEndian::write_u64(&mut bytes[16..], thread.facts.mask);
+    write_name(thread.facts.name.as_bytes(), &mut bytes[NAME..]);
+    bytes
+}
+
+fn header(page: &Page) -> [u8; 8]
+    ensures { result ≡ header_bytes page.now }
+{
+    let mut bytes = [0; HEADER];
+    LittleEndian::write_u16(&mut bytes, page.records.len() as u16);
+    LittleEndian::write_u16(&mut bytes[2..], u16::from(page.next.is_none()));
+    LittleEndian::write_u32(&mut bytes[4..], page.next.unwrap_or(0));
+    bytes
+}
+
+/// The bytes of a page: 8 of a header, and 40 for each record.
+///
+/// # Errors
+///
+/// Where memory runs out.
+pub fn write_page(alloc: Global, page: &Page) -> Result<Vec<u8>, AllocError>
+    ensures { IfOk result (λ bytes. bytes.items ≡ page_spelling page.now) }
+{
+    let mut bytes = Vec::with_capacity(alloc, HEADER + RECORD * page.records.len())?;
+    bytes.extend_from_slice(&header(page))?;
+    for record in &page.records {
+        bytes.extend_from_slice(&record_bytes(record))?;
+    }
+    Ok(bytes)
+}

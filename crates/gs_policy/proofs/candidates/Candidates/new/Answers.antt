@@ -1,0 +1,9 @@
+use Rattle.std.proofs.Common.{◌≤◌, length, subst, ℕ}
+use Rattle.gs_policy.specs.Shown.{shows}
+use Rattle.gs_policy.proofs.Left.{plan_all}
+use Rattle.gs_policy.proofs.candidates.Candidates.new.Goals as goal
+
+pub returns : goal.returns
+returns c = λ takes taking taken.
+    let most : length c.args.shown.now.cpus.now.believed ≤ 64 = subst (λ (n : ℕ). n ≤ 64) c.cpus-most.ensures.count c.cpus-most.ensures.most in
+    plan_all takes (shows c.args.shown.now) _ most c.free.ensures taking taken

@@ -1,0 +1,43 @@
+//! A policy of one's own that goes through the waiting threads in order, as docs/POLICIES.md shows it.
+
+ghost use Rattle.std.specs.Prelude.{◌≡◌};
+ghost use Rattle.gs_policy.specs.Candidates.{plan_among};
+ghost use Rattle.gs_policy.specs.Plan.{plan};
+ghost use Rattle.gs_policy.specs.Shown.{shows};
+ghost use Rattle.library_calls.specs.ZeroPreempts.{zero_takes};
+
+use gs_policy::{
+    Candidates, Choice, Counted, Policy, Shown, class_one_cpus, count_among, plan_among,
+};
+use gs_status::Mask;
+use std::alloc::{AllocError, Global};
+
+/// The waiting threads, in order, take the least free CPUs of their masks. Where none is left for a
+/// thread of class 0, it takes one from a thread of class 1 at once. A thread of class 1 preempts nobody.
+pub(super) struct ZeroPreempts;
+
+/// The free CPUs, and those that a thread of class 0 may take: the plan among them is this policy's.
+fn candidates(shown: &Shown<'_>) -> Candidates
+    ensures { plan_among result (shows shown.now) ≡ plan zero_takes (shows shown.now) }
+{
+    Candidates::new(shown, class_one_cpus(shown, 0), Mask::none())
+}
+
+impl Policy for ZeroPreempts {
+    ghost use Rattle.gs_policy.specs.Plan.{plan};
+    ghost use Rattle.library_calls.specs.ZeroPreempts.{zero_preempts-safe, zero_takes};
+
+    ghost chosen = { λ p. plan zero_takes };
+
+    fn plan(&self, alloc: Global, shown: &Shown<'_>) -> Result<Vec<Choice>, AllocError> {
+        plan_among(alloc, shown, candidates(shown))
+    }
+
+    ghost safe = { λ p. zero_preempts-safe };
+}
+
+impl Counted for ZeroPreempts {
+    fn count(&self, shown: &Shown<'_>) -> usize {
+        count_among(shown, candidates(shown))
+    }
+}
