@@ -1,5 +1,6 @@
 //! Readers that fail or have no end, writers that fail or are full, and the longest script.
 
+use gs_script::MOST_BYTES;
 use gs_trace::{Ended, TraceFault, run_report, run_script};
 use std::alloc::{AllocError, Global};
 use std::io;
@@ -76,9 +77,6 @@ impl Write for Narrow {
 const FIRST_PATH: &str = "cpus 2 ring 128\ncreate 3 0 r web\ndrain 1\nstamp 1 1\ncommit 2\n";
 
 const FIRST_PATH_LINES: &str = "created 1 seq 1\ndrained 1\nstamped 1\ncpu 1 placed 1 seq 1\n";
-
-/// The most bytes that a script may have.
-const MOST_BYTES: usize = 1_048_576;
 
 const TOO_LONG: &str = "fault line 0 TooLong\n";
 

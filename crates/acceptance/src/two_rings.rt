@@ -9,7 +9,7 @@ ghost use Rattle.gs_layout.specs.declared.message.Message.{Message};
 use crate::fixed_places::FixedPlaces;
 use gs_journal::Entry;
 use gs_kernel::{Answer, Kernel, Settings};
-use gs_layout::{Change, Class, Facts, Message, Name, Refusal};
+use gs_layout::{Change, Class, Facts, MOST_TIDS, Message, Name, Refusal};
 use gs_ring::{ByteRing, Poster, Ring, Taker};
 use std::alloc::{AllocError, Global};
 use std::test::Fail;
@@ -34,7 +34,7 @@ fn web() -> Option<Facts> {
 
 /// A message about a thread.
 fn woken(tid: u32) -> Message
-    requires tid { (1 ≤ tid) × (tid ≤ 65536) }
+    requires tid { (1 ≤ tid) × (tid ≤ MOST_TIDS) }
     ensures { IsSpellable result }
 {
     Message::Thread {

@@ -26,7 +26,7 @@ use gs_policy::{Choice, Counted, Policy};
 use gs_ring::Taker;
 use gs_runq::Walk;
 use gs_slots::{Region, SlotBusy, SlotMut};
-use gs_status::Mask;
+use gs_status::{MOST_CPUS, Mask};
 use gs_view::AgentView;
 use std::alloc::{AllocError, Global};
 use std::marker::Model;
@@ -53,8 +53,9 @@ impl<P> Model for Role<P> {
 }
 
 impl<P> Role<P> {
-    /// The role of an active agent of this generation, on this CPU of so many (at most 64), that plans
-    /// by this policy. It knows nothing yet: nobody is believed to run anywhere, and nobody waits.
+    /// The role of an active agent of this generation, on this CPU of so many (at most
+    /// [`MOST_CPUS`]), that plans by this policy. It knows nothing yet: nobody is believed to run
+    /// anywhere, and nobody waits.
     ///
     /// # Errors
     ///
@@ -68,7 +69,7 @@ impl<P> Role<P> {
     ) -> Result<Role<P>, AllocError>
     where
         P: Drop,
-        requires { cpus ≤ 64 }
+        requires { cpus ≤ MOST_CPUS }
         ensures { IfOk result (λ role. role ≡ record { mind = nothing cpus (Some cpu); generation = generation; policy = policy }) }
     {
         Ok(Role {

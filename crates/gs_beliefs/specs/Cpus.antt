@@ -2,6 +2,7 @@
 use Rattle.std.specs.Prelude.{Bool, false, not, ◌&&◌, ◌==◌, ℕ, ◌+◌, min, nat_lt, Option, None, Some, is_none, List, length, map, replicate, slice_index_or, slice_set, if◌then◌else◌}
 use Rattle.std.specs.List.{list_any}
 use Rattle.gs_beliefs.specs.declared.running.Running.{Running}
+use Rattle.gs_beliefs.specs.declared.running.TheConstants.{MOST_TICKS}
 
 -- who is believed to run on each CPU; the thread that an uncollected stamp on each CPU names; the agent's own CPU, none while it
 -- attaches
@@ -58,10 +59,10 @@ abbrev pub raised_at : ℕ → ℕ → Option Running → Option Running
 raised_at t n None = None
 raised_at t n (Some r) = if r.tid == t then Some (record r { tseq = n }) else Some r
 
--- the belief of a CPU after one tick more, of which 65,535 are counted
+-- the belief of a CPU after one tick more, of which `MOST_TICKS` are counted
 abbrev pub ticked : Option Running → Option Running
 ticked None = None
-ticked (Some r) = Some (record r { ticks = min 65535 (r.ticks + 1) })
+ticked (Some r) = Some (record r { ticks = min MOST_TICKS (r.ticks + 1) })
 
 -- a thread that begins to run at this number
 abbrev pub running : ℕ → ℕ → Running

@@ -1,8 +1,9 @@
 -- What beliefs always are.
 use Rattle.std.specs.Prelude.{ℕ, ◌≤◌, ◌≡◌, Option, List, length}
+use Rattle.gs_status.specs.declared.mask.TheConstants.{MOST_CPUS}
 use Rattle.gs_beliefs.specs.declared.running.Running.{Running}
 
--- at most 64 CPUs, and as many stamps as beliefs
+-- no more than the most CPUs, and as many stamps as beliefs
 pub record IsCpus (beliefs : List (Option Running)) (stamps : List (Option ℕ)) : Type 0 where
-  pub most : length beliefs ≤ 64
+  pub most : length beliefs ≤ MOST_CPUS
   pub even : length stamps ≡ length beliefs

@@ -6,16 +6,16 @@ ghost use Rattle.gs_beliefs.specs.Belief.{after_outcome, hears};
 use crate::running::{Running, clear_all, raise_all, runs, ticked};
 use gs_layout::{Kind, Outcome};
 use gs_reader::MessageRef;
-use gs_status::Mask;
+use gs_status::{MOST_CPUS, Mask};
 use std::alloc::{AllocError, Global};
 use std::marker::Model;
 
 /// What an agent believes of each CPU: who runs there, at which sequence number and for how many
 /// ticks, and which thread an uncollected stamp names. Beside that it keeps the agent's own CPU.
 ///
-/// A belief lags behind the kernel by the messages that were not read yet. There are at most 64 CPUs;
-/// what is said of a CPU past the last one changes nothing. Each call takes at most a number of steps
-/// that grows as the number of CPUs, and none but [`CpuBeliefs::new`] takes memory.
+/// A belief lags behind the kernel by the messages that were not read yet. There are at most
+/// [`MOST_CPUS`] CPUs; what is said of a CPU past the last one changes nothing. Each call takes at most
+/// a number of steps that grows as the number of CPUs, and none but [`CpuBeliefs::new`] takes memory.
 #[derive(Drop)]
 pub struct CpuBeliefs {
     beliefs: Vec<Option<Running>>,
@@ -35,14 +35,14 @@ impl Model for CpuBeliefs {
 }
 
 impl CpuBeliefs {
-    /// So many CPUs, at most 64, of which nothing is believed yet: nobody runs, and there is no stamp.
-    /// `agent` is the agent's own CPU, `None` while it attaches.
+    /// So many CPUs, at most [`MOST_CPUS`], of which nothing is believed yet: nobody runs, and there is
+    /// no stamp. `agent` is the agent's own CPU, `None` while it attaches.
     ///
     /// # Errors
     ///
     /// Where memory runs out.
     pub fn new(alloc: Global, cpus: u16, agent: Option<u16>) -> Result<CpuBeliefs, AllocError>
-        requires { cpus ≤ 64 }
+        requires { cpus ≤ MOST_CPUS }
         ensures { IfOk result (λ made. made ≡ unknown cpus agent) }
     {
         Ok(CpuBeliefs {
@@ -52,11 +52,11 @@ impl CpuBeliefs {
         })
     }
 
-    /// How many CPUs there are, at most 64.
+    /// How many CPUs there are, at most [`MOST_CPUS`].
     pub fn cpus(&self) -> u16
         ensures count { result ≡ length self.now.believed }
         ensures stamps { result ≡ length self.now.stamped }
-        ensures most { result ≤ 64 }
+        ensures most { result ≤ MOST_CPUS }
     {
         self.beliefs.len() as u16
     }
@@ -162,7 +162,8 @@ impl CpuBeliefs {
         raise_all(&mut self.beliefs, tid, tseq);
     }
 
-    /// The timer of a CPU ticked: one tick more for whoever is believed to run there, up to 65,535.
+    /// The timer of a CPU ticked: one tick more for whoever is believed to run there, up to
+    /// [`MOST_TICKS`](crate::MOST_TICKS).
     pub fn tick(&mut self, cpu: u16)
         ensures { self.new ≡ ticks cpu self.old }
     {

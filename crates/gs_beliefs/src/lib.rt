@@ -5,4 +5,4 @@ mod cpu_beliefs;
 mod running;
 
 pub use cpu_beliefs::CpuBeliefs;
-pub use running::Running;
+pub use running::{MOST_TICKS, Running};

@@ -1,9 +1,13 @@
 ghost use Rattle.std.specs.Prelude.{◌≡◌, map};
 ghost use Rattle.gs_beliefs.specs.Cpus.{cleared_at, raised_at, runs, ticked};
 
+/// The most ticks that are counted of a thread on its CPU, as many as 16 bits hold. Further ones are not
+/// counted.
+pub const MOST_TICKS: u16 = u16::MAX;
+
 /// A thread that is believed to run, at this sequence number, for so many ticks of its CPU's timer.
 ///
-/// Ticks are counted up to 65,535.
+/// Ticks are counted up to [`MOST_TICKS`].
 #[derive(Clone, Copy, PartialEq, Eq, Debug)]
 pub struct Running {
     pub tid: u32,
@@ -44,7 +48,7 @@ pub(crate) fn ticked(believed: Option<Running>) -> Option<Running>
 {
     let running = believed?;
     Some(Running {
-        ticks: running.ticks.saturating_add(1),
+        ticks: running.ticks.saturating_add(1).min(MOST_TICKS),
         ..running
     })
 }

@@ -9,7 +9,7 @@ use crate::page::Page;
 use crate::read::HEADER;
 use crate::record::DumpRecord;
 use byteorder::{ByteOrder, LittleEndian};
-use gs_layout::cpu_number;
+use gs_layout::{MOST_NAME_LEN, cpu_number};
 use std::alloc::{AllocError, Global};
 
 /// Writes the first 16 bytes of a record.
@@ -28,10 +28,10 @@ fn write_front(thread: &DumpRecord, out: &mut [u8])
     LittleEndian::write_u16(&mut out[14..], u16::from(thread.facts.runnable));
 }
 
-/// Writes a name, and zeros up to 16 bytes.
+/// Writes a name, and zeros up to [`MOST_NAME_LEN`] bytes.
 fn write_name(name: &[u8], out: &mut [u8])
-    requires short { length name.now ≤ 16 }
-    requires room { length out.old ≡ 16 }
+    requires short { length name.now ≤ MOST_NAME_LEN }
+    requires room { length out.old ≡ MOST_NAME_LEN }
     ensures { out.new ≡ name_field name.now }
 {
     out[..name.len()].copy_from_slice(name);

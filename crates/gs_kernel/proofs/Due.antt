@@ -23,10 +23,10 @@ use Rattle.gs_kernel.specs.declared.command.Command.TheVariants as commands
 use Rattle.gs_kernel.specs.Kernel.{change_by, happening, must_leave, next_about, event_refusal, preemption}
 use Rattle.gs_kernel.specs.declared.effect.Effect.{Effect}
 use Rattle.gs_kernel.specs.declared.effect.Effect.TheVariants.{Post, Append}
-use Rattle.gs_kernel.specs.Inside.{HoldsNear, IsKept, SeatsBelow, behind, created_in, freed, held_by, left_by, left_in, listed_entry, listed_message, rows_seated, rows_told, rows_with, seats_seated, seats_told, vacated}
+use Rattle.gs_kernel.specs.Inside.{HoldsNear, IsKept, SeatsBelow, behind, created_in, freed, held_by, left_by, left_in, listed_entry, listed_message, rows_seated, rows_told, rows_with, seats_seated, seats_told}
 use Rattle.gs_kernel.specs.Legal.{RoomOf, effect, entries_in, message_in, most_entries, refusal}
 use Rattle.gs_kernel.proofs.Kernels.{kept_created, kept_placed, kept_rows, kept_tick}
-use Rattle.gs_kernel.proofs.Abouts.{kept_about, live_row, no_creation, on_cpu_below, stays_allowed}
+use Rattle.gs_kernel.proofs.Abouts.{kept_about, length_freed, live_row, no_creation, on_cpu_below, stays_allowed}
 use Rattle.gs_kernel.proofs.OtherClass.{gives_when, kept_held, kept_preempted, seated_at, takes_when}
 use Rattle.gs_kernel.proofs.Entries.{beside_quiet}
 use Rattle.gs_kernel.proofs.Refusals.{creates_when, free_when, happens_when}
@@ -110,35 +110,22 @@ left_there s h u (happens.Affinity mask) d own q = by_off (at s.cpus h u) (must_
     by_off o true q = q
     by_off o false q = absurd cc
 
-same_seats : (s : Settings) (h : History) (u : ℕ) (e : ThreadEvent) (running : List (Option ℕ)) → event_refusal s h u e ≡ None
-    → freed running (left_in (change_by (at s.cpus h u) e)) ≡ vacated running (at s.cpus h u) (takes_off_cpu (change_by (at s.cpus h u) e))
-same_seats s h u happens.Block running own = leaves (at s.cpus h u) (refuses_not _ _ own)
+-- the CPU that an event takes its thread off is the one that it is on, where it takes it off
+left_seat : (s : Settings) (h : History) (u : ℕ) (e : ThreadEvent) → event_refusal s h u e ≡ None
+    → left_in (change_by (at s.cpus h u) e) ≡ cond (takes_off_cpu (change_by (at s.cpus h u) e)) (at s.cpus h u) None
+left_seat s h u happens.Block own = on_it (at s.cpus h u) (refuses_not _ _ own)
   where
-    leaves : (o : Option ℕ) → is_some o ≡ true → freed running (Some (unwrap_or o 0)) ≡ vacated running o true
-    leaves None b = absurd cc
-    leaves (Some c) b = refl
-same_seats s h u happens.Wake running own = stays (at s.cpus h u)
+    on_it : (o : Option ℕ) → is_some o ≡ true → Some (unwrap_or o 0) ≡ o
+    on_it None b = absurd cc
+    on_it (Some c) b = refl
+left_seat s h u happens.Wake own = refl
+left_seat s h u happens.Yield own = on_it (at s.cpus h u) (refuses_not _ _ own)
   where
-    stays : (o : Option ℕ) → running ≡ vacated running o false
-    stays None = refl
-    stays (Some c) = refl
-same_seats s h u happens.Yield running own = leaves (at s.cpus h u) (refuses_not _ _ own)
-  where
-    leaves : (o : Option ℕ) → is_some o ≡ true → freed running (Some (unwrap_or o 0)) ≡ vacated running o true
-    leaves None b = absurd cc
-    leaves (Some c) b = refl
-same_seats s h u happens.Die running own = leaves (at s.cpus h u)
-  where
-    leaves : (o : Option ℕ) → freed running o ≡ vacated running o true
-    leaves None = refl
-    leaves (Some c) = refl
-same_seats s h u (happens.Affinity mask) running own = moves (at s.cpus h u) (must_leave (at s.cpus h u) mask)
-  where
-    moves : (o : Option ℕ) (b : Bool) → freed running (cond b o None) ≡ vacated running o b
-    moves None true = refl
-    moves None false = refl
-    moves (Some c) true = refl
-    moves (Some c) false = refl
+    on_it : (o : Option ℕ) → is_some o ≡ true → Some (unwrap_or o 0) ≡ o
+    on_it None b = absurd cc
+    on_it (Some c) b = refl
+left_seat s h u happens.Die own = refl
+left_seat s h u (happens.Affinity mask) own = refl
 
 -- what a command leaves that nothing refuses
 kept_command : (s : Settings) (h : History) (t t' : TableState) (running running' : List (Option ℕ)) (held held' : ℕ) (a : Option (ℕ × ℕ)) (down : Bool) (c : Command) → refusal s h c ≡ None → IsKept s h t running held a down
@@ -152,7 +139,7 @@ kept_command s h t t' running running' held held' a down (commands.Thread u e) n
     let there : Option ℕ = at s.cpus h u in
     let row = live_row s h t running held a down u k w.live in
     let changed : t'.rows ≡ rows_after t.rows (happening s h u e) = rows ∙ ap (λ o. rows_with t.first_tseq t.rows (happening s h u e) o) (no_facts u (seq s.first_tseq h u + 1) there e) in
-    kept_like s _ t' t' (vacated running there (takes_off_cpu (change_by there e))) running' held held' a down refl refl (seats ∙ same_seats s h u e running w.own) holds
+    kept_like s _ t' t' (freed running (cond (takes_off_cpu (change_by there e)) there None)) running' held held' a down refl refl (seats ∙ ap (freed running) (left_seat s h u e w.own)) holds
     (kept_about s h t t' running held a down u (change_by there e) there k row (no_creation u (seq s.first_tseq h u + 1) there e) refl changed first
     (λ d q off. stays_allowed s h u d there e (k.allowed u d q) (seated_at s h t running held a down u d k q) off))
 kept_command s h t t' running running' held held' a down (commands.Take c) none k rows first seats holds = by_who (on h c) refl rows seats
@@ -302,11 +289,7 @@ seated_length running (Some Torn) = refl
 -- nor does a message
 pub length_told : (running : List (Option ℕ)) (m : Option Message) → length (seats_told running m) ≡ length running
 length_told running None = refl
-length_told running (Some m) = by_seat (left_by m)
-  where
-    by_seat : (o : Option ℕ) → length (freed running o) ≡ length running
-    by_seat None = refl
-    by_seat (Some c) = length_set running c None
+length_told running (Some m) = length_freed running (left_by m)
 
 -- what was posted behind a history, there was room for
 pub room_then : {P : Type 0} (same : P → P → Type 0) (taken : P → ℕ) (sent : P → List Message → Type 0) (tight : P → Message → Type 0) (p q : P) (h : History) (m : Option Message) → same p p → sent p (posted h) → same p q → taken q ≡ taken p

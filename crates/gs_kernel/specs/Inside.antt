@@ -1,8 +1,9 @@
 -- How the kernel keeps what it has.
-use Rattle.std.specs.Prelude.{Bool, true, false, ℕ, ◌<◌, ◌≤◌, ◌≡◌, Option, None, Some, List, [], ◌∷◌, ◌++◌, length, slice_get, slice_set, if◌then◌else◌, unwrap_or}
+use Rattle.std.specs.Prelude.{Bool, true, ℕ, ◌<◌, ◌≤◌, ◌≡◌, Option, None, Some, List, [], ◌∷◌, ◌++◌, length, slice_get, slice_set, if◌then◌else◌, unwrap_or}
 use Rattle.gs_layout.specs.declared.facts.Facts.{Facts}
 use Rattle.gs_layout.specs.declared.message.Change.{Change}
 use Rattle.gs_layout.specs.declared.message.Change.TheVariants.{Created, Blocked, Wakeup, Preempted, Yield, Dead, Affinity}
+use Rattle.gs_layout.specs.declared.message.TheConstants.{MOST_TIDS}
 use Rattle.gs_layout.specs.declared.message.Message.{Message}
 use Rattle.gs_layout.specs.declared.message.Message.TheVariants.{Thread, TimerTick}
 use Rattle.gs_journal.specs.declared.entry.Entry.{Entry}
@@ -11,6 +12,7 @@ use Rattle.gs_threads.specs.declared.row.ThreadRow.{ThreadRow}
 use Rattle.gs_threads.specs.Rows.{new_row}
 use Rattle.gs_threads.specs.Table.{rows_after, rows_placed}
 use Rattle.gs_status.specs.Masks.{has}
+use Rattle.gs_status.specs.declared.mask.TheConstants.{MOST_CPUS}
 use Rattle.gs_journal.specs.History.{History, posted, on, record_in, active, attaching, taken, taken_by, torn}
 use Rattle.gs_journal.specs.JournalState.{JournalState}
 use Rattle.gs_threads.specs.Table.{TableState}
@@ -26,7 +28,7 @@ use Rattle.gs_kernel.specs.Threads.{may_be_on}
 pub record IsKept (s : Settings) (h : History) (t : TableState) (running : List (Option ℕ)) (held : ℕ) (a : Option (ℕ × ℕ)) (down : Bool) : Type 0 where
   pub rows : Mirrors s.first_tseq h t.rows
   pub first : t.first_tseq ≡ s.first_tseq
-  pub few : length t.rows ≤ 65536
+  pub few : length t.rows ≤ MOST_TIDS
   pub count : length running ≡ s.cpus
   pub runs : (c : ℕ) → c < s.cpus → slice_get running c ≡ Some (on h c)
   pub below : (t c : ℕ) → on h c ≡ Some t → c < s.cpus
@@ -35,12 +37,6 @@ pub record IsKept (s : Settings) (h : History) (t : TableState) (running : List 
   pub agent : a ≡ active h
   pub never_begun : attaching h ≡ None
   pub down_when_torn : down ≡ torn h
-
--- the seats after a message about a thread that was on this CPU, if any
-abbrev pub vacated : List (Option ℕ) → Option ℕ → Bool → List (Option ℕ)
-vacated running None off = running
-vacated running (Some c) true = slice_set running c None
-vacated running (Some c) false = running
 
 -- the facts of the thread that a message creates, if it does
 abbrev pub created_in : Message → Option Facts
@@ -61,6 +57,7 @@ abbrev pub left_by : Message → Option ℕ
 left_by (TimerTick c) = None
 left_by (Thread t n c) = left_in c
 
+-- the seats once the thread on this CPU, if there is one, is off it
 abbrev pub freed : List (Option ℕ) → Option ℕ → List (Option ℕ)
 freed running None = running
 freed running (Some c) = slice_set running c None
@@ -110,10 +107,10 @@ abbrev pub held_by : Option Entry → ℕ → Bool → Bool
 held_by None c held = held
 held_by (Some e) c held = unwrap_or (taken_by c e) held
 
--- the CPU that an entry says to be held or not, if it does, is below 64
+-- the CPU that an entry says to be held or not, if it does, is one that there may be
 abbrev pub HoldsNear : Entry → Type 0
-HoldsNear (Taken c) = c < 64
-HoldsNear (Given c) = c < 64
+HoldsNear (Taken c) = c < MOST_CPUS
+HoldsNear (Given c) = c < MOST_CPUS
 HoldsNear _ = Unit {0}
 
 -- what was sent to the ring is what was posted

@@ -4,6 +4,7 @@ use Rattle.std.specs.Option.{option_map}
 use Rattle.gs_layout.specs.declared.facts.Facts.{Facts}
 use Rattle.gs_layout.specs.declared.message.Change.{Change}
 use Rattle.gs_layout.specs.declared.message.Change.TheVariants.{Created, Blocked, Wakeup, Preempted, Yield, Dead, Affinity}
+use Rattle.gs_layout.specs.declared.message.TheConstants.{MOST_TIDS}
 use Rattle.gs_layout.specs.declared.message.Message.{Message}
 use Rattle.gs_layout.specs.declared.message.Message.TheVariants.{Thread}
 use Rattle.gs_layout.specs.declared.refusal.Refusal.{Refusal}
@@ -12,6 +13,7 @@ use Rattle.gs_journal.specs.declared.entry.Entry.{Entry}
 use Rattle.gs_status.specs.Masks.{has, has_past, has_none}
 use Rattle.gs_journal.specs.History.{History, created, seq, record_in, on, at, active, attaching, taken, torn}
 use Rattle.gs_kernel.specs.declared.settings.Settings.{Settings}
+use Rattle.gs_kernel.specs.declared.settings.TheConstants.{LAST_TSEQ}
 use Rattle.gs_kernel.specs.declared.thread_event.ThreadEvent.{ThreadEvent}
 use Rattle.gs_kernel.specs.declared.thread_event.ThreadEvent.TheVariants as happens
 use Rattle.gs_kernel.specs.First.{first_that}
@@ -45,7 +47,7 @@ is_full s h n = nat_le (s.history + 1) (length h + n)
 -- the refusals that a creation has of its own, in order
 unfoldable pub create_refusal : Settings → History → Facts → Option Refusal
 create_refusal s h f =
-    first_that ((is_bad_mask s f.mask, Some refusals.EmptyMask) ∷ (nat_le 65536 (length (created h)), Some refusals.TidsSpent) ∷ []) None
+    first_that ((is_bad_mask s f.mask, Some refusals.EmptyMask) ∷ (nat_le MOST_TIDS (length (created h)), Some refusals.TidsSpent) ∷ []) None
 
 -- the refusal that a tick of a CPU has of its own
 unfoldable pub tick_refusal : Settings → ℕ → Option Refusal
@@ -57,7 +59,7 @@ lives h t = is_live (record_in h t)
 
 -- a thread whose sequence number is the last one: no message about it can be numbered
 abbrev pub is_spent : Settings → History → ℕ → Bool
-is_spent s h t = nat_le 4294967295 (seq s.first_tseq h t)
+is_spent s h t = nat_le LAST_TSEQ (seq s.first_tseq h t)
 
 -- the refusal that one kind of event has of its own
 abbrev pub event_refusal : Settings → History → ℕ → ThreadEvent → Option Refusal

@@ -5,11 +5,8 @@ ghost use Rattle.gs_layout.specs.Spelling.{IsSpellable};
 ghost use Rattle.gs_kernel.specs.Kernel.{create_refusal, creation};
 
 use crate::kernel::Kernel;
-use gs_layout::{Change, Facts, Message, Refusal};
+use gs_layout::{Change, Facts, MOST_TIDS, Message, Refusal};
 use gs_ring::Poster;
-
-/// The most threads that an enclave ever has.
-const MOST_THREADS: u32 = 65_536;
 
 impl<P: Poster> Kernel<P> {
     /// The first message about a thread that can be created.
@@ -36,7 +33,7 @@ impl<P: Poster> Kernel<P> {
         if self.is_bad_mask(facts.mask) {
             return Some(Refusal::EmptyMask);
         }
-        if self.threads.len() >= MOST_THREADS as usize {
+        if self.threads.len() >= MOST_TIDS as usize {
             return Some(Refusal::TidsSpent);
         }
         None

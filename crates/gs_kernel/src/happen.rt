@@ -6,6 +6,7 @@ ghost use Rattle.gs_kernel.specs.Kernel.{change_by, happening, event_refusal, th
 ghost use Rattle.gs_kernel.specs.Threads.{NamesMask};
 
 use crate::kernel::Kernel;
+use crate::settings::LAST_TSEQ;
 use crate::thread_event::ThreadEvent;
 use gs_layout::{Change, Message, Refusal};
 use gs_ring::Poster;
@@ -38,7 +39,7 @@ impl<P: Poster> Kernel<P> {
         if let Some(refusal) = self.event_refusal(tid, event) {
             return Some(refusal);
         }
-        if self.seq(tid) == u32::MAX {
+        if self.seq(tid) == LAST_TSEQ {
             return Some(Refusal::SeqSpent);
         }
         None

@@ -31,5 +31,8 @@ pub use head::Head;
 pub use kernel::Kernel;
 pub use landing::Landing;
 pub use live_thread::LiveThread;
-pub use settings::Settings;
+pub use settings::{
+    LAST_TSEQ, LEAST_CPUS, LEAST_GENERATION, LEAST_HISTORY, MOST_FIRST_TSEQ, MOST_GENERATION,
+    MOST_HISTORY, Settings,
+};
 pub use thread_event::ThreadEvent;

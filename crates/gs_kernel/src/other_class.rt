@@ -7,6 +7,7 @@ ghost use Rattle.gs_kernel.specs.Kernel.{give_refusal, is_spent_there, preemptio
 
 use crate::kernel::Kernel;
 use crate::land::is_agent_on;
+use crate::settings::LAST_TSEQ;
 use gs_layout::{Change, Message, Refusal};
 use gs_ring::Poster;
 
@@ -54,7 +55,7 @@ impl<P: Poster> Kernel<P> {
         ensures { result ≡ is_spent_there self.now.settings self.now.history (on self.now.history cpu) }
     {
         match self.running[cpu as usize] {
-            Some(tid) => self.seq(tid) == u32::MAX,
+            Some(tid) => self.seq(tid) == LAST_TSEQ,
             None => false,
         }
     }

@@ -1,6 +1,6 @@
 //! What a step adds is told: to the ring, to the journal, and in the tables; or the enclave is torn down.
 
-ghost use Rattle.std.specs.Prelude.{◌≡◌, ℕ, ◌+◌, ◌^◌, ◌<◌, ◌≤◌, ◌++◌, None, Some, true, false, length, IfSome};
+ghost use Rattle.std.specs.Prelude.{◌≡◌, ℕ, ◌+◌, ◌<◌, ◌≤◌, ◌++◌, None, Some, true, false, length, IfSome};
 ghost use Rattle.std.specs.Option.{is_some};
 ghost use Rattle.gs_layout.specs.declared.message.Message.{Message};
 ghost use Rattle.gs_layout.specs.Spelling.{IsSpellable};
@@ -15,7 +15,7 @@ use crate::kernel::Kernel;
 use crate::post::post;
 use gs_journal::{Entry, Journal};
 use gs_layout::{Change, Facts, Message};
-use gs_ring::Poster;
+use gs_ring::{MOST_POSTS, Poster};
 use gs_status::Mask;
 use gs_threads::ThreadTable;
 
@@ -47,7 +47,7 @@ impl<P: Poster> Kernel<P> {
 /// fit into the ring. Says whether it fits.
 fn send<P: Poster>(journal: &mut Journal, poster: &mut P, effect: &Effect) -> bool
     requires room { length (listed_message (message_in effect.now)) ≤ journal.old.room }
-    requires few { P.count poster.old < 2 ^ 24 }
+    requires few { P.count poster.old < MOST_POSTS }
     requires spellable { IfSome (message_in effect.now) IsSpellable }
     ensures entries { result ≡ true → journal.new.entries ≡ journal.old.entries ++ listed_message (message_in effect.now) }
     ensures refused { result ≡ false → journal.new ≡ journal.old }

@@ -1,5 +1,6 @@
 -- How what an agent has in mind is kept.
 use Rattle.std.specs.Prelude.{ℕ, ◌≤◌, ◌≡◌, true, is_some}
+use Rattle.gs_layout.specs.declared.message.TheConstants.{MOST_TIDS}
 use Rattle.gs_layout.specs.View.{Look, look_up}
 use Rattle.gs_beliefs.specs.Cpus.{Cpus}
 use Rattle.gs_runq.specs.Queue.{Queue}
@@ -10,8 +11,8 @@ use Rattle.gs_mind.specs.declared.mind.Mind.TheInside.{Inside}
 -- a thread of which something is known has a tid, and where there is one the queue has room for all that there can be
 pub record HasRoom (v : Look) (q : Queue) : Type 0 where
   pub least : (t : ℕ) → is_some (v t) ≡ true → 1 ≤ t
-  pub most : (t : ℕ) → is_some (v t) ≡ true → t ≤ 65536
-  pub room : (t : ℕ) → is_some (v t) ≡ true → 65536 ≤ q.room
+  pub most : (t : ℕ) → is_some (v t) ≡ true → t ≤ MOST_TIDS
+  pub room : (t : ℕ) → is_some (v t) ≡ true → MOST_TIDS ≤ q.room
 
 -- the queue holds just who waits, and has room for whoever may begin to
 pub record IsKept (v : Look) (s : Cpus) (q : Queue) : Type 0 where

@@ -17,7 +17,7 @@ use gs_policy::{Choice, Counted, Policy, Shown};
 use gs_reader::MessageRef;
 use gs_runq::{RunQueue, Walk};
 use gs_slots::SlotState;
-use gs_status::Mask;
+use gs_status::{MOST_CPUS, Mask};
 use gs_view::{AgentView, ApplyFault, Taken};
 use std::alloc::{AllocError, Global};
 use std::marker::Model;
@@ -52,14 +52,14 @@ impl Model for Mind {
 
 impl Mind {
     /// The mind of an agent that has heard nothing: no thread is known, nobody is believed to run on
-    /// any of so many CPUs, at most 64, there is no stamp, and nobody waits. `agent` is the agent's own
-    /// CPU, `None` while it attaches.
+    /// any of so many CPUs, at most [`MOST_CPUS`], there is no stamp, and nobody waits. `agent` is the
+    /// agent's own CPU, `None` while it attaches.
     ///
     /// # Errors
     ///
     /// Where there is no memory for the beliefs.
     pub fn new(alloc: Global, cpus: u16, agent: Option<u16>) -> Result<Mind, AllocError>
-        requires { cpus ≤ 64 }
+        requires { cpus ≤ MOST_CPUS }
         ensures { IfOk result (λ mind. mind ≡ nothing cpus agent) }
     {
         let cpus = CpuBeliefs::new(alloc, cpus, agent)?;

@@ -11,13 +11,10 @@ ghost use Rattle.gs_mind.specs.Picture.{ends_own_turn, other_than, requeued, set
 ghost use Rattle.std.specs.Option.{option_to_list};
 
 use gs_beliefs::CpuBeliefs;
-use gs_layout::{Class, Kind};
+use gs_layout::{Class, Kind, MOST_TIDS};
 use gs_reader::MessageRef;
 use gs_runq::RunQueue;
 use gs_view::{AgentView, ApplyFault};
-
-/// How many threads there can be, as many as there are tids.
-const MOST_THREADS: u32 = 65_536;
 
 /// Makes room in the queue, before the view takes a message in, for the thread whose record the
 /// message begins. Who waits stays as it is.
@@ -30,16 +27,13 @@ pub(crate) fn make_room(
     queue: &mut RunQueue,
     message: &MessageRef<'_>,
 ) -> Result<(), ApplyFault>
-    ensures begun { OnOk result (begins (look_up view.now) message.now ≡ true → 65536 ≤ queue.new.room) }
+    ensures begun { OnOk result (begins (look_up view.now) message.now ≡ true → MOST_TIDS ≤ queue.new.room) }
     ensures waiting { bare queue.new ≡ bare queue.old }
     ensures room { queue.old.room ≤ queue.new.room }
     ensures memory { OnErr result (begins (look_up view.now) message.now ≡ true) }
     ensures fault { IfErr result (λ fault. fault ≡ ApplyFault.OutOfMemory) }
 {
-    if queue.room() < MOST_THREADS
-        && is_begun_by(view, message)
-        && queue.reserve(MOST_THREADS).is_err()
-    {
+    if queue.room() < MOST_TIDS && is_begun_by(view, message) && queue.reserve(MOST_TIDS).is_err() {
         return Err(ApplyFault::OutOfMemory);
     }
     Ok(())

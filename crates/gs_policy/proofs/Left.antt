@@ -196,21 +196,21 @@ none_past s p class c taking past = by_test (p class c) refl
     by_test false e = e
 
 -- what is planned among the free CPUs and those that may be taken is the plan
-pub plan_all : (takes : Taking) (s : Shown) (l : Candidates) → length s.cpus.believed ≤ 64 → ((c : ℕ) → has l.free c ≡ is_free s.cpus s.taken c) → IsTaking s (takes s)
-    → AreTakenBy (takes s) l.zero_class l.one_class → plan_among l s ≡ plan takes s
-plan_all takes s l most free taking taken =
-    planned_same (length s.cpus.believed) (has l.free) (is_free s.cpus s.taken) (takes_in l) (takes s) s.view [] s.queue
+pub plan_all : (may_take : Taking) (s : Shown) (l : Candidates) → length s.cpus.believed ≤ 64 → ((c : ℕ) → has l.free c ≡ is_free s.cpus s.taken c) → IsTaking s (may_take s)
+    → AreTakenBy (may_take s) l.zero_class l.one_class → plan_among l s ≡ plan may_take s
+plan_all may_take s l most free taking taken =
+    planned_same (length s.cpus.believed) (has l.free) (is_free s.cpus s.taken) (takes_in l) (may_take s) s.view [] s.queue
     (record {
       most = most;
       free = free;
       free_past = λ c past. ap (λ (x : Bool). x && is_none (believed_on s.cpus c)) (past_last c (length s.cpus.believed) _ past);
       busy = by_class;
-      busy_past = λ class c past. none_past s (takes s) class c taking past;
+      busy_past = λ class c past. none_past s (may_take s) class c taking past;
     })
   where
-    taken' : AreTakenBy (takes s) l.zero_class l.one_class
+    taken' : AreTakenBy (may_take s) l.zero_class l.one_class
     taken' = taken
 
-    by_class : (class : Class) (c : ℕ) → takes_in l class c ≡ takes s class c
+    by_class : (class : Class) (c : ℕ) → takes_in l class c ≡ may_take s class c
     by_class Zero c = taken'.by_zero c
     by_class One c = taken'.by_one c

@@ -100,8 +100,8 @@ below_count : (a b : Bool) (c n : ℕ) → ((nat_lt c n && a) && b) ≡ true →
 below_count a b c n e = ltb-true c n (and_parts (nat_lt c n) a (and_parts (nat_lt c n && a) b e).0).0
 
 pub leave_none : PlansLeaveNone
-leave_none = λ takes s t c k waits known unchosen free mask.
-    planned_beside (length s.cpus.believed) (is_free s.cpus s.taken) (takes s) s.view [] s.queue t c k waits known unchosen (below_count _ _ c (length s.cpus.believed) free) free mask
+leave_none = λ may_take s t c k waits known unchosen free mask.
+    planned_beside (length s.cpus.believed) (is_free s.cpus s.taken) (may_take s) s.view [] s.queue t c k waits known unchosen (below_count _ _ c (length s.cpus.believed) free) free mask
 
 planned_push : (n : ℕ) (f : ℕ → Bool) (p : Class → ℕ → Bool) (v : Look) (xs : List Choice) (ts : List ℕ) (t : ℕ)
     → planned n f p v xs (ts ++ t ∷ []) ≡ planned n f p v xs ts ++ choice n f p (planned n f p v xs ts) t (v t)
@@ -109,4 +109,4 @@ planned_push n f p v xs [] t = refl
 planned_push n f p v xs (u ∷ ts) t = planned_push n f p v (xs ++ choice n f p xs u (v u)) ts t
 
 pub in_order : PlansInOrder
-in_order = λ takes s ts t. planned_push (length s.cpus.believed) (is_free s.cpus s.taken) (takes s) s.view [] ts t
+in_order = λ may_take s ts t. planned_push (length s.cpus.believed) (is_free s.cpus s.taken) (may_take s) s.view [] ts t

@@ -4,6 +4,7 @@ use Rattle.gs_layout.specs.declared.facts.Class.{Class}
 use Rattle.gs_layout.specs.declared.facts.Class.TheVariants.{Zero, One}
 use Rattle.gs_layout.specs.View.{Look}
 use Rattle.gs_status.specs.Masks.{has, has_none}
+use Rattle.gs_status.specs.declared.mask.TheConstants.{MOST_CPUS}
 use Rattle.gs_policy.specs.declared.candidates.Candidates.{Candidates}
 use Rattle.gs_policy.specs.declared.choice.Choice.{Choice}
 use Rattle.gs_policy.specs.Plan.{choice, planned, uses}
@@ -34,11 +35,11 @@ are_spent l = has_none l.free && (has_none l.zero_class && has_none l.one_class)
 
 -- a thread's choice among these
 abbrev pub picked : Candidates → Look → ℕ → List Choice
-picked l v t = choice 64 (has l.free) (takes_in l) [] t (v t)
+picked l v t = choice MOST_CPUS (has l.free) (takes_in l) [] t (v t)
 
 -- the choices of threads among these, one after another, behind those of a plan
 abbrev pub planned_of : Candidates → Look → List Choice → List ℕ → List Choice
-planned_of l v xs ts = planned 64 (has l.free) (takes_in l) v xs ts
+planned_of l v xs ts = planned MOST_CPUS (has l.free) (takes_in l) v xs ts
 
 -- the choices of the threads that wait
 abbrev pub plan_among : Candidates → Shown → List Choice

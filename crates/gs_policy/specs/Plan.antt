@@ -41,13 +41,13 @@ placed t None None = []
 -- the choice of a thread after those of a plan, where there are so many CPUs: the least that is free, or else the least that a
 -- thread of its class may take from somebody
 abbrev pub choice : ℕ → (ℕ → Bool) → (Class → ℕ → Bool) → List Choice → ℕ → Option Known → List Choice
-choice count free takes xs t None = []
-choice count free takes xs t (Some k) = placed t (least (is_open free k xs) count) (least (is_open (takes k.facts.class) k xs) count)
+choice count free may_take xs t None = []
+choice count free may_take xs t (Some k) = placed t (least (is_open free k xs) count) (least (is_open (may_take k.facts.class) k xs) count)
 
 -- the choices of threads, one after another, behind those of a plan
 abbrev pub planned : ℕ → (ℕ → Bool) → (Class → ℕ → Bool) → Look → List Choice → List ℕ → List Choice
-planned count free takes v xs [] = xs
-planned count free takes v xs (t ∷ ts) = planned count free takes v (xs ++ choice count free takes xs t (v t)) ts
+planned count free may_take v xs [] = xs
+planned count free may_take v xs (t ∷ ts) = planned count free may_take v (xs ++ choice count free may_take xs t (v t)) ts
 
 -- from whom a thread may take a CPU: by what is shown, its class, and the CPU
 abbrev pub Taking : Type 0
@@ -55,11 +55,11 @@ Taking = Shown → Class → ℕ → Bool
 
 -- the plan for threads, in order, by what is shown
 abbrev pub plan_for : Taking → Shown → List ℕ → List Choice
-plan_for takes s ts = planned (length s.cpus.believed) (is_free s.cpus s.taken) (takes s) s.view [] ts
+plan_for may_take s ts = planned (length s.cpus.believed) (is_free s.cpus s.taken) (may_take s) s.view [] ts
 
 -- the plan for those that wait
 abbrev pub plan : Taking → Shown → List Choice
-plan takes s = plan_for takes s s.queue
+plan may_take s = plan_for may_take s s.queue
 
 -- from nobody
 abbrev pub nobody : Taking
@@ -101,10 +101,10 @@ LeavesNone s xs =
 
 -- so it is of each plan that goes through the waiting threads in order
 abbrev pub PlansLeaveNone : Type 0
-PlansLeaveNone = (takes : Taking) (s : Shown) → LeavesNone s (plan takes s)
+PlansLeaveNone = (may_take : Taking) (s : Shown) → LeavesNone s (plan may_take s)
 
 -- for threads that end in one, a plan is that for the others, followed by this one's choice
 abbrev pub PlansInOrder : Type 0
 PlansInOrder =
-    (takes : Taking) (s : Shown) (ts : List ℕ) (t : ℕ)
-    → plan_for takes s (ts ++ t ∷ []) ≡ plan_for takes s ts ++ choice (length s.cpus.believed) (is_free s.cpus s.taken) (takes s) (plan_for takes s ts) t (s.view t)
+    (may_take : Taking) (s : Shown) (ts : List ℕ) (t : ℕ)
+    → plan_for may_take s (ts ++ t ∷ []) ≡ plan_for may_take s ts ++ choice (length s.cpus.believed) (is_free s.cpus s.taken) (may_take s) (plan_for may_take s ts) t (s.view t)

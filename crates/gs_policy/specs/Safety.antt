@@ -151,9 +151,9 @@ planned_safe s n p xs (t ∷ ts) taking safe apart waits unchosen =
     (λ u later. chooses_next n (is_free s.cpus s.taken) p xs t u (s.view t) (out_in t u ts apart.0 later) (unchosen u (or_right (t == u) (is_in u ts) later)))
 
 -- whoever may take only usable CPUs on which somebody is believed to run plans safely
-pub plan_safe : (takes : Taking) (s : Shown) → IsTaking s (takes s) → Apart s.queue → IsSafePlan s (plan takes s)
-plan_safe takes s taking apart =
-    planned_safe s (length s.cpus.believed) (takes s) [] s.queue taking (safe_none s) apart (λ t waits. waits) (λ t waits. refl)
+pub plan_safe : (may_take : Taking) (s : Shown) → IsTaking s (may_take s) → Apart s.queue → IsSafePlan s (plan may_take s)
+plan_safe may_take s taking apart =
+    planned_safe s (length s.cpus.believed) (may_take s) [] s.queue taking (safe_none s) apart (λ t waits. waits) (λ t waits. refl)
 
 -- nobody takes a CPU from anybody
 pub nobody_taking : (s : Shown) → IsTaking s (nobody s)

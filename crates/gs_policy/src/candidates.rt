@@ -11,7 +11,7 @@ ghost use Rattle.gs_policy.specs.Shown.{shows};
 use crate::choice::Choice;
 use crate::shown::Shown;
 use gs_layout::Class;
-use gs_status::Mask;
+use gs_status::{MOST_CPUS, Mask};
 use gs_view::AgentView;
 
 /// The CPUs that can still be chosen: those that are free, and those that a thread of each class may
@@ -29,8 +29,8 @@ pub struct Candidates {
 /// The least CPU that is in both sets.
 #[tactic(auto, using(gs_status::proofs::Least::least_same))]
 fn least_of(one: Mask, other: Mask) -> Option<u16>
-    ensures least { result ≡ least (λ c. has one c && has other c) 64 }
-    ensures within { IfSome result (λ c. c < 64) }
+    ensures least { result ≡ least (λ c. has one c && has other c) MOST_CPUS }
+    ensures within { IfSome result (λ c. c < MOST_CPUS) }
 {
     one.both(other).lowest()
 }
@@ -42,9 +42,9 @@ impl Candidates {
     /// What is planned among them is the plan by any test that has them so, if it has only usable CPUs
     /// on which somebody is believed to run.
     pub fn new(shown: &Shown<'_>, zero_class: Mask, one_class: Mask) -> Candidates
-        ensures { (takes : Taking) → IsTaking (shows shown.now) (takes (shows shown.now)) → AreTakenBy (takes (shows shown.now)) zero_class one_class → plan_among result (shows shown.now) ≡ plan takes (shows shown.now) }
+        ensures { (may_take : Taking) → IsTaking (shows shown.now) (may_take (shows shown.now)) → AreTakenBy (may_take (shows shown.now)) zero_class one_class → plan_among result (shows shown.now) ≡ plan may_take (shows shown.now) }
     {
-        // There are at most 64, so that a mask has them all.
+        // There are at most MOST_CPUS, so that a mask has them all.
         let _most = shown.cpus.cpus();
         Candidates {
             free: shown.cpus.free(shown.taken),
@@ -72,7 +72,7 @@ impl Candidates {
 
     /// All of them but a CPU.
     fn without(self, cpu: u16) -> Candidates
-        requires { cpu < 64 }
+        requires { cpu < MOST_CPUS }
         ensures free { (c : ℕ) → has result.free c ≡ (has self.free c && not (cpu == c)) }
         ensures busy { (class : ClassOf) (c : ℕ) → takes_in result class c ≡ (takes_in self class c && not (cpu == c)) }
     {
@@ -87,7 +87,7 @@ impl Candidates {
     #[tactic(auto, using(crate::proofs::Left::picked_unknown, crate::proofs::Left::picked_free, crate::proofs::Left::picked_busy))]
     fn pick(self, view: &AgentView, tid: u32) -> Option<Choice>
         ensures pick { option_to_list result ≡ picked self (look_up view.now) tid }
-        ensures below { IfSome result (λ x. x.cpu < 64) }
+        ensures below { IfSome result (λ x. x.cpu < MOST_CPUS) }
     {
         let (facts, _) = view.get(tid)?;
         let mask = Mask::new(facts.mask);

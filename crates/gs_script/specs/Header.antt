@@ -2,13 +2,14 @@
 use Rattle.std.specs.Prelude.{ℕ, ◌≤◌, nat_lt, List, [], ◌∷◌, map, length, drop, if◌then◌else◌, codes, Option, Some, None, Result, Ok, Err}
 use Rattle.gs_status.specs.declared.mask.TheConstants.{MOST_CPUS}
 use Rattle.gs_ring.specs.declared.block.TheConstants.{ALIGNMENT, LEAST_CAPACITY, MOST_CAPACITY}
+use Rattle.gs_kernel.specs.declared.settings.TheConstants.{LEAST_CPUS, LEAST_GENERATION, LEAST_HISTORY, MOST_FIRST_TSEQ, MOST_GENERATION, MOST_HISTORY}
 use Rattle.gs_policy.specs.declared.any.AnyPolicy.{AnyPolicy}
 use Rattle.gs_policy.specs.declared.any.AnyPolicy.TheVariants.{FirstCome, TwoClass}
 use Rattle.gs_core.specs.declared.config.Config.{Config}
 use Rattle.gs_script.specs.declared.fault.Reason.{Reason}
 use Rattle.gs_script.specs.declared.fault.Reason.TheVariants.{NoHeader, BadCount, BadNumber}
 use Rattle.gs_script.specs.declared.header.Firsts.{Firsts}
-use Rattle.gs_script.specs.declared.header.TheConstants.{LEAST_CPUS, LEAST_GENERATION, LEAST_HISTORY, LEAST_SLICE, MOST_FIRST_TSEQ, MOST_GENERATION, MOST_HISTORY, MOST_SLICE}
+use Rattle.gs_script.specs.declared.header.TheConstants.{LEAST_SLICE, MOST_SLICE}
 use Rattle.gs_script.specs.Words.{number}
 use Rattle.gs_script.specs.Grammar.{is_of_kind, Number, Multiple, Form, with_part, first_fault, or_fault, literal}
 use Rattle.gs_script.specs.Rows.{at, is, number_between}

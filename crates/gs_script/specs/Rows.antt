@@ -1,5 +1,5 @@
 -- The lines that say an event: one row of a table for each kind of event.
-use Rattle.std.specs.Prelude.{ℕ, List, [], ◌∷◌, map, Bool, bytes_eq, if◌then◌else◌, ◌==◌, codes, get_or, Result, Ok, Err}
+use Rattle.std.specs.Prelude.{ℕ, ◌-◌, ◌^◌, List, [], ◌∷◌, map, Bool, bytes_eq, if◌then◌else◌, ◌==◌, codes, get_or, Result, Ok, Err}
 use denote.Ref.{Bor}
 use Rattle.gs_layout.specs.declared.facts.Class.{Class}
 use Rattle.gs_layout.specs.declared.facts.Class.TheVariants.{Zero, One}
@@ -15,14 +15,15 @@ use Rattle.gs_script.specs.declared.fault.Reason.TheVariants.{BadWord, BadNumber
 use Rattle.gs_script.specs.Words.{number}
 use Rattle.gs_script.specs.Grammar.{is_of_kind, OneOf, Number, Name, Kind, Form, line_fault, literal, or_fault}
 
+-- the numbers that so many bits hold
 abbrev pub u16s : Kind
-u16s = Number 0 65535
+u16s = Number 0 (2 ^ 16 - 1)
 
 abbrev pub u32s : Kind
-u32s = Number 0 4294967295
+u32s = Number 0 (2 ^ 32 - 1)
 
 abbrev pub u64s : Kind
-u64s = Number 0 18446744073709551615
+u64s = Number 0 (2 ^ 64 - 1)
 
 -- the word at a place
 abbrev pub at : ℕ → List (List ℕ) → List ℕ

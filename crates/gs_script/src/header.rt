@@ -5,37 +5,20 @@ ghost use Rattle.gs_script.specs.Header.{header_of, config_in, capacity_in, part
 
 use crate::fault::Reason;
 use crate::word::number;
+use gs_beliefs::MOST_TICKS;
 use gs_core::Config;
+use gs_kernel::{
+    LEAST_CPUS, LEAST_GENERATION, LEAST_HISTORY, MOST_FIRST_TSEQ, MOST_GENERATION, MOST_HISTORY,
+};
 use gs_policy::{AnyPolicy, FirstCome, TwoClass};
-use gs_ring::{ALIGNMENT, LEAST_CAPACITY, MOST_CAPACITY, MOST_POSTS};
+use gs_ring::{ALIGNMENT, LEAST_CAPACITY, MOST_CAPACITY};
 use gs_status::MOST_CPUS;
-
-/// The fewest CPUs of an enclave: one is the agent's own, and threads are to have one.
-pub const LEAST_CPUS: u16 = 2;
-
-/// The greatest number that the threads' sequence numbers may begin above: the first one of a thread is one
-/// more, and has 32 bits.
-pub const MOST_FIRST_TSEQ: u32 = u32::MAX - 1;
-
-/// The least generation that an agent may have: 0 is no agent's. It is the first one's, if a header names
-/// none.
-pub const LEAST_GENERATION: u32 = 1;
-
-/// The greatest generation that an agent may have, which has 32 bits.
-pub const MOST_GENERATION: u32 = u32::MAX;
-
-/// The fewest entries that a journal may be made for: a CPU that is taken from a thread adds two.
-pub const LEAST_HISTORY: u32 = 2;
-
-/// The most entries that a journal may be made for: each may be a message that is posted to the ring. It is
-/// made for so many, if a header names no count.
-pub const MOST_HISTORY: u32 = MOST_POSTS as u32;
 
 /// The fewest ticks after which a thread of class 1 may have to make way for another.
 pub const LEAST_SLICE: u16 = 1;
 
 /// The most ticks after which it may: no more are counted of a thread.
-pub const MOST_SLICE: u16 = u16::MAX;
+pub const MOST_SLICE: u16 = MOST_TICKS;
 
 /// What a header may say behind the sizes.
 #[derive(Clone, Copy)]
@@ -128,7 +111,9 @@ fn policy(words: &[&str]) -> Result<AnyPolicy, Reason>
     }
 }
 
-/// What the words behind the sizes say: each part once or not at all, in this order.
+/// What the words behind the sizes say: each part once or not at all, in this order. Where they say nothing
+/// of a part, sequence numbers begin above 0, the generation is the least, the journal is made for the most
+/// entries, and the policy is first come.
 #[tactic(auto, using(crate::proofs::Firsts::tseq_failed, crate::proofs::Firsts::generation_failed, crate::proofs::Firsts::history_failed, crate::proofs::Firsts::policy_failed))]
 fn optional(words: &[&str]) -> Result<Firsts, Reason>
     ensures exact { result ≡ firsts_in (shown words.now) }

@@ -8,8 +8,5 @@ mod script;
 mod word;
 
 pub use fault::{Reason, ScriptFault};
-pub use header::{
-    LEAST_CPUS, LEAST_GENERATION, LEAST_HISTORY, LEAST_SLICE, MOST_FIRST_TSEQ, MOST_GENERATION,
-    MOST_HISTORY, MOST_SLICE,
-};
+pub use header::{LEAST_SLICE, MOST_SLICE};
 pub use script::{MOST_BYTES, Script, ScriptError, read_script};

@@ -1,7 +1,7 @@
 -- Worked rows: words of threads in each state, and what is in a mask.
-use Rattle.std.proofs.Common.{◌≡◌, ◌^◌, ◌%◌, ◌==◌, refl, true, false, None, Some}
+use Rattle.std.proofs.Common.{◌≡◌, ◌^◌, refl, true, false, None, Some}
 use Rattle.gs_status.specs.Status.{packed}
-use Rattle.gs_status.specs.Masks.{has, has_past, has_none, least, mask_of}
+use Rattle.gs_status.specs.Masks.{has, has_past, has_none, least}
 
 running : packed (record { tseq = 1; cpu = Some 1; runnable = true; alive = true }) ≡ 0x0000070100000001
 running = refl
@@ -69,12 +69,3 @@ least_below_three = refl
 least_highest : least (has (2 ^ 63)) 64 ≡ Some 63
 unfolding least
 least_highest = refl
-
--- the mask of the even CPUs below 6, and of none
-even_cpus : mask_of (λ c. c % 2 == 0) 6 ≡ 21
-unfolding mask_of
-even_cpus = refl
-
-no_cpus : mask_of (λ c. false) 64 ≡ 0
-unfolding mask_of
-no_cpus = refl

@@ -1,5 +1,5 @@
 -- A mask is a set of CPUs: CPU c is in it where bit c is set.
-use Rattle.std.specs.Prelude.{Bool, true, false, ℕ, zero, suc, ◌^◌, ◌*◌, ◌/◌, ◌%◌, ◌==◌, nat_le, bit_and, bit_or, Option, None, Some, if◌then◌else◌}
+use Rattle.std.specs.Prelude.{Bool, true, false, ℕ, zero, suc, ◌^◌, ◌*◌, ◌/◌, ◌%◌, ◌==◌, nat_le, bit_and, bit_or, Option, None, Some}
 use Rattle.gs_status.specs.declared.mask.TheConstants.{MOST_CPUS}
 
 -- whether a CPU is in a mask
@@ -17,11 +17,6 @@ has_none mask = mask == 0
 -- a mask with the CPU c in it
 abbrev pub with_bit : ℕ → ℕ → ℕ
 with_bit mask c = bit_or mask (1 * 2 ^ c % 2 ^ MOST_CPUS)
-
--- the mask of the CPUs below a count that pass a test
-unfoldable pub mask_of : (ℕ → Bool) → ℕ → ℕ
-mask_of test zero = 0
-mask_of test (suc c) = if test c then with_bit (mask_of test c) c else mask_of test c
 
 -- the number that was found, or else this one, if it passes
 abbrev pub found_or : Option ℕ → Bool → ℕ → Option ℕ

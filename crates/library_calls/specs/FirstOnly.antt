@@ -3,6 +3,7 @@ use Rattle.std.specs.Prelude.{Bool, true, false, ◌&&◌, ◌==◌, ◌≡◌, 
 use Rattle.std.proofs.Common.{refl}
 use Rattle.std.proofs.lemmas.Bool.{and_parts, eq-eqb, or_left}
 use Rattle.gs_layout.specs.declared.known.Known.{Known}
+use Rattle.gs_status.specs.declared.mask.TheConstants.{MOST_CPUS}
 use Rattle.gs_status.specs.Masks.{has, least}
 use Rattle.gs_status.proofs.Least.{least_passes}
 use Rattle.gs_runq.specs.Queue.{is_in, Apart}
@@ -19,7 +20,7 @@ suits s k c = is_free s.cpus s.taken c && has k.facts.mask c
 -- the least CPU that suits what is known of a thread
 abbrev pub free_for : Shown → Option Known → Option ℕ
 free_for s None = None
-free_for s (Some k) = least (suits s k) 64
+free_for s (Some k) = least (suits s k) MOST_CPUS
 
 -- a thread on a CPU, if there is one for it
 abbrev pub placed_on : ℕ → Option ℕ → List Choice
@@ -40,7 +41,7 @@ placed_on-safe : (s : Shown) (t : ℕ) (o : Option Known) → is_in t s.queue �
 placed_on-safe s t o waits known None e = safe_none s
 placed_on-safe s t None waits known (Some c) e = absurd cc
 placed_on-safe s t (Some k) waits known (Some c) e =
-    let parts = and_parts (is_free s.cpus s.taken c) (has k.facts.mask c) (least_passes (suits s k) 64 c e) in
+    let parts = and_parts (is_free s.cpus s.taken c) (has k.facts.mask c) (least_passes (suits s k) MOST_CPUS c e) in
     safe_more s [] (record { cpu = c; tid = t; preempt = false }) (safe_none s) (free_safe s t c k waits known parts.1 parts.0) refl refl
 
 -- and so is that of the first, where all of these wait

@@ -3,7 +3,7 @@ ghost use Rattle.std.specs.Prelude.{◌≤◌, IfSome};
 
 use crate::messages::Tried;
 use gs_dump::{DumpRecord, Page, PageFault, read_page, write_page};
-use gs_layout::Class;
+use gs_layout::{Class, MOST_TIDS};
 use std::alloc::{AllocError, Global};
 use std::test::Fail;
 
@@ -227,7 +227,7 @@ fn shows_its_threads(rt: HostRuntime) {
 
 /// Whether a page of no thread has these bytes.
 fn is_empty_page(alloc: Global, next: Option<u32>, bytes: &[u8]) -> Result<bool, AllocError>
-    requires { IfSome next (λ tid. (1 ≤ tid) × (tid ≤ 65536)) }
+    requires { IfSome next (λ tid. (1 ≤ tid) × (tid ≤ MOST_TIDS)) }
 {
     let page = Page {
         records: Vec::new(alloc),

@@ -4,7 +4,8 @@
 ghost use Rattle.std.specs.Prelude.{◌≡◌, IfSome, true};
 ghost use Rattle.gs_layout.specs.Spelling.{IsSpellable, IsSpellableChange};
 
-use gs_layout::{Change, Class, Facts, Message, Name};
+use gs_layout::{Change, Class, Facts, MOST_TIDS, Message, Name};
+use gs_status::MOST_CPUS;
 
 /// What came of a table.
 #[derive(Clone, Copy, PartialEq, Eq, Debug)]
@@ -68,7 +69,7 @@ pub(crate) fn creation(class: Class, mask: u64, name: &str) -> Option<Change> {
 pub(crate) fn about(tid: u32, tseq: u32, change: Change) -> Option<Message>
     ensures { IfSome result IsSpellable }
 {
-    if tid < 1 || tid > 65_536 || tseq < 1 || !is_spellable(&change) {
+    if tid < 1 || tid > MOST_TIDS || tseq < 1 || !is_spellable(&change) {
         return None;
     }
     Some(Message::Thread { tid, tseq, change })
@@ -78,7 +79,7 @@ pub(crate) fn about(tid: u32, tseq: u32, change: Change) -> Option<Message>
 pub(crate) fn tick(cpu: u16) -> Option<Message>
     ensures { IfSome result IsSpellable }
 {
-    if cpu >= 64 {
+    if cpu >= MOST_CPUS {
         return None;
     }
     Some(Message::TimerTick { cpu })
@@ -90,9 +91,11 @@ fn is_spellable(change: &Change) -> bool
 {
     match change {
         Change::Created { facts } => facts.mask > 0 && Name::is_name(facts.name.as_bytes()),
-        Change::Blocked { cpu } | Change::Preempted { cpu } | Change::Yield { cpu } => *cpu < 64,
+        Change::Blocked { cpu }
+        | Change::Preempted { cpu }
+        | Change::Yield { cpu }
+        | Change::Dead { cpu: Some(cpu) } => *cpu < MOST_CPUS,
         Change::Wakeup | Change::Dead { cpu: None } => true,
-        Change::Dead { cpu: Some(cpu) } => *cpu < 64,
         Change::Affinity {
             cpu: None,
             off,
@@ -102,6 +105,6 @@ fn is_spellable(change: &Change) -> bool
             cpu: Some(cpu),
             mask,
             ..
-        } => *cpu < 64 && *mask > 0,
+        } => *cpu < MOST_CPUS && *mask > 0,
     }
 }

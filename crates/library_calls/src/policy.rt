@@ -10,13 +10,13 @@ use crate::plans::{Plan, is_plan};
 use crate::policy::first_only::FirstOnly;
 use crate::policy::zero_preempts::ZeroPreempts;
 use gs_beliefs::CpuBeliefs;
-use gs_layout::{Class, Parcel};
+use gs_layout::{Class, MOST_TIDS, Parcel};
 use gs_policy::{
     AnyPolicy, Choice, Counted, FirstCome, Policy, Shown, TwoClass, leaves_none, plans_in_order,
 };
 use gs_reader::MessageRef;
 use gs_runq::RunQueue;
-use gs_status::Mask;
+use gs_status::{MOST_CPUS, Mask};
 use gs_view::AgentView;
 use std::alloc::{AllocError, Global};
 
@@ -237,10 +237,10 @@ fn known(alloc: Global, row: &Row) -> Option<AgentView> {
 
 /// A queue in which nobody waits, with room for every thread that there can be.
 fn roomy(alloc: Global) -> Result<RunQueue, AllocError>
-    ensures { IfOk result (λ queue. 65536 ≤ queue.room) }
+    ensures { IfOk result (λ queue. MOST_TIDS ≤ queue.room) }
 {
     let mut queue = RunQueue::new(alloc);
-    queue.reserve(65_536)?;
+    queue.reserve(MOST_TIDS)?;
     Ok(queue)
 }
 
@@ -248,7 +248,7 @@ fn roomy(alloc: Global) -> Result<RunQueue, AllocError>
 fn waiting(alloc: Global, row: &Row) -> Option<RunQueue> {
     let mut queue = roomy(alloc).ok()?;
     for (tid, class) in row.waits {
-        if *tid < 1 || *tid > 65_536 || queue.has(*tid) {
+        if *tid < 1 || *tid > MOST_TIDS || queue.has(*tid) {
             return None;
         }
         queue.push(*tid, *class);
@@ -258,7 +258,7 @@ fn waiting(alloc: Global, row: &Row) -> Option<RunQueue> {
 
 /// What is believed of the CPUs of a row.
 fn believed(alloc: Global, row: &Row) -> Option<CpuBeliefs> {
-    if row.cpus > 64 {
+    if row.cpus > MOST_CPUS {
         return None;
     }
     let mut cpus = CpuBeliefs::new(alloc, row.cpus, Some(0)).ok()?;

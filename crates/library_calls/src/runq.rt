@@ -1,5 +1,5 @@
 //! Who waits in a queue, and in which order.
-use gs_layout::Class;
+use gs_layout::{Class, MOST_TIDS};
 use gs_runq::RunQueue;
 use std::alloc::Global;
 
@@ -15,7 +15,7 @@ enum Step {
 type StepRow<'a> = (Step, &'a [u32], u32);
 
 /// How many threads there can be.
-const MOST: u32 = 65_536;
+const MOST: u32 = MOST_TIDS;
 
 /// Nobody waits at first.
 const EMPTY: [StepRow<'_>; 3] = [

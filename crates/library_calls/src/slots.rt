@@ -7,6 +7,7 @@ ghost use Rattle.gs_slots.specs.SlotMut.{left_in, left_in_all, state_of};
 
 use gs_layout::Outcome;
 use gs_slots::{Region, SlotBusy, SlotCell, SlotMut, SlotState, Slots, Stamp};
+use gs_status::MOST_CPUS;
 use std::alloc::Global;
 use std::thread::{Threads, join_mut};
 
@@ -369,7 +370,7 @@ enum Call {
 fn finish(slot: SlotMut<'_>, outcome: Outcome, at: Option<u16>, seen: u32) -> bool {
     let is_stamped = matches!(slot.state(), Ok(SlotState::Stamped { .. }));
     let is_cpu_or_none = match at {
-        Some(cpu) => cpu < 64,
+        Some(cpu) => cpu < MOST_CPUS,
         None => true,
     };
     if !is_stamped || outcome == Outcome::Malformed || !is_cpu_or_none {

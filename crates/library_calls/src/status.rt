@@ -1,5 +1,5 @@
 //! What masks and status words answer.
-use gs_status::{Mask, StatusWord};
+use gs_status::{MOST_CPUS, Mask, StatusWord};
 
 /// A thread that runs on CPU 1.
 const RUNNING: StatusWord = StatusWord {
@@ -136,7 +136,7 @@ const BOTH: [(u64, u64, u64, Option<u16>); 6] = [
 /// The bits of a mask with a CPU, without it, with it where a test holds, and where none does. `None`
 /// for a CPU that no mask has.
 fn changed(bits: u64, cpu: u16) -> Option<[u64; 4]> {
-    if cpu >= 64 {
+    if cpu >= MOST_CPUS {
         return None;
     }
     let mask = Mask::new(bits);

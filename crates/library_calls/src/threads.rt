@@ -1,6 +1,6 @@
 //! What a table of threads has of each thread, and which threads it shows.
 use crate::layout::{Life, NOT_RUNNABLE, ON_CPU_1_ALONE, RUNNABLE, facts, life_of, thread_message};
-use gs_layout::{Change, Message};
+use gs_layout::{Change, MOST_TIDS, Message};
 use gs_threads::ThreadTable;
 
 /// A thread's sequence number, the CPU that it is on, and what it is.
@@ -79,7 +79,7 @@ fn life_steps() -> [(Step, Seen); 16] {
 /// there are threads enough, or memory runs out.
 fn create(table: &mut ThreadTable, name: &[u8]) -> Option<usize> {
     let facts = facts(name)?;
-    if table.len() >= 65_536 {
+    if table.len() >= MOST_TIDS as usize {
         return None;
     }
     table.reserve().ok()?;
