@@ -40,8 +40,6 @@ enum {
     // Room for transactions that is there from the start.
     FIRST_ROOM = 40000,
     NO_CPU = 255,
-    // The one agent stands on CPU 0 until the enclave is torn down.
-    AGENT = 0,
 };
 
 enum status { RAN = 0, SCRIPT_FAULT = 2, WRONG_ARGUMENTS = 3, IO_FAULT = 4, NO_MEMORY = 5 };
@@ -58,7 +56,7 @@ struct text {
 
 enum refusal {
     NO_THREAD = 1, NOT_RUNNING, NOT_BLOCKED, EMPTY_MASK, BAD_CPU, AGENT_THERE, CPU_TAKEN, NOT_TAKEN,
-    SEQ_SPENT = 12, TIDS_SPENT = 14, HISTORY_FULL, SLOT_OPEN, NO_SUCH_TRANSACTION, GONE,
+    SEQ_SPENT = 12, GEN_SPENT, TIDS_SPENT, HISTORY_FULL, SLOT_OPEN, NO_SUCH_TRANSACTION, GONE,
 };
 
 static const struct text REFUSED[] = {
@@ -71,6 +69,7 @@ static const struct text REFUSED[] = {
     [CPU_TAKEN] = TEXT("refused 7 CpuTaken\n"),
     [NOT_TAKEN] = TEXT("refused 8 NotTaken\n"),
     [SEQ_SPENT] = TEXT("refused 12 SeqSpent\n"),
+    [GEN_SPENT] = TEXT("refused 13 GenSpent\n"),
     [TIDS_SPENT] = TEXT("refused 14 TidsSpent\n"),
     [HISTORY_FULL] = TEXT("refused 15 HistoryFull\n"),
     [SLOT_OPEN] = TEXT("refused 16 SlotOpen\n"),
@@ -79,13 +78,14 @@ static const struct text REFUSED[] = {
 };
 
 enum outcome {
-    IS_PLACED, IS_GONE, IS_NO_THREAD, IS_STALE, IS_NOT_RUNNABLE, IS_ALREADY_PLACED, IS_NOT_ALLOWED, IS_CPU_AGENT,
-    IS_CPU_TAKEN, IS_CPU_BUSY, IS_SEQ_SPENT, IS_HISTORY_FULL,
+    IS_PLACED, IS_GONE, IS_DISPLACED, IS_NO_THREAD, IS_STALE, IS_NOT_RUNNABLE, IS_ALREADY_PLACED, IS_NOT_ALLOWED,
+    IS_CPU_AGENT, IS_CPU_TAKEN, IS_CPU_BUSY, IS_SEQ_SPENT, IS_HISTORY_FULL,
 };
 
 static const struct text OUTCOME[] = {
     [IS_PLACED] = TEXT(" placed "),
     [IS_GONE] = TEXT(" gone "),
+    [IS_DISPLACED] = TEXT(" displaced "),
     [IS_NO_THREAD] = TEXT(" nothread "),
     [IS_STALE] = TEXT(" stale "),
     [IS_NOT_RUNNABLE] = TEXT(" notrunnable "),
@@ -132,6 +132,9 @@ static uint32_t running[MOST_CPUS];
 static uint64_t taken;
 static uint32_t entries = 1;
 static bool torn;
+// The active agent's generation and CPU.
+static uint32_t generation;
+static uint8_t agent;
 
 // Of a message that waits in the ring all is kept that its record has.
 struct message {
@@ -179,6 +182,7 @@ static uint64_t busy;
 struct transaction {
     uint32_t tid;
     uint32_t tseq;
+    uint32_t generation;
     uint8_t cpu;
     bool preempt;
 };
@@ -381,6 +385,8 @@ static inline enum outcome land(const struct transaction *x, uint32_t *seen)
     *seen = t->tseq;
     if (unlikely(torn))
         return IS_GONE;
+    if (unlikely(x->generation != generation))
+        return IS_DISPLACED;
     if (unlikely(!t->alive))
         return IS_NO_THREAD;
     if (unlikely(x->tseq != t->tseq))
@@ -391,7 +397,7 @@ static inline enum outcome land(const struct transaction *x, uint32_t *seen)
         return IS_ALREADY_PLACED;
     if (unlikely(!mask_bit(t->mask, cpu)))
         return IS_NOT_ALLOWED;
-    if (unlikely(cpu == AGENT))
+    if (unlikely(cpu == agent))
         return IS_CPU_AGENT;
     if (unlikely(mask_bit(taken, cpu)))
         return IS_CPU_TAKEN;
@@ -487,7 +493,7 @@ static inline void stamp(unsigned cpu, uint32_t tid, bool preempt)
         transactions = more;
         transaction_room *= 2;
     }
-    transactions[stamped_count] = (struct transaction){ tid, r->tseq, (uint8_t)cpu, preempt };
+    transactions[stamped_count] = (struct transaction){ tid, r->tseq, generation, (uint8_t)cpu, preempt };
     slot[cpu] = stamped_count++;
     stamped |= UINT64_C(1) << cpu;
     r->stamps++;
@@ -588,7 +594,7 @@ struct choice {
 
 static inline unsigned plan(struct choice *choices)
 {
-    uint64_t usable = all_cpus & ~(UINT64_C(1) << AGENT) & ~taken & ~stamped;
+    uint64_t usable = all_cpus & ~(UINT64_C(1) << agent) & ~taken & ~stamped;
     uint64_t idle = usable & ~busy;
     // The CPUs that a thread of class 0, and one of class 1, may take from a thread of class 1.
     uint64_t gain[2] = { 0, 0 };
@@ -736,6 +742,7 @@ static enum fault header_fault(const char *line)
     }
     all_cpus = UINT64_MAX >> (MOST_CPUS - cpus);
     first_tseq = (uint32_t)numbers[0];
+    generation = (uint32_t)numbers[1];
     history = (uint32_t)numbers[2];
     return NO_FAULT;
 }
@@ -744,8 +751,8 @@ static enum fault header_fault(const char *line)
 // number, the flag. In small letters one that may be absent.
 static const struct { const char *word, *form; } EVENTS[] = {
     { "create", "MKRN" }, { "block", "T" }, { "wake", "T" }, { "yield", "T" }, { "die", "T" }, { "affinity", "TM" },
-    { "take", "C" }, { "give", "C" }, { "tick", "C" }, { "drain", "T" }, { "decide", "" }, { "commit", "M" },
-    { "late", "T" }, { "stamp", "CTp" }, { "view", "" }, { "state", "" }, { "unread", "" },
+    { "take", "C" }, { "give", "C" }, { "tick", "C" }, { "handoff", "C" }, { "drain", "T" }, { "decide", "" },
+    { "commit", "M" }, { "late", "T" }, { "stamp", "CTp" }, { "view", "" }, { "state", "" }, { "unread", "" },
 };
 
 static enum fault event_fault(const char *line)
@@ -908,6 +915,23 @@ static char *spill(char *o)
             goto tear; \
         t->tseq++; \
     } while (0)
+// Whoever is on the CPU makes way, where it can be had, and no generation that is wanted is spent.
+#define FREE_SEAT(spent) do { \
+        REFUSE_IF(cpu >= cpus, BAD_CPU); \
+        REFUSE_IF(cpu == agent, AGENT_THERE); \
+        REFUSE_IF(mask_bit(taken, cpu), CPU_TAKEN); \
+        tid = running[cpu]; \
+        REFUSE_IF(tid && THREAD(tid)->tseq == UINT32_MAX, SEQ_SPENT); \
+        REFUSE_IF(spent, GEN_SPENT); \
+        REFUSE_IF(entries + 2 > history, HISTORY_FULL); \
+        if (tid) { \
+            t = THREAD(tid); \
+            if (unlikely(!post(PREEMPTED, 16, tid, t->tseq + 1, (uint8_t)cpu))) \
+                goto tear; \
+            t->tseq++; \
+            leave_cpu(t); \
+        } \
+    } while (0)
 // A reply that ends in a number, and one that ends in the thread and its number.
 #define PUT_WITH(text, number) do { PUT(text); o = put_number(o, number); *o++ = '\n'; } while (0)
 #define PUT_THREAD(text) do { PUT(text); o = put_sequence(o, tid, t->tseq); *o++ = '\n'; } while (0)
@@ -920,7 +944,7 @@ static char *spill(char *o)
 enum {
     E_AFFINITY = 0, E_STAMP = 1, E_YIELD = 3, E_UNREAD = 6, E_TAKE = 7, E_WAKE = 9, E_DIE = 11, E_DECIDE = 12,
     E_LATE = 13, E_CREATE = 14, E_BLOCK = 15, E_DRAIN = 19, E_VIEW = 20, E_STATE = 21, E_GIVE = 22, E_TICK = 24,
-    E_COMMIT = 25,
+    E_COMMIT = 25, E_HANDOFF = 27,
 };
 static const uint64_t WORDS[32] = {
     [E_TICK] = W('t', 'i', 'c', 'k', 0, 0, 0, 0),
@@ -940,6 +964,7 @@ static const uint64_t WORDS[32] = {
     [E_AFFINITY] = W('a', 'f', 'f', 'i', 'n', 'i', 't', 'y'),
     [E_GIVE] = W('g', 'i', 'v', 'e', 0, 0, 0, 0),
     [E_COMMIT] = W('c', 'o', 'm', 'm', 'i', 't', 0, 0),
+    [E_HANDOFF] = W('h', 'a', 'n', 'd', 'o', 'f', 'f', 0),
 };
 
 // The line of a fault where there is one, else null; `*behind` is then the place behind the output.
@@ -1085,22 +1110,22 @@ static const char *run(const char *p, const char *end, char **behind, enum fault
         case E_TAKE: {
             NUMBER(cpu, 65535);
             END_LINE();
-            REFUSE_IF(cpu >= cpus, BAD_CPU);
-            REFUSE_IF(cpu == AGENT, AGENT_THERE);
-            REFUSE_IF(mask_bit(taken, cpu), CPU_TAKEN);
-            tid = running[cpu];
-            REFUSE_IF(tid && THREAD(tid)->tseq == UINT32_MAX, SEQ_SPENT);
-            REFUSE_IF(entries + 2 > history, HISTORY_FULL);
-            if (tid) {
-                t = THREAD(tid);
-                if (unlikely(!post(PREEMPTED, 16, tid, t->tseq + 1, (uint8_t)cpu)))
-                    goto tear;
-                t->tseq++;
-                leave_cpu(t);
-            }
+            FREE_SEAT(false);
             taken |= UINT64_C(1) << cpu;
             entries++;
             PUT_WITH("taken ", cpu);
+            break;
+        }
+        case E_HANDOFF: {
+            NUMBER(cpu, 65535);
+            END_LINE();
+            FREE_SEAT(generation == UINT32_MAX);
+            agent = (uint8_t)cpu;
+            generation++;
+            entries++;
+            PUT("agent ");
+            o = put_number(o, cpu);
+            PUT_WITH(" generation ", generation);
             break;
         }
         case E_GIVE:

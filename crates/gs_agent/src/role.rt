@@ -9,7 +9,7 @@ ghost use Rattle.gs_view.specs.Begins.{begins};
 ghost use Rattle.gs_beliefs.specs.Cpus.{believed_on};
 ghost use Rattle.gs_agent.specs.declared.drained.Stop.{Stop};
 ghost use Rattle.gs_agent.specs.Drains.{Took};
-ghost use Rattle.gs_mind.specs.Mind.{nothing, picture_of, shown_in, thinks};
+ghost use Rattle.gs_mind.specs.Mind.{moved, nothing, picture_of, shown_in, thinks};
 ghost use Rattle.gs_mind.specs.Picture.{HoldsWaiting, after_slots, after_stamp};
 ghost use Rattle.gs_policy.specs.Safe.{IsSafePlan};
 ghost use Rattle.gs_runq.specs.Queue.{Apart, order};
@@ -115,6 +115,16 @@ impl<P> Role<P> {
         ensures waits { HoldsWaiting (look_up self.now.mind.records) self.now.mind.cpus self.now.mind.queue }
     {
         self.mind.waiting()
+    }
+
+    /// The agent goes on as one of this generation, on this CPU. All that it has in mind stays, the stamps of
+    /// its earlier generation too: their threads do not wait, and their CPUs are not used, until they are
+    /// collected. It takes no memory.
+    pub fn promote(&mut self, generation: u32, cpu: u16)
+        ensures { self.new ≡ record self.old { mind = moved cpu self.old.mind; generation = generation } }
+    {
+        self.mind.move_to(cpu);
+        self.generation = generation;
     }
 
     /// Takes messages in, at most `max` of them, in the order in which they were posted: view, beliefs

@@ -62,7 +62,7 @@ grows_then m h h' a b =
       seen = λ z p. b.seen z (a.seen z p);
     }
 
-stood_before : (h : History) (e : Entry) → torn (h ++ e ∷ []) ≡ false → torn h ≡ false
+pub stood_before : (h : History) (e : Entry) → torn (h ++ e ∷ []) ≡ false → torn h ≡ false
 stood_before h e up = (or_parts (torn h) (is_torn e) (sym (torn-push h e) ∙ up)).0
 
 -- by a message

@@ -1,4 +1,4 @@
--- Whoever is active or attaches after an event was so before it: no event so far brings a new agent.
+-- Whoever is active or attaches after an event was so before it, but for a hand-off, which brings a new generation.
 use Rattle.std.proofs.Common.{◌≡◌, refl, ap, sym, subst, ◌∙◌, ℕ, Option, None, Some, List, [], ◌∷◌, ◌++◌}
 use Rattle.gs_journal.specs.Standing.{standing, last_of}
 use Rattle.gs_layout.specs.declared.message.Message.{Message}
@@ -57,7 +57,7 @@ NoNewAgent h h' = (a : ℕ × ℕ) → active h' ≡ Some a → active h ≡ Som
 pub agent_of : (h h' h'' : History) → h'' ≡ h' → NoNewRole h h' → NoNewAgent h h''
 agent_of h h' h'' e r a p = r.active a (ap active (sym e) ∙ p)
 
-entry_roles : (h : History) (o : Option Message) (e : Entry) → ((g : History) → NoNewRole g (g ++ e ∷ [])) → NoNewRole h (h ++ entries_in (Append o e))
+pub entry_roles : (h : History) (o : Option Message) (e : Entry) → ((g : History) → NoNewRole g (g ++ e ∷ [])) → NoNewRole h (h ++ entries_in (Append o e))
 entry_roles h None e then = then h
 entry_roles h (Some k) e then = subst (NoNewRole h) (append_assoc h (Posted k ∷ []) (e ∷ [])) (roles_then h (h ++ Posted k ∷ []) _ (roles_posted h k) (then (h ++ Posted k ∷ [])))
 

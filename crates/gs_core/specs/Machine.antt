@@ -15,7 +15,7 @@ use Rattle.gs_journal.specs.History.{History, posted, active, attaching, taken, 
 use Rattle.gs_journal.specs.State.{unread_after}
 use Rattle.gs_kernel.specs.declared.settings.Settings.{Settings}
 use Rattle.gs_slots.specs.State.{collected}
-use Rattle.gs_kernel.specs.Commit.{own_refusal as commit_refusal}
+use Rattle.gs_kernel.specs.Commit.{standing_commit_refusal}
 use Rattle.gs_kernel.specs.declared.landing.Landing.{Landing}
 use Rattle.gs_kernel.specs.declared.command.Command.{Command}
 use Rattle.gs_kernel.specs.Legal.{Room, Tells, effect, last_in, standing_refusal as command_refusal}
@@ -27,7 +27,7 @@ use Rattle.gs_ring.specs.Places.{free_after, need, record_len, written}
 use Rattle.gs_policy.specs.Shown.{Shown}
 use Rattle.gs_policy.specs.declared.choice.Choice.{Choice}
 use Rattle.gs_view.specs.Begins.{begins}
-use Rattle.gs_mind.specs.Mind.{MindState, nothing, picture_of, shown_in, thinks}
+use Rattle.gs_mind.specs.Mind.{MindState, moved, nothing, picture_of, shown_in, thinks}
 use Rattle.gs_mind.specs.Picture.{Picture, after_slots, after_stamp, takes_in_all}
 use Rattle.gs_view.specs.Shown.{tids}
 use Rattle.std.specs.List.Sorted.{IsStrictlyIncreasing}
@@ -102,6 +102,15 @@ picture m = picture_of (mind_of m.agent)
 abbrev pub thinking : (Picture → Picture) → Agent → Agent
 thinking f a = record a { mind = thinks a.mind (f (picture_of a.mind)) }
 
+-- an agent that goes on to a CPU: all else that it has in mind stays
+abbrev pub promoted : ℕ → Agent → Agent
+promoted c a = record a { mind = moved c a.mind }
+
+-- the agent after a command, by the last entry that it adds and whether that was added: a role moves it to the role's CPU
+abbrev pub led : Entry → Bool → Option Agent → Option Agent
+led (Role g c) true o = option_map (promoted c) o
+led _ _ o = o
+
 -- the messages that were posted and not yet consumed
 abbrev pub unread : State → List Message
 unread m = unread_after m.history m.consumed
@@ -147,7 +156,7 @@ standing_refusal m (events.Stamp c t p) =
     )
 standing_refusal m events.Decide =
     without_agent m (first_that ((nat_lt (m.settings.history - length m.transactions) (length (plan_of m)), Some refusals.HistoryFull) ∷ []) None)
-standing_refusal m (events.Commit mask) = commit_refusal m.settings m.history mask
+standing_refusal m (events.Commit mask) = standing_commit_refusal m.settings m.history mask
 standing_refusal m (events.Late n) = first_that ((not (is_some (transaction_of m.transactions n)), Some refusals.NoSuchTransaction) ∷ []) None
 standing_refusal m events.View = first_that ((not (has_agent m.history), Some refusals.NotActive) ∷ []) None
 standing_refusal m events.State = None
@@ -175,12 +184,13 @@ abbrev pub carried : State → Command → Bool → Reply
 carried m c true = replies.Done (last_in (effect m.settings m.history c))
 carried m c false = replies.Torn
 
--- a command is carried out, or tears the enclave down, as its message fits or does not
+-- a command is carried out, or tears the enclave down, as its message fits or does not; a hand-off moves the agent, and keeps what it has in
+-- mind, the slots and the transactions
 pub record Carries (m : State) (c : Command) (r : Reply) (m' : State) : Type 0 where
   pub fit : Bool
   pub reply : r ≡ carried m c fit
   pub tells : Tells (fits m) m.history (effect m.settings m.history c) fit m'.history
-  pub others : m' ≡ record m { history = m'.history }
+  pub others : m' ≡ record m { history = m'.history; agent = led (last_in (effect m.settings m.history c)) fit m.agent }
 
 -- what is stamped: the active generation, the record's sequence number, and whether a thread on the CPU is to be taken off
 abbrev pub stamp_of : ℕ → Bool → (ℕ × ℕ) → Known → Stamp

@@ -8,6 +8,7 @@ ghost use Rattle.gs_journal.specs.History.{active, posted, torn};
 ghost use Rattle.gs_ring.specs.Ends.{Posted};
 ghost use Rattle.gs_core.specs.Safe.{Safe, IsFaithful, Run};
 
+use crate::answers::{follow_answer, reply};
 use crate::config::{Config, ConfigFault};
 use crate::event::Event;
 use crate::items::Items;
@@ -17,7 +18,7 @@ use crate::stamping::{stamp_all, stamp_choice};
 use crate::transaction::Transaction;
 use crate::unread::waiting;
 use gs_agent::Role;
-use gs_kernel::{Answer, Command, Kernel};
+use gs_kernel::{Command, Kernel};
 use gs_layout::Refusal;
 use gs_policy::{Choice, Counted};
 use gs_ring::ByteRing;
@@ -154,18 +155,18 @@ impl<P: Counted + Copy> Machine<P> {
 
     fn serve(&mut self, command: &Command) -> Reply
         requires { torn self.old.history ≡ false }
-        ensures { Step (planning P.chosen self.old) (Event.Kernel command.now) result (planning P.chosen self.new) }
+        ensures step { Step (planning P.chosen self.old) (Event.Kernel command.now) result (planning P.chosen self.new) }
+        ensures policy { self.new.policy ≡ self.old.policy }
     {
-        match self.kernel.serve(command) {
-            Answer::Refused { refusal } => Reply::Refused(refusal),
-            Answer::Torn => Reply::Torn,
-            Answer::Done { entry } => Reply::Done(entry),
-        }
+        let answer = self.kernel.serve(command);
+        follow_answer(&mut self.role, &answer);
+        reply(answer)
     }
 
     fn drain(&mut self, max: u32) -> Reply
         requires { torn self.old.history ≡ false }
-        ensures { Step (planning P.chosen self.old) (Event.Drain max) result (planning P.chosen self.new) }
+        ensures step { Step (planning P.chosen self.old) (Event.Drain max) result (planning P.chosen self.new) }
+        ensures policy { self.new.policy ≡ self.old.policy }
     {
         if !self.kernel.has_agent() {
             return Reply::Refused(Refusal::NotActive);
@@ -221,7 +222,8 @@ impl<P: Counted + Copy> Machine<P> {
 
     fn stamp(&mut self, cpu: u16, tid: u32, preempt: bool) -> Reply
         requires { torn self.old.history ≡ false }
-        ensures { Step (planning P.chosen self.old) (Event.Stamp cpu tid preempt) result (planning P.chosen self.new) }
+        ensures step { Step (planning P.chosen self.old) (Event.Stamp cpu tid preempt) result (planning P.chosen self.new) }
+        ensures policy { self.new.policy ≡ self.old.policy }
     {
         match self.try_stamp(cpu, tid, preempt) {
             Ok(number) => Reply::Stamped { number },
@@ -235,6 +237,7 @@ impl<P: Counted + Copy> Machine<P> {
         ensures number { IfOk result (λ n. Reply.Stamped n ≡ (stamps (planning P.chosen self.old) cpu tid preempt).0) }
         ensures ok { OnOk result (planning P.chosen self.new ≡ (stamps (planning P.chosen self.old) cpu tid preempt).1) }
         ensures refused { IfErr result (IsRefusal (standing_refusal (planning P.chosen self.old) (Event.Stamp cpu tid preempt))) }
+        ensures policy { self.new.policy ≡ self.old.policy }
         ensures unchanged { OnErr result (self.new ≡ self.old) }
     {
         self.active_agent()?;
@@ -266,7 +269,8 @@ impl<P: Counted + Copy> Machine<P> {
 
     fn decide(&mut self) -> Reply
         requires { torn self.old.history ≡ false }
-        ensures { Step (planning P.chosen self.old) Event.Decide result (planning P.chosen self.new) }
+        ensures step { Step (planning P.chosen self.old) Event.Decide result (planning P.chosen self.new) }
+        ensures policy { self.new.policy ≡ self.old.policy }
     {
         match self.try_decide() {
             Ok((first, choices)) => Reply::Decided {
@@ -283,6 +287,7 @@ impl<P: Counted + Copy> Machine<P> {
         ensures reply { IfOk result (λ r. Reply.Decided r.0 r.1.items ≡ (decides (planning P.chosen self.old)).0) }
         ensures ok { OnOk result (planning P.chosen self.new ≡ (decides (planning P.chosen self.old)).1) }
         ensures refused { IfErr result (IsRefusal (standing_refusal (planning P.chosen self.old) Event.Decide)) }
+        ensures policy { self.new.policy ≡ self.old.policy }
         ensures unchanged { OnErr result (self.new ≡ self.old) }
     {
         let choices = self.plan()?;
@@ -326,7 +331,8 @@ impl<P: Counted + Copy> Machine<P> {
 
     fn commit(&mut self, mask: Mask) -> Reply
         requires { torn self.old.history ≡ false }
-        ensures { Step (planning P.chosen self.old) (Event.Commit mask) result (planning P.chosen self.new) }
+        ensures step { Step (planning P.chosen self.old) (Event.Commit mask) result (planning P.chosen self.new) }
+        ensures policy { self.new.policy ≡ self.old.policy }
     {
         match self.kernel.txns_commit(self.alloc, &mut self.region, mask) {
             Ok(landings) => {
@@ -342,7 +348,8 @@ impl<P: Counted + Copy> Machine<P> {
 
     fn late(&mut self, number: u32) -> Reply
         requires { torn self.old.history ≡ false }
-        ensures { Step (planning P.chosen self.old) (Event.Late number) result (planning P.chosen self.new) }
+        ensures step { Step (planning P.chosen self.old) (Event.Late number) result (planning P.chosen self.new) }
+        ensures policy { self.new.policy ≡ self.old.policy }
     {
         let Some((cpu, slot)) = self.stamped(number) else {
             return Reply::Refused(Refusal::NoSuchTransaction);
@@ -362,6 +369,7 @@ impl<P: Counted + Copy> Machine<P> {
         ensures step { Step (planning P.chosen self.old) event.now result (planning P.chosen self.new) }
         ensures safe { Safe (planning P.chosen self.new) }
         ensures faithful { IsFaithful (planning P.chosen self.new) }
+        ensures policy { self.new.policy ≡ self.old.policy }
     {
         let reply = if self.kernel.is_torn() {
             Reply::Refused(Refusal::Gone)
@@ -376,7 +384,8 @@ impl<P: Counted + Copy> Machine<P> {
     /// One event while the enclave stands.
     fn standing_step(&mut self, event: &Event) -> Reply
         requires { torn self.old.history ≡ false }
-        ensures { Step (planning P.chosen self.old) event.now result (planning P.chosen self.new) }
+        ensures step { Step (planning P.chosen self.old) event.now result (planning P.chosen self.new) }
+        ensures policy { self.new.policy ≡ self.old.policy }
     {
         match event {
             Event::Kernel { command } => self.serve(command),
@@ -398,6 +407,7 @@ impl<P: Counted + Copy> Machine<P> {
     /// Where there is no memory for the replies. Then no event ran.
     pub fn run(&mut self, events: &[Event]) -> Result<Vec<Reply>, AllocError>
         ensures run { IfOk result (λ replies. Run (planning P.chosen self.old) events.now replies.items (planning P.chosen self.new)) }
+        ensures policy { self.new.policy ≡ self.old.policy }
         ensures unchanged { OnErr result (self.new ≡ self.old) }
     {
         let mut replies = Vec::with_capacity(self.alloc, events.len())?;

@@ -20,15 +20,15 @@ use Rattle.gs_kernel.specs.declared.thread_event.ThreadEvent.{ThreadEvent}
 use Rattle.gs_kernel.specs.declared.thread_event.ThreadEvent.TheVariants as happens
 use Rattle.gs_kernel.specs.declared.command.Command.{Command}
 use Rattle.gs_kernel.specs.declared.command.Command.TheVariants as commands
-use Rattle.gs_kernel.specs.Kernel.{change_by, happening, must_leave, next_about, event_refusal, preemption}
+use Rattle.gs_kernel.specs.Kernel.{change_by, happening, must_leave, next_about, next_generation, event_refusal, preemption}
 use Rattle.gs_kernel.specs.declared.effect.Effect.{Effect}
 use Rattle.gs_kernel.specs.declared.effect.Effect.TheVariants.{Post, Append}
-use Rattle.gs_kernel.specs.Inside.{HoldsNear, IsKept, SeatsBelow, behind, created_in, freed, held_by, left_by, left_in, listed_entry, listed_message, rows_seated, rows_told, rows_with, seats_seated, seats_told}
+use Rattle.gs_kernel.specs.Inside.{HoldsNear, IsKept, SeatsBelow, agent_by, behind, created_in, freed, held_by, left_by, left_in, listed_entry, listed_message, rows_seated, rows_told, rows_with, seats_seated, seats_told}
 use Rattle.gs_kernel.specs.Legal.{RoomOf, effect, entries_in, message_in, most_entries, refusal}
 use Rattle.gs_kernel.proofs.Kernels.{kept_created, kept_placed, kept_rows, kept_tick}
 use Rattle.gs_kernel.proofs.Abouts.{kept_about, length_freed, live_row, no_creation, on_cpu_below, stays_allowed}
-use Rattle.gs_kernel.proofs.OtherClass.{gives_when, kept_held, kept_preempted, seated_at, takes_when}
-use Rattle.gs_kernel.proofs.Entries.{beside_quiet}
+use Rattle.gs_kernel.proofs.OtherClass.{gives_when, hands_off_when, kept_preempted, kept_quiet, seated_at, takes_when}
+use Rattle.gs_kernel.proofs.Entries.{active_now, attaching_ended, beside_quiet, same_taken, same_torn}
 use Rattle.gs_kernel.proofs.Refusals.{creates_when, free_when, happens_when}
 use Rattle.gs_kernel.proofs.Seats.{length_set}
 use Rattle.gs_slots.specs.declared.state.Stamp.{Stamp}
@@ -70,13 +70,20 @@ kept_takes : (s : Settings) (h : History) (t : TableState) (running : List (Opti
     → IsKept s (h ++ Taken c ∷ []) t running held' a down
 kept_takes s h t running held held' a down c holds k =
     let b = beside_quiet h (Taken c) (λ x. refl) (λ x. refl) refl refl refl in
-    kept_held s h t running held held' a down (Taken c) refl b.0 b.1 b.2 (λ d. holds d ∙ (ap (held_by (Some (Taken c)) d) (k.held_by_other d) ∙ sym (held_after h (Taken c) d))) k
+    kept_quiet s h t running held held' a a down (Taken c) refl (k.agent ∙ sym b.0) b.1 b.2 (λ d. holds d ∙ (ap (held_by (Some (Taken c)) d) (k.held_by_other d) ∙ sym (held_after h (Taken c) d))) k
 
 kept_gives : (s : Settings) (h : History) (t : TableState) (running : List (Option ℕ)) (held held' : ℕ) (a : Option (ℕ × ℕ)) (down : Bool) (c : ℕ) → ((d : ℕ) → has held' d ≡ held_by (Some (Given c)) d (has held d)) → IsKept s h t running held a down
     → IsKept s (h ++ Given c ∷ []) t running held' a down
 kept_gives s h t running held held' a down c holds k =
     let b = beside_quiet h (Given c) (λ x. refl) (λ x. refl) refl refl refl in
-    kept_held s h t running held held' a down (Given c) refl b.0 b.1 b.2 (λ d. holds d ∙ (ap (held_by (Some (Given c)) d) (k.held_by_other d) ∙ sym (held_after h (Given c) d))) k
+    kept_quiet s h t running held held' a a down (Given c) refl (k.agent ∙ sym b.0) b.1 b.2 (λ d. holds d ∙ (ap (held_by (Some (Given c)) d) (k.held_by_other d) ∙ sym (held_after h (Given c) d))) k
+
+-- an agent becomes active
+kept_leads : (s : Settings) (h : History) (t : TableState) (running : List (Option ℕ)) (held held' : ℕ) (a : Option (ℕ × ℕ)) (down : Bool) (g c : ℕ) → ((d : ℕ) → has held' d ≡ has held d) → IsKept s h t running held a down
+    → IsKept s (h ++ Role g c ∷ []) t running held' (Some (g, c)) down
+kept_leads s h t running held held' a down g c holds k =
+    kept_quiet s h t running held held' a (Some (g, c)) down (Role g c) refl (sym (active_now h g c)) (attaching_ended h g c ∙ sym k.never_begun) (same_torn h (Role g c) refl)
+    (λ d. holds d ∙ (k.held_by_other d ∙ sym (same_taken h (Role g c) d refl))) k
 
 -- what happens to a thread creates none
 no_facts : (u n : ℕ) (there : Option ℕ) (e : ThreadEvent) → created_in (Thread u n (change_by there e)) ≡ None
@@ -130,7 +137,7 @@ left_seat s h u (happens.Affinity mask) own = refl
 -- what a command leaves that nothing refuses
 kept_command : (s : Settings) (h : History) (t t' : TableState) (running running' : List (Option ℕ)) (held held' : ℕ) (a : Option (ℕ × ℕ)) (down : Bool) (c : Command) → refusal s h c ≡ None → IsKept s h t running held a down
     → t'.rows ≡ rows_seated (rows_told t.first_tseq t.rows (message_in (effect s h c))) (behind (effect s h c)) → t'.first_tseq ≡ t.first_tseq → running' ≡ seats_seated (seats_told running (message_in (effect s h c))) (behind (effect s h c))
-    → ((d : ℕ) → has held' d ≡ held_by (behind (effect s h c)) d (has held d)) → IsKept s (h ++ entries_in (effect s h c)) t' running' held' a down
+    → ((d : ℕ) → has held' d ≡ held_by (behind (effect s h c)) d (has held d)) → IsKept s (h ++ entries_in (effect s h c)) t' running' held' (agent_by (behind (effect s h c)) a) down
 kept_command s h t t' running running' held held' a down (commands.Create f) none k rows first seats holds =
     kept_like s _ t' t' running running' held held' a down refl refl seats holds
     (kept_created s h t t' running held a down f k (creates_when s h f (free_when s h (commands.Create f) none).own).tids rows first)
@@ -156,6 +163,19 @@ kept_command s h t t' running running' held held' a down (commands.Give c) none 
     kept_gives s h t' running' held held' a down c holds (kept_like s h t t' running running' held held a down rows first seats (λ d. refl) k)
 kept_command s h t t' running running' held held' a down (commands.Tick c) none k rows first seats holds =
     kept_like s _ t t' running running' held held' a down (rows ∙ after_tick t.rows c) first seats holds (kept_tick s h t running held a down c k)
+kept_command s h t t' running running' held held' a down (commands.HandOff c) none k rows first seats holds = by_who (on h c) refl rows seats
+  where
+    g : ℕ
+    g = next_generation h
+
+    by_who : (o : Option ℕ) → on h c ≡ o → t'.rows ≡ rows_told t.first_tseq t.rows (option_map (λ u. next_about s h u (Preempted c)) o) → running' ≡ seats_told running (option_map (λ u. next_about s h u (Preempted c)) o)
+        → IsKept s (h ++ entries_in (Append (option_map (λ u. next_about s h u (Preempted c)) o) (Role g c))) t' running' held' (Some (g, c)) down
+    by_who None e rows seats = kept_leads s h t' running' held held' a down g c holds (kept_like s h t t' running running' held held a down rows first seats (λ d. refl) k)
+    by_who (Some u) e rows seats =
+        let m : Message = next_about s h u (Preempted c) in
+        let off = kept_preempted s h t t' running held a down u c k e rows first in
+        subst (λ (x : History). IsKept s x t' running' held' (Some (g, c)) down) (append_assoc h (Posted m ∷ []) (Role g c ∷ []))
+        (kept_leads s (h ++ Posted m ∷ []) t' running' held held' a down g c holds (kept_like s _ t' t' (slice_set running c None) running' held held a down refl refl seats (λ d. refl) off))
 
 -- what a placing leaves
 kept_placing : (s : Settings) (h : History) (t t' : TableState) (running running' : List (Option ℕ)) (held held' : ℕ) (a : Option (ℕ × ℕ)) (down : Bool) (c : ℕ) (b : Stamp) → c < s.cpus → IsToPlace s h c b → IsKept s h t running held a down
@@ -175,18 +195,37 @@ kept_placing s h t t' running running' held held' a down c b lt w k rows first s
         (kept_like s _ (record t1 { rows = rows_placed t1.rows b.tid (Some c) }) t' (slice_set (slice_set running c None) c (Some b.tid)) running' held held' a down rows first seats holds
         (kept_placed s (h ++ Posted m ∷ []) t1 (slice_set running c None) held a down c b off (placing_then s h c u b lt e w) lt))
 
-pub kept_next : (s : Settings) (h : History) (t t' : TableState) (running running' : List (Option ℕ)) (held held' : ℕ) (a : Option (ℕ × ℕ)) (down : Bool) (x : Effect) → ComesNext s h x → IsKept s h t running held a down
+pub kept_next : (s : Settings) (h : History) (t t' : TableState) (running running' : List (Option ℕ)) (held held' : ℕ) (a a' : Option (ℕ × ℕ)) (down : Bool) (x : Effect) → ComesNext s h x → IsKept s h t running held a down
     → t'.rows ≡ rows_seated (rows_told t.first_tseq t.rows (message_in x)) (behind x) → t'.first_tseq ≡ t.first_tseq → running' ≡ seats_seated (seats_told running (message_in x)) (behind x) → ((d : ℕ) → has held' d ≡ held_by (behind x) d (has held d))
-    → IsKept s (h ++ entries_in x) t' running' held' a down
-kept_next s h t t' running running' held held' a down x (inl due) k rows first seats holds =
-    subst (λ (y : Effect). IsKept s (h ++ entries_in y) t' running' held' a down) (sym due.effect_is)
-    (kept_command s h t t' running running' held held' a down due.command due.free k (rows ∙ ap (λ (y : Effect). rows_seated (rows_told t.first_tseq t.rows (message_in y)) (behind y)) due.effect_is) first
-    (seats ∙ ap (λ (y : Effect). seats_seated (seats_told running (message_in y)) (behind y)) due.effect_is) (λ d. holds d ∙ ap (λ (y : Effect). held_by (behind y) d (has held d)) due.effect_is))
-kept_next s h t t' running running' held held' a down x (inr due) k rows first seats holds =
-    subst (λ (y : Effect). IsKept s (h ++ entries_in y) t' running' held' a down) (sym due.effect_is)
-    (kept_placing s h t t' running running' held held' a down due.cpu due.stamp due.below (placing_when s h due.cpu due.stamp due.placed) k
-    (rows ∙ ap (λ (y : Effect). rows_seated (rows_told t.first_tseq t.rows (message_in y)) (behind y)) due.effect_is) first
-    (seats ∙ ap (λ (y : Effect). seats_seated (seats_told running (message_in y)) (behind y)) due.effect_is) (λ d. holds d ∙ ap (λ (y : Effect). held_by (behind y) d (has held d)) due.effect_is))
+    → a' ≡ agent_by (behind x) a → IsKept s (h ++ entries_in x) t' running' held' a' down
+kept_next s h t t' running running' held held' a a' down x next k rows first seats holds leads =
+    subst (λ (z : Option (ℕ × ℕ)). IsKept s (h ++ entries_in x) t' running' held' z down) (sym leads) (by_next next)
+  where
+    k' : IsKept s h t running held a down
+    k' = k
+
+    rows' : t'.rows ≡ rows_seated (rows_told t.first_tseq t.rows (message_in x)) (behind x)
+    rows' = rows
+
+    first' : t'.first_tseq ≡ t.first_tseq
+    first' = first
+
+    seats' : running' ≡ seats_seated (seats_told running (message_in x)) (behind x)
+    seats' = seats
+
+    holds' : (d : ℕ) → has held' d ≡ held_by (behind x) d (has held d)
+    holds' = holds
+
+    by_next : ComesNext s h x → IsKept s (h ++ entries_in x) t' running' held' (agent_by (behind x) a) down
+    by_next (inl due) =
+        subst (λ (y : Effect). IsKept s (h ++ entries_in y) t' running' held' (agent_by (behind y) a) down) (sym due.effect_is)
+        (kept_command s h t t' running running' held held' a down due.command due.free k' (rows' ∙ ap (λ (y : Effect). rows_seated (rows_told t.first_tseq t.rows (message_in y)) (behind y)) due.effect_is) first'
+        (seats' ∙ ap (λ (y : Effect). seats_seated (seats_told running (message_in y)) (behind y)) due.effect_is) (λ d. holds' d ∙ ap (λ (y : Effect). held_by (behind y) d (has held d)) due.effect_is))
+    by_next (inr due) =
+        subst (λ (y : Effect). IsKept s (h ++ entries_in y) t' running' held' (agent_by (behind y) a) down) (sym due.effect_is)
+        (kept_placing s h t t' running running' held held' a down due.cpu due.stamp due.below (placing_when s h due.cpu due.stamp due.placed) k'
+        (rows' ∙ ap (λ (y : Effect). rows_seated (rows_told t.first_tseq t.rows (message_in y)) (behind y)) due.effect_is) first'
+        (seats' ∙ ap (λ (y : Effect). seats_seated (seats_told running (message_in y)) (behind y)) due.effect_is) (λ d. holds' d ∙ ap (λ (y : Effect). held_by (behind y) d (has held d)) due.effect_is))
 
 -- there is room for an entry
 one_entry : (c : Command) → 1 ≤ most_entries c
@@ -195,6 +234,7 @@ one_entry (commands.Thread u e) = omega arith
 one_entry (commands.Take c) = omega arith
 one_entry (commands.Give c) = omega arith
 one_entry (commands.Tick c) = omega arith
+one_entry (commands.HandOff c) = omega arith
 
 pub due_room : (s : Settings) (h : History) (x : Effect) → ComesNext s h x → length h < s.history
 due_room s h x (inl due) = omega (arith, (free_when s h due.command due.free).room, one_entry due.command)
@@ -223,6 +263,7 @@ command_left s h t running held a down (commands.Thread u e) none k =
 command_left s h t running held a down (commands.Take c) none k = preempted_left s h c (takes_when s h c (free_when s h (commands.Take c) none).own).cpu
 command_left s h t running held a down (commands.Give c) none k = tt
 command_left s h t running held a down (commands.Tick c) none k = λ d q. absurd cc
+command_left s h t running held a down (commands.HandOff c) none k = preempted_left s h c (hands_off_when s h c (free_when s h (commands.HandOff c) none).own).cpu
 
 pub due_left : (s : Settings) (h : History) (t : TableState) (running now : List (Option ℕ)) (held : ℕ) (a : Option (ℕ × ℕ)) (down : Bool) (x : Effect) → ComesNext s h x → IsKept s h t running held a down → now ≡ running
     → LeavesBelow (length now) (message_in x)
@@ -239,6 +280,7 @@ command_seats s h n (commands.Thread u e) = tt
 command_seats s h n (commands.Take c) = tt
 command_seats s h n (commands.Give c) = tt
 command_seats s h n (commands.Tick c) = tt
+command_seats s h n (commands.HandOff c) = tt
 
 pub due_seats : (s : Settings) (h : History) (x : Effect) (n : ℕ) → ComesNext s h x → n ≡ s.cpus → IfSome (behind x) (SeatsBelow n)
 due_seats s h x n (inl due) is = subst (λ (y : Effect). IfSome (behind y) (SeatsBelow n)) (sym due.effect_is) (command_seats s h n due.command)
@@ -251,6 +293,7 @@ command_near s h (commands.Thread u e) none most = tt
 command_near s h (commands.Take c) none most = omega (arith, (takes_when s h c (free_when s h (commands.Take c) none).own).cpu, most)
 command_near s h (commands.Give c) none most = omega (arith, gives_when s h c (free_when s h (commands.Give c) none).own, most)
 command_near s h (commands.Tick c) none most = tt
+command_near s h (commands.HandOff c) none most = tt
 
 pub due_near : (s : Settings) (h : History) (x : Effect) → ComesNext s h x → s.cpus < 65 → IfSome (behind x) HoldsNear
 due_near s h x (inl due) most = subst (λ (y : Effect). IfSome (behind y) HoldsNear) (sym due.effect_is) (command_near s h due.command due.free most)
@@ -269,6 +312,7 @@ command_quiet s h h' (commands.Thread u e) = ap posted (append-nil h')
 command_quiet s h h' (commands.Take c) = same_posted h' (Taken c) refl
 command_quiet s h h' (commands.Give c) = same_posted h' (Given c) refl
 command_quiet s h h' (commands.Tick c) = ap posted (append-nil h')
+command_quiet s h h' (commands.HandOff c) = same_posted h' (Role (next_generation h) c) refl
 
 pub due_quiet : (s : Settings) (h h' : History) (x : Effect) → ComesNext s h x → posted (h' ++ listed_entry (behind x)) ≡ posted h'
 due_quiet s h h' x (inl due) = ap (λ (y : Effect). posted (h' ++ listed_entry (behind y))) due.effect_is ∙ command_quiet s h h' due.command

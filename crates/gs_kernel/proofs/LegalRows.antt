@@ -7,14 +7,14 @@ use Rattle.gs_layout.specs.declared.message.Change.TheVariants.{Blocked, Created
 use Rattle.gs_layout.specs.declared.message.Message.TheVariants.{Thread, TimerTick}
 use Rattle.gs_layout.specs.declared.refusal.Refusal.TheVariants as refusals
 use Rattle.gs_journal.specs.declared.entry.Entry.TheVariants.{Posted, Placed, Role, Taken, Torn}
-use Rattle.gs_journal.specs.History.{History, on, at, active, taken, last_taken, torn, seq, created, messages, posted}
+use Rattle.gs_journal.specs.History.{History, on, at, active, generation, taken, last_taken, torn, seq, created, messages, posted}
 use Rattle.gs_journal.specs.Standing.{standing, latest, last_of}
 use Rattle.gs_kernel.specs.declared.settings.Settings.{Settings}
 use Rattle.gs_kernel.specs.declared.command.Command.TheVariants as commands
 use Rattle.gs_kernel.specs.declared.answer.Answer.TheVariants as answers
 use Rattle.gs_kernel.specs.declared.thread_event.ThreadEvent.TheVariants as threads
 use Rattle.gs_kernel.specs.declared.effect.Effect.TheVariants.{Post}
-use Rattle.gs_kernel.specs.Kernel.{create_refusal, take_refusal, give_refusal, tick_refusal}
+use Rattle.gs_kernel.specs.Kernel.{create_refusal, take_refusal, give_refusal, hand_off_refusal, tick_refusal}
 use Rattle.gs_kernel.specs.Legal.{Legal, Room, effect, refusal}
 
 two : Settings
@@ -108,3 +108,27 @@ no_room : (refusal (record two { history = 4 }) runs (commands.Take 1) ∷ refus
     ≡ Some refusals.HistoryFull ∷ None ∷ []
 unfolding two opened runs facts take_refusal tick_refusal torn active taken last_taken on standing latest last_of seq messages posted
 no_room = refl
+
+hands_over : Legal never two opened (commands.HandOff 1) (answers.Done (Role 2 1)) (opened ++ Role 2 1 ∷ [])
+unfolding never two opened hand_off_refusal take_refusal torn active taken last_taken on standing latest last_of generation
+hands_over = (refl, record { free = refl; tells = (tt, refl) })
+
+hands_over_preempting : Legal never two runs (commands.HandOff 1) (answers.Done (Role 2 1)) (runs ++ Posted (Thread 1 2 (Preempted 1)) ∷ Role 2 1 ∷ [])
+unfolding never two opened runs facts hand_off_refusal take_refusal torn active taken last_taken on standing latest last_of seq messages posted generation
+hands_over_preempting = (refl, record { free = refl; tells = (tt, refl) })
+
+hands_over_torn : Legal always two runs (commands.HandOff 1) answers.Torn (runs ++ Torn ∷ [])
+unfolding always two opened runs facts hand_off_refusal take_refusal torn active taken last_taken on standing latest last_of seq messages posted generation
+hands_over_torn = record { free = refl; tells = ((Thread 1 2 (Preempted 1), refl, tt), refl) }
+
+agent_there : Legal always two opened (commands.HandOff 0) (answers.Refused refusals.AgentThere) opened
+unfolding always two opened hand_off_refusal take_refusal torn active standing last_of
+agent_there = (refl, refl)
+
+-- the last generation: with nobody on the CPU it is what refuses
+last_generation : History
+last_generation = Role 4294967295 0 ∷ []
+
+no_more_generations : Legal always two last_generation (commands.HandOff 1) (answers.Refused refusals.GenSpent) last_generation
+unfolding always two last_generation hand_off_refusal take_refusal torn active taken last_taken on standing latest last_of generation
+no_more_generations = (refl, refl)

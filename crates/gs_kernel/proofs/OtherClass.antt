@@ -1,12 +1,13 @@
 -- What a kernel keeps when the other class takes a CPU or gives it back.
 use Rattle.std.proofs.Common.{◌≡◌, ℕ, ◌<◌, ◌++◌, ◌∷◌, List, [], length, Bool, true, false, nat_le, Option, None, Some, IsSome, slice_get, slice_set, get_or, refl, ap, sym, subst, ◌∙◌, arith}
+use Rattle.std.specs.Prelude.{is_none, is_some}
 use Rattle.std.proofs.lemmas.Option.{slice_get-get_or}
 use Rattle.std.proofs.lemmas.Bool.Decides.{nat_tests}
 use Rattle.gs_layout.specs.declared.message.Change.TheVariants.{Preempted}
 use Rattle.gs_layout.specs.declared.refusal.Refusal.TheVariants as refusals
 use Rattle.gs_journal.specs.declared.entry.Entry.{Entry}
 use Rattle.gs_journal.specs.declared.entry.Entry.TheVariants.{Posted}
-use Rattle.gs_journal.specs.History.{History, on, at, seq, taken, active, attaching, torn}
+use Rattle.gs_journal.specs.History.{History, on, at, seq, taken, active, attaching, generation, torn}
 use Rattle.gs_journal.proofs.Laws.{same_messages}
 use Rattle.gs_status.specs.Masks.{has}
 use Rattle.gs_threads.specs.declared.row.ThreadRow.{ThreadRow}
@@ -19,15 +20,16 @@ use Rattle.gs_layout.specs.Message.{is_about}
 use Rattle.std.specs.List.{filter}
 use Rattle.gs_threads.proofs.Mirrored.{mirrors_at}
 use Rattle.gs_kernel.specs.declared.settings.Settings.{Settings}
-use Rattle.gs_kernel.specs.Kernel.{is_agent_on, take_refusal, give_refusal, is_spent_there, next_about}
+use Rattle.gs_kernel.specs.Kernel.{is_agent_on, take_refusal, give_refusal, hand_off_refusal, is_last_generation, is_spent_there, next_about}
 use Rattle.gs_kernel.specs.Inside.{IsKept}
 use Rattle.gs_kernel.specs.Threads.{may_be_on}
 use Rattle.gs_kernel.proofs.Abouts.{kept_about}
-use Rattle.gs_kernel.proofs.Refusals.{first_passed}
+use Rattle.gs_kernel.proofs.Refusals.{first_passed, neither_refuses}
 
-pub kept_held : (s : Settings) (h : History) (t : TableState) (running : List (Option ℕ)) (held held' : ℕ) (a : Option (ℕ × ℕ)) (down : Bool) (e : Entry) → is_quiet e ≡ true → active (h ++ e ∷ []) ≡ active h → attaching (h ++ e ∷ []) ≡ attaching h
-    → torn (h ++ e ∷ []) ≡ torn h → ((d : ℕ) → has held' d ≡ taken (h ++ e ∷ []) d) → IsKept s h t running held a down → IsKept s (h ++ e ∷ []) t running held' a down
-kept_held s h t running held held' a down e quiet same_active same_attaching same_torn holds k =
+-- an entry that concerns no thread
+pub kept_quiet : (s : Settings) (h : History) (t : TableState) (running : List (Option ℕ)) (held held' : ℕ) (a a' : Option (ℕ × ℕ)) (down : Bool) (e : Entry) → is_quiet e ≡ true → a' ≡ active (h ++ e ∷ []) → attaching (h ++ e ∷ []) ≡ attaching h
+    → torn (h ++ e ∷ []) ≡ torn h → ((d : ℕ) → has held' d ≡ taken (h ++ e ∷ []) d) → IsKept s h t running held a down → IsKept s (h ++ e ∷ []) t running held' a' down
+kept_quiet s h t running held held' a a' down e quiet is_active same_attaching same_torn holds k =
     record {
       rows = mirrors_quiet s.first_tseq h t.rows e k.rows quiet;
       first = k.first;
@@ -37,7 +39,7 @@ kept_held s h t running held held' a down e quiet same_active same_attaching sam
       below = λ u c q. k.below u c (sym (on_quiet h e c quiet) ∙ q);
       allowed = λ u c q. ap (may_be_on c) (record_by h (h ++ e ∷ []) u (same_messages h e u (ap (filter (is_about u)) (posts_nothing e quiet)))) ∙ k.allowed u c (sym (on_quiet h e c quiet) ∙ q);
       held_by_other = holds;
-      agent = k.agent ∙ sym same_active;
+      agent = is_active;
       never_begun = same_attaching ∙ k.never_begun;
       down_when_torn = k.down_when_torn ∙ sym same_torn;
     }
@@ -75,6 +77,26 @@ takes_when s h c e =
     let p3 = first_passed (taken h c) refusals.CpuTaken _ p2.1 in
     let p4 = first_passed (is_spent_there s h (on h c)) refusals.SeqSpent None p3.1 in
     record { cpu = not_le s.cpus c p1.0; numbers = p4.0 }
+
+-- what holds where a hand-off is not refused
+pub record HandsOff (s : Settings) (h : History) (c : ℕ) : Type 0 where
+  pub active : is_some (active h) ≡ true
+  pub cpu : c < s.cpus
+  pub numbers : is_spent_there s h (on h c) ≡ false
+  pub more : is_last_generation (generation h) ≡ false
+
+some_there : (o : Option (ℕ × ℕ)) → is_none o ≡ false → is_some o ≡ true
+some_there None e = absurd cc
+some_there (Some a) e = refl
+
+pub hands_off_when : (s : Settings) (h : History) (c : ℕ) → hand_off_refusal s h c ≡ None → HandsOff s h c
+unfolding hand_off_refusal
+hands_off_when s h c e =
+    let p1 = first_passed (is_none (active h)) refusals.NotActive _ e in
+    let p2 = neither_refuses (take_refusal s h c) _ p1.1 in
+    let p3 = first_passed (is_last_generation (generation h)) refusals.GenSpent None p2.1 in
+    let take = takes_when s h c p2.0 in
+    record { active = some_there (active h) p1.0; cpu = take.cpu; numbers = take.numbers; more = p3.0 }
 
 -- a giving back that is not refused is of a CPU of the enclave
 pub gives_when : (s : Settings) (h : History) (c : ℕ) → give_refusal s h c ≡ None → c < s.cpus

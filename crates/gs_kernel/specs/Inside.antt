@@ -7,7 +7,7 @@ use Rattle.gs_layout.specs.declared.message.TheConstants.{MOST_TIDS}
 use Rattle.gs_layout.specs.declared.message.Message.{Message}
 use Rattle.gs_layout.specs.declared.message.Message.TheVariants.{Thread, TimerTick}
 use Rattle.gs_journal.specs.declared.entry.Entry.{Entry}
-use Rattle.gs_journal.specs.declared.entry.Entry.TheVariants.{Posted, Placed, Taken, Given}
+use Rattle.gs_journal.specs.declared.entry.Entry.TheVariants.{Posted, Placed, Role, Taken, Given}
 use Rattle.gs_threads.specs.declared.row.ThreadRow.{ThreadRow}
 use Rattle.gs_threads.specs.Rows.{new_row}
 use Rattle.gs_threads.specs.Table.{rows_after, rows_placed}
@@ -106,6 +106,11 @@ SeatsBelow n _ = Unit {0}
 abbrev pub held_by : Option Entry → ℕ → Bool → Bool
 held_by None c held = held
 held_by (Some e) c held = unwrap_or (taken_by c e) held
+
+-- the active agent after an entry, if there is one
+abbrev pub agent_by : Option Entry → Option (ℕ × ℕ) → Option (ℕ × ℕ)
+agent_by (Some (Role g c)) a = Some (g, c)
+agent_by _ a = a
 
 -- the CPU that an entry says to be held or not, if it does, is one that there may be
 abbrev pub HoldsNear : Entry → Type 0

@@ -1,5 +1,5 @@
 -- What the kernel answers, and what it leaves.
-use Rattle.std.specs.Prelude.{Bool, false, not, ◌||◌, ℕ, ◌+◌, ◌≡◌, ◌==◌, nat_le, Option, None, Some, List, [], ◌∷◌, length, if◌then◌else◌, is_some, unwrap_or}
+use Rattle.std.specs.Prelude.{Bool, false, not, ◌||◌, ℕ, ◌+◌, ◌≡◌, ◌==◌, nat_le, Option, None, Some, List, [], ◌∷◌, length, if◌then◌else◌, is_none, is_some, unwrap_or}
 use Rattle.std.specs.Option.{option_map}
 use Rattle.gs_layout.specs.declared.facts.Facts.{Facts}
 use Rattle.gs_layout.specs.declared.message.Change.{Change}
@@ -11,9 +11,9 @@ use Rattle.gs_layout.specs.declared.refusal.Refusal.{Refusal}
 use Rattle.gs_layout.specs.declared.refusal.Refusal.TheVariants as refusals
 use Rattle.gs_journal.specs.declared.entry.Entry.{Entry}
 use Rattle.gs_status.specs.Masks.{has, has_past, has_none}
-use Rattle.gs_journal.specs.History.{History, created, seq, record_in, on, at, active, attaching, taken, torn}
+use Rattle.gs_journal.specs.History.{History, created, seq, record_in, on, at, active, attaching, generation, taken, torn}
 use Rattle.gs_kernel.specs.declared.settings.Settings.{Settings}
-use Rattle.gs_kernel.specs.declared.settings.TheConstants.{LAST_TSEQ}
+use Rattle.gs_kernel.specs.declared.settings.TheConstants.{LAST_TSEQ, MOST_GENERATION}
 use Rattle.gs_kernel.specs.declared.thread_event.ThreadEvent.{ThreadEvent}
 use Rattle.gs_kernel.specs.declared.thread_event.ThreadEvent.TheVariants as happens
 use Rattle.gs_kernel.specs.First.{first_that}
@@ -129,6 +129,21 @@ take_refusal s h c =
 -- and its giving a CPU back
 unfoldable pub give_refusal : Settings → History → ℕ → Option Refusal
 give_refusal s h c = first_that ((nat_le s.cpus c, Some refusals.BadCpu) ∷ (not (taken h c), Some refusals.NotTaken) ∷ []) None
+
+-- whether a generation is the last one, so that none follows it
+abbrev pub is_last_generation : Option ℕ → Bool
+is_last_generation None = false
+is_last_generation (Some g) = g == MOST_GENERATION
+
+-- the refusals that a hand-off to a CPU has of its own, in order: those of a taking stand among them
+unfoldable pub hand_off_refusal : Settings → History → ℕ → Option Refusal
+hand_off_refusal s h c =
+    first_that ((is_none (active h), Some refusals.NotActive) ∷ [])
+    (or_else (take_refusal s h c) (first_that ((is_last_generation (generation h), Some refusals.GenSpent) ∷ []) None))
+
+-- the generation that comes next: one more than the last
+abbrev pub next_generation : History → ℕ
+next_generation h = unwrap_or (generation h) 0 + 1
 
 -- the message to a thread on a CPU, if there is one, that it was taken off
 abbrev pub preemption : Settings → History → ℕ → Option Message

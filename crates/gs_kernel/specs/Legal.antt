@@ -5,7 +5,7 @@ use Rattle.gs_layout.specs.declared.message.Message.TheVariants.{TimerTick}
 use Rattle.gs_layout.specs.declared.refusal.Refusal.{Refusal}
 use Rattle.gs_layout.specs.declared.refusal.Refusal.TheVariants as refusals
 use Rattle.gs_journal.specs.declared.entry.Entry.{Entry}
-use Rattle.gs_journal.specs.declared.entry.Entry.TheVariants.{Posted, Taken, Given, Torn}
+use Rattle.gs_journal.specs.declared.entry.Entry.TheVariants.{Posted, Role, Taken, Given, Torn}
 use Rattle.gs_journal.specs.History.{History, posted}
 use Rattle.gs_kernel.specs.First.{first_that}
 use Rattle.gs_kernel.specs.declared.settings.Settings.{Settings}
@@ -15,7 +15,7 @@ use Rattle.gs_kernel.specs.declared.effect.Effect.{Effect}
 use Rattle.gs_kernel.specs.declared.effect.Effect.TheVariants.{Post, Append}
 use Rattle.gs_kernel.specs.declared.answer.Answer.{Answer}
 use Rattle.gs_kernel.specs.declared.answer.Answer.TheVariants as answers
-use Rattle.gs_kernel.specs.Kernel.{KernelOf, IsRefusal, or_else, unless_torn, is_full, create_refusal, thread_refusal, take_refusal, give_refusal, tick_refusal, creation, happening, preemption}
+use Rattle.gs_kernel.specs.Kernel.{KernelOf, IsRefusal, or_else, unless_torn, is_full, create_refusal, thread_refusal, take_refusal, give_refusal, tick_refusal, hand_off_refusal, next_generation, creation, happening, preemption}
 
 -- the first refusal that a command has of its own
 abbrev pub own_refusal : Settings → History → Command → Option Refusal
@@ -24,10 +24,12 @@ own_refusal s h (commands.Thread t e) = thread_refusal s h t e
 own_refusal s h (commands.Take c) = take_refusal s h c
 own_refusal s h (commands.Give c) = give_refusal s h c
 own_refusal s h (commands.Tick c) = tick_refusal s c
+own_refusal s h (commands.HandOff c) = hand_off_refusal s h c
 
 -- the most entries that it adds
 abbrev pub most_entries : Command → ℕ
 most_entries (commands.Take c) = 2
+most_entries (commands.HandOff c) = 2
 most_entries _ = 1
 
 -- the first refusal of a command that holds while the enclave stands: after its own that the journal has no room
@@ -45,6 +47,7 @@ effect s h (commands.Thread t e) = Post (happening s h t e)
 effect s h (commands.Take c) = Append (preemption s h c) (Taken c)
 effect s h (commands.Give c) = Append None (Given c)
 effect s h (commands.Tick c) = Post (TimerTick c)
+effect s h (commands.HandOff c) = Append (preemption s h c) (Role (next_generation h) c)
 
 -- whether it adds a thread
 abbrev pub creates : Command → Bool

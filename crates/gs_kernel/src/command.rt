@@ -17,6 +17,9 @@ pub enum Command {
     Give { cpu: u16 },
     /// The timer of a CPU ticks.
     Tick { cpu: u16 },
+    /// The active agent goes on as one of the next generation, on another CPU. A thread there is taken off, and
+    /// told so first.
+    HandOff { cpu: u16 },
 }
 
 impl Command {
@@ -26,7 +29,7 @@ impl Command {
         ensures most { result ≤ 2 }
     {
         match self {
-            Command::Take { .. } => 2,
+            Command::Take { .. } | Command::HandOff { .. } => 2,
             _ => 1,
         }
     }

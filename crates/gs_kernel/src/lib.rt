@@ -7,6 +7,7 @@ mod command;
 mod commit;
 mod create;
 mod effect;
+mod hand_off;
 mod happen;
 mod head;
 mod kernel;

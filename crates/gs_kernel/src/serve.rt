@@ -54,8 +54,9 @@ impl<P: Poster> Kernel<P> {
     /// | `Take` | `BadCpu` where there is no such CPU; `AgentThere` where the active agent is on it; `CpuTaken` where the other class holds it; `SeqSpent` of the thread there |
     /// | `Give` | `BadCpu`; `NotTaken` where the other class does not hold it |
     /// | `Tick` | `BadCpu` |
+    /// | `HandOff` | `NotActive` where no agent is active; `BadCpu`; `AgentThere`; `CpuTaken`; `SeqSpent`, as of a `Take`; `GenSpent` where the generation is 4,294,967,295 |
     ///
-    /// And `HistoryFull` where the journal has no room for an entry, or for two of a `Take`.
+    /// And `HistoryFull` where the journal has no room for an entry, or for two of a `Take` or a `HandOff`.
     pub fn refusal(&self, command: &Command) -> Option<Refusal>
         ensures { result ≡ refusal self.now.settings self.now.history command.now }
     {
@@ -81,6 +82,7 @@ impl<P: Poster> Kernel<P> {
             Command::Take { cpu } => self.take_refusal(*cpu),
             Command::Give { cpu } => self.give_refusal(*cpu),
             Command::Tick { cpu } => self.tick_refusal(*cpu),
+            Command::HandOff { cpu } => self.hand_off_refusal(*cpu),
         }
     }
 
@@ -110,6 +112,7 @@ impl<P: Poster> Kernel<P> {
             Command::Tick { cpu } => Effect::Post {
                 message: Message::TimerTick { cpu: *cpu },
             },
+            Command::HandOff { cpu } => self.handing_over(*cpu),
         }
     }
 
@@ -205,5 +208,12 @@ impl<P: Poster> Kernel<P> {
         ensures { IsServed P.same P.taken P.posted P.tight self.old (Command.Tick cpu) result self.new }
     {
         self.serve(&Command::Tick { cpu })
+    }
+
+    /// The active agent hands over to a CPU.
+    pub fn hand_off(&mut self, cpu: u16) -> Answer
+        ensures { IsServed P.same P.taken P.posted P.tight self.old (Command.HandOff cpu) result self.new }
+    {
+        self.serve(&Command::HandOff { cpu })
     }
 }

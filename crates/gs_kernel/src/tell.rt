@@ -8,7 +8,7 @@ ghost use Rattle.gs_journal.specs.History.{posted};
 ghost use Rattle.gs_status.specs.Masks.{has};
 ghost use Rattle.gs_kernel.specs.Legal.{Frame, RoomOf, Tells, entries_in, message_in};
 ghost use Rattle.gs_kernel.specs.Lands.{ComesNext};
-ghost use Rattle.gs_kernel.specs.Inside.{HoldsNear, SeatsBelow, behind, created_in, freed, held_by, left_by, left_in, listed_entry, listed_message, rows_seated, rows_told, seats_seated, seats_told};
+ghost use Rattle.gs_kernel.specs.Inside.{HoldsNear, SeatsBelow, agent_by, behind, created_in, freed, held_by, left_by, left_in, listed_entry, listed_message, rows_seated, rows_told, seats_seated, seats_told};
 
 use crate::effect::Effect;
 use crate::kernel::Kernel;
@@ -39,6 +39,7 @@ impl<P: Poster> Kernel<P> {
         append(&mut self.journal, effect);
         take_in(&mut self.threads, &mut self.running, effect);
         self.taken = hold(self.taken, effect);
+        self.agent = lead(self.agent, effect);
         true
     }
 }
@@ -186,6 +187,19 @@ fn left_in(change: &Change) -> Option<u16>
         Change::Dead { cpu } => *cpu,
         Change::Affinity { cpu, off, .. } => { if *off { *cpu } else { None } }
         Change::Created { .. } | Change::Wakeup => None,
+    }
+}
+
+/// The active agent after the entry behind the message, if there is one.
+fn lead(agent: Option<(u32, u16)>, effect: &Effect) -> Option<(u32, u16)>
+    ensures { result ≡ agent_by (behind effect.now) agent }
+{
+    match effect {
+        Effect::Append {
+            entry: Entry::Role { generation, cpu },
+            ..
+        } => Some((*generation, *cpu)),
+        _ => agent,
     }
 }
 

@@ -1,5 +1,5 @@
 -- What an agent keeps in mind.
-use Rattle.std.specs.Prelude.{Bool, ℕ, Option, List, []}
+use Rattle.std.specs.Prelude.{Bool, ℕ, Option, Some, List, []}
 use Rattle.gs_layout.specs.declared.known.Known.{Known}
 use Rattle.gs_layout.specs.View.{look_up}
 use Rattle.gs_beliefs.specs.Cpus.{Cpus, unknown}
@@ -28,6 +28,10 @@ thinks s p = record { records = s.records; cpus = p.cpus; queue = p.queue }
 -- what a policy is shown of this, where the other class holds these CPUs
 abbrev pub shown_in : MindState → (ℕ → Bool) → Shown
 shown_in s taken = record { view = look_up s.records; cpus = s.cpus; taken = taken; queue = order s.queue }
+
+-- the same, of an agent whose own CPU is this one
+abbrev pub moved : ℕ → MindState → MindState
+moved c s = record s { cpus = record s.cpus { agent = Some c } }
 
 -- nothing is known, nobody is believed to run on so many CPUs, and nobody waits
 abbrev pub nothing : ℕ → Option ℕ → MindState

@@ -7,7 +7,7 @@ ghost use Rattle.gs_status.specs.Masks.{has};
 ghost use Rattle.gs_view.specs.declared.fault.ApplyFault.{ApplyFault};
 ghost use Rattle.gs_view.specs.Begins.{begins};
 ghost use Rattle.gs_view.specs.Taken.{word_of};
-ghost use Rattle.gs_mind.specs.Mind.{nothing, picture_of, shown_in, thinks};
+ghost use Rattle.gs_mind.specs.Mind.{moved, nothing, picture_of, shown_in, thinks};
 ghost use Rattle.gs_runq.specs.Queue.{Apart, order};
 ghost use Rattle.gs_mind.specs.Picture.{HoldsWaiting, after_slot, after_stamp, displaced, takes_in};
 
@@ -126,6 +126,14 @@ impl Mind {
         self.cpus.hear(&message);
         requeue(&self.view, &self.cpus, &mut self.queue, &message);
         Ok(taken)
+    }
+
+    /// The agent's own CPU is this one from then on. What is known and believed stays, and so does who
+    /// waits. It takes no memory.
+    pub fn move_to(&mut self, cpu: u16)
+        ensures { self.new ≡ moved cpu self.old }
+    {
+        self.cpus.set_agent(Some(cpu));
     }
 
     /// A thread was stamped for a CPU: it waits no more. The thread that an older stamp there named may

@@ -73,8 +73,11 @@ abbrev pub affinity : Row
 affinity = record { word = codes "affinity"; forms = (u32s ∷ u64s ∷ []) ∷ []; event = λ ws. events.Kernel (commands.Thread (number (at 0 ws)) (happens.Affinity (number (at 1 ws)))) }
 
 -- a line that tells the kernel something of a CPU
+abbrev pub of_cpu : List Form
+of_cpu = (u16s ∷ []) ∷ []
+
 abbrev pub to_cpu : List ℕ → (ℕ → Command) → Row
-to_cpu word command = record { word = word; forms = (u16s ∷ []) ∷ []; event = λ ws. events.Kernel (command (number (at 0 ws))) }
+to_cpu word command = record { word = word; forms = of_cpu; event = λ ws. events.Kernel (command (number (at 0 ws))) }
 
 abbrev pub take : Row
 take = to_cpu (codes "take") commands.Take
@@ -84,6 +87,9 @@ give = to_cpu (codes "give") commands.Give
 
 abbrev pub tick : Row
 tick = to_cpu (codes "tick") commands.Tick
+
+abbrev pub handoff : Row
+handoff = to_cpu (codes "handoff") commands.HandOff
 
 abbrev pub drain : Row
 drain = record { word = codes "drain"; forms = (u32s ∷ []) ∷ []; event = λ ws. events.Drain (number (at 0 ws)) }
@@ -120,7 +126,7 @@ abbrev pub unread : Row
 unread = alone (codes "unread") events.Unread
 
 abbrev pub rows : List Row
-rows = create ∷ block ∷ wake ∷ yield ∷ die ∷ affinity ∷ take ∷ give ∷ tick ∷ drain ∷ stamp ∷ decide ∷ commit ∷ late ∷ view ∷ state ∷ unread ∷ []
+rows = create ∷ block ∷ wake ∷ yield ∷ die ∷ affinity ∷ take ∷ give ∷ tick ∷ handoff ∷ drain ∷ stamp ∷ decide ∷ commit ∷ late ∷ view ∷ state ∷ unread ∷ []
 
 -- what a row reads in the words after its first
 abbrev pub reads : Row → List (List ℕ) → Result Event Reason

@@ -1,6 +1,8 @@
 ghost use Rattle.std.specs.Prelude.{◌≡◌, ◌∷◌, []};
+ghost use Rattle.gs_script.specs.Grammar.{line_fault, or_fault};
 ghost use Rattle.gs_script.specs.Rows as rows;
 ghost use Rattle.gs_script.specs.Rows.{shown, reads, event_of};
+ghost use Rattle.gs_script.specs.Words.{number as number_of};
 
 use crate::fault::Reason;
 use crate::word::{name, number};
@@ -112,13 +114,20 @@ fn affinity(words: &[&str]) -> Result<Event, Reason>
     })
 }
 
-fn take(words: &[&str]) -> Result<Event, Reason>
-    ensures { result ≡ reads rows.take (shown words.now) }
+/// The CPU that is all that stands behind a line's first word.
+fn only_cpu(words: &[&str]) -> Result<u16, Reason>
+    ensures { result ≡ or_fault (line_fault rows.of_cpu (shown words.now)) (number_of (rows.at 0 (shown words.now))) }
 {
     let [cpu] = words else {
         return Err(Reason::BadCount);
     };
-    let cpu = cpu_number(cpu)?;
+    cpu_number(cpu)
+}
+
+fn take(words: &[&str]) -> Result<Event, Reason>
+    ensures { result ≡ reads rows.take (shown words.now) }
+{
+    let cpu = only_cpu(words)?;
     Ok(Event::Kernel {
         command: Command::Take { cpu },
     })
@@ -127,10 +136,7 @@ fn take(words: &[&str]) -> Result<Event, Reason>
 fn give(words: &[&str]) -> Result<Event, Reason>
     ensures { result ≡ reads rows.give (shown words.now) }
 {
-    let [cpu] = words else {
-        return Err(Reason::BadCount);
-    };
-    let cpu = cpu_number(cpu)?;
+    let cpu = only_cpu(words)?;
     Ok(Event::Kernel {
         command: Command::Give { cpu },
     })
@@ -139,12 +145,18 @@ fn give(words: &[&str]) -> Result<Event, Reason>
 fn tick(words: &[&str]) -> Result<Event, Reason>
     ensures { result ≡ reads rows.tick (shown words.now) }
 {
-    let [cpu] = words else {
-        return Err(Reason::BadCount);
-    };
-    let cpu = cpu_number(cpu)?;
+    let cpu = only_cpu(words)?;
     Ok(Event::Kernel {
         command: Command::Tick { cpu },
+    })
+}
+
+fn handoff(words: &[&str]) -> Result<Event, Reason>
+    ensures { result ≡ reads rows.handoff (shown words.now) }
+{
+    let cpu = only_cpu(words)?;
+    Ok(Event::Kernel {
+        command: Command::HandOff { cpu },
     })
 }
 
@@ -235,6 +247,7 @@ pub(crate) fn event(words: &[&str]) -> Result<Event, Reason>
         "take" => take(words),
         "give" => give(words),
         "tick" => tick(words),
+        "handoff" => handoff(words),
         "drain" => drain(words),
         "stamp" => stamp(words),
         "decide" => alone(words, Event::Decide),

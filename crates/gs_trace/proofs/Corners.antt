@@ -7,7 +7,7 @@ use Rattle.gs_policy.specs.declared.any.AnyPolicy.{AnyPolicy}
 use Rattle.gs_core.specs.declared.config.Config.{Config}
 use Rattle.gs_agent.specs.declared.drained.Stop.TheVariants as stops
 use Rattle.gs_core.specs.declared.reply.Reply.TheVariants as replies
-use Rattle.gs_kernel.specs.Commit.{own_refusal}
+use Rattle.gs_kernel.specs.Commit.{standing_commit_refusal}
 use Rattle.gs_script.specs.declared.fault.Reason.TheVariants.{TooLong, NoHeader, BadName}
 use Rattle.gs_script.specs.Script.{fault}
 use Rattle.gs_lines.specs.Lines.{line, lines}
@@ -18,7 +18,8 @@ use Rattle.gs_core.proofs.Keeping.{kept_faithful, kept_safe, kept_start}
 use Rattle.gs_trace.specs.declared.run.Ended.{Ended}
 use Rattle.gs_trace.specs.declared.run.Ended.TheVariants.{Ran, Faulted}
 use Rattle.gs_trace.proofs.One.{one_output}
-use Rattle.gs_trace.specs.Output.{IsOutput, fault_line, wants_memory, any_plans}
+use Rattle.gs_core.specs.Short.{wants_memory}
+use Rattle.gs_trace.specs.Output.{IsOutput, fault_line, any_plans}
 
 -- the line of a fault
 faulted : fault_line (fault 0 NoHeader) ≡ line (codes "fault line 0 NoHeader")
@@ -61,7 +62,7 @@ first_config : Config AnyPolicy
 first_config = record { cpus = 2; ring = 128; first_tseq = 0; first_generation = 1; history = 16777216; policy = policies.FirstCome (record {}) }
 
 refused_runs : IsOutput (codes "cpus 2 ring 128" ++ 10 ∷ codes "commit 4") Ran (line (codes "refused 4 EmptyMask"))
-unfolding first_config digits active standing last_of torn own_refusal
+unfolding first_config digits active standing last_of torn standing_commit_refusal
 refused_runs = (
   refl,
   record {

@@ -22,11 +22,13 @@ use Rattle.gs_policy.specs.declared.choice.Choice.{Choice}
 use Rattle.gs_runq.specs.Queue.{order}
 use Rattle.gs_mind.specs.Mind.{picture_of}
 use Rattle.gs_mind.specs.Picture.{Picture, after_slots, after_stamp, takes_in_all}
-use Rattle.gs_core.specs.Machine.{State, Agent, mind_of, picture, thinking, committed, fits, view, unread, is_idle, refusal, Serves, Step, Does, IsShort, Takes, Drains, carried, stamps, stamps_with, stamps_all, plan_of}
+use Rattle.gs_core.specs.Machine.{State, Agent, led, mind_of, picture, thinking, committed, fits, view, unread, is_idle, refusal, Serves, Step, Does, IsShort, Takes, Drains, carried, stamps, stamps_with, stamps_all, plan_of}
 use Rattle.gs_core.specs.declared.transaction.Transaction.{Transaction}
 use Rattle.gs_core.specs.Safe.{IsFaithful, Run}
 use Rattle.gs_journal.specs.declared.entry.Entry.{Entry}
-use Rattle.gs_kernel.specs.Legal.{effect}
+use Rattle.gs_journal.specs.declared.entry.Entry.TheVariants.{Posted, Placed, Role, Begin, Left, Taken, Given, Torn}
+use Rattle.gs_kernel.specs.declared.command.Command.{Command}
+use Rattle.gs_kernel.specs.Legal.{effect, last_in}
 use Rattle.gs_kernel.specs.Lands.{Lands}
 use Rattle.gs_core.proofs.Exact.{all_one, lands_one, tells_one}
 use Rattle.gs_core.proofs.Faces.{drop_drop}
@@ -34,7 +36,8 @@ use Rattle.gs_script.specs.declared.fault.ScriptFault.{ScriptFault}
 use Rattle.gs_trace.specs.declared.run.Ended.{Ended}
 use Rattle.gs_script.specs.Script.{Script, script_of}
 use Rattle.gs_trace.proofs.Lists.{one_list}
-use Rattle.gs_trace.specs.Output.{wants_memory, is_memory, IsShown, IsShownOf}
+use Rattle.gs_core.specs.Short.{is_memory, wants_memory}
+use Rattle.gs_trace.specs.Output.{IsShown, IsShownOf}
 
 -- agents that have the same picture, or none of both
 record Same (a b : Option Agent) : Type 0 where
@@ -227,6 +230,28 @@ one_commit m a same mask r r' m' n' x y =
       left = alike_at m' n' (committed m x.made) (option_map (thinking think) a) x.left (y.left ∙ ap (committed (record m { agent = a })) (sym made)) (same_thinks think a m.agent same);
     }
 
+-- agents that are the same follow a command alike
+same_led : (e : Entry) (fit : Bool) (a b : Option Agent) → Same a b → Same (led e fit a) (led e fit b)
+same_led (Role g c) true a b same = same_thinks (λ p. record p { cpus = record p.cpus { agent = Some c } }) a b same
+same_led (Role g c) false a b same = same
+same_led (Posted k) fit a b same = same
+same_led (Placed t s c g) fit a b same = same
+same_led (Begin g) fit a b same = same
+same_led Left fit a b same = same
+same_led (Taken c) fit a b same = same
+same_led (Given c) fit a b same = same
+same_led Torn fit a b same = same
+
+-- one command
+one_command : (m : State) (a : Option Agent) → Same a m.agent → (c : Command) (r r' : Reply) (m' n' : State) → Does m (Kernel c) r m' → Does (record m { agent = a }) (Kernel c) r' n' → One r r' m' n'
+one_command m a same c r r' m' n' x y =
+    let last : Entry = last_in (effect m.settings m.history c) in
+    let one = tells_one m.ring m.consumed m.history (effect m.settings m.history c) x.fit y.fit m'.history n'.history x.tells y.tells in
+    record {
+      reply = x.reply ∙ (ap (carried m c) one.0 ∙ sym y.reply);
+      left = alike_at m' n' (record m { history = m'.history; agent = led last x.fit m.agent }) (led last x.fit a) x.others (y.others ∙ (λ i. record m { history = sym one.1 i; agent = led last (sym one.0 i) a })) (same_led last x.fit a m.agent same);
+    }
+
 -- one step
 refused_is : (r : Reply) → wants_memory r ≡ false → r ≡ replies.Refused refusals.OutOfMemory → ⊥
 refused_is r p e = let k = sym p ∙ ap wants_memory e in absurd (cc)
@@ -234,12 +259,7 @@ refused_is r p e = let k = sym p ∙ ap wants_memory e in absurd (cc)
 one_done : (m : State) (a : Option Agent) → Same a m.agent → (e : Event) (r r' : Reply) (m' n' : State)
     → Does m e r m' ⊎ (IsShort e r × (m' ≡ m)) → Does (record m { agent = a }) e r' n' ⊎ (IsShort e r' × (n' ≡ record m { agent = a }))
     → IsFaithful m' → IsFaithful n' → wants_memory r ≡ false → wants_memory r' ≡ false → One r r' m' n'
-one_done m a same (Kernel c) r r' m' n' (inl x) (inl y) g h p q =
-    let one = tells_one m.ring m.consumed m.history (effect m.settings m.history c) x.fit y.fit m'.history n'.history x.tells y.tells in
-    record {
-      reply = x.reply ∙ (ap (carried m c) one.0 ∙ sym y.reply);
-      left = alike_at m' n' (record m { history = m'.history }) a x.others (y.others ∙ ap (λ (z : List Entry). record m { history = z; agent = a }) (sym one.1)) same;
-    }
+one_done m a same (Kernel c) r r' m' n' (inl x) (inl y) g h p q = one_command m a same c r r' m' n' x y
 one_done m a same (Kernel c) r r' m' n' (inr x) y g h p q = absurd (refused_is r p x.0)
 one_done m a same (Kernel c) r r' m' n' (inl x) (inr y) g h p q = absurd (refused_is r' q y.0)
 one_done m a same (Drain max) r r' m' n' (inl x) (inl y) g h p q =

@@ -1,16 +1,13 @@
 -- What is to be written for the bytes of an input.
-use Rattle.std.specs.Prelude.{◌≡◌, ℕ, List, ◌++◌, Bool, true, false, codes, decimal, Option, Some, Result, Ok, Err}
+use Rattle.std.specs.Prelude.{◌≡◌, ℕ, List, ◌++◌, false, codes, decimal, Result, Ok, Err}
 use Rattle.std.specs.List.{list_any}
-use Rattle.gs_layout.specs.declared.refusal.Refusal.TheVariants.{OutOfMemory}
-use Rattle.gs_agent.specs.declared.drained.Stop.{Stop}
-use Rattle.gs_agent.specs.declared.drained.Stop.TheVariants.{Memory}
 use Rattle.gs_core.specs.declared.reply.Reply.{Reply}
-use Rattle.gs_core.specs.declared.reply.Reply.TheVariants.{Refused, Drained}
 use Rattle.gs_policy.specs.declared.any.AnyPolicy.{AnyPolicy}
 use Rattle.gs_policy.specs.Any.{any_takes}
 use Rattle.gs_policy.specs.Plan.{plan}
 use Rattle.gs_core.specs.Machine.{Plan, State, planning, start}
 use Rattle.gs_core.specs.Safe.{Run}
+use Rattle.gs_core.specs.Short.{wants_memory}
 use Rattle.gs_script.specs.declared.fault.ScriptFault.{ScriptFault}
 use Rattle.gs_script.specs.declared.fault.Reason.{Reason}
 use Rattle.gs_script.specs.declared.fault.Reason.TheVariants as reasons
@@ -34,16 +31,6 @@ reason_text reasons.BadName = codes "BadName"
 -- the one line of a script that has a fault
 abbrev pub fault_line : ScriptFault → List ℕ
 fault_line f = line (codes "fault line " ++ decimal f.line ++ codes " " ++ reason_text f.reason)
-
-abbrev pub is_memory : Option Stop → Bool
-is_memory (Some Memory) = true
-is_memory _ = false
-
--- whether a reply says that memory ran out
-abbrev pub wants_memory : Reply → Bool
-wants_memory (Refused OutOfMemory) = true
-wants_memory (Drained d) = is_memory d.stop
-wants_memory _ = false
 
 -- what either policy plans
 abbrev pub any_plans : AnyPolicy → Plan

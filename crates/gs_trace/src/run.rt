@@ -1,14 +1,11 @@
 ghost use Rattle.std.specs.Prelude.{◌≡◌, ◌≢◌, ◌<◌, ◌≤◌, ℕ, List, length, take, IfOk, IfErr, IfSome, IsErrOf, string_bytes};
-ghost use Rattle.std.specs.List.{list_any};
 ghost use Rattle.std.specs.Io.KnownBytes.{Keeps, Appends, Consumes, IsAtEnd};
-ghost use Rattle.gs_trace.specs.Output.{IsOutput, IsReport, IsShown, fault_line, reason_text, shown_as, wants_memory};
+ghost use Rattle.gs_trace.specs.Output.{IsOutput, IsReport, IsShown, fault_line, reason_text, shown_as};
 ghost use Rattle.gs_trace.specs.declared.run.Ended.{Ended};
 
 use crate::form::{Form, show};
 use crate::pipe::{InputError, read_all, write_out};
-use gs_agent::Stop;
-use gs_core::{ConfigFault, Machine, Reply};
-use gs_layout::Refusal;
+use gs_core::{ConfigFault, Machine, is_short};
 use gs_script::{MOST_BYTES, Reason, ScriptError, ScriptFault, read_script};
 use std::alloc::{AllocError, Global};
 use std::io::{Read, Write};
@@ -68,24 +65,6 @@ fn fault_text(alloc: Global, fault: ScriptFault) -> Result<String, AllocError>
     let mut text = format!(in alloc; "fault line {line} {name}")?;
     text.push('\n')?;
     Ok(text)
-}
-
-/// Whether a reply says that memory ran out.
-fn wants(reply: &Reply) -> bool
-    ensures { result ≡ wants_memory reply.now }
-{
-    match reply {
-        Reply::Refused(refusal) => *refusal == Refusal::OutOfMemory,
-        Reply::Drained(drained) => drained.stop == Some(Stop::Memory),
-        _ => false,
-    }
-}
-
-/// Whether some reply says that memory ran out.
-fn is_short(replies: &[Reply]) -> bool
-    ensures { result ≡ list_any wants_memory replies.now }
-{
-    replies.iter().any(wants)
 }
 
 /// What is to be written for an input, its replies in this form. It fails only for want of memory.

@@ -17,6 +17,12 @@ preemption-requires-clause-numbers g c =
     let none : refusal k.settings k.history (commands.Take c.in-Take.cpu) ≡ None = ap (refusal k.settings k.history) (sym c.in-Take.is) ∙ c.requires in
     (takes_when k.settings k.history c.in-Take.cpu (free_when k.settings k.history (commands.Take c.in-Take.cpu) none).own).numbers
 
+pub handing_over-requires : goal.handing_over-requires
+handing_over-requires g c =
+    let k = c.args.self.now in
+    let none : refusal k.settings k.history (commands.HandOff c.in-HandOff.cpu) ≡ None = ap (refusal k.settings k.history) (sym c.in-HandOff.is) ∙ c.requires in
+    (free_when k.settings k.history (commands.HandOff c.in-HandOff.cpu) none).own
+
 pub returns-in-Tick-clause-spellable : goal.returns-in-Tick-clause-spellable
 returns-in-Tick-clause-spellable g c =
     let k = c.args.self.now in

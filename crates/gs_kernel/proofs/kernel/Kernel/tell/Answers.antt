@@ -52,9 +52,9 @@ invariant_of-self-2 g c =
       limit = grind (arith, common_steps);
       first = grind (arith, common_steps);
       told = subst (g.P.Poster.posted c.send.new.poster) (sym (ap posted c.append.ensures.entries ∙ due_quiet k.settings h c.send.new.journal.entries x due)) (c.send.ensures.told i.told);
-      kept = subst (λ (y : History). IsKept k.settings y c.take_in.new.threads (with_items k.running new).items c.hold-self-inside.result k.agent k.torn) (sym now)
-          (kept_next k.settings h k.threads c.take_in.new.threads k.running.items (with_items k.running new).items k.taken c.hold-self-inside.result k.agent k.torn x due i.kept
-          c.take_in.ensures.rows c.take_in.ensures.first_tseq (with_items_is k.running new count ∙ seats) c.hold-self-inside.ensures);
+      kept = subst (λ (y : History). IsKept k.settings y c.take_in.new.threads (with_items k.running new).items c.hold-self-inside.result c.lead-self-inside.result k.torn) (sym now)
+          (kept_next k.settings h k.threads c.take_in.new.threads k.running.items (with_items k.running new).items k.taken c.hold-self-inside.result k.agent c.lead-self-inside.result k.torn x due i.kept
+          c.take_in.ensures.rows c.take_in.ensures.first_tseq (with_items_is k.running new count ∙ seats) c.hold-self-inside.ensures c.lead-self-inside.ensures);
     }
 
 pub returns-clause-frame : goal.returns-clause-frame

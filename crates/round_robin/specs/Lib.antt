@@ -1,0 +1,3 @@
+pub mod RoundRobin
+pub mod Output
+pub mod Status

@@ -1,0 +1,33 @@
+-- What is to be written for the bytes of a script.
+use Rattle.std.specs.Prelude.{◌≡◌, ℕ, List, false, Result, Err, IsOkAnd}
+use Rattle.std.specs.List.{list_any}
+use Rattle.gs_core.specs.declared.reply.Reply.{Reply}
+use Rattle.gs_core.specs.Config.{with_policy}
+use Rattle.gs_core.specs.Machine.{State, planning, start}
+use Rattle.gs_core.specs.Safe.{Run}
+use Rattle.gs_core.specs.Short.{wants_memory}
+use Rattle.gs_script.specs.declared.fault.ScriptFault.{ScriptFault}
+use Rattle.gs_script.specs.declared.script.ScriptError.{ScriptError}
+use Rattle.gs_script.specs.declared.script.ScriptError.TheVariants as errors
+use Rattle.gs_script.specs.Script.{Script, script_of}
+use Rattle.gs_lines.specs.Lines.{lines}
+use Rattle.round_robin.specs.declared.policy.RoundRobin.{RoundRobin}
+use Rattle.round_robin.specs.RoundRobin.{round_robin}
+
+-- these bytes answer the script: they are the lines of the replies of a run of it by this policy, from the machine of its numbers on, in
+-- which memory sufficed
+pub record Answers (p : RoundRobin) (s : Script) (out : List ℕ) : Type 0 where
+  pub replies : List Reply
+  pub left : State
+  pub run : Run (planning round_robin (start (with_policy p s.config))) s.events replies left
+  pub sufficed : list_any wants_memory replies ≡ false
+  pub shown : out ≡ lines replies
+
+-- what is to be written for an input, which has to be a script
+abbrev pub IsOutput : RoundRobin → List ℕ → List ℕ → Type 0
+IsOutput p input out = IsOkAnd (script_of input) (λ s. Answers p s out)
+
+-- why there is none, by what was read: the script's first fault, or want of memory
+abbrev pub IsError : Result Script ScriptFault → ScriptError → Type 0
+IsError read (errors.Fault f) = read ≡ Err f
+IsError read errors.OutOfMemory = Unit {0}
