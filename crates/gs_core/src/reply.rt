@@ -13,7 +13,7 @@ pub enum Reply {
     /// The event's message did not fit into the ring, and the enclave was torn down.
     Torn,
     /// The kernel did what it was told. This is the last entry that it added to the journal: what was
-    /// posted, taken or given.
+    /// posted, taken or given, or the role that an agent was given.
     Done(Entry),
     /// How many messages the agent took in, what they were to it, and why it stopped early, where it did.
     Drained(Drained),
