@@ -55,8 +55,8 @@ struct text {
 #define TEXT(s) { s, sizeof(s) - 1 }
 
 enum refusal {
-    NO_THREAD = 1, NOT_RUNNING, NOT_BLOCKED, EMPTY_MASK, BAD_CPU, AGENT_THERE, CPU_TAKEN, NOT_TAKEN,
-    SEQ_SPENT = 12, GEN_SPENT, TIDS_SPENT, HISTORY_FULL, SLOT_OPEN, NO_SUCH_TRANSACTION, GONE,
+    NO_THREAD = 1, NOT_RUNNING, NOT_BLOCKED, EMPTY_MASK, BAD_CPU, AGENT_THERE, CPU_TAKEN, NOT_TAKEN, NOT_ACTIVE,
+    STILL_ATTACHED, NOT_ATTACHING, SEQ_SPENT, GEN_SPENT, TIDS_SPENT, HISTORY_FULL, SLOT_OPEN, NO_SUCH_TRANSACTION, GONE,
 };
 
 static const struct text REFUSED[] = {
@@ -68,6 +68,9 @@ static const struct text REFUSED[] = {
     [AGENT_THERE] = TEXT("refused 6 AgentThere\n"),
     [CPU_TAKEN] = TEXT("refused 7 CpuTaken\n"),
     [NOT_TAKEN] = TEXT("refused 8 NotTaken\n"),
+    [NOT_ACTIVE] = TEXT("refused 9 NotActive\n"),
+    [STILL_ATTACHED] = TEXT("refused 10 StillAttached\n"),
+    [NOT_ATTACHING] = TEXT("refused 11 NotAttaching\n"),
     [SEQ_SPENT] = TEXT("refused 12 SeqSpent\n"),
     [GEN_SPENT] = TEXT("refused 13 GenSpent\n"),
     [TIDS_SPENT] = TEXT("refused 14 TidsSpent\n"),
@@ -132,9 +135,12 @@ static uint32_t running[MOST_CPUS];
 static uint64_t taken;
 static uint32_t entries = 1;
 static bool torn;
-// The active agent's generation and CPU.
+// The last generation that was given, and who has it. The CPU is the active agent's, NO_CPU while none is active.
+static enum role { NOBODY, ATTACHING, ACTIVE } role = ACTIVE;
 static uint32_t generation;
 static uint8_t agent;
+// The thread from which the next page goes on, 0 where there is none after the last one.
+static uint32_t next_page;
 
 // Of a message that waits in the ring all is kept that its record has.
 struct message {
@@ -155,15 +161,15 @@ static uint32_t queue_first, queue_length;
 static uint32_t write_place, used_bytes;
 
 // The agent's record of a thread. `next` and `previous` are the threads beside it in the run queue of its class, 0 where
-// it does not wait.
+// it does not wait. Of a record of another era than the agent's nothing counts: the agent does not know the thread.
 struct record {
     uint64_t mask;
     uint32_t tseq;
+    uint32_t era;
     uint32_t next;
     uint32_t previous;
     uint32_t name;
     uint8_t name_length;
-    bool present : 1;
     bool runnable : 1;
     bool class : 1;
     // The CPU that it is believed on.
@@ -172,6 +178,8 @@ struct record {
     uint8_t stamps;
 };
 static uint64_t present[MOST_THREADS / 64];
+// One more with each agent that began. No record has era 0 that counts.
+static uint32_t era = 1;
 #define QUEUE_OF(class) (1 + MOST_THREADS + (class))
 // The CPUs that some waiting thread of the class may run on, and perhaps more.
 static uint64_t wanted[2];
@@ -385,7 +393,7 @@ static inline enum outcome land(const struct transaction *x, uint32_t *seen)
     *seen = t->tseq;
     if (unlikely(torn))
         return IS_GONE;
-    if (unlikely(x->generation != generation))
+    if (unlikely(x->generation != generation) || unlikely(role != ACTIVE))
         return IS_DISPLACED;
     if (unlikely(!t->alive))
         return IS_NO_THREAD;
@@ -443,10 +451,25 @@ static inline void take_out(struct record *r)
     r->next = 0;
 }
 
+static inline bool known(const struct record *r)
+{
+    return r->era == era;
+}
+
+// A thread that the agent has not known until now.
+static inline void meet(uint32_t tid, struct record *r)
+{
+    r->era = era;
+    r->next = 0;
+    r->cpu = NO_CPU;
+    r->stamps = 0;
+    present[(tid - 1) / 64] |= UINT64_C(1) << (tid - 1) % 64;
+}
+
 // A thread that has begun to wait goes last of its class, one that no longer waits is taken out.
 static inline void requeue(uint32_t tid, struct record *r)
 {
-    bool waits = r->present & r->runnable & (r->cpu == NO_CPU) & (r->stamps == 0);
+    bool waits = known(r) & r->runnable & (r->cpu == NO_CPU) & (r->stamps == 0);
     if (waits == (r->next != 0))
         return;
     if (waits)
@@ -511,26 +534,33 @@ static inline void collect(const struct transaction *x, enum outcome outcome)
     requeue(x->tid, r);
 }
 
-static inline void apply(const struct message *m)
+// What the agent makes of a message. None is ever more than one number above its record.
+enum taken_as { APPLIED, SKIPPED, ORPHAN };
+
+static inline enum taken_as apply(const struct message *m)
 {
     if (m->kind == TICK) {
         if (believed[m->cpu] && ticks[m->cpu] < MOST_TICKS)
             ticks[m->cpu]++;
-        return;
+        return APPLIED;
     }
     uint32_t tid = m->tid;
     struct record *r = RECORD(tid);
+    if (known(r)) {
+        if (unlikely(m->tseq <= r->tseq))
+            return SKIPPED;
+    } else if (unlikely(m->kind != CREATED)) {
+        return ORPHAN;
+    }
     r->tseq = m->tseq;
     switch (m->kind) {
     case CREATED:
+        meet(tid, r);
         r->mask = m->mask;
         r->name = m->name;
         r->name_length = m->name_length;
         r->class = m->class;
         r->runnable = m->runnable;
-        r->present = true;
-        r->cpu = NO_CPU;
-        present[(tid - 1) / 64] |= UINT64_C(1) << (tid - 1) % 64;
         if (r->runnable)
             append(tid, r);
         break;
@@ -552,7 +582,7 @@ static inline void apply(const struct message *m)
         requeue(tid, r);
         break;
     case DEAD:
-        r->present = false;
+        r->era = 0;
         present[(tid - 1) / 64] &= ~(UINT64_C(1) << (tid - 1) % 64);
         forget_belief(r);
         if (r->next)
@@ -568,15 +598,17 @@ static inline void apply(const struct message *m)
         }
         break;
     }
+    return APPLIED;
 }
 
-static inline uint32_t drain(uint32_t most)
+// How many messages were taken in, and of `counts` how many of them each way.
+static inline uint32_t drain(uint32_t most, uint32_t counts[3])
 {
     uint32_t count = most < queue_length ? most : queue_length;
     for (uint32_t i = 0; i < count; i++) {
         const struct message *m = &queue[queue_first];
         used_bytes -= m->bytes;
-        apply(m);
+        counts[apply(m)]++;
         queue_first = (queue_first + 1) % QUEUE;
     }
     queue_length -= count;
@@ -584,6 +616,63 @@ static inline uint32_t drain(uint32_t most)
     if (queue_length == 0)
         queue_first = 0;
     return count;
+}
+
+// Whatever the agent before had in mind is gone; one walk over the threads' bits, and none over the threads.
+static void begin(void)
+{
+    era++;
+    memset(present, 0, (created + 63) / 64 * sizeof *present);
+    memset(believed, 0, sizeof believed);
+    busy = stamped = 0;
+    for (unsigned class = 0; class < 2; class++) {
+        RECORD(QUEUE_OF(class))->next = RECORD(QUEUE_OF(class))->previous = QUEUE_OF(class);
+        wanted[class] = 0;
+    }
+    role = ATTACHING;
+    generation++;
+    next_page = 1;
+}
+
+// The agent knows the thread now as the kernel does.
+static inline void load(uint32_t tid, const struct thread *t)
+{
+    struct record *r = RECORD(tid);
+    if (!known(r))
+        meet(tid, r);
+    r->mask = t->mask;
+    r->tseq = t->tseq;
+    r->name = t->name;
+    r->name_length = t->name_length;
+    r->class = t->class;
+    r->runnable = t->runnable;
+    if (t->cpu != NO_CPU)
+        believe(t->cpu, tid, r);
+    if (r->next)
+        wanted[r->class] |= r->mask;
+    requeue(tid, r);
+}
+
+// The next page of so many threads that are alive; how many it had, and in `next_page` where the one after it begins.
+static uint32_t load_page(uint32_t most)
+{
+    uint32_t count = 0, words = (created + 63) / 64, i = (next_page - 1) / 64;
+    uint64_t left = i < words ? alive[i] & UINT64_MAX << (next_page - 1) % 64 : 0;
+    for (;; left &= left - 1) {
+        while (!left && ++i < words)
+            left = alive[i];
+        if (!left) {
+            next_page = 0;
+            return count;
+        }
+        uint32_t tid = 64 * i + (uint32_t)__builtin_ctzll(left) + 1;
+        if (count == most) {
+            next_page = tid;
+            return count;
+        }
+        load(tid, THREAD(tid));
+        count++;
+    }
 }
 
 struct choice {
@@ -694,6 +783,19 @@ static bool number_in(const struct words *words, unsigned i, uint64_t least, uin
     return least <= n && n <= most;
 }
 
+// The fault of a policy's name, with `i` at its last word then; where there is none, its slice, or 0 for the one without.
+static enum fault policy_fault(const struct words *words, unsigned *i, uint64_t *n)
+{
+    *n = 0;
+    if (is(words, *i, "first"))
+        return NO_FAULT;
+    if (!is(words, *i, "two"))
+        return BAD_WORD;
+    if (++*i == words->count)
+        return BAD_COUNT;
+    return number_in(words, *i, 1, 65535, n) ? NO_FAULT : BAD_NUMBER;
+}
+
 static enum fault header_fault(const char *line)
 {
     static const char *const PARTS[] = { "first-tseq", "first-gen", "history", "policy" };
@@ -728,15 +830,12 @@ static enum fault header_fault(const char *line)
         if (part < 3) {
             if (!number_in(&words, i, LEAST[part], MOST[part], &numbers[part]))
                 return BAD_NUMBER;
-        } else if (is(&words, i, "two")) {
-            if (++i == words.count)
-                return BAD_COUNT;
-            if (!number_in(&words, i, 1, 65535, &n))
-                return BAD_NUMBER;
+        } else {
+            enum fault fault = policy_fault(&words, &i, &n);
+            if (fault)
+                return fault;
+            two_classes = n > 0;
             slice = (uint32_t)n;
-            two_classes = true;
-        } else if (!is(&words, i, "first")) {
-            return BAD_WORD;
         }
         part++;
     }
@@ -748,12 +847,26 @@ static enum fault header_fault(const char *line)
 }
 
 // The words after the first, a letter for each: a mask, a class, runnable or not, a name, a CPU, a thread or another
-// number, the flag. In small letters one that may be absent.
+// number, the flag. In small letters one that may be absent. What may stand behind `begin` is not told by a letter for each.
+static const char BEGIN[] = "begin";
 static const struct { const char *word, *form; } EVENTS[] = {
     { "create", "MKRN" }, { "block", "T" }, { "wake", "T" }, { "yield", "T" }, { "die", "T" }, { "affinity", "TM" },
     { "take", "C" }, { "give", "C" }, { "tick", "C" }, { "handoff", "C" }, { "drain", "T" }, { "decide", "" },
     { "commit", "M" }, { "late", "T" }, { "stamp", "CTp" }, { "view", "" }, { "state", "" }, { "unread", "" },
+    { "crash", "" }, { "leave", "" }, { "begin", BEGIN }, { "page", "C" }, { "activate", "C" },
 };
+
+static enum fault begin_fault(const struct words *words)
+{
+    uint64_t n;
+    unsigned i = 1;
+    if (words->count > 3)
+        return BAD_COUNT;
+    if (words->count == 1)
+        return NO_FAULT;
+    enum fault fault = policy_fault(words, &i, &n);
+    return fault ? fault : i + 1 < words->count ? BAD_COUNT : NO_FAULT;
+}
 
 static enum fault event_fault(const char *line)
 {
@@ -766,6 +879,8 @@ static enum fault event_fault(const char *line)
     if (event == sizeof EVENTS / sizeof *EVENTS)
         return BAD_WORD;
     const char *form = EVENTS[event].form;
+    if (form == BEGIN)
+        return begin_fault(&words);
     unsigned most = (unsigned)strlen(form) + 1;
     unsigned least = most - (most > 1 && form[most - 2] == 'p');
     if (words.count < least || words.count > most)
@@ -936,15 +1051,21 @@ static char *spill(char *o)
 #define PUT_WITH(text, number) do { PUT(text); o = put_number(o, number); *o++ = '\n'; } while (0)
 #define PUT_THREAD(text) do { PUT(text); o = put_sequence(o, tid, t->tseq); *o++ = '\n'; } while (0)
 
+#define PUT_AGENT() do { \
+        PUT("agent "); \
+        o = put_number(o, agent); \
+        PUT_WITH(" generation ", generation); \
+    } while (0)
+
 // The words of the events as numbers, and their place in a table of 32.
 #define W(a, b, c, d, e, f, g, h) \
     ((uint64_t)a | (uint64_t)b << 8 | (uint64_t)c << 16 | (uint64_t)d << 24 | (uint64_t)e << 32 | (uint64_t)f << 40 \
      | (uint64_t)g << 48 | (uint64_t)h << 56)
-#define HASH(w) ((w) * UINT64_C(0xafbd67f9619699cf) >> 59)
+#define HASH(w) ((w) * UINT64_C(0x169e0c7dad7d6965) >> 59)
 enum {
-    E_AFFINITY = 0, E_STAMP = 1, E_YIELD = 3, E_UNREAD = 6, E_TAKE = 7, E_WAKE = 9, E_DIE = 11, E_DECIDE = 12,
-    E_LATE = 13, E_CREATE = 14, E_BLOCK = 15, E_DRAIN = 19, E_VIEW = 20, E_STATE = 21, E_GIVE = 22, E_TICK = 24,
-    E_COMMIT = 25, E_HANDOFF = 27,
+    E_LEAVE = 0, E_DRAIN = 1, E_COMMIT = 2, E_UNREAD = 3, E_BEGIN = 4, E_WAKE = 6, E_YIELD = 7, E_GIVE = 8,
+    E_PAGE = 12, E_TICK = 13, E_AFFINITY = 17, E_DIE = 18, E_VIEW = 19, E_LATE = 21, E_HANDOFF = 23, E_CREATE = 24,
+    E_CRASH = 25, E_DECIDE = 26, E_BLOCK = 27, E_STATE = 28, E_STAMP = 29, E_TAKE = 30, E_ACTIVATE = 31,
 };
 static const uint64_t WORDS[32] = {
     [E_TICK] = W('t', 'i', 'c', 'k', 0, 0, 0, 0),
@@ -965,6 +1086,11 @@ static const uint64_t WORDS[32] = {
     [E_GIVE] = W('g', 'i', 'v', 'e', 0, 0, 0, 0),
     [E_COMMIT] = W('c', 'o', 'm', 'm', 'i', 't', 0, 0),
     [E_HANDOFF] = W('h', 'a', 'n', 'd', 'o', 'f', 'f', 0),
+    [E_CRASH] = W('c', 'r', 'a', 's', 'h', 0, 0, 0),
+    [E_LEAVE] = W('l', 'e', 'a', 'v', 'e', 0, 0, 0),
+    [E_BEGIN] = W('b', 'e', 'g', 'i', 'n', 0, 0, 0),
+    [E_PAGE] = W('p', 'a', 'g', 'e', 0, 0, 0, 0),
+    [E_ACTIVATE] = W('a', 'c', 't', 'i', 'v', 'a', 't', 'e'),
 };
 
 // The line of a fault where there is one, else null; `*behind` is then the place behind the output.
@@ -1119,13 +1245,75 @@ static const char *run(const char *p, const char *end, char **behind, enum fault
         case E_HANDOFF: {
             NUMBER(cpu, 65535);
             END_LINE();
+            REFUSE_IF(role != ACTIVE, NOT_ACTIVE);
             FREE_SEAT(generation == UINT32_MAX);
             agent = (uint8_t)cpu;
             generation++;
             entries++;
-            PUT("agent ");
-            o = put_number(o, cpu);
-            PUT_WITH(" generation ", generation);
+            PUT_AGENT();
+            break;
+        }
+        case E_CRASH:
+        case E_LEAVE:
+            END_LINE();
+            REFUSE_IF(role == NOBODY, NOT_ACTIVE);
+            REFUSE_IF(event == E_LEAVE && stamped, SLOT_OPEN);
+            REFUSE_IF(entries >= history, HISTORY_FULL);
+            role = NOBODY;
+            agent = NO_CPU;
+            entries++;
+            if (event == E_LEAVE)
+                PUT("left\n");
+            else
+                PUT("crashed\n");
+            break;
+        case E_BEGIN: {
+            bool named = *p != '\n', two = *p == 't';
+            n = 0;
+            if (named) {
+                if (memcmp(p, two ? "two" : "first", two ? 3 : 5) != 0)
+                    goto odd;
+                p += two ? 3 : 5;
+                END_WORD();
+                if (two) {
+                    NUMBER(n, 65535);
+                    if (unlikely(n == 0))
+                        goto odd;
+                }
+            }
+            END_LINE();
+            REFUSE_IF(role != NOBODY, STILL_ATTACHED);
+            REFUSE_IF(generation == UINT32_MAX, GEN_SPENT);
+            REFUSE_IF(entries >= history, HISTORY_FULL);
+            if (named) {
+                two_classes = two;
+                slice = n;
+            }
+            begin();
+            entries++;
+            PUT_WITH("begun generation ", generation);
+            break;
+        }
+        case E_PAGE:
+            NUMBER(n, 65535);
+            END_LINE();
+            REFUSE_IF(role != ATTACHING || !next_page, NOT_ATTACHING);
+            PUT("page ");
+            o = put_number(o, load_page(n));
+            if (next_page)
+                PUT_WITH(" next ", next_page);
+            else
+                PUT(" end\n");
+            break;
+        case E_ACTIVATE: {
+            NUMBER(cpu, 65535);
+            END_LINE();
+            REFUSE_IF(role != ATTACHING || next_page, NOT_ATTACHING);
+            FREE_SEAT(false);
+            role = ACTIVE;
+            agent = (uint8_t)cpu;
+            entries++;
+            PUT_AGENT();
             break;
         }
         case E_GIVE:
@@ -1147,11 +1335,24 @@ static const char *run(const char *p, const char *end, char **behind, enum fault
                 goto tear;
             PUT_WITH("tick ", cpu);
             break;
-        case E_DRAIN:
+        case E_DRAIN: {
+            uint32_t counts[3] = { 0, 0, 0 };
             NUMBER(n, UINT32_MAX);
             END_LINE();
-            PUT_WITH("drained ", drain(n));
+            REFUSE_IF(role == NOBODY, NOT_ACTIVE);
+            PUT("drained ");
+            o = put_number(o, drain(n, counts));
+            if (counts[SKIPPED]) {
+                PUT(" skipped ");
+                o = put_number(o, counts[SKIPPED]);
+            }
+            if (counts[ORPHAN]) {
+                PUT(" orphans ");
+                o = put_number(o, counts[ORPHAN]);
+            }
+            *o++ = '\n';
             break;
+        }
         case E_STAMP: {
             NUMBER(cpu, 65535);
             NUMBER(tid, UINT32_MAX);
@@ -1161,8 +1362,9 @@ static const char *run(const char *p, const char *end, char **behind, enum fault
                 END_WORD();
             }
             END_LINE();
+            REFUSE_IF(role != ACTIVE, NOT_ACTIVE);
             REFUSE_IF(cpu >= cpus, BAD_CPU);
-            REFUSE_IF(tid - 1 >= MOST_THREADS || !RECORD(tid)->present, NO_THREAD);
+            REFUSE_IF(tid - 1 >= MOST_THREADS || !known(RECORD(tid)), NO_THREAD);
             REFUSE_IF(mask_bit(stamped, cpu), SLOT_OPEN);
             REFUSE_IF(stamped_count >= history, HISTORY_FULL);
             stamp(cpu, tid, preempt);
@@ -1172,6 +1374,7 @@ static const char *run(const char *p, const char *end, char **behind, enum fault
         case E_DECIDE: {
             struct choice choices[MOST_CPUS];
             END_LINE();
+            REFUSE_IF(role != ACTIVE, NOT_ACTIVE);
             unsigned count = plan(choices);
             REFUSE_IF(count && stamped_count + count > history, HISTORY_FULL);
             PUT_WITH("decided ", count);
@@ -1193,6 +1396,7 @@ static const char *run(const char *p, const char *end, char **behind, enum fault
         case E_COMMIT:
             MASK(mask);
             END_LINE();
+            REFUSE_IF(role != ACTIVE, NOT_ACTIVE);
             REFUSE_IF(mask & ~all_cpus, EMPTY_MASK);
             for (uint64_t left = mask & stamped; left; left &= left - 1) {
                 const struct transaction *x = &transactions[slot[__builtin_ctzll(left)]];
@@ -1228,6 +1432,7 @@ static const char *run(const char *p, const char *end, char **behind, enum fault
         }
         case E_VIEW:
             END_LINE();
+            REFUSE_IF(role == NOBODY, NOT_ACTIVE);
             for (uint32_t i = 0; i < (created + 63) / 64; i++) {
                 for (uint64_t left = present[i]; left; left &= left - 1) {
                     tid = 64 * i + (uint32_t)__builtin_ctzll(left) + 1;

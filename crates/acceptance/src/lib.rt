@@ -17,5 +17,7 @@ mod showing;
 mod streams;
 #[cfg(test)]
 mod two_rings;
+#[cfg(test)]
+mod upgrading;
 
 pub use both_ends::BothEnds;

@@ -81,8 +81,8 @@ enum Look {
     Taken(u16, bool),
     /// The thread that the agent believes to run on a CPU.
     Believed(u16, Option<u32>),
-    /// How many threads the agent knows.
-    Known(usize),
+    /// How many threads the agent knows, `None` where there is no agent.
+    Known(Option<usize>),
     /// How many slots there are.
     Slots(u16),
     /// Whether the slot of a CPU is idle.
@@ -103,7 +103,11 @@ fn is_idle(machine: &Machine<AnyPolicy>, cpu: u16) -> bool {
 }
 
 fn believed(machine: &Machine<AnyPolicy>, cpu: u16) -> Option<u32> {
-    Some(machine.role().believed(cpu)?.tid)
+    Some(machine.role()?.believed(cpu)?.tid)
+}
+
+fn known(machine: &Machine<AnyPolicy>) -> Option<usize> {
+    Some(machine.role()?.view().len())
 }
 
 /// Whether a look shows what it has to.
@@ -113,7 +117,7 @@ fn is_so(machine: &Machine<AnyPolicy>, look: Look) -> bool {
         Look::OnCpu(count, cpu, wanted) => machine.kernel().journal().on_cpu(count, cpu) == wanted,
         Look::Taken(cpu, wanted) => machine.kernel().taken().has(cpu) == wanted,
         Look::Believed(cpu, wanted) => believed(machine, cpu) == wanted,
-        Look::Known(wanted) => machine.role().view().len() == wanted,
+        Look::Known(wanted) => known(machine) == wanted,
         Look::Slots(wanted) => machine.region().cpus() == wanted,
         Look::Idle(cpu, wanted) => is_idle(machine, cpu) == wanted,
         Look::Transaction(number, wanted) => stamped(machine, number) == wanted,
@@ -138,7 +142,7 @@ fn number_of(reply: &Reply) -> Option<usize> {
 }
 
 /// An event, the number that its reply has, and what is to be seen behind it.
-type Row<'a> = (Event, Option<usize>, &'a [Look]);
+type Row<'a> = (Event<AnyPolicy>, Option<usize>, &'a [Look]);
 
 /// The first event that is answered otherwise, or behind which something else is seen.
 fn first_wrong(machine: &mut Machine<AnyPolicy>, rows: &[Row<'_>]) -> Option<usize> {
@@ -165,12 +169,12 @@ fn first_wrong_of_new(
     Ok(first_wrong(&mut machine, rows))
 }
 
-fn tell(command: Command) -> Event {
+fn tell(command: Command) -> Event<AnyPolicy> {
     Event::Kernel { command }
 }
 
 /// A runnable thread that may run on these CPUs is created.
-fn creation(mask: u64) -> Option<Event> {
+fn creation(mask: u64) -> Option<Event<AnyPolicy>> {
     let facts = Facts {
         runnable: true,
         mask,
@@ -180,7 +184,7 @@ fn creation(mask: u64) -> Option<Event> {
     Some(tell(Command::Create { facts }))
 }
 
-fn stamp(cpu: u16, tid: u32) -> Event {
+fn stamp(cpu: u16, tid: u32) -> Event<AnyPolicy> {
     Event::Stamp {
         cpu,
         tid,
@@ -188,13 +192,13 @@ fn stamp(cpu: u16, tid: u32) -> Event {
     }
 }
 
-fn commit(mask: u64) -> Event {
+fn commit(mask: u64) -> Event<AnyPolicy> {
     Event::Commit {
         mask: Mask::new(mask),
     }
 }
 
-fn happens(event: ThreadEvent) -> Event {
+fn happens(event: ThreadEvent) -> Event<AnyPolicy> {
     tell(Command::Thread { tid: 1, event })
 }
 
@@ -247,7 +251,7 @@ fn shows_a_thread(rt: HostRuntime) -> Result<(), Fail> {
         (
             happens(ThreadEvent::Block),
             None,
-            &[Look::Known(1), Look::Slots(2), Look::Idle(1, true)],
+            &[Look::Known(Some(1)), Look::Slots(2), Look::Idle(1, true)],
         ),
         (
             happens(ThreadEvent::Die),
@@ -304,6 +308,39 @@ fn shows_a_refused_decision(rt: HostRuntime) -> Result<(), Fail> {
         (Event::Decide, Some(4), &[]),
     ];
     assert_eq!(rt; first_wrong_of_new(rt.alloc(), short, &rows)?, None);
+    Ok(())
+}
+
+/// An agent crashes with a stamp in a slot. The next one knows nothing until it is told, and finds the slots idle.
+#[test]
+fn shows_an_upgrade(rt: HostRuntime) -> Result<(), Fail> {
+    let policy = AnyPolicy::TwoClass(TwoClass { slice: 1 });
+    let rows: [Row<'_>; 8] = [
+        (creation(3).ok_or("a name")?, None, &[]),
+        (Event::Drain { max: 1 }, None, &[Look::Known(Some(1))]),
+        (stamp(1, 1), Some(1), &[Look::Idle(1, false)]),
+        (
+            Event::Crash,
+            None,
+            &[Look::Known(None), Look::Believed(1, None)],
+        ),
+        (
+            Event::Begin { policy },
+            None,
+            &[Look::Known(Some(0)), Look::Idle(1, true)],
+        ),
+        (Event::Page { max: 9 }, None, &[Look::Known(Some(1))]),
+        (tell(Command::Activate { cpu: 0 }), None, &[]),
+        (
+            Event::Decide,
+            Some(2),
+            &[
+                Look::Transaction(1, Some((1, 1, 1, 1))),
+                Look::Transaction(2, Some((1, 2, 1, 1))),
+            ],
+        ),
+    ];
+    assert_eq!(rt; first_wrong_of_new(rt.alloc(), TWO_CPUS, &rows)?, None);
     Ok(())
 }
 

@@ -16,7 +16,7 @@ const LEAST: Config<AnyPolicy> = Config {
 };
 
 /// Scripts, the configs that they are read as, how many events they have, and whether the first is a decision.
-const ROWS: [(&str, Config<AnyPolicy>, usize, bool); 5] = [
+const ROWS: [(&str, Config<AnyPolicy>, usize, bool); 6] = [
     (
         "cpus 2 ring 128\ncreate 3 0 r web\ndrain 1\nstamp 1 1\ncommit 2\n",
         LEAST,
@@ -24,6 +24,12 @@ const ROWS: [(&str, Config<AnyPolicy>, usize, bool); 5] = [
         false,
     ),
     ("cpus 2 ring 128\ndecide\n", LEAST, 1, true),
+    (
+        "cpus 2 ring 128\ncrash\nbegin\nleave\nbegin two 1\npage 9\nactivate 0\n",
+        LEAST,
+        6,
+        false,
+    ),
     (
         "cpus 2 ring 128 history 5 policy first\ndecide\n",
         Config {

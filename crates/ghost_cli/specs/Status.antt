@@ -1,5 +1,5 @@
 -- The exit status of the program.
-use Rattle.std.specs.Prelude.{◌≡◌, ◌≢◌, ◌⊎◌, ℕ}
+use Rattle.std.specs.Prelude.{◌≡◌, ◌≢◌, ◌⊎◌, ℕ, Result, Ok, Err}
 use Rattle.clap.specs.Values.{kind_of}
 use Rattle.clap.specs.declared.error.kind.ErrorKind.{ErrorKind}
 use Rattle.clap.specs.declared.error.kind.ErrorKind.TheVariants.{DisplayHelp, DisplayVersion}
@@ -7,8 +7,8 @@ use Rattle.gs_trace.specs.declared.run.Ended.{Ended}
 use Rattle.gs_trace.specs.declared.run.Ended.TheVariants.{Ran, Faulted}
 use Rattle.gs_trace.specs.declared.run.TraceFault.{TraceFault}
 use Rattle.gs_trace.specs.declared.run.TraceFault.TheVariants.{ReadFailed, OutOfMemory, WriteFailed}
-use Rattle.ghost_cli.specs.declared.Failure.{Failure}
-use Rattle.ghost_cli.specs.declared.Failure.TheVariants.{Arguments, NotText, Script}
+use Rattle.ghost_cli.specs.declared.failure.Failure.{Failure}
+use Rattle.ghost_cli.specs.declared.failure.Failure.TheVariants.{Arguments, NotText, Script}
 
 -- 0 where a script ran, 2 where it has a fault
 abbrev pub ended_status : Ended → ℕ
@@ -30,3 +30,8 @@ abbrev pub IsFailureStatus : Failure → ℕ → Type 0
 IsFailureStatus (Arguments error) status = IsArgumentsStatus (kind_of error) status
 IsFailureStatus NotText status = status ≡ 3
 IsFailureStatus (Script fault) status = status ≡ fault_status fault
+
+-- the exit status of what was done
+abbrev pub IsStatus : Result Ended Failure → ℕ → Type 0
+IsStatus (Ok ended) status = status ≡ ended_status ended
+IsStatus (Err failure) status = IsFailureStatus failure status

@@ -7,11 +7,12 @@ use Rattle.gs_slots.specs.declared.state.SlotState.{SlotState}
 use Rattle.gs_slots.specs.declared.state.SlotState.TheVariants.{Idle, Stamped, Done}
 use Rattle.gs_mind.specs.Mind.{MindState}
 
--- what the agent has in mind, its generation, and its policy
+-- what the agent has in mind, its generation, its policy, and where the next page begins, none where it needs no more
 pub record RoleOf (P : Type 0) : Type 0 where
   pub mind : MindState
   pub generation : ℕ
   pub policy : P
+  pub next : Option ℕ
 
 -- why a transaction is not stamped, by what is known of its thread and what is in the slot: the first refusal that applies
 abbrev pub stamp_refusal : Option Known → SlotState → Option Refusal

@@ -10,6 +10,7 @@ ghost use Rattle.gs_beliefs.specs.Cpus.{believed_on};
 ghost use Rattle.gs_agent.specs.declared.drained.Stop.{Stop};
 ghost use Rattle.gs_agent.specs.Drains.{Took};
 ghost use Rattle.gs_mind.specs.Mind.{moved, nothing, picture_of, shown_in, thinks};
+ghost use Rattle.gs_mind.specs.Pages.{after_page};
 ghost use Rattle.gs_mind.specs.Picture.{HoldsWaiting, after_slots, after_stamp};
 ghost use Rattle.gs_policy.specs.Safe.{IsSafePlan};
 ghost use Rattle.gs_runq.specs.Queue.{Apart, order};
@@ -20,6 +21,7 @@ use crate::collect::collect_all;
 use crate::drain::drain_into;
 use crate::drained::Drained;
 use gs_beliefs::Running;
+use gs_dump::Page;
 use gs_layout::Refusal;
 use gs_mind::Mind;
 use gs_policy::{Choice, Counted, Policy};
@@ -35,13 +37,15 @@ use std::marker::Model;
 /// generation, and the policy by which it plans.
 ///
 /// Messages reach it through [`Role::drain`], its transactions leave by [`Role::stamp`], and
-/// [`Role::collect`] frees the slots of those that landed. Clauses see its records by rising tid, and the
+/// [`Role::collect`] frees the slots of those that landed. The role of an agent that attaches is told of
+/// the threads that live by pages, through [`Role::rebuild`]. Clauses see its records by rising tid, and the
 /// queue without its room.
 #[derive(Drop)]
 pub struct Role<P> {
     mind: Mind,
     generation: u32,
     policy: P,
+    next: Option<u32>,
 }
 
 impl<P> Model for Role<P> {
@@ -49,13 +53,13 @@ impl<P> Model for Role<P> {
 
     ghost Value = { RoleOf P };
 
-    ghost view = { λ role. record { mind = role.mind; generation = role.generation; policy = role.policy } };
+    ghost view = { λ role. record { mind = role.mind; generation = role.generation; policy = role.policy; next = role.next } };
 }
 
 impl<P> Role<P> {
     /// The role of an active agent of this generation, on this CPU of so many (at most
     /// [`MOST_CPUS`]), that plans by this policy. It knows nothing yet: nobody is believed to run
-    /// anywhere, and nobody waits.
+    /// anywhere, and nobody waits. It needs no page.
     ///
     /// # Errors
     ///
@@ -70,13 +74,60 @@ impl<P> Role<P> {
     where
         P: Drop,
         requires { cpus ≤ MOST_CPUS }
-        ensures { IfOk result (λ role. role ≡ record { mind = nothing cpus (Some cpu); generation = generation; policy = policy }) }
+        ensures { IfOk result (λ role. role ≡ record { mind = nothing cpus (Some cpu); generation = generation; policy = policy; next = None }) }
+    {
+        Role::begin(alloc, policy, cpus, generation, Some(cpu), None)
+    }
+
+    /// The role of an agent that attaches, as one of this generation, on a machine of so many CPUs (at
+    /// most [`MOST_CPUS`]), and that plans by this policy. It has no CPU of its own. It knows nothing
+    /// yet, and its first page begins at tid 1.
+    ///
+    /// # Errors
+    ///
+    /// Where memory runs out.
+    pub fn attach(
+        alloc: Global,
+        policy: P,
+        cpus: u16,
+        generation: u32,
+    ) -> Result<Role<P>, AllocError>
+    where
+        P: Drop,
+        requires { cpus ≤ MOST_CPUS }
+        ensures { IfOk result (λ role. role ≡ record { mind = nothing cpus None; generation = generation; policy = policy; next = Some 1 }) }
+    {
+        Role::begin(alloc, policy, cpus, generation, None, Some(1))
+    }
+
+    /// The role of an agent that knows nothing yet, on this CPU or on none, whose next page begins at this
+    /// tid, where it needs one.
+    fn begin(
+        alloc: Global,
+        policy: P,
+        cpus: u16,
+        generation: u32,
+        cpu: Option<u16>,
+        next: Option<u32>,
+    ) -> Result<Role<P>, AllocError>
+    where
+        P: Drop,
+        requires { cpus ≤ MOST_CPUS }
+        ensures { IfOk result (λ role. role ≡ record { mind = nothing cpus cpu; generation = generation; policy = policy; next = next }) }
     {
         Ok(Role {
-            mind: Mind::new(alloc, cpus, Some(cpu))?,
+            mind: Mind::new(alloc, cpus, cpu)?,
             generation,
             policy,
+            next,
         })
+    }
+
+    /// Ends the role: all that the agent had in mind is dropped, and its policy is given back.
+    pub fn retire(self) -> P
+        ensures { result ≡ self.policy }
+    {
+        self.policy
     }
 
     /// The generation of the agent, which each of its transactions is stamped with.
@@ -115,6 +166,31 @@ impl<P> Role<P> {
         ensures waits { HoldsWaiting (look_up self.now.mind.records) self.now.mind.cpus self.now.mind.queue }
     {
         self.mind.waiting()
+    }
+
+    /// The tid at which the next page begins that the agent needs, `None` where it needs no more.
+    pub fn next_page(&self) -> Option<u32>
+        ensures { result ≡ self.now.next }
+    {
+        self.next
+    }
+
+    /// Takes a page in, of threads that live: what it tells of them is known then, each of them is
+    /// believed to run where the page says, and who waits follows. The next page begins where this one
+    /// says, and after the last page none is needed.
+    ///
+    /// # Errors
+    ///
+    /// Where memory runs out. Then nothing changes, and the page can be taken in later.
+    pub fn rebuild(&mut self, page: &Page) -> Result<(), AllocError>
+        ensures picture { OnOk result (picture_of self.new.mind ≡ after_page page.now.records (picture_of self.old.mind)) }
+        ensures next { OnOk result (self.new.next ≡ page.now.next) }
+        ensures others { self.new ≡ record self.old { mind = self.new.mind; next = self.new.next } }
+        ensures unchanged { OnErr result (self.new ≡ self.old) }
+    {
+        self.mind.rebuild(page)?;
+        self.next = page.next;
+        Ok(())
     }
 
     /// The agent goes on as one of this generation, on this CPU. All that it has in mind stays, the stamps of

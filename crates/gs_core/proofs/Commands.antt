@@ -1,33 +1,34 @@
--- What a command leaves of a machine, and of the agent's role.
-use Rattle.std.proofs.Common.{◌≡◌, refl, ap, sym, subst, ◌∙◌, ℕ, Bool, true, false, Option, None, Some, [], ◌∷◌, ◌++◌, append_assoc}
-use Rattle.std.specs.Option.{is_some, option_map}
+-- What a command leaves of a machine.
+use Rattle.std.proofs.Common.{◌≡◌, refl, ap, sym, subst, ◌∙◌, ℕ, Bool, true, false, not, ◌&&◌, Option, None, Some, [], ◌∷◌, ◌++◌, append_assoc, unwrap_or}
+use Rattle.std.proofs.lemmas.Bool.{false≢true}
+use Rattle.std.specs.Option.{is_none, is_some, option_map}
+use Rattle.gs_layout.specs.declared.refusal.Refusal.TheVariants as refusals
 use Rattle.gs_layout.specs.declared.message.Change.TheVariants.{Preempted}
 use Rattle.gs_layout.specs.declared.message.Message.{Message}
 use Rattle.gs_layout.specs.declared.message.Message.TheVariants.{TimerTick}
 use Rattle.gs_journal.specs.declared.entry.Entry.{Entry}
 use Rattle.gs_journal.specs.declared.entry.Entry.TheVariants.{Posted, Role, Taken, Given, Torn}
-use Rattle.gs_journal.specs.History.{History, active, on}
+use Rattle.gs_journal.specs.History.{History, active, attaching, on}
 use Rattle.gs_kernel.specs.declared.settings.Settings.{Settings}
-use Rattle.gs_kernel.specs.Kernel.{creation, happening, next_about, next_generation, preemption}
+use Rattle.gs_kernel.specs.Attaching.{activate_refusal}
+use Rattle.gs_kernel.specs.Kernel.{creation, happening, next_about, next_generation, preemption, take_refusal}
 use Rattle.gs_kernel.specs.declared.command.Command.{Command}
 use Rattle.gs_kernel.specs.declared.command.Command.TheVariants as commands
-use Rattle.gs_kernel.specs.declared.answer.Answer.{Answer}
-use Rattle.gs_kernel.specs.declared.answer.Answer.TheVariants as answers
+use Rattle.gs_kernel.specs.declared.effect.Effect.{Effect}
 use Rattle.gs_kernel.specs.declared.effect.Effect.TheVariants.{Append}
-use Rattle.gs_kernel.specs.Legal.{Legal, Room, Tells, effect, entries_in, last_in, refusal}
-use Rattle.gs_kernel.proofs.Entries.{active_none, active_now, beside_posted}
+use Rattle.gs_kernel.specs.Legal.{Room, Tells, effect, entries_in, last_in, refusal}
+use Rattle.gs_kernel.proofs.Entries.{active_now}
 use Rattle.gs_kernel.proofs.OtherClass.{hands_off_when}
-use Rattle.gs_kernel.proofs.Refusals.{free_when}
-use Rattle.gs_agent.specs.Role.{RoleOf}
-use Rattle.gs_core.specs.Answers.{answered, follows}
-use Rattle.gs_core.specs.Machine.{Agent, State, led, promoted}
+use Rattle.gs_kernel.proofs.Refusals.{first_passed, free_when}
+use Rattle.gs_core.specs.Machine.{Agent, State, freed_by, is_given_all, led, page_of, promoted}
 use Rattle.gs_core.specs.Good.{Good, GoodHistory}
-use Rattle.gs_core.specs.Held.{Acts, Kept}
+use Rattle.gs_core.specs.Held.{Kept}
 use Rattle.gs_core.proofs.Grows.{Grows, grown_kept, grows_posted, grows_quiet, grows_then, grows_torn}
 use Rattle.gs_core.proofs.Happens.{both_about, both_happening}
-use Rattle.gs_core.proofs.Leads.{leads_kept, led_by_none}
-use Rattle.gs_core.proofs.Roles.{entry_roles, roles_given, roles_posted, roles_taken}
+use Rattle.gs_core.proofs.Leads.{freed_by_none, leads_kept, led_by_none}
+use Rattle.gs_core.proofs.Roles.{roles_given, roles_taken}
 use Rattle.gs_core.proofs.Steps.{both_creation, both_ticked, grown_good}
+use Rattle.gs_core.proofs.Vacant.{kept_begun, kept_left}
 
 -- the other class takes a CPU: whoever is there makes way
 grows_taken : (m : State) (c : ℕ) → Good m → Grows m (m.history ++ entries_in (effect m.settings m.history (commands.Take c)))
@@ -42,67 +43,69 @@ grows_taken m c g = by_who (on m.history c) refl
         let told : Good (record m { history = h }) = grown_good m h first.both first.roles g in
         subst (Grows m) (append_assoc m.history (Posted k ∷ []) (Taken c ∷ [])) (grows_then m h (h ++ Taken c ∷ []) first (grows_quiet (record m { history = h }) (Taken c) refl (roles_taken h c) told))
 
--- the agent hands over to a CPU: whoever is there makes way
-kept_handed : (m : State) (c : ℕ) → is_some (active m.history) ≡ true → Kept m → Kept (record m { history = m.history ++ entries_in (effect m.settings m.history (commands.HandOff c)); agent = option_map (promoted c) m.agent })
-kept_handed m c is k = by_who (on m.history c) refl
+-- an agent that needs no more pages goes on to a CPU, as the active one of a generation: whoever is there makes way
+pub kept_promoted : (m : State) (g c : ℕ) → page_of m.agent ≡ None → Kept m
+    → Kept (record m { history = m.history ++ entries_in (Append (preemption m.settings m.history c) (Role g c)); agent = option_map (promoted c) m.agent })
+kept_promoted m g c last k = by_who (on m.history c) refl
   where
-    g : ℕ
-    g = next_generation m.history
-
     a : Option Agent
     a = option_map (promoted c) m.agent
 
     by_who : (o : Option ℕ) → on m.history c ≡ o → Kept (record m { history = m.history ++ entries_in (Append (option_map (λ t. next_about m.settings m.history t (Preempted c)) o) (Role g c)); agent = a })
-    by_who None e = leads_kept m g c is k
+    by_who None e = leads_kept m g c last k
     by_who (Some t) e =
         let good : Good m = k.good in
         let past : GoodHistory m.settings m.transactions m.history = good.history in
         let x : Message = next_about m.settings m.history t (Preempted c) in
         let h : History = m.history ++ Posted x ∷ [] in
         let first : Grows m h = grows_posted m x good (both_about m t (Preempted c) refl (past.on_known t c e) good) in
-        let beside = beside_posted m.history x in
         subst (λ (y : History). Kept (record m { history = y; agent = a })) (append_assoc m.history (Posted x ∷ []) (Role g c ∷ []))
-        (leads_kept (record m { history = h }) g c (ap (λ (o : Option (ℕ × ℕ)). is_some o) beside.active ∙ is) (grown_kept m h first k))
+        (leads_kept (record m { history = h }) g c last (grown_kept m h first k))
+
+-- where one that attaches becomes active it needs no more pages
+needs_none : (s : Settings) (h : History) (o : Option ℕ) (c : ℕ) → activate_refusal s h (is_none o) c ≡ None → o ≡ None
+unfolding activate_refusal
+needs_none s h o c e = by_page o (first_passed (not (is_some (attaching h) && is_none o)) refusals.NotAttaching (take_refusal s h c) e).0
+  where
+    both : (b : Bool) → not (b && false) ≡ true
+    both true = refl
+    both false = refl
+
+    by_page : (o : Option ℕ) → not (is_some (attaching h) && is_none o) ≡ false → o ≡ None
+    by_page None p = refl
+    by_page (Some t) p = absurd (false≢true (sym p ∙ both (is_some (attaching h))))
+
+-- a machine once an effect was told, or tore the enclave down
+abbrev pub left_by : State → Effect → Bool → History → State
+left_by m x fit h = record m { history = h; agent = led m.settings.cpus (last_in x) fit m.agent; slots = freed_by m.settings.cpus (last_in x) fit m.slots }
 
 -- what a command leaves that nothing refuses
-kept_command : (m : State) (c : Command) → refusal m.settings m.history c ≡ None → Kept m
-    → Kept (record m { history = m.history ++ entries_in (effect m.settings m.history c); agent = led (last_in (effect m.settings m.history c)) true m.agent })
+kept_command : (m : State) (c : Command) → refusal m.settings m.history (is_given_all m) c ≡ None → Kept m → Kept (left_by m (effect m.settings m.history c) true (m.history ++ entries_in (effect m.settings m.history c)))
 kept_command m (commands.Create f) none k = grown_kept m _ (grows_posted m (creation m.settings.first_tseq m.history f) k.good (both_creation m f k.good)) k
-kept_command m (commands.Thread t e) none k = grown_kept m _ (grows_posted m (happening m.settings m.history t e) k.good (both_happening m t e (free_when m.settings m.history (commands.Thread t e) none).own k.good)) k
+kept_command m (commands.Thread t e) none k = grown_kept m _ (grows_posted m (happening m.settings m.history t e) k.good (both_happening m t e (free_when m.settings m.history (is_given_all m) (commands.Thread t e) none).own k.good)) k
 kept_command m (commands.Take c) none k = grown_kept m _ (grows_taken m c k.good) k
 kept_command m (commands.Give c) none k = grown_kept m _ (grows_quiet m (Given c) refl (roles_given m.history c) k.good) k
 kept_command m (commands.Tick c) none k = grown_kept m _ (grows_posted m (TimerTick c) k.good (both_ticked m c k.good)) k
-kept_command m (commands.HandOff c) none k = kept_handed m c (hands_off_when m.settings m.history c (free_when m.settings m.history (commands.HandOff c) none).own).active k
+kept_command m (commands.HandOff c) none k =
+    let good : Good m = k.good in
+    kept_promoted m (next_generation m.history) c (good.when_active (hands_off_when m.settings m.history c (free_when m.settings m.history (is_given_all m) (commands.HandOff c) none).own).active) k
+kept_command m commands.Leave none k = kept_left m k
+kept_command m commands.Begin none k = kept_begun m (next_generation m.history) m.policy k
+kept_command m (commands.Activate c) none k =
+    kept_promoted m (unwrap_or (attaching m.history) 0) c (needs_none m.settings m.history (page_of m.agent) c (free_when m.settings m.history (is_given_all m) (commands.Activate c) none).own) k
 
--- it is carried out, or tears the enclave down
-pub kept_told : (m : State) (room : Room) (c : Command) (fit : Bool) (h : History) → refusal m.settings m.history c ≡ None → Tells room m.history (effect m.settings m.history c) fit h → Kept m
-    → Kept (record m { history = h; agent = led (last_in (effect m.settings m.history c)) fit m.agent })
-kept_told m room c true h none t k = subst (λ (y : History). Kept (record m { history = y; agent = led (last_in (effect m.settings m.history c)) true m.agent })) (sym t.1) (kept_command m c none k)
+-- so is a command that is told, or tears the enclave down
+pub kept_told : (m : State) (room : Room) (c : Command) (fit : Bool) (h : History) → refusal m.settings m.history (is_given_all m) c ≡ None → Tells room m.history (effect m.settings m.history c) fit h → Kept m
+    → Kept (left_by m (effect m.settings m.history c) fit h)
+kept_told m room c true h none t k = subst (λ (y : History). Kept (left_by m (effect m.settings m.history c) true y)) (sym t.1) (kept_command m c none k)
 kept_told m room c false h none t k =
     let torn : Kept (record m { history = m.history ++ Torn ∷ [] }) = grown_kept m _ (grows_torn m k.good) k in
-    (λ (K : Kept (record m { history = h; agent = m.agent })). subst (λ (o : Option Agent). Kept (record m { history = h; agent = o })) (sym (led_by_none (last_in (effect m.settings m.history c)) m.agent)) K)
-    (subst (λ (y : History). Kept (record m { history = y })) (sym t.1) torn)
+    let e : Entry = last_in (effect m.settings m.history c) in
+    let same : record m { history = m.history ++ Torn ∷ [] } ≡ left_by m (effect m.settings m.history c) false h =
+        λ i. record m { history = sym t.1 i; agent = sym (led_by_none m.settings.cpus e m.agent) i; slots = sym (freed_by_none m.settings.cpus e m.slots) i } in
+    subst Kept same torn
 
 -- a role that is added is the active one
-role_last : (h : History) (o : Option Message) (g c : ℕ) → active (h ++ entries_in (Append o (Role g c))) ≡ Some (g, c)
+pub role_last : (h : History) (o : Option Message) (g c : ℕ) → active (h ++ entries_in (Append o (Role g c))) ≡ Some (g, c)
 role_last h None g c = active_now h g c
 role_last h (Some x) g c = ap active (sym (append_assoc h (Posted x ∷ []) (Role g c ∷ []))) ∙ active_now (h ++ Posted x ∷ []) g c
-
--- the role that follows what a command adds is that of the active agent
-command_acts : {P : Type 0} (s : Settings) (h : History) (c : Command) (r : RoleOf P) → Acts h r.generation → Acts (h ++ entries_in (effect s h c)) (follows (last_in (effect s h c)) r).generation
-command_acts s h (commands.Create f) r acts = λ a p. let w = roles_posted h (creation s.first_tseq h f) in acts a (w.active a p)
-command_acts s h (commands.Thread t e) r acts = λ a p. let w = roles_posted h (happening s h t e) in acts a (w.active a p)
-command_acts s h (commands.Take c) r acts = λ a p. let w = entry_roles h (preemption s h c) (Taken c) (λ x. roles_taken x c) in acts a (w.active a p)
-command_acts s h (commands.Give c) r acts = λ a p. let w = roles_given h c in acts a (w.active a p)
-command_acts s h (commands.Tick c) r acts = λ a p. let w = roles_posted h (TimerTick c) in acts a (w.active a p)
-command_acts s h (commands.HandOff c) r acts =
-    λ a p. let z : Some (next_generation h, c) ≡ Some a = sym (role_last h (preemption s h c) (next_generation h) c) ∙ p in
-    let same : (next_generation h, c) ≡ a = cc in ap (λ (x : ℕ × ℕ). x.0) same
-
--- and so is the role that follows the kernel's answer
-pub answered_acts : {P : Type 0} (room : Room) (s : Settings) (h h' : History) (c : Command) (x : Answer) (r : RoleOf P) → Legal room s h c x h' → Acts h r.generation → Acts h' (answered x r).generation
-answered_acts room s h h' c (answers.Refused f) r l acts = λ a p. acts a (ap active (sym l.1) ∙ p)
-answered_acts room s h h' c (answers.Done e) r l acts =
-    let grown = command_acts s h c r acts in
-    subst (λ (y : History). Acts y (follows e r).generation) (sym l.1.tells.1) (subst (λ (y : Entry). Acts (h ++ entries_in (effect s h c)) (follows y r).generation) (sym l.0) grown)
-answered_acts room s h h' c answers.Torn r l acts = λ a p. let z : None ≡ Some a = sym (active_none h) ∙ (ap active (sym l.tells.1) ∙ p) in absurd cc

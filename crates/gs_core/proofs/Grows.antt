@@ -6,7 +6,7 @@ use Rattle.gs_layout.specs.declared.outcome.Outcome.{Outcome}
 use Rattle.gs_slots.specs.declared.state.Stamp.{Stamp}
 use Rattle.gs_journal.specs.declared.entry.Entry.{Entry}
 use Rattle.gs_journal.specs.declared.entry.Entry.TheVariants.{Posted, Torn}
-use Rattle.gs_journal.specs.History.{History, is_torn, torn}
+use Rattle.gs_journal.specs.History.{History, attaching, is_torn, torn}
 use Rattle.gs_journal.proofs.Laws.{same_posted, torn-push}
 use Rattle.gs_threads.specs.Mirrors.{is_quiet}
 use Rattle.gs_threads.proofs.Placing.{on_quiet, posts_nothing}
@@ -22,7 +22,7 @@ use Rattle.gs_core.specs.Trust.{IsSeen}
 use Rattle.gs_core.specs.Held.{Kept}
 use Rattle.gs_core.proofs.Growing.{both_torn, landed}
 use Rattle.gs_core.proofs.Quiet.{both_quiet}
-use Rattle.gs_core.proofs.Steps.{BothOf, both_of, grown_good}
+use Rattle.gs_core.proofs.Steps.{BothOf, both_of, grown_good, was_role}
 use Rattle.gs_core.proofs.Believing.{backs_posted, backs_same}
 use Rattle.gs_core.proofs.Seeing.{seen_landed, seen_posted, seen_same, seen_torn}
 use Rattle.gs_core.proofs.Collecting.{Keeps, landed_keeps, landed_stood}
@@ -48,7 +48,11 @@ grown_kept m h w k =
         seen = λ some i b e. w.seen b (t.seen some i b e);
         none_done = t.none_done;
       };
-      knows = record { thinks = n.thinks; own_cpu = λ a p. let r = w.roles in n.own_cpu a (r.active a p) };
+      knows = record {
+        thinks = n.thinks;
+        own_cpu = λ a p. let r = w.roles in n.own_cpu a (r.active a p);
+        idle = λ p. let r = w.roles in n.idle (was_role (attaching m.history) (attaching h) r.attaching p);
+      };
     }
 
 -- by one history, and then another

@@ -9,7 +9,7 @@ use Rattle.gs_slots.specs.declared.state.SlotState.TheVariants.{Stamped}
 use Rattle.gs_slots.specs.State.{collected}
 use Rattle.gs_journal.specs.declared.entry.Entry.TheVariants.{Role}
 use Rattle.gs_journal.specs.Standing.{standing, last_of}
-use Rattle.gs_journal.specs.History.{active}
+use Rattle.gs_journal.specs.History.{active, attaching}
 use Rattle.gs_kernel.specs.Lands.{Landings}
 use Rattle.gs_mind.specs.Mind.{picture_of}
 use Rattle.gs_mind.specs.Picture.{Picture, after_slots, after_stamp}
@@ -20,7 +20,9 @@ use Rattle.gs_core.specs.Machine.{Agent, Plan, State, planning, Drains, Takes, c
 use Rattle.gs_core.specs.Thinks.{Knows, Thinks}
 use Rattle.gs_core.specs.Trust.{NoneDone}
 use Rattle.gs_core.proofs.Left.{AreAfter}
+use Rattle.gs_core.proofs.OneAgent.{not_both}
 use Rattle.gs_core.proofs.Roles.{NoNewRole}
+use Rattle.gs_core.proofs.Steps.{all_idle, was_role}
 use Rattle.gs_core.proofs.Thinking.{own_messages, own_slots, thinks_collected, thinks_first, thinks_messages, thinks_stamp}
 
 -- what a change of its picture makes of what an agent thinks, and of its own CPU
@@ -34,18 +36,19 @@ own_then f None same = refl
 own_then f (Some a) same = same (picture_of a.mind)
 
 -- a stamp, and several of them
-stamp_with : (m : State) (c t : ℕ) (p : Bool) (a : Option (ℕ × ℕ)) (k : Option Known) → Knows m → Knows (stamps_with m c t p a k).1
-stamp_with m c t p None k n = n
-stamp_with m c t p (Some a) None n = n
-stamp_with m c t p (Some a) (Some k) n =
+stamp_with : (m : State) (c t : ℕ) (p : Bool) (a : Option (ℕ × ℕ)) (k : Option Known) → active m.history ≡ a → Knows m → Knows (stamps_with m c t p a k).1
+stamp_with m c t p None k is n = n
+stamp_with m c t p (Some a) None is n = n
+stamp_with m c t p (Some a) (Some k) is n =
     let b : Stamp = stamp_of t p a k in
     record {
       thinks = thinks_then (after_stamp c t) m.agent m.slots (slice_set m.slots c (Stamped b)) (λ q t. thinks_stamp q.cpus m.slots c b t) n.thinks;
       own_cpu = λ x e. own_then (after_stamp c t) m.agent (λ q. refl) ∙ n.own_cpu x e;
+      idle = λ q. absurd (not_both m.history (ap (λ o. is_some o) is) q);
     }
 
 pub knows_stamp : (m : State) (c t : ℕ) (p : Bool) → Knows m → Knows (stamps m c t p).1
-knows_stamp m c t p n = stamp_with m c t p (active m.history) (view m t) n
+knows_stamp m c t p n = stamp_with m c t p (active m.history) (view m t) refl n
 
 pub knows_choices : (m : State) (xs : List Choice) → Knows m → Knows (stamps_all m xs)
 knows_choices m [] n = n
@@ -59,17 +62,19 @@ drained m max c d a r n =
     record {
       thinks = λ some. subst (λ (q : Picture). Thinks q.cpus m.slots) (sym takes.picture) (thinks_messages (picture m) ms m.slots (n.thinks (sym r.stays ∙ some)));
       own_cpu = λ x e. ap (λ (q : Picture). q.cpus.agent) takes.picture ∙ (own_messages (picture m) ms ∙ n.own_cpu x e);
+      idle = n.idle;
     }
 
 pub knows_drain : (m : State) (max : ℕ) (d : Drained) (m' : State) → Drains m max d m' → Knows m → Knows m'
 knows_drain m max d m' r n = subst Knows (sym r.others) (drained m max m'.consumed d m'.agent (subst (Drains m max d) r.others r) n)
 
 -- landings, collected
-pub committed_knows : (m : State) (made : Landings) → AreAfter m.slots made.slots → NoNewRole m.history made.history → NoneDone m.slots → Knows m → Knows (committed m made)
-committed_knows m made after roles none n =
+pub committed_knows : (m : State) (made : Landings) → AreAfter m.slots made.slots → NoNewRole m.history made.history → is_some (active m.history) ≡ true → NoneDone m.slots → Knows m → Knows (committed m made)
+committed_knows m made after roles acts none n =
     record {
       thinks = thinks_then (after_slots 0 made.slots) m.agent m.slots (map collected made.slots) (λ q t. thinks_collected q m.slots made.slots after none t) n.thinks;
       own_cpu = λ x e. own_then (after_slots 0 made.slots) m.agent (own_slots 0 made.slots) ∙ n.own_cpu x (roles.active x e);
+      idle = λ q. absurd (not_both m.history acts (was_role (attaching m.history) (attaching made.history) roles.attaching q));
     }
 
 -- the start
@@ -78,4 +83,4 @@ unfolding active standing last_of
 first_own g c a e = let z : (g, c) ≡ a = cc in ap (λ (x : ℕ × ℕ). Some x.1) z
 
 pub start_knows : {P : Type 0} (chosen : P → Plan) (c : Config P) → Knows (planning chosen (start c))
-start_knows chosen c = record { thinks = λ some. thinks_first c.cpus (Some 0); own_cpu = first_own c.first_generation 0 }
+start_knows chosen c = record { thinks = λ some. thinks_first c.cpus (Some 0); own_cpu = first_own c.first_generation 0; idle = λ q. all_idle c.cpus }

@@ -1,19 +1,21 @@
 -- A role that is added moves the agent, and keeps what the machine keeps.
-use Rattle.std.proofs.Common.{◌≡◌, refl, ap, sym, ◌∙◌, ℕ, true, false, Option, None, Some, [], ◌∷◌, ◌++◌}
+use Rattle.std.proofs.Common.{◌≡◌, refl, ap, sym, ◌∙◌, ℕ, true, false, Option, None, Some, List, [], ◌∷◌, ◌++◌}
 use Rattle.std.specs.Option.{is_some, option_map}
+use Rattle.gs_slots.specs.declared.state.SlotState.{SlotState}
 use Rattle.gs_journal.specs.declared.entry.Entry.{Entry}
 use Rattle.gs_journal.specs.declared.entry.Entry.TheVariants.{Posted, Placed, Role, Begin, Left, Taken, Given, Torn}
-use Rattle.gs_journal.specs.History.{History, active}
+use Rattle.gs_journal.specs.History.{History, active, attaching}
 use Rattle.gs_journal.proofs.Laws.{same_posted}
 use Rattle.gs_threads.proofs.Placing.{on_quiet}
-use Rattle.gs_kernel.proofs.Entries.{active_now}
-use Rattle.gs_core.specs.Machine.{Agent, State, led, page_of, promoted, view}
+use Rattle.gs_kernel.proofs.Entries.{active_now, attaching_ended}
+use Rattle.gs_core.specs.Machine.{Agent, freed_by, led, page_of, promoted, State, view}
 use Rattle.gs_core.specs.Good.{Good}
 use Rattle.gs_core.specs.Thinks.{Knows, Thinks}
 use Rattle.gs_core.specs.Trust.{Trusts}
 use Rattle.gs_core.specs.Held.{Kept}
 use Rattle.gs_core.proofs.Believing.{backs_same}
 use Rattle.gs_core.proofs.Grows.{stood_before}
+use Rattle.gs_core.proofs.OneAgent.{none_there}
 use Rattle.gs_core.proofs.Quiet.{both_quiet}
 use Rattle.gs_core.proofs.Seeing.{seen_same}
 
@@ -45,24 +47,38 @@ promoted_kept m a g c last k =
         seen = λ some i b is. seen_same h h' (view m') b (same_posted h (Role g c) refl) (trusts.seen refl i b is);
         none_done = trusts.none_done;
       };
-      knows = record { thinks = λ some. record { count = mind.count; named = mind.named }; own_cpu = own_now h g c };
+      knows = record {
+        thinks = λ some. record { count = mind.count; named = mind.named };
+        own_cpu = own_now h g c;
+        idle = λ p. absurd (none_there (attaching h') (attaching_ended h g c) p);
+      };
     }
 
--- so it is of the agent that is active
-pub leads_kept : (m : State) (g c : ℕ) → is_some (active m.history) ≡ true → Kept m → Kept (record m { history = m.history ++ Role g c ∷ []; agent = option_map (promoted c) m.agent })
-leads_kept m g c is k = let good : Good m = k.good in by_agent m.agent (good.when_active is) k
+-- so it is of an agent that needs no more pages
+pub leads_kept : (m : State) (g c : ℕ) → page_of m.agent ≡ None → Kept m → Kept (record m { history = m.history ++ Role g c ∷ []; agent = option_map (promoted c) m.agent })
+leads_kept m g c last k = by_agent m.agent last k
   where
     by_agent : (o : Option Agent) → page_of o ≡ None → Kept (record m { agent = o }) → Kept (record m { history = m.history ++ Role g c ∷ []; agent = option_map (promoted c) o })
     by_agent None last k = absurd cc
     by_agent (Some a) last k = promoted_kept m a g c last k
 
--- a tear-down leaves the agent as it was
-pub led_by_none : (e : Entry) (o : Option Agent) → led e false o ≡ o
-led_by_none (Posted k) o = refl
-led_by_none (Placed t q c g) o = refl
-led_by_none (Role g c) o = refl
-led_by_none (Begin g) o = refl
-led_by_none Left o = refl
-led_by_none (Taken c) o = refl
-led_by_none (Given c) o = refl
-led_by_none Torn o = refl
+-- a tear-down leaves the agent and the slots as they were
+pub led_by_none : (cpus : ℕ) (e : Entry) (o : Option Agent) → led cpus e false o ≡ o
+led_by_none cpus (Posted k) o = refl
+led_by_none cpus (Placed t q c g) o = refl
+led_by_none cpus (Role g c) o = refl
+led_by_none cpus (Begin g) o = refl
+led_by_none cpus Left o = refl
+led_by_none cpus (Taken c) o = refl
+led_by_none cpus (Given c) o = refl
+led_by_none cpus Torn o = refl
+
+pub freed_by_none : (cpus : ℕ) (e : Entry) (slots : List SlotState) → freed_by cpus e false slots ≡ slots
+freed_by_none cpus (Posted k) slots = refl
+freed_by_none cpus (Placed t q c g) slots = refl
+freed_by_none cpus (Role g c) slots = refl
+freed_by_none cpus (Begin g) slots = refl
+freed_by_none cpus Left slots = refl
+freed_by_none cpus (Taken c) slots = refl
+freed_by_none cpus (Given c) slots = refl
+freed_by_none cpus Torn slots = refl

@@ -1,4 +1,4 @@
--- Whoever is active or attaches after an event was so before it, but for a hand-off, which brings a new generation.
+-- Whoever is active or attaches after an event was so before it, but where an agent begins, or is active on a CPU from then on.
 use Rattle.std.proofs.Common.{◌≡◌, refl, ap, sym, subst, ◌∙◌, ℕ, Option, None, Some, List, [], ◌∷◌, ◌++◌}
 use Rattle.gs_journal.specs.Standing.{standing, last_of}
 use Rattle.gs_layout.specs.declared.message.Message.{Message}

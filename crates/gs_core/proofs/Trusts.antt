@@ -119,7 +119,7 @@ pub drain_trusts : (m : State) (max : ℕ) (d : Drained) (m' : State) → Good m
 drain_trusts m max d m' g r t = subst Trusts (sym r.others) (drain_trusts_with m max m'.consumed d m'.agent g (subst (Drains m max d) r.others r) t)
 
 -- the start
-none_idle : (n : ℕ) → NoneDone (replicate n Idle)
+pub none_idle : (n : ℕ) → NoneDone (replicate n Idle)
 none_idle zero i b o there q e = absurd cc
 none_idle (suc n) zero b o there q e = absurd cc
 none_idle (suc n) (suc i) b o there q e = none_idle n i b o there q e

@@ -51,7 +51,7 @@ choices_good m (x ∷ xs) below g =
     (stamp_good m x.cpu x.tid x.preempt below.0 g)
 
 -- what a decision plans is of CPUs that there are
-abbrev pub PlansBelow : State → Event → Type 0
+abbrev pub PlansBelow : State → Event Plan → Type 0
 PlansBelow m events.Decide = AreBelow m.settings.cpus (plan_of m)
 PlansBelow m _ = Unit {0}
 

@@ -1,4 +1,5 @@
 -- What the kernel's answer to a command makes of the agent's role, and how the machine answers it.
+use Rattle.std.specs.Prelude.{ℕ, Option, option_map}
 use Rattle.gs_journal.specs.declared.entry.Entry.{Entry}
 use Rattle.gs_journal.specs.declared.entry.Entry.TheVariants.{Role}
 use Rattle.gs_kernel.specs.declared.answer.Answer.{Answer}
@@ -8,16 +9,20 @@ use Rattle.gs_agent.specs.Role.{RoleOf}
 use Rattle.gs_core.specs.declared.reply.Reply.{Reply}
 use Rattle.gs_core.specs.declared.reply.Reply.TheVariants as replies
 
--- a role after an entry: one of the entry's generation, on its CPU
-abbrev pub follows : {P : Type 0} → Entry → RoleOf P → RoleOf P
-follows (Role g c) r = record r { mind = moved c r.mind; generation = g }
-follows _ r = r
+-- a role on a CPU, of a generation
+abbrev pub on_cpu : {P : Type 0} → ℕ → ℕ → RoleOf P → RoleOf P
+on_cpu g c r = record r { mind = moved c r.mind; generation = g }
+
+-- a role, if there is one, after an entry: one of the entry's generation, on its CPU
+abbrev pub follows : {P : Type 0} → Entry → Option (RoleOf P) → Option (RoleOf P)
+follows (Role g c) o = option_map (on_cpu g c) o
+follows _ o = o
 
 -- after an answer, by the last entry that was added, if any was
-abbrev pub answered : {P : Type 0} → Answer → RoleOf P → RoleOf P
-answered (answers.Refused f) r = r
-answered answers.Torn r = r
-answered (answers.Done e) r = follows e r
+abbrev pub answered : {P : Type 0} → Answer → Option (RoleOf P) → Option (RoleOf P)
+answered (answers.Refused f) o = o
+answered answers.Torn o = o
+answered (answers.Done e) o = follows e o
 
 -- what is answered, by what the kernel answered
 abbrev pub reply_of : Answer → Reply

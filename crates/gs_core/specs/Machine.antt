@@ -1,5 +1,5 @@
 -- The machine: what each event answers and leaves.
-use Rattle.std.specs.Prelude.{Bool, true, false, not, ◌||◌, ◌&&◌, ℕ, zero, suc, ◌+◌, ◌-◌, ◌<◌, ◌≤◌, ◌≡◌, ◌⊎◌, nat_le, nat_lt, min, Option, None, Some, IsSome, List, [], ◌∷◌, ◌++◌, length, take, drop, slice_get, slice_set, map, replicate, is_some, option_map}
+use Rattle.std.specs.Prelude.{Bool, true, false, not, ◌||◌, ◌&&◌, ℕ, zero, suc, ◌+◌, ◌-◌, ◌<◌, ◌≤◌, ◌≡◌, ◌⊎◌, nat_le, nat_lt, min, Option, None, Some, IsSome, List, [], ◌∷◌, ◌++◌, length, take, drop, slice_get, slice_set, map, replicate, is_some, is_none, option_map, unwrap_or}
 use Rattle.std.specs.List.{list_any, count_by}
 use Rattle.gs_layout.specs.declared.message.Message.{Message}
 use Rattle.gs_layout.specs.declared.known.Known.{Known}
@@ -10,25 +10,30 @@ use Rattle.gs_layout.specs.declared.refusal.Refusal.{Refusal}
 use Rattle.gs_layout.specs.declared.refusal.Refusal.TheVariants as refusals
 use Rattle.gs_layout.specs.View.{Look, look_up, words, catch_up, is_gap, is_skipped, is_orphan, gap_next}
 use Rattle.gs_journal.specs.declared.entry.Entry.{Entry}
-use Rattle.gs_journal.specs.declared.entry.Entry.TheVariants.{Role}
+use Rattle.gs_journal.specs.declared.entry.Entry.TheVariants.{Role, Begin, Left}
 use Rattle.gs_journal.specs.History.{History, posted, active, attaching, taken, torn}
 use Rattle.gs_journal.specs.State.{unread_after}
 use Rattle.gs_kernel.specs.declared.settings.Settings.{Settings}
-use Rattle.gs_slots.specs.State.{collected}
+use Rattle.gs_slots.specs.State.{collected, is_stamped}
 use Rattle.gs_kernel.specs.Commit.{standing_commit_refusal}
 use Rattle.gs_kernel.specs.declared.landing.Landing.{Landing}
 use Rattle.gs_kernel.specs.declared.command.Command.{Command}
+use Rattle.gs_kernel.specs.declared.command.Command.TheVariants as commands
 use Rattle.gs_kernel.specs.Legal.{Room, Tells, effect, last_in, standing_refusal as command_refusal}
 use Rattle.gs_kernel.specs.Lands.{Landings, Lands, LandsAll}
 use Rattle.gs_kernel.specs.First.{first_that}
 use Rattle.gs_kernel.specs.Kernel.{has_agent, unless_torn}
 use Rattle.gs_kernel.specs.Shown.{live_threads}
+use Rattle.gs_kernel.specs.Attaching.{page_refusal}
+use Rattle.gs_kernel.specs.Dumped.{dumped}
+use Rattle.gs_dump.specs.Page.{Contents, page_spelling}
 use Rattle.gs_ring.specs.Places.{free_after, need, record_len, written}
 use Rattle.gs_policy.specs.Shown.{Shown}
 use Rattle.gs_policy.specs.declared.choice.Choice.{Choice}
 use Rattle.gs_view.specs.Begins.{begins}
 use Rattle.gs_mind.specs.Mind.{MindState, moved, nothing, picture_of, shown_in, thinks}
 use Rattle.gs_mind.specs.Picture.{Picture, after_slots, after_stamp, takes_in_all}
+use Rattle.gs_mind.specs.Pages.{after_page}
 use Rattle.gs_view.specs.Shown.{tids}
 use Rattle.std.specs.List.Sorted.{IsStrictlyIncreasing}
 use Rattle.gs_core.specs.declared.config.Config.{Config}
@@ -80,6 +85,21 @@ planning chosen m =
       transactions = m.transactions;
     }
 
+-- an event whose policy, where it names one, plans so
+abbrev pub planned : {P Q : Type 0} → (P → Q) → Event P → Event Q
+planned f (events.Kernel c) = events.Kernel c
+planned f events.Crash = events.Crash
+planned f (events.Begin p) = events.Begin (f p)
+planned f (events.Page max) = events.Page max
+planned f (events.Drain max) = events.Drain max
+planned f (events.Stamp c t p) = events.Stamp c t p
+planned f events.Decide = events.Decide
+planned f (events.Commit mask) = events.Commit mask
+planned f (events.Late n) = events.Late n
+planned f events.View = events.View
+planned f events.State = events.State
+planned f events.Unread = events.Unread
+
 -- what an agent has in mind: nothing, where there is none
 abbrev pub mind_of : Option Agent → MindState
 mind_of None = nothing 0 None
@@ -106,10 +126,22 @@ thinking f a = record a { mind = thinks a.mind (f (picture_of a.mind)) }
 abbrev pub promoted : ℕ → Agent → Agent
 promoted c a = record a { mind = moved c a.mind }
 
--- the agent after a command, by the last entry that it adds and whether that was added: a role moves it to the role's CPU
-abbrev pub led : Entry → Bool → Option Agent → Option Agent
-led (Role g c) true o = option_map (promoted c) o
-led _ _ o = o
+-- an agent that begins to attach in an enclave of so many CPUs: it has nothing in mind yet, and its first page begins at the first tid
+abbrev pub newcomer : ℕ → Agent
+newcomer cpus = record { mind = nothing cpus None; next = Some 1 }
+
+-- the agent after a command, in an enclave of so many CPUs, by the last entry that the command adds and whether that was added: a role moves
+-- it to the role's CPU, one that left is gone, and where one begins it is a new one
+abbrev pub led : ℕ → Entry → Bool → Option Agent → Option Agent
+led cpus (Role g c) true o = option_map (promoted c) o
+led cpus (Begin g) true o = Some (newcomer cpus)
+led cpus Left true o = None
+led cpus _ _ o = o
+
+-- the slots after it: where an agent begins they are idle
+abbrev pub freed_by : ℕ → Entry → Bool → List SlotState → List SlotState
+freed_by cpus (Begin g) true slots = replicate cpus Idle
+freed_by cpus _ _ slots = slots
 
 -- the messages that were posted and not yet consumed
 abbrev pub unread : State → List Message
@@ -140,9 +172,32 @@ abbrev pub without_agent : State → Option Refusal → Option Refusal
 without_agent m other =
     first_that ((not (is_some (active m.history)), Some refusals.NotActive) ∷ []) other
 
+-- whether the agent was given the last page
+abbrev pub is_given_all : State → Bool
+is_given_all m = is_none (page_of m.agent)
+
+-- whether the agent stays with a command: it does not go, and none begins
+abbrev pub stays_with : Command → Bool
+stays_with commands.Leave = false
+stays_with commands.Begin = false
+stays_with _ = true
+
+-- the first refusal of a command that the kernel has
+abbrev pub kernel_refusal : State → Command → Option Refusal
+kernel_refusal m c = command_refusal m.settings m.history (is_given_all m) c
+
+-- the first refusal of a command: an agent does not leave while a slot is stamped
+abbrev pub told_refusal : State → Command → Option Refusal
+told_refusal m commands.Leave =
+    first_that ((not (has_agent m.history), Some refusals.NotActive) ∷ (list_any is_stamped m.slots, Some refusals.SlotOpen) ∷ []) (kernel_refusal m commands.Leave)
+told_refusal m c = kernel_refusal m c
+
 -- the first refusal of an event whose condition holds while the enclave stands
-abbrev pub standing_refusal : State → Event → Option Refusal
-standing_refusal m (events.Kernel c) = command_refusal m.settings m.history c
+abbrev pub standing_refusal : State → Event Plan → Option Refusal
+standing_refusal m (events.Kernel c) = told_refusal m c
+standing_refusal m events.Crash = kernel_refusal m commands.Leave
+standing_refusal m (events.Begin p) = kernel_refusal m commands.Begin
+standing_refusal m (events.Page max) = page_refusal m.history (is_given_all m)
 standing_refusal m (events.Drain max) = first_that ((not (has_agent m.history), Some refusals.NotActive) ∷ []) None
 standing_refusal m (events.Stamp c t p) =
     without_agent m (
@@ -163,7 +218,7 @@ standing_refusal m events.State = None
 standing_refusal m events.Unread = None
 
 -- the first refusal of an event whose condition holds
-abbrev pub refusal : State → Event → Option Refusal
+abbrev pub refusal : State → Event Plan → Option Refusal
 refusal m e = unless_torn m.history (standing_refusal m e)
 
 -- whether a message fits behind a history into a ring of so many bytes, of which so many messages were consumed: it takes up no more
@@ -184,13 +239,16 @@ abbrev pub carried : State → Command → Bool → Reply
 carried m c true = replies.Done (last_in (effect m.settings m.history c))
 carried m c false = replies.Torn
 
--- a command is carried out, or tears the enclave down, as its message fits or does not; a hand-off moves the agent, and keeps what it has in
--- mind, the slots and the transactions
+-- a command is carried out, or tears the enclave down, as its message fits or does not; agent and slots follow it, and all else stays
 pub record Carries (m : State) (c : Command) (r : Reply) (m' : State) : Type 0 where
   pub fit : Bool
   pub reply : r ≡ carried m c fit
   pub tells : Tells (fits m) m.history (effect m.settings m.history c) fit m'.history
-  pub others : m' ≡ record m { history = m'.history; agent = led (last_in (effect m.settings m.history c)) fit m.agent }
+  pub others : m' ≡ record m {
+    history = m'.history;
+    agent = led m.settings.cpus (last_in (effect m.settings m.history c)) fit m.agent;
+    slots = freed_by m.settings.cpus (last_in (effect m.settings m.history c)) fit m.slots;
+  }
 
 -- what is stamped: the active generation, the record's sequence number, and whether a thread on the CPU is to be taken off
 abbrev pub stamp_of : ℕ → Bool → (ℕ × ℕ) → Known → Stamp
@@ -278,9 +336,36 @@ pub record IsListOf (v : Look) (xs : List (ℕ × Known)) : Type 0 where
 abbrev pub Shows : Look → Reply → Type 0
 Shows v r = (xs : List (ℕ × Known)) × (r ≡ replies.View xs) × IsListOf v xs
 
+-- an agent crashed: it is gone, and no other attaches yet
+abbrev pub crashed : State → State
+crashed m = record m { history = m.history ++ Left ∷ []; agent = None }
+
+-- the page that begins where the agent's next one does, of so many threads at most
+abbrev pub next_dump : State → ℕ → Contents
+next_dump m max = dumped m.settings m.history (unwrap_or (page_of m.agent) 0) max
+
+-- what is answered to a page: how many threads it tells of, where the next one begins, and its bytes
+abbrev pub page_reply : Contents → Reply
+page_reply p = replies.Page (length p.records) p.next (page_spelling p)
+
+-- the agent that attaches is told of the next threads that live
+pub record Attaches (m : State) (max : ℕ) (r : Reply) (m' : State) : Type 0 where
+  pub reply : r ≡ page_reply (next_dump m max)
+  pub known : picture m' ≡ after_page (next_dump m max).records (picture m)
+  pub page : page_of m'.agent ≡ (next_dump m max).next
+  pub stays : is_some m'.agent ≡ is_some m.agent
+  pub others : m' ≡ record m { agent = m'.agent }
+
+-- a machine that plans by another policy
+abbrev pub planned_by : Plan → State → State
+planned_by p m = record m { policy = p }
+
 -- what an event answers and leaves that is not refused and finds memory; a drain and a look at the view have their own words
-abbrev pub Does : State → Event → Reply → State → Type 0
+abbrev pub Does : State → Event Plan → Reply → State → Type 0
 Does m (events.Kernel c) r m' = Carries m c r m'
+Does m events.Crash r m' = (r ≡ replies.Crashed) × (m' ≡ crashed m)
+Does m (events.Begin p) r m' = Carries (planned_by p m) commands.Begin r m'
+Does m (events.Page max) r m' = Attaches m max r m'
 Does m (events.Drain max) r m' = (d : Drained) × (r ≡ replies.Drained d) × Drains m max d m'
 Does m (events.Stamp c t p) r m' = (r ≡ (stamps m c t p).0) × (m' ≡ (stamps m c t p).1)
 Does m events.Decide r m' = (r ≡ (decides m).0) × (m' ≡ (decides m).1)
@@ -291,17 +376,17 @@ Does m events.State r m' = (r ≡ replies.State (live_threads m.settings m.histo
 Does m events.Unread r m' = (r ≡ replies.Unread (unread m)) × (m' ≡ m)
 
 -- want of memory refuses an event; a drain stops in place of that
-abbrev pub IsShort : Event → Reply → Type 0
+abbrev pub IsShort : {P : Type 0} → Event P → Reply → Type 0
 IsShort (events.Drain max) r = ⊥
 IsShort e r = r ≡ replies.Refused refusals.OutOfMemory
 
 -- what is refused changes nothing; what is not is done, or there was no memory and nothing changed
-abbrev pub Serves : Option Refusal → State → Event → Reply → State → Type 0
+abbrev pub Serves : Option Refusal → State → Event Plan → Reply → State → Type 0
 Serves (Some f) m e r m' = (r ≡ replies.Refused f) × (m' ≡ m)
 Serves None m e r m' = Does m e r m' ⊎ (IsShort e r × (m' ≡ m))
 
 -- from m an event may answer r and leave m'
-abbrev pub Step : State → Event → Reply → State → Type 0
+abbrev pub Step : State → Event Plan → Reply → State → Type 0
 Step m e r m' = Serves (refusal m e) m e r m'
 
 -- the machine before the first event

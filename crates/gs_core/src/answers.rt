@@ -8,9 +8,9 @@ use gs_agent::Role;
 use gs_journal::Entry;
 use gs_kernel::Answer;
 
-/// The role of the agent follows an answer: where a new generation of it is active on another CPU, it is
-/// promoted to that.
-pub(crate) fn follow_answer<P>(role: &mut Role<P>, answer: &Answer)
+/// The role of the agent, where there is one, follows an answer: where a generation of it is active on a CPU,
+/// it is promoted to that.
+pub(crate) fn follow_answer<P>(role: &mut Option<Role<P>>, answer: &Answer)
     ensures { role.new ≡ answered answer.now role.old }
 {
     if let Answer::Done { entry } = answer {
@@ -19,11 +19,13 @@ pub(crate) fn follow_answer<P>(role: &mut Role<P>, answer: &Answer)
 }
 
 /// The role follows the last entry that was added.
-fn follow<P>(role: &mut Role<P>, entry: &Entry)
+fn follow<P>(role: &mut Option<Role<P>>, entry: &Entry)
     ensures { role.new ≡ follows entry.now role.old }
 {
     if let Entry::Role { generation, cpu } = entry {
-        role.promote(*generation, *cpu);
+        if let Some(role) = role {
+            role.promote(*generation, *cpu);
+        }
     }
 }
 

@@ -1,14 +1,17 @@
-ghost use Rattle.std.specs.Prelude.{◌≡◌, ℕ, None, Some, IfOk, IfErr, IfSome, OnOk, OnErr, is_some, true, false};
+ghost use Rattle.std.specs.Prelude.{◌≡◌, ℕ, None, Some, IfOk, IfErr, IfSome, OnOk, OnErr, is_some, map, true, false};
 ghost use Rattle.std.specs.Option.{option_map};
 ghost use Rattle.gs_kernel.specs.Kernel.{IsRefusal};
 ghost use Rattle.gs_core.specs.Config.{config_fault, IsFault};
-ghost use Rattle.gs_core.specs.Machine.{Agent, Step, decides, mind_of, plan_of, planning, standing_refusal, start, stamps, transaction_of, unread, without_agent};
+ghost use denote.Ref.{Bor};
+ghost use Rattle.gs_agent.specs.Role.{RoleOf};
+ghost use Rattle.gs_core.specs.Held.{agent_of};
+ghost use Rattle.gs_core.specs.Machine.{Step, decides, mind_of, plan_of, planned, planning, standing_refusal, start, stamps, transaction_of, unread, without_agent};
+ghost use Rattle.gs_core.specs.Policies.{policy_after, policy_after_all};
 ghost use Rattle.gs_core.specs.Desk.{AreBelow, AreStampable};
 ghost use Rattle.gs_journal.specs.History.{active, posted, torn};
 ghost use Rattle.gs_ring.specs.Ends.{Posted};
 ghost use Rattle.gs_core.specs.Safe.{Safe, IsFaithful, Run};
 
-use crate::answers::{follow_answer, reply};
 use crate::config::{Config, ConfigFault};
 use crate::event::Event;
 use crate::items::Items;
@@ -18,7 +21,7 @@ use crate::stamping::{stamp_all, stamp_choice};
 use crate::transaction::Transaction;
 use crate::unread::waiting;
 use gs_agent::Role;
-use gs_kernel::{Command, Kernel};
+use gs_kernel::Kernel;
 use gs_layout::Refusal;
 use gs_policy::{Choice, Counted};
 use gs_ring::ByteRing;
@@ -31,11 +34,12 @@ use std::marker::Model;
 /// which the agent tells the kernel its decisions (after the ghOSt paper, SOSP 2021).
 #[derive(Drop)]
 pub struct Machine<P: Counted> {
-    alloc: Global,
-    kernel: Kernel<ByteRing>,
-    policy: P,
-    role: Role<P>,
-    region: Region,
+    pub(crate) alloc: Global,
+    pub(crate) kernel: Kernel<ByteRing>,
+    pub(crate) policy: P,
+    /// The role of the agent, where one is active or attaches.
+    pub(crate) role: Option<Role<P>>,
+    pub(crate) region: Region,
     transactions: Vec<Transaction>,
 }
 
@@ -101,21 +105,21 @@ impl<P: Counted + Copy> Machine<P> {
             alloc,
             kernel,
             policy: config.policy,
-            role,
+            role: Some(role),
             region,
             transactions: Vec::new(alloc),
         })
     }
 
-    /// The role of the agent, to look at. It plans by the machine's policy, and while an agent is active, it
-    /// is of the active generation and takes the active agent's CPU for its own.
-    pub fn role(&self) -> &Role<P>
-        ensures mind { Some result.now.mind ≡ option_map (λ (a : Agent). a.mind) self.now.agent }
-        ensures policy { result.now.policy ≡ self.now.policy }
-        ensures generation { (a : ℕ × ℕ) → active self.now.history ≡ Some a → result.now.generation ≡ a.0 }
-        ensures cpu { (a : ℕ × ℕ) → active self.now.history ≡ Some a → result.now.mind.cpus.agent ≡ Some a.1 }
+    /// The role of the agent, to look at, where one is active or attaches. It plans by the machine's policy, and
+    /// while an agent is active, it is of the active generation and takes the active agent's CPU for its own.
+    pub fn role(&self) -> Option<&Role<P>>
+        ensures agent { option_map (λ (r : Bor (RoleOf P)). agent_of r.now) result ≡ self.now.agent }
+        ensures policy { IfSome result (λ r. r.now.policy ≡ self.now.policy) }
+        ensures generation { IfSome result (λ r. (a : ℕ × ℕ) → active self.now.history ≡ Some a → r.now.generation ≡ a.0) }
+        ensures cpu { IfSome result (λ r. (a : ℕ × ℕ) → active self.now.history ≡ Some a → r.now.mind.cpus.agent ≡ Some a.1) }
     {
-        &self.role
+        self.role.as_ref()
     }
 
     /// The slots of all CPUs, to look at.
@@ -153,16 +157,6 @@ impl<P: Counted + Copy> Machine<P> {
         Some((transaction.cpu, transaction.slot))
     }
 
-    fn serve(&mut self, command: &Command) -> Reply
-        requires { torn self.old.history ≡ false }
-        ensures step { Step (planning P.chosen self.old) (Event.Kernel command.now) result (planning P.chosen self.new) }
-        ensures policy { self.new.policy ≡ self.old.policy }
-    {
-        let answer = self.kernel.serve(command);
-        follow_answer(&mut self.role, &answer);
-        reply(answer)
-    }
-
     fn drain(&mut self, max: u32) -> Reply
         requires { torn self.old.history ≡ false }
         ensures step { Step (planning P.chosen self.old) (Event.Drain max) result (planning P.chosen self.new) }
@@ -171,8 +165,11 @@ impl<P: Counted + Copy> Machine<P> {
         if !self.kernel.has_agent() {
             return Reply::Refused(Refusal::NotActive);
         }
+        let Some(role) = &mut self.role else {
+            unreachable!()
+        };
         let mut head = self.kernel.taker();
-        Reply::Drained(self.role.drain(&mut head, max))
+        Reply::Drained(role.drain(&mut head, max))
     }
 
     fn view(&self) -> Reply
@@ -183,7 +180,10 @@ impl<P: Counted + Copy> Machine<P> {
         if !has_agent {
             return Reply::Refused(Refusal::NotActive);
         }
-        match known_threads(self.alloc, self.role.view()) {
+        let Some(role) = &self.role else {
+            unreachable!()
+        };
+        match known_threads(self.alloc, role.view()) {
             Ok(threads) => Reply::View(Items::new(threads)),
             Err(_) => Reply::Refused(Refusal::OutOfMemory),
         }
@@ -244,7 +244,10 @@ impl<P: Counted + Copy> Machine<P> {
         if cpu >= self.region.cpus() {
             return Err(Refusal::BadCpu);
         }
-        let Some(known) = known_of(self.role.view(), tid) else {
+        let Some(role) = &mut self.role else {
+            unreachable!()
+        };
+        let Some(known) = known_of(role.view(), tid) else {
             return Err(Refusal::NoThread);
         };
         let Ok(SlotState::Idle) = self.region.state(cpu) else {
@@ -258,7 +261,7 @@ impl<P: Counted + Copy> Machine<P> {
             return Err(Refusal::OutOfMemory);
         }
         stamp_choice(
-            &mut self.role,
+            role,
             &mut self.region,
             &mut self.transactions,
             Choice { cpu, tid, preempt },
@@ -291,12 +294,15 @@ impl<P: Counted + Copy> Machine<P> {
         ensures unchanged { OnErr result (self.new ≡ self.old) }
     {
         let choices = self.plan()?;
+        let Some(role) = &mut self.role else {
+            unreachable!()
+        };
         let first = self.transactions.len() + 1;
         if self.transactions.reserve(choices.len()).is_err() {
             return Err(Refusal::OutOfMemory);
         }
         stamp_all(
-            &mut self.role,
+            role,
             &mut self.region,
             &mut self.transactions,
             choices.as_slice(),
@@ -317,11 +323,14 @@ impl<P: Counted + Copy> Machine<P> {
         let taken = self.kernel.taken();
         let history = self.kernel.settings().history as usize;
         let room = history.saturating_sub(self.transactions.len());
-        match self.role.decide(self.alloc, taken) {
+        let Some(role) = &self.role else {
+            unreachable!()
+        };
+        match role.decide(self.alloc, taken) {
             Ok(choices) if choices.len() > room => Err(Refusal::HistoryFull),
             Ok(choices) => Ok(choices),
             Err(_) => {
-                if self.role.count(taken) > room {
+                if role.count(taken) > room {
                     return Err(Refusal::HistoryFull);
                 }
                 Err(Refusal::OutOfMemory)
@@ -336,7 +345,10 @@ impl<P: Counted + Copy> Machine<P> {
     {
         match self.kernel.txns_commit(self.alloc, &mut self.region, mask) {
             Ok(landings) => {
-                self.role.collect(&mut self.region);
+                let Some(role) = &mut self.role else {
+                    unreachable!()
+                };
+                role.collect(&mut self.region);
                 Reply::Landed {
                     landings: Items::new(landings),
                     torn: self.kernel.is_torn(),
@@ -365,11 +377,11 @@ impl<P: Counted + Copy> Machine<P> {
     }
 
     /// One event. It is refused by the first refusal that applies, and changes nothing then.
-    pub fn step(&mut self, event: &Event) -> Reply
-        ensures step { Step (planning P.chosen self.old) event.now result (planning P.chosen self.new) }
+    pub fn step(&mut self, event: &Event<P>) -> Reply
+        ensures step { Step (planning P.chosen self.old) (planned P.chosen event.now) result (planning P.chosen self.new) }
         ensures safe { Safe (planning P.chosen self.new) }
         ensures faithful { IsFaithful (planning P.chosen self.new) }
-        ensures policy { self.new.policy ≡ self.old.policy }
+        ensures policy { self.new.policy ≡ policy_after event.now result self.old.policy }
     {
         let reply = if self.kernel.is_torn() {
             Reply::Refused(Refusal::Gone)
@@ -382,13 +394,16 @@ impl<P: Counted + Copy> Machine<P> {
     }
 
     /// One event while the enclave stands.
-    fn standing_step(&mut self, event: &Event) -> Reply
+    fn standing_step(&mut self, event: &Event<P>) -> Reply
         requires { torn self.old.history ≡ false }
-        ensures step { Step (planning P.chosen self.old) event.now result (planning P.chosen self.new) }
-        ensures policy { self.new.policy ≡ self.old.policy }
+        ensures step { Step (planning P.chosen self.old) (planned P.chosen event.now) result (planning P.chosen self.new) }
+        ensures policy { self.new.policy ≡ policy_after event.now result self.old.policy }
     {
         match event {
-            Event::Kernel { command } => self.serve(command),
+            Event::Kernel { command } => self.tell(command),
+            Event::Crash => self.crash(),
+            Event::Begin { policy } => self.begin(*policy),
+            Event::Page { max } => self.page(*max),
             Event::Drain { max } => self.drain(*max),
             Event::Stamp { cpu, tid, preempt } => self.stamp(*cpu, *tid, *preempt),
             Event::Decide => self.decide(),
@@ -405,9 +420,9 @@ impl<P: Counted + Copy> Machine<P> {
     /// # Errors
     ///
     /// Where there is no memory for the replies. Then no event ran.
-    pub fn run(&mut self, events: &[Event]) -> Result<Vec<Reply>, AllocError>
-        ensures run { IfOk result (λ replies. Run (planning P.chosen self.old) events.now replies.items (planning P.chosen self.new)) }
-        ensures policy { self.new.policy ≡ self.old.policy }
+    pub fn run(&mut self, events: &[Event<P>]) -> Result<Vec<Reply>, AllocError>
+        ensures run { IfOk result (λ replies. Run (planning P.chosen self.old) (map (planned P.chosen) events.now) replies.items (planning P.chosen self.new)) }
+        ensures policy { IfOk result (λ replies. self.new.policy ≡ policy_after_all events.now replies.items self.old.policy) }
         ensures unchanged { OnErr result (self.new ≡ self.old) }
     {
         let mut replies = Vec::with_capacity(self.alloc, events.len())?;

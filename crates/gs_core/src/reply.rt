@@ -13,8 +13,19 @@ pub enum Reply {
     /// The event's message did not fit into the ring, and the enclave was torn down.
     Torn,
     /// The kernel did what it was told. This is the last entry that it added to the journal: what was
-    /// posted, taken or given, or the role that an agent was given.
+    /// posted, taken or given, the role that an agent was given, that one left, or that one began to attach.
     Done(Entry),
+    /// The agent crashed.
+    Crashed,
+    /// The agent that attaches was told of threads that live.
+    Page {
+        /// Of how many.
+        count: u16,
+        /// Where the next page begins, or `None` on the last page.
+        next: Option<u32>,
+        /// The page, as bytes.
+        bytes: Items<u8>,
+    },
     /// How many messages the agent took in, what they were to it, and why it stopped early, where it did.
     Drained(Drained),
     /// A transaction was stamped.

@@ -7,25 +7,33 @@ use Rattle.gs_layout.specs.declared.message.TheConstants.{MOST_TIDS}
 use Rattle.gs_layout.specs.declared.message.Message.{Message}
 use Rattle.gs_layout.specs.declared.message.Message.TheVariants.{Thread, TimerTick}
 use Rattle.gs_journal.specs.declared.entry.Entry.{Entry}
-use Rattle.gs_journal.specs.declared.entry.Entry.TheVariants.{Posted, Placed, Role, Taken, Given}
+use Rattle.gs_journal.specs.declared.entry.Entry.TheVariants.{Posted, Placed, Role, Begin, Left, Taken, Given, Torn}
 use Rattle.gs_threads.specs.declared.row.ThreadRow.{ThreadRow}
 use Rattle.gs_threads.specs.Rows.{new_row}
 use Rattle.gs_threads.specs.Table.{rows_after, rows_placed}
 use Rattle.gs_status.specs.Masks.{has}
 use Rattle.gs_status.specs.declared.mask.TheConstants.{MOST_CPUS}
-use Rattle.gs_journal.specs.History.{History, posted, on, record_in, active, attaching, taken, taken_by, torn}
+use Rattle.gs_journal.specs.History.{History, posted, on, record_in, active, attaching, generation, taken, taken_by, torn}
 use Rattle.gs_journal.specs.JournalState.{JournalState}
 use Rattle.gs_threads.specs.Table.{TableState}
 use Rattle.gs_threads.specs.Mirrors.{Mirrors}
 use Rattle.gs_kernel.specs.declared.settings.Settings.{Settings}
+use Rattle.gs_kernel.specs.declared.agents.Agents.{Agents}
 use Rattle.gs_kernel.specs.declared.effect.Effect.{Effect}
 use Rattle.gs_kernel.specs.declared.effect.Effect.TheVariants.{Post, Append}
 use Rattle.gs_kernel.specs.Settings.{IsInRange}
-use Rattle.gs_kernel.specs.Threads.{may_be_on}
+use Rattle.gs_kernel.specs.Threads.{HasMask, may_be_on}
 
--- the rows of threads mirror the history; there is a seat for each CPU, with the thread that is on it, which may run there; the mask has
--- the CPUs that the other class holds; the agent is the active one; no agent ever attached
-pub record IsKept (s : Settings) (h : History) (t : TableState) (running : List (Option ℕ)) (held : ℕ) (a : Option (ℕ × ℕ)) (down : Bool) : Type 0 where
+-- the active agent, the one that attaches, and the generation that was given last, are the history's
+pub record AgentsAre (a : Agents) (h : History) : Type 0 where
+  pub active : a.active ≡ active h
+  pub attaching : a.attaching ≡ attaching h
+  pub generation : generation h ≡ Some a.generation
+
+-- The rows of threads mirror the history. There is a seat for each CPU, with the thread that is on it, which may run there. The mask has
+-- the CPUs that the other class holds. Each thread that lives has a CPU in its mask. The agents are the history's, and so is whether the
+-- enclave was torn down.
+pub record IsKept (s : Settings) (h : History) (t : TableState) (running : List (Option ℕ)) (held : ℕ) (a : Agents) (down : Bool) : Type 0 where
   pub rows : Mirrors s.first_tseq h t.rows
   pub first : t.first_tseq ≡ s.first_tseq
   pub few : length t.rows ≤ MOST_TIDS
@@ -34,8 +42,8 @@ pub record IsKept (s : Settings) (h : History) (t : TableState) (running : List 
   pub below : (t c : ℕ) → on h c ≡ Some t → c < s.cpus
   pub allowed : (t c : ℕ) → on h c ≡ Some t → may_be_on c (record_in h t) ≡ true
   pub held_by_other : (c : ℕ) → has held c ≡ taken h c
-  pub agent : a ≡ active h
-  pub never_begun : attaching h ≡ None
+  pub masked : (t : ℕ) → HasMask (record_in h t)
+  pub agents : AgentsAre a h
   pub down_when_torn : down ≡ torn h
 
 -- the facts of the thread that a message creates, if it does
@@ -107,10 +115,17 @@ abbrev pub held_by : Option Entry → ℕ → Bool → Bool
 held_by None c held = held
 held_by (Some e) c held = unwrap_or (taken_by c e) held
 
--- the active agent after an entry, if there is one
-abbrev pub agent_by : Option Entry → Option (ℕ × ℕ) → Option (ℕ × ℕ)
-agent_by (Some (Role g c)) a = Some (g, c)
-agent_by _ a = a
+-- no agent is active, and none attaches
+abbrev pub gone : Agents → Agents
+gone a = record { active = None; attaching = None; generation = a.generation }
+
+-- the agents after an entry, if there is one
+abbrev pub agents_by : Option Entry → Agents → Agents
+agents_by (Some (Role g c)) a = record { active = Some (g, c); attaching = None; generation = g }
+agents_by (Some (Begin g)) a = record { active = None; attaching = Some g; generation = g }
+agents_by (Some Left) a = gone a
+agents_by (Some Torn) a = gone a
+agents_by _ a = a
 
 -- the CPU that an entry says to be held or not, if it does, is one that there may be
 abbrev pub HoldsNear : Entry → Type 0
@@ -119,7 +134,7 @@ HoldsNear (Given c) = c < MOST_CPUS
 HoldsNear _ = Unit {0}
 
 -- what was sent to the ring is what was posted
-pub record IsKernel (sent : List Message → Type 0) (s : Settings) (j : JournalState) (t : TableState) (running : List (Option ℕ)) (held : ℕ) (a : Option (ℕ × ℕ)) (down : Bool) : Type 0 where
+pub record IsKernel (sent : List Message → Type 0) (s : Settings) (j : JournalState) (t : TableState) (running : List (Option ℕ)) (held : ℕ) (a : Agents) (down : Bool) : Type 0 where
   pub in_range : IsInRange s
   pub limit : j.limit ≡ s.history
   pub first : j.first_tseq ≡ s.first_tseq

@@ -21,13 +21,14 @@ use Rattle.gs_threads.specs.Rows.{is_live}
 use Rattle.gs_kernel.specs.Threads.{is_runnable}
 
 -- what a kernel is to its callers: its numbers, its history, how many more entries may be appended and threads created without more
--- memory, and the end of the ring that it posts to
+-- memory, the end of the ring that it posts to, and whether the last page was given since the last begin
 pub record KernelOf (P : Type 0) : Type 0 where
   pub settings : Settings
   pub history : List Entry
   pub room : ℕ
   pub rows : ℕ
   pub poster : P
+  pub paged : Bool
 
 -- the kernels are the same, their rings aside
 pub record SameKernel {P : Type 0} (a b : KernelOf P) : Type 0 where
@@ -35,6 +36,7 @@ pub record SameKernel {P : Type 0} (a b : KernelOf P) : Type 0 where
   pub history : b.history ≡ a.history
   pub room : b.room ≡ a.room
   pub rows : b.rows ≡ a.rows
+  pub pages : b.paged ≡ a.paged
 
 -- a mask that names no CPU, or one past the last
 abbrev pub is_bad_mask : Settings → ℕ → Bool

@@ -81,7 +81,8 @@ pub record Adds (R : Landings → Type 0) (before after : List Landing) (left : 
 -- this is what a command adds that nothing refuses
 pub record IsDue (s : Settings) (h : History) (x : Effect) : Type 0 where
   pub command : Command
-  pub free : refusal s h command ≡ None
+  pub given : Bool
+  pub free : refusal s h given command ≡ None
   pub effect_is : x ≡ effect s h command
 
 -- this is what a transaction adds that is to be placed

@@ -1,12 +1,12 @@
 -- A legal step of the kernel, over histories alone.
-use Rattle.std.specs.Prelude.{Bool, true, false, ℕ, ◌≡◌, Option, None, Some, IfSome, List, [], ◌++◌, ◌∷◌}
+use Rattle.std.specs.Prelude.{Bool, true, false, ℕ, ◌≡◌, Option, None, Some, IfSome, List, [], ◌++◌, ◌∷◌, unwrap_or}
 use Rattle.gs_layout.specs.declared.message.Message.{Message}
 use Rattle.gs_layout.specs.declared.message.Message.TheVariants.{TimerTick}
 use Rattle.gs_layout.specs.declared.refusal.Refusal.{Refusal}
 use Rattle.gs_layout.specs.declared.refusal.Refusal.TheVariants as refusals
 use Rattle.gs_journal.specs.declared.entry.Entry.{Entry}
-use Rattle.gs_journal.specs.declared.entry.Entry.TheVariants.{Posted, Role, Taken, Given, Torn}
-use Rattle.gs_journal.specs.History.{History, posted}
+use Rattle.gs_journal.specs.declared.entry.Entry.TheVariants.{Posted, Role, Begin, Left, Taken, Given, Torn}
+use Rattle.gs_journal.specs.History.{History, attaching, posted}
 use Rattle.gs_kernel.specs.First.{first_that}
 use Rattle.gs_kernel.specs.declared.settings.Settings.{Settings}
 use Rattle.gs_kernel.specs.declared.command.Command.{Command}
@@ -16,29 +16,34 @@ use Rattle.gs_kernel.specs.declared.effect.Effect.TheVariants.{Post, Append}
 use Rattle.gs_kernel.specs.declared.answer.Answer.{Answer}
 use Rattle.gs_kernel.specs.declared.answer.Answer.TheVariants as answers
 use Rattle.gs_kernel.specs.Kernel.{KernelOf, IsRefusal, or_else, unless_torn, is_full, create_refusal, thread_refusal, take_refusal, give_refusal, tick_refusal, hand_off_refusal, next_generation, creation, happening, preemption}
+use Rattle.gs_kernel.specs.Attaching.{leave_refusal, begin_refusal, activate_refusal}
 
--- the first refusal that a command has of its own
-abbrev pub own_refusal : Settings → History → Command → Option Refusal
-own_refusal s h (commands.Create f) = create_refusal s h f
-own_refusal s h (commands.Thread t e) = thread_refusal s h t e
-own_refusal s h (commands.Take c) = take_refusal s h c
-own_refusal s h (commands.Give c) = give_refusal s h c
-own_refusal s h (commands.Tick c) = tick_refusal s c
-own_refusal s h (commands.HandOff c) = hand_off_refusal s h c
+-- the first refusal that a command has of its own, where the last page was given since the last begin, or was not
+abbrev pub own_refusal : Settings → History → Bool → Command → Option Refusal
+own_refusal s h given (commands.Create f) = create_refusal s h f
+own_refusal s h given (commands.Thread t e) = thread_refusal s h t e
+own_refusal s h given (commands.Take c) = take_refusal s h c
+own_refusal s h given (commands.Give c) = give_refusal s h c
+own_refusal s h given (commands.Tick c) = tick_refusal s c
+own_refusal s h given (commands.HandOff c) = hand_off_refusal s h c
+own_refusal s h given commands.Leave = leave_refusal h
+own_refusal s h given commands.Begin = begin_refusal h
+own_refusal s h given (commands.Activate c) = activate_refusal s h given c
 
 -- the most entries that it adds
 abbrev pub most_entries : Command → ℕ
 most_entries (commands.Take c) = 2
 most_entries (commands.HandOff c) = 2
+most_entries (commands.Activate c) = 2
 most_entries _ = 1
 
 -- the first refusal of a command that holds while the enclave stands: after its own that the journal has no room
-abbrev pub standing_refusal : Settings → History → Command → Option Refusal
-standing_refusal s h c = or_else (own_refusal s h c) (first_that ((is_full s h (most_entries c), Some refusals.HistoryFull) ∷ []) None)
+abbrev pub standing_refusal : Settings → History → Bool → Command → Option Refusal
+standing_refusal s h given c = or_else (own_refusal s h given c) (first_that ((is_full s h (most_entries c), Some refusals.HistoryFull) ∷ []) None)
 
 -- the first refusal of a command that holds
-abbrev pub refusal : Settings → History → Command → Option Refusal
-refusal s h c = unless_torn h (standing_refusal s h c)
+abbrev pub refusal : Settings → History → Bool → Command → Option Refusal
+refusal s h given c = unless_torn h (standing_refusal s h given c)
 
 -- what a command adds to the history
 abbrev pub effect : Settings → History → Command → Effect
@@ -48,6 +53,9 @@ effect s h (commands.Take c) = Append (preemption s h c) (Taken c)
 effect s h (commands.Give c) = Append None (Given c)
 effect s h (commands.Tick c) = Post (TimerTick c)
 effect s h (commands.HandOff c) = Append (preemption s h c) (Role (next_generation h) c)
+effect s h commands.Leave = Append None Left
+effect s h commands.Begin = Append None (Begin (next_generation h))
+effect s h (commands.Activate c) = Append (preemption s h c) (Role (unwrap_or (attaching h) 0) c)
 
 -- whether it adds a thread
 abbrev pub creates : Command → Bool
@@ -86,22 +94,24 @@ Tells room h x true h' = IfSome (message_in x) (room h true) × (h' ≡ h ++ ent
 Tells room h x false h' = ((m : Message) × (message_in x ≡ Some m) × room h false m) × (h' ≡ h ++ Torn ∷ [])
 
 -- a command that nothing refuses, and what it adds
-pub record Serves (room : Room) (s : Settings) (h : History) (c : Command) (fits : Bool) (h' : History) : Type 0 where
-  pub free : refusal s h c ≡ None
+pub record Serves (room : Room) (s : Settings) (h : History) (given : Bool) (c : Command) (fits : Bool) (h' : History) : Type 0 where
+  pub free : refusal s h given c ≡ None
   pub tells : Tells room h (effect s h c) fits h'
 
 -- refused by the first refusal that holds, or for want of memory where none does, and nothing changed; or done; or torn down
-abbrev pub Legal : Room → Settings → History → Command → Answer → History → Type 0
-Legal room s h c (answers.Refused r) h' = IsRefusal (refusal s h c) r × (h' ≡ h)
-Legal room s h c (answers.Done e) h' = (e ≡ last_in (effect s h c)) × Serves room s h c true h'
-Legal room s h c answers.Torn h' = Serves room s h c false h'
+abbrev pub Legal : Room → Settings → History → Bool → Command → Answer → History → Type 0
+Legal room s h given c (answers.Refused r) h' = IsRefusal (refusal s h given c) r × (h' ≡ h)
+Legal room s h given c (answers.Done e) h' = (e ≡ last_in (effect s h c)) × Serves room s h given c true h'
+Legal room s h given c answers.Torn h' = Serves room s h given c false h'
 
--- what no call touches: the ring and what was taken from it, and the numbers; what was sent is what the journal says was posted
+-- What no call touches: the ring and what was taken from it, the numbers, and whether the last page was given. What was sent is what the
+-- journal says was posted.
 pub record Frame {P : Type 0} (same : P → P → Type 0) (taken : P → ℕ) (sent : P → List Message → Type 0) (a b : KernelOf P) : Type 0 where
   pub ring : same a.poster b.poster
   pub stays : taken b.poster ≡ taken a.poster
   pub told : sent b.poster (posted b.history)
   pub settings : b.settings ≡ a.settings
+  pub pages : b.paged ≡ a.paged
 
 -- an answer that refuses
 abbrev pub Refuses : Answer → Type 0
@@ -109,9 +119,14 @@ Refuses (answers.Refused r) = Unit {0}
 Refuses (answers.Done e) = ⊥
 Refuses answers.Torn = ⊥
 
--- a call that tells a kernel to do something: the step is legal; where it is refused, all is as before, but that more threads may find
--- room; and the frame stays
+-- whether the last page was given since the last begin, once a command was answered: it was not where that was a begin that was done
+abbrev pub paged_by : Answer → Bool → Bool
+paged_by (answers.Done (Begin g)) p = false
+paged_by _ p = p
+
+-- A call that tells a kernel to do something: the step is legal. Where it is refused, all is as before, but that more threads may find
+-- room. The frame stays, but that once a begin was done no page was given since.
 pub record IsServed {P : Type 0} (same : P → P → Type 0) (taken : P → ℕ) (sent : P → List Message → Type 0) (tight : P → Message → Type 0) (a : KernelOf P) (c : Command) (r : Answer) (b : KernelOf P) : Type 0 where
-  pub legal : Legal (RoomOf same taken sent tight a.poster) a.settings a.history c r b.history
+  pub legal : Legal (RoomOf same taken sent tight a.poster) a.settings a.history a.paged c r b.history
   pub refused : Refuses r → b ≡ record a { rows = b.rows }
-  pub frame : Frame same taken sent a b
+  pub frame : Frame same taken sent (record a { paged = paged_by r a.paged }) b

@@ -20,6 +20,13 @@ pub enum Command {
     /// The active agent goes on as one of the next generation, on another CPU. A thread there is taken off, and
     /// told so first.
     HandOff { cpu: u16 },
+    /// The agent leaves, or crashed, which is the same to the kernel: none is active and none attaches then.
+    Leave,
+    /// A new agent begins to attach, as one of the next generation.
+    Begin,
+    /// The agent that attaches, and was given the last page, becomes active on a CPU. A thread there is taken off,
+    /// and told so first.
+    Activate { cpu: u16 },
 }
 
 impl Command {
@@ -29,7 +36,7 @@ impl Command {
         ensures most { result ≤ 2 }
     {
         match self {
-            Command::Take { .. } | Command::HandOff { .. } => 2,
+            Command::Take { .. } | Command::HandOff { .. } | Command::Activate { .. } => 2,
             _ => 1,
         }
     }

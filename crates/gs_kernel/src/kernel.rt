@@ -1,9 +1,10 @@
-ghost use Rattle.std.specs.Prelude.{◌≡◌, ℕ, ◌-◌, ◌≤◌, ◌∷◌, [], IfOk, OnOk, OnErr, length, min};
-ghost use Rattle.gs_journal.specs.History.{posted, active, taken, torn};
+ghost use Rattle.std.specs.Prelude.{◌≡◌, ℕ, ◌-◌, ◌≤◌, ◌∷◌, [], IfOk, OnOk, OnErr, false, length, min};
+ghost use Rattle.gs_journal.specs.History.{posted, active, attaching, taken, torn};
 ghost use Rattle.gs_status.specs.Masks.{has};
 ghost use Rattle.gs_kernel.specs.Settings.{IsInRange};
 ghost use Rattle.gs_kernel.specs.Kernel.{has_agent, is_bad_mask, is_full};
 
+use crate::agents::Agents;
 use crate::settings::Settings;
 use gs_journal::{Entry, Journal};
 use gs_ring::Poster;
@@ -23,10 +24,12 @@ pub struct Kernel<P: Poster> {
     pub(crate) running: Vec<Option<u32>>,
     /// The CPUs that the other class holds.
     pub(crate) taken: Mask,
-    /// The active agent: its generation and CPU.
-    pub(crate) agent: Option<(u32, u16)>,
+    /// The agents that there are.
+    pub(crate) agents: Agents,
     /// Whether the enclave was torn down.
     pub(crate) torn: bool,
+    /// Whether the last page was given since the last begin.
+    pub(crate) paged: bool,
 }
 
 impl<P: Poster> Model for Kernel<P> {
@@ -36,9 +39,9 @@ impl<P: Poster> Model for Kernel<P> {
 
     ghost use Rattle.gs_kernel.specs.Inside.{IsKernel};
 
-    ghost view = { λ k. record { settings = k.settings; history = k.journal.entries; room = k.journal.room; rows = k.threads.room; poster = k.poster } };
+    ghost view = { λ k. record { settings = k.settings; history = k.journal.entries; room = k.journal.room; rows = k.threads.room; poster = k.poster; paged = k.paged } };
 
-    ghost invariant = { λ k. IsKernel (P.posted k.poster) k.settings k.journal k.threads k.running.items k.taken k.agent k.torn };
+    ghost invariant = { λ k. IsKernel (P.posted k.poster) k.settings k.journal k.threads k.running.items k.taken k.agents k.torn };
 }
 
 impl<P: Poster> Kernel<P> {
@@ -56,6 +59,7 @@ impl<P: Poster> Kernel<P> {
         ensures settings { IfOk result (λ k. k.settings ≡ settings) }
         ensures history { IfOk result (λ k. k.history ≡ Entry.Role settings.first_generation 0 ∷ []) }
         ensures poster { IfOk result (λ k. k.poster ≡ poster) }
+        ensures paged { IfOk result (λ k. k.paged ≡ false) }
     {
         let running = vec![in alloc; None; settings.cpus as usize]?;
         let mut journal = Journal::new(alloc, settings.first_tseq, settings.history);
@@ -73,8 +77,13 @@ impl<P: Poster> Kernel<P> {
             threads: ThreadTable::new(alloc, settings.first_tseq),
             running,
             taken: Mask::none(),
-            agent: Some((settings.first_generation, 0)),
+            agents: Agents {
+                active: Some((settings.first_generation, 0)),
+                attaching: None,
+                generation: settings.first_generation,
+            },
             torn: false,
+            paged: false,
         })
     }
 
@@ -114,16 +123,28 @@ impl<P: Poster> Kernel<P> {
     pub fn active(&self) -> Option<(u32, u16)>
         ensures { result ≡ active self.now.history }
     {
-        self.agent
+        self.agents.active
+    }
+
+    /// The generation of the agent that attaches.
+    pub fn attaching(&self) -> Option<u32>
+        ensures { result ≡ attaching self.now.history }
+    {
+        self.agents.attaching
+    }
+
+    /// Whether the last page was given since the last begin.
+    pub fn is_paged(&self) -> bool
+        ensures { result ≡ self.now.paged }
+    {
+        self.paged
     }
 
     /// Whether an agent is active or attaching.
     pub fn has_agent(&self) -> bool
         ensures { result ≡ has_agent self.now.history }
     {
-        // A look at a field, by which the proof has what the kernel keeps.
-        let _settings = &self.settings;
-        self.active().is_some()
+        self.active().is_some() || self.attaching().is_some()
     }
 
     /// Makes room for so many more entries, or for as many as the journal's limit leaves.

@@ -31,7 +31,7 @@ impl<P: Poster> Kernel<P> {
         if self.torn {
             return Outcome::Gone;
         }
-        if !is_generation(slot.generation, self.agent) {
+        if !is_generation(slot.generation, self.agents.active) {
             return Outcome::Displaced;
         }
         if !self.is_live(slot.tid) {
@@ -58,7 +58,7 @@ impl<P: Poster> Kernel<P> {
         ensures value { result ≡ cpu_verdict self.now.settings self.now.history cpu preempt }
         ensures known { is_malformed result ≡ false }
     {
-        if is_agent_on(cpu, self.agent) {
+        if is_agent_on(cpu, self.agents.active) {
             return Outcome::CpuIsAgent;
         }
         if self.taken.has(cpu) {

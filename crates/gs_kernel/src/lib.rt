@@ -2,11 +2,14 @@
 //! agent's transactions. It keeps a journal of all that happens.
 #![tactic(auto)]
 
+mod agents;
 mod answer;
+mod attach;
 mod command;
 mod commit;
 mod create;
 mod effect;
+mod generations;
 mod hand_off;
 mod happen;
 mod head;
@@ -15,6 +18,7 @@ mod land;
 mod landing;
 mod live_thread;
 mod other_class;
+mod page;
 mod post;
 mod serve;
 mod settings;

@@ -37,7 +37,7 @@ impl<P: Poster> Kernel<P> {
         if cpu >= self.settings.cpus {
             return Some(Refusal::BadCpu);
         }
-        if is_agent_on(cpu, self.agent) {
+        if is_agent_on(cpu, self.agents.active) {
             return Some(Refusal::AgentThere);
         }
         if self.taken.has(cpu) {

@@ -4,7 +4,7 @@ ghost use Rattle.std.specs.Prelude.{◌≡◌, ◌<◌, ◌≤◌, IfSome, OnErr
 ghost use Rattle.gs_layout.specs.Spelling.{IsSpellable};
 ghost use Rattle.gs_kernel.specs.declared.command.Command.{Command};
 ghost use Rattle.gs_kernel.specs.declared.thread_event.ThreadEvent.{ThreadEvent};
-ghost use Rattle.gs_kernel.specs.Legal.{IsServed, creates, effect, message_in, most_entries, own_refusal, refusal};
+ghost use Rattle.gs_kernel.specs.Legal.{IsServed, creates, effect, message_in, most_entries, own_refusal, paged_by, refusal};
 
 use crate::answer::Answer;
 use crate::command::Command;
@@ -34,13 +34,15 @@ impl<P: Poster> Kernel<P> {
             };
         }
         let effect = self.effect(command);
-        if self.tell(&effect) {
+        let answer = if self.tell(&effect) {
             Answer::Done {
                 entry: effect.last(),
             }
         } else {
             Answer::Torn
-        }
+        };
+        self.paged = paged_by(&answer, self.paged);
+        answer
     }
 
     /// Why a command is refused, memory aside: the first that applies. Nothing is done.
@@ -55,10 +57,14 @@ impl<P: Poster> Kernel<P> {
     /// | `Give` | `BadCpu`; `NotTaken` where the other class does not hold it |
     /// | `Tick` | `BadCpu` |
     /// | `HandOff` | `NotActive` where no agent is active; `BadCpu`; `AgentThere`; `CpuTaken`; `SeqSpent`, as of a `Take`; `GenSpent` where the generation is 4,294,967,295 |
+    /// | `Leave` | `NotActive` where no agent is active and none attaches |
+    /// | `Begin` | `StillAttached` where an agent is active or attaches; `GenSpent` |
+    /// | `Activate` | `NotAttaching` where no agent attaches, or it was not given the last page; `BadCpu`; `CpuTaken`; `SeqSpent` of the thread there |
     ///
-    /// And `HistoryFull` where the journal has no room for an entry, or for two of a `Take` or a `HandOff`.
+    /// And `HistoryFull` where the journal has no room for an entry, or for two of a `Take`, a `HandOff` or an
+    /// `Activate`.
     pub fn refusal(&self, command: &Command) -> Option<Refusal>
-        ensures { result ≡ refusal self.now.settings self.now.history command.now }
+        ensures { result ≡ refusal self.now.settings self.now.history self.now.paged command.now }
     {
         if self.torn {
             return Some(Refusal::Gone);
@@ -74,7 +80,7 @@ impl<P: Poster> Kernel<P> {
 
     /// The first refusal that a command has of its own.
     fn own_refusal(&self, command: &Command) -> Option<Refusal>
-        ensures { result ≡ own_refusal self.now.settings self.now.history command.now }
+        ensures { result ≡ own_refusal self.now.settings self.now.history self.now.paged command.now }
     {
         match command {
             Command::Create { facts } => self.create_refusal(facts),
@@ -83,12 +89,15 @@ impl<P: Poster> Kernel<P> {
             Command::Give { cpu } => self.give_refusal(*cpu),
             Command::Tick { cpu } => self.tick_refusal(*cpu),
             Command::HandOff { cpu } => self.hand_off_refusal(*cpu),
+            Command::Leave => self.leave_refusal(),
+            Command::Begin => self.begin_refusal(),
+            Command::Activate { cpu } => self.activate_refusal(*cpu),
         }
     }
 
     /// What a command adds that nothing refuses.
     fn effect(&self, command: &Command) -> Effect
-        requires { refusal self.now.settings self.now.history command.now ≡ None }
+        requires { refusal self.now.settings self.now.history self.now.paged command.now ≡ None }
         ensures value { result ≡ effect self.now.settings self.now.history command.now }
         ensures spellable { IfSome (message_in result) IsSpellable }
     {
@@ -113,6 +122,17 @@ impl<P: Poster> Kernel<P> {
                 message: Message::TimerTick { cpu: *cpu },
             },
             Command::HandOff { cpu } => self.handing_over(*cpu),
+            Command::Leave => Effect::Append {
+                victim: None,
+                entry: Entry::Left,
+            },
+            Command::Begin => Effect::Append {
+                victim: None,
+                entry: Entry::Begin {
+                    generation: self.next_generation(),
+                },
+            },
+            Command::Activate { cpu } => self.activating(*cpu),
         }
     }
 
@@ -215,5 +235,38 @@ impl<P: Poster> Kernel<P> {
         ensures { IsServed P.same P.taken P.posted P.tight self.old (Command.HandOff cpu) result self.new }
     {
         self.serve(&Command::HandOff { cpu })
+    }
+
+    /// The agent leaves, or crashed.
+    pub fn leave(&mut self) -> Answer
+        ensures { IsServed P.same P.taken P.posted P.tight self.old Command.Leave result self.new }
+    {
+        self.serve(&Command::Leave)
+    }
+
+    /// A new agent begins to attach.
+    pub fn begin(&mut self) -> Answer
+        ensures { IsServed P.same P.taken P.posted P.tight self.old Command.Begin result self.new }
+    {
+        self.serve(&Command::Begin)
+    }
+
+    /// The agent that attaches becomes active on a CPU.
+    pub fn activate(&mut self, cpu: u16) -> Answer
+        ensures { IsServed P.same P.taken P.posted P.tight self.old (Command.Activate cpu) result self.new }
+    {
+        self.serve(&Command::Activate { cpu })
+    }
+}
+
+/// Whether the last page was given since the last begin, after an answer.
+fn paged_by(answer: &Answer, paged: bool) -> bool
+    ensures { result ≡ paged_by answer.now paged }
+{
+    match answer {
+        Answer::Done {
+            entry: Entry::Begin { .. },
+        } => false,
+        _ => paged,
     }
 }

@@ -8,8 +8,9 @@ ghost use Rattle.gs_journal.specs.History.{posted};
 ghost use Rattle.gs_status.specs.Masks.{has};
 ghost use Rattle.gs_kernel.specs.Legal.{Frame, RoomOf, Tells, entries_in, message_in};
 ghost use Rattle.gs_kernel.specs.Lands.{ComesNext};
-ghost use Rattle.gs_kernel.specs.Inside.{HoldsNear, SeatsBelow, agent_by, behind, created_in, freed, held_by, left_by, left_in, listed_entry, listed_message, rows_seated, rows_told, seats_seated, seats_told};
+ghost use Rattle.gs_kernel.specs.Inside.{HoldsNear, SeatsBelow, agents_by, behind, created_in, freed, held_by, left_by, left_in, listed_entry, listed_message, rows_seated, rows_told, seats_seated, seats_told};
 
+use crate::agents::Agents;
 use crate::effect::Effect;
 use crate::kernel::Kernel;
 use crate::post::post;
@@ -39,7 +40,7 @@ impl<P: Poster> Kernel<P> {
         append(&mut self.journal, effect);
         take_in(&mut self.threads, &mut self.running, effect);
         self.taken = hold(self.taken, effect);
-        self.agent = lead(self.agent, effect);
+        self.agents = lead(self.agents, effect);
         true
     }
 }
@@ -190,16 +191,26 @@ fn left_in(change: &Change) -> Option<u16>
     }
 }
 
-/// The active agent after the entry behind the message, if there is one.
-fn lead(agent: Option<(u32, u16)>, effect: &Effect) -> Option<(u32, u16)>
-    ensures { result ≡ agent_by (behind effect.now) agent }
+/// The agents after the entry behind the message, if there is one.
+fn lead(agents: Agents, effect: &Effect) -> Agents
+    ensures { result ≡ agents_by (behind effect.now) agents }
 {
-    match effect {
-        Effect::Append {
-            entry: Entry::Role { generation, cpu },
-            ..
-        } => Some((*generation, *cpu)),
-        _ => agent,
+    let Effect::Append { entry, .. } = effect else {
+        return agents;
+    };
+    match entry {
+        Entry::Role { generation, cpu } => Agents {
+            active: Some((*generation, *cpu)),
+            attaching: None,
+            generation: *generation,
+        },
+        Entry::Begin { generation } => Agents {
+            active: None,
+            attaching: Some(*generation),
+            generation: *generation,
+        },
+        Entry::Left | Entry::Torn => agents.gone(),
+        _ => agents,
     }
 }
 

@@ -1,5 +1,5 @@
 -- What the definitions say of replies at their edge.
-use Rattle.std.proofs.Common.{◌≡◌, [], ◌∷◌, ◌++◌, codes, refl, None, true, false}
+use Rattle.std.proofs.Common.{◌≡◌, [], ◌∷◌, ◌++◌, codes, refl, None, Some, true, false}
 use Rattle.std.specs.Fmt.{digits}
 use Rattle.gs_core.specs.declared.reply.Reply.TheVariants as replies
 use Rattle.gs_lines.specs.Lines.{lines, line}
@@ -24,3 +24,12 @@ last_number : lines (replies.Decided 18446744073709551615 (record { cpu = 65535;
     ≡ line (codes "decided 2") ++ line (codes "stamped 18446744073709551615 cpu 65535 thread 4294967295") ++ line (codes "stamped 18446744073709551616 cpu 0 thread 0")
 unfolding digits
 last_number = refl
+
+full_page : lines (replies.Page 65535 (Some 4294967295) [] ∷ replies.Crashed ∷ []) ≡ line (codes "page 65535 next 4294967295") ++ line (codes "crashed")
+unfolding digits
+full_page = refl
+
+-- no thread lives
+empty_page : lines (replies.Page 0 None [] ∷ []) ≡ line (codes "page 0 end")
+unfolding digits
+empty_page = refl

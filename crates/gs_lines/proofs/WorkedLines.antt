@@ -4,7 +4,7 @@ use Rattle.std.specs.Fmt.{digits}
 use Rattle.gs_layout.specs.declared.refusal.Refusal.TheVariants as refusals
 use Rattle.gs_layout.specs.declared.outcome.Outcome.TheVariants as outcomes
 use Rattle.gs_agent.specs.declared.drained.Stop.TheVariants.{Gap}
-use Rattle.gs_core.specs.declared.reply.Reply.TheVariants.{Refused, Torn, Done, Drained, Stamped, Decided, Landed, Late, View, State, Unread}
+use Rattle.gs_core.specs.declared.reply.Reply.TheVariants.{Refused, Torn, Done, Crashed, Page, Drained, Stamped, Decided, Landed, Late, View, State, Unread}
 use Rattle.gs_journal.specs.declared.entry.Entry.TheVariants as entries
 use Rattle.gs_journal.specs.declared.entry.Entry.TheVariants.{Posted, Taken, Given, Placed, Role, Begin, Left}
 use Rattle.gs_layout.specs.declared.facts.Class.TheVariants.{Zero, One}
@@ -157,3 +157,11 @@ each_entry : lines (Done (Placed 1 2 3 4) ∷ Done (Role 2 1) ∷ Done (Begin 3)
     ≡ line (codes "placed 1 seq 2 cpu 3 generation 4") ++ line (codes "agent 1 generation 2") ++ line (codes "begun generation 3") ++ line (codes "left") ++ line (codes "torn")
 unfolding digits
 each_entry = refl
+
+-- an agent crashes, and another is told of threads
+crashes : lines (Crashed ∷ []) ≡ line (codes "crashed")
+crashes = refl
+
+pages : lines (Page 2 (Some 3) (1 ∷ 2 ∷ []) ∷ Page 0 None [] ∷ []) ≡ line (codes "page 2 next 3") ++ line (codes "page 0 end")
+unfolding digits
+pages = refl

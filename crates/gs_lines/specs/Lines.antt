@@ -172,6 +172,15 @@ role_text g c = codes "agent " ++ decimal c ++ codes " generation " ++ decimal g
 abbrev pub begin_text : ℕ → List ℕ
 begin_text g = codes "begun" ++ codes " generation " ++ decimal g
 
+-- where the next page begins, or that there is none
+abbrev pub next_text : Option ℕ → List ℕ
+next_text None = codes " end"
+next_text (Some t) = codes " next " ++ decimal t
+
+-- a page, of so many threads
+abbrev pub page_text : ℕ → Option ℕ → List ℕ
+page_text n next = codes "page " ++ decimal n ++ next_text next
+
 -- an entry of the journal
 abbrev pub entry_text : Entry → List ℕ
 entry_text (Posted m) = posted_text m
@@ -226,6 +235,8 @@ abbrev pub reply_lines : Reply → List ℕ
 reply_lines (replies.Refused f) = line (codes "refused " ++ refusal_text f)
 reply_lines replies.Torn = line (codes "torn")
 reply_lines (replies.Done e) = line (entry_text e)
+reply_lines replies.Crashed = line (codes "crashed")
+reply_lines (replies.Page n next bytes) = line (page_text n next)
 reply_lines (replies.Drained d) = line (drained_text d)
 reply_lines (replies.Stamped number) = line (codes "stamped " ++ decimal number)
 reply_lines (replies.Decided first choices) = line (decided_text choices) ++ choice_lines first choices

@@ -1,5 +1,5 @@
 ghost use Rattle.std.specs.Prelude.{◌≡◌, ◌++◌, IfOk, OnOk, string_bytes};
-ghost use Rattle.gs_lines.specs.Lines.{refusal_text, outcome_text, drained_text, unless_zero, stop_text, line, landed_text, landing_text, landing_lines, late_text, torn_line, reply_lines, lines};
+ghost use Rattle.gs_lines.specs.Lines.{refusal_text, outcome_text, drained_text, unless_zero, stop_text, line, landed_text, landing_text, landing_lines, late_text, page_text, torn_line, reply_lines, lines};
 
 use crate::choice_line::write_decided;
 use crate::message_line::{write_entry, write_messages};
@@ -146,6 +146,16 @@ fn write_drained(out: &mut String, drained: &Drained) -> Result<(), AllocError>
     out.push('\n')
 }
 
+/// Adds the line of a page.
+fn write_page(out: &mut String, count: u16, next: Option<u32>) -> Result<(), AllocError>
+    ensures { OnOk result (string_bytes out.new ≡ string_bytes out.old ++ line (page_text count next)) }
+{
+    match next {
+        Some(next) => write!(out, "page {count} next {next}\n"),
+        None => write!(out, "page {count} end\n"),
+    }
+}
+
 /// Adds the lines of a reply.
 fn write_reply(out: &mut String, reply: &Reply) -> Result<(), AllocError>
     ensures { OnOk result (string_bytes out.new ≡ string_bytes out.old ++ reply_lines reply.now) }
@@ -157,6 +167,8 @@ fn write_reply(out: &mut String, reply: &Reply) -> Result<(), AllocError>
         }
         Reply::Torn => out.push_str("torn\n"),
         Reply::Done(entry) => write_entry(out, entry),
+        Reply::Crashed => out.push_str("crashed\n"),
+        Reply::Page { count, next, .. } => write_page(out, *count, *next),
         Reply::Drained(drained) => write_drained(out, drained),
         Reply::Stamped { number } => write!(out, "stamped {number}\n"),
         Reply::Decided { first, choices } => write_decided(out, *first, choices.as_slice()),

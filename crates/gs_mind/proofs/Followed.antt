@@ -71,7 +71,7 @@ turned : (x t : ℕ) → (x == t) ≡ false → (t == x) ≡ false
 turned x t e = grind (arith, nat_tests)
 
 -- one thread less is unsettled
-holds_more : (v : Look) (s : Cpus) (t : ℕ) (ts : List ℕ) (q : Queue) → HoldsBut v s (t ∷ ts) q → HoldsBut v s ts (settled v s t q)
+pub holds_more : (v : Look) (s : Cpus) (t : ℕ) (ts : List ℕ) (q : Queue) → HoldsBut v s (t ∷ ts) q → HoldsBut v s ts (settled v s t q)
 holds_more v s t ts q h = λ u out. in_settled v s t u q ∙ by_test u out (u == t) refl
   where
     by_test : (u : ℕ) → is_in u ts ≡ false → (b : Bool) → (u == t) ≡ b → cond b (waits v s t) (is_in u (order q)) ≡ waits v s u
@@ -87,7 +87,7 @@ pub others_hold : (v v' : Look) (s s' : Cpus) (ts : List ℕ) (q q' : Queue) →
     → HoldsBut v' s' ts q'
 others_hold v v' s s' ts q q' h same alike = λ u out. same u out ∙ (h u ∙ sym (alike u out))
 
-waits_alike : (v v' : Look) (s s' : Cpus) (u : ℕ) → v' u ≡ v u → is_believed s' u ≡ is_believed s u → is_named s' u ≡ is_named s u → waits v' s' u ≡ waits v s u
+pub waits_alike : (v v' : Look) (s s' : Cpus) (u : ℕ) → v' u ≡ v u → is_believed s' u ≡ is_believed s u → is_named s' u ≡ is_named s u → waits v' s' u ≡ waits v s u
 waits_alike v v' s s' u a b c = rw a (rw b (rw c refl))
 
 -- who is none of one thread is another
@@ -134,7 +134,7 @@ holds_stamp v s q c t h = holds_with v s (stamps c t s) (t ∷ option_to_list (s
         let both = or_parts (t == u) (is_in u (option_to_list (stamp_on s c))) out in
         waits_alike v v s (stamps c t s) u refl refl (named_set (Some t) c u s both.0 (out_option u (stamp_on s c) both.1))
 
-displaced_out : (s : Cpus) (at : Option ℕ) (u : ℕ) → is_in u (option_to_list (displaced s at)) ≡ false → runs_at s at u ≡ false
+pub displaced_out : (s : Cpus) (at : Option ℕ) (u : ℕ) → is_in u (option_to_list (displaced s at)) ≡ false → runs_at s at u ≡ false
 displaced_out s None u e = refl
 displaced_out s (Some c) u e = by_belief (believed_on s c) e
   where

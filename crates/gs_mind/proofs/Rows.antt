@@ -14,6 +14,8 @@ use Rattle.gs_slots.specs.declared.state.SlotState.TheVariants.{Idle, Stamped, D
 use Rattle.gs_beliefs.specs.declared.running.Running.{Running}
 use Rattle.gs_beliefs.specs.Cpus.{Cpus}
 use Rattle.gs_runq.specs.Queue.{Queue}
+use Rattle.gs_dump.specs.declared.record.DumpRecord.{DumpRecord}
+use Rattle.gs_mind.specs.Pages.{after_page}
 use Rattle.gs_mind.specs.Picture.{Picture, after_slot, after_slots, after_stamp, takes_in, takes_in_all, waits}
 
 -- what is known of a thread, at this number
@@ -25,6 +27,10 @@ created t class runnable = Thread t 5 (Created (known class runnable 5).facts)
 
 abbrev at : ℕ → ℕ → ℕ → Option Running
 at t n ticks = Some (record { tid = t; tseq = n; ticks = ticks })
+
+-- what a page tells of a thread, at number 6
+abbrev told : ℕ → Class → Bool → Option ℕ → DumpRecord
+told t class runnable c = record { tid = t; tseq = 6; facts = (known class runnable 6).facts; cpu = c }
 
 -- these beliefs and stamps on CPUs 1 and 2
 abbrev cpus : Option Running → Option Running → Option ℕ → Option ℕ → Cpus
@@ -148,6 +154,38 @@ stamped_row = refl
 -- slots by rising CPU
 slots_row : after_slots 1 (landed 7 Placed (Some 1) ∷ landed 9 Stale None ∷ []) (knows (cpus None None (Some 7) (Some 9)) (queue (8 ∷ []) [])) ≡ knows (cpus (at 7 5 0) None None None) (queue (8 ∷ []) (9 ∷ []))
 slots_row = refl
+
+-- who lives by a page and is on no CPU waits; who is on one is believed to run there
+page_row : (after_page (told 7 Zero true (Some 1) ∷ told 8 Zero true None ∷ told 9 One false None ∷ []) blank).queue ≡ queue (8 ∷ []) []
+page_row = refl
+
+page_cpus_row : (after_page (told 7 Zero true (Some 1) ∷ told 8 Zero true None ∷ []) blank).cpus ≡ cpus (at 7 6 0) None None None
+page_cpus_row = refl
+
+-- what a page tells is known, whatever was known before, and of no other thread
+page_known_row : (after_page (told 7 One false None ∷ []) all_wait).view 7 ≡ Some (known One false 6)
+page_known_row = refl
+
+page_other_row : (after_page (told 7 One false None ∷ []) all_wait).view 8 ≡ Some (known Zero true 5)
+page_other_row = refl
+
+page_blocked_row : (after_page (told 7 Zero false None ∷ []) all_wait).queue ≡ queue (8 ∷ []) (9 ∷ [])
+page_blocked_row = refl
+
+-- whom a page's thread displaces waits again, and a belief stays where a page says that the thread is on no CPU
+page_displaces_row : (after_page (told 7 Zero true (Some 1) ∷ []) (knows (cpus (at 9 5 2) None None None) (queue (7 ∷ 8 ∷ []) []))).queue ≡ queue (8 ∷ []) (9 ∷ [])
+page_displaces_row = refl
+
+page_on_none_row : (after_page (told 7 Zero true None ∷ []) (knows (cpus (at 7 5 2) None None None) (queue (8 ∷ []) (9 ∷ [])))).cpus ≡ cpus (at 7 5 2) None None None
+page_on_none_row = refl
+
+-- past the last CPU no belief is noted
+page_past_row : (after_page (told 7 Zero true (Some 3) ∷ []) all_wait).queue ≡ queue (7 ∷ 8 ∷ []) (9 ∷ [])
+page_past_row = refl
+
+-- a page with no thread changes nothing
+empty_page_row : after_page [] all_wait ≡ all_wait
+empty_page_row = refl
 
 -- a tick counts for whoever is believed to run there
 tick_row : takes_in (TimerTick 1) (knows (cpus (at 7 5 2) None None None) (queue (8 ∷ []) (9 ∷ []))) ≡ knows (cpus (at 7 5 3) None None None) (queue (8 ∷ []) (9 ∷ []))

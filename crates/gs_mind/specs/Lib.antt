@@ -1,3 +1,4 @@
 pub mod Picture
+pub mod Pages
 pub mod Mind
 pub mod Held

@@ -22,6 +22,10 @@ pub record Picture : Type 0 where
   pub cpus : Cpus
   pub queue : Queue
 
+-- the picture with these parts
+abbrev pub parts : Look → Cpus → Queue → Picture
+parts v s q = record { view = v; cpus = s; queue = q }
+
 -- whether what is known of a thread says that it may run
 abbrev pub is_runnable : Option Known → Bool
 is_runnable None = false

@@ -1,11 +1,13 @@
 //! What an agent has in mind: what it knows of each thread, what it believes of each CPU, and who
 //! waits for one. The three are kept together, since who waits follows from the others: messages,
-//! stamps and collected slots change all of them at once.
+//! pages, stamps and collected slots change all of them at once.
 //!
-//! No call but [`Mind::new`], [`Mind::plan`] and the taking in of a thread's creation takes memory.
+//! No call but [`Mind::new`], [`Mind::plan`], [`Mind::rebuild`] and the taking in of a thread's creation
+//! takes memory.
 #![tactic(auto)]
 
 mod mind;
+mod rebuild;
 mod waiting;
 
 pub use mind::Mind;

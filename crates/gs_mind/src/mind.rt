@@ -8,11 +8,14 @@ ghost use Rattle.gs_view.specs.declared.fault.ApplyFault.{ApplyFault};
 ghost use Rattle.gs_view.specs.Begins.{begins};
 ghost use Rattle.gs_view.specs.Taken.{word_of};
 ghost use Rattle.gs_mind.specs.Mind.{moved, nothing, picture_of, shown_in, thinks};
+ghost use Rattle.gs_mind.specs.Pages.{after_page};
 ghost use Rattle.gs_runq.specs.Queue.{Apart, order};
-ghost use Rattle.gs_mind.specs.Picture.{HoldsWaiting, after_slot, after_stamp, displaced, takes_in};
+ghost use Rattle.gs_mind.specs.Picture.{HoldsWaiting, after_slot, after_stamp, takes_in};
 
-use crate::waiting::{make_room, other_than, requeue, settle, settle_if_any};
+use crate::rebuild::{make_room_for_page, take_records};
+use crate::waiting::{make_room, other_than, requeue, running_on, settle, settle_if_any};
 use gs_beliefs::{CpuBeliefs, Running};
+use gs_dump::Page;
 use gs_policy::{Choice, Counted, Policy, Shown};
 use gs_reader::MessageRef;
 use gs_runq::{RunQueue, Walk};
@@ -128,6 +131,24 @@ impl Mind {
         Ok(taken)
     }
 
+    /// Takes a page in, of threads that live: what it tells of them is known then, whatever was known of
+    /// them before. By rising tid, each of them is believed to run where the page says, and begins to
+    /// wait, goes on or stops; and so does whoever was believed to run there.
+    ///
+    /// # Errors
+    ///
+    /// Where there is no memory for the records of threads of which nothing was known, or for the queue.
+    /// Nothing changes then.
+    pub fn rebuild(&mut self, page: &Page) -> Result<(), AllocError>
+        ensures picture { OnOk result (picture_of self.new ≡ after_page page.now.records (picture_of self.old)) }
+        ensures unchanged { OnErr result (self.new ≡ self.old) }
+    {
+        make_room_for_page(&mut self.queue, page)?;
+        self.view.load(page)?;
+        take_records(&self.view, &mut self.cpus, &mut self.queue, &page.records);
+        Ok(())
+    }
+
     /// The agent's own CPU is this one from then on. What is known and believed stays, and so does who
     /// waits. It takes no memory.
     pub fn move_to(&mut self, cpu: u16)
@@ -165,7 +186,7 @@ impl Mind {
             return;
         };
         let named = other_than(stamp.tid, self.cpus.stamp_on(cpu));
-        let displaced = self.running_on(at);
+        let displaced = running_on(&self.cpus, at);
         self.cpus.learn(outcome, at, stamp.tid, stamp.tseq);
         self.cpus.unstamp(cpu);
         settle(&self.view, &self.cpus, &mut self.queue, stamp.tid);
@@ -211,13 +232,5 @@ impl Mind {
             taken,
             queue: &self.queue,
         }
-    }
-
-    /// The thread that is believed to run on a CPU, where there is one.
-    fn running_on(&self, cpu: Option<u16>) -> Option<u32>
-        ensures { result ≡ displaced self.now.cpus cpu }
-    {
-        let running = self.cpus.believed(cpu?)?;
-        Some(running.tid)
     }
 }

@@ -7,7 +7,7 @@ ghost use Rattle.gs_view.specs.declared.fault.ApplyFault.{ApplyFault};
 ghost use Rattle.gs_view.specs.Begins.{begins};
 ghost use Rattle.gs_mind.specs.Held.{HasRoom};
 ghost use Rattle.gs_mind.specs.Mind.{bare};
-ghost use Rattle.gs_mind.specs.Picture.{ends_own_turn, other_than, requeued, settled, settled_all, waits};
+ghost use Rattle.gs_mind.specs.Picture.{displaced, ends_own_turn, other_than, requeued, settled, settled_all, waits};
 ghost use Rattle.std.specs.Option.{option_to_list};
 
 use gs_beliefs::CpuBeliefs;
@@ -89,6 +89,14 @@ pub(crate) fn settle_if_any(
     if let Some(tid) = tid {
         settle(view, cpus, queue, tid);
     }
+}
+
+/// The thread that is believed to run on a CPU, where there is one.
+pub(crate) fn running_on(cpus: &CpuBeliefs, cpu: Option<u16>) -> Option<u32>
+    ensures { result ≡ displaced cpus.now cpu }
+{
+    let running = cpus.believed(cpu?)?;
+    Some(running.tid)
 }
 
 /// A thread, where there is one that is another than this one.

@@ -21,11 +21,16 @@ lines_of_reply _ = omega arith
 landings-le-lines : (rs : List Reply) → sum_by (λ r. length (landings_of r)) rs ≤ length (lines rs)
 landings-le-lines rs = rw (length-flat_map reply_lines rs) (sum_by-le-sum_by (λ r. length (landings_of r)) (λ r. length (reply_lines r)) rs lines_of_reply)
 
-among_landings : (r : Reply) → placed_in r ≤ length (landings_of r)
+pub among_landings : (r : Reply) → placed_in r ≤ length (landings_of r)
+unfolding placed_in
 among_landings r = count_by-le-length is_placed (landings_of r)
 
 pub placed-le-lines : (rs : List Reply) → sum_by placed_in rs ≤ length (lines rs)
 placed-le-lines rs = omega (arith, sum_by-le-sum_by placed_in (λ r. length (landings_of r)) rs among_landings, landings-le-lines rs)
 
+others_among : (r : Reply) → unplaced_in r ≤ length (landings_of r)
+unfolding unplaced_in
+others_among r = omega arith
+
 pub unplaced-le-lines : (rs : List Reply) → sum_by unplaced_in rs ≤ length (lines rs)
-unplaced-le-lines rs = omega (arith, sum_by-le-sum_by unplaced_in (λ r. length (landings_of r)) rs (λ r. omega arith), landings-le-lines rs)
+unplaced-le-lines rs = omega (arith, sum_by-le-sum_by unplaced_in (λ r. length (landings_of r)) rs others_among, landings-le-lines rs)

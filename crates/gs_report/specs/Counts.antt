@@ -35,11 +35,11 @@ is_placed a = is_placed_by a.outcome
     is_placed_by _ = false
 
 -- how many of a reply's landings were answered Placed
-abbrev pub placed_in : Reply → ℕ
+unfoldable pub placed_in : Reply → ℕ
 placed_in r = count_by is_placed (landings_of r)
 
 -- and how many otherwise
-abbrev pub unplaced_in : Reply → ℕ
+unfoldable pub unplaced_in : Reply → ℕ
 unplaced_in r = length (landings_of r) - placed_in r
 
 -- each event has one reply

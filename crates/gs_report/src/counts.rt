@@ -59,6 +59,7 @@ fn is_placed(landing: &Landing) -> bool
 }
 
 /// How many of a reply's landings were answered `Placed`.
+#[tactic(auto, unfolding(crate::specs::Counts::placed_in))]
 fn placed_in(reply: &Reply) -> usize
     ensures { result ≡ placed_in reply.now }
 {
@@ -67,10 +68,27 @@ fn placed_in(reply: &Reply) -> usize
 }
 
 /// How many of a reply's landings were answered otherwise.
+#[tactic(auto, using(crate::proofs::Landings::among_landings), unfolding(crate::specs::Counts::unplaced_in))]
 fn unplaced_in(reply: &Reply) -> usize
     ensures { result ≡ unplaced_in reply.now }
 {
     landings_of(reply).len() - placed_in(reply)
+}
+
+/// How many landings were answered `Placed`.
+fn placed(replies: &[Reply]) -> usize
+    requires { sum_by placed_in replies.now < 2 ^ 64 }
+    ensures { result ≡ sum_by placed_in replies.now }
+{
+    replies.iter().map(placed_in).sum()
+}
+
+/// How many landings were answered otherwise.
+fn unplaced(replies: &[Reply]) -> usize
+    requires { sum_by unplaced_in replies.now < 2 ^ 64 }
+    ensures { result ≡ sum_by unplaced_in replies.now }
+{
+    replies.iter().map(unplaced_in).sum()
 }
 
 /// Whether the enclave was torn down.
@@ -88,9 +106,9 @@ pub(crate) fn counts_of(replies: &[Reply]) -> Counts
 {
     Counts {
         events: replies.len(),
-        placed: replies.iter().map(placed_in).sum(),
+        placed: placed(replies),
         refused: replies.iter().filter(|reply| is_refusal(reply)).count(),
         torn: is_torn(replies),
-        unplaced: replies.iter().map(unplaced_in).sum(),
+        unplaced: unplaced(replies),
     }
 }

@@ -89,7 +89,7 @@ many_digits_is_number : is_number (codes "123456789012345678901234567890") ≡ t
 many_digits_is_number = refl
 
 -- lines of events
-abbrev event : List ℕ → Result Event Reason
+abbrev event : List ℕ → Result (Event AnyPolicy) Reason
 event text = event_of (words_of text)
 
 drain_least : event (codes "drain 0") ≡ Ok (events.Drain 0)
@@ -181,6 +181,73 @@ create_edge = refl
 
 create_over : event (codes "create 3 0 r 12345678901234567") ≡ Err BadName
 create_over = refl
+
+-- lines of agents that go, begin and attach
+crashes : event (codes "crash") ≡ Ok events.Crash
+crashes = refl
+
+crash_behind : event (codes "crash 1") ≡ Err BadCount
+crash_behind = refl
+
+leaves : event (codes "leave") ≡ Ok (events.Kernel commands.Leave)
+leaves = refl
+
+leave_behind : event (codes "leave #") ≡ Err BadCount
+leave_behind = refl
+
+begins_again : event (codes "begin") ≡ Ok (events.Kernel commands.Begin)
+begins_again = refl
+
+begins_first : event (codes "begin first") ≡ Ok (events.Begin (policies.FirstCome (record {})))
+begins_first = refl
+
+begins_two : event (codes "begin two 65535") ≡ Ok (events.Begin (policies.TwoClass (record { slice = 65535 })))
+begins_two = refl
+
+begins_two_past : event (codes "begin two 65536") ≡ Err BadNumber
+begins_two_past = refl
+
+begins_two_none : event (codes "begin two 0") ≡ Err BadNumber
+begins_two_none = refl
+
+begins_two_alone : event (codes "begin two") ≡ Err BadCount
+begins_two_alone = refl
+
+begins_first_behind : event (codes "begin first x") ≡ Err BadCount
+begins_first_behind = refl
+
+begins_other : event (codes "begin x") ≡ Err BadWord
+begins_other = refl
+
+begins_others : event (codes "begin x y") ≡ Err BadWord
+begins_others = refl
+
+begins_three : event (codes "begin x y z") ≡ Err BadCount
+begins_three = refl
+
+begins_two_behind : event (codes "begin two 1 x") ≡ Err BadCount
+begins_two_behind = refl
+
+page_least : event (codes "page 0") ≡ Ok (events.Page 0)
+page_least = refl
+
+page_most : event (codes "page 65535") ≡ Ok (events.Page 65535)
+page_most = refl
+
+page_past : event (codes "page 65536") ≡ Err BadNumber
+page_past = refl
+
+page_alone : event (codes "page") ≡ Err BadCount
+page_alone = refl
+
+activates : event (codes "activate 64") ≡ Ok (events.Kernel (commands.Activate 64))
+activates = refl
+
+activates_past : event (codes "activate 65536") ≡ Err BadNumber
+activates_past = refl
+
+activates_alone : event (codes "activate") ≡ Err BadCount
+activates_alone = refl
 
 -- headers
 abbrev header : List ℕ → Result (Config AnyPolicy) Reason

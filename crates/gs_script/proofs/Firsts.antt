@@ -6,8 +6,8 @@ use Rattle.gs_policy.specs.declared.any.AnyPolicy.{AnyPolicy}
 use Rattle.gs_script.specs.declared.fault.Reason.{Reason}
 use Rattle.gs_script.specs.declared.header.Firsts.{Firsts}
 use Rattle.gs_script.specs.Grammar.{Number, is_of_kind, first_fault, or_fault}
-use Rattle.gs_script.specs.Rows.{is}
-use Rattle.gs_script.specs.Header.{policies, histories, generations, parts, named, number_or, words_behind, policy_of, policy_in, firsts_of, firsts_in, part_in}
+use Rattle.gs_script.specs.Rows.{is, named}
+use Rattle.gs_script.specs.Header.{policies, histories, generations, parts, number_or, words_behind, policy_of, policy_in, firsts_of, firsts_in, part_in}
 use Rattle.gs_script.proofs.Parts.{same_parts, number_failed, number_read, failed_part, is_part, given, left_out, tseq_step, tseq_skip, gen_step, gen_skip, history_step, history_skip, behind_here, behind_other}
 
 abbrev tseq : List ℕ

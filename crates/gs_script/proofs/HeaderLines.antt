@@ -53,6 +53,6 @@ stopped view i lines.OutOfMemory ls d whole h so_far is = tt
 pub few_lines : (bytes : List ℕ) → length (lines_of bytes) ≤ length bytes + 1
 few_lines bytes = omega (arith, length-slice_split (λ b. b == 10) bytes, count_by-le-length (λ b. b == 10) bytes)
 
-pub later : {A B : Type 0} (view : A → List Event) (whole_view : B → Script) (e : ScriptError) (s : Config AnyPolicy) (r : Result (List Event) ScriptFault) (whole : Result Script ScriptFault) → whole ≡ with_config s r → GivesBy view (Err e) r → GivesBy whole_view (Err e) whole
+pub later : {A B : Type 0} (view : A → List (Event AnyPolicy)) (whole_view : B → Script) (e : ScriptError) (s : Config AnyPolicy) (r : Result (List (Event AnyPolicy)) ScriptFault) (whole : Result Script ScriptFault) → whole ≡ with_config s r → GivesBy view (Err e) r → GivesBy whole_view (Err e) whole
 later view whole_view (errors.Fault f) s r whole h k = h ∙ ap (with_config s) k
 later view whole_view errors.OutOfMemory s r whole h k = tt

@@ -45,11 +45,11 @@ after_sizes : (a r b : List ℕ) (ws : List (List ℕ)) (n m : ℕ) → Ok n ≡
 after_sizes a r b ws n m h k l =
     rw (read_in a r b ws, after_ring a r b ws n h k, one_step (Multiple 8 128 1048576) b ws [] (drop 1 parts) (went (is_of_kind (Multiple 8 128 1048576) b) m (number b) BadNumber l).0) refl
 
-same_fault : {A B : Type 0} (o : Option Reason) (e : Reason) (x : A) (y : B) → Err e ≡ or_fault o x → Err e ≡ or_fault o y
+pub same_fault : {A B : Type 0} (o : Option Reason) (e : Reason) (x : A) (y : B) → Err e ≡ or_fault o x → Err e ≡ or_fault o y
 same_fault None e x y h = absurd (cc)
 same_fault (Some f) e x y h = let same : e ≡ f = cc in ap Err same
 
-same_value : {A B : Type 0} (o : Option Reason) (x z : A) (y : B) → Ok x ≡ or_fault o z → (Ok y ≡ or_fault o y) × (x ≡ z)
+pub same_value : {A B : Type 0} (o : Option Reason) (x z : A) (y : B) → Ok x ≡ or_fault o z → (Ok y ≡ or_fault o y) × (x ≡ z)
 same_value None x z y h = (refl, cc)
 same_value (Some f) x z y h = absurd (cc)
 

@@ -4,15 +4,13 @@ use Rattle.gs_status.specs.declared.mask.TheConstants.{MOST_CPUS}
 use Rattle.gs_ring.specs.declared.block.TheConstants.{ALIGNMENT, LEAST_CAPACITY, MOST_CAPACITY}
 use Rattle.gs_kernel.specs.declared.settings.TheConstants.{LEAST_CPUS, LEAST_GENERATION, LEAST_HISTORY, MOST_FIRST_TSEQ, MOST_GENERATION, MOST_HISTORY}
 use Rattle.gs_policy.specs.declared.any.AnyPolicy.{AnyPolicy}
-use Rattle.gs_policy.specs.declared.any.AnyPolicy.TheVariants.{FirstCome, TwoClass}
 use Rattle.gs_core.specs.declared.config.Config.{Config}
 use Rattle.gs_script.specs.declared.fault.Reason.{Reason}
 use Rattle.gs_script.specs.declared.fault.Reason.TheVariants.{NoHeader, BadCount, BadNumber}
 use Rattle.gs_script.specs.declared.header.Firsts.{Firsts}
-use Rattle.gs_script.specs.declared.header.TheConstants.{LEAST_SLICE, MOST_SLICE}
 use Rattle.gs_script.specs.Words.{number}
 use Rattle.gs_script.specs.Grammar.{is_of_kind, Number, Multiple, Form, with_part, first_fault, or_fault, literal}
-use Rattle.gs_script.specs.Rows.{at, is, number_between}
+use Rattle.gs_script.specs.Rows.{at, is, named, number_between, policy_forms}
 
 -- a word and the number behind it
 abbrev pub numbered : List ℕ → ℕ → ℕ → Form
@@ -20,7 +18,7 @@ numbered word low high = literal word ∷ Number low high ∷ []
 
 -- the parts that may stand behind the sizes, each once or not at all, in this order, from the last part outwards
 abbrev pub policies : List Form
-policies = [] ∷ (literal (codes "policy") ∷ literal (codes "first") ∷ []) ∷ (literal (codes "policy") ∷ literal (codes "two") ∷ Number LEAST_SLICE MOST_SLICE ∷ []) ∷ []
+policies = [] ∷ map (λ form. literal (codes "policy") ∷ form) policy_forms
 
 abbrev pub histories : List Form
 histories = with_part (numbered (codes "history") LEAST_HISTORY MOST_HISTORY) policies
@@ -50,11 +48,7 @@ number_or default (v ∷ ws) = number v
 abbrev pub behind : ℕ → List ℕ → List (List ℕ) → ℕ
 behind default word ws = number_or default (words_behind word ws)
 
--- the policy that words name: first come, where nothing says another
-abbrev pub named : List (List ℕ) → AnyPolicy
-named [] = FirstCome (record {})
-named (v ∷ ws) = if is v (codes "two") then TwoClass (record { slice = number (at 0 ws) }) else FirstCome (record {})
-
+-- the policy that the words behind `policy` name
 abbrev pub policy_of : List (List ℕ) → AnyPolicy
 policy_of ws = named (words_behind (codes "policy") ws)
 

@@ -8,10 +8,13 @@ use Rattle.gs_kernel.specs.declared.command.Command.{Command}
 use Rattle.gs_kernel.specs.declared.command.Command.TheVariants as commands
 use Rattle.gs_kernel.specs.declared.thread_event.ThreadEvent.{ThreadEvent}
 use Rattle.gs_kernel.specs.declared.thread_event.ThreadEvent.TheVariants as happens
+use Rattle.gs_policy.specs.declared.any.AnyPolicy.{AnyPolicy}
+use Rattle.gs_policy.specs.declared.any.AnyPolicy.TheVariants.{FirstCome, TwoClass}
 use Rattle.gs_core.specs.declared.event.Event.{Event}
 use Rattle.gs_core.specs.declared.event.Event.TheVariants as events
 use Rattle.gs_script.specs.declared.fault.Reason.{Reason}
 use Rattle.gs_script.specs.declared.fault.Reason.TheVariants.{BadWord, BadNumber, BadName}
+use Rattle.gs_script.specs.declared.header.TheConstants.{LEAST_SLICE, MOST_SLICE}
 use Rattle.gs_script.specs.Words.{number}
 use Rattle.gs_script.specs.Grammar.{is_of_kind, OneOf, Number, Name, Kind, Form, line_fault, literal, or_fault}
 
@@ -43,7 +46,7 @@ class_of n = if n == 0 then Zero else One
 pub record Row : Type 0 where
   pub word : List ℕ
   pub forms : List Form
-  pub event : List (List ℕ) → Event
+  pub event : List (List ℕ) → Event AnyPolicy
 
 abbrev pub create : Row
 create =
@@ -91,6 +94,29 @@ tick = to_cpu (codes "tick") commands.Tick
 abbrev pub handoff : Row
 handoff = to_cpu (codes "handoff") commands.HandOff
 
+abbrev pub activate : Row
+activate = to_cpu (codes "activate") commands.Activate
+
+-- what names a policy
+abbrev pub policy_forms : List Form
+policy_forms = (literal (codes "first") ∷ []) ∷ (literal (codes "two") ∷ Number LEAST_SLICE MOST_SLICE ∷ []) ∷ []
+
+-- the policy that words name: first come, where nothing says another
+abbrev pub named : List (List ℕ) → AnyPolicy
+named [] = FirstCome (record {})
+named (v ∷ ws) = if is v (codes "two") then TwoClass (record { slice = number (at 0 ws) }) else FirstCome (record {})
+
+-- a new agent begins: by the policy that words name, or by that of the one before
+abbrev pub begins : List (List ℕ) → Event AnyPolicy
+begins [] = events.Kernel commands.Begin
+begins (w ∷ ws) = events.Begin (named (w ∷ ws))
+
+abbrev pub begin : Row
+begin = record { word = codes "begin"; forms = [] ∷ policy_forms; event = begins }
+
+abbrev pub page : Row
+page = record { word = codes "page"; forms = (u16s ∷ []) ∷ []; event = λ ws. events.Page (number (at 0 ws)) }
+
 abbrev pub drain : Row
 drain = record { word = codes "drain"; forms = (u32s ∷ []) ∷ []; event = λ ws. events.Drain (number (at 0 ws)) }
 
@@ -104,11 +130,17 @@ stamp =
     }
 
 -- a line whose first word says all: nothing stands behind it
-abbrev pub alone : List ℕ → Event → Row
+abbrev pub alone : List ℕ → Event AnyPolicy → Row
 alone word e = record { word = word; forms = [] ∷ []; event = λ ws. e }
 
 abbrev pub decide : Row
 decide = alone (codes "decide") events.Decide
+
+abbrev pub crash : Row
+crash = alone (codes "crash") events.Crash
+
+abbrev pub leave : Row
+leave = alone (codes "leave") (events.Kernel commands.Leave)
 
 abbrev pub commit : Row
 commit = record { word = codes "commit"; forms = (u64s ∷ []) ∷ []; event = λ ws. events.Commit (number (at 0 ws)) }
@@ -126,19 +158,19 @@ abbrev pub unread : Row
 unread = alone (codes "unread") events.Unread
 
 abbrev pub rows : List Row
-rows = create ∷ block ∷ wake ∷ yield ∷ die ∷ affinity ∷ take ∷ give ∷ tick ∷ handoff ∷ drain ∷ stamp ∷ decide ∷ commit ∷ late ∷ view ∷ state ∷ unread ∷ []
+rows = create ∷ block ∷ wake ∷ yield ∷ die ∷ affinity ∷ take ∷ give ∷ tick ∷ handoff ∷ crash ∷ leave ∷ begin ∷ page ∷ activate ∷ drain ∷ stamp ∷ decide ∷ commit ∷ late ∷ view ∷ state ∷ unread ∷ []
 
 -- what a row reads in the words after its first
-abbrev pub reads : Row → List (List ℕ) → Result Event Reason
+abbrev pub reads : Row → List (List ℕ) → Result (Event AnyPolicy) Reason
 reads row words = or_fault (line_fault row.forms words) (row.event words)
 
 -- what the first of these rows whose word it is reads
-abbrev pub event_by : List Row → List ℕ → List (List ℕ) → Result Event Reason
+abbrev pub event_by : List Row → List ℕ → List (List ℕ) → Result (Event AnyPolicy) Reason
 event_by [] first words = Err BadWord
 event_by (row ∷ rows) first words = if is first row.word then reads row words else event_by rows first words
 
 -- what an event line of these words says
-abbrev pub event_of : List (List ℕ) → Result Event Reason
+abbrev pub event_of : List (List ℕ) → Result (Event AnyPolicy) Reason
 event_of [] = Err BadWord
 event_of (first ∷ words) = event_by rows first words
 

@@ -14,7 +14,7 @@ use Rattle.gs_script.specs.Header.{header_of}
 -- what an enclave is opened with, and what happens in it
 pub record Script : Type 0 where
   pub config : Config AnyPolicy
-  pub events : List Event
+  pub events : List (Event AnyPolicy)
 
 abbrev pub fault : ℕ → Reason → ScriptFault
 fault n reason = record { line = n; reason = reason }
@@ -32,27 +32,27 @@ some_of (Err reason) = Err reason
 abbrev pub says : {A : Type 0} → (List (List ℕ) → Result A Reason) → List ℕ → Result (Option A) Reason
 says read line = if not (is_text line) then Err BadByte else (if is_passed_over (words_of line) then Ok None else some_of (read (words_of line)))
 
-abbrev pub with_event : Event → Result (List Event) ScriptFault → Result (List Event) ScriptFault
+abbrev pub with_event : Event AnyPolicy → Result (List (Event AnyPolicy)) ScriptFault → Result (List (Event AnyPolicy)) ScriptFault
 with_event e (Ok es) = Ok (e ∷ es)
 with_event e (Err f) = Err f
 
 -- a line's fault comes before those of the lines behind it
-abbrev pub before : ℕ → Result (Option Event) Reason → Result (List Event) ScriptFault → Result (List Event) ScriptFault
+abbrev pub before : ℕ → Result (Option (Event AnyPolicy)) Reason → Result (List (Event AnyPolicy)) ScriptFault → Result (List (Event AnyPolicy)) ScriptFault
 before n (Err reason) others = Err (fault n reason)
 before n (Ok None) others = others
 before n (Ok (Some e)) others = with_event e others
 
 -- the events of lines, numbered from n on, or the first fault
-abbrev pub events_of : ℕ → List (List ℕ) → Result (List Event) ScriptFault
+abbrev pub events_of : ℕ → List (List ℕ) → Result (List (Event AnyPolicy)) ScriptFault
 events_of n [] = Ok []
 events_of n (line ∷ lines) = before n (says event_of line) (events_of (n + 1) lines)
 
-abbrev pub with_config : Config AnyPolicy → Result (List Event) ScriptFault → Result Script ScriptFault
+abbrev pub with_config : Config AnyPolicy → Result (List (Event AnyPolicy)) ScriptFault → Result Script ScriptFault
 with_config c (Ok es) = Ok (record { config = c; events = es })
 with_config c (Err f) = Err f
 
 -- what a line in the header's place makes of the script: later is what it is where the header stands in a later line
-abbrev pub headed : ℕ → Result (Option (Config AnyPolicy)) Reason → Result Script ScriptFault → Result (List Event) ScriptFault → Result Script ScriptFault
+abbrev pub headed : ℕ → Result (Option (Config AnyPolicy)) Reason → Result Script ScriptFault → Result (List (Event AnyPolicy)) ScriptFault → Result Script ScriptFault
 headed n (Err reason) later events = Err (fault n reason)
 headed n (Ok None) later events = later
 headed n (Ok (Some c)) later events = with_config c events

@@ -5,14 +5,16 @@ ghost use Rattle.gs_script.specs.Rows.{shown, reads, event_of};
 ghost use Rattle.gs_script.specs.Words.{number as number_of};
 
 use crate::fault::Reason;
+use crate::header::named_policy;
 use crate::word::{name, number};
 use gs_core::Event;
 use gs_kernel::{Command, ThreadEvent};
 use gs_layout::{Class, Facts};
+use gs_policy::AnyPolicy;
 use gs_status::Mask;
 
-/// The number of a CPU, also of one that is not there.
-fn cpu_number(word: &str) -> Result<u16, Reason>
+/// A number of 16 bits: of a CPU, also of one that is not there, or of the threads of a page.
+fn u16_number(word: &str) -> Result<u16, Reason>
     ensures { result ≡ rows.number_between 0 u16.MAX word.now }
 {
     Ok(number(word, 0, u16::MAX as u64)? as u16)
@@ -46,7 +48,7 @@ fn is_runnable(word: &str) -> Result<bool, Reason>
 }
 
 /// A line whose first word says all.
-fn alone(words: &[&str], event: Event) -> Result<Event, Reason>
+fn alone(words: &[&str], event: Event<AnyPolicy>) -> Result<Event<AnyPolicy>, Reason>
     ensures { result ≡ reads (rows.alone [] event) (shown words.now) }
 {
     match words {
@@ -56,7 +58,7 @@ fn alone(words: &[&str], event: Event) -> Result<Event, Reason>
 }
 
 /// A creation of a thread with these facts.
-fn create_of(mask: &str, class: &str, state: &str, text: &str) -> Result<Event, Reason>
+fn create_of(mask: &str, class: &str, state: &str, text: &str) -> Result<Event<AnyPolicy>, Reason>
     ensures { result ≡ reads rows.create (mask.now ∷ class.now ∷ state.now ∷ text.now ∷ []) }
 {
     let mask = number(mask, 0, u64::MAX)?;
@@ -75,7 +77,7 @@ fn create_of(mask: &str, class: &str, state: &str, text: &str) -> Result<Event, 
 }
 
 #[tactic(auto, using(crate::proofs::Places::four_places))]
-fn create(words: &[&str]) -> Result<Event, Reason>
+fn create(words: &[&str]) -> Result<Event<AnyPolicy>, Reason>
     ensures { result ≡ reads rows.create (shown words.now) }
 {
     match words {
@@ -85,7 +87,7 @@ fn create(words: &[&str]) -> Result<Event, Reason>
 }
 
 /// What happens to the thread of a number.
-fn to_thread(words: &[&str], event: ThreadEvent) -> Result<Event, Reason>
+fn to_thread(words: &[&str], event: ThreadEvent) -> Result<Event<AnyPolicy>, Reason>
     ensures { result ≡ reads (rows.to_thread [] event) (shown words.now) }
 {
     let [tid] = words else {
@@ -98,7 +100,7 @@ fn to_thread(words: &[&str], event: ThreadEvent) -> Result<Event, Reason>
 }
 
 #[tactic(auto, using(crate::proofs::Places::two_places))]
-fn affinity(words: &[&str]) -> Result<Event, Reason>
+fn affinity(words: &[&str]) -> Result<Event<AnyPolicy>, Reason>
     ensures { result ≡ reads rows.affinity (shown words.now) }
 {
     let [tid, mask] = words else {
@@ -121,10 +123,10 @@ fn only_cpu(words: &[&str]) -> Result<u16, Reason>
     let [cpu] = words else {
         return Err(Reason::BadCount);
     };
-    cpu_number(cpu)
+    u16_number(cpu)
 }
 
-fn take(words: &[&str]) -> Result<Event, Reason>
+fn take(words: &[&str]) -> Result<Event<AnyPolicy>, Reason>
     ensures { result ≡ reads rows.take (shown words.now) }
 {
     let cpu = only_cpu(words)?;
@@ -133,7 +135,7 @@ fn take(words: &[&str]) -> Result<Event, Reason>
     })
 }
 
-fn give(words: &[&str]) -> Result<Event, Reason>
+fn give(words: &[&str]) -> Result<Event<AnyPolicy>, Reason>
     ensures { result ≡ reads rows.give (shown words.now) }
 {
     let cpu = only_cpu(words)?;
@@ -142,7 +144,7 @@ fn give(words: &[&str]) -> Result<Event, Reason>
     })
 }
 
-fn tick(words: &[&str]) -> Result<Event, Reason>
+fn tick(words: &[&str]) -> Result<Event<AnyPolicy>, Reason>
     ensures { result ≡ reads rows.tick (shown words.now) }
 {
     let cpu = only_cpu(words)?;
@@ -151,7 +153,7 @@ fn tick(words: &[&str]) -> Result<Event, Reason>
     })
 }
 
-fn handoff(words: &[&str]) -> Result<Event, Reason>
+fn handoff(words: &[&str]) -> Result<Event<AnyPolicy>, Reason>
     ensures { result ≡ reads rows.handoff (shown words.now) }
 {
     let cpu = only_cpu(words)?;
@@ -160,7 +162,43 @@ fn handoff(words: &[&str]) -> Result<Event, Reason>
     })
 }
 
-fn drain(words: &[&str]) -> Result<Event, Reason>
+fn activate(words: &[&str]) -> Result<Event<AnyPolicy>, Reason>
+    ensures { result ≡ reads rows.activate (shown words.now) }
+{
+    let cpu = only_cpu(words)?;
+    Ok(Event::Kernel {
+        command: Command::Activate { cpu },
+    })
+}
+
+/// The beginning of a new agent: by the policy that the words name, or by that of the one before.
+#[tactic(auto, using(crate::proofs::Policies::begins_again, crate::proofs::Policies::begins_named, crate::proofs::Policies::begins_long))]
+fn begin(words: &[&str]) -> Result<Event<AnyPolicy>, Reason>
+    ensures { result ≡ reads rows.begin (shown words.now) }
+{
+    if words.is_empty() {
+        return Ok(Event::Kernel {
+            command: Command::Begin,
+        });
+    }
+    if words.len() > 2 {
+        return Err(Reason::BadCount);
+    }
+    let policy = named_policy(words)?;
+    Ok(Event::Begin { policy })
+}
+
+fn page(words: &[&str]) -> Result<Event<AnyPolicy>, Reason>
+    ensures { result ≡ reads rows.page (shown words.now) }
+{
+    let [max] = words else {
+        return Err(Reason::BadCount);
+    };
+    let max = u16_number(max)?;
+    Ok(Event::Page { max })
+}
+
+fn drain(words: &[&str]) -> Result<Event<AnyPolicy>, Reason>
     ensures { result ≡ reads rows.drain (shown words.now) }
 {
     let [max] = words else {
@@ -171,10 +209,10 @@ fn drain(words: &[&str]) -> Result<Event, Reason>
 }
 
 /// A stamp for a CPU that has to be free.
-fn stamp_plain(cpu: &str, tid: &str) -> Result<Event, Reason>
+fn stamp_plain(cpu: &str, tid: &str) -> Result<Event<AnyPolicy>, Reason>
     ensures { result ≡ reads rows.stamp (cpu.now ∷ tid.now ∷ []) }
 {
-    let cpu = cpu_number(cpu)?;
+    let cpu = u16_number(cpu)?;
     let tid = u32_number(tid)?;
     Ok(Event::Stamp {
         cpu,
@@ -184,10 +222,10 @@ fn stamp_plain(cpu: &str, tid: &str) -> Result<Event, Reason>
 }
 
 /// A stamp with a flag behind it.
-fn stamp_flagged(cpu: &str, tid: &str, flag: &str) -> Result<Event, Reason>
+fn stamp_flagged(cpu: &str, tid: &str, flag: &str) -> Result<Event<AnyPolicy>, Reason>
     ensures { result ≡ reads rows.stamp (cpu.now ∷ tid.now ∷ flag.now ∷ []) }
 {
-    let cpu = cpu_number(cpu)?;
+    let cpu = u16_number(cpu)?;
     let tid = u32_number(tid)?;
     if flag != "p" {
         return Err(Reason::BadWord);
@@ -200,7 +238,7 @@ fn stamp_flagged(cpu: &str, tid: &str, flag: &str) -> Result<Event, Reason>
 }
 
 #[tactic(auto, using(crate::proofs::Places::two_places, crate::proofs::Places::three_places))]
-fn stamp(words: &[&str]) -> Result<Event, Reason>
+fn stamp(words: &[&str]) -> Result<Event<AnyPolicy>, Reason>
     ensures { result ≡ reads rows.stamp (shown words.now) }
 {
     match words {
@@ -210,7 +248,7 @@ fn stamp(words: &[&str]) -> Result<Event, Reason>
     }
 }
 
-fn commit(words: &[&str]) -> Result<Event, Reason>
+fn commit(words: &[&str]) -> Result<Event<AnyPolicy>, Reason>
     ensures { result ≡ reads rows.commit (shown words.now) }
 {
     let [mask] = words else {
@@ -220,7 +258,7 @@ fn commit(words: &[&str]) -> Result<Event, Reason>
     Ok(Event::Commit { mask })
 }
 
-fn late(words: &[&str]) -> Result<Event, Reason>
+fn late(words: &[&str]) -> Result<Event<AnyPolicy>, Reason>
     ensures { result ≡ reads rows.late (shown words.now) }
 {
     let [number] = words else {
@@ -231,7 +269,7 @@ fn late(words: &[&str]) -> Result<Event, Reason>
 }
 
 /// What an event line of these words says.
-pub(crate) fn event(words: &[&str]) -> Result<Event, Reason>
+pub(crate) fn event(words: &[&str]) -> Result<Event<AnyPolicy>, Reason>
     ensures { result ≡ event_of (shown words.now) }
 {
     let Some((first, words)) = words.split_first() else {
@@ -248,6 +286,16 @@ pub(crate) fn event(words: &[&str]) -> Result<Event, Reason>
         "give" => give(words),
         "tick" => tick(words),
         "handoff" => handoff(words),
+        "crash" => alone(words, Event::Crash),
+        "leave" => alone(
+            words,
+            Event::Kernel {
+                command: Command::Leave,
+            },
+        ),
+        "begin" => begin(words),
+        "page" => page(words),
+        "activate" => activate(words),
         "drain" => drain(words),
         "stamp" => stamp(words),
         "decide" => alone(words, Event::Decide),

@@ -82,7 +82,7 @@ fn two_class(words: &[&str]) -> Result<AnyPolicy, Reason>
 }
 
 /// The policy that these words name.
-fn named_policy(words: &[&str]) -> Result<AnyPolicy, Reason>
+pub(crate) fn named_policy(words: &[&str]) -> Result<AnyPolicy, Reason>
     ensures { result ≡ policy_named (shown words.now) }
 {
     let Some((name, rest)) = words.split_first() else {

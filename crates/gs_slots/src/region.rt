@@ -3,6 +3,8 @@ ghost use Rattle.std.specs.Borrow.{sem};
 ghost use Rattle.gs_slots.specs.declared.state.SlotState.{SlotState};
 ghost use Rattle.gs_slots.specs.SlotMut.{cpu_of, state_of};
 ghost use Rattle.gs_slots.specs.Lending.{LendsAll, LendsOne};
+ghost use Rattle.gs_slots.specs.State.{is_stamped};
+ghost use Rattle.std.specs.List.{list_any};
 
 use crate::cell::SlotCell;
 use crate::slot::SlotMut;
@@ -76,6 +78,20 @@ impl Region {
         SlotMut::over(&mut self.cells[cpu as usize], cpu)
     }
 
+    /// Whether something is stamped into a slot that did not land yet.
+    pub fn has_stamped(&self) -> bool
+        ensures { result ≡ list_any is_stamped self.now }
+    {
+        self.cells.iter().any(is_stamped)
+    }
+
+    /// Makes each slot idle, whatever is in it.
+    pub fn clear(&mut self)
+        ensures { self.new ≡ replicate (length self.old) SlotState.Idle }
+    {
+        clear_all(&mut self.cells);
+    }
+
     /// Lends all slots. Afterwards the region is the slots as they were left.
     pub fn lend(&mut self) -> Slots<'_>
         ensures* writes_back { sem 𝓛 (LendsAll self.entry result) }
@@ -86,5 +102,22 @@ impl Region {
             rest: &mut self.cells,
             first: 0,
         }
+    }
+}
+
+/// Whether something is stamped into a slot that did not land yet.
+fn is_stamped(cell: &SlotCell) -> bool
+    ensures { result ≡ is_stamped cell.now }
+{
+    matches!(cell.state(), SlotState::Stamped { .. })
+}
+
+/// Makes each of these slots idle.
+fn clear_all(cells: &mut [SlotCell])
+    ensures { cells.new ≡ replicate (length cells.old) SlotState.Idle }
+{
+    if let Some((first, rest)) = cells.split_first_mut() {
+        first.clear();
+        clear_all(rest);
     }
 }

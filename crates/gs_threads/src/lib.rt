@@ -3,8 +3,10 @@
 //! A row is what the thread's messages make of it, its sequence number, and the CPU that it is on.
 #![tactic(auto)]
 
+mod bits;
 mod law;
 mod live;
+mod live_set;
 mod row;
 mod table;
 

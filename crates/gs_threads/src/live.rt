@@ -1,38 +1,47 @@
-ghost use Rattle.std.specs.Prelude.{◌≡◌, ◌+◌, ◌^◌, ◌<◌, length};
+ghost use Rattle.std.specs.Prelude.{◌≡◌, ◌^◌, ◌<◌, length};
 ghost use Rattle.std.specs.Iterator.{YieldsFirstBy, item_count};
-ghost use Rattle.gs_threads.specs.Live.{live_after, shown};
+ghost use Rattle.gs_threads.specs.Live.{IsLiveSet, live_from, shown};
 
+use crate::live_set::LiveSet;
 use crate::row::ThreadRow;
 use std::marker::Model;
 
-/// The live threads that a walk has still to show, by rising tid, each with its row.
+/// The live threads that a walk has still to show, by rising tid, each with its row. It goes from one to
+/// the next, whatever dead ones stand between.
 #[derive(Drop)]
 pub struct LiveRows<'a> {
-    /// The rows that the walk has still to pass.
+    /// The rows of all threads.
     rows: &'a [ThreadRow],
-    /// How many rows stand before them: the first of them is of the thread one above that.
-    passed: usize,
+    /// The threads that live.
+    live: &'a LiveSet,
+    /// The least tid that the walk may still show.
+    from: usize,
 }
 
 impl<'a> Model for LiveRows<'a> {
-    ghost use Rattle.std.specs.Prelude.{List, ℕ, ◌+◌, ◌<◌, ◌^◌, length};
+    ghost use Rattle.std.specs.Prelude.{List, ℕ, ◌<◌, ◌^◌, length};
     ghost use Rattle.gs_threads.specs.declared.row.ThreadRow.{ThreadRow};
-    ghost use Rattle.gs_threads.specs.Live.{live_after};
+    ghost use Rattle.gs_threads.specs.Live.{IsLiveSet, live_from};
 
     ghost Value = { List (ℕ × ThreadRow) };
 
-    ghost view = { λ w. live_after w.passed w.rows.now };
+    ghost view = { λ w. live_from w.rows.now w.from };
 
-    ghost invariant = { λ w. w.passed + length w.rows.now < 2 ^ 32 };
+    ghost invariant = { λ w. (length w.rows.now < 2 ^ 32) × IsLiveSet w.live.now w.rows.now };
 }
 
 impl<'a> LiveRows<'a> {
-    /// The live threads of these rows, before which so many stand.
-    pub(crate) fn new(rows: &'a [ThreadRow], passed: usize) -> LiveRows<'a>
-        requires { passed + length rows.now < 2 ^ 32 }
-        ensures { result ≡ live_after passed rows.now }
+    /// The live threads of these rows, from a tid on.
+    pub(crate) fn new(rows: &'a [ThreadRow], live: &'a LiveSet, tid: u32) -> LiveRows<'a>
+        requires rows { length rows.now < 2 ^ 32 }
+        requires live { IsLiveSet live.now rows.now }
+        ensures { result ≡ live_from rows.now tid }
     {
-        LiveRows { rows, passed }
+        LiveRows {
+            rows,
+            live,
+            from: tid as usize,
+        }
     }
 }
 
@@ -43,15 +52,10 @@ impl<'a> Iterator for LiveRows<'a> {
 
     ghost remaining = { item_count (λ walk. walk) };
 
-    #[tactic(auto, using(crate::proofs::Walks::walk_over, crate::proofs::Walks::walk_live, crate::proofs::Walks::walk_dead))]
+    #[tactic(auto, using(crate::proofs::Walks::walk_none_in, crate::proofs::Walks::walk_first_in, crate::proofs::Walks::in_within))]
     fn next(&mut self) -> Option<(u32, &'a ThreadRow)> {
-        while let Some((row, later)) = self.rows.split_first() {
-            self.rows = later;
-            self.passed += 1;
-            if row.is_live() {
-                return Some((self.passed as u32, row));
-            }
-        }
-        None
+        let tid = self.live.next_from(self.from)?;
+        self.from = tid + 1;
+        Some((tid as u32, &self.rows[tid - 1]))
     }
 }

@@ -5,6 +5,7 @@ ghost use Rattle.gs_threads.specs.Table.{row_of, rows_after, rows_placed};
 ghost use Rattle.gs_threads.specs.Live.{live_from};
 
 use crate::live::LiveRows;
+use crate::live_set::LiveSet;
 use crate::row::ThreadRow;
 use gs_layout::{Facts, Message};
 use std::alloc::{AllocError, Global};
@@ -13,15 +14,21 @@ use std::marker::Model;
 /// One row for each thread that ever was, the dead too: thread 1 first.
 ///
 /// Each call takes the same time for any number of threads, but for `reserve` where it grows the
-/// table (twofold), and for the walk of `live_from`, which passes over each row from its start on.
+/// table (twofold), and for the walk of `live_from`. A step of that walk looks at two words of the live
+/// tids, and in between at one word for each 4,096 tids at most: 17 for [`MOST_TIDS`](gs_layout::MOST_TIDS)
+/// threads. It passes over no row of a dead thread.
 #[derive(Drop)]
 pub struct ThreadTable {
     rows: Vec<ThreadRow>,
+    /// The tids whose rows are of live threads.
+    live: LiveSet,
     first_tseq: u32,
 }
 
 impl Model for ThreadTable {
-    ghost use Rattle.std.specs.Prelude.{◌-◌, ◌<◌, ◌^◌, min, vec_len, vec_capacity};
+    ghost use Rattle.std.specs.Prelude.{◌-◌, ◌*◌, ◌<◌, ◌^◌, length, min, vec_len, vec_capacity};
+    ghost use Rattle.gs_threads.specs.declared.bits.TheConstants.{WORD};
+    ghost use Rattle.gs_threads.specs.Live.{IsOfRows};
     ghost use Rattle.gs_threads.specs.Table.{TableState};
 
     ghost Value = { TableState };
@@ -29,10 +36,10 @@ impl Model for ThreadTable {
     ghost view = { λ t. record {
       rows = t.rows.items;
       first_tseq = t.first_tseq;
-      room = min (vec_capacity t.rows - vec_len t.rows) (2 ^ 32 - 1 - vec_len t.rows);
+      room = min (vec_capacity t.rows - vec_len t.rows) (min (2 ^ 32 - 1 - vec_len t.rows) (WORD * length t.live - 1 - vec_len t.rows));
     } };
 
-    ghost invariant = { λ t. (vec_len t.rows < 2 ^ 32) × (t.first_tseq < 2 ^ 32 - 1) };
+    ghost invariant = { λ t. (vec_len t.rows < 2 ^ 32) × (t.first_tseq < 2 ^ 32 - 1) × IsOfRows t.live t.rows.items };
 }
 
 impl ThreadTable {
@@ -46,6 +53,7 @@ impl ThreadTable {
     {
         ThreadTable {
             rows: Vec::new(alloc),
+            live: LiveSet::new(alloc),
             first_tseq,
         }
     }
@@ -78,10 +86,12 @@ impl ThreadTable {
         ensures enough { 0 < self.old.room → IsOk result }
         ensures refused { OnErr result (self.new ≡ self.old) }
     {
+        self.live.reserve(self.rows.len() + 1)?;
         self.rows.reserve(1)
     }
 
     /// Appends the row of the next thread, for which room was made before.
+    #[tactic(auto, using(crate::proofs::Living::created))]
     pub fn create(&mut self, facts: &Facts)
         requires { 0 < self.old.room }
         ensures rows { self.new.rows ≡ self.old.rows ++ new_row self.old.first_tseq facts.now ∷ [] }
@@ -91,6 +101,7 @@ impl ThreadTable {
         let row = ThreadRow::new(self.first_tseq, facts);
         // There is room, so it takes no memory and cannot fail.
         self.rows.extend_from_slice(&[row]).unwrap();
+        self.live.set(self.rows.len(), true);
     }
 
     /// The row of a thread, or `None` for one that never was.
@@ -116,6 +127,7 @@ impl ThreadTable {
         if self.has(*tid) {
             let row = &mut self.rows[*tid as usize - 1];
             *row = row.after(message);
+            self.live.set(*tid as usize, row.is_live());
         }
     }
 
@@ -133,8 +145,7 @@ impl ThreadTable {
     pub fn live_from(&self, tid: u32) -> LiveRows<'_>
         ensures { result ≡ live_from self.now.rows tid }
     {
-        let passed = (tid as usize).saturating_sub(1).min(self.rows.len());
-        LiveRows::new(&self.rows[passed..], passed)
+        LiveRows::new(&self.rows, &self.live, tid)
     }
 
     /// Whether a thread ever was.

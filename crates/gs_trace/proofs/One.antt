@@ -1,7 +1,7 @@
 -- An input has one output: where memory suffices, each event of a run has one reply.
-use Rattle.std.proofs.Common.{◌≡◌, refl, ap, sym, ◌∙◌, subst, ℕ, ◌+◌, ◌⊎◌, inl, inr, ◌||◌, Bool, true, false, not, nat_le, Option, None, Some, List, [], ◌∷◌, length, take, drop, Result, Ok, Err, slice_get}
+use Rattle.std.proofs.Common.{◌≡◌, refl, ap, sym, ◌∙◌, subst, ℕ, ◌+◌, ◌⊎◌, inl, inr, ◌||◌, Bool, true, false, not, nat_le, unwrap_or, map, Option, None, Some, List, [], ◌∷◌, length, take, drop, Result, Ok, Err, slice_get}
 use Rattle.std.specs.List.{list_any, count_by}
-use Rattle.std.specs.Option.{is_some, option_map}
+use Rattle.std.specs.Option.{is_none, is_some, option_map}
 use Rattle.gs_layout.specs.declared.message.Message.{Message}
 use Rattle.gs_layout.specs.declared.known.Known.{Known}
 use Rattle.gs_layout.specs.declared.refusal.Refusal.{Refusal}
@@ -9,7 +9,11 @@ use Rattle.gs_layout.specs.declared.refusal.Refusal.TheVariants as refusals
 use Rattle.gs_layout.specs.View.{Look, words, catch_up, is_skipped, is_orphan, gap_next}
 use Rattle.gs_journal.specs.History.{posted, active, taken, torn}
 use Rattle.gs_journal.proofs.Past.{same_view}
+use Rattle.gs_dump.specs.Page.{Contents}
+use Rattle.gs_kernel.specs.Attaching.{page_refusal}
+use Rattle.gs_kernel.specs.Dumped.{dumped}
 use Rattle.gs_kernel.specs.First.{first_that}
+use Rattle.gs_kernel.specs.Kernel.{unless_torn}
 use Rattle.gs_agent.specs.declared.drained.Drained.{Drained}
 use Rattle.gs_agent.specs.declared.drained.Stop.{Stop}
 use Rattle.gs_agent.specs.declared.drained.Stop.TheVariants.{Gap, Memory}
@@ -21,14 +25,16 @@ use Rattle.gs_core.specs.declared.reply.Reply.TheVariants as replies
 use Rattle.gs_policy.specs.declared.choice.Choice.{Choice}
 use Rattle.gs_runq.specs.Queue.{order}
 use Rattle.gs_mind.specs.Mind.{picture_of}
+use Rattle.gs_mind.specs.Pages.{after_page}
 use Rattle.gs_mind.specs.Picture.{Picture, after_slots, after_stamp, takes_in_all}
-use Rattle.gs_core.specs.Machine.{State, Agent, led, mind_of, picture, thinking, committed, fits, view, unread, is_idle, refusal, Serves, Step, Does, IsShort, Takes, Drains, carried, stamps, stamps_with, stamps_all, plan_of}
+use Rattle.gs_core.specs.Machine.{Attaches, Plan, State, Agent, crashed, freed_by, led, next_dump, page_of, page_reply, planned, planned_by, mind_of, picture, thinking, committed, fits, view, unread, is_idle, refusal, Serves, Step, Does, IsShort, Takes, Drains, carried, stamps, stamps_with, stamps_all, plan_of}
 use Rattle.gs_core.specs.declared.transaction.Transaction.{Transaction}
 use Rattle.gs_core.specs.Safe.{IsFaithful, Run}
 use Rattle.gs_journal.specs.declared.entry.Entry.{Entry}
 use Rattle.gs_journal.specs.declared.entry.Entry.TheVariants.{Posted, Placed, Role, Begin, Left, Taken, Given, Torn}
 use Rattle.gs_kernel.specs.declared.command.Command.{Command}
-use Rattle.gs_kernel.specs.Legal.{effect, last_in}
+use Rattle.gs_kernel.specs.declared.command.Command.TheVariants as commands
+use Rattle.gs_kernel.specs.Legal.{effect, last_in, refusal as kernel_refuses}
 use Rattle.gs_kernel.specs.Lands.{Lands}
 use Rattle.gs_core.proofs.Exact.{all_one, lands_one, tells_one}
 use Rattle.gs_core.proofs.Faces.{drop_drop}
@@ -37,12 +43,13 @@ use Rattle.gs_trace.specs.declared.run.Ended.{Ended}
 use Rattle.gs_script.specs.Script.{Script, script_of}
 use Rattle.gs_trace.proofs.Lists.{one_list}
 use Rattle.gs_core.specs.Short.{is_memory, wants_memory}
-use Rattle.gs_trace.specs.Output.{IsShown, IsShownOf}
+use Rattle.gs_trace.specs.Output.{IsShown, IsShownOf, any_plans}
 
--- agents that have the same picture, or none of both
+-- agents that have the same picture and need the same page next, or none of both
 record Same (a b : Option Agent) : Type 0 where
   pictured : picture_of (mind_of a) ≡ picture_of (mind_of b)
   there : is_some a ≡ is_some b
+  page : page_of a ≡ page_of b
 
 -- machines that differ at most in how their agents list what they know
 abbrev Alike : State → State → Type 0
@@ -53,12 +60,12 @@ alike_at m n x a e k same = (a, k ∙ ap (λ (s : State). record s { agent = a }
 
 -- agents that are the same think the same
 same_thinks : (f : Picture → Picture) (a b : Option Agent) → Same a b → Same (option_map (thinking f) a) (option_map (thinking f) b)
-same_thinks f None None same = record { pictured = refl; there = refl }
+same_thinks f None None same = record { pictured = refl; there = refl; page = refl }
 same_thinks f (Some a) None same = absurd (let e : true ≡ false = same.there in cc)
 same_thinks f None (Some b) same = absurd (let e : false ≡ true = same.there in cc)
 same_thinks f (Some a) (Some b) same =
     let p : picture_of a.mind ≡ picture_of b.mind = same.pictured in
-    record { pictured = λ i. record { view = (p i).view; cpus = (f (p i)).cpus; queue = (f (p i)).queue }; there = refl }
+    record { pictured = λ i. record { view = (p i).view; cpus = (f (p i)).cpus; queue = (f (p i)).queue }; there = refl; page = same.page }
 
 -- one refusal
 stamp_refusal : State → ℕ → ℕ → Look → Option Refusal
@@ -81,9 +88,20 @@ one_plan : (m : State) (a : Option Agent) → Same a m.agent → plan_of (record
 unfolding plan_by
 one_plan m a same = ap (plan_by m) same.pictured
 
-one_refusal : (m : State) (a : Option Agent) → Same a m.agent → (e : Event) → refusal (record m { agent = a }) e ≡ refusal m e
+one_refusal : (m : State) (a : Option Agent) → Same a m.agent → (e : Event Plan) → refusal (record m { agent = a }) e ≡ refusal m e
 unfolding stamp_refusal
-one_refusal m a same (Kernel c) = refl
+one_refusal m a same (Kernel (commands.Create f)) = refl
+one_refusal m a same (Kernel (commands.Thread t x)) = refl
+one_refusal m a same (Kernel (commands.Take c)) = refl
+one_refusal m a same (Kernel (commands.Give c)) = refl
+one_refusal m a same (Kernel (commands.Tick c)) = refl
+one_refusal m a same (Kernel (commands.HandOff c)) = refl
+one_refusal m a same (Kernel commands.Leave) = refl
+one_refusal m a same (Kernel commands.Begin) = refl
+one_refusal m a same (Kernel (commands.Activate c)) = ap (λ o. kernel_refuses m.settings m.history (is_none o) (commands.Activate c)) same.page
+one_refusal m a same events.Crash = refl
+one_refusal m a same (events.Begin p) = refl
+one_refusal m a same (events.Page max) = ap (λ o. unless_torn m.history (page_refusal m.history (is_none o))) same.page
 one_refusal m a same (Drain max) = refl
 one_refusal m a same (Stamp c t p) = ap (λ (x : Picture). stamp_refusal m c t x.view) same.pictured
 one_refusal m a same Decide = cc (one_plan m a same)
@@ -148,7 +166,7 @@ one_drain m a same max d e m' n' x y f g p q =
         y.others
             ∙ ap (λ c. record m { consumed = c; agent = n'.agent }) (y.consumed ∙ ap (λ (z : Drained). m.consumed + z.count) (sym t.told) ∙ sym x.consumed)
             ∙ sym (ap (λ (s : State). record s { agent = n'.agent }) x.others),
-        record { pictured = sym t.pictured; there = y.stays ∙ (same.there ∙ sym x.stays) },
+        record { pictured = sym t.pictured; there = y.stays ∙ (same.there ∙ sym x.stays); page = y.page ∙ (same.page ∙ sym x.page) },
       );
     }
 
@@ -231,37 +249,68 @@ one_commit m a same mask r r' m' n' x y =
     }
 
 -- agents that are the same follow a command alike
-same_led : (e : Entry) (fit : Bool) (a b : Option Agent) → Same a b → Same (led e fit a) (led e fit b)
-same_led (Role g c) true a b same = same_thinks (λ p. record p { cpus = record p.cpus { agent = Some c } }) a b same
-same_led (Role g c) false a b same = same
-same_led (Posted k) fit a b same = same
-same_led (Placed t s c g) fit a b same = same
-same_led (Begin g) fit a b same = same
-same_led Left fit a b same = same
-same_led (Taken c) fit a b same = same
-same_led (Given c) fit a b same = same
-same_led Torn fit a b same = same
+same_led : (cpus : ℕ) (e : Entry) (fit : Bool) (a b : Option Agent) → Same a b → Same (led cpus e fit a) (led cpus e fit b)
+same_led cpus (Role g c) true a b same = same_thinks (λ p. record p { cpus = record p.cpus { agent = Some c } }) a b same
+same_led cpus (Role g c) false a b same = same
+same_led cpus (Posted k) fit a b same = same
+same_led cpus (Placed t s c g) fit a b same = same
+same_led cpus (Begin g) true a b same = record { pictured = refl; there = refl; page = refl }
+same_led cpus (Begin g) false a b same = same
+same_led cpus Left true a b same = record { pictured = refl; there = refl; page = refl }
+same_led cpus Left false a b same = same
+same_led cpus (Taken c) fit a b same = same
+same_led cpus (Given c) fit a b same = same
+same_led cpus Torn fit a b same = same
 
 -- one command
 one_command : (m : State) (a : Option Agent) → Same a m.agent → (c : Command) (r r' : Reply) (m' n' : State) → Does m (Kernel c) r m' → Does (record m { agent = a }) (Kernel c) r' n' → One r r' m' n'
 one_command m a same c r r' m' n' x y =
     let last : Entry = last_in (effect m.settings m.history c) in
+    let cpus : ℕ = m.settings.cpus in
     let one = tells_one m.ring m.consumed m.history (effect m.settings m.history c) x.fit y.fit m'.history n'.history x.tells y.tells in
     record {
       reply = x.reply ∙ (ap (carried m c) one.0 ∙ sym y.reply);
-      left = alike_at m' n' (record m { history = m'.history; agent = led last x.fit m.agent }) (led last x.fit a) x.others (y.others ∙ (λ i. record m { history = sym one.1 i; agent = led last (sym one.0 i) a })) (same_led last x.fit a m.agent same);
+      left = alike_at m' n' (record m { history = m'.history; agent = led cpus last x.fit m.agent; slots = freed_by cpus last x.fit m.slots }) (led cpus last x.fit a) x.others
+          (y.others ∙ (λ i. record m { history = sym one.1 i; agent = led cpus last (sym one.0 i) a; slots = freed_by cpus last (sym one.0 i) m.slots })) (same_led cpus last x.fit a m.agent same);
+    }
+
+-- one page
+one_page : (m : State) (a : Option Agent) → Same a m.agent → (max : ℕ) (r r' : Reply) (m' n' : State) → Attaches m max r m' → Attaches (record m { agent = a }) max r' n' → One r r' m' n'
+one_page m a same max r r' m' n' x y =
+    let dump : next_dump (record m { agent = a }) max ≡ next_dump m max = ap (λ o. dumped m.settings m.history (unwrap_or o 0) max) same.page in
+    record {
+      reply = x.reply ∙ (ap page_reply (sym dump) ∙ sym y.reply);
+      left = (
+        n'.agent,
+        y.others ∙ sym (ap (λ (s : State). record s { agent = n'.agent }) x.others),
+        record {
+          pictured = y.known ∙ ((λ i. after_page (dump i).records (same.pictured i)) ∙ sym x.known);
+          there = y.stays ∙ (same.there ∙ sym x.stays);
+          page = y.page ∙ (ap (λ (p : Contents). p.next) dump ∙ sym x.page);
+        },
+      );
     }
 
 -- one step
 refused_is : (r : Reply) → wants_memory r ≡ false → r ≡ replies.Refused refusals.OutOfMemory → ⊥
 refused_is r p e = let k = sym p ∙ ap wants_memory e in absurd (cc)
 
-one_done : (m : State) (a : Option Agent) → Same a m.agent → (e : Event) (r r' : Reply) (m' n' : State)
+one_done : (m : State) (a : Option Agent) → Same a m.agent → (e : Event Plan) (r r' : Reply) (m' n' : State)
     → Does m e r m' ⊎ (IsShort e r × (m' ≡ m)) → Does (record m { agent = a }) e r' n' ⊎ (IsShort e r' × (n' ≡ record m { agent = a }))
     → IsFaithful m' → IsFaithful n' → wants_memory r ≡ false → wants_memory r' ≡ false → One r r' m' n'
 one_done m a same (Kernel c) r r' m' n' (inl x) (inl y) g h p q = one_command m a same c r r' m' n' x y
 one_done m a same (Kernel c) r r' m' n' (inr x) y g h p q = absurd (refused_is r p x.0)
 one_done m a same (Kernel c) r r' m' n' (inl x) (inr y) g h p q = absurd (refused_is r' q y.0)
+one_done m a same events.Crash r r' m' n' (inl x) (inl y) g h p q =
+    record { reply = x.0 ∙ sym y.0; left = alike_at m' n' (crashed m) None x.1 y.1 (record { pictured = refl; there = refl; page = refl }) }
+one_done m a same events.Crash r r' m' n' (inr x) y g h p q = absurd (refused_is r p x.0)
+one_done m a same events.Crash r r' m' n' (inl x) (inr y) g h p q = absurd (refused_is r' q y.0)
+one_done m a same (events.Begin b) r r' m' n' (inl x) (inl y) g h p q = one_command (planned_by b m) a same commands.Begin r r' m' n' x y
+one_done m a same (events.Begin b) r r' m' n' (inr x) y g h p q = absurd (refused_is r p x.0)
+one_done m a same (events.Begin b) r r' m' n' (inl x) (inr y) g h p q = absurd (refused_is r' q y.0)
+one_done m a same (events.Page max) r r' m' n' (inl x) (inl y) g h p q = one_page m a same max r r' m' n' x y
+one_done m a same (events.Page max) r r' m' n' (inr x) y g h p q = absurd (refused_is r p x.0)
+one_done m a same (events.Page max) r r' m' n' (inl x) (inr y) g h p q = absurd (refused_is r' q y.0)
 one_done m a same (Drain max) r r' m' n' (inl x) (inl y) g h p q =
     let o = one_drain m a same max x.0 y.0 m' n' x.2 y.2 g h (sym (ap wants_memory x.1) ∙ p) (sym (ap wants_memory y.1) ∙ q) in
     record { reply = x.1 ∙ o.reply ∙ sym y.1; left = o.left }
@@ -291,12 +340,12 @@ one_done m a same Unread r r' m' n' (inl x) (inl y) g h p q = record { reply = x
 one_done m a same Unread r r' m' n' (inr x) y g h p q = absurd (refused_is r p x.0)
 one_done m a same Unread r r' m' n' (inl x) (inr y) g h p q = absurd (refused_is r' q y.0)
 
-one_served : (o : Option Refusal) (m : State) (a : Option Agent) → Same a m.agent → (e : Event) (r r' : Reply) (m' n' : State)
+one_served : (o : Option Refusal) (m : State) (a : Option Agent) → Same a m.agent → (e : Event Plan) (r r' : Reply) (m' n' : State)
     → Serves o m e r m' → Serves o (record m { agent = a }) e r' n' → IsFaithful m' → IsFaithful n' → wants_memory r ≡ false → wants_memory r' ≡ false → One r r' m' n'
 one_served (Some f) m a same e r r' m' n' x y g h p q = record { reply = x.0 ∙ sym y.0; left = alike_at m' n' m a x.1 y.1 same }
 one_served None m a same e r r' m' n' x y g h p q = one_done m a same e r r' m' n' x y g h p q
 
-one_step : (m n : State) → Alike m n → (e : Event) (r r' : Reply) (m' n' : State) → Step m e r m' → Step n e r' n' → IsFaithful m' → IsFaithful n' → wants_memory r ≡ false → wants_memory r' ≡ false → One r r' m' n'
+one_step : (m n : State) → Alike m n → (e : Event Plan) (r r' : Reply) (m' n' : State) → Step m e r m' → Step n e r' n' → IsFaithful m' → IsFaithful n' → wants_memory r ≡ false → wants_memory r' ≡ false → One r r' m' n'
 one_step m n alike e r r' m' n' x y g h p q =
     let a = alike.0 in
     let z : Step (record m { agent = a }) e r' n' = subst (λ (s : State). Step s e r' n') alike.1 y in
@@ -308,7 +357,7 @@ neither : (a b : Bool) → (a || b) ≡ false → (a ≡ false) × (b ≡ false)
 neither false b e = (refl, e)
 neither true b e = absurd cc
 
-one_run : (es : List Event) (m n : State) → Alike m n → (rs rs' : List Reply) (l l' : State) → Run m es rs l → Run n es rs' l' → list_any wants_memory rs ≡ false → list_any wants_memory rs' ≡ false → rs ≡ rs'
+one_run : (es : List (Event Plan)) (m n : State) → Alike m n → (rs rs' : List Reply) (l l' : State) → Run m es rs l → Run n es rs' l' → list_any wants_memory rs ≡ false → list_any wants_memory rs' ≡ false → rs ≡ rs'
 one_run [] m n alike [] [] l l' x y p q = refl
 one_run [] m n alike (r ∷ rs) rs' l l' x y p q = absurd x
 one_run [] m n alike [] (r ∷ rs') l l' x y p q = absurd y
@@ -324,7 +373,7 @@ one_run (e ∷ es) m n alike (r ∷ rs) (r' ∷ rs') l l' x y p q =
 one_of : (show : List Reply → List ℕ) (s : Result Script ScriptFault) (ended ended' : Ended) (out out' : List ℕ) → IsShownOf show s ended out → IsShownOf show s ended' out' → (ended ≡ ended') × (out ≡ out')
 one_of show (Ok s) ended ended' out out' x y = (
   x.0 ∙ sym y.0,
-  x.1.shown ∙ ap show (one_run s.events _ _ (_, refl, record { pictured = refl; there = refl }) x.1.replies y.1.replies x.1.left y.1.left x.1.run y.1.run x.1.sufficed y.1.sufficed) ∙ sym y.1.shown,
+  x.1.shown ∙ ap show (one_run (map (planned any_plans) s.events) _ _ (_, refl, record { pictured = refl; there = refl; page = refl }) x.1.replies y.1.replies x.1.left y.1.left x.1.run y.1.run x.1.sufficed y.1.sufficed) ∙ sym y.1.shown,
 )
 one_of show (Err f) ended ended' out out' x y = (x.0 ∙ sym y.0, x.1 ∙ sym y.1)
 

@@ -19,7 +19,7 @@ use Rattle.gs_core.specs.declared.event.Event.{Event}
 use Rattle.gs_core.specs.declared.event.Event.TheVariants as events
 use Rattle.gs_core.specs.declared.reply.Reply.{Reply}
 use Rattle.gs_core.specs.declared.reply.Reply.TheVariants as replies
-use Rattle.gs_core.specs.Machine.{State, Step, start, planning}
+use Rattle.gs_core.specs.Machine.{Plan, State, Step, start, planning}
 use Rattle.gs_core.specs.Safe.{Run}
 use Rattle.gs_core.proofs.Keeping.{kept_faithful, kept_safe, kept_start, kept_step}
 use Rattle.gs_trace.specs.declared.run.Ended.TheVariants.{Ran}
@@ -95,7 +95,7 @@ gone : Step (torn_after four) (events.Drain 1) (replies.Refused refusals.Gone) (
 unfolding two facts made torn
 gone = (refl, refl)
 
-abbrev torn_events : List Event
+abbrev torn_events : List (Event Plan)
 torn_events = events.Kernel (commands.Create (facts (codes "a"))) ∷ events.Kernel (commands.Create (facts (codes "b"))) ∷ events.Kernel (commands.Create (facts (codes "c"))) ∷ events.Kernel (commands.Create (facts (codes "d"))) ∷ events.Kernel (commands.Tick 1) ∷ events.Drain 1 ∷ []
 
 torn_run : Run (planning any_plans (start two)) torn_events torn_replies (torn_after four)

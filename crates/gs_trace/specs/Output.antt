@@ -1,11 +1,11 @@
 -- What is to be written for the bytes of an input.
-use Rattle.std.specs.Prelude.{◌≡◌, ℕ, List, ◌++◌, false, codes, decimal, Result, Ok, Err}
+use Rattle.std.specs.Prelude.{◌≡◌, ℕ, List, ◌++◌, false, map, codes, decimal, Result, Ok, Err}
 use Rattle.std.specs.List.{list_any}
 use Rattle.gs_core.specs.declared.reply.Reply.{Reply}
 use Rattle.gs_policy.specs.declared.any.AnyPolicy.{AnyPolicy}
 use Rattle.gs_policy.specs.Any.{any_takes}
 use Rattle.gs_policy.specs.Plan.{plan}
-use Rattle.gs_core.specs.Machine.{Plan, State, planning, start}
+use Rattle.gs_core.specs.Machine.{Plan, State, planned, planning, start}
 use Rattle.gs_core.specs.Safe.{Run}
 use Rattle.gs_core.specs.Short.{wants_memory}
 use Rattle.gs_script.specs.declared.fault.ScriptFault.{ScriptFault}
@@ -40,7 +40,7 @@ any_plans p = plan (any_takes p)
 pub record Answers (show : List Reply → List ℕ) (s : Script) (out : List ℕ) : Type 0 where
   pub replies : List Reply
   pub left : State
-  pub run : Run (planning any_plans (start s.config)) s.events replies left
+  pub run : Run (planning any_plans (start s.config)) (map (planned any_plans) s.events) replies left
   pub sufficed : list_any wants_memory replies ≡ false
   pub shown : out ≡ show replies
 

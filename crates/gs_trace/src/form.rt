@@ -6,13 +6,17 @@ use gs_lines::text_of;
 use gs_report::report_text;
 use std::alloc::{AllocError, Global};
 
-/// How replies are shown.
-#[derive(Clone, Copy)]
-pub(crate) enum Form {
+/// How the replies of a script are shown.
+#[derive(Clone, Copy, PartialEq, Eq, Debug)]
+pub enum Form {
     /// By their lines.
     Lines,
-    /// By a report, with so many of the last lines.
-    Report { last: usize },
+    /// By a report: one line of JSON with the counts of the script's events, refusals and landings, whether
+    /// the enclave was torn down, and the last of the lines.
+    Report {
+        /// So many of the last lines, or all where there are fewer.
+        last: usize,
+    },
 }
 
 /// Replies in this form.

@@ -6,5 +6,7 @@ mod law;
 mod pipe;
 mod run;
 
+pub use form::Form;
 pub use law::one_output;
-pub use run::{Ended, TraceFault, run_report, run_script};
+pub use pipe::MOST_READ_BYTES;
+pub use run::{Ended, TraceFault, run_as, run_report, run_script};

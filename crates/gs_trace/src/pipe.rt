@@ -1,9 +1,16 @@
-ghost use Rattle.std.specs.Prelude.{◌≡◌, ℕ, ◌<◌, ◌≤◌, length, take, IfOk, OnOk, OnErr};
-ghost use Rattle.std.specs.Io.KnownBytes.{Consumes, Appends, IsAtEnd};
+ghost use Rattle.std.specs.Prelude.{◌≡◌, ℕ, ◌<◌, length, take, IfOk, OnOk, OnErr};
+ghost use Rattle.std.specs.Io.KnownBytes.{Appends};
+ghost use Rattle.gs_trace.specs.Streams.{ConsumesAtMost, IsRead};
 
 use gs_script::MOST_BYTES;
 use std::alloc::Global;
 use std::io::{Read, Write};
+
+/// How many bytes a read asks for at most.
+const BUFFER_BYTES: usize = 4096;
+
+/// The most bytes that are read of an input: as many as a script may have, and a buffer more.
+pub const MOST_READ_BYTES: usize = MOST_BYTES + BUFFER_BYTES;
 
 /// The most reads of an input. A reader that gives single bytes and has no end is given up on.
 const MOST_READS: usize = MOST_BYTES + 2;
@@ -19,13 +26,13 @@ pub(crate) enum InputError {
 #[derive(Clone, Copy, PartialEq, Eq, Debug)]
 pub(crate) struct WriteFailed;
 
-/// All bytes that a reader has, or more than a script may have.
+/// All bytes that a reader has, or more than a script may have, but then at most `MOST_READ_BYTES`.
 pub(crate) fn read_all<R: Read>(alloc: Global, reader: &mut R) -> Result<Vec<u8>, InputError>
-    ensures read { IfOk result (λ bytes. Consumes (R.remaining reader.old) (R.remaining reader.new) bytes.items) }
-    ensures all { IfOk result (λ bytes. length bytes.items ≤ MOST_BYTES → IsAtEnd (R.remaining reader.new)) }
+    ensures read { IfOk result (λ bytes. IsRead (R.remaining reader.old) (R.remaining reader.new) bytes.items) }
+    ensures bounded { ConsumesAtMost MOST_READ_BYTES (R.remaining reader.old) (R.remaining reader.new) }
 {
     let mut bytes = Vec::new(alloc);
-    let mut buffer = [0; 4096];
+    let mut buffer = [0; BUFFER_BYTES];
     for _read in 0..MOST_READS {
         if bytes.len() > MOST_BYTES {
             break;

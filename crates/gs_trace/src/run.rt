@@ -1,12 +1,12 @@
-ghost use Rattle.std.specs.Prelude.{◌≡◌, ◌≢◌, ◌<◌, ◌≤◌, ℕ, List, length, take, IfOk, IfErr, IfSome, IsErrOf, string_bytes};
-ghost use Rattle.std.specs.Io.KnownBytes.{Keeps, Appends, Consumes, IsAtEnd};
+ghost use Rattle.std.specs.Prelude.{◌≡◌, ◌≢◌, IfOk, IfErr, IsErrOf, string_bytes};
+ghost use Rattle.std.specs.Io.KnownBytes.{Keeps};
 ghost use Rattle.gs_trace.specs.Output.{IsOutput, IsReport, IsShown, fault_line, reason_text, shown_as};
-ghost use Rattle.gs_trace.specs.declared.run.Ended.{Ended};
+ghost use Rattle.gs_trace.specs.Streams.{AnswersAll, AnswersRead, BeginsAnswer, ConsumesAtMost};
 
 use crate::form::{Form, show};
-use crate::pipe::{InputError, read_all, write_out};
+use crate::pipe::{InputError, MOST_READ_BYTES, read_all, write_out};
 use gs_core::{ConfigFault, Machine, is_short};
-use gs_script::{MOST_BYTES, Reason, ScriptError, ScriptFault, read_script};
+use gs_script::{Reason, ScriptError, ScriptFault, read_script};
 use std::alloc::{AllocError, Global};
 use std::io::{Read, Write};
 use thiserror::Error;
@@ -100,7 +100,51 @@ fn answer_to(alloc: Global, input: &[u8], form: Form) -> Result<Answer, AllocErr
 
 /// Reads a script to its end, or until it is too long, runs it, and writes the lines of its replies.
 ///
-/// The reads end at the first that gives no byte, and are at most 1,048,578.
+/// As [`run_as`] with [`Form::Lines`], which says how much is read and what an error leaves.
+///
+/// # Errors
+///
+/// As of [`run_as`].
+pub fn run_script<R: Read, W: Write>(
+    alloc: Global,
+    reader: &mut R,
+    writer: &mut W,
+) -> Result<Ended, TraceFault>
+    ensures ended { IfOk result (λ ended. AnswersAll IsOutput ended (R.remaining reader.old) (W.contents writer.old) (W.contents writer.new)) }
+    ensures read { IfOk result (λ ended. AnswersRead IsOutput ended (R.remaining reader.old) (R.remaining reader.new) (W.contents writer.old) (W.contents writer.new)) }
+    ensures bounded { ConsumesAtMost MOST_READ_BYTES (R.remaining reader.old) (R.remaining reader.new) }
+    ensures unwritten { IfErr result (λ e. e ≢ TraceFault.WriteFailed → Keeps (W.contents writer.old) (W.contents writer.new)) }
+    ensures begun { IsErrOf result TraceFault.WriteFailed → BeginsAnswer IsOutput (R.remaining reader.old) (W.contents writer.old) (W.contents writer.new) }
+{
+    run_as(alloc, reader, writer, Form::Lines)
+}
+
+/// Reads and runs a script as [`run_script`] does, and writes a report in place of the lines, with so many of
+/// the last lines. As [`run_as`] with [`Form::Report`].
+///
+/// # Errors
+///
+/// As of [`run_as`].
+pub fn run_report<R: Read, W: Write>(
+    alloc: Global,
+    reader: &mut R,
+    writer: &mut W,
+    last: usize,
+) -> Result<Ended, TraceFault>
+    ensures ended { IfOk result (λ ended. AnswersAll (IsReport last) ended (R.remaining reader.old) (W.contents writer.old) (W.contents writer.new)) }
+    ensures read { IfOk result (λ ended. AnswersRead (IsReport last) ended (R.remaining reader.old) (R.remaining reader.new) (W.contents writer.old) (W.contents writer.new)) }
+    ensures bounded { ConsumesAtMost MOST_READ_BYTES (R.remaining reader.old) (R.remaining reader.new) }
+    ensures unwritten { IfErr result (λ e. e ≢ TraceFault.WriteFailed → Keeps (W.contents writer.old) (W.contents writer.new)) }
+    ensures begun { IsErrOf result TraceFault.WriteFailed → BeginsAnswer (IsReport last) (R.remaining reader.old) (W.contents writer.old) (W.contents writer.new) }
+{
+    run_as(alloc, reader, writer, Form::Report { last })
+}
+
+/// Reads a script to its end, or until it is too long, runs it, and writes its replies in this form. A script's
+/// fault is written as one line, whatever the form.
+///
+/// The reads end at the first that gives no byte, and are at most 1,048,578. At most
+/// [`MOST_READ_BYTES`] are read.
 ///
 /// # Errors
 ///
@@ -108,69 +152,17 @@ fn answer_to(alloc: Global, input: &[u8], form: Form) -> Result<Answer, AllocErr
 /// nothing was written. No clause tells these two apart, since a reader's contract does not say when it
 /// fails. `WriteFailed` where a write fails or takes no byte: a beginning of the output was
 /// written, short of the whole.
-pub fn run_script<R: Read, W: Write>(
-    alloc: Global,
-    reader: &mut R,
-    writer: &mut W,
-) -> Result<Ended, TraceFault>
-    ensures ended { IfOk result (λ ended. IfSome (R.remaining reader.old) (λ input.
-        (out : List ℕ) × IsOutput input ended out × Appends (W.contents writer.old) (W.contents writer.new) out)) }
-    ensures read { IfOk result (λ ended. (bytes : List ℕ) × (out : List ℕ)
-        × Consumes (R.remaining reader.old) (R.remaining reader.new) bytes
-        × (length bytes ≤ MOST_BYTES → IsAtEnd (R.remaining reader.new))
-        × IsOutput bytes ended out × Appends (W.contents writer.old) (W.contents writer.new) out) }
-    ensures unwritten { IfErr result (λ e. e ≢ TraceFault.WriteFailed → Keeps (W.contents writer.old) (W.contents writer.new)) }
-    ensures begun { IsErrOf result TraceFault.WriteFailed → IfSome (R.remaining reader.old) (λ input.
-        (ended : Ended) × (out : List ℕ) × (n : ℕ) × IsOutput input ended out
-        × Appends (W.contents writer.old) (W.contents writer.new) (take n out) × (n < length out)) }
-{
-    run(alloc, reader, writer, Form::Lines)
-}
-
-/// Reads and runs a script as [`run_script`] does, and writes a report in place of the lines: one line of
-/// JSON with the counts of its events, refusals and landings, whether the enclave was torn down, and the
-/// last lines of the output, so many of them. A script's fault is written as `run_script` writes it.
-///
-/// # Errors
-///
-/// As of [`run_script`].
-pub fn run_report<R: Read, W: Write>(
-    alloc: Global,
-    reader: &mut R,
-    writer: &mut W,
-    last: usize,
-) -> Result<Ended, TraceFault>
-    ensures ended { IfOk result (λ ended. IfSome (R.remaining reader.old) (λ input.
-        (out : List ℕ) × IsReport last input ended out × Appends (W.contents writer.old) (W.contents writer.new) out)) }
-    ensures read { IfOk result (λ ended. (bytes : List ℕ) × (out : List ℕ)
-        × Consumes (R.remaining reader.old) (R.remaining reader.new) bytes
-        × (length bytes ≤ MOST_BYTES → IsAtEnd (R.remaining reader.new))
-        × IsReport last bytes ended out × Appends (W.contents writer.old) (W.contents writer.new) out) }
-    ensures unwritten { IfErr result (λ e. e ≢ TraceFault.WriteFailed → Keeps (W.contents writer.old) (W.contents writer.new)) }
-    ensures begun { IsErrOf result TraceFault.WriteFailed → IfSome (R.remaining reader.old) (λ input.
-        (ended : Ended) × (out : List ℕ) × (n : ℕ) × IsReport last input ended out
-        × Appends (W.contents writer.old) (W.contents writer.new) (take n out) × (n < length out)) }
-{
-    run(alloc, reader, writer, Form::Report { last })
-}
-
-/// Reads and runs a script, and writes its replies in this form.
-fn run<R: Read, W: Write>(
+pub fn run_as<R: Read, W: Write>(
     alloc: Global,
     reader: &mut R,
     writer: &mut W,
     form: Form,
 ) -> Result<Ended, TraceFault>
-    ensures ended { IfOk result (λ ended. IfSome (R.remaining reader.old) (λ input.
-        (out : List ℕ) × IsShown (shown_as form) input ended out × Appends (W.contents writer.old) (W.contents writer.new) out)) }
-    ensures read { IfOk result (λ ended. (bytes : List ℕ) × (out : List ℕ)
-        × Consumes (R.remaining reader.old) (R.remaining reader.new) bytes
-        × (length bytes ≤ MOST_BYTES → IsAtEnd (R.remaining reader.new))
-        × IsShown (shown_as form) bytes ended out × Appends (W.contents writer.old) (W.contents writer.new) out) }
+    ensures ended { IfOk result (λ ended. AnswersAll (IsShown (shown_as form)) ended (R.remaining reader.old) (W.contents writer.old) (W.contents writer.new)) }
+    ensures read { IfOk result (λ ended. AnswersRead (IsShown (shown_as form)) ended (R.remaining reader.old) (R.remaining reader.new) (W.contents writer.old) (W.contents writer.new)) }
+    ensures bounded { ConsumesAtMost MOST_READ_BYTES (R.remaining reader.old) (R.remaining reader.new) }
     ensures unwritten { IfErr result (λ e. e ≢ TraceFault.WriteFailed → Keeps (W.contents writer.old) (W.contents writer.new)) }
-    ensures begun { IsErrOf result TraceFault.WriteFailed → IfSome (R.remaining reader.old) (λ input.
-        (ended : Ended) × (out : List ℕ) × (n : ℕ) × IsShown (shown_as form) input ended out
-        × Appends (W.contents writer.old) (W.contents writer.new) (take n out) × (n < length out)) }
+    ensures begun { IsErrOf result TraceFault.WriteFailed → BeginsAnswer (IsShown (shown_as form)) (R.remaining reader.old) (W.contents writer.old) (W.contents writer.new) }
 {
     let input = match read_all(alloc, reader) {
         Ok(input) => input,

@@ -1,3 +1,5 @@
 pub mod Begins
 pub mod Shown
 pub mod Taken
+pub mod Loaded
+pub mod PutBack

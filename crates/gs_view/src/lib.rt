@@ -1,7 +1,9 @@
-//! The agent's view: what it knows of each thread, folded from messages where they stand.
+//! The agent's view: what it knows of each thread, folded from messages where they stand and loaded
+//! from pages.
 #![tactic(auto)]
 
 mod fault;
+mod load;
 mod taken;
 mod view;
 mod walk;

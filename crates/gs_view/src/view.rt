@@ -4,15 +4,18 @@ ghost use Rattle.gs_layout.specs.Message.{is_death};
 ghost use Rattle.gs_layout.specs.Spelling.{kind_of, tid_of};
 ghost use Rattle.gs_layout.specs.View.{apply, is_gap, learnt, look_up, word};
 ghost use Rattle.gs_view.specs.Begins.{begins};
+ghost use Rattle.gs_view.specs.Loaded.{loaded};
 ghost use Rattle.gs_view.specs.Shown.{known_shown, tids};
 ghost use Rattle.gs_view.specs.Taken.{word_of};
 
 use crate::fault::ApplyFault;
+use crate::load::load_page;
 use crate::taken::Taken;
 use crate::walk::Walk;
+use gs_dump::Page;
 use gs_layout::{Change, Facts, Kind, Known, Message};
 use gs_reader::MessageRef;
-use std::alloc::Global;
+use std::alloc::{AllocError, Global};
 use std::collections::BTreeMap;
 use std::marker::Model;
 
@@ -24,6 +27,7 @@ use std::marker::Model;
 #[derive(Drop)]
 pub struct AgentView {
     records: BTreeMap<u32, Known>,
+    alloc: Global,
 }
 
 impl Model for AgentView {
@@ -42,6 +46,7 @@ impl AgentView {
     {
         AgentView {
             records: BTreeMap::new(alloc),
+            alloc,
         }
     }
 
@@ -116,6 +121,19 @@ impl AgentView {
             renew(known, &message.message());
         }
         Ok(Taken::Applied)
+    }
+
+    /// Loads a page: what it tells of its threads is known then, whatever was known of them before; of
+    /// all other threads nothing changes. It takes as many look-ups as the page has records.
+    ///
+    /// # Errors
+    ///
+    /// Where there is no memory for its records. Then nothing changes.
+    pub fn load(&mut self, page: &Page) -> Result<(), AllocError>
+        ensures known { OnOk result ((t : ℕ) → look_up self.new t ≡ loaded page.now.records (look_up self.old) t) }
+        ensures unchanged { OnErr result (self.new ≡ self.old) }
+    {
+        load_page(self.alloc, &mut self.records, page)
     }
 
     /// Takes in a message about a thread of which nothing is known.

@@ -236,7 +236,7 @@ const RUNS: [SlotRow; 3] = [
 const DECISIONS: [DecisionRow; 3] = [(0, &[(1, 7, false)]), (0b10, &[]), (0, &[(1, 7, false)])];
 
 /// A ring of so many bytes in which these wait, each of which has to be a message for which there is room.
-fn ring_with(alloc: Global, capacity: usize, told: &[Told]) -> Option<ByteRing>
+pub(crate) fn ring_with(alloc: Global, capacity: usize, told: &[Told]) -> Option<ByteRing>
     requires { length told.now < 1000 }
 {
     let mut ring = ByteRing::new(alloc, capacity).ok()?;

@@ -10,11 +10,15 @@ mod dump;
 #[cfg(test)]
 mod journal;
 #[cfg(test)]
+mod kernel;
+#[cfg(test)]
 mod layout;
 #[cfg(test)]
 mod messages;
 #[cfg(test)]
 mod mind;
+#[cfg(test)]
+mod pages;
 #[cfg(test)]
 mod plans;
 #[cfg(test)]

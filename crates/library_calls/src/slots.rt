@@ -161,6 +161,10 @@ fn state_at(region: &Region, cpu: u16) -> Option<SlotState> {
     }
 }
 
+fn is_stamped(state: &SlotState) -> bool {
+    matches!(state, SlotState::Stamped { .. })
+}
+
 /// Whether the slots of a region are these and no others.
 fn holds(region: &Region, wanted: &[SlotState]) -> bool {
     for cpu in 0..region.cpus() {
@@ -168,7 +172,7 @@ fn holds(region: &Region, wanted: &[SlotState]) -> bool {
             return false;
         }
     }
-    region.cpus() as usize == wanted.len()
+    region.cpus() as usize == wanted.len() && region.has_stamped() == wanted.iter().any(is_stamped)
 }
 
 /// What became of the transaction in a slot, where it landed.
@@ -195,6 +199,7 @@ enum Step {
     StampTwo,
     RefuseAll,
     CollectParts { cpu: u16 },
+    Clear,
 }
 
 /// Takes a step. One for a CPU that the region lacks is answered as if a slot were busy.
@@ -211,6 +216,10 @@ fn take(region: &mut Region, step: Step) -> Result<(), SlotBusy> {
         }
         Step::RefuseAll => {
             refuse_all(region);
+            Ok(())
+        }
+        Step::Clear => {
+            region.clear();
             Ok(())
         }
         _ => Err(SlotBusy),
@@ -262,6 +271,12 @@ fn stamps_refuses_and_collects(rt: HostRuntime) {
         ),
         (Step::RefuseAll, Ok(()), [idle, idle, refused(seven)]),
         (Step::CollectParts { cpu: 3 }, Ok(()), [idle; 3]),
+        // Whatever is in a slot is cleared.
+        (Step::StampTwo, Ok(()), two_stamped),
+        (Step::RefuseAll, Ok(()), two_refused),
+        (Step::StampOne { cpu: 2, tid: 7 }, Ok(()), two_and_one),
+        (Step::Clear, Ok(()), [idle; 3]),
+        (Step::Clear, Ok(()), [idle; 3]),
     ];
     assert_eq!(rt; first_wrong_step(&mut region, &rows), None);
 }

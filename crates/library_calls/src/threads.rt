@@ -194,3 +194,58 @@ fn walks_over_the_living(rt: HostRuntime) {
     assert_eq!(rt; create(&mut table, b"d"), Some(4));
     assert!(rt; walks(&table, 2, &[4]));
 }
+
+/// The threads of a full walk's table, of which these two live.
+const MANY: u32 = 4_096;
+
+const TWO_LEFT: [u32; 2] = [1_999, 4_095];
+
+/// Whether so many threads are created.
+fn creates_many(table: &mut ThreadTable) -> bool {
+    for _ in 0..MANY {
+        if create(table, b"a").is_none() {
+            return false;
+        }
+    }
+    table.len() == MANY as usize
+}
+
+/// All threads but two die.
+fn kills_others(table: &mut ThreadTable) {
+    for tid in 1..=MANY {
+        if !TWO_LEFT.contains(&tid) {
+            table.apply(&thread_message(tid, 6, Change::Dead { cpu: None }));
+        }
+    }
+}
+
+/// Walks over a table of which these two threads live: where each begins, and what it shows.
+const WALKS_OVER_TWO: [(u32, &[u32]); 8] = [
+    (0, &TWO_LEFT),
+    (1, &TWO_LEFT),
+    (1_999, &TWO_LEFT),
+    (2_000, &[4_095]),
+    (4_095, &[4_095]),
+    (4_096, &[]),
+    (4_097, &[]),
+    (u32::MAX, &[]),
+];
+
+/// The first walk that shows other threads.
+fn first_wrong_over_two(table: &ThreadTable) -> Option<usize> {
+    for (index, (from, wanted)) in WALKS_OVER_TWO.iter().enumerate() {
+        if !walks(table, *from, wanted) {
+            return Some(index);
+        }
+    }
+    None
+}
+
+#[test]
+fn finds_two_of_many(rt: HostRuntime) {
+    let mut table = ThreadTable::new(rt.alloc(), 4);
+    let created = creates_many(&mut table);
+    kills_others(&mut table);
+    let wrong = first_wrong_over_two(&table);
+    assert_eq!(rt; (created, wrong), (true, None));
+}

@@ -177,7 +177,7 @@ const SEVERAL: [Row; 7] = [
 const SHOWN: [(u32, bool, u32); 4] = [(1, true, 2), (7, true, 5), (9, false, 3), (65_536, true, 2)];
 
 /// What the view answers to a message.
-fn send(view: &mut AgentView, message: &Message) -> Result<Taken, ApplyFault>
+pub(crate) fn send(view: &mut AgentView, message: &Message) -> Result<Taken, ApplyFault>
     requires { IsSpellable message.now }
 {
     let parcel = Parcel::new(message);
@@ -213,7 +213,7 @@ fn first_wrong(view: &mut AgentView, rows: &[Row]) -> Option<usize> {
 }
 
 /// Whether a walk shows this, and no more.
-fn shows(view: &AgentView, expected: &[(u32, bool, u32)]) -> bool {
+pub(crate) fn shows(view: &AgentView, expected: &[(u32, bool, u32)]) -> bool {
     let mut walk = view.walk();
     for row in expected {
         let Some((tid, facts, tseq)) = walk.next() else {

@@ -1,9 +1,9 @@
 -- What is to be written for the bytes of a script.
-use Rattle.std.specs.Prelude.{◌≡◌, ℕ, List, false, Result, Err, IsOkAnd}
+use Rattle.std.specs.Prelude.{◌≡◌, ℕ, List, map, false, Result, Err, IsOkAnd}
 use Rattle.std.specs.List.{list_any}
 use Rattle.gs_core.specs.declared.reply.Reply.{Reply}
 use Rattle.gs_core.specs.Config.{with_policy}
-use Rattle.gs_core.specs.Machine.{State, planning, start}
+use Rattle.gs_core.specs.Machine.{State, planned, planning, start}
 use Rattle.gs_core.specs.Safe.{Run}
 use Rattle.gs_core.specs.Short.{wants_memory}
 use Rattle.gs_script.specs.declared.fault.ScriptFault.{ScriptFault}
@@ -15,11 +15,11 @@ use Rattle.round_robin.specs.declared.policy.RoundRobin.{RoundRobin}
 use Rattle.round_robin.specs.RoundRobin.{round_robin}
 
 -- these bytes answer the script: they are the lines of the replies of a run of it by this policy, from the machine of its numbers on, in
--- which memory sufficed
+-- which memory sufficed; an agent that begins plans by this policy, whatever the script names
 pub record Answers (p : RoundRobin) (s : Script) (out : List ℕ) : Type 0 where
   pub replies : List Reply
   pub left : State
-  pub run : Run (planning round_robin (start (with_policy p s.config))) s.events replies left
+  pub run : Run (planning round_robin (start (with_policy p s.config))) (map (planned (λ _. round_robin p)) s.events) replies left
   pub sufficed : list_any wants_memory replies ≡ false
   pub shown : out ≡ lines replies
 

@@ -1,14 +1,28 @@
-ghost use Rattle.std.specs.Prelude.{IfErr, IfOk, string_bytes};
+ghost use Rattle.std.specs.Prelude.{◌≡◌, IfErr, IfOk, map, string_bytes};
+ghost use Rattle.gs_core.specs.Machine.{planned};
+ghost use Rattle.gs_policy.specs.declared.any.AnyPolicy as any;
 ghost use Rattle.gs_script.specs.Script.{script_of};
 ghost use Rattle.round_robin.specs.Output.{IsError, IsOutput};
 
 use crate::policy::RoundRobin;
-use gs_core::{ConfigFault, Machine, is_short};
+use gs_core::{ConfigFault, Event, Machine, is_short};
 use gs_lines::text_of;
+use gs_policy::AnyPolicy;
 use gs_script::{ScriptError, read_script};
-use std::alloc::Global;
+use std::alloc::{AllocError, Global};
 
-/// The lines of the replies of a script whose agent plans by this policy.
+/// The same events, with this policy in place of each that they name.
+fn own_events(
+    alloc: Global,
+    events: &[Event<AnyPolicy>],
+    policy: RoundRobin,
+) -> Result<Vec<Event<RoundRobin>>, AllocError>
+    ensures { IfOk result (λ own. own.items ≡ map (planned (λ (_ : any.AnyPolicy). policy)) events.now) }
+{
+    events.iter().map(|event| event.with_policy(policy)).collect(alloc)
+}
+
+/// The lines of the replies of a script whose agents plan by this policy, whatever policies the script names.
 ///
 /// # Errors
 ///
@@ -23,7 +37,10 @@ pub fn answer(alloc: Global, input: &[u8], policy: RoundRobin) -> Result<String,
         Err(ConfigFault::OutOfMemory) => return Err(ScriptError::OutOfMemory),
         Err(_) => unreachable!(),
     };
-    let Ok(replies) = machine.run(&script.events) else {
+    let Ok(events) = own_events(alloc, &script.events, policy) else {
+        return Err(ScriptError::OutOfMemory);
+    };
+    let Ok(replies) = machine.run(&events) else {
         return Err(ScriptError::OutOfMemory);
     };
     if is_short(&replies) {

@@ -1,4 +1,5 @@
 use Rattle.std.proofs.Common.{◌∙◌, ap, ◌+◌, Vec, Global}
+use Rattle.gs_policy.specs.declared.any.AnyPolicy.{AnyPolicy}
 use Rattle.gs_core.specs.declared.event.Event.{Event}
 use Rattle.std.specs.Prelude.{Ok}
 use Rattle.std.proofs.lemmas.List.{take_rest}
@@ -18,6 +19,6 @@ returns-in-Ok-clause-exact c =
 
 pub returns-in-Err-events-clause-exact : goal.returns-in-Err-events-clause-exact
 returns-in-Err-events-clause-exact c =
-    later {A = Vec Event Global} (λ v. v.items) seen c.in-Err-events.error c.in-Ok-Some.config _ _
+    later {A = Vec (Event AnyPolicy) Global} (λ v. v.items) seen c.in-Err-events.error c.in-Ok-Some.config _ _
     (found c.loop-i.i c.in-Ok-Some.config c.args.lines.now _ _ c.loop-i-test.true c.loop-i.invariant (c.in-Ok-Some.ensures.exact ∙ ap Ok c.in-Ok-Some.field-0-is))
     (rw (take_rest c.args.lines.now (c.loop-i.i + 1)) at c.in-Err-events.ensures)

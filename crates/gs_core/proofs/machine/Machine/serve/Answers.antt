@@ -1,30 +1,43 @@
-use Rattle.std.proofs.Common.{Option, Some, None, refl, ap, sym, subst, ◌∙◌}
+use Rattle.std.proofs.Common.{◌≡◌, Option, refl, ap, sym, subst, ◌∙◌}
+use Rattle.std.specs.Option.{option_map}
 use Rattle.gs_agent.specs.Role.{RoleOf}
 use Rattle.gs_core.specs.declared.event.Event.TheVariants as events
 use Rattle.gs_core.specs.declared.reply.Reply.{Reply}
 use Rattle.gs_core.specs.Answers.{reply_of}
-use Rattle.gs_core.specs.Machine.{Agent, State, Step, StateOf, planning}
-use Rattle.gs_core.specs.Held.{Acts, machine_now}
-use Rattle.gs_core.proofs.Posting.{answered_agent, answered_policy, legal_step, with_kernel}
-use Rattle.gs_core.proofs.Commands.{answered_acts}
+use Rattle.gs_core.specs.Machine.{State, Step, StateOf, planning}
+use Rattle.gs_core.specs.Held.{Suits, agent_of, machine_now}
+use Rattle.gs_core.proofs.Posting.{RingRoom, answered_agent, answered_slots, freed_after, led_by, legal_told, told_step, with_kernel}
+use Rattle.gs_core.proofs.Suiting.{suits_answered}
 use Rattle.gs_core.proofs.Keeping.{kept_step}
 use Rattle.gs_core.proofs.machine.Machine.serve.Goals as goal
 
--- the agent that a role is
-abbrev agent_in : {P : Type 0} → RoleOf P → Option Agent
-agent_in role = Some (record { mind = role.mind; next = None })
-
 abbrev after : (g : _) → goal.After-reply g → State
-after g c = record (with_kernel (machine_now g.P.Policy.chosen c.self.inside) c.serve-answer.new.self.settings c.serve-answer.new.self.poster c.serve-answer.new.self.history) { agent = agent_in c.follow_answer.new.role }
+after g c = record (with_kernel (machine_now g.P.Policy.chosen c.self.inside) c.serve-answer.new.self.settings c.serve-answer.new.self.poster c.serve-answer.new.self.history) { agent = option_map agent_of c.follow_answer.new.role }
+
+-- agent and slots follow the answer as the role does
+same : (g : _) (c : goal.After-reply g)
+    → record (with_kernel (machine_now g.P.Policy.chosen c.self.inside) c.serve-answer.new.self.settings c.serve-answer.new.self.poster c.serve-answer.new.self.history) {
+      agent = led_by c.self.inside.kernel.settings.cpus c.serve-answer.result (option_map agent_of c.self.inside.role);
+      slots = freed_after c.self.inside.kernel.settings.cpus c.serve-answer.result c.self.inside.region;
+    } ≡ after g c
+same g c =
+    let m = machine_now g.P.Policy.chosen c.self.inside in
+    let k = c.serve-answer.new.self in
+    let e = c.serve-answer.ensures in
+    let cpus = m.settings.cpus in
+    let old = c.self.inside.kernel in
+    let agent = answered_agent cpus (RingRoom old.poster) m.settings m.history k.history old.paged c.args.command.now c.serve-answer.result c.self.inside.role c.requires.stays e.legal ∙ ap (option_map agent_of) (sym c.follow_answer.ensures) in
+    let slots = answered_slots cpus (RingRoom old.poster) m.settings m.history k.history old.paged c.args.command.now c.serve-answer.result m.slots c.requires.stays e.legal in
+    λ i. record (with_kernel m k.settings k.poster k.history) { agent = agent i; slots = slots i }
 
 step : (g : _) (c : goal.After-reply g) → Step (machine_now g.P.Policy.chosen c.self.inside) (events.Kernel c.args.command.now) (reply_of c.serve-answer.result) (after g c)
 step g c =
     let m = machine_now g.P.Policy.chosen c.self.inside in
     let k = c.serve-answer.new.self in
     let e = c.serve-answer.ensures in
-    let role = c.self.inside.role in
-    subst (λ (o : Option Agent). Step m (events.Kernel c.args.command.now) (reply_of c.serve-answer.result) (record (with_kernel m k.settings k.poster k.history) { agent = o })) (answered_agent c.serve-answer.result role ∙ ap agent_in (sym c.follow_answer.ensures))
-    (legal_step m c.args.command.now c.serve-answer.result k.settings c.self.inside.kernel.poster k.poster k.history refl refl e.frame.ring e.frame.stays e.frame.settings e.legal)
+    subst (λ (s : State). Step m (events.Kernel c.args.command.now) (reply_of c.serve-answer.result) s) (same g c)
+    (told_step m c.args.command.now c.serve-answer.result _ c.requires.stays
+    (legal_told m c.self.inside.kernel.paged c.args.command.now c.serve-answer.result k.settings c.self.inside.kernel.poster k.poster k.history refl refl e.frame.ring e.frame.stays e.frame.settings c.self.invariant.suits.given e.legal))
 
 pub invariant_of-self : goal.invariant_of-self
 invariant_of-self g c =
@@ -32,11 +45,12 @@ invariant_of-self g c =
     let i = c.self.invariant in
     let e = c.serve-answer.ensures in
     let k = c.serve-answer.new.self in
+    let old = c.self.inside.kernel in
     record {
       kept = kept_step m (events.Kernel c.args.command.now) _ _ i.kept tt (step g c);
       told = e.frame.told;
-      plans = ap (λ (r : RoleOf _). r.policy) c.follow_answer.ensures ∙ (answered_policy c.serve-answer.result c.self.inside.role ∙ i.plans);
-      acts = subst (λ (r : RoleOf _). Acts k.history r.generation) (sym c.follow_answer.ensures) (answered_acts _ m.settings m.history k.history c.args.command.now c.serve-answer.result c.self.inside.role e.legal i.acts);
+      suits = subst (Suits c.self.inside.policy k.history k.paged) (sym c.follow_answer.ensures)
+          (suits_answered c.self.inside.policy (RingRoom old.poster) m.settings m.history k.history old.paged c.args.command.now c.serve-answer.result old.paged k.paged c.self.inside.role c.requires.stays e.legal e.frame.pages i.suits);
     }
 
 pub returns-clause-step : goal.returns-clause-step

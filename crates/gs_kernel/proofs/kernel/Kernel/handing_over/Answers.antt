@@ -7,8 +7,5 @@ preemption-requires-clause-cpu g c = (hands_off_when c.args.self.now.settings c.
 pub preemption-requires-clause-numbers : goal.preemption-requires-clause-numbers
 preemption-requires-clause-numbers g c = (hands_off_when c.args.self.now.settings c.args.self.now.history c.args.cpu c.requires).numbers
 
-pub next_generation-requires-clause-active : goal.next_generation-requires-clause-active
-next_generation-requires-clause-active g c = (hands_off_when c.args.self.now.settings c.args.self.now.history c.args.cpu c.requires).active
-
-pub next_generation-requires-clause-more : goal.next_generation-requires-clause-more
-next_generation-requires-clause-more g c = (hands_off_when c.args.self.now.settings c.args.self.now.history c.args.cpu c.requires).more
+pub next_generation-requires : goal.next_generation-requires
+next_generation-requires g c = (hands_off_when c.args.self.now.settings c.args.self.now.history c.args.cpu c.requires).more

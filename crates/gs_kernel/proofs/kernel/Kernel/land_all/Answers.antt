@@ -40,6 +40,7 @@ loop-cpu-preserved g c =
         stays = e.frame.stays ∙ i.frame.stays;
         told = e.frame.told;
         settings = e.frame.settings ∙ i.frame.settings;
+        pages = e.frame.pages ∙ i.frame.pages;
       };
       entries = omega (arith, i.entries, e.entries, e.grown, e.few, ap (λ (z : Settings). z.history) i.frame.settings);
       room = omega (arith, i.room, e.room, e.capacity);

@@ -21,7 +21,7 @@ pub take_in-requires-clause-seats : goal.take_in-requires-clause-seats
 take_in-requires-clause-seats g c =
     let k = c.self.inside in
     let due : ComesNext k.settings k.journal.entries c.args.effect.now = subst (λ v. ComesNext v.settings v.history c.args.effect.now) (sym c.self.view_is) c.requires.due in
-    due_left k.settings k.journal.entries k.threads k.running.items c.deref_mut.result.now k.taken k.agent k.torn _ due c.self.invariant.kept c.deref_mut.ensures.value
+    due_left k.settings k.journal.entries k.threads k.running.items c.deref_mut.result.now k.taken k.agents k.torn _ due c.self.invariant.kept c.deref_mut.ensures.value
 
 pub hold-self-inside-requires : goal.hold-self-inside-requires
 hold-self-inside-requires g c =
@@ -53,7 +53,7 @@ invariant_of-self-2 g c =
       first = grind (arith, common_steps);
       told = subst (g.P.Poster.posted c.send.new.poster) (sym (ap posted c.append.ensures.entries ∙ due_quiet k.settings h c.send.new.journal.entries x due)) (c.send.ensures.told i.told);
       kept = subst (λ (y : History). IsKept k.settings y c.take_in.new.threads (with_items k.running new).items c.hold-self-inside.result c.lead-self-inside.result k.torn) (sym now)
-          (kept_next k.settings h k.threads c.take_in.new.threads k.running.items (with_items k.running new).items k.taken c.hold-self-inside.result k.agent c.lead-self-inside.result k.torn x due i.kept
+          (kept_next k.settings h k.threads c.take_in.new.threads k.running.items (with_items k.running new).items k.taken c.hold-self-inside.result k.agents c.lead-self-inside.result k.torn x due i.kept
           c.take_in.ensures.rows c.take_in.ensures.first_tseq (with_items_is k.running new count ∙ seats) c.hold-self-inside.ensures c.lead-self-inside.ensures);
     }
 
@@ -69,6 +69,7 @@ returns-clause-frame g c =
       stays = c.send.ensures.stays;
       told = subst (g.P.Poster.posted c.send.new.poster) (sym (ap posted c.append.ensures.entries ∙ due_quiet k.settings h c.send.new.journal.entries x due)) (c.send.ensures.told i.told);
       settings = refl;
+      pages = refl;
     }
 
 pub returns-clause-tells : goal.returns-clause-tells

@@ -4,7 +4,7 @@ use Rattle.gs_slots.specs.declared.state.SlotState.{SlotState}
 use Rattle.gs_beliefs.specs.Cpus.{Cpus, unstamps}
 use Rattle.gs_beliefs.specs.Belief.{after_outcome}
 use Rattle.gs_mind.specs.Mind.{MindState, bare, picture_of, thinks}
-use Rattle.gs_mind.specs.Picture.{after_slot, displaced, settled_all}
+use Rattle.gs_mind.specs.Picture.{after_slot, settled_all}
 use Rattle.gs_mind.proofs.Rooms.{bare_settled_all}
 use Rattle.gs_mind.proofs.Followed.{holds_slot, touched}
 use Rattle.gs_mind.proofs.Minds.{named_queue, same_mind, same_waiting, slot_queue}
@@ -20,7 +20,7 @@ cpus_are c = c.unstamp.ensures ∙ ap (unstamps c.args.cpu) c.learn.ensures
 -- the queue is then that of those who wait
 queue_is : (c : goal.After-settle_if_any-2) → c.settle_if_any-2.new.queue ≡ settled_all (look_up c.self.inside.view) (after c) (touched c.self.inside.cpus c.args.cpu c.in-Done.at c.in-Done.stamp.tid) c.self.inside.queue
 queue_is c =
-    slot_queue (look_up c.self.inside.view) c.self.inside.cpus c.unstamp.new.self c.self.inside.queue _ _ _ c.args.cpu c.in-Done.at c.in-Done.stamp.tid _ _ c.stamp_on.ensures (c.running_on-displaced.ensures ∙ ap (λ (x : MindState). displaced x.cpus c.in-Done.at) (sym c.self.view_is)) c.settle.ensures.settled
+    slot_queue (look_up c.self.inside.view) c.self.inside.cpus c.unstamp.new.self c.self.inside.queue _ _ _ c.args.cpu c.in-Done.at c.in-Done.stamp.tid _ _ c.stamp_on.ensures c.running_on-displaced.ensures c.settle.ensures.settled
     (named_queue (look_up c.self.inside.view) c.unstamp.new.self c.self.inside.queue _ _ c.in-Done.stamp.tid c.stamp_on.result c.other_than-named.result c.other_than-named.ensures c.settle.ensures.settled c.settle_if_any.ensures.settled)
     c.settle_if_any-2.ensures.settled
     ∙ ap (λ (x : Cpus). settled_all (look_up c.self.inside.view) x (touched c.self.inside.cpus c.args.cpu c.in-Done.at c.in-Done.stamp.tid) c.self.inside.queue) (cpus_are c)

@@ -1,0 +1,41 @@
+ghost use Rattle.std.specs.Prelude.{◌≡◌};
+ghost use Rattle.std.specs.IoError.{error_kind};
+ghost use Rattle.clap.specs.Values.{kind_of};
+ghost use Rattle.ghost_cli.specs.Failures.{IsToldBy, IsUnreadBy};
+
+use clap::error::ErrorKind;
+use gs_trace::TraceFault;
+use std::io;
+use thiserror::Error;
+
+/// Why the program did not do what it was called for.
+#[derive(Debug, Drop, Error)]
+pub(crate) enum Failure {
+    /// The arguments are wrong, or they ask for the help or the version.
+    #[error("{0}")]
+    Arguments(clap::Error),
+    #[error("ghost: the arguments are not text\n")]
+    NotText,
+    #[error("ghost: {0}\n")]
+    Script(TraceFault),
+}
+
+/// Why there are no arguments: memory ran out, or they are not text.
+pub(crate) fn unread(error: io::Error) -> Failure
+    ensures { IsUnreadBy (error_kind error) result }
+{
+    match error.kind() {
+        io::ErrorKind::OutOfMemory => Failure::Script(TraceFault::OutOfMemory),
+        _ => Failure::NotText,
+    }
+}
+
+/// Why the arguments give no command: memory ran out, or they are told what is wrong with them, the help or the version.
+pub(crate) fn unsettled(error: clap::Error) -> Failure
+    ensures { IsToldBy error result }
+{
+    match error.kind() {
+        ErrorKind::OutOfMemory => Failure::Script(TraceFault::OutOfMemory),
+        _ => Failure::Arguments(error),
+    }
+}

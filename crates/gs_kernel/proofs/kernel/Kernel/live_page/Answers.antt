@@ -1,0 +1,73 @@
+use Rattle.std.proofs.Common.{◌≡◌, ◌++◌, ◌∷◌, List, [], length, map, take, drop, None, Some, ap, sym, subst, ◌∙◌, arith}
+use Rattle.std.proofs.lemmas.Grind.{common_steps}
+use Rattle.std.specs.List.{AllByRecursion, filter_map}
+use Rattle.gs_dump.specs.declared.record.DumpRecord.{DumpRecord}
+use Rattle.gs_dump.specs.Record.{IsLive}
+use Rattle.gs_kernel.specs.declared.live_thread.LiveThread.{LiveThread}
+use Rattle.gs_kernel.specs.Dumped.{dumped, record_of}
+use Rattle.gs_kernel.specs.Shown.{by_row, live_from}
+use Rattle.gs_kernel.proofs.Living.{living_from}
+use Rattle.gs_kernel.proofs.Paging.{all_push, live_told, next_told, page_edge, page_end, page_made, records_more}
+use Rattle.gs_kernel.proofs.kernel.Kernel.live_page.Goals as goal
+
+pub loop-tid-init : goal.loop-tid-init
+loop-tid-init g c =
+    let k = c.self.inside in
+    let ls : List LiveThread = live_from c.args.self.now.settings c.args.self.now.history c.args.from in
+    let all = living_from k.settings k.journal.entries k.threads k.running.items k.taken k.agents k.torn c.args.from c.self.invariant.kept in
+    let same = ap (λ v. live_from v.settings v.history c.args.from) c.self.view_is in
+    let left = c.into_iter-tid-iterator.ensures.into_iter_gives ∙ c.live_from-tid-items.ensures in
+    let none = c.new-records.ensures.items in
+    record {
+      told = none ∙ sym (ap (λ (xs : List DumpRecord). map record_of (take (length xs) ls)) none);
+      left = ap (filter_map by_row) left ∙ (all ∙ (same ∙ sym (ap (λ (xs : List DumpRecord). drop (length xs) ls) none)));
+      live = subst (AllByRecursion IsLive) (sym none) tt;
+      few = omega (arith, ap length none);
+    }
+
+pub invariant_of-result : goal.invariant_of-result
+invariant_of-result g c =
+    let k = c.self.inside in
+    let i = c.loop-tid.invariant in
+    let all : filter_map by_row c.loop-tid.tid-iterator ≡ c.in-Some-by_row.thread ∷ filter_map by_row c.next.new.self = grind (arith, common_steps) in
+    let full : length c.loop-tid.records.items ≡ c.args.max = sym c.loop-tid.records.ok.0 ∙ (sym c.len.ensures ∙ c.if-len-max.true) in
+    let is = page_edge _ c.loop-tid.records.items c.args.max c.in-Some-by_row.thread (filter_map by_row c.next.new.self) i.told full (sym all ∙ i.left) in
+    page_made k.settings k.journal.entries k.threads k.running.items k.taken k.agents k.torn c.args.from c.args.max c.loop-tid.records.items (Some c.in-Some-by_row.thread.tid) (omega (arith, c.self.invariant.in_range.most_cpus)) c.self.invariant.kept
+    c.ranges.max.fits i.live (ap (λ v. dumped v.settings v.history c.args.from c.args.max) c.self.view_is ∙ is)
+
+pub record_of-requires : goal.record_of-requires
+record_of-requires g c =
+    let k = c.self.inside in
+    let all : filter_map by_row c.loop-tid.tid-iterator ≡ c.in-Some-by_row.thread ∷ filter_map by_row c.next.new.self = grind (arith, common_steps) in
+    let told = live_told k.settings k.journal.entries k.threads k.running.items k.taken k.agents k.torn c.args.from (omega (arith, c.self.invariant.in_range.most_cpus)) c.self.invariant.kept in
+    let same = ap (λ v. live_from v.settings v.history c.args.from) c.self.view_is in
+    next_told _ (length c.loop-tid.records.items) c.in-Some-by_row.thread (filter_map by_row c.next.new.self) told (sym all ∙ (c.loop-tid.invariant.left ∙ ap (drop (length c.loop-tid.records.items)) (sym same)))
+
+pub loop-tid-preserved : goal.loop-tid-preserved
+loop-tid-preserved g c =
+    let i = c.loop-tid.invariant in
+    let all : filter_map by_row c.loop-tid.tid-iterator ≡ c.in-Some-by_row.thread ∷ filter_map by_row c.next.new.self = grind (arith, common_steps) in
+    let pushed : c.push.new.self.items ≡ c.loop-tid.records.items ++ c.record_of.result ∷ [] = grind (arith, common_steps) in
+    let more : c.push.new.self.items ≡ c.loop-tid.records.items ++ record_of c.in-Some-by_row.thread ∷ [] = pushed ∙ ap (λ (r : DumpRecord). c.loop-tid.records.items ++ r ∷ []) c.record_of.ensures.value in
+    let r = records_more _ c.loop-tid.records.items c.push.new.self.items c.in-Some-by_row.thread (filter_map by_row c.next.new.self) i.told (sym all ∙ i.left) more in
+    record {
+      told = r.0;
+      left = r.1;
+      live = subst (AllByRecursion IsLive) (sym pushed) (all_push IsLive c.loop-tid.records.items c.record_of.result i.live c.record_of.ensures.live);
+      few = grind (arith, common_steps);
+    }
+
+pub invariant_of-result-2 : goal.invariant_of-result-2
+invariant_of-result-2 g c =
+    let k = c.self.inside in
+    let i = c.loop-tid.invariant in
+    let over : filter_map by_row c.loop-tid.tid-iterator ≡ [] = grind (arith, common_steps) in
+    let is = page_end _ c.loop-tid.records.items c.args.max i.told i.few (sym over ∙ i.left) in
+    page_made k.settings k.journal.entries k.threads k.running.items k.taken k.agents k.torn c.args.from c.args.max c.loop-tid.records.items None (omega (arith, c.self.invariant.in_range.most_cpus)) c.self.invariant.kept
+    c.ranges.max.fits i.live (ap (λ v. dumped v.settings v.history c.args.from c.args.max) c.self.view_is ∙ is)
+
+pub returns : goal.returns
+returns g c =
+    let i = c.loop-tid.invariant in
+    let over : filter_map by_row c.loop-tid.tid-iterator ≡ [] = grind (arith, common_steps) in
+    sym (page_end _ c.loop-tid.records.items c.args.max i.told i.few (sym over ∙ i.left))

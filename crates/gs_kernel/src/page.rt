@@ -1,0 +1,120 @@
+//! Pages: they tell the agent that attaches of the threads that live.
+
+ghost use Rattle.std.specs.Prelude.{◌≡◌, IfErr, IfOk, None, OnErr};
+ghost use Rattle.gs_dump.specs.Record.{IsLive};
+ghost use Rattle.gs_kernel.specs.Attaching.{page_refusal};
+ghost use Rattle.gs_kernel.specs.Dumped.{IsTold, dumped, paged_after, record_of};
+ghost use Rattle.gs_kernel.specs.Kernel.{IsRefusal, unless_torn};
+
+use crate::kernel::Kernel;
+use crate::live_thread::LiveThread;
+use crate::shown::by_row;
+use gs_dump::{DumpRecord, Page};
+use gs_layout::Refusal;
+use gs_ring::Poster;
+use std::alloc::{AllocError, Global};
+
+impl<P: Poster> Kernel<P> {
+    /// The kernel gives a page of its live threads to the agent that attaches: those from a tid on, by rising tid,
+    /// at most `max` of them, 0 to 65,535. It remembers that the last page was given, behind which no next one begins.
+    /// It takes as long as its records, and a look-up of the first of them.
+    ///
+    /// # Errors
+    ///
+    /// The first that applies, and then nothing changes: `Gone` where the enclave was torn down, `NotAttaching` where
+    /// no agent attaches or it was given the last page, `OutOfMemory`.
+    pub fn page(&mut self, alloc: Global, from: u32, max: u16) -> Result<Page, Refusal>
+        ensures page { IfOk result (λ p. p ≡ dumped self.old.settings self.old.history from max) }
+        ensures remembered { IfOk result (λ p. self.new ≡ record self.old { paged = paged_after p self.old.paged }) }
+        ensures accepted { IfOk result (λ _. unless_torn self.old.history (page_refusal self.old.history self.old.paged) ≡ None) }
+        ensures refused { IfErr result (IsRefusal (unless_torn self.old.history (page_refusal self.old.history self.old.paged))) }
+        ensures unchanged { OnErr result (self.new ≡ self.old) }
+    {
+        let page = self.dump(alloc, from, max)?;
+        self.note_page(&page);
+        Ok(page)
+    }
+
+    /// The page that [`Kernel::page`] gives, without the kernel remembering that it was given.
+    ///
+    /// # Errors
+    ///
+    /// As of [`Kernel::page`].
+    pub fn dump(&self, alloc: Global, from: u32, max: u16) -> Result<Page, Refusal>
+        ensures page { IfOk result (λ p. p ≡ dumped self.now.settings self.now.history from max) }
+        ensures accepted { IfOk result (λ _. unless_torn self.now.history (page_refusal self.now.history self.now.paged) ≡ None) }
+        ensures refused { IfErr result (IsRefusal (unless_torn self.now.history (page_refusal self.now.history self.now.paged))) }
+    {
+        if let Some(refusal) = self.page_refusal() {
+            return Err(refusal);
+        }
+        match self.live_page(alloc, from, max) {
+            Ok(page) => Ok(page),
+            Err(_) => Err(Refusal::OutOfMemory),
+        }
+    }
+
+    /// The kernel remembers that a page was given: the last one, where no next one begins.
+    pub fn note_page(&mut self, page: &Page)
+        ensures { self.new ≡ record self.old { paged = paged_after page.now self.old.paged } }
+    {
+        if page.next.is_none() {
+            self.paged = true;
+        }
+    }
+
+    /// Why no page is given, memory aside.
+    #[tactic(auto, unfolding(crate::specs::Attaching::page_refusal))]
+    fn page_refusal(&self) -> Option<Refusal>
+        ensures { result ≡ unless_torn self.now.history (page_refusal self.now.history self.now.paged) }
+    {
+        if self.torn {
+            return Some(Refusal::Gone);
+        }
+        if self.attaching().is_none() || self.paged {
+            return Some(Refusal::NotAttaching);
+        }
+        None
+    }
+
+    /// The threads that live from a tid on, by rising tid, at most `max` of them, and where the next page begins.
+    fn live_page(&self, alloc: Global, from: u32, max: u16) -> Result<Page, AllocError>
+        ensures { IfOk result (λ p. p ≡ dumped self.now.settings self.now.history from max) }
+    {
+        // A look at a field, by which the proof has what the kernel keeps.
+        let _settings = &self.settings;
+        let mut records = Vec::new(alloc);
+        for (tid, row) in self.threads.live_from(from) {
+            let Some(thread) = by_row(tid, row) else {
+                continue;
+            };
+            if records.len() == max as usize {
+                return Ok(Page {
+                    records,
+                    next: Some(thread.tid),
+                });
+            }
+            records.push(record_of(thread))?;
+        }
+        Ok(Page {
+            records,
+            next: None,
+        })
+    }
+}
+
+/// The record of a page that tells of a thread.
+fn record_of(thread: LiveThread) -> DumpRecord
+    requires { IsTold thread }
+    ensures value { result ≡ record_of thread }
+    ensures live { IsLive result }
+{
+    // A look at the name, by which the proof has what it keeps.
+    let _name = thread.known.facts.name.as_bytes();
+    DumpRecord {
+        tid: thread.tid,
+        tseq: thread.known.tseq,
+        facts: thread.known.facts,
+        cpu: thread.cpu,
+    }
+}

@@ -1,0 +1,28 @@
+-- What a run does to the bytes that its reader has and its writer holds, where these are known.
+use Rattle.std.specs.Prelude.{ℕ, ◌<◌, ◌≤◌, List, Option, IfSome, length, take}
+use Rattle.std.specs.Io.KnownBytes.{Appends, Consumes, IsAtEnd}
+use Rattle.gs_script.specs.declared.script.TheConstants.{MOST_BYTES}
+use Rattle.gs_trace.specs.declared.pipe.TheConstants.{MOST_READ_BYTES}
+use Rattle.gs_trace.specs.declared.run.Ended.{Ended}
+
+-- these bytes were read: all that the reader had, or more than a script may have, but then at most so many
+pub record IsRead (had left : Option (List ℕ)) (bytes : List ℕ) : Type 0 where
+  pub consumed : Consumes had left bytes
+  pub whole : length bytes ≤ MOST_BYTES → IsAtEnd left
+  pub bounded : length bytes ≤ MOST_READ_BYTES
+
+-- at most so many bytes were read
+abbrev pub ConsumesAtMost : ℕ → Option (List ℕ) → Option (List ℕ) → Type 0
+ConsumesAtMost most had left = (bytes : List ℕ) × Consumes had left bytes × (length bytes ≤ most)
+
+-- what is to be written for all that the reader had was written; `IsAnswer input ended out` says what is to be written for an input, and how that ends
+abbrev pub AnswersAll : (List ℕ → Ended → List ℕ → Type 0) → Ended → Option (List ℕ) → Option (List ℕ) → Option (List ℕ) → Type 0
+AnswersAll IsAnswer ended had before after = IfSome had (λ input. (out : List ℕ) × IsAnswer input ended out × Appends before after out)
+
+-- what is to be written for what was read was written
+abbrev pub AnswersRead : (List ℕ → Ended → List ℕ → Type 0) → Ended → Option (List ℕ) → Option (List ℕ) → Option (List ℕ) → Option (List ℕ) → Type 0
+AnswersRead IsAnswer ended had left before after = (input : List ℕ) × (out : List ℕ) × IsRead had left input × IsAnswer input ended out × Appends before after out
+
+-- of what is to be written for all that the reader had a beginning was written, short of the whole
+abbrev pub BeginsAnswer : (List ℕ → Ended → List ℕ → Type 0) → Option (List ℕ) → Option (List ℕ) → Option (List ℕ) → Type 0
+BeginsAnswer IsAnswer had before after = IfSome had (λ input. (ended : Ended) × (out : List ℕ) × (n : ℕ) × IsAnswer input ended out × Appends before after (take n out) × (n < length out))

@@ -1,0 +1,96 @@
+-- A page is loaded a record at a time, and taken back, the last record first.
+use Rattle.std.proofs.Common.{◌≡◌, refl, ap, sym, ◌∙◌, ℕ, zero, suc, ◌+◌, ◌<◌, ◌==◌, Bool, true, false, cond, Option, None, Some, List, [], ◌∷◌, ◌++◌, take, slice_get, arith}
+use Rattle.std.specs.Prelude.{nat_lt}
+use Rattle.std.proofs.lemmas.Bool.{and_parts, eqb-true}
+use Rattle.std.proofs.lemmas.Bool.Decides.{nat_tests}
+use Rattle.gs_layout.specs.declared.known.Known.{Known}
+use Rattle.gs_layout.specs.View.{Look}
+use Rattle.gs_dump.specs.declared.record.DumpRecord.{DumpRecord}
+use Rattle.gs_dump.specs.Page.{rises}
+use Rattle.gs_view.specs.Loaded.{known_in, loaded, or_known, told_of}
+use Rattle.gs_view.specs.PutBack.{all_put_back, in_place, put_back}
+
+-- no record before the one at a place is of its thread, and each is above the number that the tids rise from
+above_earlier : (last : ℕ) (rs : List DumpRecord) (next : Option ℕ) → rises last rs next ≡ true → (i : ℕ) (r : DumpRecord) → slice_get rs i ≡ Some r
+    → (told_of (take i rs) r.tid ≡ None) × (last < r.tid)
+above_earlier last [] next up i r e = absurd cc
+above_earlier last (x ∷ xs) next up zero r e = (refl, by_first (nat_lt last x.tid) refl)
+  where
+    same : x ≡ r
+    same = cc
+
+    by_first : (b : Bool) → nat_lt last x.tid ≡ b → last < r.tid
+    by_first true f = let below : last < x.tid = grind (arith, nat_tests) in omega (arith, below, ap (λ (y : DumpRecord). y.tid) same)
+    by_first false f = absurd (let both = and_parts (nat_lt last x.tid) (rises x.tid xs next) up in cc)
+above_earlier last (x ∷ xs) next up (suc i) r e =
+    let both = and_parts (nat_lt last x.tid) (rises x.tid xs next) up in
+    let later = above_earlier x.tid xs next both.1 i r e in
+    (ap (λ (b : Bool). cond b (Some (known_in x)) (told_of (take i xs) r.tid)) (apart x.tid r.tid later.1) ∙ later.0, above both.0 later.1)
+  where
+    apart : (a b : ℕ) → a < b → (a == b) ≡ false
+    apart a b lt = grind (arith, nat_tests)
+
+    above : nat_lt last x.tid ≡ true → x.tid < r.tid → last < r.tid
+    above first lt = let below : last < x.tid = grind (arith, nat_tests) in omega (arith, below, lt)
+
+told_push : (rs : List DumpRecord) (r : DumpRecord) (t : ℕ) → told_of (rs ++ r ∷ []) t ≡ or_known (told_of rs t) (told_of (r ∷ []) t)
+told_push [] r t = refl
+told_push (x ∷ xs) r t = by_test (x.tid == t) (told_push xs r t)
+  where
+    by_test : (b : Bool) → told_of (xs ++ r ∷ []) t ≡ or_known (told_of xs t) (told_of (r ∷ []) t)
+        → cond b (Some (known_in x)) (told_of (xs ++ r ∷ []) t) ≡ or_known (cond b (Some (known_in x)) (told_of xs t)) (told_of (r ∷ []) t)
+    by_test true later = refl
+    by_test false later = later
+
+-- one record more, whose thread none of those before is of
+loaded_push : (rs : List DumpRecord) (r : DumpRecord) (v : Look) → told_of rs r.tid ≡ None → (t : ℕ)
+    → loaded (rs ++ r ∷ []) v t ≡ loaded (r ∷ []) (loaded rs v) t
+loaded_push rs r v none t = ap (λ (o : Option Known). or_known o (v t)) (told_push rs r t) ∙ by_test (r.tid == t) refl
+  where
+    joined : (o : Option Known) → or_known (or_known o None) (v t) ≡ or_known o (v t)
+    joined None = refl
+    joined (Some k) = refl
+
+    by_test : (b : Bool) → (r.tid == t) ≡ b
+        → or_known (or_known (told_of rs t) (cond b (Some (known_in r)) None)) (v t) ≡ or_known (cond b (Some (known_in r)) None)
+        (or_known (told_of rs t) (v t))
+    by_test true e = ap (λ (o : Option Known). or_known (or_known o (Some (known_in r))) (v t)) untold ∙ refl
+      where
+        untold : told_of rs t ≡ None
+        untold = ap (told_of rs) (sym (eqb-true r.tid t e)) ∙ none
+    by_test false e = joined (told_of rs t)
+
+-- a page's records are loaded up to one, and then that one
+pub loaded_more : (rs : List DumpRecord) (next : Option ℕ) → rises 0 rs next ≡ true → (i : ℕ) (r : DumpRecord) → slice_get rs i ≡ Some r
+    → take (i + 1) rs ≡ take i rs ++ r ∷ [] → (v v' v'' : Look) → v' ≡ loaded (take i rs) v → ((t : ℕ) → v'' t ≡ loaded (r ∷ []) v' t)
+    → v'' ≡ loaded (take (i + 1) rs) v
+loaded_more rs next up i r found more v v' v'' before here = λ j. λ t. at t j
+  where
+    at : (t : ℕ) → v'' t ≡ loaded (take (i + 1) rs) v t
+    at t =
+        here t ∙ (ap (λ (x : Look). loaded (r ∷ []) x t) before
+        ∙ (sym (loaded_push (take i rs) r v (above_earlier 0 rs next up i r found).0 t) ∙ ap (λ (xs : List DumpRecord). loaded xs v t) (sym more)))
+
+-- what was noted last is put back first
+pub put_back_last : (ps : List (ℕ × Option Known)) (t : ℕ) (o : Option Known) (v : Look) → all_put_back (ps ++ (t, o) ∷ []) v ≡ all_put_back ps (put_back t o v)
+put_back_last [] t o v = refl
+put_back_last (p ∷ ps) t o v = ap (put_back p.0 p.1) (put_back_last ps t o v)
+
+-- so what is noted is put back as far as before, where one thread less is noted and it was put back
+pub put_back_one : (ps qs : List (ℕ × Option Known)) (t : ℕ) (o : Option Known) (v v' v0 : Look) → qs ≡ ps ++ (t, o) ∷ []
+    → ((u : ℕ) → v' u ≡ put_back t o v u) → all_put_back qs v ≡ v0 → all_put_back ps v' ≡ v0
+put_back_one ps qs t o v v' v0 last here before =
+    ap (all_put_back ps) (λ j. λ u. here u j) ∙ (sym (put_back_last ps t o v) ∙ (ap (λ (xs : List (ℕ × Option Known)). all_put_back xs v) (sym last) ∙ before))
+
+-- a record that was loaded is put back
+pub put_back_loaded : (ps : List (ℕ × Option Known)) (r : DumpRecord) (v v' v0 : Look) → all_put_back ps v ≡ v0 → ((t : ℕ) → v' t ≡ loaded (r ∷ []) v t)
+    → all_put_back (ps ++ (r.tid, v r.tid) ∷ []) v' ≡ v0
+put_back_loaded ps r v v' v0 before here = put_back_last ps r.tid (v r.tid) v' ∙ (ap (all_put_back ps) (λ j. λ t. at t j) ∙ before)
+  where
+    at : (t : ℕ) → put_back r.tid (v r.tid) v' t ≡ v t
+    at t = ap (λ (o : Option Known). cond (r.tid == t) (in_place o (v r.tid)) o) (here t) ∙ by_test (r.tid == t) refl
+      where
+        by_test : (b : Bool) → (r.tid == t) ≡ b
+            → cond b (in_place (or_known (cond b (Some (known_in r)) None) (v t)) (v r.tid)) (or_known (cond b (Some (known_in r)) None) (v t)) ≡ v t
+        by_test true e = ap v (eqb-true r.tid t e)
+        by_test false e = refl

@@ -1,0 +1,461 @@
+//! How agents leave a kernel and how the next one comes, and what a kernel's pages tell.
+
+use crate::messages::Tried;
+use gs_dump::Page;
+use gs_journal::Entry;
+use gs_kernel::{Answer, Command, Kernel, Settings, ThreadEvent};
+use gs_layout::{Change, Class, Facts, Message, Name, Outcome, Refusal};
+use gs_ring::ByteRing;
+use gs_slots::Stamp;
+use std::alloc::Global;
+
+/// The generation of the first agent: one more is the last.
+const FIRST: u32 = 4_294_967_294;
+
+/// The last generation.
+const LAST: u32 = 4_294_967_295;
+
+/// A thread of a page: its tid, its number and its CPU.
+type Shown = (u32, u32, Option<u16>);
+
+/// What is done with a kernel.
+#[derive(Clone, Copy)]
+enum Deed {
+    /// A runnable thread that may run on these CPUs is created.
+    Create(u64),
+    /// Something happens to a thread.
+    Thread(u32, ThreadEvent),
+    /// The agent that attaches becomes active on a CPU.
+    Activate(u16),
+    /// The kernel serves another command.
+    Serve(Command),
+    /// On a CPU lands what the active agent stamped: a thread, at a number.
+    Run(u16, u32, u32),
+    /// A page is given from a tid on, of at most so many threads, and these stand in it, and where the next begins.
+    Page(u32, u16, &'static [Shown], Option<u32>),
+    /// The same, which the kernel does not remember.
+    Dump(u32, u16, &'static [Shown], Option<u32>),
+    /// Nothing: the last entry but one is looked at.
+    LastButOne,
+}
+
+use Deed::{Activate, Create, Dump, LastButOne, Run, Serve, Thread};
+
+/// What a deed came to.
+#[derive(Clone, Copy, PartialEq, Eq, Debug)]
+enum Came {
+    /// A message was posted about a thread: its tid and its number.
+    Posted(u32, u32),
+    /// The same, where the thread was taken off this CPU.
+    TakenOff(u32, u32, u16),
+    /// A thread was placed.
+    Placed,
+    /// The other class took a CPU, or gave it back.
+    OtherClass,
+    /// The agent left.
+    Left,
+    /// An agent of this generation began to attach.
+    Begun(u32),
+    /// An agent of this generation became active on this CPU.
+    Role(u32, u16),
+    /// The page was as the deed says.
+    Told,
+    /// It was refused.
+    Refused(Refusal),
+    /// The enclave was torn down.
+    Torn,
+}
+
+use Came::{Begun, Left, OtherClass, Placed, Posted, Refused, Role, TakenOff, Told, Torn};
+
+/// The active agent, the generation of the one that attaches, and whether the last page was given.
+type Agents = (Option<(u32, u16)>, Option<u32>, bool);
+
+/// What is done, what it came to, and the agents then.
+type Row = (Deed, Came, Agents);
+
+const ACTIVE: Agents = (Some((FIRST, 0)), None, false);
+
+const NONE: Agents = (None, None, false);
+
+const ATTACHING: Agents = (None, Some(LAST), false);
+
+const PAGED: Agents = (None, Some(LAST), true);
+
+const NEXT: Agents = (Some((LAST, 1)), None, true);
+
+const LEAVE: Deed = Serve(Command::Leave);
+
+const BEGIN: Deed = Serve(Command::Begin);
+
+/// Of six threads, 1 runs on CPU 1 and 5 on CPU 2; 3 is blocked, 4 waits, and 2 and 6 are dead.
+const SIX: [Row; 12] = [
+    (Create(7), Posted(1, 5), ACTIVE),
+    (Create(7), Posted(2, 5), ACTIVE),
+    (Create(7), Posted(3, 5), ACTIVE),
+    (Create(7), Posted(4, 5), ACTIVE),
+    (Create(7), Posted(5, 5), ACTIVE),
+    (Create(7), Posted(6, 5), ACTIVE),
+    (Run(1, 1, 5), Placed, ACTIVE),
+    (Run(2, 3, 5), Placed, ACTIVE),
+    (Thread(3, ThreadEvent::Block), Posted(3, 6), ACTIVE),
+    (Run(2, 5, 5), Placed, ACTIVE),
+    (Thread(2, ThreadEvent::Die), Posted(2, 6), ACTIVE),
+    (Thread(6, ThreadEvent::Die), Posted(6, 6), ACTIVE),
+];
+
+/// The active agent leaves, and the next one begins.
+const LEAVES: [Row; 11] = [
+    (BEGIN, Refused(Refusal::StillAttached), ACTIVE),
+    (Activate(1), Refused(Refusal::NotAttaching), ACTIVE),
+    (
+        Deed::Page(1, 9, &[], None),
+        Refused(Refusal::NotAttaching),
+        ACTIVE,
+    ),
+    (
+        Dump(1, 9, &[], None),
+        Refused(Refusal::NotAttaching),
+        ACTIVE,
+    ),
+    (LEAVE, Left, NONE),
+    (LEAVE, Refused(Refusal::NotActive), NONE),
+    (Activate(1), Refused(Refusal::NotAttaching), NONE),
+    (
+        Deed::Page(1, 9, &[], None),
+        Refused(Refusal::NotAttaching),
+        NONE,
+    ),
+    (BEGIN, Begun(LAST), ATTACHING),
+    (BEGIN, Refused(Refusal::StillAttached), ATTACHING),
+    (Activate(1), Refused(Refusal::NotAttaching), ATTACHING),
+];
+
+/// Pages that are not the last, and pages that the kernel does not remember.
+const PAGES: [Row; 11] = [
+    (Deed::Page(1, 0, &[], Some(1)), Told, ATTACHING),
+    (Deed::Page(2, 0, &[], Some(3)), Told, ATTACHING),
+    (
+        Deed::Page(0, 1, &[(1, 5, Some(1))], Some(3)),
+        Told,
+        ATTACHING,
+    ),
+    (
+        Deed::Page(1, 2, &[(1, 5, Some(1)), (3, 6, None)], Some(4)),
+        Told,
+        ATTACHING,
+    ),
+    (
+        Deed::Page(3, 2, &[(3, 6, None), (4, 5, None)], Some(5)),
+        Told,
+        ATTACHING,
+    ),
+    (Dump(4, 1, &[(4, 5, None)], Some(5)), Told, ATTACHING),
+    (
+        Dump(4, 2, &[(4, 5, None), (5, 5, Some(2))], None),
+        Told,
+        ATTACHING,
+    ),
+    // Only the dead are from here on, and here there is no thread.
+    (Dump(6, 9, &[], None), Told, ATTACHING),
+    (Dump(7, 0, &[], None), Told, ATTACHING),
+    (Dump(LAST, 9, &[], None), Told, ATTACHING),
+    (Activate(1), Refused(Refusal::NotAttaching), ATTACHING),
+];
+
+/// The last page, and what takes the agent's CPU.
+const LAST_PAGE: [Row; 11] = [
+    (
+        Deed::Page(4, 65_535, &[(4, 5, None), (5, 5, Some(2))], None),
+        Told,
+        PAGED,
+    ),
+    (
+        Deed::Page(4, 9, &[], None),
+        Refused(Refusal::NotAttaching),
+        PAGED,
+    ),
+    (Dump(4, 9, &[], None), Refused(Refusal::NotAttaching), PAGED),
+    (Activate(3), Refused(Refusal::BadCpu), PAGED),
+    (Activate(64), Refused(Refusal::BadCpu), PAGED),
+    (Serve(Command::Take { cpu: 0 }), OtherClass, PAGED),
+    (Activate(0), Refused(Refusal::CpuTaken), PAGED),
+    (Create(7), Posted(7, 5), PAGED),
+    // Over a running thread, which is told so.
+    (Activate(1), Role(LAST, 1), NEXT),
+    (LastButOne, TakenOff(1, 6, 1), NEXT),
+    (Activate(2), Refused(Refusal::NotAttaching), NEXT),
+];
+
+/// No generation is left for a third agent.
+const LAST_LEAVES: [Row; 3] = [
+    (BEGIN, Refused(Refusal::StillAttached), NEXT),
+    (LEAVE, Left, (None, None, true)),
+    (BEGIN, Refused(Refusal::GenSpent), (None, None, true)),
+];
+
+/// An agent that attaches leaves before it was told of anything.
+const LEAVES_EARLY: [Row; 4] = [
+    (LEAVE, Left, NONE),
+    (BEGIN, Begun(LAST), ATTACHING),
+    (LEAVE, Left, NONE),
+    (BEGIN, Refused(Refusal::GenSpent), NONE),
+];
+
+/// With no thread the first page is the last. A page of no thread does for that.
+const NO_THREADS: [Row; 5] = [
+    (LEAVE, Left, NONE),
+    (BEGIN, Begun(LAST), ATTACHING),
+    (Deed::Page(1, 0, &[], None), Told, PAGED),
+    (Activate(1), Role(LAST, 1), NEXT),
+    (LastButOne, Begun(LAST), NEXT),
+];
+
+/// The ring is full: the thread that the next agent takes off cannot be told so.
+const FULL: [Row; 13] = [
+    (Create(7), Posted(1, 5), ACTIVE),
+    (Create(7), Posted(2, 5), ACTIVE),
+    (Create(7), Posted(3, 5), ACTIVE),
+    (Create(7), Posted(4, 5), ACTIVE),
+    (Run(1, 4, 5), Placed, ACTIVE),
+    (LEAVE, Left, NONE),
+    (BEGIN, Begun(LAST), ATTACHING),
+    (Deed::Page(4, 1, &[(4, 5, Some(1))], None), Told, PAGED),
+    (Activate(1), Torn, (None, None, true)),
+    (Activate(1), Refused(Refusal::Gone), (None, None, true)),
+    (
+        Deed::Page(1, 9, &[], None),
+        Refused(Refusal::Gone),
+        (None, None, true),
+    ),
+    (LEAVE, Refused(Refusal::Gone), (None, None, true)),
+    (BEGIN, Refused(Refusal::Gone), (None, None, true)),
+];
+
+/// A kernel of three CPUs whose threads' numbers begin above 4, with a ring of so many bytes.
+fn kernel_with(alloc: Global, ring: usize) -> Option<Kernel<ByteRing>> {
+    let settings = Settings {
+        cpus: 3,
+        first_tseq: 4,
+        first_generation: FIRST,
+        history: 100,
+    };
+    let ring = ByteRing::new(alloc, ring).ok()?;
+    Kernel::new(alloc, settings, ring).ok()
+}
+
+/// What an entry tells.
+fn entry_of(entry: &Entry) -> Came {
+    match entry {
+        Entry::Posted { message } => posted(message),
+        Entry::Placed { .. } => Placed,
+        Entry::Role { generation, cpu } => Role(*generation, *cpu),
+        Entry::Begin { generation } => Begun(*generation),
+        Entry::Left => Left,
+        Entry::Taken { .. } | Entry::Given { .. } => OtherClass,
+        Entry::Torn => Torn,
+    }
+}
+
+/// What a message tells. None here is of a timer.
+fn posted(message: &Message) -> Came {
+    match message {
+        Message::Thread { tid, tseq, change } => match change {
+            Change::Preempted { cpu } => TakenOff(*tid, *tseq, *cpu),
+            _ => Posted(*tid, *tseq),
+        },
+        Message::TimerTick { .. } => OtherClass,
+    }
+}
+
+fn came_of(answer: &Answer) -> Came {
+    match answer {
+        Answer::Refused { refusal } => Refused(*refusal),
+        Answer::Torn => Torn,
+        Answer::Done { entry } => entry_of(entry),
+    }
+}
+
+fn create(kernel: &mut Kernel<ByteRing>, mask: u64) -> Option<Came> {
+    let facts = Facts {
+        runnable: true,
+        mask,
+        class: Class::Zero,
+        name: Name::new(b"web")?,
+    };
+    Some(came_of(&kernel.create(&facts)))
+}
+
+/// A command served by its own call, or by the one for all.
+fn serve(kernel: &mut Kernel<ByteRing>, command: &Command) -> Came {
+    let answer = match command {
+        Command::Leave => kernel.leave(),
+        Command::Begin => kernel.begin(),
+        _ => kernel.serve(command),
+    };
+    came_of(&answer)
+}
+
+/// Something happens to a thread, which the kernel is told as a command.
+fn happen(kernel: &mut Kernel<ByteRing>, tid: u32, event: ThreadEvent) -> Came {
+    came_of(&kernel.serve(&Command::Thread { tid, event }))
+}
+
+fn run(kernel: &mut Kernel<ByteRing>, cpu: u16, tid: u32, tseq: u32) -> Option<Came> {
+    let (generation, _) = kernel.active()?;
+    if cpu >= kernel.settings().cpus {
+        return None;
+    }
+    let stamp = Stamp {
+        generation,
+        tid,
+        tseq,
+        preempt: false,
+    };
+    match kernel.land_stamp(cpu, &stamp) {
+        Ok(landing) if landing.outcome == Outcome::Placed => Some(Placed),
+        _ => None,
+    }
+}
+
+/// Whether just these threads stand in a page, each as it was created but for its number and its CPU, and the next
+/// one begins here.
+fn is_page(page: &Page, threads: &[Shown], next: Option<u32>) -> bool {
+    let mut records = page.records.iter();
+    for thread in threads {
+        let Some(record) = records.next() else {
+            return false;
+        };
+        let facts = &record.facts;
+        let named = facts.mask == 7 && facts.name.as_bytes() == b"web".as_slice();
+        if !named || (record.tid, record.tseq, record.cpu) != *thread {
+            return false;
+        }
+    }
+    records.next().is_none() && page.next == next
+}
+
+/// What a page came to: nothing where it is another one.
+fn told(page: Result<Page, Refusal>, threads: &[Shown], next: Option<u32>) -> Option<Came> {
+    match page {
+        Ok(page) => {
+            if is_page(&page, threads, next) {
+                Some(Told)
+            } else {
+                None
+            }
+        }
+        Err(refusal) => Some(Refused(refusal)),
+    }
+}
+
+/// What the last entry but one tells.
+fn last_but_one(entries: &[Entry]) -> Option<Came> {
+    let (_, before) = entries.split_last()?;
+    let (entry, _) = before.split_last()?;
+    Some(entry_of(entry))
+}
+
+/// What a deed came to, where it could be done.
+fn came_to(alloc: Global, kernel: &mut Kernel<ByteRing>, deed: &Deed) -> Option<Came> {
+    match deed {
+        Deed::Create(mask) => create(kernel, *mask),
+        Deed::Thread(tid, event) => Some(happen(kernel, *tid, *event)),
+        Deed::Activate(cpu) => Some(came_of(&kernel.activate(*cpu))),
+        Deed::Serve(command) => Some(serve(kernel, command)),
+        Deed::Run(cpu, tid, tseq) => run(kernel, *cpu, *tid, *tseq),
+        Deed::Page(from, max, threads, next) => {
+            told(kernel.page(alloc, *from, *max), threads, *next)
+        }
+        Deed::Dump(from, max, threads, next) => {
+            told(kernel.dump(alloc, *from, *max), threads, *next)
+        }
+        Deed::LastButOne => last_but_one(kernel.journal().entries()),
+    }
+}
+
+fn agents(kernel: &Kernel<ByteRing>) -> Agents {
+    (kernel.active(), kernel.attaching(), kernel.is_paged())
+}
+
+/// The first row that comes to something else, or after which there are other agents.
+fn first_wrong(alloc: Global, kernel: &mut Kernel<ByteRing>, rows: &[Row]) -> Option<usize> {
+    for (index, (deed, came, after)) in rows.iter().enumerate() {
+        if came_to(alloc, kernel, deed) != Some(*came) || agents(kernel) != *after {
+            return Some(index);
+        }
+    }
+    None
+}
+
+/// Tries rows on a new kernel.
+fn tried(alloc: Global, ring: usize, rows: &[Row]) -> Tried {
+    match kernel_with(alloc, ring) {
+        Some(mut kernel) => Tried::with(first_wrong(alloc, &mut kernel, rows)),
+        None => Tried::NotMade,
+    }
+}
+
+// A function for each table: a proof is cheaper where it sees one table alone.
+fn try_six(alloc: Global, kernel: &mut Kernel<ByteRing>) -> Option<usize> {
+    first_wrong(alloc, kernel, &SIX)
+}
+
+fn try_leaves(alloc: Global, kernel: &mut Kernel<ByteRing>) -> Option<usize> {
+    first_wrong(alloc, kernel, &LEAVES)
+}
+
+fn try_pages(alloc: Global, kernel: &mut Kernel<ByteRing>) -> Option<usize> {
+    first_wrong(alloc, kernel, &PAGES)
+}
+
+fn try_last_page(alloc: Global, kernel: &mut Kernel<ByteRing>) -> Option<usize> {
+    first_wrong(alloc, kernel, &LAST_PAGE)
+}
+
+fn try_last_leaves(alloc: Global, kernel: &mut Kernel<ByteRing>) -> Option<usize> {
+    first_wrong(alloc, kernel, &LAST_LEAVES)
+}
+
+fn try_leaves_early(alloc: Global) -> Tried {
+    tried(alloc, 1024, &LEAVES_EARLY)
+}
+
+fn try_no_threads(alloc: Global) -> Tried {
+    tried(alloc, 1024, &NO_THREADS)
+}
+
+fn try_full(alloc: Global) -> Tried {
+    tried(alloc, 128, &FULL)
+}
+
+/// The first row of each table that is answered otherwise, of a kernel that goes through them in order.
+fn first_wrongs(alloc: Global, kernel: &mut Kernel<ByteRing>) -> [Option<usize>; 5] {
+    [
+        try_six(alloc, kernel),
+        try_leaves(alloc, kernel),
+        try_pages(alloc, kernel),
+        try_last_page(alloc, kernel),
+        try_last_leaves(alloc, kernel),
+    ]
+}
+
+#[test]
+fn tells_the_next_agent(rt: HostRuntime) {
+    let wrongs = match kernel_with(rt.alloc(), 1024) {
+        Some(mut kernel) => Some(first_wrongs(rt.alloc(), &mut kernel)),
+        None => None,
+    };
+    assert_eq!(rt; wrongs, Some([None; 5]));
+}
+
+#[test]
+fn agents_come_and_go(rt: HostRuntime) {
+    let early = try_leaves_early(rt.alloc());
+    let no_threads = try_no_threads(rt.alloc());
+    let full = try_full(rt.alloc());
+    assert_eq!(rt;
+        (early, no_threads, full),
+        (Tried::Well, Tried::Well, Tried::Well)
+    );
+}
