@@ -181,6 +181,14 @@ fn answers_so<P: Ring>(
     Ok(said(&ticked) == Err(Refusal::Gone) && takes(alloc, &mut kernel.taker(), &[1, 2])?)
 }
 
+/// A kernel over a ring of bytes that has room for two such messages.
+fn over_bytes(alloc: Global) -> Option<Kernel<ByteRing>> {
+    let Ok(bytes) = ByteRing::new(alloc, 128) else {
+        return None;
+    };
+    Kernel::new(alloc, SETTINGS, bytes).ok()
+}
+
 /// Kernels over the two rings answer the same, and the same messages are taken from them.
 #[test]
 fn answers_alike_over_two_rings(rt: HostRuntime) -> Result<(), Fail> {
@@ -188,8 +196,7 @@ fn answers_alike_over_two_rings(rt: HostRuntime) -> Result<(), Fail> {
     let places = FixedPlaces::new(rt.alloc(), 2)?;
     let mut kernel = Kernel::new(rt.alloc(), SETTINGS, places)?;
     assert!(rt; answers_so(rt.alloc(), &mut kernel, &facts)?);
-    let bytes = ByteRing::new(rt.alloc(), 128).ok().ok_or("a ring")?;
-    let mut kernel = Kernel::new(rt.alloc(), SETTINGS, bytes)?;
+    let mut kernel = over_bytes(rt.alloc()).ok_or("a kernel")?;
     assert!(rt; answers_so(rt.alloc(), &mut kernel, &facts)?);
     Ok(())
 }

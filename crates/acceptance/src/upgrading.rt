@@ -202,7 +202,7 @@ fn is_replaced(
 ) -> Result<bool, AllocError> {
     let living = machine.kernel().live_threads(alloc)?.len();
     let most = most_replies(machine.kernel().has_agent(), living, max);
-    let replies = machine.replace(0, max)?;
+    let replies = machine.replace(0, max.max(1))?;
     if end_of(&replies) != Some(wanted) {
         return Ok(false);
     }

@@ -102,7 +102,7 @@ kept_told m room c false h none t k =
     let torn : Kept (record m { history = m.history ++ Torn ∷ [] }) = grown_kept m _ (grows_torn m k.good) k in
     let e : Entry = last_in (effect m.settings m.history c) in
     let same : record m { history = m.history ++ Torn ∷ [] } ≡ left_by m (effect m.settings m.history c) false h =
-        λ i. record m { history = sym t.1 i; agent = sym (led_by_none m.settings.cpus e m.agent) i; slots = sym (freed_by_none m.settings.cpus e m.slots) i } in
+    λ i. record m { history = sym t.1 i; agent = sym (led_by_none m.settings.cpus e m.agent) i; slots = sym (freed_by_none m.settings.cpus e m.slots) i } in
     subst Kept same torn
 
 -- a role that is added is the active one

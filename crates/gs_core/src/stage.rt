@@ -25,7 +25,11 @@ impl Stage {
     pub(crate) fn first(has_agent: bool) -> Stage
         ensures { result ≡ first_stage has_agent }
     {
-        if has_agent { Stage::Crash } else { Stage::Begin }
+        if has_agent {
+            Stage::Crash
+        } else {
+            Stage::Begin
+        }
     }
 
     /// The event of this one: a page has at most `max` threads, and the new agent becomes active on a CPU.

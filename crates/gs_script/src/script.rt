@@ -79,7 +79,10 @@ fn words_said<'a>(line: &'a [u8], words: &mut Vec<&'a str>) -> Result<bool, Line
 /// What an event line says, or `None` where it says nothing. Its words are left in the place of those that are
 /// there.
 #[tactic(auto, using(crate::proofs::Said::value_said, crate::proofs::Said::reason_said, crate::proofs::Said::nothing_said, crate::proofs::Said::error_said))]
-fn event_line<'a>(line: &'a [u8], words: &mut Vec<&'a str>) -> Result<Option<Event<AnyPolicy>>, LineError>
+fn event_line<'a>(
+    line: &'a [u8],
+    words: &mut Vec<&'a str>,
+) -> Result<Option<Event<AnyPolicy>>, LineError>
     ensures { Gives result (says event_of line.now) }
 {
     if !words_said(line, words)? {
@@ -109,7 +112,11 @@ fn header_line(alloc: Global, line: &[u8]) -> Result<Option<Config<AnyPolicy>>, 
 
 /// The events of lines, of which the first has this number.
 #[tactic(auto, using(crate::proofs::Lines::passes, crate::proofs::Lines::adds, crate::proofs::Lines::stopped, crate::proofs::Lines::ends))]
-fn events(alloc: Global, first: usize, lines: &[&[u8]]) -> Result<Vec<Event<AnyPolicy>>, ScriptError>
+fn events(
+    alloc: Global,
+    first: usize,
+    lines: &[&[u8]],
+) -> Result<Vec<Event<AnyPolicy>>, ScriptError>
     requires { first + length lines.now < 2 ^ 63 }
     ensures { GivesBy (λ v. v.items) result (events_of first (shown lines.now)) }
 {

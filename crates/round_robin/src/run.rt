@@ -19,7 +19,10 @@ fn own_events(
 ) -> Result<Vec<Event<RoundRobin>>, AllocError>
     ensures { IfOk result (λ own. own.items ≡ map (planned (λ (_ : any.AnyPolicy). policy)) events.now) }
 {
-    events.iter().map(|event| event.with_policy(policy)).collect(alloc)
+    events
+        .iter()
+        .map(|event| event.with_policy(policy))
+        .collect(alloc)
 }
 
 /// The lines of the replies of a script whose agents plan by this policy, whatever policies the script names.

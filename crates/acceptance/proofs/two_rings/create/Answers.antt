@@ -9,7 +9,7 @@ use Rattle.acceptance.proofs.two_rings.create.Goals as goal
 pub returns : goal.returns
 returns c = λ torn.
     let k = c.args.kernel.now in
-    let torn_down = subst (λ (a : Answer). Legal (RoomOf SamePlaces (λ (r : PlacesState). r.taken) Posted (λ r m. IsFull r) k.poster) k.settings k.history (commands.Create c.args.facts.now) a c.create.new.self.history) torn c.create.ensures.legal in
+    let torn_down = subst (λ (a : Answer). Legal (RoomOf SamePlaces (λ (r : PlacesState). r.taken) Posted (λ r m. IsFull r) k.poster) k.settings k.history k.paged (commands.Create c.args.facts.now) a c.create.new.self.history) torn c.create.ensures.legal in
     let room = torn_down.tells.0.2 in
     let told = c.poster-ring.ensures.told in
     omega (arith, room.1, room.4, ap length (sym room.3.all ∙ told.all), ap (λ (r : PlacesState). length r.posts) c.poster-ring.ensures.value)

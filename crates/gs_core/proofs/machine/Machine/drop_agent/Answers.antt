@@ -16,5 +16,5 @@ invariant_of-self g c =
     let k = c.leave.new.self in
     let history : k.history ≡ m.history ++ Left ∷ [] = e.legal.1.tells.1 in
     let left : crashed m ≡ record (with_kernel m k.settings k.poster k.history) { agent = None } =
-        λ j. record m { settings = sym e.frame.settings j; ring = sym e.frame.ring j; history = sym history j; consumed = sym e.frame.stays j; agent = None } in
+    λ j. record m { settings = sym e.frame.settings j; ring = sym e.frame.ring j; history = sym history j; consumed = sym e.frame.stays j; agent = None } in
     record { kept = subst Kept left (kept_left m i.kept); told = e.frame.told; suits = suits_left c.self.inside.policy m.history k.history k.paged history }

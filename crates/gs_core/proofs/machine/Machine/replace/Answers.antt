@@ -33,7 +33,7 @@ stages-preserved g c =
       so_far = (
         so_far.0 ++ event ∷ [],
         subst (λ (o : Option Stage). GoesOn c.args.cpu c.args.max from (so_far.0 ++ event ∷ []) c.push_reserved.new.self.items o) (sym c.after-next.ensures)
-        (subst (λ (rs : List Reply). GoesOn c.args.cpu c.args.max from (so_far.0 ++ event ∷ []) rs (stage_after c.in-Some.stage c.step-reply.result)) (sym items) goes),
+            (subst (λ (rs : List Reply). GoesOn c.args.cpu c.args.max from (so_far.0 ++ event ∷ []) rs (stage_after c.in-Some.stage c.step-reply.result)) (sym items) goes),
         subst (λ (rs : List Reply). Run (planning g.P.Policy.chosen c.args.self.now) (so_far.0 ++ event ∷ []) rs (planning g.P.Policy.chosen c.step-reply.new.self)) (sym items) runs,
       );
       policy =

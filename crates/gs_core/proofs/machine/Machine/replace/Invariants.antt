@@ -11,7 +11,7 @@ abbrev pub invariant-stages : goal.invariant-stages
 invariant-stages g l = record {
   so_far : (events : List (Event Plan)) × GoesOn l.cpu l.max (Some (first_stage (has_agent l.fn.self.history))) events l.replies.items l.next × Run (planning g.P.Policy.chosen l.fn.self) events l.replies.items (planning g.P.Policy.chosen l.self);
   policy : l.self.policy ≡ l.fn.self.policy;
-  room : vec_len l.replies + events_left l.max l.next (planning g.P.Policy.chosen l.self) ≤ vec_capacity l.replies
+  room : vec_len l.replies + events_left l.max l.next (planning g.P.Policy.chosen l.self) ≤ vec_capacity l.replies;
 }
 
 abbrev pub decreases-stages : goal.decreases-stages

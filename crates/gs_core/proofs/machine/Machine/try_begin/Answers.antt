@@ -40,8 +40,8 @@ invariant_of-self g c =
     let agent : agent_of c.in-Ok.role ≡ newcomer m.settings.cpus = ap agent_of c.in-Ok.ensures ∙ ap newcomer cpus in
     let slots : c.clear.new.self ≡ replicate m.settings.cpus Idle = c.clear.ensures ∙ ap (λ n. replicate n Idle) good.count in
     let left : record m { history = m.history ++ Begin (next_generation m.history) ∷ []; agent = Some (newcomer m.settings.cpus); policy = g.P.Policy.chosen c.args.policy; slots = replicate m.settings.cpus Idle }
-        ≡ record (with_kernel m k.settings k.poster k.history) { agent = Some (agent_of c.in-Ok.role); policy = g.P.Policy.chosen c.args.policy; slots = c.clear.new.self } =
-        λ j. record m { settings = sym e.frame.settings j; ring = sym e.frame.ring j; history = sym history j; consumed = sym e.frame.stays j; agent = Some (sym agent j); policy = g.P.Policy.chosen c.args.policy; slots = sym slots j } in
+    ≡ record (with_kernel m k.settings k.poster k.history) { agent = Some (agent_of c.in-Ok.role); policy = g.P.Policy.chosen c.args.policy; slots = c.clear.new.self } =
+    λ j. record m { settings = sym e.frame.settings j; ring = sym e.frame.ring j; history = sym history j; consumed = sym e.frame.stays j; agent = Some (sym agent j); policy = g.P.Policy.chosen c.args.policy; slots = sym slots j } in
     let none : k.paged ≡ false = e.frame.pages ∙ ap (λ (x : Entry). paged_by (answers.Done x) c.self.inside.kernel.paged) e.legal.0 in
     record {
       kept = subst Kept left (kept_begun m (next_generation m.history) (g.P.Policy.chosen c.args.policy) i.kept);

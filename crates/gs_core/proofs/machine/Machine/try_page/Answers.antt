@@ -51,18 +51,18 @@ invariant_of-self-2 g c =
     let old = c.self.inside.kernel in
     let noted : k ≡ record old { paged = paged_after page old.paged } = c.note_page.ensures in
     let left : record m { agent = Some (record { mind = r'.mind; next = (dumped m.settings m.history from c.args.max).next }) } ≡ record (with_kernel m k.settings k.poster k.history) { agent = Some (agent_of r') } =
-        λ j. record m {
-          settings = (sym noted j).settings;
-          ring = (sym noted j).poster.capacity;
-          history = (sym noted j).history;
-          consumed = (sym noted j).poster.taken;
-          agent = Some (record { mind = r'.mind; next = sym (goes ∙ ap (λ (x : Contents). x.next) at) j });
-        } in
+    λ j. record m {
+      settings = (sym noted j).settings;
+      ring = (sym noted j).poster.capacity;
+      history = (sym noted j).history;
+      consumed = (sym noted j).poster.taken;
+      agent = Some (record { mind = r'.mind; next = sym (goes ∙ ap (λ (x : Contents). x.next) at) j });
+    } in
     let some : is_some (attaching m.history) ≡ true = need.0 in
     let paged : k.paged ≡ is_none r'.next =
-        ap (λ (x : KernelOf RingState). x.paged) noted
-        ∙ (ap (λ b. paged_after page b) (i.suits.given some ∙ ap is_none (ap page_of there ∙ next))
-        ∙ (or_none (is_none page.next) ∙ ap is_none (sym goes))) in
+    ap (λ (x : KernelOf RingState). x.paged) noted
+    ∙ (ap (λ b. paged_after page b) (i.suits.given some ∙ ap is_none (ap page_of there ∙ next))
+    ∙ (or_none (is_none page.next) ∙ ap is_none (sym goes))) in
     record {
       kept = subst Kept left (kept_paged m (agent_of r) from c.args.max r'.mind there next some known i.kept);
       told = subst (λ (x : KernelOf RingState). Posted x.poster (posted x.history)) (sym noted) i.told;
