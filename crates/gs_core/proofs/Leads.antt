@@ -1,6 +1,6 @@
 -- A role that is added moves the agent, and keeps what the machine keeps.
-use Rattle.std.proofs.Common.{◌≡◌, refl, ap, sym, ◌∙◌, ℕ, true, false, Option, None, Some, List, [], ◌∷◌, ◌++◌}
-use Rattle.std.specs.Option.{is_some, option_map}
+use Rattle.std.proofs.Common.{◌≡◌, refl, ap, sym, ◌∙◌, ℕ, false, Option, None, Some, List, [], ◌∷◌, ◌++◌}
+use Rattle.std.specs.Option.{option_map}
 use Rattle.gs_slots.specs.declared.state.SlotState.{SlotState}
 use Rattle.gs_journal.specs.declared.entry.Entry.{Entry}
 use Rattle.gs_journal.specs.declared.entry.Entry.TheVariants.{Posted, Placed, Role, Begin, Left, Taken, Given, Torn}

@@ -1,5 +1,5 @@
 -- A replacement comes to its end, and how many events it has at most.
-use Rattle.std.proofs.Common.{◌≡◌, refl, ap, sym, ◌∙◌, subst, ℕ, suc, ◌+◌, ◌-◌, ◌*◌, ◌/◌, ◌<◌, ◌≤◌, ◌⊎◌, inl, inr, Bool, true, false, Option, None, Some, List, [], ◌∷◌, ◌++◌, length, unwrap_or, arith}
+use Rattle.std.proofs.Common.{◌≡◌, refl, ap, sym, ◌∙◌, subst, ℕ, ◌+◌, ◌/◌, ◌<◌, ◌≤◌, inl, inr, Bool, true, false, Option, None, Some, List, [], ◌∷◌, ◌++◌, length, unwrap_or, arith}
 use Rattle.std.proofs.Math.Nat.{add-mul, div-mul-le_self}
 use Rattle.std.proofs.lemmas.Nat.{le-div}
 use Rattle.gs_layout.specs.declared.message.Message.{Message}
@@ -20,7 +20,7 @@ use Rattle.gs_core.specs.declared.reply.Reply.{Reply}
 use Rattle.gs_core.specs.declared.reply.Reply.TheVariants as replies
 use Rattle.gs_core.specs.declared.stage.Stage.{Stage}
 use Rattle.gs_core.specs.declared.stage.Stage.TheVariants.{Crash, Begin, Page, Activate}
-use Rattle.gs_core.specs.Machine.{Carries, Does, IsShort, Plan, Serves, State, Step, carried, crashed, fits, led, next_dump, page_of, planned, refusal}
+use Rattle.gs_core.specs.Machine.{Does, IsShort, Plan, Serves, State, Step, carried, crashed, fits, led, next_dump, page_of, planned, refusal}
 use Rattle.gs_core.specs.Policies.{policy_after}
 use Rattle.gs_core.specs.Replacing.{GoesOn, stage_after, stage_event}
 use Rattle.gs_core.proofs.Pages.{from_on, next_far}

@@ -1,10 +1,10 @@
 -- The role of a machine suits it, whatever happens.
 use Rattle.std.proofs.Common.{◌≡◌, refl, ap, sym, subst, ◌∙◌, ℕ, Bool, true, false, Option, None, Some, [], ◌∷◌, ◌++◌, append_assoc, unwrap_or}
 use Rattle.std.proofs.lemmas.Bool.{false≢true}
-use Rattle.std.specs.Option.{is_none, is_some, option_map}
+use Rattle.std.specs.Option.{is_none, option_map}
 use Rattle.gs_layout.specs.declared.message.Message.{Message}
 use Rattle.gs_layout.specs.declared.message.Message.TheVariants.{TimerTick}
-use Rattle.gs_journal.specs.declared.entry.Entry.TheVariants.{Posted, Role, Begin, Left, Taken, Given, Torn}
+use Rattle.gs_journal.specs.declared.entry.Entry.TheVariants.{Posted, Role, Begin, Left, Taken}
 use Rattle.gs_journal.specs.declared.entry.Entry.{Entry}
 use Rattle.gs_journal.specs.History.{History, active, attaching}
 use Rattle.gs_kernel.specs.declared.settings.Settings.{Settings}
@@ -18,10 +18,10 @@ use Rattle.gs_kernel.specs.Legal.{Legal, Room, effect, entries_in, last_in, page
 use Rattle.gs_kernel.proofs.Entries.{attaching_ended}
 use Rattle.gs_agent.specs.Role.{RoleOf}
 use Rattle.gs_core.specs.Answers.{answered, follows, on_cpu}
-use Rattle.gs_core.specs.Machine.{page_of, stays_with}
-use Rattle.gs_core.specs.Held.{Acts, Suits, agent_of}
+use Rattle.gs_core.specs.Machine.{stays_with}
+use Rattle.gs_core.specs.Held.{Suits}
 use Rattle.gs_core.proofs.Commands.{role_last}
-use Rattle.gs_kernel.proofs.OneAgent.{active_begun, active_left, attaching_left}
+use Rattle.gs_kernel.proofs.OneAgent.{active_begun, attaching_left}
 use Rattle.gs_core.proofs.OneAgent.{none_there}
 use Rattle.gs_core.proofs.Roles.{NoNewRole, acts_on, entry_roles, roles_given, roles_posted, roles_taken, roles_torn, same_history}
 use Rattle.gs_core.proofs.Steps.{was_role}

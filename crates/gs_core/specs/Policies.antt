@@ -1,5 +1,5 @@
 -- The policy of a machine after events.
-use Rattle.std.specs.Prelude.{List, [], ◌∷◌}
+use Rattle.std.specs.Prelude.{List, ◌∷◌}
 use Rattle.gs_core.specs.declared.event.Event.{Event}
 use Rattle.gs_core.specs.declared.event.Event.TheVariants.{Begin}
 use Rattle.gs_core.specs.declared.reply.Reply.{Reply}

@@ -1,7 +1,6 @@
-use Rattle.std.proofs.Common.{◌≡◌, List, ◌∷◌, [], ◌++◌, None, refl, subst, sym}
-use Rattle.gs_journal.specs.declared.entry.Entry.{Entry}
+use Rattle.std.proofs.Common.{◌≡◌, ◌∷◌, [], ◌++◌, None, subst, sym}
 use Rattle.gs_journal.specs.declared.entry.Entry.TheVariants.{Left}
-use Rattle.gs_core.specs.Machine.{State, crashed}
+use Rattle.gs_core.specs.Machine.{crashed}
 use Rattle.gs_core.specs.Held.{Kept, machine_now}
 use Rattle.gs_core.proofs.Posting.{with_kernel}
 use Rattle.gs_core.proofs.Suiting.{suits_left}

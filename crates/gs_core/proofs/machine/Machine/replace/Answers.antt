@@ -1,4 +1,4 @@
-use Rattle.std.proofs.Common.{◌≡◌, ◌∙◌, ap, subst, sym, ◌<◌, ◌++◌, [], ◌∷◌, Option, Some, List, arith}
+use Rattle.std.proofs.Common.{◌≡◌, ◌∙◌, ap, subst, sym, ◌++◌, [], ◌∷◌, Option, Some, List, arith}
 use Rattle.gs_kernel.specs.Kernel.{has_agent}
 use Rattle.gs_core.specs.declared.event.Event.{Event}
 use Rattle.gs_core.specs.declared.reply.Reply.{Reply}

@@ -1,9 +1,8 @@
-use Rattle.std.proofs.Common.{◌≡◌, ◌==◌, ◌+◌, ◌<◌, List, ◌∷◌, [], ◌++◌, Some, None, false, refl, ap, sym, subst, ◌∙◌, arith, replicate, length}
+use Rattle.std.proofs.Common.{◌≡◌, ◌==◌, ◌∷◌, [], ◌++◌, Some, false, ap, sym, subst, ◌∙◌, arith, replicate}
 use Rattle.std.proofs.lemmas.Bool.Decides.{nat_tests}
 use Rattle.gs_slots.specs.declared.state.SlotState.TheVariants.{Idle}
 use Rattle.gs_journal.specs.declared.entry.Entry.{Entry}
 use Rattle.gs_journal.specs.declared.entry.Entry.TheVariants.{Begin}
-use Rattle.gs_journal.specs.History.{generation}
 use Rattle.gs_kernel.specs.declared.command.Command.TheVariants as commands
 use Rattle.gs_kernel.specs.Kernel.{is_last_generation, next_generation}
 use Rattle.gs_kernel.specs.Legal.{paged_by}
@@ -11,7 +10,7 @@ use Rattle.gs_kernel.specs.declared.answer.Answer.TheVariants as answers
 use Rattle.gs_kernel.proofs.OtherClass.{begins_when}
 use Rattle.gs_kernel.proofs.Refusals.{free_when}
 use Rattle.gs_agent.specs.Role.{RoleOf}
-use Rattle.gs_core.specs.Machine.{State, newcomer}
+use Rattle.gs_core.specs.Machine.{newcomer}
 use Rattle.gs_core.specs.Good.{Good}
 use Rattle.gs_core.specs.Held.{Kept, agent_of, machine_now}
 use Rattle.gs_core.proofs.Posting.{with_kernel}
