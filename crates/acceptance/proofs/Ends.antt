@@ -13,7 +13,7 @@ use Rattle.gs_layout.specs.declared.facts.Class.{Class}
 use Rattle.gs_layout.specs.declared.facts.Class.TheVariants.{Zero, One}
 use Rattle.gs_layout.specs.declared.known.Known.{Known}
 use Rattle.gs_status.specs.Masks.{has}
-use Rattle.gs_status.proofs.Least.{least_same}
+use Rattle.gs_status.proofs.Laws.{least_same}
 use Rattle.gs_beliefs.specs.Cpus.{is_free}
 use Rattle.gs_policy.specs.Shown.{Shown}
 use Rattle.gs_policy.specs.declared.choice.Choice.{Choice}

@@ -8,7 +8,7 @@ use Rattle.gs_layout.specs.declared.facts.Class.TheVariants.{Zero, One}
 use Rattle.gs_layout.specs.declared.known.Known.{Known}
 use Rattle.gs_status.specs.Masks.{has, least}
 use Rattle.gs_status.specs.declared.mask.TheConstants.{MOST_CPUS}
-use Rattle.gs_status.proofs.Least.{least_passes}
+use Rattle.gs_status.proofs.Laws.{least_passes}
 use Rattle.gs_runq.specs.Queue.{is_in, Apart}
 use Rattle.gs_beliefs.specs.Cpus.{is_free}
 use Rattle.gs_policy.specs.declared.choice.Choice.{Choice}

@@ -35,8 +35,8 @@ fn cpu_for(view: &AgentView, left: Mask, tid: u32) -> Option<u16>
     ensures cpu { result ≡ cpu_for (has left) (look_up view.now tid) }
     ensures within { IfSome result (λ c. c < MOST_CPUS) }
 {
-    let (facts, _) = view.get(tid)?;
-    let open = left.both(Mask::new(facts.mask));
+    let facts = &view.get(tid)?.facts;
+    let open = left.both(facts.mask);
     match facts.class {
         Class::Zero => open.lowest(),
         Class::One => highest(open),

@@ -47,7 +47,7 @@ impl<P> Enclave<P> {
 fn facts(class: Class) -> Option<Facts> {
     Some(Facts {
         runnable: true,
-        mask: 0b1110,
+        mask: Mask::new(0b1110),
         class,
         name: Name::new(b"web")?,
     })

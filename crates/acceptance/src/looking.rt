@@ -177,7 +177,7 @@ fn tell(command: Command) -> Event<AnyPolicy> {
 fn creation(mask: u64) -> Option<Event<AnyPolicy>> {
     let facts = Facts {
         runnable: true,
-        mask,
+        mask: Mask::new(mask),
         class: Class::Zero,
         name: Name::new(b"web")?,
     };
@@ -359,7 +359,7 @@ fn with_one(alloc: Global) -> Option<Kernel<ByteRing>> {
     };
     let facts = Facts {
         runnable: true,
-        mask: 3,
+        mask: Mask::new(3),
         class: Class::Zero,
         name: Name::new(b"web")?,
     };

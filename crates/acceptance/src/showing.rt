@@ -6,6 +6,7 @@ use gs_layout::{Change, Message, Outcome, Refusal};
 use gs_lines::text_of;
 use gs_policy::Choice;
 use gs_report::report_text;
+use gs_status::Mask;
 use std::alloc::{AllocError, Global};
 use std::test::Fail;
 
@@ -48,7 +49,7 @@ const CHANGES: [(u32, u32, Change, &str); 7] = [
         Change::Affinity {
             cpu: Some(4),
             off: true,
-            mask: 1,
+            mask: Mask::new(1),
         },
         "unread affinity 3 seq 5 cpu 4\n",
     ),

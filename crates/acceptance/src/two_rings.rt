@@ -11,6 +11,7 @@ use gs_journal::Entry;
 use gs_kernel::{Answer, Kernel, Settings};
 use gs_layout::{Change, Class, Facts, MOST_TIDS, Message, Name, Refusal};
 use gs_ring::{ByteRing, Poster, Ring, Taker};
+use gs_status::Mask;
 use std::alloc::{AllocError, Global};
 use std::test::Fail;
 
@@ -26,7 +27,7 @@ const SETTINGS: Settings = Settings {
 fn web() -> Option<Facts> {
     Some(Facts {
         runnable: true,
-        mask: 3,
+        mask: Mask::new(3),
         class: Class::Zero,
         name: Name::new(b"abcdefghijklmnop")?,
     })

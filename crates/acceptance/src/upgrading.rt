@@ -4,7 +4,7 @@ use gs_agent::{Drained, Role};
 use gs_core::{Config, Event, Machine, Reply};
 use gs_journal::Entry;
 use gs_kernel::LiveThread;
-use gs_layout::{Facts, Refusal};
+use gs_layout::Refusal;
 use gs_policy::AnyPolicy;
 use gs_script::read_script;
 use std::alloc::{AllocError, Global};
@@ -152,23 +152,14 @@ fn most_replies(has_agent: bool, living: usize, max: u16) -> usize {
     pages.saturating_add(others)
 }
 
-/// Whether these are the same facts.
-fn are_same(one: &Facts, other: &Facts) -> bool {
-    one.runnable == other.runnable
-        && one.mask == other.mask
-        && one.class == other.class
-        && one.name.as_bytes() == other.name.as_bytes()
-}
-
 /// Whether an agent knows just these threads, each as it is.
 fn knows(role: &Role<AnyPolicy>, living: &[LiveThread]) -> bool {
     let mut walk = role.view().walk();
     for thread in living {
-        let Some((tid, facts, tseq)) = walk.next() else {
+        let Some((tid, known)) = walk.next() else {
             return false;
         };
-        let is_same = tid == thread.tid && tseq == thread.known.tseq;
-        if !is_same || !are_same(facts, &thread.known.facts) {
+        if tid != thread.tid || *known != thread.known {
             return false;
         }
     }

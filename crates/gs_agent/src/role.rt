@@ -244,7 +244,7 @@ impl<P> Role<P> {
         ensures unchanged { OnErr result (left_in slot.exit ≡ state_of slot.entry) }
         ensures as_before { OnErr result (self.new ≡ self.old) }
     {
-        let (_, tseq) = self.mind.view().get(tid).ok_or(Refusal::NoThread)?;
+        let tseq = self.mind.view().get(tid).ok_or(Refusal::NoThread)?.tseq;
         let cpu = slot.cpu();
         match slot.stamp(self.generation, tid, tseq, preempt) {
             Ok(()) => {

@@ -1,3 +1,4 @@
-pub mod Laws
+mod Believed
 mod Changing
 mod Rows
+pub mod Laws

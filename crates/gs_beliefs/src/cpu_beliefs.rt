@@ -117,7 +117,7 @@ impl CpuBeliefs {
     }
 
     /// The CPUs that the agent may use while the other class holds those of `taken`.
-    #[tactic(auto, using(gs_status::proofs::Marking::marked_if))]
+    #[tactic(auto, using(gs_status::proofs::Laws::marked_if))]
     pub fn usable(&self, taken: Mask) -> Mask
         ensures { (c : ℕ) → has result c ≡ is_usable self.now (has taken) c }
     {
@@ -130,7 +130,7 @@ impl CpuBeliefs {
 
     /// The CPUs that the agent may use, while the other class holds those of `taken`, and on which
     /// nobody is believed to run.
-    #[tactic(auto, using(gs_status::proofs::Marking::marked_if))]
+    #[tactic(auto, using(gs_status::proofs::Laws::marked_if))]
     pub fn free(&self, taken: Mask) -> Mask
         ensures { (c : ℕ) → has result c ≡ is_free self.now (has taken) c }
     {

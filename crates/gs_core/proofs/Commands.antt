@@ -17,9 +17,7 @@ use Rattle.gs_kernel.specs.declared.command.Command.TheVariants as commands
 use Rattle.gs_kernel.specs.declared.effect.Effect.{Effect}
 use Rattle.gs_kernel.specs.declared.effect.Effect.TheVariants.{Append}
 use Rattle.gs_kernel.specs.Legal.{Room, Tells, effect, entries_in, last_in, refusal}
-use Rattle.gs_kernel.proofs.Entries.{active_now}
-use Rattle.gs_kernel.proofs.OtherClass.{hands_off_when}
-use Rattle.gs_kernel.proofs.Refusals.{first_passed, free_when}
+use Rattle.gs_kernel.proofs.Laws.{active_now, first_passed, free_when, hands_off_when}
 use Rattle.gs_core.specs.Machine.{Agent, State, freed_by, is_given_all, led, page_of, promoted}
 use Rattle.gs_core.specs.Good.{Good, GoodHistory}
 use Rattle.gs_core.specs.Held.{Kept}

@@ -9,11 +9,11 @@ use Rattle.gs_journal.specs.declared.entry.Entry.TheVariants.{Posted, Torn}
 use Rattle.gs_journal.specs.History.{History, attaching, is_torn, torn}
 use Rattle.gs_journal.proofs.Laws.{same_posted, torn-push}
 use Rattle.gs_threads.specs.Mirrors.{is_quiet}
-use Rattle.gs_threads.proofs.Placing.{on_quiet, posts_nothing}
+use Rattle.gs_threads.proofs.Laws.{on_quiet, posts_nothing}
 use Rattle.gs_kernel.specs.Landing.{verdict}
 use Rattle.gs_kernel.specs.Legal.{Room}
 use Rattle.gs_kernel.specs.Lands.{Settles}
-use Rattle.gs_kernel.proofs.Entries.{torn_now}
+use Rattle.gs_kernel.proofs.Laws.{torn_now}
 use Rattle.gs_core.specs.declared.transaction.Transaction.{Transaction}
 use Rattle.gs_core.specs.Machine.{State, page_of, view}
 use Rattle.gs_core.specs.Safe.{IsIn}

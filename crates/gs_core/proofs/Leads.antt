@@ -6,8 +6,8 @@ use Rattle.gs_journal.specs.declared.entry.Entry.{Entry}
 use Rattle.gs_journal.specs.declared.entry.Entry.TheVariants.{Posted, Placed, Role, Begin, Left, Taken, Given, Torn}
 use Rattle.gs_journal.specs.History.{History, active, attaching}
 use Rattle.gs_journal.proofs.Laws.{same_posted}
-use Rattle.gs_threads.proofs.Placing.{on_quiet}
-use Rattle.gs_kernel.proofs.Entries.{active_now, attaching_ended}
+use Rattle.gs_threads.proofs.Laws.{on_quiet}
+use Rattle.gs_kernel.proofs.Laws.{active_now, attaching_ended}
 use Rattle.gs_core.specs.Machine.{Agent, freed_by, led, page_of, promoted, State, view}
 use Rattle.gs_core.specs.Good.{Good}
 use Rattle.gs_core.specs.Thinks.{Knows, Thinks}

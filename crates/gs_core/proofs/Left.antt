@@ -11,7 +11,7 @@ use Rattle.gs_journal.specs.History.{History}
 use Rattle.gs_kernel.specs.declared.settings.Settings.{Settings}
 use Rattle.gs_kernel.specs.Legal.{Room}
 use Rattle.gs_kernel.specs.Lands.{Landings, LandsAll, LandsIf}
-use Rattle.gs_kernel.proofs.Landings.{HasLanded, HasStayed, if_cases}
+use Rattle.gs_kernel.proofs.Laws.{HasLanded, HasStayed, if_cases}
 use Rattle.gs_core.specs.Trust.{NoneDone}
 
 -- whether a slot landed and was not collected yet

@@ -5,7 +5,7 @@ use Rattle.std.proofs.lemmas.Bool.{false≢true}
 use Rattle.gs_journal.specs.History.{History, active, attaching}
 use Rattle.gs_kernel.specs.declared.settings.Settings.{Settings}
 use Rattle.gs_kernel.specs.Landing.{is_generation, verdict}
-use Rattle.gs_kernel.proofs.OneAgent.{one_agent}
+use Rattle.gs_kernel.proofs.Laws.{one_agent}
 use Rattle.gs_core.specs.Safe.{DisplacesAll}
 
 pub none_there : {A : Type 0} (o : Option A) → o ≡ None → is_some o ≡ true → ⊥

@@ -15,7 +15,7 @@ use Rattle.gs_dump.specs.declared.record.DumpRecord.{DumpRecord}
 use Rattle.gs_journal.specs.Record.{record_of as record_after}
 use Rattle.gs_journal.specs.History.{History, created, messages, at}
 use Rattle.gs_journal.specs.State.{state, Numbered, IsNumbered, Was}
-use Rattle.gs_journal.proofs.Past.{known_live}
+use Rattle.gs_journal.proofs.Laws.{known_live}
 use Rattle.gs_kernel.specs.declared.settings.Settings.{Settings}
 use Rattle.gs_kernel.specs.declared.live_thread.LiveThread.{LiveThread}
 use Rattle.gs_kernel.specs.Shown.{live_from, live_thread}

@@ -20,7 +20,7 @@ use Rattle.gs_view.specs.Loaded.{loaded, told_of}
 use Rattle.gs_mind.specs.Mind.{MindState, picture_of}
 use Rattle.gs_mind.specs.Pages.{after_page, after_record, after_records, told_on}
 use Rattle.gs_mind.specs.Picture.{Picture}
-use Rattle.gs_mind.proofs.Believing.{stamped_outcome}
+use Rattle.gs_mind.proofs.Laws.{stamped_outcome}
 use Rattle.gs_core.specs.Machine.{Agent, State}
 use Rattle.gs_core.specs.Good.{Faces, Good}
 use Rattle.gs_core.specs.Held.{Kept}

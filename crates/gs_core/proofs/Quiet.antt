@@ -8,10 +8,9 @@ use Rattle.gs_journal.specs.declared.entry.Entry.{Entry}
 use Rattle.gs_journal.specs.declared.entry.Entry.TheVariants.{Posted, Placed, Role, Begin, Left, Taken, Given, Torn}
 use Rattle.gs_journal.specs.History.{History, messages, on}
 use Rattle.gs_journal.specs.State.{Numbered}
-use Rattle.gs_journal.proofs.Laws.{same_posted, same_messages, same_created, AtEach-push, AtEachPrefix-push}
-use Rattle.gs_journal.proofs.Past.{Was-mono}
+use Rattle.gs_journal.proofs.Laws.{AtEach-push, AtEachPrefix-push, Was-mono, same_created, same_messages, same_posted}
 use Rattle.gs_threads.specs.Mirrors.{is_quiet}
-use Rattle.gs_threads.proofs.Placing.{on_quiet, posts_nothing}
+use Rattle.gs_threads.proofs.Laws.{on_quiet, posts_nothing}
 use Rattle.gs_kernel.specs.declared.settings.Settings.{Settings}
 use Rattle.gs_core.specs.declared.transaction.Transaction.{Transaction}
 use Rattle.gs_core.specs.Machine.{State, view, page_of}

@@ -15,8 +15,7 @@ use Rattle.gs_kernel.specs.Legal.{Room, entries_in}
 use Rattle.std.proofs.Common.{append_assoc}
 use Rattle.gs_kernel.specs.Landing.{verdict, placing}
 use Rattle.gs_kernel.specs.Lands.{Landings, LandsAll, Settles}
-use Rattle.gs_kernel.proofs.Landings.{all_keep, landing_keeps}
-use Rattle.gs_kernel.proofs.Entries.{SameBeside, beside_posted, beside_placed, beside_quiet, active_none, attaching_none}
+use Rattle.gs_kernel.proofs.Laws.{SameBeside, active_none, all_keep, attaching_none, beside_placed, beside_posted, beside_quiet, landing_keeps}
 use Rattle.gs_core.specs.Held.{Acts}
 
 pub record NoNewRole (h h' : History) : Type 0 where

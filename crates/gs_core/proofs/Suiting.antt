@@ -15,13 +15,12 @@ use Rattle.gs_kernel.specs.declared.answer.Answer.{Answer}
 use Rattle.gs_kernel.specs.declared.answer.Answer.TheVariants as answers
 use Rattle.gs_kernel.specs.declared.effect.Effect.TheVariants.{Append}
 use Rattle.gs_kernel.specs.Legal.{Legal, Room, effect, entries_in, last_in, paged_by}
-use Rattle.gs_kernel.proofs.Entries.{attaching_ended}
+use Rattle.gs_kernel.proofs.Laws.{active_begun, attaching_ended, attaching_left}
 use Rattle.gs_agent.specs.Role.{RoleOf}
 use Rattle.gs_core.specs.Answers.{answered, follows, on_cpu}
 use Rattle.gs_core.specs.Machine.{stays_with}
 use Rattle.gs_core.specs.Held.{Suits}
 use Rattle.gs_core.proofs.Commands.{role_last}
-use Rattle.gs_kernel.proofs.OneAgent.{active_begun, attaching_left}
 use Rattle.gs_core.proofs.OneAgent.{none_there}
 use Rattle.gs_core.proofs.Roles.{NoNewRole, acts_on, entry_roles, roles_given, roles_posted, roles_taken, roles_torn, same_history}
 use Rattle.gs_core.proofs.Steps.{was_role}

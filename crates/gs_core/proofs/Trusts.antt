@@ -12,7 +12,7 @@ use Rattle.gs_slots.specs.declared.state.SlotState.TheVariants.{Idle, Stamped, D
 use Rattle.gs_slots.specs.State.{collected}
 use Rattle.gs_journal.specs.History.{History, active, torn}
 use Rattle.gs_journal.specs.State.{IsNumbered}
-use Rattle.gs_journal.proofs.Past.{same_view}
+use Rattle.gs_journal.proofs.Laws.{same_view}
 use Rattle.gs_kernel.specs.Lands.{Landings}
 use Rattle.gs_beliefs.proofs.Laws.{believed_on_unknown}
 use Rattle.gs_mind.specs.Mind.{picture_of}

@@ -17,7 +17,7 @@ use Rattle.gs_core.specs.Good.{Faces, Good, IsMissed, IsTold, read_of, told, unr
 use Rattle.gs_core.specs.Held.{Kept}
 use Rattle.gs_core.specs.Trust.{Trusts}
 use Rattle.gs_core.proofs.Quiet.{both_quiet}
-use Rattle.gs_kernel.proofs.OneAgent.{active_begun, active_left, attaching_left}
+use Rattle.gs_kernel.proofs.Laws.{active_begun, active_left, attaching_left}
 use Rattle.gs_core.proofs.OneAgent.{none_there}
 use Rattle.gs_core.proofs.Steps.{BothOf, all_idle, idle}
 use Rattle.gs_core.proofs.Thinking.{thinks_first}

@@ -21,7 +21,7 @@ use Rattle.gs_core.specs.Desk.{AreBelow}
 use Rattle.gs_core.specs.Machine.{refusal, view, plan_of, stamps, stamps_all, stamps_with}
 use Rattle.gs_layout.specs.declared.known.Known.{Known}
 use Rattle.gs_policy.specs.declared.choice.Choice.{Choice}
-use Rattle.gs_kernel.proofs.Refusals.{first_passed}
+use Rattle.gs_kernel.proofs.Laws.{first_passed}
 use Rattle.gs_core.proofs.Steps.{stamp_good, idle}
 use Rattle.gs_slots.specs.declared.state.SlotState.TheVariants.{Idle}
 use Rattle.std.proofs.lemmas.List.{length-replicate}

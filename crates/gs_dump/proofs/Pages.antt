@@ -7,7 +7,7 @@ use Rattle.std.proofs.lemmas.Bool.Decides.{nat_tests}
 use Rattle.std.proofs.lemmas.List.{drop_at, take_at, length-drop, length-take, take-append-drop, nil_from_length}
 use Rattle.byteorder.specs.Endian.{little_bytes, little_number}
 use Rattle.byteorder.specs.Numbers.{little_from-lt}
-use Rattle.gs_layout.proofs.NumberBytes.{IsBytes, IsBytes-drop, IsBytes-take}
+use Rattle.gs_layout.proofs.Laws.{IsBytes, IsBytes-drop, IsBytes-take}
 use Rattle.gs_dump.specs.declared.fault.PageFault.{PageFault}
 use Rattle.gs_dump.specs.declared.fault.PageFault.TheVariants as faults
 use Rattle.gs_dump.specs.declared.record.DumpRecord.{DumpRecord}

@@ -15,7 +15,7 @@ use Rattle.gs_layout.specs.Class.{class_number}
 use Rattle.gs_layout.specs.Name.{is_name, is_name_byte}
 use Rattle.gs_layout.specs.Reading.{class_numbered, cpu_numbered, number_at}
 use Rattle.gs_layout.specs.Spelling.{AreNumbers, IsCpuOrNone, IsMask, cpu_number}
-use Rattle.gs_layout.proofs.NumberBytes.{IsBytes, IsBytes-drop, back_2, back_4, back_8}
+use Rattle.gs_layout.proofs.Laws.{IsBytes, IsBytes-drop, back_2, back_4, back_8}
 use Rattle.gs_dump.specs.declared.record.DumpRecord.{DumpRecord}
 use Rattle.gs_dump.specs.Record.{IsLive, name_field, record_spelling}
 use Rattle.gs_dump.specs.Reading.{cpu_fits, cpu_number_in, facts_fit, flags_in, is_bad, is_other_version, mask_in, name_fits, name_in, name_len_in, numbers_fit, record_fits, record_in, tid_in, tseq_in, version_in}

@@ -83,7 +83,7 @@ fn facts_at(text: &[u8]) -> Facts
 {
     Facts {
         runnable: u16_at(text, 14) == 1,
-        mask: u64_at(text, 16),
+        mask: Mask::new(u64_at(text, 16)),
         class: if text[2] == 0 {
             Class::Zero
         } else {

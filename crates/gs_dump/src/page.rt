@@ -5,7 +5,7 @@ use std::marker::Model;
 ///
 /// There are at most 65,535 records, each in its ranges, and a thread on a CPU is runnable and has
 /// that CPU in its mask. The next page begins above the last record: no other page can be made.
-#[derive(Drop)]
+#[derive(Drop, Debug)]
 pub struct Page {
     /// The threads, by rising tid.
     pub records: Vec<DumpRecord>,

@@ -1,7 +1,7 @@
 use gs_layout::Facts;
 
 /// What the kernel knows of a live thread.
-#[derive(Clone, Copy)]
+#[derive(Clone, Copy, PartialEq, Eq, Debug)]
 pub struct DumpRecord {
     /// The thread, from 1 to 65,536.
     pub tid: u32,

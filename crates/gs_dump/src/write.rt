@@ -43,7 +43,7 @@ fn record_bytes(thread: &DumpRecord) -> [u8; 40]
 {
     let mut bytes = [0; RECORD];
     write_front(thread, &mut bytes);
-    LittleEndian::write_u64(&mut bytes[16..], thread.facts.mask);
+    LittleEndian::write_u64(&mut bytes[16..], thread.facts.mask.bits());
     write_name(thread.facts.name.as_bytes(), &mut bytes[NAME..]);
     bytes
 }

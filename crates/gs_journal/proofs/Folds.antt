@@ -7,7 +7,7 @@ use Rattle.gs_layout.specs.Record.{after}
 use Rattle.gs_journal.specs.Record.{record_of}
 use Rattle.gs_journal.specs.Standing.{latest, standing, last_of}
 use Rattle.gs_journal.specs.History.{History, messages, record_in}
-use Rattle.gs_journal.proofs.Laws.{record_of-push}
+use Rattle.gs_journal.proofs.Steps.{record_of-push}
 use Rattle.gs_journal.proofs.Past.{snoc_induction}
 
 record_of-nil : record_of [] ≡ Absent

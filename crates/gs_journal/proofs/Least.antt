@@ -2,7 +2,7 @@
 use Rattle.std.proofs.Common.{◌≡◌, refl, ap, sym, ◌∙◌, ℕ, zero, suc, ◌<◌, nat_lt, ◌==◌, Bool, true, false, cond, Option, None, Some, arith}
 use Rattle.std.proofs.lemmas.Bool.Decides.{nat_tests}
 use Rattle.gs_journal.specs.History.{History, at, at_below, is_thread, on}
-use Rattle.gs_journal.proofs.Laws.{at_is}
+use Rattle.gs_journal.proofs.Steps.{at_is}
 
 is_on : (h : History) (t d n : ℕ) → d ≡ n → on h d ≡ Some t → is_thread t (on h n) ≡ true
 is_on h t d n same there =

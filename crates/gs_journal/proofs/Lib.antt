@@ -1,5 +1,6 @@
+mod Steps
+mod Past
+mod Folds
+mod Least
+mod Rows
 pub mod Laws
-pub mod Past
-pub mod Folds
-pub mod Least
-pub mod Rows

@@ -24,7 +24,7 @@ use Rattle.std.specs.List.{flat_map}
 use Rattle.std.proofs.Common.{length-take}
 use Rattle.gs_layout.specs.View.{Look, known_at, learn, next_known, apply, catch_up}
 use Rattle.gs_journal.specs.State.{Numbered, IsNumbered, Was, WasOnce, AllWas}
-use Rattle.gs_journal.proofs.Laws.{record_of-push}
+use Rattle.gs_journal.proofs.Steps.{record_of-push}
 
 pub numbered_get : (first n : ℕ) (ms : List Message) (j : ℕ) (m : Message) → Numbered first n ms → slice_get ms j ≡ Some m
     → (tseq_of m ≡ first + suc (n + j)) × (is_creation m ≡ true → n + j ≡ 0)

@@ -1,7 +1,7 @@
 use gs_layout::Message;
 
 /// One thing that happened in an enclave.
-#[derive(Clone, Copy)]
+#[derive(Clone, Copy, PartialEq, Eq, Debug)]
 pub enum Entry {
     /// The kernel posted a message to the agent.
     Posted {

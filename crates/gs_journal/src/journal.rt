@@ -141,7 +141,7 @@ impl Journal {
 
     /// A thread's sequence number: `first_tseq` and one more for each message about the thread, 0
     /// where there is none.
-    #[tactic(auto, using(crate::proofs::Laws::seq_is))]
+    #[tactic(auto, using(crate::proofs::Steps::seq_is))]
     pub fn seq_at(&self, n: usize, tid: u32) -> u64
         ensures { result ≡ seq self.now.first_tseq (take n self.now.entries) tid }
     {

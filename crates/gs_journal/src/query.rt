@@ -28,7 +28,7 @@ fn record_then(tid: u32, before: Record, entry: &Entry) -> Record
 }
 
 /// A thread's record.
-#[tactic(auto, using(crate::proofs::Laws::record_more, crate::proofs::Laws::record_nil))]
+#[tactic(auto, using(crate::proofs::Steps::record_more, crate::proofs::Steps::record_nil))]
 pub fn last_record(entries: &[Entry], tid: u32) -> Record
     ensures { result ≡ record_in entries.now tid }
 {
@@ -50,7 +50,7 @@ fn posts_about(tid: u32, entry: &Entry) -> bool
 }
 
 /// How many messages about a thread were posted.
-#[tactic(auto, using(crate::proofs::Laws::count_is))]
+#[tactic(auto, using(crate::proofs::Steps::count_is))]
 pub fn count_messages(entries: &[Entry], tid: u32) -> usize
     ensures value { result ≡ length (messages entries.now tid) }
     ensures within { result ≤ length entries.now }
@@ -92,7 +92,7 @@ fn thread_then(cpu: u16, before: Option<u32>, entry: &Entry) -> Option<u32>
 }
 
 /// Who is on a CPU.
-#[tactic(auto, using(crate::proofs::Laws::on_more, crate::proofs::Laws::on_nil))]
+#[tactic(auto, using(crate::proofs::Steps::on_more, crate::proofs::Steps::on_nil))]
 pub fn thread_on(entries: &[Entry], cpu: u16) -> Option<u32>
     ensures { result ≡ on entries.now cpu }
 {
@@ -114,7 +114,7 @@ fn is_on(entries: &[Entry], tid: u32, cpu: u16) -> bool
 }
 
 /// The least CPU below the count that a thread is on.
-#[tactic(auto, using(crate::proofs::Laws::at_found, crate::proofs::Laws::at_not, crate::proofs::Laws::at_is))]
+#[tactic(auto, using(crate::proofs::Steps::at_found, crate::proofs::Steps::at_not, crate::proofs::Steps::at_is))]
 pub fn cpu_of(entries: &[Entry], tid: u32, cpus: u16) -> Option<u16>
     ensures { result ≡ at cpus entries.now tid }
 {
@@ -138,7 +138,7 @@ fn role_then(before: Option<(u32, u16)>, entry: &Entry) -> Option<(u32, u16)>
 }
 
 /// The active agent: its generation and CPU.
-#[tactic(auto, using(crate::proofs::Laws::active_more, crate::proofs::Laws::active_nil))]
+#[tactic(auto, using(crate::proofs::Steps::active_more, crate::proofs::Steps::active_nil))]
 pub fn active_agent(entries: &[Entry]) -> Option<(u32, u16)>
     ensures { result ≡ active entries.now }
 {
@@ -161,7 +161,7 @@ fn taken_then(cpu: u16, before: Option<bool>, entry: &Entry) -> Option<bool>
 }
 
 /// Whether the other class holds a CPU.
-#[tactic(auto, using(crate::proofs::Laws::taken_more, crate::proofs::Laws::taken_nil), unfolding(crate::specs::History::taken))]
+#[tactic(auto, using(crate::proofs::Steps::taken_more, crate::proofs::Steps::taken_nil), unfolding(crate::specs::History::taken))]
 pub fn is_taken(entries: &[Entry], cpu: u16) -> bool
     ensures { result ≡ taken entries.now cpu }
 {
@@ -180,7 +180,7 @@ fn torn_then(before: bool, entry: &Entry) -> bool
 }
 
 /// Whether the enclave was torn down.
-#[tactic(auto, using(crate::proofs::Laws::torn_more, crate::proofs::Laws::torn_nil))]
+#[tactic(auto, using(crate::proofs::Steps::torn_more, crate::proofs::Steps::torn_nil))]
 pub fn was_torn(entries: &[Entry]) -> bool
     ensures { result ≡ torn entries.now }
 {

@@ -11,11 +11,11 @@ use Rattle.gs_journal.specs.declared.entry.Entry.{Entry}
 use Rattle.gs_journal.specs.declared.entry.Entry.TheVariants.{Posted, Placed, Role, Begin, Left, Taken, Given, Torn}
 use Rattle.gs_journal.specs.Standing.{then_latest}
 use Rattle.gs_journal.specs.History.{History, attaching, is_torn, on, at, seq, taken, last_taken, taken_by, posted}
-use Rattle.gs_journal.proofs.Laws.{last_taken-push, taken_is, same_posted, posted-push}
+use Rattle.gs_journal.proofs.Laws.{last_taken-push, posted-push, same_posted, taken_is}
 use Rattle.gs_status.specs.Masks.{has}
 use Rattle.gs_threads.specs.Mirrors.{is_quiet}
 use Rattle.gs_threads.specs.Table.{TableState, rows_after, rows_placed}
-use Rattle.gs_threads.proofs.Lookups.{after_tick}
+use Rattle.gs_threads.proofs.Laws.{after_tick}
 use Rattle.gs_kernel.specs.declared.settings.Settings.{Settings}
 use Rattle.gs_kernel.specs.declared.agents.Agents.{Agents}
 use Rattle.gs_kernel.specs.declared.thread_event.ThreadEvent.{ThreadEvent}

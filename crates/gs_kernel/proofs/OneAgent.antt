@@ -4,8 +4,7 @@ use Rattle.gs_journal.specs.declared.entry.Entry.{Entry}
 use Rattle.gs_journal.specs.declared.entry.Entry.TheVariants.{Posted, Placed, Role, Begin, Left, Taken, Given, Torn}
 use Rattle.gs_journal.specs.Standing.{last_of, standing, then_latest}
 use Rattle.gs_journal.specs.History.{History, active, attaching, ends_begin, ends_role, generation, generation_by}
-use Rattle.gs_journal.proofs.Laws.{active-push, attaching-push, latest-push}
-use Rattle.gs_journal.proofs.Past.{snoc_induction}
+use Rattle.gs_journal.proofs.Laws.{active-push, attaching-push, latest-push, snoc_induction}
 use Rattle.gs_kernel.specs.declared.agents.Agents.{Agents}
 use Rattle.gs_kernel.specs.Inside.{AgentsAre, agents_by}
 use Rattle.gs_kernel.proofs.Entries.{active_none, active_now, attaching_ended, attaching_none, beside_quiet, ended}

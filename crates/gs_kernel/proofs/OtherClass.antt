@@ -13,12 +13,9 @@ use Rattle.gs_status.specs.Masks.{has}
 use Rattle.gs_threads.specs.declared.row.ThreadRow.{ThreadRow}
 use Rattle.gs_threads.specs.Mirrors.{is_quiet}
 use Rattle.gs_threads.specs.Table.{TableState, row_of, rows_after}
-use Rattle.gs_threads.proofs.Told.{place_row}
-use Rattle.gs_threads.proofs.Placing.{mirrors_quiet, on_quiet, posts_nothing}
-use Rattle.gs_threads.proofs.Entries.{record_by}
+use Rattle.gs_threads.proofs.Laws.{mirrors_at, mirrors_quiet, on_quiet, place_row, posts_nothing, record_by}
 use Rattle.gs_layout.specs.Message.{is_about}
 use Rattle.std.specs.List.{filter}
-use Rattle.gs_threads.proofs.Mirrored.{mirrors_at}
 use Rattle.gs_kernel.specs.declared.settings.Settings.{Settings}
 use Rattle.gs_kernel.specs.declared.agents.Agents.{Agents}
 use Rattle.gs_kernel.specs.Attaching.{activate_refusal, begin_refusal}

@@ -13,7 +13,7 @@ use Rattle.gs_journal.specs.declared.entry.Entry.TheVariants.{Posted}
 use Rattle.gs_journal.specs.Standing.{then_stands}
 use Rattle.gs_journal.specs.History.{History, seq, record_in, on, at, at_below, is_thread, active, torn, ends_run}
 use Rattle.gs_journal.proofs.Laws.{at_is, on-push}
-use Rattle.gs_threads.proofs.Entries.{messages_other, on_off, record_by, seq_by}
+use Rattle.gs_threads.proofs.Laws.{messages_other, on_off, record_by, seq_by}
 use Rattle.gs_kernel.specs.declared.settings.Settings.{Settings}
 use Rattle.gs_kernel.specs.Kernel.{is_spent_there, next_about}
 use Rattle.gs_kernel.specs.Landing.{verdict, cpu_verdict, is_generation, placing_entries}

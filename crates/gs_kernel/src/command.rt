@@ -5,7 +5,7 @@ use crate::thread_event::ThreadEvent;
 use gs_layout::Facts;
 
 /// What the kernel can be told to do.
-#[derive(Clone, Copy)]
+#[derive(Clone, Copy, PartialEq, Eq, Debug)]
 pub enum Command {
     /// A thread with these facts is created.
     Create { facts: Facts },

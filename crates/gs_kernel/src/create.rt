@@ -17,7 +17,7 @@ impl<P: Poster> Kernel<P> {
     {
         // Looks at the fields, by which the proof has their ranges.
         let _name = facts.name.as_bytes();
-        let _mask = facts.mask;
+        let _mask = facts.mask.bits();
         Message::Thread {
             tid: self.threads.len() as u32 + 1,
             tseq: self.settings.first_tseq + 1,

@@ -10,7 +10,6 @@ use crate::settings::LAST_TSEQ;
 use crate::thread_event::ThreadEvent;
 use gs_layout::{Change, Message, Refusal};
 use gs_ring::Poster;
-use gs_status::Mask;
 
 impl<P: Poster> Kernel<P> {
     /// The message about a thread to which this can happen.
@@ -92,7 +91,7 @@ fn change_by(there: Option<u16>, event: ThreadEvent) -> Change
         ThreadEvent::Die => Change::Dead { cpu: there },
         ThreadEvent::Affinity { mask } => Change::Affinity {
             cpu: there,
-            off: there.is_some_and(|cpu| !Mask::new(mask).has(cpu)),
+            off: there.is_some_and(|cpu| !mask.has(cpu)),
             mask,
         },
     }

@@ -174,10 +174,9 @@ impl<P: Poster> Kernel<P> {
     }
 
     /// Whether a mask names no CPU, or one past the last.
-    pub(crate) fn is_bad_mask(&self, mask: u64) -> bool
+    pub(crate) fn is_bad_mask(&self, mask: Mask) -> bool
         ensures { result ≡ is_bad_mask self.now.settings mask }
     {
-        let mask = Mask::new(mask);
         mask.is_empty() || mask.has_past(self.settings.cpus)
     }
 

@@ -14,6 +14,7 @@ use crate::thread_event::ThreadEvent;
 use gs_journal::Entry;
 use gs_layout::{Facts, Message, Refusal};
 use gs_ring::Poster;
+use gs_status::Mask;
 use std::alloc::AllocError;
 
 impl<P: Poster> Kernel<P> {
@@ -200,7 +201,7 @@ impl<P: Poster> Kernel<P> {
     }
 
     /// From now on a thread may run on the CPUs of a mask.
-    pub fn affinity(&mut self, tid: u32, mask: u64) -> Answer
+    pub fn affinity(&mut self, tid: u32, mask: Mask) -> Answer
         ensures { IsServed P.same P.taken P.posted P.tight self.old (Command.Thread tid (ThreadEvent.Affinity mask)) result self.new }
     {
         self.serve(&Command::Thread {

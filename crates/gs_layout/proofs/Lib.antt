@@ -1,7 +1,8 @@
-pub mod Names
-pub mod Spelled
-pub mod ReadBack
-pub mod Parcels
-pub mod NumberBytes
-pub mod Rows
+mod Names
+mod Spelled
+mod ReadBack
+mod Parcels
+mod NumberBytes
+mod Rows
 mod Corners
+pub mod Laws

@@ -1,5 +1,5 @@
 -- The kinds of message.
-use Rattle.std.specs.Prelude.{ℕ}
+use Rattle.std.specs.Prelude.{ℕ, Bool, true, false}
 use Rattle.gs_layout.specs.declared.kind.Kind.{Kind}
 use Rattle.gs_layout.specs.declared.kind.Kind.TheVariants as kinds
 
@@ -13,3 +13,14 @@ kind_number kinds.Yield = 5
 kind_number kinds.Dead = 6
 kind_number kinds.Affinity = 7
 kind_number kinds.TimerTick = 8
+
+-- whether a message of a kind takes its own thread off the CPU, where a new mask says whether it does
+abbrev pub kind_takes_off : Kind → Bool → Bool
+kind_takes_off kinds.Created off = false
+kind_takes_off kinds.Blocked off = true
+kind_takes_off kinds.Wakeup off = false
+kind_takes_off kinds.Preempted off = true
+kind_takes_off kinds.Yield off = true
+kind_takes_off kinds.Dead off = true
+kind_takes_off kinds.Affinity off = off
+kind_takes_off kinds.TimerTick off = false

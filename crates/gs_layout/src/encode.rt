@@ -8,10 +8,8 @@ use crate::cpu::cpu_number;
 use crate::facts::Facts;
 use crate::message::{Change, Message};
 use crate::name::MOST_NAME_LEN;
+use crate::wire::{AFFINITY_LEN, CPU_AT, FLAGS_AT, HEADER_LEN, KIND_AT, NAME_AT, TID_AT, TSEQ_AT};
 use byteorder::{ByteOrder, LittleEndian};
-
-/// How many bytes the header has.
-const HEADER: usize = 16;
 
 /// The numbers of a message's first 16 bytes.
 #[derive(Clone, Copy)]
@@ -24,15 +22,12 @@ struct Header {
     flags: u16,
 }
 
-/// How many bytes stand before a creation's name.
-const FACTS: usize = 26;
-
 /// How many bytes a creation has whose name has this many: 32, 40 or 48.
 pub fn creation_len(name_len: usize) -> usize
     requires { name_len ≤ MOST_NAME_LEN }
     ensures { result ≡ round_up (26 + name_len) }
 {
-    (FACTS + name_len + 7) / 8 * 8
+    (NAME_AT + name_len + 7) / 8 * 8
 }
 
 fn flags(message: &Message) -> u16
@@ -62,8 +57,8 @@ fn size(message: &Message) -> u16
         Message::Thread {
             change: Change::Affinity { .. },
             ..
-        } => 24,
-        _ => 16,
+        } => AFFINITY_LEN as u16,
+        _ => HEADER_LEN as u16,
     }
 }
 
@@ -94,11 +89,11 @@ fn write_header(header: &Header, out: &mut [u8])
     ensures { out.new ≡ numbered header.now ++ drop 16 out.old }
 {
     LittleEndian::write_u16(out, header.len);
-    LittleEndian::write_u16(&mut out[2..], header.kind);
-    LittleEndian::write_u32(&mut out[4..], header.tid);
-    LittleEndian::write_u32(&mut out[8..], header.tseq);
-    LittleEndian::write_u16(&mut out[12..], header.cpu);
-    LittleEndian::write_u16(&mut out[14..], header.flags);
+    LittleEndian::write_u16(&mut out[KIND_AT..], header.kind);
+    LittleEndian::write_u32(&mut out[TID_AT..], header.tid);
+    LittleEndian::write_u32(&mut out[TSEQ_AT..], header.tseq);
+    LittleEndian::write_u16(&mut out[CPU_AT..], header.cpu);
+    LittleEndian::write_u16(&mut out[FLAGS_AT..], header.flags);
 }
 
 /// Writes a name and the zeros behind it.
@@ -107,7 +102,7 @@ fn write_name(name: &[u8], out: &mut [u8])
     requires room { length (name_bytes name.now) ≤ length out.old }
     ensures { out.new ≡ name_bytes name.now ++ drop (length (name_bytes name.now)) out.old }
 {
-    let end = creation_len(name.len()) - FACTS;
+    let end = creation_len(name.len()) - NAME_AT;
     out[..name.len()].copy_from_slice(name);
     out[name.len()..end].fill(0);
 }
@@ -117,7 +112,7 @@ fn write_facts(facts: &Facts, out: &mut [u8])
     ensures { out.new ≡ facts_bytes facts.now ++ drop (length (facts_bytes facts.now)) out.old }
 {
     let name = facts.name.as_bytes();
-    LittleEndian::write_u64(out, facts.mask);
+    LittleEndian::write_u64(out, facts.mask.bits());
     out[8..10].copy_from_slice(&[facts.class.number(), name.len() as u8]);
     write_name(name, &mut out[10..]);
 }
@@ -135,7 +130,7 @@ fn write_more(message: &Message, out: &mut [u8])
         Message::Thread {
             change: Change::Affinity { mask, .. },
             ..
-        } => LittleEndian::write_u64(out, *mask),
+        } => LittleEndian::write_u64(out, mask.bits()),
         _ => {}
     }
 }
@@ -148,6 +143,6 @@ pub fn encode_message(message: &Message, out: &mut [u8]) -> usize
     ensures written { out.new ≡ spelling message.now ++ drop (length (spelling message.now)) out.old }
 {
     write_header(&header_of(message), out);
-    write_more(message, &mut out[HEADER..]);
+    write_more(message, &mut out[HEADER_LEN..]);
     message_len(message)
 }

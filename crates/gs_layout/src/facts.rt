@@ -1,6 +1,8 @@
 ghost use Rattle.std.specs.Prelude.{◌≡◌};
 
+use crate::message::Change;
 use crate::name::Name;
+use gs_status::Mask;
 
 /// A thread's class: class 0 is served before class 1.
 #[derive(Clone, Copy, PartialEq, Eq, Debug)]
@@ -21,12 +23,32 @@ impl Class {
 }
 
 /// What is known of a live thread.
-#[derive(Clone, Copy)]
+#[derive(Clone, Copy, PartialEq, Eq, Debug)]
 pub struct Facts {
     /// Whether it may run. A running thread is runnable.
     pub runnable: bool,
-    /// The CPUs that it may run on: CPU c where bit c is set.
-    pub mask: u64,
+    /// The CPUs that it may run on.
+    pub mask: Mask,
     pub class: Class,
     pub name: Name,
+}
+
+impl Facts {
+    ghost use Rattle.gs_layout.specs.Record.{changed};
+    ghost use Rattle.gs_layout.specs.declared.facts.Facts.{Facts};
+    ghost use Rattle.gs_layout.specs.declared.record.Record.TheVariants.{Dead, Live};
+
+    /// Makes of a live thread's facts what a change makes of them. A death leaves them.
+    pub fn change(&mut self, change: &Change)
+        ensures lives { (f : Facts) → changed self.old change.now ≡ Live f → self.new ≡ f }
+        ensures dies { changed self.old change.now ≡ Dead → self.new ≡ self.old }
+    {
+        match change {
+            Change::Created { facts } => *self = *facts,
+            Change::Blocked { .. } => self.runnable = false,
+            Change::Wakeup => self.runnable = true,
+            Change::Affinity { mask, .. } => self.mask = *mask,
+            Change::Preempted { .. } | Change::Yield { .. } | Change::Dead { .. } => {}
+        }
+    }
 }

@@ -14,13 +14,17 @@ use crate::kind::Kind;
 use crate::message::{Change, Message};
 use crate::name::Name;
 use crate::number::{u16_at, u32_at, u64_at};
+use crate::wire::{
+    CLASS_AT, CPU_AT, FLAGS_AT, KIND_AT, MASK_AT, NAME_AT, NAME_LEN_AT, TID_AT, TSEQ_AT,
+};
+use gs_status::Mask;
 
 /// The kind of the message that the bytes begin with.
 pub fn kind_of(bytes: &[u8]) -> Kind
     requires { IsMessage bytes.now }
     ensures { (m : Message) → Begins bytes.now m → result ≡ kind_of m }
 {
-    Kind::numbered(u16_at(bytes, 2)).unwrap()
+    Kind::numbered(u16_at(bytes, KIND_AT)).unwrap()
 }
 
 /// The thread that the message is about, 0 for a tick.
@@ -28,7 +32,7 @@ pub fn tid_of(bytes: &[u8]) -> u32
     requires { IsMessage bytes.now }
     ensures { (m : Message) → Begins bytes.now m → result ≡ tid_of m }
 {
-    u32_at(bytes, 4)
+    u32_at(bytes, TID_AT)
 }
 
 /// The message's sequence number, 0 for a tick.
@@ -36,7 +40,7 @@ pub fn tseq_of(bytes: &[u8]) -> u32
     requires { IsMessage bytes.now }
     ensures { (m : Message) → Begins bytes.now m → result ≡ tseq_of m }
 {
-    u32_at(bytes, 8)
+    u32_at(bytes, TSEQ_AT)
 }
 
 /// The CPU that the thread was on just before, or the CPU of a tick.
@@ -44,7 +48,7 @@ pub fn cpu_of(bytes: &[u8]) -> Option<u16>
     requires { IsMessage bytes.now }
     ensures { (m : Message) → Begins bytes.now m → result ≡ cpu_of m }
 {
-    cpu_numbered(u16_at(bytes, 12))
+    cpu_numbered(u16_at(bytes, CPU_AT))
 }
 
 /// The message's flags: bit 0 of a creation says that the thread is runnable, of a new mask that the
@@ -53,16 +57,16 @@ pub fn flags_of(bytes: &[u8]) -> u16
     requires { IsMessage bytes.now }
     ensures { (m : Message) → Begins bytes.now m → result ≡ flags_of m }
 {
-    u16_at(bytes, 14)
+    u16_at(bytes, FLAGS_AT)
 }
 
 /// The mask of a creation or of a new mask.
-pub fn mask_of(bytes: &[u8]) -> Option<u64>
+pub fn mask_of(bytes: &[u8]) -> Option<Mask>
     requires { IsMessage bytes.now }
     ensures { (m : Message) → Begins bytes.now m → result ≡ mask_of m }
 {
     match kind_of(bytes) {
-        Kind::Created | Kind::Affinity => Some(u64_at(bytes, 16)),
+        Kind::Created | Kind::Affinity => Some(Mask::new(u64_at(bytes, MASK_AT))),
         _ => None,
     }
 }
@@ -93,7 +97,7 @@ fn class_at(bytes: &[u8]) -> Class
     requires { 24 < length bytes.now }
     ensures { result ≡ class_numbered (slice_index bytes.now 24) }
 {
-    if bytes[24] == 0 {
+    if bytes[CLASS_AT] == 0 {
         Class::Zero
     } else {
         Class::One
@@ -105,8 +109,8 @@ fn name_at(bytes: &[u8]) -> &[u8]
     requires end { 26 + slice_index bytes.now 25 ≤ length bytes.now }
     ensures { result.now ≡ name_in bytes.now }
 {
-    let len = bytes[25] as usize;
-    &bytes[26..26 + len]
+    let len = bytes[NAME_LEN_AT] as usize;
+    &bytes[NAME_AT..NAME_AT + len]
 }
 
 fn facts_at(bytes: &[u8]) -> Facts
@@ -116,8 +120,8 @@ fn facts_at(bytes: &[u8]) -> Facts
     ensures { result ≡ facts_in bytes.now }
 {
     Facts {
-        runnable: u16_at(bytes, 14) == 1,
-        mask: u64_at(bytes, 16),
+        runnable: u16_at(bytes, FLAGS_AT) == 1,
+        mask: Mask::new(u64_at(bytes, MASK_AT)),
         class: class_at(bytes),
         name: Name::new(name_at(bytes)).unwrap(),
     }
@@ -129,7 +133,7 @@ fn change_at(kind: Kind, bytes: &[u8]) -> Change
     requires name { kind ≡ kinds.Created → is_name (name_in bytes.now) ≡ true }
     ensures { result ≡ change_with kind bytes.now }
 {
-    let cpu = u16_at(bytes, 12);
+    let cpu = u16_at(bytes, CPU_AT);
     match kind {
         Kind::Created => Change::Created {
             facts: facts_at(bytes),
@@ -142,8 +146,8 @@ fn change_at(kind: Kind, bytes: &[u8]) -> Change
         },
         Kind::Affinity => Change::Affinity {
             cpu: cpu_numbered(cpu),
-            off: u16_at(bytes, 14) == 1,
-            mask: u64_at(bytes, 16),
+            off: u16_at(bytes, FLAGS_AT) == 1,
+            mask: Mask::new(u64_at(bytes, MASK_AT)),
         },
         Kind::Wakeup | Kind::TimerTick => Change::Wakeup,
     }
@@ -156,11 +160,11 @@ pub fn message_of(bytes: &[u8]) -> Message
 {
     match kind_of(bytes) {
         Kind::TimerTick => Message::TimerTick {
-            cpu: u16_at(bytes, 12),
+            cpu: u16_at(bytes, CPU_AT),
         },
         kind => Message::Thread {
-            tid: u32_at(bytes, 4),
-            tseq: u32_at(bytes, 8),
+            tid: u32_at(bytes, TID_AT),
+            tseq: u32_at(bytes, TSEQ_AT),
             change: change_at(kind, bytes),
         },
     }

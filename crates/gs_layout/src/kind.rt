@@ -14,7 +14,7 @@ pub enum Kind {
 }
 
 impl Kind {
-    ghost use Rattle.gs_layout.specs.Kind.{kind_number};
+    ghost use Rattle.gs_layout.specs.Kind.{kind_number, kind_takes_off};
     ghost use Rattle.gs_layout.specs.Reading.{kind_numbered};
 
     /// The kind's number in the layout.
@@ -23,6 +23,7 @@ impl Kind {
     {
         self as u16 + 1
     }
+
     /// The kind of this number, or `None` where it is not from 1 to 8.
     pub fn numbered(number: u16) -> Option<Kind>
         ensures { result ≡ kind_numbered number }
@@ -37,6 +38,18 @@ impl Kind {
             7 => Some(Kind::Affinity),
             8 => Some(Kind::TimerTick),
             _ => None,
+        }
+    }
+
+    /// Whether a message of this kind takes its own thread off the CPU: a new mask does so if `off` says
+    /// so. A tick has no thread.
+    pub fn takes_off_cpu(self, off: bool) -> bool
+        ensures { result ≡ kind_takes_off self off }
+    {
+        match self {
+            Kind::Blocked | Kind::Preempted | Kind::Yield | Kind::Dead => true,
+            Kind::Affinity => off,
+            Kind::Created | Kind::Wakeup | Kind::TimerTick => false,
         }
     }
 }

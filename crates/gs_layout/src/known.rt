@@ -1,7 +1,7 @@
 use crate::facts::Facts;
 
 /// What an agent knows of a thread: its facts at a sequence number.
-#[derive(Clone, Copy)]
+#[derive(Clone, Copy, PartialEq, Eq, Debug)]
 pub struct Known {
     pub facts: Facts,
     pub tseq: u32,

@@ -16,6 +16,7 @@ mod outcome;
 mod parcel;
 mod record;
 mod refusal;
+mod wire;
 
 pub use cpu::{NO_CPU, cpu_number, cpu_numbered};
 pub use encode::{creation_len, encode_message, message_len};
@@ -33,3 +34,7 @@ pub use outcome::Outcome;
 pub use parcel::Parcel;
 pub use record::Record;
 pub use refusal::Refusal;
+pub use wire::{
+    AFFINITY_LEN, CLASS_AT, CPU_AT, FLAGS_AT, HEADER_LEN, KIND_AT, MASK_AT, MOST_MESSAGE_LEN,
+    NAME_AT, NAME_LEN_AT, PAD, TID_AT, TSEQ_AT,
+};

@@ -1,16 +1,17 @@
 ghost use Rattle.std.specs.Prelude.{◌≡◌};
 ghost use Rattle.gs_layout.specs.Message.{takes_off_cpu, tseq_of};
-ghost use Rattle.gs_layout.specs.Spelling.{cpu_of, kind_of, tid_of};
+ghost use Rattle.gs_layout.specs.Spelling.{cpu_of, kind_of, kind_of_change, tid_of};
 
 use crate::facts::Facts;
 use crate::kind::Kind;
+use gs_status::Mask;
 
 /// How many tids there are, and so how many threads there may ever be: a thread's tid is from 1 to this.
 /// There are so few that a table with a place for each takes little memory.
 pub const MOST_TIDS: u32 = 65_536;
 
 /// What happened to a thread. `cpu` is the CPU that it was on just before.
-#[derive(Clone, Copy)]
+#[derive(Clone, Copy, PartialEq, Eq, Debug)]
 pub enum Change {
     Created {
         facts: Facts,
@@ -32,7 +33,7 @@ pub enum Change {
     Affinity {
         cpu: Option<u16>,
         off: bool,
-        mask: u64,
+        mask: Mask,
     },
 }
 
@@ -41,19 +42,28 @@ impl Change {
     pub fn takes_off_cpu(&self) -> bool
         ensures { result ≡ takes_off_cpu self.now }
     {
+        let off = matches!(self, Change::Affinity { off: true, .. });
+        self.kind().takes_off_cpu(off)
+    }
+
+    /// What kind of message says it.
+    fn kind(&self) -> Kind
+        ensures { result ≡ kind_of_change self.now }
+    {
         match self {
-            Change::Blocked { .. }
-            | Change::Preempted { .. }
-            | Change::Yield { .. }
-            | Change::Dead { .. } => true,
-            Change::Affinity { off, .. } => *off,
-            Change::Created { .. } | Change::Wakeup => false,
+            Change::Created { .. } => Kind::Created,
+            Change::Blocked { .. } => Kind::Blocked,
+            Change::Wakeup => Kind::Wakeup,
+            Change::Preempted { .. } => Kind::Preempted,
+            Change::Yield { .. } => Kind::Yield,
+            Change::Dead { .. } => Kind::Dead,
+            Change::Affinity { .. } => Kind::Affinity,
         }
     }
 }
 
 /// What the kernel tells the agent, after the messages of the ghOSt paper (SOSP 2021).
-#[derive(Clone, Copy)]
+#[derive(Clone, Copy, PartialEq, Eq, Debug)]
 pub enum Message {
     /// A change of a thread, with the thread's sequence number (Tseq).
     Thread { tid: u32, tseq: u32, change: Change },
@@ -68,15 +78,7 @@ impl Message {
     {
         match self {
             Message::TimerTick { .. } => Kind::TimerTick,
-            Message::Thread { change, .. } => match change {
-                Change::Created { .. } => Kind::Created,
-                Change::Blocked { .. } => Kind::Blocked,
-                Change::Wakeup => Kind::Wakeup,
-                Change::Preempted { .. } => Kind::Preempted,
-                Change::Yield { .. } => Kind::Yield,
-                Change::Dead { .. } => Kind::Dead,
-                Change::Affinity { .. } => Kind::Affinity,
-            },
+            Message::Thread { change, .. } => change.kind(),
         }
     }
 

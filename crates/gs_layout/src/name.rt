@@ -8,7 +8,7 @@ use std::marker::Model;
 pub const MOST_NAME_LEN: usize = 16;
 
 /// A thread's name: at most [`MOST_NAME_LEN`] bytes, each from 33 to 126. Clauses see it as its bytes.
-#[derive(Clone, Copy)]
+#[derive(Clone, Copy, PartialEq, Eq, Debug)]
 pub struct Name {
     bytes: [u8; MOST_NAME_LEN],
     len: u8,

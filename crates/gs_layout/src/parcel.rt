@@ -4,15 +4,13 @@ ghost use Rattle.gs_layout.specs.Spelling.{IsSpellable, spelling};
 use crate::encode::encode_message;
 use crate::fields::message_of;
 use crate::message::Message;
+use crate::wire::MOST_MESSAGE_LEN;
 use std::marker::Model;
-
-/// The most bytes that a message has.
-const MOST: usize = 48;
 
 /// One encoded message. Clauses see it as the message.
 #[derive(Clone, Copy)]
 pub struct Parcel {
-    bytes: [u8; 48],
+    bytes: [u8; MOST_MESSAGE_LEN],
     len: u8,
 }
 
@@ -39,7 +37,7 @@ impl Parcel {
         requires { IsSpellable message.now }
         ensures { result ≡ message.now }
     {
-        let mut bytes = [0; MOST];
+        let mut bytes = [0; MOST_MESSAGE_LEN];
         let len = encode_message(message, &mut bytes);
         Parcel {
             bytes,

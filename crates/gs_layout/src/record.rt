@@ -5,7 +5,7 @@ use crate::facts::Facts;
 use crate::message::{Change, Message};
 
 /// What a thread is: it never was, it is dead, or it lives.
-#[derive(Clone, Copy)]
+#[derive(Clone, Copy, PartialEq, Eq, Debug)]
 pub enum Record {
     Absent,
     Dead,
@@ -29,26 +29,13 @@ impl Record {
 }
 
 /// What a change makes of a live thread.
-fn changed(facts: Facts, change: &Change) -> Record
+fn changed(mut facts: Facts, change: &Change) -> Record
     ensures { result ≡ changed facts change.now }
 {
-    let facts = match change {
-        Change::Created { facts: fresh } => *fresh,
-        Change::Blocked { .. } => Facts {
-            runnable: false,
-            ..facts
-        },
-        Change::Wakeup => Facts {
-            runnable: true,
-            ..facts
-        },
-        Change::Preempted { .. } | Change::Yield { .. } => facts,
-        Change::Dead { .. } => return Record::Dead,
-        Change::Affinity { mask, .. } => Facts {
-            mask: *mask,
-            ..facts
-        },
-    };
+    if let Change::Dead { .. } = change {
+        return Record::Dead;
+    }
+    facts.change(change);
     Record::Live { facts }
 }
 

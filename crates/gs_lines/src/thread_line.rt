@@ -39,7 +39,7 @@ fn write_name(out: &mut String, name: &Name) -> Result<(), AllocError>
 fn write_facts(out: &mut String, facts: &Facts) -> Result<(), AllocError>
     ensures { OnOk result (string_bytes out.new ≡ string_bytes out.old ++ facts_text facts.now) }
 {
-    let mask = facts.mask;
+    let mask = facts.mask.bits();
     out.push_str(runnable_name(facts.runnable))?;
     write!(out, " mask {mask} class ")?;
     out.push_str(class_name(facts.class))?;

@@ -14,7 +14,7 @@ use Rattle.gs_beliefs.specs.declared.running.Running.{Running}
 use Rattle.gs_beliefs.specs.Cpus.{Cpus, believed_on, is_believed, is_just, is_named, runs, stamp_on, stamps, unstamps}
 use Rattle.gs_beliefs.specs.Belief.{after_outcome, hears}
 use Rattle.gs_runq.specs.Queue.{Queue, is_in, order, removed}
-use Rattle.gs_runq.proofs.Queues.{in_put, in_removed, not_left, not_right, removed_absent}
+use Rattle.gs_runq.proofs.Laws.{in_put, in_removed, not_left, not_right, removed_absent}
 use Rattle.gs_mind.specs.Picture.{HoldsWaiting, displaced, ends_turn, goes_last, is_runnable, other_than, requeued, running_tid, settled, settled_all, waits}
 use Rattle.gs_mind.proofs.Believing.{believed_hears, believed_outcome, named_hears, named_set, runs_at, stamped_outcome}
 

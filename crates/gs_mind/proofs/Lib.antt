@@ -1,7 +1,8 @@
-pub mod Believing
-pub mod Followed
-pub mod Rooms
-pub mod Minds
-pub mod Paged
-pub mod Views
+mod Believing
+mod Followed
+mod Rooms
+mod Minds
+mod Paged
+mod Views
 mod Rows
+pub mod Laws

@@ -12,7 +12,7 @@ use Rattle.gs_dump.specs.Record.{IsLive}
 use Rattle.gs_beliefs.specs.Cpus.{Cpus, is_believed, is_just, is_named}
 use Rattle.gs_beliefs.specs.Belief.{after_outcome}
 use Rattle.gs_runq.specs.Queue.{IsTid, Queue, is_in, order}
-use Rattle.gs_runq.proofs.Queues.{not_left, not_right}
+use Rattle.gs_runq.proofs.Laws.{not_left, not_right}
 use Rattle.gs_view.specs.Loaded.{known_in, loaded, or_known, told_of}
 use Rattle.gs_mind.specs.Held.{HasRoom}
 use Rattle.gs_mind.specs.Mind.{bare}

@@ -10,8 +10,7 @@ use Rattle.gs_layout.specs.declared.facts.Class.TheVariants.{Zero, One}
 use Rattle.gs_layout.specs.declared.known.Known.{Known}
 use Rattle.gs_layout.specs.View.{Look}
 use Rattle.gs_status.specs.Masks.{has, has_none, least}
-use Rattle.gs_status.proofs.Least.{least_none, least_same, least_beyond}
-use Rattle.gs_status.proofs.Masks.{nobody as nobody_in}
+use Rattle.gs_status.proofs.Laws.{least_beyond, least_none, least_same, nobody as nobody_in}
 use Rattle.gs_beliefs.specs.Cpus.{believed_on, is_free, is_usable}
 use Rattle.gs_policy.specs.declared.candidates.Candidates.{Candidates}
 use Rattle.gs_policy.specs.declared.choice.Choice.{Choice}
@@ -125,9 +124,8 @@ pub planned_few : (l : Candidates) (v : Look) (ts : List ℕ) → length (planne
 planned_few l v ts = omega (arith, few_behind 64 (has l.free) (takes_in l) v [] ts)
 
 -- the choice of a thread, by masks
-least_open : (f : ℕ → Bool) (k : Known) (mask : ℕ) (o : Option ℕ) → mask ≡ k.facts.mask → o ≡ least (λ c. f c && has mask c) 64 → least (is_open f k []) 64 ≡ o
-least_open f k mask o own e =
-    least_same (is_open f k []) (λ c. f c && has mask c) 64 (λ c h. and-true (f c && has k.facts.mask c) ∙ ap (λ (m : ℕ). f c && has m c) (sym own)) ∙ sym e
+least_open : (f : ℕ → Bool) (k : Known) (o : Option ℕ) → o ≡ least (λ c. f c && has k.facts.mask c) 64 → least (is_open f k []) 64 ≡ o
+least_open f k o e = least_same (is_open f k []) (λ c. f c && has k.facts.mask c) 64 (λ c h. and-true (f c && has k.facts.mask c)) ∙ sym e
 
 picked_known : (l : Candidates) (v : Look) (t : ℕ) (k : Known) → Some k ≡ v t → choice 64 (has l.free) (takes_in l) [] t (Some k) ≡ picked l v t
 picked_known l v t k known = ap (choice 64 (has l.free) (takes_in l) [] t) known
@@ -136,19 +134,19 @@ pub picked_unknown : (l : Candidates) (v : Look) (t : ℕ) → None ≡ v t → 
 picked_unknown l v t unknown = ap (choice 64 (has l.free) (takes_in l) [] t) unknown
 
 -- a free CPU of its mask
-pub picked_free : (l : Candidates) (v : Look) (t : ℕ) (k : Known) (mask c : ℕ) → Some k ≡ v t → mask ≡ k.facts.mask → Some c ≡ least (λ i. has l.free i && has mask i) 64
+pub picked_free : (l : Candidates) (v : Look) (t : ℕ) (k : Known) (c : ℕ) → Some k ≡ v t → Some c ≡ least (λ i. has l.free i && has k.facts.mask i) 64
     → (record { cpu = c; tid = t; preempt = false } ∷ []) ≡ picked l v t
-picked_free l v t k mask c known own free =
-    sym (ap (λ (z : Option ℕ). placed t z (least (is_open (takes_in l k.facts.class) k []) 64)) (least_open (has l.free) k mask (Some c) own free))
+picked_free l v t k c known free =
+    sym (ap (λ (z : Option ℕ). placed t z (least (is_open (takes_in l k.facts.class) k []) 64)) (least_open (has l.free) k (Some c) free))
     ∙ picked_known l v t k known
 
 -- where there is none, one that it may take from somebody, if there is one
-pub picked_busy : (l : Candidates) (v : Look) (t : ℕ) (k : Known) (mask busy : ℕ) (o : Option ℕ) → Some k ≡ v t → mask ≡ k.facts.mask
-    → None ≡ least (λ i. has l.free i && has mask i) 64 → busy ≡ busy_for l k.facts.class → o ≡ least (λ i. has busy i && has mask i) 64
+pub picked_busy : (l : Candidates) (v : Look) (t : ℕ) (k : Known) (busy : ℕ) (o : Option ℕ) → Some k ≡ v t
+    → None ≡ least (λ i. has l.free i && has k.facts.mask i) 64 → busy ≡ busy_for l k.facts.class → o ≡ least (λ i. has busy i && has k.facts.mask i) 64
     → placed t None o ≡ picked l v t
-picked_busy l v t k mask busy o known own none is taken =
-    sym (ap (λ (z : Option ℕ). placed t z (least (is_open (takes_in l k.facts.class) k []) 64)) (least_open (has l.free) k mask None own none)
-    ∙ ap (placed t None) (least_open (takes_in l k.facts.class) k mask o own (taken ∙ ap (λ (m : ℕ). least (λ i. has m i && has mask i) 64) is)))
+picked_busy l v t k busy o known none is taken =
+    sym (ap (λ (z : Option ℕ). placed t z (least (is_open (takes_in l k.facts.class) k []) 64)) (least_open (has l.free) k None none)
+    ∙ ap (placed t None) (least_open (takes_in l k.facts.class) k o (taken ∙ ap (λ (m : ℕ). least (λ i. has m i && has k.facts.mask i) 64) is)))
     ∙ picked_known l v t k known
 
 -- among 64 CPUs or among those that there are, where none passes past the last

@@ -7,7 +7,7 @@ use Rattle.gs_layout.specs.declared.facts.Class.{Class}
 use Rattle.gs_layout.specs.declared.known.Known.{Known}
 use Rattle.gs_layout.specs.View.{Look}
 use Rattle.gs_status.specs.Masks.{has, least}
-use Rattle.gs_status.proofs.Least.{least_is_all}
+use Rattle.gs_status.proofs.Laws.{least_is_all}
 use Rattle.gs_runq.specs.Queue.{is_in}
 use Rattle.gs_beliefs.specs.Cpus.{is_free}
 use Rattle.gs_policy.specs.declared.choice.Choice.{Choice}

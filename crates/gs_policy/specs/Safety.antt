@@ -8,7 +8,7 @@ use Rattle.gs_layout.specs.declared.facts.Class.{Class}
 use Rattle.gs_layout.specs.declared.known.Known.{Known}
 use Rattle.gs_layout.specs.View.{Look}
 use Rattle.gs_status.specs.Masks.{has, least}
-use Rattle.gs_status.proofs.Least.{least_passes}
+use Rattle.gs_status.proofs.Laws.{least_passes}
 use Rattle.gs_runq.specs.Queue.{is_in, Apart, IsOut}
 use Rattle.gs_beliefs.specs.declared.running.Running.{Running}
 use Rattle.gs_beliefs.specs.Cpus.{believed_on, is_free, is_usable}

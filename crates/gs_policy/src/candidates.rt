@@ -27,7 +27,7 @@ pub struct Candidates {
 }
 
 /// The least CPU that is in both sets.
-#[tactic(auto, using(gs_status::proofs::Least::least_same))]
+#[tactic(auto, using(gs_status::proofs::Laws::least_same))]
 fn least_of(one: Mask, other: Mask) -> Option<u16>
     ensures least { result ≡ least (λ c. has one c && has other c) MOST_CPUS }
     ensures within { IfSome result (λ c. c < MOST_CPUS) }
@@ -89,8 +89,8 @@ impl Candidates {
         ensures pick { option_to_list result ≡ picked self (look_up view.now) tid }
         ensures below { IfSome result (λ x. x.cpu < MOST_CPUS) }
     {
-        let (facts, _) = view.get(tid)?;
-        let mask = Mask::new(facts.mask);
+        let known = view.get(tid)?;
+        let mask = known.facts.mask;
         if let Some(cpu) = least_of(self.free, mask) {
             return Some(Choice {
                 cpu,
@@ -98,7 +98,7 @@ impl Candidates {
                 preempt: false,
             });
         }
-        let cpu = least_of(self.busy_for(facts.class), mask)?;
+        let cpu = least_of(self.busy_for(known.facts.class), mask)?;
         Some(Choice {
             cpu,
             tid,

@@ -17,15 +17,15 @@ fn runs_class_one(shown: &Shown<'_>, ticks: u16, cpu: u16) -> bool
     let Some(running) = shown.cpus.believed(cpu) else {
         return false;
     };
-    let Some((facts, _)) = shown.view.get(running.tid) else {
+    let Some(known) = shown.view.get(running.tid) else {
         return false;
     };
-    facts.class == Class::One && ticks <= running.ticks
+    known.facts.class == Class::One && ticks <= running.ticks
 }
 
 /// The usable CPUs that are believed to run a thread of class 1 that has had at least so many ticks. It
 /// takes no memory.
-#[tactic(auto, using(gs_status::proofs::Marking::marked_if))]
+#[tactic(auto, using(gs_status::proofs::Laws::marked_if))]
 pub fn class_one_cpus(shown: &Shown<'_>, ticks: u16) -> Mask
     ensures { (c : ℕ) → has result c ≡ runs_one ticks (shows shown.now) c }
 {

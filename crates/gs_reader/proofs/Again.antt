@@ -21,9 +21,7 @@ use Rattle.gs_layout.specs.Kind.{kind_number}
 use Rattle.gs_layout.specs.Name.{is_name, is_name_byte}
 use Rattle.gs_layout.specs.Reading.{Begins, kind_numbered, message_in, name_in, number_at}
 use Rattle.gs_layout.specs.Spelling.{IsMask, AreNumbers, IsSpellable, IsSpellableChange, kind_of, kind_of_change, padding, round_up, size_of, size_of_change, spelling}
-use Rattle.gs_layout.proofs.Parcels.{spelled_begins}
-use Rattle.gs_layout.proofs.ReadBack.{begun_is, kind_begun}
-use Rattle.gs_layout.proofs.Spelled.{spelled_length}
+use Rattle.gs_layout.proofs.Laws.{begun_is, kind_begun, spelled_begins, spelled_length}
 use Rattle.gs_reader.specs.declared.fault.ReadFault.{ReadFault}
 use Rattle.gs_reader.specs.declared.item.Item.TheVariants as items
 use Rattle.gs_reader.specs.Fault.{front_fault, has_length, is_kind, kind_number_in, length_in}

@@ -7,7 +7,7 @@ use Rattle.gs_layout.specs.declared.kind.Kind.{Kind}
 use Rattle.gs_layout.specs.Pad.{pad}
 use Rattle.gs_layout.specs.Reading.{kind_numbered, message_in}
 use Rattle.gs_layout.specs.Spelling.{spelling}
-use Rattle.gs_layout.proofs.NumberBytes.{IsBytes, IsBytes-take}
+use Rattle.gs_layout.proofs.Laws.{IsBytes, IsBytes-take}
 use Rattle.gs_reader.specs.declared.fault.ReadFault.{ReadFault}
 use Rattle.gs_reader.specs.declared.fault.ReadFault.TheVariants.{Short, BadKind, BadLength, BadField}
 use Rattle.gs_reader.specs.declared.item.Item.{Item}

@@ -1,9 +1,10 @@
-pub mod Ranges
-pub mod Sound
-pub mod Front
-pub mod Again
-pub mod Pads
-pub mod Exact
-pub mod Refs
-pub mod Segments
-pub mod Rows
+mod Ranges
+mod Sound
+mod Front
+mod Again
+mod Pads
+mod Exact
+mod Refs
+mod Segments
+mod Rows
+pub mod Laws

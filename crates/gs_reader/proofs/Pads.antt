@@ -10,7 +10,7 @@ use Rattle.gs_layout.specs.declared.kind.Kind.{Kind}
 use Rattle.gs_layout.specs.declared.kind.Kind.TheVariants as kinds
 use Rattle.gs_layout.specs.Pad.{IsPadSize, pad}
 use Rattle.gs_layout.specs.Reading.{kind_numbered, number_at}
-use Rattle.gs_layout.proofs.NumberBytes.{IsBytes}
+use Rattle.gs_layout.proofs.Laws.{IsBytes}
 use Rattle.gs_reader.specs.declared.item.Item.TheVariants as items
 use Rattle.gs_reader.specs.Fault.{front_fault, has_length, is_kind, kind_number_in, length_in}
 use Rattle.gs_reader.specs.Reading.{IsWhole, item_in, read, with_length}

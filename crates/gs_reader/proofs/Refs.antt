@@ -3,8 +3,7 @@ use Rattle.std.proofs.Common.{◌≡◌, ℕ, List, ap, sym, subst, ◌∙◌}
 use Rattle.gs_layout.specs.declared.message.Message.{Message}
 use Rattle.gs_layout.specs.Reading.{message_in}
 use Rattle.gs_layout.specs.Spelling.{IsSpellable, spelling}
-use Rattle.gs_layout.proofs.Parcels.{spelled_begins}
-use Rattle.gs_layout.proofs.ReadBack.{begun_is}
+use Rattle.gs_layout.proofs.Laws.{begun_is, spelled_begins}
 use Rattle.gs_reader.specs.RefHeld.{IsRef}
 
 pub spelled_is : (bytes : List ℕ) (m : Message) → IsSpellable m → bytes ≡ spelling m → message_in bytes ≡ m

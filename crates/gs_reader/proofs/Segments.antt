@@ -7,7 +7,7 @@ use Rattle.gs_layout.specs.declared.message.Message.{Message}
 use Rattle.gs_reader.specs.declared.fault.ReadFault.{ReadFault}
 use Rattle.gs_reader.specs.declared.item.Item.{Item}
 use Rattle.gs_reader.specs.declared.item.Item.TheVariants as items
-use Rattle.gs_layout.proofs.NumberBytes.{IsBytes}
+use Rattle.gs_layout.proofs.Laws.{IsBytes}
 use Rattle.gs_reader.specs.Reading.{IsFault, IsRead, IsSpelled, read}
 use Rattle.gs_reader.specs.Records.{Found, and_then, item_then, items_of, segment, step, taken}
 use Rattle.gs_reader.proofs.Exact.{fault_read, is_read, size_read}

@@ -17,7 +17,7 @@ use Rattle.gs_layout.specs.Message.{tseq_of}
 use Rattle.gs_layout.specs.Name.{is_name}
 use Rattle.gs_layout.specs.Reading.{class_numbered, facts_in, message_in, message_with, name_in, number_at}
 use Rattle.gs_layout.specs.Spelling.{IsMask, AreNumbers, IsSpellable, cpu_number, cpu_of, facts_bytes, flags_of, header_bytes, kind_of, more_of, name_bytes, padding, round_up, size_of, spelling, tid_of}
-use Rattle.gs_layout.proofs.NumberBytes.{IsBytes, IsBytes-drop, back_2, back_4, back_8}
+use Rattle.gs_layout.proofs.Laws.{IsBytes, IsBytes-drop, back_2, back_4, back_8}
 use Rattle.gs_reader.specs.Fault.{has_length, kind_number_in}
 use Rattle.gs_reader.specs.Reading.{IsWhole, fields_fit, name_fits, sizes_fit}
 use Rattle.gs_reader.specs.RefHeld.{IsRef}

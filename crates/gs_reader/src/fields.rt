@@ -7,7 +7,8 @@ ghost use Rattle.gs_layout.specs.Reading.{least};
 ghost use Rattle.gs_reader.specs.Reading.{cpu_fits, fields_fit, flags_fit, more_fits, name_fits, numbers_fit, sizes_fit};
 
 use gs_layout::{
-    Kind, MOST_NAME_LEN, MOST_TIDS, NO_CPU, Name, creation_len, u16_at, u32_at, u64_at,
+    CLASS_AT, CPU_AT, FLAGS_AT, Kind, MASK_AT, MOST_NAME_LEN, MOST_TIDS, NAME_AT, NAME_LEN_AT,
+    NO_CPU, Name, TID_AT, TSEQ_AT, creation_len, u16_at, u32_at, u64_at,
 };
 use gs_status::MOST_CPUS;
 
@@ -51,9 +52,9 @@ fn sizes_fit(text: &[u8]) -> bool
     ensures value { result ≡ sizes_fit text.now }
     ensures room { OnTrue result (26 + slice_index text.now 25 ≤ length text.now) }
 {
-    let name_len = text[25] as usize;
-    u64_at(text, 16) != 0
-        && text[24] < 2
+    let name_len = text[NAME_LEN_AT] as usize;
+    u64_at(text, MASK_AT) != 0
+        && text[CLASS_AT] < 2
         && name_len <= MOST_NAME_LEN
         && creation_len(name_len) == text.len()
 }
@@ -63,8 +64,8 @@ fn name_fits(text: &[u8]) -> bool
     requires room { 26 + slice_index text.now 25 ≤ length text.now }
     ensures { result ≡ name_fits text.now }
 {
-    let end = 26 + text[25] as usize;
-    Name::is_name(&text[26..end]) && are_zeros(&text[end..])
+    let end = NAME_AT + text[NAME_LEN_AT] as usize;
+    Name::is_name(&text[NAME_AT..end]) && are_zeros(&text[end..])
 }
 
 fn more_fits(kind: Kind, text: &[u8]) -> bool
@@ -73,7 +74,7 @@ fn more_fits(kind: Kind, text: &[u8]) -> bool
 {
     match kind {
         Kind::Created => sizes_fit(text) && name_fits(text),
-        Kind::Affinity => u64_at(text, 16) != 0,
+        Kind::Affinity => u64_at(text, MASK_AT) != 0,
         _ => true,
     }
 }
@@ -83,9 +84,9 @@ pub(crate) fn fields_fit(kind: Kind, text: &[u8]) -> bool
     requires { least kind ≤ length text.now }
     ensures { result ≡ fields_fit kind text.now }
 {
-    let cpu = u16_at(text, 12);
-    numbers_fit(kind, u32_at(text, 4), u32_at(text, 8))
+    let cpu = u16_at(text, CPU_AT);
+    numbers_fit(kind, u32_at(text, TID_AT), u32_at(text, TSEQ_AT))
         && cpu_fits(kind, cpu)
-        && flags_fit(kind, cpu, u16_at(text, 14))
+        && flags_fit(kind, cpu, u16_at(text, FLAGS_AT))
         && more_fits(kind, text)
 }

@@ -6,6 +6,7 @@ ghost use Rattle.gs_reader.specs.Taking.{takes_own_off};
 ghost use Rattle.gs_layout.specs.Spelling.{IsSpellable, class_of, cpu_of, flags_of, kind_of, mask_of, name_of, spelling, tid_of};
 
 use gs_layout::{Class, Kind, Message, Parcel};
+use gs_status::Mask;
 use std::marker::Model;
 
 /// A message where it stands in its bytes. Clauses see it as the message.
@@ -91,15 +92,11 @@ impl<'a> MessageRef<'a> {
     pub fn takes_off_cpu(&self) -> bool
         ensures { result ≡ takes_own_off self.now }
     {
-        match self.kind() {
-            Kind::Blocked | Kind::Preempted | Kind::Yield | Kind::Dead => true,
-            Kind::Affinity => self.flags() & 1 == 1,
-            Kind::Created | Kind::Wakeup | Kind::TimerTick => false,
-        }
+        self.kind().takes_off_cpu(self.flags() & 1 == 1)
     }
 
     /// The mask of a creation or of a new mask.
-    pub fn mask(&self) -> Option<u64>
+    pub fn mask(&self) -> Option<Mask>
         ensures { result ≡ mask_of self.now }
     {
         gs_layout::mask_of(self.bytes)

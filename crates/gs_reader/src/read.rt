@@ -12,19 +12,16 @@ use crate::fault::ReadFault;
 use crate::fields::{are_zeros, fields_fit};
 use crate::item::Item;
 use crate::message_ref::MessageRef;
-use gs_layout::{Kind, u16_at};
-
-/// The kind of a PAD.
-const PAD: u16 = 9;
+use gs_layout::{AFFINITY_LEN, HEADER_LEN, KIND_AT, Kind, PAD, u16_at};
 
 fn has_length(kind: u16, len: u16) -> bool
     ensures { result ≡ has_length kind len }
 {
-    match kind {
-        1 => len == 32 || len == 40 || len == 48,
-        7 => len == 24,
-        PAD => len == 8 || len == 16 || len == 24 || len == 32 || len == 40,
-        _ => len == 16,
+    match Kind::numbered(kind) {
+        Some(Kind::Created) => len == 32 || len == 40 || len == 48,
+        Some(Kind::Affinity) => len == AFFINITY_LEN as u16,
+        None if kind == PAD => len == 8 || len == 16 || len == 24 || len == 32 || len == 40,
+        _ => len == HEADER_LEN as u16,
     }
 }
 
@@ -35,7 +32,7 @@ fn front_fault(bytes: &[u8]) -> Option<ReadFault>
         return Some(ReadFault::Short);
     }
     let len = u16_at(bytes, 0);
-    let kind = u16_at(bytes, 2);
+    let kind = u16_at(bytes, KIND_AT);
     if kind < 1 || kind > PAD {
         return Some(ReadFault::BadKind);
     }
@@ -67,7 +64,7 @@ fn first_item(bytes: &[u8]) -> Result<(Item<'_>, usize), ReadFault>
         return Err(fault);
     }
     let len = u16_at(bytes, 0) as usize;
-    let kind = Kind::numbered(u16_at(bytes, 2));
+    let kind = Kind::numbered(u16_at(bytes, KIND_AT));
     Ok((item_in(kind, &bytes[..len])?, len))
 }
 

@@ -8,7 +8,7 @@ use gs_layout::Outcome;
 use std::slice;
 
 /// What is counted of the replies of a run.
-#[derive(Clone, Copy)]
+#[derive(Clone, Copy, PartialEq, Eq, Debug)]
 pub struct Counts {
     /// The events of the run: each has one reply.
     pub events: usize,

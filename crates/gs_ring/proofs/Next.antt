@@ -12,7 +12,7 @@ use Rattle.gs_layout.specs.declared.message.Message.TheVariants.{Thread, TimerTi
 use Rattle.gs_layout.specs.Pad.{pad}
 use Rattle.gs_layout.specs.Reading.{number_at}
 use Rattle.gs_layout.specs.Spelling.{IsSpellable, size_of, size_of_change, spelling}
-use Rattle.gs_layout.proofs.Spelled.{spelled_length}
+use Rattle.gs_layout.proofs.Laws.{spelled_length}
 use Rattle.gs_ring.specs.Block.{IsRing, Lies, record_index, ring_of, seen}
 use Rattle.gs_ring.specs.Ends.{Ahead, Passed, Passed-join, Passed-none, place_behind-append, place_behind-grows}
 use Rattle.gs_ring.specs.Places.{bytes, need, pad_bytes, pad_len, place_behind, record_len, rest}

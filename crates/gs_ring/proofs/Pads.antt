@@ -11,7 +11,7 @@ use Rattle.gs_layout.specs.declared.message.Message.TheVariants.{Thread, TimerTi
 use Rattle.gs_layout.specs.Name.{is_name}
 use Rattle.gs_layout.specs.Pad.{pad}
 use Rattle.gs_layout.specs.Spelling.{IsSpellable, IsSpellableChange, size_of, size_of_change, spelling}
-use Rattle.gs_layout.proofs.Spelled.{spelled_length}
+use Rattle.gs_layout.proofs.Laws.{spelled_length}
 use Rattle.gs_ring.specs.Places.{is_capacity, need, pad_bytes, pad_len, record_len, rest}
 use Rattle.gs_ring.proofs.Around.{mod_round, mod_whole}
 

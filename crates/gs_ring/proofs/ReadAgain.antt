@@ -13,7 +13,7 @@ use Rattle.gs_layout.specs.Kind.{kind_number}
 use Rattle.gs_layout.specs.Pad.{pad}
 use Rattle.gs_layout.specs.Reading.{message_in, number_at}
 use Rattle.gs_layout.specs.Spelling.{IsSpellable, kind_of, spelling}
-use Rattle.gs_layout.proofs.ReadBack.{read_back}
+use Rattle.gs_layout.proofs.Laws.{read_back}
 use Rattle.gs_ring.specs.Block.{behind_front, behind_pad, front_message, messages_in}
 use Rattle.gs_ring.specs.Places.{bytes, need, pad_bytes, pad_len, record_len}
 use Rattle.gs_ring.proofs.Pads.{IsSize, IsWide, length-pad, length-pad_bytes, need_is, pad_bytes_none, pad_bytes_some, pad_small, pad_whole, record_is, record_size}

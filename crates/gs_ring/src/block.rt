@@ -10,7 +10,7 @@ ghost use Rattle.gs_ring.specs.Places.{is_capacity, need, pad_bytes, pad_len, re
 
 use crate::peeked::Peeked;
 use byteorder::{ByteOrder, LittleEndian};
-use gs_layout::{Message, u16_at};
+use gs_layout::{KIND_AT, Message, PAD, u16_at};
 
 /// The fewest bytes that a ring may have: an empty ring then takes any message, also behind a PAD.
 pub const LEAST_CAPACITY: usize = 128;
@@ -21,9 +21,6 @@ pub const MOST_CAPACITY: usize = 1_048_576;
 /// A ring's capacity is a multiple of this, and so is the length of each message and PAD in it. So the rest
 /// of the block never has fewer bytes than the header of a PAD.
 pub const ALIGNMENT: usize = 8;
-
-/// The kind of a PAD.
-pub(crate) const PAD: u16 = 9;
 
 /// Where a place lies in a block of so many bytes.
 pub(crate) fn index_of(place: u64, capacity: usize) -> usize
@@ -59,7 +56,7 @@ fn fill_pad(out: &mut [u8])
 {
     let len = out.len();
     LittleEndian::write_u16(out, len as u16);
-    LittleEndian::write_u16(&mut out[2..], PAD);
+    LittleEndian::write_u16(&mut out[KIND_AT..], PAD);
     out[4..].fill(0);
 }
 
@@ -108,7 +105,7 @@ fn record_index(block: &[u8], place: u64) -> usize
     ensures within { result < length block.now }
 {
     let index = index_of(place, block.len());
-    if u16_at(&block[index..], 2) == PAD {
+    if u16_at(&block[index..], KIND_AT) == PAD {
         0
     } else {
         index

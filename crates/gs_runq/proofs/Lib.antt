@@ -1,5 +1,6 @@
-pub mod Links
-pub mod Lines
-pub mod Queues
-pub mod Rows
-pub mod Rooms
+mod Links
+mod Lines
+mod Queues
+mod Rows
+mod Rooms
+pub mod Laws

@@ -61,7 +61,7 @@ fn alone(words: &[&str], event: Event<AnyPolicy>) -> Result<Event<AnyPolicy>, Re
 fn create_of(mask: &str, class: &str, state: &str, text: &str) -> Result<Event<AnyPolicy>, Reason>
     ensures { result ≡ reads rows.create (mask.now ∷ class.now ∷ state.now ∷ text.now ∷ []) }
 {
-    let mask = number(mask, 0, u64::MAX)?;
+    let mask = Mask::new(number(mask, 0, u64::MAX)?);
     let class = read_class(class)?;
     let runnable = is_runnable(state)?;
     let name = name(text)?;
@@ -107,7 +107,7 @@ fn affinity(words: &[&str]) -> Result<Event<AnyPolicy>, Reason>
         return Err(Reason::BadCount);
     };
     let tid = u32_number(tid)?;
-    let mask = number(mask, 0, u64::MAX)?;
+    let mask = Mask::new(number(mask, 0, u64::MAX)?);
     Ok(Event::Kernel {
         command: Command::Thread {
             tid,

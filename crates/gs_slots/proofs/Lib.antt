@@ -1,4 +1,5 @@
-pub mod Lent
-pub mod ReadBack
-pub mod Written
+mod Lent
+mod ReadBack
+mod Written
 mod Rows
+pub mod Laws

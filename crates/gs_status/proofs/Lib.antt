@@ -1,4 +1,5 @@
-pub mod Least
-pub mod Marking
-pub mod Masks
+mod Least
+mod Marking
+mod Masks
 mod Rows
+pub mod Laws

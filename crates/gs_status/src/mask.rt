@@ -8,7 +8,7 @@ use std::marker::Model;
 pub const MOST_CPUS: u16 = 64;
 
 /// A set of CPUs: CPU c is in it if bit c is set. Clauses see it as its bits.
-#[derive(Clone, Copy)]
+#[derive(Clone, Copy, PartialEq, Eq, Debug)]
 pub struct Mask {
     bits: u64,
 }

@@ -7,8 +7,7 @@ use Rattle.std.proofs.lemmas.Bool.Decides.{nat_tests}
 use Rattle.std.proofs.lemmas.List.{get_or_past}
 use Rattle.std.proofs.lemmas.Nat.{pow-add}
 use Rattle.gs_status.specs.Masks.{has, has_none, least, found_or}
-use Rattle.gs_status.proofs.Masks.{nobody, has_none_past}
-use Rattle.gs_status.proofs.Least.{least_is_all}
+use Rattle.gs_status.proofs.Laws.{has_none_past, least_is_all, nobody}
 use Rattle.gs_threads.specs.Bits.{is_in, left_of_word, IsFirst, IsNone}
 
 -- a number is in where its bit is set in the word that was written

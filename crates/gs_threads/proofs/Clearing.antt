@@ -7,19 +7,15 @@ use Rattle.std.proofs.lemmas.Option.{slice_get-map}
 use Rattle.gs_journal.specs.declared.entry.Entry.TheVariants.{Torn}
 use Rattle.gs_journal.specs.Standing.{then_stands}
 use Rattle.gs_journal.specs.History.{History, on, ends_run}
-use Rattle.gs_journal.proofs.Laws.{on-push, same_messages, same_created}
+use Rattle.gs_journal.proofs.Laws.{on-push, same_created, same_messages}
 use Rattle.gs_threads.specs.declared.row.ThreadRow.{ThreadRow}
 use Rattle.gs_threads.specs.Rows.{row_placed}
 use Rattle.gs_threads.specs.Table.{row_of, rows_placed, place_at, cpu_of}
+use Rattle.gs_threads.specs.Cleared.{IsClearedBelow, SameButPlaces}
 use Rattle.gs_threads.specs.Mirrors.{Mirrors}
 use Rattle.gs_threads.proofs.Entries.{eqb_same, eqb_other}
 use Rattle.gs_threads.proofs.Told.{place_row}
-use Rattle.gs_threads.proofs.Placing.{row_placed_same, length-rows_placed, SameButPlaces, same_facts, placed_keeps, place_other}
-
--- rows in which whoever was on one of the first n CPUs was taken off, and nothing else changed
-pub record IsClearedBelow (n : ℕ) (rows rows' : List ThreadRow) : Type 0 where
-  pub same : SameButPlaces rows rows'
-  pub left : (t c : ℕ) → place_at rows' t ≡ Some c → (n ≤ c) × (place_at rows t ≡ Some c)
+use Rattle.gs_threads.proofs.Placing.{row_placed_same, length-rows_placed, same_facts, placed_keeps, place_other}
 
 -- nobody was on the next CPU
 pub cleared_nobody : (n : ℕ) (rows rows' : List ThreadRow) → IsClearedBelow n rows rows' → ((t : ℕ) → place_at rows t ≡ Some n → ⊥) → IsClearedBelow (n + 1) rows rows'

@@ -9,7 +9,7 @@ use Rattle.gs_journal.specs.declared.entry.Entry.TheVariants.{Posted}
 use Rattle.gs_journal.specs.Standing.{then_stands}
 use Rattle.gs_journal.specs.Record.{record_of}
 use Rattle.gs_journal.specs.History.{History, messages, seq, seq_after, record_in, ends_run, on}
-use Rattle.gs_journal.proofs.Laws.{record_of-push, messages-push, on-push}
+use Rattle.gs_journal.proofs.Laws.{messages-push, on-push, record_of-push}
 use Rattle.gs_threads.specs.declared.row.ThreadRow.{ThreadRow}
 
 pub same_eqb : (t : ℕ) → (t == t) ≡ true

@@ -1,12 +1,13 @@
-pub mod Lookups
-pub mod Walks
-pub mod Living
-pub mod Entries
-pub mod Told
-pub mod Mirroring
-pub mod Placing
-pub mod Clearing
-pub mod Mirrored
-pub mod BitWords
-pub mod Summed
+mod Lookups
+mod Walks
+mod Living
+mod Entries
+mod Told
+mod Mirroring
+mod Placing
+mod Clearing
+mod Mirrored
+mod BitWords
+mod Summed
 mod Rows
+pub mod Laws

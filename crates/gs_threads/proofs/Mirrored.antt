@@ -7,8 +7,7 @@ use Rattle.gs_layout.specs.Record.{after}
 use Rattle.gs_journal.specs.Standing.{standing, last_of, latest}
 use Rattle.gs_journal.specs.Record.{record_of}
 use Rattle.gs_journal.specs.History.{History, posted, messages, created, seq, seq_after, record_in, on, at, at_below}
-use Rattle.gs_journal.proofs.Folds.{record_in-fold}
-use Rattle.gs_journal.proofs.Laws.{at_is, at_found, at_not, seq_is}
+use Rattle.gs_journal.proofs.Laws.{at_found, at_is, at_not, record_in-fold, seq_is}
 use Rattle.gs_threads.specs.declared.row.ThreadRow.{ThreadRow}
 use Rattle.gs_threads.specs.Table.{row_of, record_at, number_at, place_at, cpu_of}
 use Rattle.gs_threads.specs.Mirrors.{Mirrors}

@@ -10,7 +10,7 @@ use Rattle.gs_layout.specs.Message.{is_about, is_creation, takes_off, tseq_of}
 use Rattle.gs_layout.specs.Record.{after}
 use Rattle.gs_journal.specs.declared.entry.Entry.TheVariants.{Posted}
 use Rattle.gs_journal.specs.History.{History, messages, created, seq, record_in, on}
-use Rattle.gs_journal.proofs.Laws.{on-push, created-push}
+use Rattle.gs_journal.proofs.Laws.{created-push, on-push}
 use Rattle.gs_threads.specs.declared.row.ThreadRow.{ThreadRow}
 use Rattle.gs_threads.specs.Rows.{new_row, row_after}
 use Rattle.gs_threads.specs.Table.{row_of, rows_after, record_at, number_at, place_at}

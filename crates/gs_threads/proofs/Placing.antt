@@ -8,10 +8,11 @@ use Rattle.gs_journal.specs.declared.entry.Entry.{Entry}
 use Rattle.gs_journal.specs.declared.entry.Entry.TheVariants.{Posted, Placed, Role, Begin, Left, Taken, Given, Torn}
 use Rattle.gs_journal.specs.Standing.{then_stands}
 use Rattle.gs_journal.specs.History.{History, posted_by, messages, created, on, placed_on, ends_run}
-use Rattle.gs_journal.proofs.Laws.{on-push, same_messages, same_created}
+use Rattle.gs_journal.proofs.Laws.{on-push, same_created, same_messages}
 use Rattle.gs_threads.specs.declared.row.ThreadRow.{ThreadRow}
 use Rattle.gs_threads.specs.Rows.{row_placed}
 use Rattle.gs_threads.specs.Table.{row_of, rows_placed, record_at, number_at, place_at}
+use Rattle.gs_threads.specs.Cleared.{SameButPlaces}
 use Rattle.gs_threads.specs.Mirrors.{Mirrors, is_quiet}
 use Rattle.gs_threads.proofs.Lookups.{length-change_row, row_of-change, row_of-change_other}
 use Rattle.gs_threads.proofs.Entries.{same_eqb, eqb_same, eqb_other, some_of, record_by, seq_by}
@@ -28,11 +29,6 @@ row_placed_same rows t cpu = row_of-change rows t (λ row. row_placed row cpu)
 pub length-rows_placed : (rows : List ThreadRow) (t : ℕ) (cpu : Option ℕ) → length (rows_placed rows t cpu) ≡ length rows
 unfolding rows_placed
 length-rows_placed rows t cpu = length-change_row rows t (λ row. row_placed row cpu)
-
--- rows that differ in where threads are, and in nothing else
-pub record SameButPlaces (rows rows' : List ThreadRow) : Type 0 where
-  pub count : length rows' ≡ length rows
-  pub kept : (t : ℕ) → (row_of rows' t ≡ row_of rows t) ⊎ ((to : Option ℕ) × (row_of rows' t ≡ option_map (λ row. row_placed row to) (row_of rows t)))
 
 pub same_facts : (first : ℕ) (h h' : History) (rows rows' : List ThreadRow) → Mirrors first h rows → SameButPlaces rows rows' → ((t : ℕ) → messages h' t ≡ messages h t) → created h' ≡ created h
     → ((t c : ℕ) → (place_at rows' t ≡ Some c) ↔ (on h' c ≡ Some t)) → Mirrors first h' rows'

@@ -3,3 +3,4 @@ pub mod Table
 pub mod Live
 pub mod Mirrors
 pub mod Bits
+pub mod Cleared

@@ -14,7 +14,7 @@ use Rattle.gs_lines.specs.Lines.{line, lines}
 use Rattle.gs_journal.specs.History.{active, torn}
 use Rattle.gs_journal.specs.Standing.{standing, last_of}
 use Rattle.gs_core.specs.Machine.{start, planning}
-use Rattle.gs_core.proofs.Keeping.{kept_faithful, kept_safe, kept_start}
+use Rattle.gs_core.proofs.Laws.{kept_faithful, kept_safe, kept_start}
 use Rattle.gs_trace.specs.declared.run.Ended.{Ended}
 use Rattle.gs_trace.specs.declared.run.Ended.TheVariants.{Ran, Faulted}
 use Rattle.gs_trace.proofs.One.{one_output}

@@ -8,7 +8,7 @@ use Rattle.gs_layout.specs.declared.refusal.Refusal.{Refusal}
 use Rattle.gs_layout.specs.declared.refusal.Refusal.TheVariants as refusals
 use Rattle.gs_layout.specs.View.{Look, words, catch_up, is_skipped, is_orphan, gap_next}
 use Rattle.gs_journal.specs.History.{posted, active, taken, torn}
-use Rattle.gs_journal.proofs.Past.{same_view}
+use Rattle.gs_journal.proofs.Laws.{same_view}
 use Rattle.gs_dump.specs.Page.{Contents}
 use Rattle.gs_kernel.specs.Attaching.{page_refusal}
 use Rattle.gs_kernel.specs.Dumped.{dumped}
@@ -36,8 +36,7 @@ use Rattle.gs_kernel.specs.declared.command.Command.{Command}
 use Rattle.gs_kernel.specs.declared.command.Command.TheVariants as commands
 use Rattle.gs_kernel.specs.Legal.{effect, last_in, refusal as kernel_refuses}
 use Rattle.gs_kernel.specs.Lands.{Lands}
-use Rattle.gs_core.proofs.Exact.{all_one, lands_one, tells_one}
-use Rattle.gs_core.proofs.Faces.{drop_drop}
+use Rattle.gs_core.proofs.Laws.{all_one, drop_drop, lands_one, tells_one}
 use Rattle.gs_script.specs.declared.fault.ScriptFault.{ScriptFault}
 use Rattle.gs_trace.specs.declared.run.Ended.{Ended}
 use Rattle.gs_script.specs.Script.{Script, script_of}

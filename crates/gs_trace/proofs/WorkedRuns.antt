@@ -21,7 +21,7 @@ use Rattle.gs_core.specs.declared.reply.Reply.{Reply}
 use Rattle.gs_core.specs.declared.reply.Reply.TheVariants as replies
 use Rattle.gs_core.specs.Machine.{Plan, State, Step, start, planning}
 use Rattle.gs_core.specs.Safe.{Run}
-use Rattle.gs_core.proofs.Keeping.{kept_faithful, kept_safe, kept_start, kept_step}
+use Rattle.gs_core.proofs.Laws.{kept_faithful, kept_safe, kept_start, kept_step}
 use Rattle.gs_trace.specs.declared.run.Ended.TheVariants.{Ran}
 use Rattle.gs_lines.specs.Lines.{line}
 use Rattle.gs_trace.specs.Output.{IsOutput, any_plans}

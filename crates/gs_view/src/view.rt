@@ -1,11 +1,11 @@
-ghost use Rattle.std.specs.Prelude.{◌≡◌, ◌≢◌, ◌↔◌, ◌==◌, ℕ, true, false, [], length, All, IfOk, OnOk, OnErr, option_map};
+ghost use Rattle.std.specs.Prelude.{◌≡◌, ◌≢◌, ◌↔◌, ◌==◌, ℕ, true, false, [], length, All, IfOk, OnOk, OnErr, option_copied};
 ghost use Rattle.std.specs.List.Sorted.{IsStrictlyIncreasing};
 ghost use Rattle.gs_layout.specs.Message.{is_death};
 ghost use Rattle.gs_layout.specs.Spelling.{kind_of, tid_of};
 ghost use Rattle.gs_layout.specs.View.{apply, is_gap, learnt, look_up, word};
 ghost use Rattle.gs_view.specs.Begins.{begins};
 ghost use Rattle.gs_view.specs.Loaded.{loaded};
-ghost use Rattle.gs_view.specs.Shown.{known_shown, tids};
+ghost use Rattle.gs_view.specs.Shown.{tids};
 ghost use Rattle.gs_view.specs.Taken.{word_of};
 
 use crate::fault::ApplyFault;
@@ -13,7 +13,7 @@ use crate::load::load_page;
 use crate::taken::Taken;
 use crate::walk::Walk;
 use gs_dump::Page;
-use gs_layout::{Change, Facts, Kind, Known, Message};
+use gs_layout::{Change, Kind, Known, Message};
 use gs_reader::MessageRef;
 use std::alloc::{AllocError, Global};
 use std::collections::BTreeMap;
@@ -66,14 +66,13 @@ impl AgentView {
 
     /// What is known of a thread: its facts, and the sequence number at which they were so. `None`
     /// where nothing is known. It takes no memory.
-    pub fn get(&self, tid: u32) -> Option<(&Facts, u32)>
-        ensures { option_map known_shown result ≡ look_up self.now tid }
+    pub fn get(&self, tid: u32) -> Option<&Known>
+        ensures { option_copied result ≡ look_up self.now tid }
     {
-        let known = self.records.get(&tid)?;
-        Some((&known.facts, known.tseq))
+        self.records.get(&tid)
     }
 
-    /// All that is known, by rising tid: of each thread its tid, its facts and its sequence number.
+    /// All that is known, by rising tid: of each thread its tid and what is known of it.
     /// It takes no memory.
     pub fn walk(&self) -> Walk<'_>
         ensures whole { result ≡ self.now }
@@ -171,12 +170,6 @@ fn renew(known: &mut Known, message: &Message)
     let Message::Thread { tseq, change, .. } = message else {
         return;
     };
-    match change {
-        Change::Created { facts } => known.facts = *facts,
-        Change::Blocked { .. } => known.facts.runnable = false,
-        Change::Wakeup => known.facts.runnable = true,
-        Change::Affinity { mask, .. } => known.facts.mask = *mask,
-        Change::Preempted { .. } | Change::Yield { .. } | Change::Dead { .. } => {}
-    }
+    known.facts.change(change);
     known.tseq = *tseq;
 }

@@ -2,12 +2,12 @@ ghost use Rattle.std.specs.Prelude.{◌≡◌};
 ghost use Rattle.std.specs.Iterator.{YieldsFirstBy, item_count};
 ghost use Rattle.gs_view.specs.Shown.{record_shown};
 
-use gs_layout::{Facts, Known};
+use gs_layout::Known;
 use std::collections::btree_map::Iter;
 use std::marker::Model;
 
-/// The records of a view that a walk has still to show, by rising tid: of each thread its tid, its
-/// facts and its sequence number.
+/// The records of a view that a walk has still to show, by rising tid: of each thread its tid and
+/// what is known of it.
 #[derive(Drop)]
 pub struct Walk<'a> {
     records: Iter<'a, u32, Known>,
@@ -32,14 +32,14 @@ impl<'a> Walk<'a> {
 }
 
 impl<'a> Iterator for Walk<'a> {
-    type Item = (u32, &'a Facts, u32);
+    type Item = (u32, &'a Known);
 
     ghost next_gives = { YieldsFirstBy record_shown (λ walk. walk) };
 
     ghost remaining = { item_count (λ walk. walk) };
 
-    fn next(&mut self) -> Option<(u32, &'a Facts, u32)> {
+    fn next(&mut self) -> Option<(u32, &'a Known)> {
         let (tid, known) = self.records.next()?;
-        Some((*tid, &known.facts, known.tseq))
+        Some((*tid, known))
     }
 }

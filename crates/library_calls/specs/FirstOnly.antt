@@ -5,7 +5,7 @@ use Rattle.std.proofs.lemmas.Bool.{and_parts, eq-eqb, or_left}
 use Rattle.gs_layout.specs.declared.known.Known.{Known}
 use Rattle.gs_status.specs.declared.mask.TheConstants.{MOST_CPUS}
 use Rattle.gs_status.specs.Masks.{has, least}
-use Rattle.gs_status.proofs.Least.{least_passes}
+use Rattle.gs_status.proofs.Laws.{least_passes}
 use Rattle.gs_runq.specs.Queue.{is_in, Apart}
 use Rattle.gs_beliefs.specs.Cpus.{is_free}
 use Rattle.gs_policy.specs.declared.choice.Choice.{Choice}

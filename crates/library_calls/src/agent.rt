@@ -284,8 +284,7 @@ fn counted<P: Counted>(role: &Role<P>, taken: Mask) -> usize {
 
 /// The number that is known of thread 7.
 fn seventh(role: &Role<Idler>) -> Option<u32> {
-    let (_, tseq) = role.view().get(7)?;
-    Some(tseq)
+    Some(role.view().get(7)?.tseq)
 }
 
 /// The first drain of a ring that a role does not answer as a row says, or after which it knows something else.
@@ -308,7 +307,7 @@ fn first_wrong_drain(
 }
 
 /// Stamps a thread that is to preempt into the slot of a CPU of the region.
-#[tactic(auto, using(gs_slots::proofs::Lent::set_as_it_was))]
+#[tactic(auto, using(gs_slots::proofs::Laws::set_as_it_was))]
 fn stamp_one(
     role: &mut Role<Idler>,
     region: &mut Region,

@@ -69,30 +69,32 @@ const MOST_TICKS: [BeliefRow; 2] = [
 ];
 
 /// A mask that leaves the thread on its CPU gives it a number, and a block takes it off.
-const HEARS: [BeliefRow; 4] = [
-    (Place(1, 7, 4), Some((7, 4, 0)), None, true),
-    (Hear(Tick(1)), Some((7, 4, 1)), None, true),
-    (
-        Hear(Thread(
-            7,
-            5,
-            Change::Affinity {
-                cpu: Some(1),
-                off: false,
-                mask: 2,
-            },
-        )),
-        Some((7, 5, 1)),
-        None,
-        true,
-    ),
-    (
-        Hear(Thread(7, 6, Change::Blocked { cpu: 1 })),
-        None,
-        None,
-        false,
-    ),
-];
+fn hears() -> [BeliefRow; 4] {
+    [
+        (Place(1, 7, 4), Some((7, 4, 0)), None, true),
+        (Hear(Tick(1)), Some((7, 4, 1)), None, true),
+        (
+            Hear(Thread(
+                7,
+                5,
+                Change::Affinity {
+                    cpu: Some(1),
+                    off: false,
+                    mask: Mask::new(2),
+                },
+            )),
+            Some((7, 5, 1)),
+            None,
+            true,
+        ),
+        (
+            Hear(Thread(7, 6, Change::Blocked { cpu: 1 })),
+            None,
+            None,
+            false,
+        ),
+    ]
+}
 
 /// Only `Placed` and `AlreadyPlaced` say where a thread is.
 const LEARNS: [BeliefRow; 4] = [
@@ -243,7 +245,7 @@ fn try_most_ticks(alloc: Global) -> Tried {
 }
 
 fn try_hears(alloc: Global) -> Tried {
-    tried_beliefs(alloc, &HEARS)
+    tried_beliefs(alloc, &hears())
 }
 
 fn try_learns(alloc: Global) -> Tried {

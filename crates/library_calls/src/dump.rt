@@ -4,6 +4,7 @@ ghost use Rattle.std.specs.Prelude.{◌≤◌, IfSome};
 use crate::messages::Tried;
 use gs_dump::{DumpRecord, Page, PageFault, read_page, write_page};
 use gs_layout::{Class, MOST_TIDS};
+use gs_status::Mask;
 use std::alloc::{AllocError, Global};
 use std::test::Fail;
 
@@ -191,7 +192,7 @@ fn is_fifth(record: &DumpRecord) -> bool {
         && record.tseq == 7
         && record.cpu == Some(63)
         && facts.runnable
-        && facts.mask == 0x8000_0000_0000_0002
+        && facts.mask == Mask::new(0x8000_0000_0000_0002)
         && facts.class == Class::Zero
         && facts.name.as_bytes() == b"".as_slice()
 }
@@ -203,7 +204,7 @@ fn is_second(record: &DumpRecord) -> bool {
         && record.tseq == 4_294_967_294
         && record.cpu.is_none()
         && !facts.runnable
-        && facts.mask == 0x8000_0000_0000_0000
+        && facts.mask == Mask::new(0x8000_0000_0000_0000)
         && facts.class == Class::One
         && facts.name.as_bytes() == b"sixteenbyteslong".as_slice()
 }

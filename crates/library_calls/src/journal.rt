@@ -2,6 +2,7 @@
 use crate::layout::{Life, NOT_RUNNABLE, ON_CPU_1_ALONE, RUNNABLE, facts, life_of};
 use gs_journal::{Entry, Journal};
 use gs_layout::{Change, Facts, Message, Refusal};
+use gs_status::Mask;
 use std::alloc::Global;
 
 /// What is done with a journal.
@@ -94,7 +95,7 @@ fn life_entries(facts: Facts) -> [Entry; 7] {
     let off = Change::Affinity {
         cpu: Some(0),
         off: true,
-        mask: 2,
+        mask: Mask::new(2),
     };
     [
         posted(5, Change::Created { facts }),

@@ -7,6 +7,7 @@ use gs_kernel::{Answer, Command, Kernel, Settings, ThreadEvent};
 use gs_layout::{Change, Class, Facts, Message, Name, Outcome, Refusal};
 use gs_ring::ByteRing;
 use gs_slots::Stamp;
+use gs_status::Mask;
 use std::alloc::Global;
 
 /// The generation of the first agent: one more is the last.
@@ -279,7 +280,7 @@ fn came_of(answer: &Answer) -> Came {
 fn create(kernel: &mut Kernel<ByteRing>, mask: u64) -> Option<Came> {
     let facts = Facts {
         runnable: true,
-        mask,
+        mask: Mask::new(mask),
         class: Class::Zero,
         name: Name::new(b"web")?,
     };
@@ -327,7 +328,7 @@ fn is_page(page: &Page, threads: &[Shown], next: Option<u32>) -> bool {
             return false;
         };
         let facts = &record.facts;
-        let named = facts.mask == 7 && facts.name.as_bytes() == b"web".as_slice();
+        let named = facts.mask == Mask::new(7) && facts.name.as_bytes() == b"web".as_slice();
         if !named || (record.tid, record.tseq, record.cpu) != *thread {
             return false;
         }

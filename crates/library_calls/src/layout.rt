@@ -1,5 +1,6 @@
 //! How messages are spelt, and which bytes are a name.
 use gs_layout::{Change, Class, Facts, Message, Name, Record, encode_message, message_len};
+use gs_status::Mask;
 
 /// How many bytes the longest message has.
 const MOST: usize = 48;
@@ -39,7 +40,7 @@ pub(crate) const BLOCKED: [u8; 16] = [
 pub(crate) fn facts(name: &[u8]) -> Option<Facts> {
     Some(Facts {
         runnable: true,
-        mask: 3,
+        mask: Mask::new(3),
         class: Class::Zero,
         name: Name::new(name)?,
     })
@@ -77,7 +78,7 @@ pub(crate) fn life_of(record: &Record) -> Life {
         Record::Dead => Life::Dead,
         Record::Live { facts } => Life::Live {
             runnable: facts.runnable,
-            mask: facts.mask,
+            mask: facts.mask.bits(),
         },
     }
 }
@@ -118,12 +119,12 @@ fn spells_messages(rt: HostRuntime) {
     let off = Change::Affinity {
         cpu: Some(1),
         off: true,
-        mask: 1,
+        mask: Mask::new(1),
     };
     let on_no_cpu = Change::Affinity {
         cpu: None,
         off: false,
-        mask: 9_223_372_036_854_775_808,
+        mask: Mask::new(9_223_372_036_854_775_808),
     };
     // A message, how many bytes there is room for, and the message's own bytes.
     let rows: [(Message, usize, &[u8]); 5] = [

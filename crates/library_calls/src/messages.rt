@@ -5,7 +5,7 @@ ghost use Rattle.std.specs.Prelude.{◌≡◌, IfSome, true};
 ghost use Rattle.gs_layout.specs.Spelling.{IsSpellable, IsSpellableChange};
 
 use gs_layout::{Change, Class, Facts, MOST_TIDS, Message, Name};
-use gs_status::MOST_CPUS;
+use gs_status::{MOST_CPUS, Mask};
 
 /// What came of a table.
 #[derive(Clone, Copy, PartialEq, Eq, Debug)]
@@ -58,7 +58,7 @@ impl Told {
 pub(crate) fn creation(class: Class, mask: u64, name: &str) -> Option<Change> {
     let facts = Facts {
         runnable: true,
-        mask,
+        mask: Mask::new(mask),
         class,
         name: Name::new(name.as_bytes())?,
     };
@@ -90,7 +90,7 @@ fn is_spellable(change: &Change) -> bool
     ensures { result ≡ true → IsSpellableChange change.now }
 {
     match change {
-        Change::Created { facts } => facts.mask > 0 && Name::is_name(facts.name.as_bytes()),
+        Change::Created { facts } => facts.mask.bits() > 0 && Name::is_name(facts.name.as_bytes()),
         Change::Blocked { cpu }
         | Change::Preempted { cpu }
         | Change::Yield { cpu }
@@ -100,11 +100,11 @@ fn is_spellable(change: &Change) -> bool
             cpu: None,
             off,
             mask,
-        } => !*off && *mask > 0,
+        } => !*off && mask.bits() > 0,
         Change::Affinity {
             cpu: Some(cpu),
             mask,
             ..
-        } => *cpu < MOST_CPUS && *mask > 0,
+        } => *cpu < MOST_CPUS && mask.bits() > 0,
     }
 }

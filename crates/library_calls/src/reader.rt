@@ -3,6 +3,7 @@ use crate::layout::{AFFINITY, BLOCKED, CREATED, TIMER_TICK, facts};
 use crate::messages::about;
 use gs_layout::{Change, Class, Kind, Message, Parcel};
 use gs_reader::{Item, MessageRef, ReadFault, Records, read_one};
+use gs_status::Mask;
 
 const PAD: [u8; 8] = [0x08, 0x00, 0x09, 0x00, 0x00, 0x00, 0x00, 0x00];
 
@@ -107,12 +108,17 @@ fn refused(bytes: &[u8]) -> Option<ReadFault> {
     read_one(bytes).err()
 }
 
+/// The bits of a mask, where there is one.
+fn bits_of(mask: Option<Mask>) -> Option<u64> {
+    Some(mask?.bits())
+}
+
 /// Whether a message has these fields.
 fn has_fields(found: &MessageRef<'_>, wanted: &Fields<'_>) -> bool {
     found.kind() == wanted.kind
         && (found.tid(), found.tseq()) == (wanted.tid, wanted.tseq)
         && (found.cpu(), found.flags()) == (wanted.cpu, wanted.flags)
-        && (found.mask(), found.class()) == (wanted.mask, wanted.class)
+        && (bits_of(found.mask()), found.class()) == (wanted.mask, wanted.class)
         && found.name() == wanted.name
         && found.takes_off_cpu() == wanted.takes_off_cpu
 }
@@ -301,29 +307,31 @@ fn is_creation_held() -> bool {
 }
 
 /// What happened to thread 7, and whether that takes it off its CPU.
-const TAKES_OFF_CPU: [(Change, bool); 7] = [
-    (Change::Blocked { cpu: 1 }, true),
-    (Change::Wakeup, false),
-    (Change::Preempted { cpu: 1 }, true),
-    (Change::Yield { cpu: 1 }, true),
-    (Change::Dead { cpu: None }, true),
-    (
-        Change::Affinity {
-            cpu: Some(1),
-            off: true,
-            mask: 1,
-        },
-        true,
-    ),
-    (
-        Change::Affinity {
-            cpu: Some(1),
-            off: false,
-            mask: 3,
-        },
-        false,
-    ),
-];
+fn changes() -> [(Change, bool); 7] {
+    [
+        (Change::Blocked { cpu: 1 }, true),
+        (Change::Wakeup, false),
+        (Change::Preempted { cpu: 1 }, true),
+        (Change::Yield { cpu: 1 }, true),
+        (Change::Dead { cpu: None }, true),
+        (
+            Change::Affinity {
+                cpu: Some(1),
+                off: true,
+                mask: Mask::new(1),
+            },
+            true,
+        ),
+        (
+            Change::Affinity {
+                cpu: Some(1),
+                off: false,
+                mask: Mask::new(3),
+            },
+            false,
+        ),
+    ]
+}
 
 /// Whether a message in a parcel takes thread 7 off its CPU.
 fn takes_off_cpu(change: Change) -> Option<bool> {
@@ -333,7 +341,8 @@ fn takes_off_cpu(change: Change) -> Option<bool> {
 
 /// The first change that takes its thread off its CPU otherwise.
 fn first_wrong_change() -> Option<usize> {
-    for (index, (change, wanted)) in TAKES_OFF_CPU.iter().enumerate() {
+    let rows = changes();
+    for (index, (change, wanted)) in rows.iter().enumerate() {
         if takes_off_cpu(*change) != Some(*wanted) {
             return Some(index);
         }

@@ -9,6 +9,7 @@ use crate::messages::Told::{self, Creation, Tick};
 use crate::messages::Tried;
 use gs_layout::{Change, Class, Message};
 use gs_ring::{ByteRing, Poster, RingFault, Taker};
+use gs_status::Mask;
 use std::alloc::{AllocError, Global};
 use std::test::Fail;
 
@@ -211,7 +212,7 @@ fn is_created(message: &Message, tid: u32) -> bool {
     };
     (*of, *tseq) == (tid, 1)
         && facts.runnable
-        && facts.mask == 3
+        && facts.mask == Mask::new(3)
         && facts.class == Class::Zero
         && facts.name.as_bytes() == LONG.as_bytes()
 }

@@ -12,7 +12,7 @@ use std::alloc::Global;
 use std::thread::{Threads, join_mut};
 
 /// A transaction is stamped into the slot of a CPU.
-#[tactic(auto, using(gs_slots::proofs::Lent::set_as_it_was))]
+#[tactic(auto, using(gs_slots::proofs::Laws::set_as_it_was))]
 fn stamp_one(region: &mut Region, cpu: u16, tid: u32) -> Result<(), SlotBusy>
     requires { cpu < length region.old }
     ensures exact { slice_get region.old cpu ≡ Some SlotState.Idle → IsOk result }
@@ -58,7 +58,7 @@ fn refuse(count: &mut u64, slot: SlotMut<'_>) -> Option<u32>
 }
 
 /// All stamped transactions are refused, by rising CPU.
-#[tactic(auto, using(gs_slots::proofs::Lent::changed_more))]
+#[tactic(auto, using(gs_slots::proofs::Laws::changed_more))]
 fn refuse_all(region: &mut Region)
     ensures { region.new ≡ map (finished Outcome.Stale None 7) region.old }
 {

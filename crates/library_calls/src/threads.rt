@@ -1,6 +1,7 @@
 //! What a table of threads has of each thread, and which threads it shows.
 use crate::layout::{Life, NOT_RUNNABLE, ON_CPU_1_ALONE, RUNNABLE, facts, life_of, thread_message};
 use gs_layout::{Change, MOST_TIDS, Message};
+use gs_status::Mask;
 use gs_threads::ThreadTable;
 
 /// A thread's sequence number, the CPU that it is on, and what it is.
@@ -31,12 +32,12 @@ fn life_steps() -> [(Step, Seen); 16] {
     let stays = Change::Affinity {
         cpu: Some(0),
         off: false,
-        mask: 1,
+        mask: Mask::new(1),
     };
     let leaves = Change::Affinity {
         cpu: Some(0),
         off: true,
-        mask: 2,
+        mask: Mask::new(2),
     };
     [
         (Step::Place(2, Some(1)), (5, Some(1), RUNNABLE)),

@@ -5,6 +5,7 @@ ghost use Rattle.gs_layout.specs.Spelling.{IsSpellable};
 use crate::messages::Told::{self, Creation, Thread, Tick};
 use gs_layout::{Change, Class, Facts, Message, Parcel};
 use gs_reader::MessageRef;
+use gs_status::Mask;
 use gs_view::{AgentView, ApplyFault, Taken};
 use std::test::Fail;
 
@@ -24,101 +25,103 @@ const ORPHAN: Result<Taken, ApplyFault> = Ok(Taken::Orphan);
 const GAP: Result<Taken, ApplyFault> = Err(ApplyFault::Gap);
 
 /// Thread 7 from its creation to its death, with messages between that do not come next.
-const LIFE: [Row; 15] = [
-    (
-        Creation(7, 5, Class::Zero, 3, "web"),
-        APPLIED,
-        7,
-        Some((true, 3, 5)),
-        1,
-    ),
-    // The view knows these already.
-    (
-        Thread(7, 5, Change::Blocked { cpu: 1 }),
-        SKIPPED,
-        7,
-        Some((true, 3, 5)),
-        1,
-    ),
-    (
-        Thread(7, 1, Change::Dead { cpu: None }),
-        SKIPPED,
-        7,
-        Some((true, 3, 5)),
-        1,
-    ),
-    // It knows nothing of these threads.
-    (Thread(8, 6, Change::Wakeup), ORPHAN, 8, None, 1),
-    (Thread(6, 1, Change::Dead { cpu: None }), ORPHAN, 8, None, 1),
-    (Tick(1), APPLIED, 7, Some((true, 3, 5)), 1),
-    // A message is missing before these.
-    (
-        Thread(7, 7, Change::Blocked { cpu: 1 }),
-        GAP,
-        7,
-        Some((true, 3, 5)),
-        1,
-    ),
-    (
-        Thread(7, 9, Change::Dead { cpu: None }),
-        GAP,
-        7,
-        Some((true, 3, 5)),
-        1,
-    ),
-    // The one that was missing still fits.
-    (
-        Thread(7, 6, Change::Blocked { cpu: 1 }),
-        APPLIED,
-        7,
-        Some((false, 3, 6)),
-        1,
-    ),
-    (
-        Thread(7, 7, Change::Wakeup),
-        APPLIED,
-        7,
-        Some((true, 3, 7)),
-        1,
-    ),
-    (
-        Thread(
+fn life() -> [Row; 15] {
+    [
+        (
+            Creation(7, 5, Class::Zero, 3, "web"),
+            APPLIED,
             7,
-            8,
-            Change::Affinity {
-                cpu: Some(1),
-                off: true,
-                mask: 4,
-            },
+            Some((true, 3, 5)),
+            1,
         ),
-        APPLIED,
-        7,
-        Some((true, 4, 8)),
-        1,
-    ),
-    (
-        Thread(7, 9, Change::Preempted { cpu: 2 }),
-        APPLIED,
-        7,
-        Some((true, 4, 9)),
-        1,
-    ),
-    (
-        Thread(7, 10, Change::Yield { cpu: 2 }),
-        APPLIED,
-        7,
-        Some((true, 4, 10)),
-        1,
-    ),
-    (
-        Thread(7, 11, Change::Dead { cpu: Some(2) }),
-        APPLIED,
-        7,
-        None,
-        0,
-    ),
-    (Thread(7, 12, Change::Wakeup), ORPHAN, 7, None, 0),
-];
+        // The view knows these already.
+        (
+            Thread(7, 5, Change::Blocked { cpu: 1 }),
+            SKIPPED,
+            7,
+            Some((true, 3, 5)),
+            1,
+        ),
+        (
+            Thread(7, 1, Change::Dead { cpu: None }),
+            SKIPPED,
+            7,
+            Some((true, 3, 5)),
+            1,
+        ),
+        // It knows nothing of these threads.
+        (Thread(8, 6, Change::Wakeup), ORPHAN, 8, None, 1),
+        (Thread(6, 1, Change::Dead { cpu: None }), ORPHAN, 8, None, 1),
+        (Tick(1), APPLIED, 7, Some((true, 3, 5)), 1),
+        // A message is missing before these.
+        (
+            Thread(7, 7, Change::Blocked { cpu: 1 }),
+            GAP,
+            7,
+            Some((true, 3, 5)),
+            1,
+        ),
+        (
+            Thread(7, 9, Change::Dead { cpu: None }),
+            GAP,
+            7,
+            Some((true, 3, 5)),
+            1,
+        ),
+        // The one that was missing still fits.
+        (
+            Thread(7, 6, Change::Blocked { cpu: 1 }),
+            APPLIED,
+            7,
+            Some((false, 3, 6)),
+            1,
+        ),
+        (
+            Thread(7, 7, Change::Wakeup),
+            APPLIED,
+            7,
+            Some((true, 3, 7)),
+            1,
+        ),
+        (
+            Thread(
+                7,
+                8,
+                Change::Affinity {
+                    cpu: Some(1),
+                    off: true,
+                    mask: Mask::new(4),
+                },
+            ),
+            APPLIED,
+            7,
+            Some((true, 4, 8)),
+            1,
+        ),
+        (
+            Thread(7, 9, Change::Preempted { cpu: 2 }),
+            APPLIED,
+            7,
+            Some((true, 4, 9)),
+            1,
+        ),
+        (
+            Thread(7, 10, Change::Yield { cpu: 2 }),
+            APPLIED,
+            7,
+            Some((true, 4, 10)),
+            1,
+        ),
+        (
+            Thread(7, 11, Change::Dead { cpu: Some(2) }),
+            APPLIED,
+            7,
+            None,
+            0,
+        ),
+        (Thread(7, 12, Change::Wakeup), ORPHAN, 7, None, 0),
+    ]
+}
 
 /// Threads that come in no order, of which one blocks and one dies.
 const SEVERAL: [Row; 7] = [
@@ -186,8 +189,9 @@ pub(crate) fn send(view: &mut AgentView, message: &Message) -> Result<Taken, App
 
 /// What is known of a thread.
 fn seen(view: &AgentView, tid: u32) -> Seen {
-    let (facts, tseq) = view.get(tid)?;
-    Some((facts.runnable, facts.mask, tseq))
+    let known = view.get(tid)?;
+    let facts = &known.facts;
+    Some((facts.runnable, facts.mask.bits(), known.tseq))
 }
 
 /// Whether the view answers as a row says, and knows then what it says.
@@ -216,10 +220,10 @@ fn first_wrong(view: &mut AgentView, rows: &[Row]) -> Option<usize> {
 pub(crate) fn shows(view: &AgentView, expected: &[(u32, bool, u32)]) -> bool {
     let mut walk = view.walk();
     for row in expected {
-        let Some((tid, facts, tseq)) = walk.next() else {
+        let Some((tid, known)) = walk.next() else {
             return false;
         };
-        if (tid, facts.runnable, tseq) != *row {
+        if (tid, known.facts.runnable, known.tseq) != *row {
             return false;
         }
     }
@@ -229,18 +233,18 @@ pub(crate) fn shows(view: &AgentView, expected: &[(u32, bool, u32)]) -> bool {
 /// Whether these are the facts of the creation of thread 7.
 fn is_web(facts: &Facts) -> bool {
     facts.runnable
-        && facts.mask == 3
+        && facts.mask == Mask::new(3)
         && facts.class == Class::Zero
         && facts.name.as_bytes() == b"web".as_slice()
 }
 
 /// Whether the view knows thread 7, at number 5 and by all facts of its creation, and no neighbour of it.
 fn knows_seventh_alone(view: &AgentView) -> bool {
-    let Some((facts, tseq)) = view.get(7) else {
+    let Some(known) = view.get(7) else {
         return false;
     };
     let mut neighbours = [0, 6, 8, u32::MAX].iter();
-    is_web(facts) && tseq == 5 && neighbours.all(|tid| view.get(*tid).is_none())
+    is_web(&known.facts) && known.tseq == 5 && neighbours.all(|tid| view.get(*tid).is_none())
 }
 
 /// Whether nothing is known yet.
@@ -250,12 +254,12 @@ fn is_blank(view: &AgentView) -> bool {
 
 // A function for each table: a proof is cheaper where it sees one table alone.
 fn try_life(view: &mut AgentView) -> Option<usize> {
-    first_wrong(view, &LIFE)
+    first_wrong(view, &life())
 }
 
 /// Creates thread 7 anew, after its life.
 fn try_birth(view: &mut AgentView) -> Option<usize> {
-    first_wrong(view, &LIFE[..1])
+    first_wrong(view, &life()[..1])
 }
 
 fn try_several(view: &mut AgentView) -> Option<usize> {

@@ -44,14 +44,14 @@ impl RoundRobin {
         let Some(running) = shown.cpus.believed(cpu) else {
             return false;
         };
-        let Some((facts, _)) = shown.view.get(running.tid) else {
+        let Some(known) = shown.view.get(running.tid) else {
             return false;
         };
-        self.slice_of(facts.class) <= running.ticks
+        self.slice_of(known.facts.class) <= running.ticks
     }
 
     /// The CPUs whose threads have had their slices.
-    #[tactic(auto, using(gs_status::proofs::Marking::marked_if))]
+    #[tactic(auto, using(gs_status::proofs::Laws::marked_if))]
     fn spent_cpus(&self, shown: &Shown<'_>) -> Mask
         ensures { (c : ℕ) → has result c ≡ turn_is_over self.now (shows shown.now) c }
     {

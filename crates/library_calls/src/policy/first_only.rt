@@ -5,20 +5,19 @@ ghost use Rattle.gs_policy.specs.Shown.{shows};
 ghost use Rattle.library_calls.specs.FirstOnly.{free_for};
 
 use gs_policy::{Choice, Policy, Shown};
-use gs_status::Mask;
 use std::alloc::{AllocError, Global};
 
 /// Only the thread that waits first is placed, on the least free CPU of its mask.
 pub(super) struct FirstOnly;
 
 /// The least free CPU of a thread's mask.
-#[tactic(auto, using(gs_status::proofs::Least::least_same))]
+#[tactic(auto, using(gs_status::proofs::Laws::least_same))]
 fn free_for(shown: &Shown<'_>, tid: u32) -> Option<u16>
     ensures { result ≡ free_for (shows shown.now) ((shows shown.now).view tid) }
 {
-    let (facts, _) = shown.view.get(tid)?;
+    let known = shown.view.get(tid)?;
     let free = shown.cpus.free(shown.taken);
-    free.both(Mask::new(facts.mask)).lowest()
+    free.both(known.facts.mask).lowest()
 }
 
 impl Policy for FirstOnly {

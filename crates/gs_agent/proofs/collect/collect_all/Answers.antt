@@ -2,7 +2,7 @@ use Rattle.std.proofs.Common.{◌≡◌, ap, sym, ◌∙◌, ℕ, List, Some, sl
 use Rattle.gs_slots.specs.declared.state.SlotState.{SlotState}
 use Rattle.gs_slots.specs.SlotMut.{state_of}
 use Rattle.gs_slots.specs.State.{collected}
-use Rattle.gs_slots.proofs.Lent.{changed_more}
+use Rattle.gs_slots.proofs.Laws.{changed_more}
 use Rattle.gs_mind.specs.Mind.{picture_of, thinks}
 use Rattle.gs_mind.specs.Picture.{after_slot}
 use Rattle.gs_agent.proofs.Collecting.{collected_more, rest_stays}

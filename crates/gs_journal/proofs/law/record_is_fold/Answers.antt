@@ -1,5 +1,5 @@
 use Rattle.gs_journal.proofs.Folds.{record_in-fold}
-use Rattle.gs_journal.proofs.Laws.{record_push}
+use Rattle.gs_journal.proofs.Steps.{record_push}
 use Rattle.gs_journal.proofs.law.record_is_fold.Goals as goal
 
 pub returns : goal.returns

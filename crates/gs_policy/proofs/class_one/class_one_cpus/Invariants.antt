@@ -1,4 +1,4 @@
-use Rattle.gs_status.proofs.Marking.{IsMarked}
+use Rattle.gs_status.proofs.Laws.{IsMarked}
 use Rattle.gs_policy.specs.Plan.{runs_one}
 use Rattle.gs_policy.specs.Shown.{shows}
 use Rattle.gs_policy.proofs.class_one.class_one_cpus.Given as goal

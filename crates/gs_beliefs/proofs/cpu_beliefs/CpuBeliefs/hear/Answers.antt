@@ -1,5 +1,5 @@
 use Rattle.std.proofs.Common.{sym, ◌∙◌}
-use Rattle.gs_beliefs.proofs.Laws.{hears_number}
+use Rattle.gs_beliefs.proofs.Believed.{hears_number}
 use Rattle.gs_beliefs.proofs.cpu_beliefs.CpuBeliefs.hear.Goals as goal
 
 pub returns-else-takes_off_cpu : goal.returns-else-takes_off_cpu

@@ -1,6 +1,6 @@
 use Rattle.gs_status.specs.Masks.{has}
 use Rattle.gs_beliefs.specs.Cpus.{is_usable}
-use Rattle.gs_status.proofs.Marking.{IsMarked}
+use Rattle.gs_status.proofs.Laws.{IsMarked}
 use Rattle.gs_beliefs.proofs.cpu_beliefs.CpuBeliefs.usable.Given as goal
 
 abbrev pub invariant-loop-cpu : goal.invariant-loop-cpu

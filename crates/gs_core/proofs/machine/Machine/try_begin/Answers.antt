@@ -7,8 +7,7 @@ use Rattle.gs_kernel.specs.declared.command.Command.TheVariants as commands
 use Rattle.gs_kernel.specs.Kernel.{is_last_generation, next_generation}
 use Rattle.gs_kernel.specs.Legal.{paged_by}
 use Rattle.gs_kernel.specs.declared.answer.Answer.TheVariants as answers
-use Rattle.gs_kernel.proofs.OtherClass.{begins_when}
-use Rattle.gs_kernel.proofs.Refusals.{free_when}
+use Rattle.gs_kernel.proofs.Laws.{begins_when, free_when}
 use Rattle.gs_agent.specs.Role.{RoleOf}
 use Rattle.gs_core.specs.Machine.{newcomer}
 use Rattle.gs_core.specs.Good.{Good}

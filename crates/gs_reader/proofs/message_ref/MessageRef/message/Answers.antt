@@ -1,4 +1,4 @@
-use Rattle.gs_layout.proofs.Parcels.{spelled_begins}
+use Rattle.gs_layout.proofs.Laws.{spelled_begins}
 use Rattle.gs_reader.proofs.message_ref.MessageRef.message.Goals as goal
 
 pub returns : goal.returns

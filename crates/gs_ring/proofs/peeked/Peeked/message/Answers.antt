@@ -4,7 +4,7 @@ use Rattle.std.proofs.lemmas.List.{take-append-drop}
 use Rattle.gs_layout.specs.declared.message.Message.{Message}
 use Rattle.gs_layout.specs.Reading.{message_in}
 use Rattle.gs_layout.specs.Spelling.{spelling}
-use Rattle.gs_layout.proofs.ReadBack.{read_back}
+use Rattle.gs_layout.proofs.Laws.{read_back}
 use Rattle.gs_reader.specs.declared.fault.ReadFault.{ReadFault}
 use Rattle.gs_reader.specs.declared.item.Item.{Item}
 use Rattle.gs_reader.specs.declared.item.Item.TheVariants as items

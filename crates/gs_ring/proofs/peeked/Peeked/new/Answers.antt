@@ -2,9 +2,9 @@ use Rattle.std.proofs.Common.{◌≡◌, true, ℕ, List, [], ap, sym, ◌∙◌
 use Rattle.gs_layout.specs.declared.message.Message.{Message}
 use Rattle.gs_layout.specs.Reading.{message_in}
 use Rattle.gs_layout.specs.Spelling.{IsSpellable, spelling}
-use Rattle.gs_layout.proofs.ReadBack.{read_back}
+use Rattle.gs_layout.proofs.Laws.{read_back}
 use Rattle.gs_reader.specs.Reading.{read}
-use Rattle.gs_reader.proofs.Again.{message_again}
+use Rattle.gs_reader.proofs.Laws.{message_again}
 use Rattle.gs_ring.specs.Peek.{message_of}
 use Rattle.gs_ring.specs.Spelled.{finds_message, is_message}
 use Rattle.gs_ring.proofs.peeked.Peeked.new.Goals as goal

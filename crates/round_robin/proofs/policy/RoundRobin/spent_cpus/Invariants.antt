@@ -1,4 +1,4 @@
-use Rattle.gs_status.proofs.Marking.{IsMarked}
+use Rattle.gs_status.proofs.Laws.{IsMarked}
 use Rattle.gs_policy.specs.Shown.{shows}
 use Rattle.round_robin.specs.RoundRobin.{turn_is_over}
 use Rattle.round_robin.proofs.policy.RoundRobin.spent_cpus.Given as goal

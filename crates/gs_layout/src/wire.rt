@@ -1,0 +1,41 @@
+//! Where the parts of a message stand in its bytes, and how long each is. The writer, the reader and the ring
+//! take them from here.
+
+/// Where the kind of a message, or of a PAD, stands, behind its length.
+pub const KIND_AT: usize = 2;
+
+/// Where the thread that a message is about stands.
+pub const TID_AT: usize = 4;
+
+/// Where a message's sequence number stands.
+pub const TSEQ_AT: usize = 8;
+
+/// Where the CPU stands that the thread was on, or that ticked.
+pub const CPU_AT: usize = 12;
+
+/// Where the flags of a message stand.
+pub const FLAGS_AT: usize = 14;
+
+/// How many bytes the header of a message has. All messages but creations and new masks end there.
+pub const HEADER_LEN: usize = 16;
+
+/// How many bytes a new mask has.
+pub const AFFINITY_LEN: usize = 24;
+
+/// The most bytes that a message has: a creation whose name is as long as a name may be.
+pub const MOST_MESSAGE_LEN: usize = 48;
+
+/// Where the mask of a creation or of a new mask begins.
+pub const MASK_AT: usize = HEADER_LEN;
+
+/// Where the class of a creation stands.
+pub const CLASS_AT: usize = 24;
+
+/// Where the length of a creation's name stands.
+pub const NAME_LEN_AT: usize = 25;
+
+/// Where the name of a creation begins.
+pub const NAME_AT: usize = 26;
+
+/// The kind of a PAD: bytes in a ring that are passed over.
+pub const PAD: u16 = 9;

@@ -1,0 +1,3 @@
+-- What the proofs of the crates above cite of this crate.
+pub use Rattle.gs_mind.proofs.Believing.{stamped_outcome}
+pub use Rattle.gs_mind.proofs.Views.{view_takes, view_takes_all}
