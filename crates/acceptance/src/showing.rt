@@ -11,55 +11,57 @@ use std::alloc::{AllocError, Global};
 use std::test::Fail;
 
 /// Changes, of which thread and with which number, and what is written where a message about them waits.
-const CHANGES: [(u32, u32, Change, &str); 7] = [
-    (
-        7,
-        3,
-        Change::Blocked { cpu: 2 },
-        "unread blocked 7 seq 3 cpu 2\n",
-    ),
-    (7, 4, Change::Wakeup, "unread wakeup 7 seq 4 cpu -\n"),
-    (
-        65_536,
-        u32::MAX,
-        Change::Preempted { cpu: 0 },
-        "unread preempted 65536 seq 4294967295 cpu 0\n",
-    ),
-    (
-        1,
-        2,
-        Change::Yield { cpu: 63 },
-        "unread yield 1 seq 2 cpu 63\n",
-    ),
-    (
-        1,
-        3,
-        Change::Dead { cpu: None },
-        "unread dead 1 seq 3 cpu -\n",
-    ),
-    (
-        2,
-        9,
-        Change::Dead { cpu: Some(1) },
-        "unread dead 2 seq 9 cpu 1\n",
-    ),
-    (
-        3,
-        5,
-        Change::Affinity {
-            cpu: Some(4),
-            off: true,
-            mask: Mask::new(1),
-        },
-        "unread affinity 3 seq 5 cpu 4\n",
-    ),
-];
+fn changes() -> [(u32, u32, Change, &'static str); 7] {
+    [
+        (
+            7,
+            3,
+            Change::Blocked { cpu: 2 },
+            "unread blocked 7 seq 3 cpu 2\n",
+        ),
+        (7, 4, Change::Wakeup, "unread wakeup 7 seq 4 cpu -\n"),
+        (
+            65_536,
+            u32::MAX,
+            Change::Preempted { cpu: 0 },
+            "unread preempted 65536 seq 4294967295 cpu 0\n",
+        ),
+        (
+            1,
+            2,
+            Change::Yield { cpu: 63 },
+            "unread yield 1 seq 2 cpu 63\n",
+        ),
+        (
+            1,
+            3,
+            Change::Dead { cpu: None },
+            "unread dead 1 seq 3 cpu -\n",
+        ),
+        (
+            2,
+            9,
+            Change::Dead { cpu: Some(1) },
+            "unread dead 2 seq 9 cpu 1\n",
+        ),
+        (
+            3,
+            5,
+            Change::Affinity {
+                cpu: Some(4),
+                off: true,
+                mask: Mask::new(1),
+            },
+            "unread affinity 3 seq 5 cpu 4\n",
+        ),
+    ]
+}
 
-/// Whether a look at messages about all of `CHANGES` has their lines.
+/// Whether a look at messages about all of `changes` has their lines.
 fn shows_changes(alloc: Global) -> Result<bool, AllocError> {
     let mut messages = Vec::new(alloc);
     let mut wanted = String::new(alloc);
-    for (tid, tseq, change, line) in CHANGES {
+    for (tid, tseq, change, line) in changes() {
         messages.push(Message::Thread { tid, tseq, change })?;
         wanted.push_str(line)?;
     }

@@ -1,5 +1,5 @@
 -- What the arguments ask for.
-use Rattle.std.specs.Prelude.{◌≡◌, ◌≢◌, ℕ, List, [], Option, Some, Result, IfOk, IfErr, IsErrAnd, IsErrOf, IsSomeAnd, map, string_bytes}
+use Rattle.std.specs.Prelude.{◌≡◌, ◌≢◌, ℕ, true, false, List, [], Option, Some, Result, IfOk, IfErr, IsErrAnd, IsErrOf, IsSomeAnd, map, string_bytes}
 use Rattle.std.specs.Io.KnownBytes.{Keeps}
 use Rattle.std.specs.Vec.Iter.{into_iter_items}
 use Rattle.std.specs.declared.string.String.{String}
@@ -12,7 +12,8 @@ use Rattle.gs_arguments.specs.declared.arguments.Command.TheVariants as commands
 use Rattle.gs_trace.specs.Output.{IsShown, shown_as}
 use Rattle.gs_trace.specs.Streams.{AnswersAll, AnswersRead, BeginsAnswer, ConsumesAtMost}
 use Rattle.gs_trace.specs.declared.form.Form.{Form}
-use Rattle.gs_trace.specs.declared.form.Form.TheVariants.{Lines, Report}
+use Rattle.gs_trace.specs.declared.form.Form.TheVariants.{Lines, Report, Journal, Timeline}
+use Rattle.gs_trace.specs.declared.form.Notation.TheVariants as notations
 use Rattle.gs_trace.specs.declared.pipe.TheConstants.{MOST_READ_BYTES}
 use Rattle.gs_trace.specs.declared.run.Ended.{Ended}
 use Rattle.gs_trace.specs.declared.run.TraceFault.TheVariants.{WriteFailed}
@@ -24,10 +25,13 @@ use Rattle.ghost_cli.specs.declared.failure.Failure.TheVariants.{Script}
 abbrev pub texts : {Z Y : Type 0} → IntoIter (String Z) Y → List Text
 texts arguments = map string_bytes (into_iter_items arguments)
 
--- how the replies are to be shown by a command
+-- how a command shows what comes of a script
 abbrev pub form_asked : Command → Form
 form_asked commands.Run = Lines
 form_asked (commands.Report last) = Report last
+form_asked (commands.Journal false) = Journal notations.Lines
+form_asked (commands.Journal true) = Journal notations.Json
+form_asked (commands.Timeline from to) = Timeline from to
 
 -- what is to be written for an input by the command that these words give, and how that ends
 abbrev pub IsAsked : List Text → List ℕ → Ended → List ℕ → Type 0

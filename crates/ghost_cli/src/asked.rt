@@ -10,7 +10,7 @@ ghost use Rattle.ghost_cli.specs.Failures.{IsOfScript, IsUnreadBy, TellsOneOf};
 
 use crate::failure::{Failure, unread, unsettled};
 use gs_arguments::{Command, settings};
-use gs_trace::{Ended, Form, TraceFault, run_as};
+use gs_trace::{Ended, Form, Notation, TraceFault, run_as};
 use std::alloc::{AllocError, Global};
 use std::env::Args;
 use std::io;
@@ -36,17 +36,20 @@ fn command_of(alloc: Global, words: &[String]) -> Result<Command, Failure>
     }
 }
 
-/// How the replies are to be shown.
+/// How what comes of the script is to be shown.
 fn form_of(command: Command) -> Form
     ensures { result ≡ form_asked command }
 {
     match command {
         Command::Run => Form::Lines,
         Command::Report { last } => Form::Report { last },
+        Command::Journal { json: false } => Form::Journal(Notation::Lines),
+        Command::Journal { json: true } => Form::Journal(Notation::Json),
+        Command::Timeline { from, to } => Form::Timeline { from, to },
     }
 }
 
-/// Does what these words ask for: runs the script that the reader has, and writes its lines or its report.
+/// Does what these words ask for: runs the script that the reader has, and writes its lines, its report, its journal or a picture.
 fn obey<R: Read, W: Write>(
     alloc: Global,
     words: &[String],

@@ -1,7 +1,9 @@
 -- Slots are collected one after another.
-use Rattle.std.proofs.Common.{◌≡◌, refl, ap, sym, ◌∙◌, ℕ, zero, suc, ◌+◌, Some, List, [], ◌∷◌, ◌++◌, map, take, drop, slice_get, arith}
+use Rattle.std.proofs.Common.{◌≡◌, refl, ap, sym, ◌∙◌, ℕ, zero, suc, ◌+◌, ◌≤◌, length, Some, List, [], ◌∷◌, ◌++◌, map, take, drop, slice_get, arith}
+use Rattle.std.proofs.lemmas.List.{take_all}
 use Rattle.gs_slots.specs.declared.state.SlotState.{SlotState}
 use Rattle.gs_slots.specs.declared.state.SlotState.TheVariants.{Idle, Stamped, Done}
+use Rattle.gs_slots.specs.Reading.{told_by}
 use Rattle.gs_mind.specs.Mind.{MindState, picture_of, thinks}
 use Rattle.gs_mind.specs.Picture.{Picture, after_slot, after_slots}
 
@@ -33,13 +35,6 @@ view_slots c (x ∷ xs) p = view_slots (c + 1) xs (after_slot c x p) ∙ view_sl
 thought : (s : MindState) (p : Picture) → p.view ≡ (picture_of s).view → picture_of (thinks s p) ≡ p
 thought s p e = λ i. record { view = sym e i; cpus = p.cpus; queue = p.queue }
 
--- slots that are still to come are as they were
-pub rest_stays : {X : Type 0} (f : X → X) (xs : List X) (k : ℕ) → slice_get (map f (take k xs) ++ drop k xs) k ≡ slice_get xs k
-rest_stays f [] zero = refl
-rest_stays f [] (suc k) = refl
-rest_stays f (x ∷ xs) zero = refl
-rest_stays f (x ∷ xs) (suc k) = rest_stays f xs k
-
 -- a mind that collected the first k slots, and then the next
 pub collected_more : (s s' s'' : MindState) (xs : List SlotState) (k : ℕ) (x : SlotState) → slice_get xs k ≡ Some x → s' ≡ thinks s (after_slots 0 (take k xs) (picture_of s)) → s'' ≡ thinks s' (after_slot k x (picture_of s'))
     → s'' ≡ thinks s (after_slots 0 (take (k + 1) xs) (picture_of s))
@@ -48,3 +43,12 @@ collected_more s s' s'' xs k x found had next =
     next ∙ (ap (λ (z : MindState). thinks z (after_slot k x (picture_of z))) had
     ∙ (ap (λ (z : Picture). thinks s (after_slot k x z)) (thought s p (view_slots 0 (take k xs) (picture_of s)))
     ∙ ap (thinks s) (sym (one_slot_more xs k x (picture_of s) found))))
+
+-- as many slots tell as there are
+told_count : (k : ℕ) (xs : List (List ℕ)) → length (told_by k xs) ≡ length xs
+told_count k [] = refl
+told_count k (x ∷ xs) = ap suc (told_count (suc k) xs)
+
+-- past the last slot, all were collected
+pub all_told : (k : ℕ) (xs : List (List ℕ)) → length xs ≤ k → take k (told_by 0 xs) ≡ told_by 0 xs
+all_told k xs le = take_all k (told_by 0 xs) (omega (arith, told_count 0 xs, le))

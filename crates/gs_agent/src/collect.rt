@@ -1,8 +1,8 @@
 //! Slots that landed are collected.
 
-ghost use Rattle.std.specs.Prelude.{◌≡◌, map};
-ghost use Rattle.gs_slots.specs.SlotMut.{cpu_of, left_in, state_of};
-ghost use Rattle.gs_slots.specs.State.{collected};
+ghost use Rattle.std.specs.Prelude.{◌≡◌};
+ghost use Rattle.gs_slots.specs.SlotMut.{bytes_of, cpu_of, left_in, state_of};
+ghost use Rattle.gs_slots.specs.Reading.{all_collected, collected_in, state_or_idle, told_by};
 ghost use Rattle.gs_mind.specs.Mind.{picture_of, thinks};
 ghost use Rattle.gs_mind.specs.Picture.{after_slot, after_slots};
 
@@ -11,19 +11,20 @@ use gs_slots::{Region, SlotMut, SlotState};
 
 /// Takes in what became of each done slot of a region, by rising CPU, and makes it idle again.
 pub(crate) fn collect_all(mind: &mut Mind, region: &mut Region)
-    ensures region { region.new ≡ map collected region.old }
-    ensures mind { mind.new ≡ thinks mind.old (after_slots 0 region.old (picture_of mind.old)) }
+    ensures region { region.new ≡ all_collected 0 region.old }
+    ensures mind { mind.new ≡ thinks mind.old (after_slots 0 (told_by 0 region.old) (picture_of mind.old)) }
 {
     for cpu in 0..region.cpus() {
         collect_slot(mind, region.slot(cpu));
     }
 }
 
-/// Takes in what became of a done slot, and makes it idle again. Any other slot changes nothing, and
-/// stays as it is.
+/// Takes in what became of a done slot, and makes it idle again. Any other slot, a malformed one too,
+/// changes nothing, and stays as it is.
+#[tactic(auto, unfolding(gs_slots::specs::Reading::collected_in))]
 fn collect_slot(mind: &mut Mind, slot: SlotMut<'_>)
-    ensures slot { left_in slot.exit ≡ collected (state_of slot.entry) }
-    ensures mind { mind.new ≡ thinks mind.old (after_slot (cpu_of slot.entry) (state_of slot.entry) (picture_of mind.old)) }
+    ensures slot { left_in slot.exit ≡ collected_in (cpu_of slot.entry) (bytes_of slot.entry) }
+    ensures mind { mind.new ≡ thinks mind.old (after_slot (cpu_of slot.entry) (state_or_idle (state_of slot.entry)) (picture_of mind.old)) }
 {
     let Ok(state) = slot.state() else {
         return;

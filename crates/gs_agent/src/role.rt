@@ -1,10 +1,10 @@
-ghost use Rattle.std.specs.Prelude.{◌≡◌, ◌<◌, ◌≤◌, List, [], ◌∷◌, None, Some, IfErr, IfOk, IsSome, OnErr, OnOk, length, map, option_map, true};
+ghost use Rattle.std.specs.Prelude.{◌≡◌, ◌<◌, ◌≤◌, List, [], ◌∷◌, None, Some, IfErr, IfOk, IsSome, Ok, OnErr, OnOk, length, option_map, true};
 ghost use Rattle.gs_layout.specs.declared.known.Known.{Known};
 ghost use Rattle.gs_layout.specs.declared.message.Message.{Message};
 ghost use Rattle.gs_layout.specs.View.{is_gap, look_up, word};
 ghost use Rattle.gs_slots.specs.declared.state.SlotState.{SlotState};
-ghost use Rattle.gs_slots.specs.SlotMut.{cpu_of, left_in, state_of};
-ghost use Rattle.gs_slots.specs.State.{collected};
+ghost use Rattle.gs_slots.specs.SlotMut.{bytes_of, cpu_of, left_in, state_of};
+ghost use Rattle.gs_slots.specs.Reading.{all_collected, state_in, told_by};
 ghost use Rattle.gs_view.specs.Begins.{begins};
 ghost use Rattle.gs_beliefs.specs.Cpus.{believed_on};
 ghost use Rattle.gs_agent.specs.declared.drained.Stop.{Stop};
@@ -234,14 +234,14 @@ impl<P> Role<P> {
     /// # Errors
     ///
     /// The first that applies: `NoThread` where the view does not know the thread, `SlotOpen` where
-    /// the slot is not idle. Slot and role stay as they were.
+    /// the slot is not idle, malformed too. Slot and role stay as they were.
     pub fn stamp(&mut self, slot: SlotMut<'_>, tid: u32, preempt: bool) -> Result<u32, Refusal>
         ensures ok { IfOk result (λ _. stamp_refusal (look_up self.old.mind.records tid) (state_of slot.entry) ≡ None) }
         ensures number { IfOk result (λ tseq. option_map (λ (k : Known). k.tseq) (look_up self.old.mind.records tid) ≡ Some tseq) }
-        ensures stamped { IfOk result (λ tseq. left_in slot.exit ≡ SlotState.Stamped (record { generation = self.old.generation; tid = tid; tseq = tseq; preempt = preempt })) }
+        ensures stamped { IfOk result (λ tseq. state_in (cpu_of slot.entry) (left_in slot.exit) ≡ Ok (SlotState.Stamped (record { generation = self.old.generation; tid = tid; tseq = tseq; preempt = preempt }))) }
         ensures role { OnOk result (self.new ≡ record self.old { mind = thinks self.old.mind (after_stamp (cpu_of slot.entry) tid (picture_of self.old.mind)) }) }
         ensures refused { IfErr result (λ refusal. stamp_refusal (look_up self.old.mind.records tid) (state_of slot.entry) ≡ Some refusal) }
-        ensures unchanged { OnErr result (left_in slot.exit ≡ state_of slot.entry) }
+        ensures unchanged { OnErr result (left_in slot.exit ≡ bytes_of slot.entry) }
         ensures as_before { OnErr result (self.new ≡ self.old) }
     {
         let tseq = self.mind.view().get(tid).ok_or(Refusal::NoThread)?.tseq;
@@ -257,10 +257,10 @@ impl<P> Role<P> {
 
     /// Takes in what became of each done slot of a region, by rising CPU, and makes it idle again: a
     /// thread that was placed, or found placed already, is believed to run there, and who waits follows.
-    /// Other slots stay as they are. It takes no memory.
+    /// Other slots, malformed ones too, stay as they are. It takes no memory.
     pub fn collect(&mut self, region: &mut Region)
-        ensures region { region.new ≡ map collected region.old }
-        ensures role { self.new ≡ record self.old { mind = thinks self.old.mind (after_slots 0 region.old (picture_of self.old.mind)) } }
+        ensures region { region.new ≡ all_collected 0 region.old }
+        ensures role { self.new ≡ record self.old { mind = thinks self.old.mind (after_slots 0 (told_by 0 region.old) (picture_of self.old.mind)) } }
     {
         collect_all(&mut self.mind, region);
     }

@@ -1,11 +1,13 @@
 -- What the program's command line takes.
 use Rattle.std.proofs.Common.{◌≡◌, ◌≤◌, ◌⊎◌, inl, inr, is_some, length, drop, ℕ, suc, zero, Bool, List, [], ◌∷◌, ◌++◌, true, false, refl, codes, cond, fold, ◌∙◌, ap, sym, subst, Option, None, Some, arith}
 use Rattle.std.specs.Fmt.{digits}
-use Rattle.std.specs.Prelude.{decimal, ⊤, not, Result, Ok, Err, encode_utf8, ◌&&◌, bytes_eq, find, option_map, option_and_then, slice_get}
+use Rattle.std.specs.Prelude.{decimal, ⊤, not, nat_lt, Result, Ok, Err, encode_utf8, ◌&&◌, bytes_eq, find, option_map, option_and_then, slice_get}
 use Rattle.std.specs.List.{list_all}
 use Rattle.std.specs.Str.{chars}
-use Rattle.std.specs.Str.Parse.{ParsesUnsigned, digits_value, without_leading_plus}
+use Rattle.std.specs.Str.Parse.{ParsesBool, ParsesUnsigned, digits_value, without_leading_plus}
 use Rattle.std.specs.Option.{option_map_or}
+use Rattle.std.proofs.lemmas.Bool.Decides.{nat_tests}
+use Rattle.std.proofs.lemmas.Slice.Eq.{bytes_eq-Decides}
 use Rattle.clap.specs.Words.{Row, Rule, Shape, Text, takes, one_of, is_simple, built}
 use Rattle.clap.specs.Kinds.{Kinds, or_else, values_kinds}
 use Rattle.clap.specs.Faults.{fault_of, is_simple_and_free, use_fault, settle_fault, react_fault, option_fault, long_fault, short_fault, bundle_step_fault, flags_fault, bundle_fault, flag_word_fault, word_fault, turn_fault, walk_fault, level_fault, step_fault, entered_fault, defaults_fault, check_fault}
@@ -24,9 +26,9 @@ use Rattle.clap.specs.declared.parser.matches.ValueSource.{ValueSource}
 use Rattle.clap.specs.declared.parser.matches.ValueSource.TheVariants.{CommandLine, DefaultValue}
 use Rattle.clap.proofs.OnLiterals.{clap_on_literals}
 use Rattle.gs_arguments.specs.declared.arguments.Command.{Command}
-use Rattle.gs_arguments.specs.declared.arguments.Command.TheVariants.{Run, Report}
+use Rattle.gs_arguments.specs.declared.arguments.Command.TheVariants.{Run, Report, Journal, Timeline}
 use Rattle.gs_arguments.specs.declared.arguments.TheConstants.{DEFAULT_LINES}
-use Rattle.gs_arguments.specs.Arguments.{ghost_program, last_rule, command_given, command_in, ShowsAllowed, number_of}
+use Rattle.gs_arguments.specs.Arguments.{ghost_program, last_rule, command_given, backward, unless_backward, command_in, ShowsAllowed, flag_of, number_of}
 
 -- the default as a word of the command line
 pub default_word : codes "10" ≡ decimal DEFAULT_LINES
@@ -54,6 +56,14 @@ run_is_run name = refl
 pub report_is_ten : (name : Text) → command_in (name ∷ codes "report" ∷ []) ≡ Some (Report 10)
 unfolding clap_on_literals digits
 report_is_ten name = refl
+
+pub journal_taken : (name : Text) → takes ghost_program (name ∷ codes "journal" ∷ []) ≡ true
+unfolding clap_on_literals
+journal_taken name = refl
+
+pub journal_is_lines : (name : Text) → command_in (name ∷ codes "journal" ∷ []) ≡ Some (Journal false)
+unfolding clap_on_literals
+journal_is_lines name = refl
 
 -- ---- the value of `--last` has passed its parser, by the rows that a walk without a fault makes
 
@@ -247,6 +257,14 @@ abbrev third : List Shape → Shape
 third (_ ∷ _ ∷ s ∷ _) = s
 third _ = (built ghost_program).top
 
+abbrev fourth : List Shape → Shape
+fourth (_ ∷ _ ∷ _ ∷ s ∷ _) = s
+fourth _ = (built ghost_program).top
+
+abbrev fifth : List Shape → Shape
+fifth (_ ∷ _ ∷ _ ∷ _ ∷ s ∷ _) = s
+fifth _ = (built ghost_program).top
+
 abbrev second : List Shape → Shape
 second (_ ∷ s ∷ _) = s
 second _ = (built ghost_program).top
@@ -368,16 +386,43 @@ report_in_range rows command p e = by_text (one_of (codes "last") rows) refl e
 -- a subcommand of the built program, where there is one
 abbrev Sub : Option Shape → Type 0
 Sub None = ⊤
-Sub (Some s) = (s ≡ shape) ⊎ ((s.name ≡ codes "run") ⊎ (s.name ≡ codes "help"))
+Sub (Some s) = (s ≡ shape) ⊎ ((s.name ≡ codes "run") ⊎ ((s.name ≡ codes "journal") ⊎ ((s.name ≡ codes "timeline") ⊎ (s.name ≡ codes "help"))))
 
 sub_in : (p : Shape → Bool) → Sub (find p (built ghost_program).subs)
-sub_in p = by_first (p _) (p _) (p _)
+sub_in p = by_first (p _) (p _) (p _) (p _) (p _)
   where
-    by_first : (a b d : Bool) → Sub (cond a (Some (first (built ghost_program).subs)) (cond b (Some shape) (cond d (Some (third (built ghost_program).subs)) None)))
-    by_first true b d = inr (inl refl)
-    by_first false true d = inl refl
-    by_first false false true = inr (inr refl)
-    by_first false false false = tt
+    by_first : (a b d e f : Bool) → Sub (cond a (Some (first (built ghost_program).subs)) (cond b (Some shape) (cond d (Some (third (built ghost_program).subs)) (cond e (Some (fourth (built ghost_program).subs)) (cond f (Some (fifth (built ghost_program).subs)) None)))))
+    by_first true b d e f = inr (inl refl)
+    by_first false true d e f = inl refl
+    by_first false false true e f = inr (inr (inl refl))
+    by_first false false false true f = inr (inr (inr (inl refl)))
+    by_first false false false false true = inr (inr (inr (inr refl)))
+    by_first false false false false false = tt
+
+journal_allowed : (o : Option Bool) (command : Command) → option_map Journal o ≡ Some command → ShowsAllowed command
+journal_allowed None command e = absurd cc
+journal_allowed (Some json) command e = let same : Journal json ≡ command = cc in subst ShowsAllowed same tt
+
+not_above : (from to : ℕ) → backward (Timeline from to) ≡ None → from ≤ to
+not_above from to e = by_test (nat_lt to from) refl e
+  where
+    by_test : (b : Bool) → nat_lt to from ≡ b → cond {A = Option (ℕ × ℕ)} b (Some (from, to)) None ≡ None → from ≤ to
+    by_test true is e = absurd cc
+    by_test false is e = grind (arith, nat_tests)
+
+timeline_allowed : (from to : ℕ) (command : Command) → Some (Timeline from to) ≡ Some command → backward command ≡ None → ShowsAllowed command
+timeline_allowed from to command e forward =
+    let same : Timeline from to ≡ command = cc in
+    subst ShowsAllowed same (not_above from to (ap backward same ∙ forward))
+
+-- a command that is given, and does not end before it begins
+kept : (o : Option Command) (command : Command) → option_and_then unless_backward o ≡ Some command → (o ≡ Some command) × (backward command ≡ None)
+kept None command e = absurd cc
+kept (Some given) command e = by_part (backward given) refl e
+  where
+    by_part : (part : Option (ℕ × ℕ)) → backward given ≡ part → cond (is_some part) None (Some given) ≡ Some command → (Some given ≡ Some command) × (backward command ≡ None)
+    by_part (Some ends) is e = absurd cc
+    by_part None is e = let same : given ≡ command = cc in (e, ap backward (sym same) ∙ is)
 
 -- words without a fault give a command in its range
 pub no_fault_in_range : (words : List Text) (command : Command) → fault_of ghost_program words ≡ [] → command_in words ≡ Some command → ShowsAllowed command
@@ -385,19 +430,22 @@ no_fault_in_range words command none is =
     let whole = built ghost_program in
     let given = argument_words ghost_program words in
     let stop = stop_after whole.top.rules (names_of whole) given in
-    by_stop stop (below_empty whole.top (names_of whole) nothing_held given (is_some (entered whole stop)) (entered_fault whole stop) none) is
+    let met = kept (option_and_then command_given (entered whole stop)) command is in
+    by_stop stop (below_empty whole.top (names_of whole) nothing_held given (is_some (entered whole stop)) (entered_fault whole stop) none) met.0 met.1
   where
     by_sub : (rest : List Text) (found : Option Shape) → Sub found → option_map_or (λ s. level_fault s [] nothing_held rest false []) found [] ≡ []
-        → option_and_then command_given (option_map (λ s. rows_at s rest) found) ≡ Some command → ShowsAllowed command
-    by_sub rest None k none is = absurd cc
-    by_sub rest (Some s) (inl k) none is = report_in_range (rows_after rules [] rest) command (passed_level rest (subst (λ (x : Shape). level_fault x [] nothing_held rest false [] ≡ []) k none))
+        → option_and_then command_given (option_map (λ s. rows_at s rest) found) ≡ Some command → backward command ≡ None → ShowsAllowed command
+    by_sub rest None k none is forward = absurd cc
+    by_sub rest (Some s) (inl k) none is forward = report_in_range (rows_after rules [] rest) command (passed_level rest (subst (λ (x : Shape). level_fault x [] nothing_held rest false [] ≡ []) k none))
         (subst (λ (x : Shape). command_given (rows_at x rest) ≡ Some command) k is)
-    by_sub rest (Some s) (inr (inl k)) none is = let run : Some Run ≡ Some command = rw k at is in let same : Run ≡ command = cc in subst ShowsAllowed same tt
-    by_sub rest (Some s) (inr (inr k)) none is = let none : None ≡ Some command = rw k at is in absurd cc
+    by_sub rest (Some s) (inr (inl k)) none is forward = let run : Some Run ≡ Some command = rw k at is in let same : Run ≡ command = cc in subst ShowsAllowed same tt
+    by_sub rest (Some s) (inr (inr (inl k))) none is forward = journal_allowed _ command (rw k at is)
+    by_sub rest (Some s) (inr (inr (inr (inl k)))) none is forward = timeline_allowed _ _ command (rw k at is) forward
+    by_sub rest (Some s) (inr (inr (inr (inr k)))) none is forward = let none : None ≡ Some command = rw k at is in absurd cc
 
-    by_stop : (stop : Option (Text × List Text)) → entered_fault (built ghost_program) stop ≡ [] → option_and_then command_given (entered (built ghost_program) stop) ≡ Some command → ShowsAllowed command
-    by_stop None none is = absurd cc
-    by_stop (Some p) none is = by_sub p.1 (find (λ s. answers_to p.0 (label_of s)) (built ghost_program).subs) (sub_in (λ s. answers_to p.0 (label_of s))) none is
+    by_stop : (stop : Option (Text × List Text)) → entered_fault (built ghost_program) stop ≡ [] → option_and_then command_given (entered (built ghost_program) stop) ≡ Some command → backward command ≡ None → ShowsAllowed command
+    by_stop None none is forward = absurd cc
+    by_stop (Some p) none is forward = by_sub p.1 (find (λ s. answers_to p.0 (label_of s)) (built ghost_program).subs) (sub_in (λ s. answers_to p.0 (label_of s))) none is forward
 
 -- ---- the number that is read of a text
 
@@ -416,3 +464,20 @@ number_read {E} G (Some t) r only none some = by_read r (some t refl)
         by_number : (b : Bool) → is_unsigned_in 0 18446744073709551615 t ≡ b → None ≡ cond b (Some (digits_value 10 (without_leading_plus t))) None
         by_number true is = let fits = accepts-Accepts false (vp.Unsigned 0 18446744073709551615) t is in absurd (only t (Err read.0) read.1 (fits.0, fits.1))
         by_number false is = refl
+
+-- ---- the flag that is read of a text
+
+pub flag_read : {E : Type 0} (G : Text → Result Bool E → Type 0) (text : Option Text) (r : Option Bool) → ((t : Text) (x : Result Bool E) → G t x → ParsesBool t x)
+    → (text ≡ None → r ≡ None) → ((t : Text) → text ≡ Some t → ReadsOne G t r) → r ≡ option_and_then flag_of text
+flag_read G None r only none some = none refl
+flag_read {E} G (Some t) r only none some = by_read r (some t refl)
+  where
+    by_tests : (a b : Bool) → bytes_eq t (codes "true") ≡ a → bytes_eq t (codes "false") ≡ b → (t ≡ codes "true" → ⊥) → (t ≡ codes "false" → ⊥) → None ≡ cond a (Some true) (cond b (Some false) None)
+    by_tests true b p q other another = absurd (other ((bytes_eq-Decides t (codes "true")).0 p))
+    by_tests false true p q other another = absurd (another ((bytes_eq-Decides t (codes "false")).0 q))
+    by_tests false false p q other another = refl
+
+    by_read : (o : Option Bool) → ReadsOne G t o → o ≡ flag_of t
+    by_read (Some true) read = ap flag_of (sym (only t (Ok true) read))
+    by_read (Some false) read = ap flag_of (sym (only t (Ok false) read))
+    by_read None read = let text = only t (Err read.0) read.1 in by_tests (bytes_eq t (codes "true")) (bytes_eq t (codes "false")) refl refl text.0 text.1

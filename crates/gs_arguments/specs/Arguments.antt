@@ -1,11 +1,12 @@
 -- The arguments of the program.
-use Rattle.std.specs.Prelude.{◌≤◌, ⊤, ℕ, List, [], ◌∷◌, true, Option, None, Some, codes, bytes_eq, decimal, if◌then◌else◌, option_and_then, option_map}
+use Rattle.std.specs.Prelude.{◌≤◌, ⊤, ℕ, List, [], ◌∷◌, Bool, true, false, Option, None, Some, codes, bytes_eq, decimal, if◌then◌else◌, is_some, nat_lt, option_and_then, option_map, unwrap_or}
 use Rattle.std.specs.Str.Parse.{digits_value, without_leading_plus}
 use Rattle.clap.specs.ValueTests.{is_unsigned_in}
 use Rattle.clap.specs.Words.{App, Row, Rule, Text, new_app, new_rule, one_of, subcommand_of, with_rule, with_subcommand}
+use Rattle.clap.specs.declared.builder.action.ArgAction.TheVariants.{SetTrue}
 use Rattle.clap.specs.declared.builder.value_parser.ValueParser.TheVariants as vp
 use Rattle.gs_arguments.specs.declared.arguments.Command.{Command}
-use Rattle.gs_arguments.specs.declared.arguments.Command.TheVariants.{Run, Report}
+use Rattle.gs_arguments.specs.declared.arguments.Command.TheVariants.{Run, Report, Journal, Timeline}
 use Rattle.gs_arguments.specs.declared.arguments.TheConstants.{DEFAULT_LINES, LEAST_LINES, MOST_LINES}
 
 -- a program without arguments of its own: its version, and the commands, of which one is to be given
@@ -19,25 +20,64 @@ last_rule = record (new_rule (codes "last")) { long = Some (codes "last"); value
 abbrev pub report_alone : App
 report_alone = with_rule (new_app (codes "report")) last_rule
 
+-- the flag `--json`
+abbrev pub json_rule : Rule
+json_rule = record (new_rule (codes "json")) { long = Some (codes "json"); action = Some SetTrue }
+
+abbrev pub journal_alone : App
+journal_alone = with_rule (new_app (codes "journal")) json_rule
+
+-- an option that takes the place of an entry
+abbrev pub place_rule : Text → Rule
+place_rule name = record (new_rule name) { long = Some name; value_names = 1; parser = Some (vp.Unsigned 0 18446744073709551615) }
+
+abbrev pub timeline_alone : App
+timeline_alone = with_rule (with_rule (new_app (codes "timeline")) (place_rule (codes "from"))) (place_rule (codes "to"))
+
 abbrev pub ghost_program : App
-ghost_program = with_subcommand (with_subcommand ghost_alone (new_app (codes "run")).top) report_alone.top
+ghost_program = with_subcommand (with_subcommand (with_subcommand (with_subcommand ghost_alone (new_app (codes "run")).top) report_alone.top) journal_alone.top) timeline_alone.top
 
 -- the number that a text spells in decimal digits, of those that 64 bits hold
 abbrev pub number_of : Text → Option ℕ
 number_of text = if is_unsigned_in 0 18446744073709551615 text then Some (digits_value 10 (without_leading_plus text)) else None
+
+-- whether a flag is given, by the value that it has then
+abbrev pub flag_of : Text → Option Bool
+flag_of text = if bytes_eq text (codes "true") then Some true else if bytes_eq text (codes "false") then Some false else None
+
+-- the place that an option is given, or another one if it is not
+abbrev pub place_in : List Row → Text → ℕ → ℕ
+place_in rows name other = unwrap_or (option_and_then number_of (one_of name rows)) other
 
 -- the command of a name, with the values that were given to it
 abbrev pub command_given : Text × List Row → Option Command
 command_given given =
     if bytes_eq given.0 (codes "run") then Some Run
     else if bytes_eq given.0 (codes "report") then option_map Report (option_and_then number_of (one_of (codes "last") given.1))
+    else if bytes_eq given.0 (codes "journal") then option_map Journal (option_and_then flag_of (one_of (codes "json") given.1))
+    else if bytes_eq given.0 (codes "timeline") then Some (Timeline (place_in given.1 (codes "from") 0) (place_in given.1 (codes "to") 18446744073709551615))
     else None
+
+-- the first and the last entry that a picture is to show, where the first is above the last
+abbrev pub backward : Command → Option (ℕ × ℕ)
+backward (Timeline from to) = if nat_lt to from then Some (from, to) else None
+backward _ = None
+
+-- a command, unless its picture is to end before it begins
+abbrev pub unless_backward : Command → Option Command
+unless_backward command = if is_some (backward command) then None else Some command
+
+-- the command of what was given, if something was
+abbrev pub command_from : Option (Text × List Row) → Option Command
+command_from given = option_and_then unless_backward (option_and_then command_given given)
 
 -- the command that the words of a command line give, of which the first is the program's name
 abbrev pub command_in : List Text → Option Command
-command_in words = option_and_then command_given (subcommand_of ghost_program words)
+command_in words = command_from (subcommand_of ghost_program words)
 
--- a report shows as many lines as it may
+-- a report shows as many lines as it may, and a picture does not end before it begins
 abbrev pub ShowsAllowed : Command → Type 0
 ShowsAllowed Run = ⊤
+ShowsAllowed (Journal json) = ⊤
+ShowsAllowed (Timeline from to) = from ≤ to
 ShowsAllowed (Report last) = (LEAST_LINES ≤ last) × (last ≤ MOST_LINES)

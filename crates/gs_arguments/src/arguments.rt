@@ -1,11 +1,13 @@
 ghost use Rattle.std.specs.Prelude.{◌≡◌, ◌≢◌, ℕ, List, false, Some, [], ◌∷◌, map, codes, IfOk, IfErr, MatchResult, option_and_then};
-ghost use Rattle.clap.specs.Words.{app_of, found_of, kind_of, one_of, rows_of, rule_of, subcommand_rows_of};
-ghost use Rattle.clap.specs.Kinds.{HasKind};
+ghost use Rattle.clap.specs.Words.{app_of, found_of, new_app, kind_of, one_of, rows_of, rule_of, subcommand_rows_of};
+ghost use Rattle.clap.specs.Kinds.{HasKind, Kinds};
+ghost use Rattle.clap.specs.declared.builder.command.Command.TheViews.{out-Command as fields_of};
 ghost use Rattle.clap.specs.Faults.{fault_of};
-ghost use Rattle.gs_arguments.specs.Arguments.{ShowsAllowed, command_given, command_in, ghost_program, last_rule, number_of};
+ghost use Rattle.gs_arguments.specs.Arguments.{ShowsAllowed, backward, command_from, command_given, command_in, flag_of, ghost_alone, ghost_program, journal_alone, json_rule, last_rule, number_of, place_rule, report_alone, timeline_alone};
 ghost use Rattle.gs_arguments.specs.declared.arguments.Command.{Command};
-ghost use Rattle.gs_arguments.specs.declared.arguments.Command.TheVariants.{Report};
+ghost use Rattle.gs_arguments.specs.declared.arguments.Command.TheVariants.{Journal, Report};
 
+use clap::ArgAction;
 use clap::error::ErrorKind;
 use std::alloc::{AllocError, Global};
 use std::convert::AsStr;
@@ -33,6 +35,18 @@ pub enum Command {
         /// [`MOST_LINES`].
         last: usize,
     },
+    /// Run it, and write the journal of all that happened to standard output.
+    Journal {
+        /// As JSON Lines.
+        json: bool,
+    },
+    /// Run it, and write a picture of who ran where to standard output, as SVG.
+    Timeline {
+        /// The place in the journal of the first entry that is shown, counted from 0.
+        from: usize,
+        /// That of the last one, not below `from`.
+        to: usize,
+    },
 }
 
 /// The option `--last N`: how many of the last lines a report shows.
@@ -48,44 +62,182 @@ fn last_option<'a>(alloc: Global) -> clap::Arg<'a>
         .default_value(DEFAULT_WORD)
 }
 
+/// The flag `--json`: whether the journal is written as JSON Lines.
+fn json_flag<'a>(alloc: Global) -> clap::Arg<'a>
+    ensures rule { rule_of result ≡ json_rule }
+    ensures local { result.global ≡ false }
+{
+    clap::Arg::new(alloc, "json")
+        .long("json")
+        .help("Writes a JSON object for each entry, one a line")
+        .action(ArgAction::SetTrue)
+}
+
+/// An option of `timeline` that takes the place of an entry.
+fn place_option<'a>(alloc: Global, name: &'a str, help: &'a str) -> clap::Arg<'a>
+    ensures rule { rule_of result ≡ place_rule name.entry.now }
+    ensures local { result.global ≡ false }
+{
+    clap::Arg::new(alloc, name)
+        .long(name)
+        .value_name("N")
+        .help(help)
+        .value_parser(clap::value_parser!(usize))
+}
+
+/// The command `run`.
+fn run_command<'a>(alloc: Global) -> clap::Command<'a>
+    ensures shape { app_of result ≡ new_app (codes "run") }
+    ensures local { (fields_of result).has_globals ≡ false }
+{
+    clap::Command::new(alloc, "run").about(
+        "Runs the script of standard input and writes the replies to standard output",
+    )
+}
+
+/// The command `report`.
+fn report_command<'a>(alloc: Global) -> Result<clap::Command<'a>, AllocError>
+    ensures shape { IfOk result (λ command. app_of command ≡ report_alone) }
+    ensures local { IfOk result (λ command. (fields_of command).has_globals ≡ false) }
+{
+    clap::Command::new(alloc, "report")
+        .about(
+            "Runs the script of standard input and writes a report of the run to standard output",
+        )
+        .arg(last_option(alloc))
+}
+
+/// The command `journal`.
+fn journal_command<'a>(alloc: Global) -> Result<clap::Command<'a>, AllocError>
+    ensures shape { IfOk result (λ command. app_of command ≡ journal_alone) }
+    ensures local { IfOk result (λ command. (fields_of command).has_globals ≡ false) }
+{
+    clap::Command::new(alloc, "journal")
+        .about(
+            "Runs the script of standard input and writes the journal of all that happened to standard output",
+        )
+        .arg(json_flag(alloc))
+}
+
+/// The command `timeline`.
+fn timeline_command<'a>(alloc: Global) -> Result<clap::Command<'a>, AllocError>
+    ensures shape { IfOk result (λ command. app_of command ≡ timeline_alone) }
+    ensures local { IfOk result (λ command. (fields_of command).has_globals ≡ false) }
+{
+    let first = place_option(
+        alloc,
+        "from",
+        "The first entry of the journal that is shown, counted from 0",
+    );
+    let last = place_option(alloc, "to", "The last entry that is shown");
+    clap::Command::new(alloc, "timeline")
+        .about(
+            "Runs the script of standard input and writes a picture of who ran where to standard output, as SVG",
+        )
+        .arg(first)?
+        .arg(last)
+}
+
 /// The program's command line.
 fn program<'a>(alloc: Global) -> Result<clap::Command<'a>, AllocError>
     ensures { IfOk result (λ command. app_of command ≡ ghost_program) }
 {
-    let run = clap::Command::new(alloc, "run").about(
-        "Runs the script of standard input and writes the replies to standard output",
-    );
-    let report = clap::Command::new(alloc, "report")
-        .about(
-            "Runs the script of standard input and writes a report of the run to standard output",
-        )
-        .arg(last_option(alloc))?;
-    clap::Command::new(alloc, "ghost")
+    let alone = clap::Command::new(alloc, "ghost")
         .about("A ghOSt enclave: its kernel and its agent, event by event")
         .bin_name("ghost")?
         .version("0.1.0")
-        .subcommand_required(true)
-        .subcommand(run)?
-        .subcommand(report)
+        .subcommand_required(true);
+    with_commands(alloc, alone)
 }
 
-/// The value of `--last`.
-fn last_of(given: &clap::ArgMatches<'_>) -> Option<usize>
-    ensures { result ≡ option_and_then number_of (one_of (codes "last") (rows_of (found_of given.now))) }
+/// The program's command line, of the program alone: with its commands.
+fn with_commands<'a>(
+    alloc: Global,
+    alone: clap::Command<'a>,
+) -> Result<clap::Command<'a>, AllocError>
+    requires { app_of alone ≡ ghost_alone }
+    ensures { IfOk result (λ command. app_of command ≡ ghost_program) }
 {
-    given.get_one("last")
+    let run = run_command(alloc);
+    let report = report_command(alloc)?;
+    let journal = journal_command(alloc)?;
+    let timeline = timeline_command(alloc)?;
+    alone
+        .subcommand(run)?
+        .subcommand(report)?
+        .subcommand(journal)?
+        .subcommand(timeline)
 }
 
-/// The command that was given, with the value of its option.
-fn command_of(matches: &clap::ArgMatches<'_>) -> Option<Command>
+/// Whether `--json` is given.
+fn json_of(given: &clap::ArgMatches<'_>) -> Option<bool>
+    ensures { result ≡ option_and_then flag_of (one_of (codes "json") (rows_of (found_of given.now))) }
+{
+    given.get_one("json")
+}
+
+/// The number that an option is given.
+fn number_in(given: &clap::ArgMatches<'_>, name: &str) -> Option<usize>
+    ensures { result ≡ option_and_then number_of (one_of name.now (rows_of (found_of given.now))) }
+{
+    given.get_one(name)
+}
+
+/// The command that was given, with the values of its options.
+fn command_given(matches: &clap::ArgMatches<'_>) -> Option<Command>
     ensures { result ≡ option_and_then command_given (subcommand_rows_of matches.now) }
 {
     match matches.subcommand()? {
         ("run", _) => Some(Command::Run),
         ("report", given) => Some(Command::Report {
-            last: last_of(given)?,
+            last: number_in(given, "last")?,
+        }),
+        ("journal", given) => Some(Command::Journal {
+            json: json_of(given)?,
+        }),
+        ("timeline", given) => Some(Command::Timeline {
+            from: number_in(given, "from").unwrap_or(0),
+            to: number_in(given, "to").unwrap_or(usize::MAX),
         }),
         _ => None,
+    }
+}
+
+/// The first and the last entry that a picture is to show, where the first is above the last.
+fn backward(command: Command) -> Option<(usize, usize)>
+    ensures { result ≡ backward command }
+{
+    match command {
+        Command::Timeline { from, to } if from > to => Some((from, to)),
+        _ => None,
+    }
+}
+
+/// The command that was given, unless its picture is to end before it begins.
+fn command_of(matches: &clap::ArgMatches<'_>) -> Option<Command>
+    ensures { result ≡ command_from (subcommand_rows_of matches.now) }
+{
+    let command = command_given(matches)?;
+    match backward(command) {
+        Some(_) => None,
+        None => Some(command),
+    }
+}
+
+/// Why what was given is no command: none was, or its picture is to end before it begins.
+fn no_command(
+    alloc: Global,
+    command_line: &mut clap::Command<'_>,
+    given: Option<Command>,
+) -> Result<clap::Error, AllocError>
+    ensures { IfOk result (λ e. (kinds : Kinds) → HasKind (ErrorKind.MissingSubcommand ∷ ErrorKind.ValueValidation ∷ kinds) e) }
+{
+    match given.and_then(backward) {
+        Some((from, to)) => {
+            let message = format!(in alloc; "--from {from} is above --to {to}")?;
+            command_line.error(ErrorKind::ValueValidation, message.as_str())
+        }
+        None => command_line.error(ErrorKind::MissingSubcommand, "no command is given"),
     }
 }
 
@@ -93,23 +245,24 @@ fn command_of(matches: &clap::ArgMatches<'_>) -> Option<Command>
 ///
 /// An error is clap's own: its text says what is wrong, or is the help or the version that was asked
 /// for. Its kind says which: it is that of the words' fault, or that memory ran out; or, where the words
-/// have no fault, that no command is given. So the help and the version are answered where the words ask
+/// have no fault, that no command is given, or that a picture is to end before it begins. So the help and the version are answered where the words ask
 /// for them, memory aside, and only there, and words without a fault that give a command are refused only
 /// for want of memory.
 pub fn settings<'a, S: AsStr>(alloc: Global, words: &'a [S]) -> Result<Command, clap::Error>
     ensures given { IfOk result (λ command. command_in (map S.text words.entry.now) ≡ Some command) }
     ensures allowed { IfOk result ShowsAllowed }
     ensures faultless { IfOk result (λ _. fault_of ghost_program (map S.text words.entry.now) ≡ []) }
-    ensures failed { IfErr result (HasKind (ErrorKind.MissingSubcommand ∷ fault_of ghost_program (map S.text words.entry.now))) }
+    ensures failed { IfErr result (HasKind (ErrorKind.MissingSubcommand ∷ ErrorKind.ValueValidation ∷ fault_of ghost_program (map S.text words.entry.now))) }
     ensures told { fault_of ghost_program (map S.text words.entry.now) ≢ [] → IfErr result (HasKind (fault_of ghost_program (map S.text words.entry.now))) }
     ensures answered { fault_of ghost_program (map S.text words.entry.now) ≡ [] → (command : Command) → command_in (map S.text words.entry.now) ≡ Some command → MatchResult result (λ given. given ≡ command) (λ e. kind_of e ≡ ErrorKind.OutOfMemory) }
     ensures run { (name : List ℕ) → map S.text words.entry.now ≡ name ∷ codes "run" ∷ [] → IfErr result (λ e. kind_of e ≡ ErrorKind.OutOfMemory) }
+    ensures journal { (name : List ℕ) → map S.text words.entry.now ≡ name ∷ codes "journal" ∷ [] → MatchResult result (λ command. command ≡ Journal false) (λ e. kind_of e ≡ ErrorKind.OutOfMemory) }
     ensures report { (name : List ℕ) → map S.text words.entry.now ≡ name ∷ codes "report" ∷ [] → MatchResult result (λ command. command ≡ Report DEFAULT_LINES) (λ e. kind_of e ≡ ErrorKind.OutOfMemory) }
 {
     let mut command_line = program(alloc)?;
     let matches = command_line.try_get_matches_from_mut(words)?;
     match command_of(&matches) {
         Some(command) => Ok(command),
-        None => Err(command_line.error(ErrorKind::MissingSubcommand, "no command is given")?),
+        None => Err(no_command(alloc, &mut command_line, command_given(&matches))?),
     }
 }

@@ -1,4 +1,4 @@
-ghost use Rattle.std.specs.Prelude.{◌≡◌, ℕ, None, Some, IfOk, IfErr, IfSome, OnOk, OnErr, is_some, map, true, false};
+ghost use Rattle.std.specs.Prelude.{◌≡◌, ℕ, None, Some, Ok, IfOk, IfErr, IfSome, OnOk, OnErr, is_some, map, true, false};
 ghost use Rattle.std.specs.Option.{option_map};
 ghost use Rattle.gs_kernel.specs.Kernel.{IsRefusal};
 ghost use Rattle.gs_core.specs.Config.{config_fault, IsFault};
@@ -10,6 +10,7 @@ ghost use Rattle.gs_core.specs.Policies.{policy_after, policy_after_all};
 ghost use Rattle.gs_core.specs.Desk.{AreBelow, AreStampable};
 ghost use Rattle.gs_journal.specs.History.{active, posted, torn};
 ghost use Rattle.gs_ring.specs.Ends.{Posted};
+ghost use Rattle.gs_slots.specs.Reading.{states_in};
 ghost use Rattle.gs_core.specs.Safe.{Safe, IsFaithful, Run};
 
 use crate::config::{Config, ConfigFault};
@@ -17,6 +18,7 @@ use crate::event::Event;
 use crate::items::Items;
 use crate::known::{known_of, known_threads};
 use crate::reply::Reply;
+use crate::slots::MachineSlots;
 use crate::stamping::{stamp_all, stamp_choice};
 use crate::transaction::Transaction;
 use crate::unread::waiting;
@@ -39,7 +41,7 @@ pub struct Machine<P: Counted> {
     pub(crate) policy: P,
     /// The role of the agent, where one is active or attaches.
     pub(crate) role: Option<Role<P>>,
-    pub(crate) region: Region,
+    pub(crate) region: MachineSlots,
     transactions: Vec<Transaction>,
 }
 
@@ -83,7 +85,7 @@ impl<P: Counted + Copy> Machine<P> {
         ensures { IfSome result (λ m. m ≡ start config.now) }
     {
         let settings = config.settings();
-        let Ok(region) = Region::new(alloc, settings.cpus) else {
+        let Ok(region) = MachineSlots::new(alloc, settings.cpus) else {
             return None;
         };
         let Ok(ring) = ByteRing::new(alloc, config.ring as usize) else {
@@ -124,9 +126,9 @@ impl<P: Counted + Copy> Machine<P> {
 
     /// The slots of all CPUs, to look at.
     pub fn region(&self) -> &Region
-        ensures { result.now ≡ self.now.slots }
+        ensures { states_in 0 result.now ≡ map Ok self.now.slots }
     {
-        &self.region
+        self.region.region()
     }
 
     /// The kernel, to look at.
@@ -250,7 +252,7 @@ impl<P: Counted + Copy> Machine<P> {
         let Some(known) = known_of(role.view(), tid) else {
             return Err(Refusal::NoThread);
         };
-        let Ok(SlotState::Idle) = self.region.state(cpu) else {
+        let SlotState::Idle = self.region.state(cpu) else {
             return Err(Refusal::SlotOpen);
         };
         let number = self.transactions.len();
@@ -343,12 +345,12 @@ impl<P: Counted + Copy> Machine<P> {
         ensures step { Step (planning P.chosen self.old) (Event.Commit mask) result (planning P.chosen self.new) }
         ensures policy { self.new.policy ≡ self.old.policy }
     {
-        match self.kernel.txns_commit(self.alloc, &mut self.region, mask) {
+        match self.region.commit(self.alloc, &mut self.kernel, mask) {
             Ok(landings) => {
                 let Some(role) = &mut self.role else {
                     unreachable!()
                 };
-                role.collect(&mut self.region);
+                self.region.collect(role);
                 Reply::Landed {
                     landings: Items::new(landings),
                     torn: self.kernel.is_torn(),

@@ -1,5 +1,5 @@
 -- Landings one after another.
-use Rattle.std.proofs.Common.{◌≡◌, ℕ, suc, ◌+◌, ◌<◌, ◌≤◌, ◌⊎◌, inl, inr, cond, Bool, true, false, Option, None, Some, IfSome, List, [], ◌∷◌, ◌++◌, length, take, drop, slice_get, slice_set, get_or, drop-cons, length-take, refl, ap, sym, subst, ◌∙◌, append_assoc, length-append, arith}
+use Rattle.std.proofs.Common.{◌≡◌, ℕ, suc, ◌+◌, ◌<◌, ◌≤◌, ◌⊎◌, inl, inr, cond, Bool, true, false, Option, None, Some, Ok, Err, IfSome, List, [], ◌∷◌, ◌++◌, length, take, drop, slice_get, slice_set, get_or, drop-cons, length-take, refl, ap, sym, subst, ◌∙◌, append_assoc, length-append, arith}
 use Rattle.std.proofs.lemmas.List.{take_more}
 use Rattle.std.proofs.Common.{append-nil}
 use Rattle.gs_layout.specs.declared.message.Message.{Message}
@@ -8,6 +8,8 @@ use Rattle.gs_layout.specs.declared.outcome.Outcome.TheVariants as outcomes
 use Rattle.gs_slots.specs.declared.state.SlotState.{SlotState}
 use Rattle.gs_slots.specs.declared.state.SlotState.TheVariants.{Idle, Stamped, Done}
 use Rattle.gs_slots.specs.declared.state.Stamp.{Stamp}
+use Rattle.gs_slots.specs.Reading.{state_in}
+use Rattle.gs_slots.specs.State.{Held}
 use Rattle.gs_status.specs.Masks.{has}
 use Rattle.gs_journal.specs.declared.entry.Entry.TheVariants.{Torn}
 use Rattle.gs_journal.specs.History.{History}
@@ -18,7 +20,7 @@ use Rattle.gs_kernel.specs.Landing.{verdict, placing}
 use Rattle.gs_kernel.specs.declared.effect.Effect.{Effect}
 use Rattle.gs_kernel.specs.declared.effect.Effect.TheVariants.{Append}
 use Rattle.gs_kernel.specs.Legal.{Room, RoomOf, Tells, entries_in, message_in}
-use Rattle.gs_kernel.specs.Lands.{Adds, Landings, Lands, LandsAll, LandsIf, LandsIn, Settles, SettlesIf, is_to_place, listed, placement, then_others}
+use Rattle.gs_kernel.specs.Lands.{Adds, Landings, LandingsOf, Lands, LandsAll, LandsAllBy, LandsBytes, LandsHeld, LandsIf, LandsIfBy, LandsIn, LandsOn, Settles, SettlesIf, is_to_place, listed, placement, then_others}
 use Rattle.gs_kernel.proofs.Placings.{to_place}
 
 -- a transaction that is to be placed is placed, or the enclave is torn down in place of that
@@ -115,13 +117,27 @@ in_map a b s h k (Stamped x) o z' h' f t = (t.0, lands_map a b s h k x t.0 h' f 
 in_map a b s h k Idle o z' h' f t = t
 in_map a b s h k (Done x p q n) o z' h' f t = t
 
-pub if_map : (a b : Room) (s : Settings) (wanted : Bool) (k : ℕ) (z : SlotState) (h : History) (r : Landings) → Entails a b → LandsIf a s wanted k z h r → LandsIf b s wanted k z h r
-if_map a b s false k z h r f t = t
-if_map a b s true k z h r f t = (t.0, t.1, in_map a b s h k z t.0 t.1 r.history f t.2, t.3, t.4)
+held_map : (a b : Room) (s : Settings) (h : History) (k : ℕ) (x : Held) (o : Option Landing) (x' : Held) (h' : History) → Entails a b → LandsHeld a s h k x o x' h' → LandsHeld b s h k x o x' h'
+held_map a b s h k (Ok z) o x' h' f t = (t.0, in_map a b s h k z o t.0 h' f t.1, t.2)
+held_map a b s h k (Err e) o x' h' f t = t
+
+-- one way to land in place of another
+abbrev pub EntailsOn : {Z : Type 0} → LandsOn Z → LandsOn Z → Type 0
+EntailsOn A B = (h : History) (k : ℕ) (z : _) (o : Option Landing) (z' : _) (h' : History) → A h k z o z' h' → B h k z o z' h'
+
+pub if_map : {Z : Type 0} (A B : LandsOn Z) (wanted : Bool) (k : ℕ) (z : Z) (h : History) (r : LandingsOf Z) → EntailsOn A B → LandsIfBy A wanted k z h r → LandsIfBy B wanted k z h r
+if_map A B false k z h r f t = t
+if_map A B true k z h r f t = (t.0, t.1, f h k z t.0 t.1 r.history t.2, t.3, t.4)
+
+all_map_by : {Z : Type 0} (A B : LandsOn Z) (mask k : ℕ) (zs : List Z) (h : History) (r : LandingsOf Z) → EntailsOn A B → LandsAllBy A mask k zs h r → LandsAllBy B mask k zs h r
+all_map_by A B mask k [] h r f t = t
+all_map_by A B mask k (z ∷ zs) h r f t = (t.0, t.1, if_map A B (has mask k) k z h t.0 f t.2, all_map_by A B mask (suc k) zs t.0.history t.1 f t.3, t.4)
 
 pub all_map : (a b : Room) (s : Settings) (mask k : ℕ) (zs : List SlotState) (h : History) (r : Landings) → Entails a b → LandsAll a s mask k zs h r → LandsAll b s mask k zs h r
-all_map a b s mask k [] h r f t = t
-all_map a b s mask k (z ∷ zs) h r f t = (t.0, t.1, if_map a b s (has mask k) k z h t.0 f t.2, all_map a b s mask (suc k) zs t.0.history t.1 f t.3, t.4)
+all_map a b s mask k zs h r f = all_map_by (LandsIn a s) (LandsIn b s) mask k zs h r (λ g n z o z' g' t. in_map a b s g n z o z' g' f t)
+
+pub bytes_map : (a b : Room) (s : Settings) → Entails a b → EntailsOn (LandsBytes a s) (LandsBytes b s)
+bytes_map a b s f h k x o x' h' t = held_map a b s h k (state_in k x) o (state_in k x') h' f t
 
 -- a ring later on tells of no more
 pub room_later : {P : Type 0} (same : P → P → Type 0) (taken : P → ℕ) (sent : P → List Message → Type 0) (tight : P → Message → Type 0) (p q : P) → ((a b c : P) → same a b → same b c → same a c) → same p q → taken q ≡ taken p
@@ -130,35 +146,35 @@ room_later same taken sent tight p q trans s t h true m x = (x.0, trans p q x.0 
 room_later same taken sent tight p q trans s t h false m x = (x.0, trans p q x.0 s x.1, x.2 ∙ t, x.3, x.4)
 
 -- one more slot lands behind others
-others_assoc : (a b c : Landings) → then_others a (then_others b c) ≡ then_others (then_others a b) c
+others_assoc : {Z : Type 0} (a b c : LandingsOf Z) → then_others a (then_others b c) ≡ then_others (then_others a b) c
 others_assoc a b c = λ i. record { answers = sym (append_assoc a.answers b.answers c.answers) i; history = c.history; slots = sym (append_assoc a.slots b.slots c.slots) i }
 
-pub all_push : (room : Room) (s : Settings) (mask k n : ℕ) (zs : List SlotState) (z : SlotState) (h : History) (r one : Landings) → n ≡ k + length zs → LandsAll room s mask k zs h r → LandsIf room s (has mask n) n z r.history one
-    → LandsAll room s mask k (zs ++ z ∷ []) h (then_others r one)
-all_push room s mask k n [] z h r one is t x = (
+pub all_push : {Z : Type 0} (L : LandsOn Z) (mask k n : ℕ) (zs : List Z) (z : Z) (h : History) (r one : LandingsOf Z) → n ≡ k + length zs → LandsAllBy L mask k zs h r → LandsIfBy L (has mask n) n z r.history one
+    → LandsAllBy L mask k (zs ++ z ∷ []) h (then_others r one)
+all_push {Z} L mask k n [] z h r one is t x = (
   one,
   record { answers = []; history = one.history; slots = [] },
-  subst (λ j. LandsIf room s (has mask j) j z h one) (omega (arith, is)) (subst (λ (y : History). LandsIf room s (has mask n) n z y one) (ap (λ (q : Landings). q.history) t) x),
+  subst (λ j. LandsIfBy L (has mask j) j z h one) (omega (arith, is)) (subst (λ (y : History). LandsIfBy L (has mask n) n z y one) (ap (λ (q : LandingsOf Z). q.history) t) x),
   refl,
   ap (λ q. then_others q one) t ∙ (λ i. record { answers = sym (append-nil one.answers) i; history = one.history; slots = sym (append-nil one.slots) i }),
 )
-all_push room s mask k n (y ∷ zs) z h r one is t x = (
+all_push {Z} L mask k n (y ∷ zs) z h r one is t x = (
   t.0,
   then_others t.1 one,
   t.2,
-  all_push room s mask (suc k) n zs z t.0.history t.1 one (omega (arith, is)) t.3 (subst (λ (w : History). LandsIf room s (has mask n) n z w one) (ap (λ (q : Landings). q.history) t.4) x),
+  all_push L mask (suc k) n zs z t.0.history t.1 one (omega (arith, is)) t.3 (subst (λ (w : History). LandsIfBy L (has mask n) n z w one) (ap (λ (q : LandingsOf Z). q.history) t.4) x),
   ap (λ q. then_others q one) t.4 ∙ sym (others_assoc t.0 t.1 one),
 )
 
 -- each slot stays one
-if_count : (room : Room) (s : Settings) (wanted : Bool) (k : ℕ) (z : SlotState) (h : History) (r : Landings) → LandsIf room s wanted k z h r → length r.slots ≡ 1
-if_count room s false k z h r t = ap (λ (q : Landings). length q.slots) t
-if_count room s true k z h r t = ap length t.4
+if_count : {Z : Type 0} (L : LandsOn Z) (wanted : Bool) (k : ℕ) (z : Z) (h : History) (r : LandingsOf Z) → LandsIfBy L wanted k z h r → length r.slots ≡ 1
+if_count {Z} L false k z h r t = ap (λ (q : LandingsOf Z). length q.slots) t
+if_count {Z} L true k z h r t = ap length t.4
 
-pub all_count : (room : Room) (s : Settings) (mask k : ℕ) (zs : List SlotState) (h : History) (r : Landings) → LandsAll room s mask k zs h r → length r.slots ≡ length zs
-all_count room s mask k [] h r t = ap (λ (q : Landings). length q.slots) t
-all_count room s mask k (z ∷ zs) h r t =
-    ap (λ (q : Landings). length q.slots) t.4 ∙ (length-append t.0.slots t.1.slots ∙ omega (arith, if_count room s (has mask k) k z h t.0 t.2, all_count room s mask (suc k) zs t.0.history t.1 t.3))
+pub all_count : {Z : Type 0} (L : LandsOn Z) (mask k : ℕ) (zs : List Z) (h : History) (r : LandingsOf Z) → LandsAllBy L mask k zs h r → length r.slots ≡ length zs
+all_count {Z} L mask k [] h r t = ap (λ (q : LandingsOf Z). length q.slots) t
+all_count {Z} L mask k (z ∷ zs) h r t =
+    ap (λ (q : LandingsOf Z). length q.slots) t.4 ∙ (length-append t.0.slots t.1.slots ∙ omega (arith, if_count L (has mask k) k z h t.0 t.2, all_count L mask (suc k) zs t.0.history t.1 t.3))
 
 -- no more than two entries
 placement_few : (s : Settings) (h : History) (k : ℕ) (x : Stamp) → length (entries_in (placement s h k x)) ≤ 2
@@ -187,31 +203,35 @@ in_few room s h k (Stamped x) o z' h' t = settles_few room s h k x (verdict s h 
 in_few room s h k Idle o z' h' t = same_few h h' t.2
 in_few room s h k (Done x p q n) o z' h' t = same_few h h' t.2
 
+pub held_few : (room : Room) (s : Settings) (h : History) (k : ℕ) (x : Held) (o : Option Landing) (x' : Held) (h' : History) → LandsHeld room s h k x o x' h' → (length h ≤ length h') × (length h' ≤ length h + 2)
+held_few room s h k (Ok z) o x' h' t = in_few room s h k z o t.0 h' t.1
+held_few room s h k (Err e) o x' h' t = same_few h h' t.2
+
 -- a slot that was not wanted, and one that was
-pub unasked_adds : (room : Room) (s : Settings) (wanted : Bool) (k : ℕ) (z : SlotState) (h : History) (before : List Landing) → wanted ≡ false → Adds (LandsIf room s wanted k z h) before before (z ∷ []) h
-unasked_adds room s wanted k z h before is =
+pub unasked_adds : {Z : Type 0} (L : LandsOn Z) (wanted : Bool) (k : ℕ) (z : Z) (h : History) (before : List Landing) → wanted ≡ false → Adds (LandsIfBy L wanted k z h) before before (z ∷ []) h
+unasked_adds L wanted k z h before is =
     record {
       made = record { answers = []; history = h; slots = z ∷ [] };
-      lands = subst (λ w. LandsIf room s w k z h (record { answers = []; history = h; slots = z ∷ [] })) (sym is) refl;
+      lands = subst (λ w. LandsIfBy L w k z h (record { answers = []; history = h; slots = z ∷ [] })) (sym is) refl;
       answers = sym (append-nil before);
       slots = refl;
       history = refl;
     }
 
-pub asked_adds : (room : Room) (s : Settings) (wanted : Bool) (k : ℕ) (z : SlotState) (h : History) (o : Option Landing) (z' : SlotState) (h' : History) (before after : List Landing) → wanted ≡ true → LandsIn room s h k z o z' h' → after ≡ before ++ listed o
-    → Adds (LandsIf room s wanted k z h) before after (z' ∷ []) h'
-asked_adds room s wanted k z h o z' h' before after is t q =
+pub asked_adds : {Z : Type 0} (L : LandsOn Z) (wanted : Bool) (k : ℕ) (z : Z) (h : History) (o : Option Landing) (z' : Z) (h' : History) (before after : List Landing) → wanted ≡ true → L h k z o z' h' → after ≡ before ++ listed o
+    → Adds (LandsIfBy L wanted k z h) before after (z' ∷ []) h'
+asked_adds L wanted k z h o z' h' before after is t q =
     record {
       made = record { answers = listed o; history = h'; slots = z' ∷ [] };
-      lands = subst (λ w. LandsIf room s w k z h (record { answers = listed o; history = h'; slots = z' ∷ [] })) (sym is) (o, z', t, refl, refl);
+      lands = subst (λ w. LandsIfBy L w k z h (record { answers = listed o; history = h'; slots = z' ∷ [] })) (sym is) (o, z', t, refl, refl);
       answers = q;
       slots = refl;
       history = refl;
     }
 
 -- the first slots landed, and the rest is as it was
-pub record SoFar (R : Landings → Type 0) (before after : List Landing) (region rest : List SlotState) (h' : History) : Type 0 where
-  pub made : Landings
+pub record SoFar {Z : Type 0} (R : LandingsOf Z → Type 0) (before after : List Landing) (region rest : List Z) (h' : History) : Type 0 where
+  pub made : LandingsOf Z
   pub lands : R made
   pub answers : after ≡ before ++ made.answers
   pub slots : region ≡ made.slots ++ rest
@@ -225,25 +245,28 @@ set_middle : {A : Type 0} (xs ys : List A) (z w : A) → slice_set (xs ++ z ∷ 
 set_middle [] ys z w = refl
 set_middle (x ∷ xs) ys z w = ap (λ r. x ∷ r) (set_middle xs ys z w)
 
-pub so_far_push : (room : Room) (s : Settings) (mask i : ℕ) (old region : List SlotState) (x y : SlotState) (h now later : History) (before mid after : List Landing) → i < length old
-    → SoFar (LandsAll room s mask 0 (take i old) h) before mid region (drop i old) now → slice_get region i ≡ Some x → Adds (LandsIf room s (has mask i) i x now) mid after (y ∷ []) later
-    → SoFar (LandsAll room s mask 0 (take (i + 1) old) h) before after (slice_set region i y) (drop (i + 1) old) later
-so_far_push room s mask i old region x y h now later before mid after lt t found one =
-    let a : Landings = t.made in
-    let z : SlotState = get_or old i x in
-    let rest : List SlotState = drop (i + 1) old in
+same_value : {A : Type 0} (x z : A) → Some z ≡ Some x → x ≡ z
+same_value x z e = cc
+
+pub so_far_push : {Z : Type 0} (L : LandsOn Z) (mask i : ℕ) (old region : List Z) (x y : Z) (h now later : History) (before mid after : List Landing) → i < length old
+    → SoFar (LandsAllBy L mask 0 (take i old) h) before mid region (drop i old) now → slice_get region i ≡ Some x → Adds (LandsIfBy L (has mask i) i x now) mid after (y ∷ []) later
+    → SoFar (LandsAllBy L mask 0 (take (i + 1) old) h) before after (slice_set region i y) (drop (i + 1) old) later
+so_far_push {Z} L mask i old region x y h now later before mid after lt t found one =
+    let a : LandingsOf Z = t.made in
+    let z : Z = get_or old i x in
+    let rest : List Z = drop (i + 1) old in
     let front : length (take i old) ≡ i = omega (arith, length-take i old) in
-    let n : length a.slots ≡ i = all_count room s mask 0 (take i old) h a t.lands ∙ front in
+    let n : length a.slots ≡ i = all_count L mask 0 (take i old) h a t.lands ∙ front in
     let cut : drop i old ≡ z ∷ rest = drop-cons old i x lt ∙ ap (λ m. z ∷ drop m old) (let q : suc i ≡ i + 1 = omega arith in q) in
-    let whole : region ≡ a.slots ++ z ∷ rest = t.slots ∙ ap (λ (w : List SlotState). a.slots ++ w) cut in
-    let here : Some z ≡ Some x = sym (get_middle a.slots rest z) ∙ (ap (slice_get (a.slots ++ z ∷ rest)) n ∙ (ap (λ (w : List SlotState). slice_get w i) (sym whole) ∙ found)) in
-    let same : x ≡ z = cc in
-    let lands : LandsIf room s (has mask i) i z a.history one.made = subst (λ (w : SlotState). LandsIf room s (has mask i) i w a.history one.made) same (subst (λ (w : History). LandsIf room s (has mask i) i x w one.made) t.history one.lands) in
-    let set_here : slice_set region i y ≡ a.slots ++ y ∷ rest = ap (λ (w : List SlotState). slice_set w i y) whole ∙ (ap (λ j. slice_set (a.slots ++ z ∷ rest) j y) (sym n) ∙ set_middle a.slots rest z y) in
+    let whole : region ≡ a.slots ++ z ∷ rest = t.slots ∙ ap (λ (w : List Z). a.slots ++ w) cut in
+    let here : Some z ≡ Some x = sym (get_middle a.slots rest z) ∙ (ap (slice_get (a.slots ++ z ∷ rest)) n ∙ (ap (λ (w : List Z). slice_get w i) (sym whole) ∙ found)) in
+    let same : x ≡ z = same_value x z here in
+    let lands : LandsIfBy L (has mask i) i z a.history one.made = subst (λ (w : Z). LandsIfBy L (has mask i) i w a.history one.made) same (subst (λ (w : History). LandsIfBy L (has mask i) i x w one.made) t.history one.lands) in
+    let set_here : slice_set region i y ≡ a.slots ++ y ∷ rest = ap (λ (w : List Z). slice_set w i y) whole ∙ (ap (λ j. slice_set (a.slots ++ z ∷ rest) j y) (sym n) ∙ set_middle a.slots rest z y) in
     record {
       made = then_others a one.made;
-      lands = subst (λ (zs : List SlotState). LandsAll room s mask 0 zs h (then_others a one.made)) (sym (take_more old i x lt)) (all_push room s mask 0 i (take i old) z h a one.made (omega (arith, front)) t.lands lands);
+      lands = subst (λ (zs : List Z). LandsAllBy L mask 0 zs h (then_others a one.made)) (sym (take_more old i x lt)) (all_push L mask 0 i (take i old) z h a one.made (omega (arith, front)) t.lands lands);
       answers = one.answers ∙ (ap (λ (w : List Landing). w ++ one.made.answers) t.answers ∙ append_assoc before a.answers one.made.answers);
-      slots = set_here ∙ (sym (append_assoc a.slots (y ∷ []) rest) ∙ ap (λ (w : List SlotState). (a.slots ++ w) ++ rest) one.slots);
+      slots = set_here ∙ (sym (append_assoc a.slots (y ∷ []) rest) ∙ ap (λ (w : List Z). (a.slots ++ w) ++ rest) one.slots);
       history = one.history;
     }

@@ -1,10 +1,12 @@
 -- How transactions land, as legal steps of the kernel.
-use Rattle.std.specs.Prelude.{Bool, true, false, ℕ, suc, ◌<◌, ◌≡◌, ◌⊎◌, Option, None, Some, List, [], ◌∷◌, ◌++◌, if◌then◌else◌}
+use Rattle.std.specs.Prelude.{Bool, true, false, ℕ, suc, ◌<◌, ◌≡◌, ◌⊎◌, Option, None, Some, Ok, Err, List, [], ◌∷◌, ◌++◌, if◌then◌else◌}
 use Rattle.gs_layout.specs.declared.outcome.Outcome.{Outcome}
 use Rattle.gs_layout.specs.declared.outcome.Outcome.TheVariants as outcomes
 use Rattle.gs_slots.specs.declared.state.SlotState.{SlotState}
 use Rattle.gs_slots.specs.declared.state.SlotState.TheVariants.{Idle, Stamped, Done}
 use Rattle.gs_slots.specs.declared.state.Stamp.{Stamp}
+use Rattle.gs_slots.specs.Reading.{state_in}
+use Rattle.gs_slots.specs.State.{Held, refused}
 use Rattle.gs_status.specs.Masks.{has}
 use Rattle.gs_journal.specs.History.{History, seq, at}
 use Rattle.gs_kernel.specs.declared.settings.Settings.{Settings}
@@ -45,11 +47,32 @@ LandsIn room s h k (Stamped b) o z h' = (l : Landing) × Lands room s h k b l h'
 LandsIn room s h k Idle o z h' = (o ≡ None) × (z ≡ Idle) × (h' ≡ h)
 LandsIn room s h k (Done b p a n) o z h' = (o ≡ None) × (z ≡ Done b p a n) × (h' ≡ h)
 
+-- what is answered of the malformed slot of CPU k: no thread, and no CPU that it is on
+abbrev pub malformed_landing : ℕ → Landing
+malformed_landing k = record { cpu = k; tid = 0; outcome = outcomes.Malformed; seen = 0; at = None }
+
+-- the slot of CPU k lands, of which this is read before and that afterwards: one with a state as the state does; a malformed one is answered
+-- as malformed, of which alone is left, and nothing is added to the history
+abbrev pub LandsHeld : Room → Settings → History → ℕ → Held → Option Landing → Held → History → Type 0
+LandsHeld room s h k (Ok z) o x h' = (z' : SlotState) × LandsIn room s h k z o z' h' × (x ≡ Ok z')
+LandsHeld room s h k (Err e) o x h' = (o ≡ Some (malformed_landing k)) × (x ≡ Ok refused) × (h' ≡ h)
+
+-- the slot of CPU k with these bytes lands, and those are left
+abbrev pub LandsBytes : Room → Settings → History → ℕ → List ℕ → Option Landing → List ℕ → History → Type 0
+LandsBytes room s h k b o b' h' = LandsHeld room s h k (state_in k b) o (state_in k b') h'
+
+-- how a slot lands on a history, with an answer: what slot and what history it leaves
+abbrev pub LandsOn : Type 0 → Type 1
+LandsOn Z = History → ℕ → Z → Option Landing → Z → History → Type 0
+
 -- what landings answer, in order, and what they leave: the history, and their slots
-pub record Landings : Type 0 where
+pub record LandingsOf (Z : Type 0) : Type 0 where
   pub answers : List Landing
   pub history : History
-  pub slots : List SlotState
+  pub slots : List Z
+
+abbrev pub Landings : Type 0
+Landings = LandingsOf SlotState
 
 -- an answer, if there is one
 abbrev pub listed : Option Landing → List Landing
@@ -57,22 +80,33 @@ listed None = []
 listed (Some l) = l ∷ []
 
 -- landings, and then others on the history that they left
-abbrev pub then_others : Landings → Landings → Landings
+abbrev pub then_others : {Z : Type 0} → LandingsOf Z → LandingsOf Z → LandingsOf Z
 then_others a b = record { answers = a.answers ++ b.answers; history = b.history; slots = a.slots ++ b.slots }
 
--- or stays, where it is not wanted
-abbrev pub LandsIf : Room → Settings → Bool → ℕ → SlotState → History → Landings → Type 0
-LandsIf room s false k z h r = r ≡ record { answers = []; history = h; slots = z ∷ [] }
-LandsIf room s true k z h r = (o : Option Landing) × (z' : SlotState) × LandsIn room s h k z o z' r.history × (r.answers ≡ listed o) × (r.slots ≡ z' ∷ [])
+-- a slot lands, or stays, where it is not wanted
+abbrev pub LandsIfBy : {Z : Type 0} → LandsOn Z → Bool → ℕ → Z → History → LandingsOf Z → Type 0
+LandsIfBy L false k z h r = r ≡ record { answers = []; history = h; slots = z ∷ [] }
+LandsIfBy L true k z h r = (o : Option Landing) × (z' : _) × L h k z o z' r.history × (r.answers ≡ listed o) × (r.slots ≡ z' ∷ [])
 
--- the stamped slots of the mask land, by rising CPU from k on, each on the history that the one before left
+-- the slots of the mask land, by rising CPU from k on, each on the history that the one before left
+abbrev pub LandsAllBy : {Z : Type 0} → LandsOn Z → ℕ → ℕ → List Z → History → LandingsOf Z → Type 0
+LandsAllBy L mask k [] h r = r ≡ record { answers = []; history = h; slots = [] }
+LandsAllBy L mask k (z ∷ zs) h r = (one : LandingsOf _) × (rest : LandingsOf _) × LandsIfBy L (has mask k) k z h one × LandsAllBy L mask (suc k) zs one.history rest × (r ≡ then_others one rest)
+
+-- so land what is stamped in slots that have states
+abbrev pub LandsIf : Room → Settings → Bool → ℕ → SlotState → History → Landings → Type 0
+LandsIf room s = LandsIfBy (LandsIn room s)
+
 abbrev pub LandsAll : Room → Settings → ℕ → ℕ → List SlotState → History → Landings → Type 0
-LandsAll room s mask k [] h r = r ≡ record { answers = []; history = h; slots = [] }
-LandsAll room s mask k (z ∷ zs) h r = (one : Landings) × (rest : Landings) × LandsIf room s (has mask k) k z h one × LandsAll room s mask (suc k) zs one.history rest × (r ≡ then_others one rest)
+LandsAll room s = LandsAllBy (LandsIn room s)
+
+-- and the slots of a region, stamped and malformed ones
+abbrev pub LandsRegion : Room → Settings → ℕ → ℕ → List (List ℕ) → History → LandingsOf (List ℕ) → Type 0
+LandsRegion room s = LandsAllBy (LandsBytes room s)
 
 -- landings add their answers to these, and leave these slots and this history
-pub record Adds (R : Landings → Type 0) (before after : List Landing) (left : List SlotState) (h' : History) : Type 0 where
-  pub made : Landings
+pub record Adds {Z : Type 0} (R : LandingsOf Z → Type 0) (before after : List Landing) (left : List Z) (h' : History) : Type 0 where
+  pub made : LandingsOf Z
   pub lands : R made
   pub answers : after ≡ before ++ made.answers
   pub slots : left ≡ made.slots

@@ -4,12 +4,12 @@ ghost use Rattle.std.specs.Prelude.{◌≡◌, ℕ, ◌+◌, ◌<◌, ◌≤◌,
 ghost use Rattle.gs_layout.specs.declared.message.Message.{Message};
 ghost use Rattle.gs_layout.specs.Spelling.{IsCpuOrNone};
 ghost use Rattle.gs_slots.specs.State.{is_malformed};
-ghost use Rattle.gs_slots.specs.SlotMut.{cpu_of, left_in, state_of};
+ghost use Rattle.gs_slots.specs.SlotMut.{bytes_of, cpu_of, left_in, state_of};
 ghost use Rattle.gs_journal.specs.History.{on, posted, torn};
 ghost use Rattle.gs_kernel.specs.Kernel.{is_agent_on};
 ghost use Rattle.gs_kernel.specs.Landing.{verdict, verdict_in, cpu_verdict, is_generation, placing_entries};
 ghost use Rattle.gs_kernel.specs.Legal.{Frame, RoomOf, Tells};
-ghost use Rattle.gs_kernel.specs.Lands.{Lands, LandsIn, Settles, placement};
+ghost use Rattle.gs_kernel.specs.Lands.{Lands, LandsBytes, Settles, placement};
 
 use crate::effect::Effect;
 use crate::kernel::Kernel;
@@ -92,8 +92,9 @@ impl<P: Poster> Kernel<P> {
     /// [`Outcome::Placed`], and the slot is done then, with the outcome, the CPU that the thread is on
     /// afterwards, and the thread's sequence number before. Where a thread is on the CPU and the stamp
     /// says that it is to be taken off, it is told so first; where that message does not fit, the enclave
-    /// is torn down, and the outcome is [`Outcome::Gone`]. Answers `None` for a slot that is idle or done,
-    /// and leaves it. The slot is that of a CPU of the enclave.
+    /// is torn down, and the outcome is [`Outcome::Gone`]. A malformed slot lands too, as
+    /// [`Outcome::Malformed`] with no thread: nothing comes of it, and that alone is left in it. Answers
+    /// `None` for a slot that is idle or done, and leaves it. The slot is that of a CPU of the enclave.
     ///
     /// # Errors
     ///
@@ -101,8 +102,8 @@ impl<P: Poster> Kernel<P> {
     /// thread is taken off), and memory runs out. Then nothing changes.
     pub fn land(&mut self, slot: SlotMut<'_>) -> Result<Option<Landing>, AllocError>
         requires { cpu_of slot < self.old.settings.cpus }
-        ensures lands { IfOk result (λ o. LandsIn (RoomOf P.same P.taken P.posted P.tight self.old.poster) self.old.settings self.old.history (cpu_of slot.entry) (state_of slot.entry) o (left_in slot.exit) self.new.history) }
-        ensures refused { OnErr result ((self.new ≡ self.old) × (left_in slot.exit ≡ state_of slot.entry)) }
+        ensures lands { IfOk result (λ o. LandsBytes (RoomOf P.same P.taken P.posted P.tight self.old.poster) self.old.settings self.old.history (cpu_of slot.entry) (bytes_of slot.entry) o (left_in slot.exit) self.new.history) }
+        ensures refused { OnErr result ((self.new ≡ self.old) × (left_in slot.exit ≡ bytes_of slot.entry)) }
         ensures memory { OnErr result (verdict_in self.old.settings self.old.history (cpu_of slot.entry) (state_of slot.entry) ≡ Some Outcome.Placed) }
         ensures reserved { OnErr result (self.old.room < placing_entries (on self.old.history (cpu_of slot.entry))) }
         ensures frame { Frame P.same P.taken P.posted self.old self.new }
@@ -111,12 +112,18 @@ impl<P: Poster> Kernel<P> {
         // A look at a field, by which the proof has what the kernel keeps.
         let _settings = &self.settings;
         let cpu = slot.cpu();
-        let Ok(SlotState::Stamped { stamp }) = slot.state() else {
-            return Ok(None);
-        };
-        let landing = self.land_stamp(cpu, &stamp)?;
-        slot.finish(landing.outcome, landing.at, landing.seen);
-        Ok(Some(landing))
+        match slot.state() {
+            Ok(SlotState::Stamped { stamp }) => {
+                let landing = self.land_stamp(cpu, &stamp)?;
+                slot.finish(landing.outcome, landing.at, landing.seen);
+                Ok(Some(landing))
+            }
+            Ok(_) => Ok(None),
+            Err(_) => {
+                slot.finish(Outcome::Malformed, None, 0);
+                Ok(Some(Landing::malformed(cpu)))
+            }
+        }
     }
 
     /// What was stamped into the slot of a CPU lands, as the slot would, but no slot is told of it: a landing

@@ -22,8 +22,8 @@ fn kind_name(kind: Kind) -> &'static str
     }
 }
 
-/// Adds a CPU, or `-` for none.
-pub(crate) fn write_cpu(out: &mut String, cpu: Option<u16>) -> Result<(), AllocError>
+/// Adds a CPU, or `-` for none. It fails only for want of memory.
+pub fn write_cpu(out: &mut String, cpu: Option<u16>) -> Result<(), AllocError>
     ensures { OnOk result (string_bytes out.new ≡ string_bytes out.old ++ cpu_text cpu) }
 {
     match cpu {
@@ -54,8 +54,8 @@ pub(crate) fn write_messages(out: &mut String, messages: &[Message]) -> Result<(
     Ok(())
 }
 
-/// What is said to have happened to a thread.
-fn change_name(change: &Change) -> &'static str
+/// What is said to have happened to a thread: one word, as `created` or `woken`.
+pub fn change_name(change: &Change) -> &'static str
     ensures { result.now ≡ change_text change.now }
 {
     match change {

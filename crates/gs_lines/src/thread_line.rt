@@ -23,20 +23,28 @@ fn class_name(class: Class) -> &'static str
     }
 }
 
+/// A name as text: its bytes are ASCII.
+#[tactic(auto, using(crate::proofs::Names::name_is_utf8))]
+pub fn name_str(name: &Name) -> &str
+    ensures { result.now ≡ name.now }
+{
+    str::from_utf8(name.as_bytes()).unwrap()
+}
+
 /// Adds a name, or `-` for the empty one.
-#[tactic(auto, using(crate::proofs::Names::name_is_utf8, crate::proofs::Names::name_text_some))]
+#[tactic(auto, using(crate::proofs::Names::name_text_some))]
 fn write_name(out: &mut String, name: &Name) -> Result<(), AllocError>
     ensures { OnOk result (string_bytes out.new ≡ string_bytes out.old ++ name_text name.now) }
 {
-    let bytes = name.as_bytes();
-    if bytes.is_empty() {
+    let text = name_str(name);
+    if text.is_empty() {
         return out.push('-');
     }
-    out.push_str(str::from_utf8(bytes).unwrap())
+    out.push_str(text)
 }
 
-/// Adds a thread's facts.
-fn write_facts(out: &mut String, facts: &Facts) -> Result<(), AllocError>
+/// Adds a thread's facts: whether it may run, its mask, its class and its name. It fails only for want of memory.
+pub fn write_facts(out: &mut String, facts: &Facts) -> Result<(), AllocError>
     ensures { OnOk result (string_bytes out.new ≡ string_bytes out.old ++ facts_text facts.now) }
 {
     let mask = facts.mask.bits();

@@ -1,2 +1,5 @@
 -- What the proofs of the crates above cite of this crate.
-pub use Rattle.gs_slots.proofs.Lent.{changed_more, set_as_it_was}
+pub use Rattle.gs_slots.proofs.Exact.{read_spelt}
+pub use Rattle.gs_slots.proofs.Filled.{all_left}
+pub use Rattle.gs_slots.proofs.Lent.{by_cpu_count, by_cpu_more, by_cpu_stays, changed_more, set_as_it_was}
+pub use Rattle.gs_slots.proofs.States.{all_idle_read, collected_read, get_held, held_get, set_held, stamps_read, state_at, states_count, states_set, told_at, told_is}

@@ -1,5 +1,7 @@
 mod Lent
 mod ReadBack
-mod Written
+mod Exact
+mod States
+mod Filled
 mod Rows
 pub mod Laws

@@ -1,6 +1,7 @@
 -- What is spelt in the bytes of a slot is read back from them.
 use Rattle.std.proofs.Common.{◌≡◌, Bool, true, false, cond, ℕ, ◌^◌, ◌<◌, Option, None, Some, List, [], ◌++◌, replicate, refl, ap, ◌∙◌, arith}
-use Rattle.std.specs.Prelude.{◌==◌, if◌then◌else◌, unwrap_or}
+use Rattle.std.specs.Prelude.{◌==◌, ◌&&◌, not, if◌then◌else◌, unwrap_or}
+use Rattle.std.proofs.lemmas.Bool.{and_parts, ltb-true}
 use Rattle.std.proofs.lemmas.Bool.Decides.{nat_tests}
 use Rattle.byteorder.specs.Endian.{little_bytes, little_number}
 use Rattle.byteorder.specs.Numbers.{little_number-reads_back}
@@ -12,11 +13,12 @@ use Rattle.gs_layout.specs.Spelling.{IsCpuOrNone, cpu_number}
 use Rattle.gs_slots.specs.declared.state.SlotState.{SlotState}
 use Rattle.gs_slots.specs.declared.state.SlotState.TheVariants.{Idle, Stamped, Done}
 use Rattle.gs_slots.specs.declared.state.Stamp.{Stamp}
-use Rattle.gs_slots.specs.Reading.{stamp_in, state_in}
-use Rattle.gs_slots.specs.Spelling.{IsSpellableState, IsSpellableStamp, result_bytes, slot_spelling, stamp_bytes}
+use Rattle.gs_slots.specs.Reading.{fields_in, stamp_in}
+use Rattle.gs_slots.specs.State.{is_malformed}
+use Rattle.gs_slots.specs.Spelling.{IsSpellableState, IsSpellableStamp, is_blank, is_cpu_or_none, is_result, result_bytes, slot_spelling, stamp_bytes}
 
 -- a number is read from its bytes
-reads : (n x : ℕ) → x < 256 ^ n → little_number n (little_bytes n x ++ []) ≡ x
+pub reads : (n x : ℕ) → x < 256 ^ n → little_number n (little_bytes n x ++ []) ≡ x
 reads n x lt = little_number-reads_back n x [] lt
 
 flag_back : (b : Bool) → ((if b then 1 else 0) == 1) ≡ b
@@ -56,8 +58,31 @@ stamp_back kind cpu s rest fits = λ i. record {
   preempt = flag_back s.preempt i;
 }
 
--- a state is read back from its spelling
-pub read_back : (cpu : ℕ) (s : SlotState) → IsSpellableState s → state_in (slot_spelling cpu s) ≡ s
+-- where a slot can hold a result, its CPU is one or none
+some_is_set : (a b c p d : Bool) → (a && b && c && not p && false && d) ≡ true → ⊥
+some_is_set a b c p d e =
+    let left = (and_parts (a && b && c && not p && false) d e).0 in
+    let none = (and_parts (a && b && c && not p) false left).1 in
+    cc
+
+none_of_blank : (s : Stamp) (at : Option ℕ) (seen : ℕ) → is_blank s at seen ≡ true → IsCpuOrNone at
+none_of_blank s None seen e = tt
+none_of_blank s (Some c) seen e = absurd (some_is_set (s.generation == 0) (s.tid == 0) (s.tseq == 0) s.preempt (seen == 0) e)
+
+pub cpu_of_result : (s : Stamp) (o : Outcome) (at : Option ℕ) (seen : ℕ) → is_result s o at seen ≡ true → IsCpuOrNone at
+cpu_of_result s o at seen e = by_outcome (is_malformed o) e
+  where
+    of_cpu : (q : Option ℕ) → is_cpu_or_none q ≡ true → IsCpuOrNone q
+    of_cpu None e = tt
+    of_cpu (Some c) e = ltb-true c 64 e
+
+    by_outcome : (b : Bool) → cond b (is_blank s at seen) (is_cpu_or_none at) ≡ true → IsCpuOrNone at
+    by_outcome true e = none_of_blank s at seen e
+    by_outcome false e = of_cpu at e
+
+-- the fields of a state's spelling say that state
+pub read_back : (cpu : ℕ) (s : SlotState) → IsSpellableState s → fields_in (slot_spelling cpu s) ≡ s
 read_back cpu Idle fits = refl
-read_back cpu (Stamped s) fits = λ i. Stamped (stamp_back 1 cpu s (replicate 16 0) fits i)
-read_back cpu (Done s outcome at seen) fits = λ i. Done (stamp_back 2 cpu s (result_bytes outcome at seen ++ replicate 8 0) fits.0 i) (outcome_back outcome i) (cpu_back at fits.1.within i) (reads 4 seen fits.1.fits i)
+read_back cpu (Stamped s) fits = λ i. Stamped (stamp_back 1 cpu s (replicate 16 0) fits.1 i)
+read_back cpu (Done s outcome at seen) fits =
+    λ i. Done (stamp_back 2 cpu s (result_bytes outcome at seen ++ replicate 8 0) fits.1.0 i) (outcome_back outcome i) (cpu_back at (cpu_of_result s outcome at seen fits.0) i) (reads 4 seen fits.1.1 i)

@@ -1,28 +1,32 @@
--- What a region, or a part of it, is once the slots that it lent are back.
-use Rattle.std.specs.Prelude.{ℕ, List, ◌∷◌, ◌++◌, Option, take, drop, length, slice_set}
-use Rattle.std.specs.Borrow.{Lends, LendsBoth, LendsBothIf, MutBor, Fml, Array}
-use Rattle.gs_slots.specs.declared.state.SlotState.{SlotState}
+-- What a region, a part of it, or a slot is once what it lent is back.
+use Rattle.std.specs.Prelude.{ℕ, List, [], ◌∷◌, ◌++◌, Option, take, drop, length, slice_set}
+use Rattle.std.specs.Borrow.{Lends, LendsBoth, LendsBothIf, MutBor, Fml, Array, u8}
 use Rattle.gs_slots.specs.declared.slot.SlotMut.{SlotMut}
 use Rattle.gs_slots.specs.declared.slots.Slots.{Slots}
 use Rattle.gs_slots.specs.contracts.region.Region as region_type
-use Rattle.gs_slots.specs.contracts.cell.SlotCell as cell_type
+use Rattle.gs_slots.specs.contracts.slot.SlotMut as slot_type
+use mir.Syntax.{named}
 
 -- slots with these in place of the first of them, as many as before; where there are as many, just these
-abbrev pub left_as : List SlotState → List SlotState → List SlotState
+abbrev pub left_as : List (List ℕ) → List (List ℕ) → List (List ℕ)
 left_as slots left = take (length slots) (left ++ drop (length left) slots)
 
 -- the region is the slots as they were left
-abbrev pub LendsAll : MutBor (List SlotState) → Slots → Fml
-LendsAll region slots = Lends region_type.the_row (Array cell_type.the_row 0) region slots.rest (left_as region.now)
+abbrev pub LendsAll : MutBor (List (List ℕ)) → Slots → Fml
+LendsAll region slots = Lends region_type.the_row (Array (Array u8 32) 0) region slots.rest (left_as region.now)
 
 -- the region has the slot of CPU k as it was left, and every other as before
-abbrev pub LendsOne : MutBor (List SlotState) → ℕ → SlotMut → Fml
-LendsOne region k slot = Lends region_type.the_row cell_type.the_row region slot.cell (slice_set region.now k)
+abbrev pub LendsOne : MutBor (List (List ℕ)) → ℕ → SlotMut → Fml
+LendsOne region k slot = Lends region_type.the_row (Array u8 32) region slot.bytes (slice_set region.now k)
 
 -- the slots are the first as it was left, and then the rest as it was left
-abbrev pub LendsNext : MutBor (List SlotState) → Option (MutBor SlotState × MutBor (List SlotState)) → Fml
-LendsNext slots parts = LendsBothIf (Array cell_type.the_row 0) cell_type.the_row (Array cell_type.the_row 0) slots parts ◌∷◌ slots.now
+abbrev pub LendsNext : MutBor (List (List ℕ)) → Option (MutBor (List ℕ) × MutBor (List (List ℕ))) → Fml
+LendsNext slots parts = LendsBothIf (Array (Array u8 32) 0) (Array u8 32) (Array (Array u8 32) 0) slots parts ◌∷◌ slots.now
 
 -- the slots are both parts as they were left, one after the other
-abbrev pub LendsParts : MutBor (List SlotState) → MutBor (List SlotState) × MutBor (List SlotState) → Fml
-LendsParts slots parts = LendsBoth (Array cell_type.the_row 0) (Array cell_type.the_row 0) (Array cell_type.the_row 0) slots parts ◌++◌
+abbrev pub LendsParts : MutBor (List (List ℕ)) → MutBor (List (List ℕ)) × MutBor (List (List ℕ)) → Fml
+LendsParts slots parts = LendsBoth (Array (Array u8 32) 0) (Array (Array u8 32) 0) (Array (Array u8 32) 0) slots parts ◌++◌
+
+-- the slot is that of the same CPU, with the bytes as they were left
+abbrev pub LendsBytes : MutBor SlotMut → MutBor (List ℕ) → Fml
+LendsBytes slot bytes = Lends (slot_type.the_row (record { mir = named 1; lft = [] })) (Array u8 32) slot bytes (λ w. record slot.now { bytes = record slot.now.bytes { now = w } })

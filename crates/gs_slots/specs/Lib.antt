@@ -3,3 +3,5 @@ pub mod Spelling
 pub mod Reading
 pub mod SlotMut
 pub mod Lending
+pub mod Tests
+pub mod Filling

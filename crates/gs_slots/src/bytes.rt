@@ -1,13 +1,18 @@
 //! A slot as 32 bytes.
 
-ghost use Rattle.std.specs.Prelude.{◌≡◌, ◌≤◌, ◌++◌, length, drop};
+ghost use Rattle.std.specs.Prelude.{◌≡◌, ◌+◌, ◌≤◌, ◌++◌, length, drop, true, false, Ok};
+ghost use Rattle.gs_layout.specs.Spelling.{IsCpuOrNone};
 ghost use Rattle.gs_slots.specs.declared.state.SlotState.{SlotState};
-ghost use Rattle.gs_slots.specs.Spelling.{done_bytes, result_bytes, slot_spelling, stamp_bytes};
-ghost use Rattle.gs_slots.specs.Reading.{outcome_in, stamp_in, state_in};
+ghost use Rattle.gs_slots.specs.declared.state.Stamp.{Stamp};
+ghost use Rattle.gs_slots.specs.Spelling.{can_hold, done_bytes, is_blank, is_result, result_bytes, slot_spelling, stamp_bytes};
+ghost use Rattle.gs_slots.specs.Reading.{fields_in, outcome_in, stamp_in, state_in};
+ghost use Rattle.gs_slots.specs.State.{has_stamp, is_malformed, refused};
+ghost use Rattle.gs_slots.specs.Tests.{is_done, is_idle, is_of, is_stamp, is_zero_at, passes};
 
-use crate::state::{SlotState, Stamp};
+use crate::state::{Malformed, SlotState, Stamp};
 use byteorder::{ByteOrder, LittleEndian};
-use gs_layout::{Outcome, cpu_number, cpu_numbered, u16_at, u32_at};
+use gs_layout::{Outcome, cpu_number, cpu_numbered, u16_at, u32_at, u64_at};
+use gs_status::MOST_CPUS;
 
 /// How many bytes a slot has.
 pub(crate) const SIZE: usize = 32;
@@ -19,6 +24,9 @@ const DONE: u8 = 2;
 
 /// Where what became of a transaction stands.
 const RESULT: usize = 16;
+
+/// How many outcomes there are: their numbers are below it.
+const OUTCOMES: u16 = 14;
 
 fn stamp_at(bytes: &[u8]) -> Stamp
     requires { length bytes.now ≡ 32 }
@@ -39,10 +47,10 @@ fn outcome_at(bytes: &[u8]) -> Outcome
     Outcome::numbered(u16_at(bytes, 16)).unwrap_or(Outcome::Malformed)
 }
 
-/// What the bytes of a slot spell.
-pub(crate) fn state_at(bytes: &[u8]) -> SlotState
+/// What the fields of a slot say, whatever its other bytes are.
+fn fields_at(bytes: &[u8]) -> SlotState
     requires { length bytes.now ≡ 32 }
-    ensures { result ≡ state_in bytes.now }
+    ensures { result ≡ fields_in bytes.now }
 {
     match bytes[0] {
         STAMPED => SlotState::Stamped {
@@ -55,6 +63,112 @@ pub(crate) fn state_at(bytes: &[u8]) -> SlotState
             seen: u32_at(bytes, 20),
         },
         _ => SlotState::Idle,
+    }
+}
+
+/// Whether the eight bytes from a place on are zero.
+fn is_zero_at(place: usize, bytes: &[u8]) -> bool
+    requires { place + 8 ≤ length bytes.now }
+    ensures { result ≡ is_zero_at place bytes.now }
+{
+    u64_at(bytes, place) == 0
+}
+
+/// Whether no flag but the first is set, and the CPU is this one.
+fn is_of(cpu: u16, bytes: &[u8]) -> bool
+    requires { length bytes.now ≡ 32 }
+    ensures { result ≡ is_of cpu bytes.now }
+{
+    bytes[1] < 2 && u16_at(bytes, 2) == cpu
+}
+
+fn is_idle(bytes: &[u8]) -> bool
+    requires { length bytes.now ≡ 32 }
+    ensures { result ≡ is_idle bytes.now }
+{
+    is_zero_at(0, bytes) && is_zero_at(8, bytes) && is_zero_at(16, bytes) && is_zero_at(24, bytes)
+}
+
+fn is_stamp(cpu: u16, bytes: &[u8]) -> bool
+    requires { length bytes.now ≡ 32 }
+    ensures { result ≡ is_stamp cpu bytes.now }
+{
+    is_of(cpu, bytes) && is_zero_at(16, bytes) && is_zero_at(24, bytes)
+}
+
+fn is_done(cpu: u16, bytes: &[u8]) -> bool
+    requires { length bytes.now ≡ 32 }
+    ensures { result ≡ is_done cpu bytes.now }
+{
+    is_of(cpu, bytes) && u16_at(bytes, 16) < OUTCOMES && is_zero_at(24, bytes)
+}
+
+/// Whether the fields of the slot of a CPU are right, and all other bytes zero.
+fn passes(cpu: u16, bytes: &[u8]) -> bool
+    requires { length bytes.now ≡ 32 }
+    ensures { result ≡ passes cpu bytes.now }
+{
+    match bytes[0] {
+        STAMPED => is_stamp(cpu, bytes),
+        DONE => is_done(cpu, bytes),
+        _ => is_idle(bytes),
+    }
+}
+
+/// Whether this can be left of a transaction: a CPU or none; of a malformed slot nothing but that.
+fn is_result(stamp: &Stamp, outcome: Outcome, at: Option<u16>, seen: u32) -> bool
+    ensures { result ≡ is_result stamp.now outcome at seen }
+{
+    if outcome == Outcome::Malformed {
+        return is_blank(stamp, at, seen);
+    }
+    match at {
+        Some(cpu) => cpu < MOST_CPUS,
+        None => true,
+    }
+}
+
+/// Whether the numbers of a transaction, and of what became of it, are all zero, and no CPU is named.
+fn is_blank(stamp: &Stamp, at: Option<u16>, seen: u32) -> bool
+    ensures { result ≡ is_blank stamp.now at seen }
+{
+    stamp.generation == 0
+        && stamp.tid == 0
+        && stamp.tseq == 0
+        && !stamp.preempt
+        && at.is_none()
+        && seen == 0
+}
+
+/// Whether a slot can hold this.
+fn can_hold(state: &SlotState) -> bool
+    ensures { result ≡ can_hold state.now }
+{
+    match state {
+        SlotState::Done {
+            stamp,
+            outcome,
+            at,
+            seen,
+        } => is_result(stamp, *outcome, *at, *seen),
+        _ => true,
+    }
+}
+
+/// What is read of the slot of a CPU.
+///
+/// # Errors
+///
+/// Where its bytes spell no state of a slot of this CPU.
+pub(crate) fn state_at(cpu: u16, bytes: &[u8]) -> Result<SlotState, Malformed>
+    requires { length bytes.now ≡ 32 }
+    ensures { result ≡ state_in cpu bytes.now }
+{
+    let fields = fields_at(bytes);
+    if passes(cpu, bytes) && can_hold(&fields) {
+        Ok(fields)
+    } else {
+        Err(Malformed)
     }
 }
 
@@ -80,7 +194,7 @@ fn write_result(outcome: Outcome, at: Option<u16>, seen: u32, out: &mut [u8])
     LittleEndian::write_u32(&mut out[4..], seen);
 }
 
-/// Stamps a transaction into the slot of a CPU.
+/// Stamps a transaction into the slot of a CPU, whatever was in it.
 pub(crate) fn write_stamped(cpu: u16, stamp: &Stamp, out: &mut [u8])
     requires { length out.old ≡ 32 }
     ensures { out.new ≡ slot_spelling cpu (SlotState.Stamped stamp.now) }
@@ -90,10 +204,35 @@ pub(crate) fn write_stamped(cpu: u16, stamp: &Stamp, out: &mut [u8])
 }
 
 /// Makes a slot done that is stamped: its transaction stays where it is.
-pub(crate) fn write_done(outcome: Outcome, at: Option<u16>, seen: u32, out: &mut [u8])
+fn write_done(outcome: Outcome, at: Option<u16>, seen: u32, out: &mut [u8])
     requires { length out.old ≡ 32 }
     ensures { out.new ≡ done_bytes outcome at seen out.old }
 {
     out[0] = DONE;
     write_result(outcome, at, seen, &mut out[RESULT..]);
+}
+
+/// Leaves in the slot of a CPU that it was malformed, and nothing else.
+fn write_refused(cpu: u16, out: &mut [u8])
+    requires { length out.old ≡ 32 }
+    ensures { out.new ≡ slot_spelling cpu refused }
+{
+    write_stamped(cpu, &Stamp::NONE, out);
+    write_done(Outcome::Malformed, None, 0, out);
+}
+
+/// Leaves in the slot of a CPU what became of the transaction that is stamped in it; or, with the outcome
+/// `Malformed`, nothing but that, whatever was in it.
+pub(crate) fn finish(cpu: u16, outcome: Outcome, at: Option<u16>, seen: u32, out: &mut [u8])
+    requires size { length out.old ≡ 32 }
+    requires stamped { is_malformed outcome ≡ false → has_stamp (state_in cpu out.old) ≡ true }
+    requires at { IsCpuOrNone at }
+    ensures done { (s : Stamp) → is_malformed outcome ≡ false → state_in cpu out.old ≡ Ok (SlotState.Stamped s) → state_in cpu out.new ≡ Ok (SlotState.Done s outcome at seen) }
+    ensures refused { is_malformed outcome ≡ true → state_in cpu out.new ≡ Ok refused }
+{
+    if outcome == Outcome::Malformed {
+        write_refused(cpu, out);
+        return;
+    }
+    write_done(outcome, at, seen, out);
 }

@@ -8,13 +8,13 @@
 #![tactic(auto)]
 
 mod bytes;
-mod cell;
+mod fill;
 mod region;
 mod slot;
 mod slots;
 mod state;
 
-pub use cell::SlotCell;
+pub use fill::{Fill, FillFault, fill_halves};
 pub use region::Region;
 pub use slot::SlotMut;
 pub use slots::Slots;

@@ -1,28 +1,34 @@
-ghost use Rattle.std.specs.Prelude.{◌≡◌, ◌↔◌, IsOk, OnOk, OnErr, Ok, true, false};
+ghost use Rattle.std.specs.Prelude.{◌≡◌, ◌↔◌, IsOk, IfOk, OnOk, OnErr, Ok, true, false};
+ghost use Rattle.std.specs.Borrow.{sem};
 ghost use Rattle.gs_layout.specs.Spelling.{IsCpuOrNone};
 ghost use Rattle.gs_slots.specs.declared.state.SlotState.{SlotState};
-ghost use Rattle.gs_slots.specs.State.{finished, is_malformed, is_stamped, outcome_of};
-ghost use Rattle.gs_slots.specs.SlotMut.{cpu_of, left_in, reference_of, state_of};
+ghost use Rattle.gs_slots.specs.declared.state.Stamp.{Stamp};
+ghost use Rattle.gs_slots.specs.Lending.{LendsBytes};
+ghost use Rattle.gs_slots.specs.Reading.{state_in};
+ghost use Rattle.gs_slots.specs.Spelling.{idle_bytes, slot_spelling};
+ghost use Rattle.gs_slots.specs.State.{has_stamp, is_malformed, refused, told_in};
+ghost use Rattle.gs_slots.specs.SlotMut.{bytes_of, cpu_of, left_in, reference_of, state_of};
 
-use crate::cell::SlotCell;
+use crate::bytes::{SIZE, finish, state_at, write_stamped};
 use crate::state::{Malformed, SlotBusy, SlotState, Stamp};
 use gs_layout::Outcome;
 
-/// The slot of one CPU, lent.
+/// The slot of one CPU, lent: its 32 bytes, read and written where they lie.
 #[derive(Drop)]
 pub struct SlotMut<'a> {
-    cell: &'a mut SlotCell,
+    bytes: &'a mut [u8; 32],
     cpu: u16,
 }
 
 impl<'a> SlotMut<'a> {
-    /// The slot of a CPU whose place this is.
-    pub fn over(cell: &'a mut SlotCell, cpu: u16) -> SlotMut<'a>
-        ensures same_reference { reference_of result ≡ cell.entry.ghost_name }
-        ensures state { state_of result ≡ cell.old }
+    /// The slot of a CPU whose bytes these are. They may be any: what they are not as this CPU's slot
+    /// is malformed.
+    pub fn over(cpu: u16, bytes: &'a mut [u8; 32]) -> SlotMut<'a>
+        ensures same_reference { reference_of result ≡ bytes.entry.ghost_name }
+        ensures bytes { bytes_of result ≡ bytes.old }
         ensures cpu { cpu_of result ≡ cpu }
     {
-        SlotMut { cell, cpu }
+        SlotMut { bytes, cpu }
     }
 
     /// The CPU whose slot it is.
@@ -32,23 +38,33 @@ impl<'a> SlotMut<'a> {
         self.cpu
     }
 
+    /// Its bytes, to read or to write any into it.
+    pub fn bytes(&mut self) -> &mut [u8; 32]
+        ensures* writes_back { sem 𝓛 (LendsBytes self.entry result) }
+        ensures bytes { result.now ≡ bytes_of self.old }
+    {
+        &mut *self.bytes
+    }
+
     /// What is in the slot.
     ///
     /// # Errors
     ///
-    /// Never yet: no slot can hold anything but a state.
+    /// `Malformed` exactly where its bytes spell no state of a slot of its CPU: another CPU stands there,
+    /// a flag that there is not, a number that is no outcome's, or a byte that no field has is not zero.
     pub fn state(&self) -> Result<SlotState, Malformed>
-        ensures { result ≡ Ok (state_of self.now) }
+        ensures state { result ≡ state_of self.now }
+        ensures spelt { IfOk result (λ z. bytes_of self.now ≡ slot_spelling (cpu_of self.now) z) }
     {
-        Ok(self.cell.state())
+        state_at(self.cpu, self.bytes)
     }
 
     /// What became of the transaction, where it landed.
     pub fn outcome(&self) -> Option<Outcome>
-        ensures { result ≡ outcome_of (state_of self.now) }
+        ensures { result ≡ told_in (state_of self.now) }
     {
-        match self.cell.state() {
-            SlotState::Done { outcome, .. } => Some(outcome),
+        match self.state() {
+            Ok(SlotState::Done { outcome, .. }) => Some(outcome),
             _ => None,
         }
     }
@@ -59,44 +75,42 @@ impl<'a> SlotMut<'a> {
     ///
     /// `SlotBusy` exactly where the slot is not idle. It stays as it was.
     pub fn stamp(self, generation: u32, tid: u32, tseq: u32, preempt: bool) -> Result<(), SlotBusy>
-        ensures exact { IsOk result ↔ (state_of self.entry ≡ SlotState.Idle) }
-        ensures stamped { OnOk result (left_in self.exit ≡ SlotState.Stamped (record { generation = generation; tid = tid; tseq = tseq; preempt = preempt })) }
-        ensures busy { OnErr result (left_in self.exit ≡ state_of self.entry) }
+        ensures exact { IsOk result ↔ (state_of self.entry ≡ Ok SlotState.Idle) }
+        ensures stamped { OnOk result (state_in (cpu_of self.entry) (left_in self.exit) ≡ Ok (SlotState.Stamped (record { generation = generation; tid = tid; tseq = tseq; preempt = preempt }))) }
+        ensures busy { OnErr result (left_in self.exit ≡ bytes_of self.entry) }
     {
-        let SlotMut { cell, cpu } = self;
-        match cell.state() {
-            SlotState::Idle => {
-                let stamp = Stamp {
-                    generation,
-                    tid,
-                    tseq,
-                    preempt,
-                };
-                cell.stamp(cpu, stamp);
-                Ok(())
-            }
-            _ => Err(SlotBusy),
-        }
+        let SlotMut { bytes, cpu } = self;
+        let Ok(SlotState::Idle) = state_at(cpu, bytes) else {
+            return Err(SlotBusy);
+        };
+        let stamp = Stamp {
+            generation,
+            tid,
+            tseq,
+            preempt,
+        };
+        write_stamped(cpu, &stamp, bytes);
+        Ok(())
     }
 
-    /// Leaves in the slot what became of the transaction that is stamped in it: its outcome, which is
-    /// not `Malformed`, the CPU that the thread is on, and the thread's sequence number
-    /// before the landing.
+    /// Leaves in the slot what became of the transaction that is stamped in it: its outcome, the CPU that
+    /// the thread is on, and the thread's sequence number before the landing. With the outcome
+    /// [`Malformed`](Outcome::Malformed) any slot may be given, and nothing but that is left in it.
     pub fn finish(self, outcome: Outcome, at: Option<u16>, seen: u32)
-        requires stamped { is_stamped (state_of self) ≡ true }
-        requires outcome { is_malformed outcome ≡ false }
+        requires stamped { is_malformed outcome ≡ false → has_stamp (state_of self) ≡ true }
         requires at { IsCpuOrNone at }
-        ensures { left_in self.exit ≡ finished outcome at seen (state_of self.entry) }
+        ensures done { (s : Stamp) → is_malformed outcome ≡ false → state_of self.entry ≡ Ok (SlotState.Stamped s) → state_in (cpu_of self.entry) (left_in self.exit) ≡ Ok (SlotState.Done s outcome at seen) }
+        ensures refused { is_malformed outcome ≡ true → state_in (cpu_of self.entry) (left_in self.exit) ≡ Ok refused }
     {
-        let SlotMut { cell, cpu: _ } = self;
-        cell.finish(outcome, at, seen);
+        let SlotMut { bytes, cpu } = self;
+        finish(cpu, outcome, at, seen, bytes);
     }
 
     /// Makes the slot idle, whatever is in it.
     pub fn clear(self)
-        ensures { left_in self.exit ≡ SlotState.Idle }
+        ensures { left_in self.exit ≡ idle_bytes }
     {
-        let SlotMut { cell, cpu: _ } = self;
-        cell.clear();
+        let SlotMut { bytes, cpu: _ } = self;
+        *bytes = [0; SIZE];
     }
 }

@@ -2,23 +2,21 @@ ghost use Rattle.std.specs.Prelude.{◌≡◌, ◌≤◌, ◌+◌, [], ◌∷◌
 ghost use Rattle.std.specs.Borrow.{sem};
 ghost use Rattle.gs_slots.specs.Lending.{LendsNext, LendsParts};
 
-use crate::cell::SlotCell;
-
 /// Slots of a region that are lent, by rising CPU.
 ///
-/// Take it apart to go on with `rest`: a slot's cell and the rest behind it, or two parts, are lent
+/// Take it apart to go on with `rest`: a slot's bytes and the rest behind it, or two parts, are lent
 /// together.
 #[derive(Drop)]
 pub struct Slots<'a> {
-    /// The cells of the slots.
-    pub rest: &'a mut [SlotCell],
+    /// The bytes of the slots.
+    pub rest: &'a mut [[u8; 32]],
     /// The CPU of the first of them.
     pub first: u16,
 }
 
 impl<'a> Slots<'a> {
     /// Slots whose first is that of a CPU.
-    pub fn over(rest: &'a mut [SlotCell], first: u16) -> Slots<'a>
+    pub fn over(rest: &'a mut [[u8; 32]], first: u16) -> Slots<'a>
         ensures same_reference { result.rest.ghost_name ≡ rest.entry.ghost_name }
         ensures slots { result.rest.now ≡ rest.old }
         ensures first { result.first ≡ first }
@@ -26,9 +24,9 @@ impl<'a> Slots<'a> {
         Slots { rest, first }
     }
 
-    /// The first slot, and the rest behind it, whose first CPU is one above; or `None` where none is
-    /// left. The slots that were taken before stay lent.
-    pub fn next(rest: &mut [SlotCell]) -> Option<(&mut SlotCell, &mut [SlotCell])>
+    /// The bytes of the first slot, and the rest behind it, whose first CPU is one above; or `None`
+    /// where none is left. The slots that were taken before stay lent.
+    pub fn next(rest: &mut [[u8; 32]]) -> Option<(&mut [u8; 32], &mut [[u8; 32]])>
         ensures* writes_back { sem 𝓛 (LendsNext rest.entry result) }
         ensures parts { MatchOption result (rest.old ≡ []) (λ p. rest.old ≡ p.0.now ∷ p.1.now) }
     {
@@ -37,7 +35,7 @@ impl<'a> Slots<'a> {
 
     /// The slots of the CPUs below one, and those from there on, where the first is that of CPU
     /// `first`.
-    pub fn split(rest: &mut [SlotCell], first: u16, cpu: u16) -> (&mut [SlotCell], &mut [SlotCell])
+    pub fn split(rest: &mut [[u8; 32]], first: u16, cpu: u16) -> (&mut [[u8; 32]], &mut [[u8; 32]])
         requires low { first ≤ cpu }
         requires high { cpu ≤ first + length rest.old }
         ensures* writes_back { sem 𝓛 (LendsParts rest.entry result) }

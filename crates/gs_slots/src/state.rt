@@ -14,6 +14,16 @@ pub struct Stamp {
     pub preempt: bool,
 }
 
+impl Stamp {
+    /// No transaction: what stands in a slot that was malformed when it landed.
+    pub(crate) const NONE: Stamp = Stamp {
+        generation: 0,
+        tid: 0,
+        tseq: 0,
+        preempt: false,
+    };
+}
+
 /// What is in a slot.
 #[derive(Clone, Copy, PartialEq, Eq, Debug)]
 pub enum SlotState {
@@ -23,7 +33,8 @@ pub enum SlotState {
     Stamped {
         stamp: Stamp,
     },
-    /// A transaction that landed, and what became of it.
+    /// A transaction that landed, and what became of it; or, with the outcome
+    /// [`Malformed`](Outcome::Malformed), that the slot was malformed when it landed, and nothing else.
     Done {
         stamp: Stamp,
         outcome: Outcome,
@@ -39,7 +50,7 @@ pub enum SlotState {
 #[error("the slot is not idle")]
 pub struct SlotBusy;
 
-/// What is in the slot is no state of a slot of its CPU.
+/// The bytes of the slot are those of no state of a slot of its CPU.
 #[derive(Clone, Copy, PartialEq, Eq, Debug, Error)]
 #[error("the slot is malformed")]
 pub struct Malformed;

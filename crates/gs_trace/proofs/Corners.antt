@@ -56,7 +56,7 @@ unfolding digits
 nothing_is_faulted = (refl, refl)
 
 nothing_else : (ended : Ended) (out : List ℕ) → IsOutput (codes "cpus 2 ring 128") ended out → out ≡ []
-nothing_else ended out h = (one_output lines (codes "cpus 2 ring 128") ended Ran out [] h header_alone_runs).1
+nothing_else ended out h = (one_output (λ replies cpus h. lines replies) (codes "cpus 2 ring 128") ended Ran out [] h header_alone_runs).1
 
 first_config : Config AnyPolicy
 first_config = record { cpus = 2; ring = 128; first_tseq = 0; first_generation = 1; history = 16777216; policy = policies.FirstCome (record {}) }

@@ -42,7 +42,7 @@ use Rattle.gs_trace.specs.declared.run.Ended.{Ended}
 use Rattle.gs_script.specs.Script.{Script, script_of}
 use Rattle.gs_trace.proofs.Lists.{one_list}
 use Rattle.gs_core.specs.Short.{is_memory, wants_memory}
-use Rattle.gs_trace.specs.Output.{IsShown, IsShownOf, any_plans}
+use Rattle.gs_trace.specs.Output.{IsBy, IsShown, IsShownOf, Show, any_plans}
 
 -- agents that have the same picture and need the same page next, or none of both
 record Same (a b : Option Agent) : Type 0 where
@@ -351,13 +351,13 @@ one_step m n alike e r r' m' n' x y g h p q =
     one_served (refusal m e) m a alike.2 e r r' m' n' x
     (subst (λ (o : Option Refusal). Serves o (record m { agent = a }) e r' n') (one_refusal m a alike.2 e) z) g h p q
 
--- one list of replies
+-- one list of replies, and machines that are alike
 neither : (a b : Bool) → (a || b) ≡ false → (a ≡ false) × (b ≡ false)
 neither false b e = (refl, e)
 neither true b e = absurd cc
 
-one_run : (es : List (Event Plan)) (m n : State) → Alike m n → (rs rs' : List Reply) (l l' : State) → Run m es rs l → Run n es rs' l' → list_any wants_memory rs ≡ false → list_any wants_memory rs' ≡ false → rs ≡ rs'
-one_run [] m n alike [] [] l l' x y p q = refl
+one_run : (es : List (Event Plan)) (m n : State) → Alike m n → (rs rs' : List Reply) (l l' : State) → Run m es rs l → Run n es rs' l' → list_any wants_memory rs ≡ false → list_any wants_memory rs' ≡ false → (rs ≡ rs') × Alike l l'
+one_run [] m n alike [] [] l l' x y p q = (refl, alike_at l l' m alike.0 x (y ∙ alike.1) alike.2)
 one_run [] m n alike (r ∷ rs) rs' l l' x y p q = absurd x
 one_run [] m n alike [] (r ∷ rs') l l' x y p q = absurd y
 one_run (e ∷ es) m n alike [] rs' l l' x y p q = absurd x
@@ -366,15 +366,19 @@ one_run (e ∷ es) m n alike (r ∷ rs) (r' ∷ rs') l l' x y p q =
     let b = neither _ _ p in
     let c = neither _ _ q in
     let o = one_step m n alike e r r' x.0 y.0 x.1 y.1 x.3 y.3 b.0 c.0 in
-    let others : rs ≡ rs' = one_run es x.0 y.0 o.left rs rs' l l' x.4 y.4 b.1 c.1 in
-    λ i. o.reply i ∷ others i
+    let others = one_run es x.0 y.0 o.left rs rs' l l' x.4 y.4 b.1 c.1 in
+    ((λ i. o.reply i ∷ others.0 i), others.1)
 
-one_of : (show : List Reply → List ℕ) (s : Result Script ScriptFault) (ended ended' : Ended) (out out' : List ℕ) → IsShownOf show s ended out → IsShownOf show s ended' out' → (ended ≡ ended') × (out ≡ out')
-one_of show (Ok s) ended ended' out out' x y = (
-  x.0 ∙ sym y.0,
-  x.1.shown ∙ ap show (one_run (map (planned any_plans) s.events) _ _ (_, refl, record { pictured = refl; there = refl; page = refl }) x.1.replies y.1.replies x.1.left y.1.left x.1.run y.1.run x.1.sufficed y.1.sufficed) ∙ sym y.1.shown,
-)
+-- what is shown is of the replies, and of what machines that are alike agree on
+one_shown : (show : Show) (rs rs' : List Reply) (l l' : State) → rs ≡ rs' → Alike l l' → show rs l.settings.cpus l.history ≡ show rs' l'.settings.cpus l'.history
+one_shown show rs rs' l l' same alike =
+    ap (λ rs. show rs l.settings.cpus l.history) same ∙ ap (λ (s : State). show rs' s.settings.cpus s.history) (sym alike.1)
+
+one_of : (show : Show) (s : Result Script ScriptFault) (ended ended' : Ended) (out out' : List ℕ) → IsShownOf (IsBy show) s ended out → IsShownOf (IsBy show) s ended' out' → (ended ≡ ended') × (out ≡ out')
+one_of show (Ok s) ended ended' out out' x y =
+    let one = one_run (map (planned any_plans) s.events) _ _ (_, refl, record { pictured = refl; there = refl; page = refl }) x.1.replies y.1.replies x.1.left y.1.left x.1.run y.1.run x.1.sufficed y.1.sufficed in
+    (x.0 ∙ sym y.0, x.1.shown ∙ one_shown show x.1.replies y.1.replies x.1.left y.1.left one.0 one.1 ∙ sym y.1.shown)
 one_of show (Err f) ended ended' out out' x y = (x.0 ∙ sym y.0, x.1 ∙ sym y.1)
 
-pub one_output : (show : List Reply → List ℕ) (input : List ℕ) (ended ended' : Ended) (out out' : List ℕ) → IsShown show input ended out → IsShown show input ended' out' → (ended ≡ ended') × (out ≡ out')
+pub one_output : (show : Show) (input : List ℕ) (ended ended' : Ended) (out out' : List ℕ) → IsShown (IsBy show) input ended out → IsShown (IsBy show) input ended' out' → (ended ≡ ended') × (out ≡ out')
 one_output show input ended ended' out out' x y = one_of show (script_of input) ended ended' out out' x y

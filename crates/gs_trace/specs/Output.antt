@@ -1,5 +1,5 @@
 -- What is to be written for the bytes of an input.
-use Rattle.std.specs.Prelude.{◌≡◌, ℕ, List, ◌++◌, false, map, codes, decimal, Result, Ok, Err}
+use Rattle.std.specs.Prelude.{◌≡◌, ⊤, ℕ, List, ◌++◌, false, map, codes, decimal, Result, Ok, Err}
 use Rattle.std.specs.List.{list_any}
 use Rattle.gs_core.specs.declared.reply.Reply.{Reply}
 use Rattle.gs_policy.specs.declared.any.AnyPolicy.{AnyPolicy}
@@ -16,8 +16,13 @@ use Rattle.gs_trace.specs.declared.run.Ended.TheVariants.{Ran, Faulted}
 use Rattle.gs_script.specs.Script.{Script, script_of}
 use Rattle.gs_lines.specs.Lines.{lines, line}
 use Rattle.gs_report.specs.Report.{report_of}
+use Rattle.gs_history.specs.Journal.{journal_lines}
+use Rattle.gs_history.specs.Json.{json_lines}
+use Rattle.gs_journal.specs.History.{History}
 use Rattle.gs_trace.specs.declared.form.Form.{Form}
-use Rattle.gs_trace.specs.declared.form.Form.TheVariants.{Lines, Report}
+use Rattle.gs_trace.specs.declared.form.Form.TheVariants.{Lines, Report, Journal, Timeline}
+use Rattle.gs_trace.specs.declared.form.Notation.{Notation}
+use Rattle.gs_trace.specs.declared.form.Notation.TheVariants as notations
 
 abbrev pub reason_text : Reason → List ℕ
 reason_text reasons.TooLong = codes "TooLong"
@@ -36,31 +41,51 @@ fault_line f = line (codes "fault line " ++ decimal f.line ++ codes " " ++ reaso
 abbrev pub any_plans : AnyPolicy → Plan
 any_plans p = plan (any_takes p)
 
--- these bytes answer the script: they show the replies of a run of it, from the machine of its header on, in which memory sufficed
-pub record Answers (show : List Reply → List ℕ) (s : Script) (out : List ℕ) : Type 0 where
+-- a text by which what came of a script is shown: its replies, how many CPUs there are, and the history of the machine that they leave
+abbrev pub Show : Type 0
+Show = List Reply → ℕ → History → List ℕ
+
+-- a text shows what came of a script so
+abbrev pub IsBy : Show → List Reply → ℕ → History → List ℕ → Type 0
+IsBy show replies cpus h out = out ≡ show replies cpus h
+
+-- these bytes answer the script: they show a run of it, from the machine of its header on, in which memory sufficed
+pub record Answers (Shows : List Reply → ℕ → History → List ℕ → Type 0) (s : Script) (out : List ℕ) : Type 0 where
   pub replies : List Reply
   pub left : State
   pub run : Run (planning any_plans (start s.config)) (map (planned any_plans) s.events) replies left
   pub sufficed : list_any wants_memory replies ≡ false
-  pub shown : out ≡ show replies
+  pub shown : Shows replies left.settings.cpus left.history out
 
-abbrev pub IsShownOf : (List Reply → List ℕ) → Result Script ScriptFault → Ended → List ℕ → Type 0
-IsShownOf show (Ok s) ended out = (ended ≡ Ran) × Answers show s out
-IsShownOf show (Err f) ended out = (ended ≡ Faulted) × (out ≡ fault_line f)
+abbrev pub IsShownOf : (List Reply → ℕ → History → List ℕ → Type 0) → Result Script ScriptFault → Ended → List ℕ → Type 0
+IsShownOf Shows (Ok s) ended out = (ended ≡ Ran) × Answers Shows s out
+IsShownOf Shows (Err f) ended out = (ended ≡ Faulted) × (out ≡ fault_line f)
 
--- what is to be written for an input whose replies are shown so, and how that ends
-abbrev pub IsShown : (List Reply → List ℕ) → List ℕ → Ended → List ℕ → Type 0
-IsShown show input ended out = IsShownOf show (script_of input) ended out
+-- what is to be written for an input if what came of it is shown so, and how that ends
+abbrev pub IsShown : (List Reply → ℕ → History → List ℕ → Type 0) → List ℕ → Ended → List ℕ → Type 0
+IsShown Shows input ended out = IsShownOf Shows (script_of input) ended out
 
--- how replies are shown: by their lines, or by a report with so many of the last of these
-abbrev pub shown_as : Form → List Reply → List ℕ
-shown_as Lines = lines
-shown_as (Report last) = report_of last
+-- the text of a history, in either notation
+abbrev pub history_shown : Notation → History → List ℕ
+history_shown notations.Lines h = journal_lines h
+history_shown notations.Json h = json_lines h
+
+-- which texts show what came of a script: the lines of its replies, a report with so many of the last of these, the journal; of a picture
+-- nothing is said here
+abbrev pub shown_as : Form → List Reply → ℕ → History → List ℕ → Type 0
+shown_as Lines replies cpus h out = out ≡ lines replies
+shown_as (Report last) replies cpus h out = out ≡ report_of last replies
+shown_as (Journal notation) replies cpus h out = out ≡ history_shown notation h
+shown_as (Timeline from to) replies cpus h out = ⊤
 
 -- what is to be written for an input: the lines of its replies
 abbrev pub IsOutput : List ℕ → Ended → List ℕ → Type 0
-IsOutput input ended out = IsShown lines input ended out
+IsOutput input ended out = IsShown (shown_as Lines) input ended out
 
 -- or their report
 abbrev pub IsReport : ℕ → List ℕ → Ended → List ℕ → Type 0
-IsReport last input ended out = IsShown (report_of last) input ended out
+IsReport last input ended out = IsShown (shown_as (Report last)) input ended out
+
+-- or the journal of all that happened, the last event's entries too, and nothing else
+abbrev pub IsJournal : Notation → List ℕ → Ended → List ℕ → Type 0
+IsJournal notation input ended out = IsShown (shown_as (Journal notation)) input ended out

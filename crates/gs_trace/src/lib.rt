@@ -1,4 +1,4 @@
-//! A script in, the lines of its replies or a report out.
+//! A script in; the lines of its replies, a report or the journal out.
 #![tactic(auto)]
 
 mod form;
@@ -6,7 +6,7 @@ mod law;
 mod pipe;
 mod run;
 
-pub use form::Form;
+pub use form::{Form, Notation};
 pub use law::one_output;
 pub use pipe::MOST_READ_BYTES;
-pub use run::{Ended, TraceFault, run_as, run_report, run_script};
+pub use run::{Ended, TraceFault, run_as, run_journal, run_report, run_script};

@@ -1,2 +1,3 @@
 pub mod FirstOnly
 pub mod ZeroPreempts
+pub mod Stale

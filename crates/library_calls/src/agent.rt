@@ -1,11 +1,13 @@
 //! A role of an agent through drains, stamps, slots that land, and decisions.
 
-ghost use Rattle.std.specs.Prelude.{◌≡◌, ◌<◌, IfErr, IfOk, OnErr, OnOk, Some, length, slice_get, slice_set, true};
+ghost use Rattle.std.specs.Prelude.{◌≡◌, ◌<◌, IfErr, IfOk, OnErr, OnOk, Some, length, slice_get, slice_set, true, ℕ, List};
 ghost use Rattle.gs_agent.specs.Role.{stamp_refusal};
 ghost use Rattle.gs_layout.specs.View.{look_up};
 ghost use Rattle.gs_mind.specs.Mind.{picture_of, thinks};
 ghost use Rattle.gs_mind.specs.Picture.{after_stamp};
 ghost use Rattle.gs_slots.specs.declared.state.SlotState.{SlotState};
+ghost use Rattle.gs_slots.specs.Reading.{state_in};
+ghost use Rattle.gs_slots.specs.Spelling.{slot_spelling};
 
 use crate::messages::Told::{self, Creation, Thread, Tick};
 use crate::messages::Tried;
@@ -315,9 +317,9 @@ fn stamp_one(
     tid: u32,
 ) -> Result<u32, Refusal>
     requires { cpu < length region.old }
-    ensures ok { IfOk result (λ tseq. region.new ≡ slice_set region.old cpu (SlotState.Stamped (record { generation = role.old.generation; tid = tid; tseq = tseq; preempt = true }))) }
+    ensures ok { IfOk result (λ tseq. region.new ≡ slice_set region.old cpu (slot_spelling cpu (SlotState.Stamped (record { generation = role.old.generation; tid = tid; tseq = tseq; preempt = true })))) }
     ensures role { OnOk result (role.new ≡ record role.old { mind = thinks role.old.mind (after_stamp cpu tid (picture_of role.old.mind)) }) }
-    ensures refused { IfErr result (λ refusal. (s : SlotState) → slice_get region.old cpu ≡ Some s → stamp_refusal (look_up role.old.mind.records tid) s ≡ Some refusal) }
+    ensures refused { IfErr result (λ refusal. (bytes : List ℕ) → slice_get region.old cpu ≡ Some bytes → stamp_refusal (look_up role.old.mind.records tid) (state_in cpu bytes) ≡ Some refusal) }
     ensures unchanged { OnErr result (region.new ≡ region.old) }
     ensures as_before { OnErr result (role.new ≡ role.old) }
 {

@@ -3,10 +3,10 @@
 use crate::messages::Tried;
 use gs_dump::Page;
 use gs_journal::Entry;
-use gs_kernel::{Answer, Command, Kernel, Settings, ThreadEvent};
+use gs_kernel::{Answer, Command, Kernel, Landing, Settings, ThreadEvent};
 use gs_layout::{Change, Class, Facts, Message, Name, Outcome, Refusal};
 use gs_ring::ByteRing;
-use gs_slots::Stamp;
+use gs_slots::{Region, SlotMut, Stamp};
 use gs_status::Mask;
 use std::alloc::Global;
 
@@ -459,4 +459,61 @@ fn agents_come_and_go(rt: HostRuntime) {
         (early, no_threads, full),
         (Tried::Well, Tried::Well, Tried::Well)
     );
+}
+
+/// CPU 1's slot after it landed malformed.
+const REFUSED: [u8; 32] = [
+    2, 0, 1, 0, 0, 0, 0, 0, 0, 0, 0, 0, 0, 0, 0, 0, 13, 0, 255, 255, 0, 0, 0, 0, 0, 0, 0, 0, 0, 0,
+    0, 0,
+];
+
+/// Writes ones into each byte of a slot.
+fn break_slot(slot: SlotMut<'_>) {
+    let mut slot = slot;
+    *slot.bytes() = [255; 32];
+}
+
+/// What landed where the slots of CPUs 0 and 1 are broken and that of CPU 1 is committed, and how many
+/// entries came of it. `None` where the kernel has fewer than two CPUs, or memory runs out.
+fn commit_broken(
+    alloc: Global,
+    kernel: &mut Kernel<ByteRing>,
+    region: &mut Region,
+) -> Option<(Vec<Landing>, usize)> {
+    let before = kernel.journal().entries().len();
+    if region.cpus() < 2 || region.cpus() != kernel.settings().cpus {
+        return None;
+    }
+    break_slot(region.slot(0));
+    break_slot(region.slot(1));
+    let mask = Mask::new(2);
+    let landings = kernel.txns_commit(alloc, region, mask).ok()?;
+    let entries = kernel.journal().entries().len();
+    Some((landings, entries.saturating_sub(before)))
+}
+
+/// Whether a malformed slot lands as that, leaves its own bytes, and nothing else comes of it.
+fn lands_malformed(alloc: Global) -> Option<bool> {
+    let mut kernel = kernel_with(alloc, 128)?;
+    let mut region = Region::new(alloc, kernel.settings().cpus).ok()?;
+    let (landings, entries) = commit_broken(alloc, &mut kernel, &mut region)?;
+    let wanted = Landing {
+        cpu: 1,
+        tid: 0,
+        outcome: Outcome::Malformed,
+        seen: 0,
+        at: None,
+    };
+    let told = landings.len() == 1 && landings.first() == Some(&wanted) && entries == 0;
+    Some(told && is_left(&region))
+}
+
+/// Whether the slot of CPU 0 is broken, and that of CPU 1 says that it was.
+fn is_left(region: &Region) -> bool {
+    region.cpus() >= 2 && *region.bytes(0) == [255; 32] && *region.bytes(1) == REFUSED
+}
+
+#[test]
+fn a_malformed_slot_lands(rt: HostRuntime) {
+    assert_eq!(rt; lands_malformed(rt.alloc()), Some(true));
 }

@@ -1,12 +1,18 @@
 //! How a caller uses the slots of a region, and what stands in their bytes.
-ghost use Rattle.std.specs.Prelude.{◌≡◌, ◌+◌, ◌^◌, ◌<◌, ◌≤◌, List, ◌∷◌, true, false, length, map, slice_get, slice_set, IsNone, IsOk, OnErr, OnOk, None, Some};
+ghost use Rattle.std.specs.Prelude.{◌≡◌, ◌+◌, ◌^◌, ◌<◌, ◌≤◌, ℕ, List, ◌∷◌, true, false, length, slice_get, slice_set, IsNone, IsOk, OnErr, OnOk, Ok, None, Some};
 ghost use Rattle.gs_layout.specs.declared.outcome.Outcome.{Outcome};
 ghost use Rattle.gs_slots.specs.declared.state.SlotState.{SlotState};
-ghost use Rattle.gs_slots.specs.State.{collected, finished};
-ghost use Rattle.gs_slots.specs.SlotMut.{left_in, left_in_all, state_of};
+ghost use Rattle.gs_slots.specs.declared.state.Stamp.{Stamp};
+ghost use Rattle.gs_slots.specs.Reading.{all_collected, by_cpu, collected_in, state_in, states_in};
+ghost use Rattle.gs_slots.specs.Spelling.{slot_spelling};
+ghost use Rattle.gs_slots.specs.State.{has_stamp};
+ghost use Rattle.gs_slots.specs.SlotMut.{bytes_of, cpu_of, left_in, left_in_all, state_of};
+ghost use Rattle.library_calls.specs.Stale.{stale_in};
 
 use gs_layout::Outcome;
-use gs_slots::{Region, SlotBusy, SlotCell, SlotMut, SlotState, Slots, Stamp};
+use gs_slots::{
+    Fill, FillFault, Malformed, Region, SlotBusy, SlotMut, SlotState, Slots, Stamp, fill_halves,
+};
 use gs_status::MOST_CPUS;
 use std::alloc::Global;
 use std::thread::{Threads, join_mut};
@@ -15,29 +21,30 @@ use std::thread::{Threads, join_mut};
 #[tactic(auto, using(gs_slots::proofs::Laws::set_as_it_was))]
 fn stamp_one(region: &mut Region, cpu: u16, tid: u32) -> Result<(), SlotBusy>
     requires { cpu < length region.old }
-    ensures exact { slice_get region.old cpu ≡ Some SlotState.Idle → IsOk result }
-    ensures ok { OnOk result (region.new ≡ slice_set region.old cpu (SlotState.Stamped (record { generation = 1; tid = tid; tseq = 2; preempt = false }))) }
+    ensures exact { (bytes : List ℕ) → slice_get region.old cpu ≡ Some bytes → state_in cpu bytes ≡ Ok SlotState.Idle → IsOk result }
+    ensures ok { OnOk result (region.new ≡ slice_set region.old cpu (slot_spelling cpu (SlotState.Stamped (record { generation = 1; tid = tid; tseq = 2; preempt = false })))) }
     ensures busy { OnErr result (region.new ≡ region.old) }
 {
     region.slot(cpu).stamp(1, tid, 2, false)
 }
 
 /// A transaction is stamped into a slot that is idle.
-fn stamp_in(cell: &mut SlotCell, cpu: u16, tid: u32)
-    ensures { cell.old ≡ SlotState.Idle → cell.new ≡ SlotState.Stamped (record { generation = 1; tid = tid; tseq = 2; preempt = true }) }
+fn stamp_in(cpu: u16, bytes: &mut [u8; 32], tid: u32)
+    ensures { state_in cpu bytes.old ≡ Ok SlotState.Idle → state_in cpu bytes.new ≡ Ok (SlotState.Stamped (record { generation = 1; tid = tid; tseq = 2; preempt = true })) }
 {
-    let _ = SlotMut::over(cell, cpu).stamp(1, tid, 2, true);
+    let _ = SlotMut::over(cpu, bytes).stamp(1, tid, 2, true);
 }
 
 /// Two slots are lent together, and written the second before the first.
+#[tactic(auto, using(crate::proofs::Stamps::two_read))]
 fn stamp_two(region: &mut Region)
-    ensures { (rest : List SlotState) → region.old ≡ SlotState.Idle ∷ SlotState.Idle ∷ rest → region.new ≡ SlotState.Stamped (record { generation = 1; tid = 8; tseq = 2; preempt = true }) ∷ SlotState.Stamped (record { generation = 1; tid = 9; tseq = 2; preempt = true }) ∷ rest }
+    ensures { (a b : List ℕ) (rest : List (List ℕ)) → state_in 0 a ≡ Ok SlotState.Idle → state_in 1 b ≡ Ok SlotState.Idle → region.old ≡ a ∷ b ∷ rest → states_in 0 region.new ≡ Ok (SlotState.Stamped (record { generation = 1; tid = 8; tseq = 2; preempt = true })) ∷ Ok (SlotState.Stamped (record { generation = 1; tid = 9; tseq = 2; preempt = true })) ∷ states_in 2 rest }
 {
-    let Slots { rest, first } = region.lend();
+    let Slots { rest, first: _ } = region.lend();
     if let Some((low, rest)) = Slots::next(rest) {
         if let Some((high, _rest)) = Slots::next(rest) {
-            stamp_in(high, first + 1, 9);
-            stamp_in(low, first, 8);
+            stamp_in(1, high, 9);
+            stamp_in(0, low, 8);
         }
     }
 }
@@ -45,8 +52,9 @@ fn stamp_two(region: &mut Region)
 /// A stamped transaction is refused as stale. Answers its thread.
 fn refuse(count: &mut u64, slot: SlotMut<'_>) -> Option<u32>
     requires { count.old < 2 ^ 63 }
-    ensures slot { left_in slot.exit ≡ finished Outcome.Stale None 7 (state_of slot.entry) }
-    ensures none { state_of slot.entry ≡ SlotState.Idle → IsNone result }
+    ensures stale { (s : Stamp) → state_of slot.entry ≡ Ok (SlotState.Stamped s) → state_in (cpu_of slot.entry) (left_in slot.exit) ≡ Ok (SlotState.Done s Outcome.Stale None 7) }
+    ensures other { has_stamp (state_of slot.entry) ≡ false → left_in slot.exit ≡ bytes_of slot.entry }
+    ensures none { has_stamp (state_of slot.entry) ≡ false → IsNone result }
     ensures count { count.new ≤ count.old + 1 }
 {
     let Ok(SlotState::Stamped { stamp }) = slot.state() else {
@@ -58,9 +66,8 @@ fn refuse(count: &mut u64, slot: SlotMut<'_>) -> Option<u32>
 }
 
 /// All stamped transactions are refused, by rising CPU.
-#[tactic(auto, using(gs_slots::proofs::Laws::changed_more))]
 fn refuse_all(region: &mut Region)
-    ensures { region.new ≡ map (finished Outcome.Stale None 7) region.old }
+    ensures { region.new ≡ by_cpu stale_in 0 region.old }
 {
     let mut count = 0;
     for cpu in 0..region.cpus() {
@@ -69,43 +76,46 @@ fn refuse_all(region: &mut Region)
 }
 
 /// A done slot is idle again.
+#[tactic(auto, unfolding(gs_slots::specs::Reading::collected_in))]
 fn collect(slot: SlotMut<'_>)
-    ensures { left_in slot.exit ≡ collected (state_of slot.entry) }
+    ensures { left_in slot.exit ≡ collected_in (cpu_of slot.entry) (bytes_of slot.entry) }
 {
     if slot.outcome().is_some() {
         slot.clear();
     }
 }
 
-fn collect_in(cell: &mut SlotCell, cpu: u16)
-    ensures { cell.new ≡ collected cell.old }
+fn collect_in(cpu: u16, bytes: &mut [u8; 32])
+    ensures { bytes.new ≡ collected_in cpu bytes.old }
 {
-    collect(SlotMut::over(cell, cpu));
+    collect(SlotMut::over(cpu, bytes));
 }
 
 /// All done slots are idle again, each behind the one before.
-fn collect_all(rest: &mut [SlotCell], first: u16)
+#[tactic(auto, using(crate::proofs::Stamps::next_collected))]
+fn collect_all(rest: &mut [[u8; 32]], first: u16)
     requires { first + length rest.old < 2 ^ 16 }
-    ensures { rest.new ≡ map collected rest.old }
+    ensures { rest.new ≡ all_collected first rest.old }
 {
-    if let Some((cell, rest)) = Slots::next(rest) {
-        collect_in(cell, first);
+    if let Some((bytes, rest)) = Slots::next(rest) {
+        collect_in(first, bytes);
         collect_all(rest, first + 1);
     }
 }
 
 fn collect_slots(slots: Slots<'_>)
     requires { slots.first + length slots.rest.now < 2 ^ 16 }
-    ensures { left_in_all slots.exit ≡ map collected slots.entry.rest.now }
+    ensures { left_in_all slots.exit ≡ all_collected slots.entry.first slots.entry.rest.now }
 {
     let Slots { rest, first } = slots;
     collect_all(rest, first);
 }
 
 /// The same, first of the CPUs from one on, then of those below.
+#[tactic(auto, using(crate::proofs::Stamps::parts_collected))]
 fn collect_parts(region: &mut Region, cpu: u16)
     requires { cpu ≤ length region.old }
-    ensures { region.new ≡ map collected region.old }
+    ensures { region.new ≡ all_collected 0 region.old }
 {
     let _cpus = region.cpus();
     let Slots { rest, first } = region.lend();
@@ -115,9 +125,10 @@ fn collect_parts(region: &mut Region, cpu: u16)
 }
 
 /// The same, each part in a thread of its own.
+#[tactic(auto, using(crate::proofs::Stamps::parts_collected))]
 fn collect_apart(rt: &impl Threads, region: &mut Region, cpu: u16)
     requires { cpu ≤ length region.old }
-    ensures { region.new ≡ map collected region.old }
+    ensures { region.new ≡ all_collected 0 region.old }
 {
     let _cpus = region.cpus();
     let Slots { rest, first } = region.lend();
@@ -381,14 +392,14 @@ enum Call {
     Clear,
 }
 
-/// Finishes a slot that is stamped. Answers whether it could be called.
+/// Finishes a slot that is stamped, or any with the outcome `Malformed`. Answers whether it could be called.
 fn finish(slot: SlotMut<'_>, outcome: Outcome, at: Option<u16>, seen: u32) -> bool {
     let is_stamped = matches!(slot.state(), Ok(SlotState::Stamped { .. }));
     let is_cpu_or_none = match at {
         Some(cpu) => cpu < MOST_CPUS,
         None => true,
     };
-    if !is_stamped || outcome == Outcome::Malformed || !is_cpu_or_none {
+    if (!is_stamped && outcome != Outcome::Malformed) || !is_cpu_or_none {
         return false;
     }
     slot.finish(outcome, at, seen);
@@ -460,11 +471,11 @@ const CALLS: [(Call, SlotState, [u8; 32]); 7] = [
 ];
 
 /// The first call after which the slot of CPU 1 is otherwise.
-fn first_wrong_call(cell: &mut SlotCell) -> Option<usize> {
-    for (index, (call, state, bytes)) in CALLS.iter().enumerate() {
-        let called = is_called(SlotMut::over(cell, 1), call);
-        let found = SlotMut::over(cell, 1).state();
-        if !called || found != Ok(*state) || cell.as_bytes() != bytes {
+fn first_wrong_call(bytes: &mut [u8; 32]) -> Option<usize> {
+    for (index, (call, state, wanted)) in CALLS.iter().enumerate() {
+        let called = is_called(SlotMut::over(1, bytes), call);
+        let found = SlotMut::over(1, bytes).state();
+        if !called || found != Ok(*state) || *bytes != *wanted {
             return Some(index);
         }
     }
@@ -483,26 +494,28 @@ fn with_cpu(mut bytes: [u8; 32], low: u8, high: u8) -> [u8; 32] {
 
 /// Whether the CPU of a slot stands in its bytes as these two, once it is stamped and once it is done.
 /// The slot is idle before and afterwards.
-fn names_its_cpu(cell: &mut SlotCell, cpu: u16, low: u8, high: u8) -> bool {
-    let was_idle = *cell.as_bytes() == [0; 32];
-    let stamped = is_called(SlotMut::over(cell, cpu), &Call::Stamp(UNLIKE))
-        && *cell.as_bytes() == with_cpu(UNLIKE_STAMPED, low, high);
-    let done = finish(SlotMut::over(cell, cpu), Outcome::Stale, None, 259)
-        && *cell.as_bytes() == with_cpu(UNLIKE_STALE, low, high);
-    SlotMut::over(cell, cpu).clear();
-    was_idle && stamped && done
+fn names_its_cpu(bytes: &mut [u8; 32], cpu: u16, low: u8, high: u8) -> bool {
+    let was_idle = *bytes == [0; 32];
+    let stamped = is_called(SlotMut::over(cpu, bytes), &Call::Stamp(UNLIKE))
+        && *bytes == with_cpu(UNLIKE_STAMPED, low, high);
+    let done = finish(SlotMut::over(cpu, bytes), Outcome::Stale, None, 259)
+        && *bytes == with_cpu(UNLIKE_STALE, low, high);
+    let refused = finish(SlotMut::over(cpu, bytes), Outcome::Malformed, Some(1), 7)
+        && *bytes == with_cpu(REFUSED, low, high);
+    SlotMut::over(cpu, bytes).clear();
+    was_idle && stamped && done && refused
 }
 
 /// The first CPU that does not stand in the bytes of its slot.
-fn first_misnamed(cell: &mut SlotCell) -> Option<u16> {
+fn first_misnamed(bytes: &mut [u8; 32]) -> Option<u16> {
     for low in 0..64u8 {
         let cpu = u16::from(low);
-        if !names_its_cpu(cell, cpu, low, 0) {
+        if !names_its_cpu(bytes, cpu, low, 0) {
             return Some(cpu);
         }
     }
     for (cpu, low, high) in HIGH_CPUS {
-        if !names_its_cpu(cell, cpu, low, high) {
+        if !names_its_cpu(bytes, cpu, low, high) {
             return Some(cpu);
         }
     }
@@ -511,12 +524,195 @@ fn first_misnamed(cell: &mut SlotCell) -> Option<u16> {
 
 /// The first CPU and the first call by which the bytes of the first slot are otherwise.
 fn first_wrong_bytes(region: &mut Region) -> Option<(Option<u16>, Option<usize>)> {
-    let (cell, _) = Slots::next(region.lend().rest)?;
-    Some((first_misnamed(cell), first_wrong_call(cell)))
+    let (bytes, _) = Slots::next(region.lend().rest)?;
+    Some((first_misnamed(bytes), first_wrong_call(bytes)))
 }
 
 #[test]
 fn writes_its_layout(rt: HostRuntime) {
     let mut region = Region::new(rt.alloc(), 1).expect(&rt, "memory");
     assert_eq!(rt; first_wrong_bytes(&mut region), Some((None, None)));
+}
+
+/// CPU 1's slot after it landed malformed.
+const REFUSED: [u8; 32] = [
+    2, 0, 1, 0, 0, 0, 0, 0, 0, 0, 0, 0, 0, 0, 0, 0, 13, 0, 255, 255, 0, 0, 0, 0, 0, 0, 0, 0, 0, 0,
+    0, 0,
+];
+
+/// The state of bytes as those of CPU 1's slot.
+fn read(bytes: &mut [u8; 32]) -> Result<SlotState, Malformed> {
+    SlotMut::over(1, bytes).state()
+}
+
+/// Slots of CPU 1.
+const SPELT: [[u8; 32]; 6] = [
+    [0; 32],
+    STAMPED,
+    PLACED,
+    UNLIKE_STAMPED,
+    UNLIKE_STALE,
+    REFUSED,
+];
+
+/// The first byte of a slot that can have another value, where the slot is still read as the same.
+fn first_unread(bytes: &mut [u8; 32]) -> Option<(usize, u8)> {
+    let state = read(bytes);
+    for place in 0..32 {
+        let was = bytes[place];
+        for value in 0..=255u8 {
+            bytes[place] = value;
+            if value != was && read(bytes) == state {
+                return Some((place, value));
+            }
+        }
+        bytes[place] = was;
+    }
+    None
+}
+
+/// The first slot that is malformed, or in which a byte can be changed and is not seen.
+fn first_inexact() -> Option<usize> {
+    for (index, spelt) in SPELT.iter().enumerate() {
+        let mut bytes = *spelt;
+        if read(&mut bytes).is_err() || first_unread(&mut bytes).is_some() {
+            return Some(index);
+        }
+    }
+    None
+}
+
+#[test]
+fn reads_each_byte(rt: HostRuntime) {
+    assert_eq!(rt; first_inexact(), None);
+}
+
+/// A byte of CPU 1's slot, and what makes it malformed.
+const BROKEN: [([u8; 32], usize, u8); 10] = [
+    // another first byte; a flag that there is not; another CPU
+    (STAMPED, 0, 3),
+    (STAMPED, 1, 2),
+    (STAMPED, 2, 0),
+    (STAMPED, 3, 1),
+    // a stamped slot with an outcome; an outcome that there is not; a CPU that there is not
+    (STAMPED, 16, 1),
+    (PLACED, 16, 14),
+    (PLACED, 18, 64),
+    // a byte behind the fields; one of an idle slot; a thread of a malformed slot
+    (UNLIKE_STALE, 31, 1),
+    ([0; 32], 9, 1),
+    (REFUSED, 8, 1),
+];
+
+/// The first of these that is not malformed, or into which a transaction is stamped.
+fn first_sound() -> Option<usize> {
+    for (index, (spelt, place, value)) in BROKEN.iter().enumerate() {
+        let mut bytes = *spelt;
+        if *place < 32 {
+            bytes[*place] = *value;
+        }
+        let broken = bytes;
+        let stamped = is_called(SlotMut::over(1, &mut bytes), &Call::Stamp(FIRST));
+        if stamped || bytes != broken || read(&mut bytes) != Err(Malformed) {
+            return Some(index);
+        }
+    }
+    None
+}
+
+#[test]
+fn tells_malformed_bytes(rt: HostRuntime) {
+    assert_eq!(rt; first_sound(), None);
+}
+
+/// Whether a slot that is written through its bytes is read as it was written, until it is finished.
+fn writes_through(bytes: &mut [u8; 32]) -> bool {
+    let mut slot = SlotMut::over(1, bytes);
+    *slot.bytes() = [255; 32];
+    let told = slot.state() == Err(Malformed) && slot.outcome().is_none();
+    slot.finish(Outcome::Malformed, None, 0);
+    told && *bytes == REFUSED
+}
+
+#[test]
+fn finishes_malformed_bytes(rt: HostRuntime) {
+    let mut bytes = STAMPED;
+    assert!(rt; writes_through(&mut bytes));
+}
+
+/// A transaction for a CPU.
+fn fill_of(cpu: u16) -> Fill
+    ensures { result.cpu ≡ cpu }
+{
+    Fill {
+        cpu,
+        generation: 1,
+        tid: 7,
+        tseq: 2,
+        preempt: true,
+    }
+}
+
+/// The answer where transactions for the CPUs 0, 1 and 3 of four are stamped, those from a CPU on in a
+/// thread of their own. `None` where there are not four.
+fn fill_three(rt: &impl Threads, region: &mut Region, at: u16) -> Option<Result<(), FillFault>> {
+    if region.cpus() != 4 {
+        return None;
+    }
+    let fills = [fill_of(0), fill_of(1), fill_of(3)];
+    Some(fill_halves(rt, region, at, &fills))
+}
+
+/// Writes ones into each byte of a slot.
+fn break_slot(slot: SlotMut<'_>) {
+    let mut slot = slot;
+    *slot.bytes() = [255; 32];
+}
+
+/// Stamps a transaction into the slot of CPU 1 of four, and breaks those of CPUs 2 and 3.
+fn busy_three(region: &mut Region) {
+    region.clear();
+    if region.cpus() == 4 {
+        is_called(region.slot(1), &Call::Stamp(FIRST));
+        break_slot(region.slot(2));
+        break_slot(region.slot(3));
+    }
+}
+
+/// Whether the first two slots are these, and the others are broken.
+fn is_broken_behind(region: &Region, first: SlotState, second: SlotState) -> bool {
+    region.cpus() == 4
+        && region.state(0) == Ok(first)
+        && region.state(1) == Ok(second)
+        && *region.bytes(2) == [255; 32]
+        && *region.bytes(3) == [255; 32]
+}
+
+/// Whether three slots are stamped in two threads where they are idle, the second from this CPU on.
+fn fills_apart(rt: &impl Threads, region: &mut Region, at: u16) -> bool {
+    let it = stamped(stamp_of(7, true));
+    region.clear();
+    let filled = fill_three(rt, region, at) == Some(Ok(()))
+        && holds(region, &[it, it, SlotState::Idle, it]);
+    let refilled = fill_three(rt, region, at) == Some(Err(FillFault::SlotBusy(0)))
+        && holds(region, &[it, it, SlotState::Idle, it]);
+    busy_three(region);
+    let partly = fill_three(rt, region, at) == Some(Err(FillFault::SlotBusy(1)));
+    filled && refilled && partly && is_broken_behind(region, it, stamped(FIRST))
+}
+
+/// The first CPU at which slots are parted and not stamped so.
+fn first_not_filled(rt: &impl Threads, region: &mut Region) -> Option<u16> {
+    for at in 0..=5 {
+        if !fills_apart(rt, region, at) {
+            return Some(at);
+        }
+    }
+    None
+}
+
+#[test]
+fn fills_in_two_threads(rt: HostRuntime) {
+    let mut region = Region::new(rt.alloc(), 4).expect(&rt, "memory");
+    assert_eq!(rt; first_not_filled(&rt, &mut region), None);
 }

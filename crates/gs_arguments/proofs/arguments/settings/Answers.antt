@@ -1,14 +1,13 @@
-use Rattle.std.proofs.Common.{rules, ◌≡◌, inl, inr, subst, Some, None, [], ◌∷◌, map, sym, ◌∙◌, ap, ap₂}
-use Rattle.std.specs.Prelude.{option_and_then}
+use Rattle.std.proofs.Common.{rules, ◌≡◌, inl, inr, subst, Some, None, [], ◌∷◌, false, map, sym, ◌∙◌, ap, ap₂}
 use Rattle.clap.specs.Words.{App, kind_of, is_simple, takes, subcommand_of}
 use Rattle.clap.specs.Kinds.{Kinds, HasKind}
 use Rattle.clap.specs.declared.error.Error.{Error}
 use Rattle.clap.specs.declared.error.kind.ErrorKind.{ErrorKind}
 use Rattle.clap.specs.Faults.{fault_of, is_simple_and_free}
-use Rattle.clap.specs.declared.error.kind.ErrorKind.TheVariants.{OutOfMemory, MissingSubcommand}
-use Rattle.gs_arguments.specs.declared.arguments.Command.TheVariants.{Run, Report}
-use Rattle.gs_arguments.specs.Arguments.{ghost_program, command_given, command_in}
-use Rattle.gs_arguments.proofs.Given.{run_taken, report_taken, run_is_run, report_is_ten, ghost_is_simple, ghost_is_free, no_fault_in_range}
+use Rattle.clap.specs.declared.error.kind.ErrorKind.TheVariants.{OutOfMemory, MissingSubcommand, ValueValidation}
+use Rattle.gs_arguments.specs.declared.arguments.Command.TheVariants.{Run, Report, Journal}
+use Rattle.gs_arguments.specs.Arguments.{ghost_program, command_from, command_in}
+use Rattle.gs_arguments.proofs.Given.{run_taken, report_taken, journal_taken, run_is_run, report_is_ten, journal_is_lines, ghost_is_simple, ghost_is_free, no_fault_in_range}
 use Rattle.gs_arguments.proofs.arguments.settings.Goals as goal
 
 or_one_more : (k : ErrorKind) (kinds : Kinds) (e : Error) → HasKind kinds e → HasKind (k ∷ kinds) e
@@ -20,7 +19,7 @@ returns-in_err-matches-clause-failed g c =
     let words = map g.S.AsStr.text c.args.words.now in
     let e = c.in_err-matches.field-0.0 in
     let had : HasKind (fault_of ghost_program words) e = subst (λ (app : App). HasKind (fault_of app words) e) c.in_ok-command_line.ensures (c.in_err-matches.ensures.kinds (ap is_simple_and_free c.in_ok-command_line.ensures ∙ ghost_is_free)) in
-    let more : HasKind (MissingSubcommand ∷ fault_of ghost_program words) e = or_one_more MissingSubcommand (fault_of ghost_program words) e had in
+    let more : HasKind (MissingSubcommand ∷ ValueValidation ∷ fault_of ghost_program words) e = or_one_more MissingSubcommand (ValueValidation ∷ fault_of ghost_program words) e (or_one_more ValueValidation (fault_of ghost_program words) e had) in
     search (rules, more)
 
 pub returns-in_err-matches-clause-run : goal.returns-in_err-matches-clause-run
@@ -33,6 +32,11 @@ returns-in_err-matches-clause-report g c name h =
     let kind : kind_of c.in_err-matches.field-0.0 ≡ OutOfMemory = c.in_err-matches.ensures.passes (ap₂ takes c.in_ok-command_line.ensures h ∙ report_taken name) in
     search (rules, kind)
 
+pub returns-in_err-matches-clause-journal : goal.returns-in_err-matches-clause-journal
+returns-in_err-matches-clause-journal g c name h =
+    let kind : kind_of c.in_err-matches.field-0.0 ≡ OutOfMemory = c.in_err-matches.ensures.passes (ap₂ takes c.in_ok-command_line.ensures h ∙ journal_taken name) in
+    search (rules, kind)
+
 pub returns-in-Some-clause-faultless : goal.returns-in-Some-clause-faultless
 returns-in-Some-clause-faultless g c =
     sym (ap (λ app. fault_of app (map g.S.AsStr.text c.args.words.now)) c.in_ok-command_line.ensures) ∙ c.in_ok-matches.ensures.kinds (ap is_simple_and_free c.in_ok-command_line.ensures ∙ ghost_is_free)
@@ -41,7 +45,7 @@ pub returns-in-Some-clause-given : goal.returns-in-Some-clause-given
 returns-in-Some-clause-given g c =
     let words = map g.S.AsStr.text c.args.words.now in
     let met = (c.in_ok-matches.ensures.ok.2 (ap is_simple c.in_ok-command_line.ensures ∙ ghost_is_simple)).1 ∙ ap (λ app. subcommand_of app words) c.in_ok-command_line.ensures in
-    sym (c.in-Some.ensures ∙ ap (option_and_then command_given) met)
+    sym (c.in-Some.ensures ∙ ap command_from met)
 
 pub returns-in-Some-clause-allowed : goal.returns-in-Some-clause-allowed
 returns-in-Some-clause-allowed g c =
@@ -52,16 +56,27 @@ returns-in-Some-clause-report g c name h =
     let same : Some c.in-Some.command ≡ Some (Report 10) = sym (returns-in-Some-clause-given g c) ∙ ap command_in h ∙ report_is_ten name in
     cc
 
+pub returns-in-Some-clause-journal : goal.returns-in-Some-clause-journal
+returns-in-Some-clause-journal g c name h =
+    let same : Some c.in-Some.command ≡ Some (Journal false) = sym (returns-in-Some-clause-given g c) ∙ ap command_in h ∙ journal_is_lines name in
+    cc
+
+pub returns-clause-journal : goal.returns-clause-journal
+returns-clause-journal g c name h =
+    let met = (c.in_ok-matches.ensures.ok.2 (ap is_simple c.in_ok-command_line.ensures ∙ ghost_is_simple)).1 ∙ ap₂ subcommand_of c.in_ok-command_line.ensures h in
+    let given : None ≡ Some (Journal false) = c.in-None.ensures ∙ ap command_from met ∙ journal_is_lines name in
+    absurd (cc)
+
 pub returns-clause-run : goal.returns-clause-run
 returns-clause-run g c name h =
     let met = (c.in_ok-matches.ensures.ok.2 (ap is_simple c.in_ok-command_line.ensures ∙ ghost_is_simple)).1 ∙ ap₂ subcommand_of c.in_ok-command_line.ensures h in
-    let given : None ≡ Some Run = c.in-None.ensures ∙ ap (option_and_then command_given) met ∙ run_is_run name in
+    let given : None ≡ Some Run = c.in-None.ensures ∙ ap command_from met ∙ run_is_run name in
     absurd (cc)
 
 pub returns-clause-report : goal.returns-clause-report
 returns-clause-report g c name h =
     let met = (c.in_ok-matches.ensures.ok.2 (ap is_simple c.in_ok-command_line.ensures ∙ ghost_is_simple)).1 ∙ ap₂ subcommand_of c.in_ok-command_line.ensures h in
-    let given : None ≡ Some (Report 10) = c.in-None.ensures ∙ ap (option_and_then command_given) met ∙ report_is_ten name in
+    let given : None ≡ Some (Report 10) = c.in-None.ensures ∙ ap command_from met ∙ report_is_ten name in
     absurd (cc)
 
 -- words that have no fault fail for want of memory alone
@@ -87,7 +102,7 @@ pub returns-clause-answered : goal.returns-clause-answered
 returns-clause-answered g c none command is =
     let words = map g.S.AsStr.text c.args.words.now in
     let met = (c.in_ok-matches.ensures.ok.2 (ap is_simple c.in_ok-command_line.ensures ∙ ghost_is_simple)).1 ∙ ap (λ app. subcommand_of app words) c.in_ok-command_line.ensures in
-    let given : None ≡ Some command = c.in-None.ensures ∙ ap (option_and_then command_given) met ∙ is in
+    let given : None ≡ Some command = c.in-None.ensures ∙ ap command_from met ∙ is in
     absurd (cc)
 
 pub returns-in_err-matches-clause-told : goal.returns-in_err-matches-clause-told

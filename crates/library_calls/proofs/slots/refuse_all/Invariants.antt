@@ -1,10 +1,10 @@
-use Rattle.std.proofs.Common.{◌≡◌, ◌≤◌, ◌++◌, map, take, drop, None}
-use Rattle.gs_layout.specs.declared.outcome.Outcome.TheVariants.{Stale}
-use Rattle.gs_slots.specs.State.{finished}
+use Rattle.std.proofs.Common.{◌≡◌, ◌≤◌, ◌++◌, take, drop}
+use Rattle.gs_slots.specs.Reading.{by_cpu}
+use Rattle.library_calls.specs.Stale.{stale_in}
 use Rattle.library_calls.proofs.slots.refuse_all.Given as goal
 
 abbrev pub invariant-loop-cpu : goal.invariant-loop-cpu
 invariant-loop-cpu l = record {
-  slots : l.region ≡ map (finished Stale None 7) (take l.cpu l.initial.region) ++ drop l.cpu l.initial.region;
+  slots : l.region ≡ by_cpu stale_in 0 (take l.cpu l.initial.region) ++ drop l.cpu l.initial.region;
   few : l.count ≤ l.cpu;
 }

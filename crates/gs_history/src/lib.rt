@@ -1,0 +1,8 @@
+//! All that happened in an enclave, as text: its journal, by lines and by JSON Lines.
+#![tactic(auto)]
+
+mod entry_json;
+mod entry_line;
+
+pub use entry_json::json_text;
+pub use entry_line::journal_text;

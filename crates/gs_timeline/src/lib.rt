@@ -1,0 +1,20 @@
+//! What a history looks like: who was on which CPU, from when to when, and a picture of it.
+#![tactic(auto)]
+
+mod bars;
+mod drawing;
+mod foot;
+mod layout;
+mod lives;
+mod marks;
+mod part;
+mod spans;
+mod stay;
+mod text;
+mod threads;
+mod walk;
+
+pub use drawing::picture;
+pub use part::MOST_SHOWN;
+pub use stay::Stay;
+pub use walk::stays;

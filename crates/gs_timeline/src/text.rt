@@ -1,0 +1,29 @@
+ghost use Rattle.std.specs.Prelude.{◌≡◌, ◌++◌, OnOk, string_bytes};
+ghost use Rattle.gs_timeline.specs.Escapes.{escaped, shown};
+
+use gs_layout::Name;
+use std::alloc::AllocError;
+
+/// Adds a byte of a name: a mark of the language by what stands for it.
+fn write_byte(out: &mut String, byte: u8) -> Result<(), AllocError>
+    ensures { OnOk result (string_bytes out.new ≡ string_bytes out.old ++ shown byte) }
+{
+    match byte {
+        b'<' => out.push_str("&lt;"),
+        b'>' => out.push_str("&gt;"),
+        b'&' => out.push_str("&amp;"),
+        b'"' => out.push_str("&quot;"),
+        _ => out.push(char::from(byte)),
+    }
+}
+
+/// Adds a name so that it is shown as it is, whatever bytes it has.
+pub(crate) fn write_escaped(out: &mut String, name: &Name) -> Result<(), AllocError>
+    ensures { OnOk result (string_bytes out.new ≡ string_bytes out.old ++ escaped name.now) }
+{
+    let bytes = name.as_bytes();
+    for byte in bytes {
+        write_byte(out, *byte)?;
+    }
+    Ok(())
+}
