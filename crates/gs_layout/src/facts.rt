@@ -25,10 +25,10 @@ impl Class {
 /// What is known of a live thread.
 #[derive(Clone, Copy, PartialEq, Eq, Debug)]
 pub struct Facts {
+    /// The CPUs that it may run on. It stands first, so that no room is lost to its alignment.
+    pub mask: Mask,
     /// Whether it may run. A running thread is runnable.
     pub runnable: bool,
-    /// The CPUs that it may run on.
-    pub mask: Mask,
     pub class: Class,
     pub name: Name,
 }
