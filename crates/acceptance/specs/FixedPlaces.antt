@@ -1,6 +1,6 @@
 -- What a ring of fixed places is to its callers.
 use Rattle.std.proofs.Common.{◌≡◌, ◌⊎◌, inl, inr, ⊎_elim, ℕ, ◌+◌, ◌≤◌, List, [], ◌∷◌, ◌++◌, length, take, drop, refl, ap, sym, ◌∙◌, append_assoc, arith, length-append, length-drop}
-use Rattle.std.proofs.lemmas.List.{drop-drop, take_at}
+use Rattle.std.proofs.lemmas.List.{drop-drop, length-take-le, take-append-drop, take-append-le, take_at}
 use Rattle.gs_layout.specs.declared.message.Message.{Message}
 use Rattle.gs_ring.specs.Splits.{two_splits}
 
@@ -64,6 +64,9 @@ Passed-join a b c xs ys p q = record {
 pub Passed-agrees : (a b : PlacesState) (xs ys : List Message) → Passed a xs b → Ahead a ys → ((more : List Message) × (xs ++ more ≡ ys) × Ahead b more) ⊎ ((more : List Message) × (xs ≡ ys ++ more))
 Passed-agrees a b xs ys p h = ⊎_elim (λ s. inl (s.0, s.1, (h.0, s.2))) inr (two_splits xs (waiting b) ys h.0 (sym p.waiting ∙ h.1))
 
+pub Ahead-begins : (r : PlacesState) (xs ys : List Message) → Ahead r (xs ++ ys) → Ahead r xs
+Ahead-begins r xs ys h = (ys ++ h.0, h.1 ∙ append_assoc xs ys h.0)
+
 pub Posted-keeps : (a b : PlacesState) (xs ms : List Message) → Posted a xs → Passed a ms b → Posted b xs
 Posted-keeps a b xs ms h p = record {
   all = h.all ∙ sym p.posts;
@@ -78,6 +81,21 @@ Posted-passes a b xs ms h p = (
 
 pub Posted-ends : (r : PlacesState) (xs : List Message) → Posted r xs → IsEmpty r → r.taken ≡ length xs
 Posted-ends r xs h e = e ∙ ap length (sym h.all)
+
+-- as many of those that come next pass as more are taken
+pub Passed-first : (r : PlacesState) (ms : List Message) (n : ℕ) → n ≤ length ms → Ahead r ms → Passed r (take n ms) (record r { taken = r.taken + n })
+Passed-first r ms n fits h =
+    let front : take n (waiting r) ≡ take n ms = ap (λ l. take n l) h.1 ∙ take-append-le n ms h.0 fits in
+    record {
+      places = refl;
+      posts = refl;
+      taken = omega (arith, length-take-le n ms fits);
+      waiting = sym (take-append-drop n (waiting r)) ∙ ap (λ l. l ++ drop n (waiting r)) front ∙ ap (λ l. take n ms ++ l) (drop-drop n r.taken r.posts);
+    }
+
+-- no more are taken than were posted
+pub taken_within : (r : PlacesState) (ms : List Message) (n : ℕ) → n ≤ length ms → Ahead r ms → r.taken ≤ length r.posts → r.taken + n ≤ length r.posts
+taken_within r ms n fits h within = omega (arith, fits, within, length-drop r.taken r.posts, ap length h.1, length-append ms h.0)
 
 -- the message that waits first passes as one more is taken
 pub Passed-next : (r : PlacesState) (m : Message) → Ahead r (m ∷ []) → Passed r (m ∷ []) (record r { taken = r.taken + 1 })

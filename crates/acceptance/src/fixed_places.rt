@@ -1,12 +1,13 @@
 //! A second ring, for the tests: so many places, each for one message that is ever posted.
 
-ghost use Rattle.std.specs.Prelude.{◌≡◌, ◌↔◌, ◌∷◌, [], true, IfOk, MatchOption};
+ghost use Rattle.std.specs.Prelude.{◌≡◌, ◌≤◌, ◌↔◌, List, ◌∷◌, [], length, take, true, IfOk, MatchOption};
 ghost use Rattle.acceptance.specs.FixedPlaces.{Ahead, IsEmpty, IsFull, Passed, unused};
 ghost use Rattle.gs_layout.specs.declared.message.Message.{Message};
+ghost use Rattle.gs_ring.specs.Batches.{messages_of};
 ghost use Rattle.gs_ring.specs.Peek.{message_of};
 
 use gs_layout::{Message, Parcel};
-use gs_ring::{Full, Peeked, Poster, Ring, Taker};
+use gs_ring::{Batch, Full, Peeked, Poster, Ring, Taker};
 use std::alloc::{AllocError, Global};
 use std::marker::Model;
 
@@ -64,6 +65,25 @@ impl FixedPlaces {
         Some(Peeked::new(parcel.as_bytes()))
     }
 
+    /// The message that waits first, as a batch of it alone.
+    fn next_batch(&self) -> Batch<'_>
+        ensures none { messages_of result ≡ [] → IsEmpty self.now }
+        ensures ahead { Ahead self.now (messages_of result) }
+    {
+        match self.first() {
+            Some(peeked) => Batch::One(peeked),
+            None => Batch::Empty,
+        }
+    }
+
+    /// Takes the first messages, so many.
+    fn take_first(&mut self, n: usize)
+        requires { (ms : List Message) × Ahead self.old ms × (n ≤ length ms) }
+        ensures { (ms : List Message) → Ahead self.old ms → n ≤ length ms → Passed self.old (take n ms) self.new }
+    {
+        self.taken += n;
+    }
+
     /// Takes the message that waits first.
     fn pop(&mut self)
         requires { (m : Message) × Ahead self.old (m ∷ []) }
@@ -108,7 +128,7 @@ impl Poster for FixedPlaces {
 }
 
 impl Taker for FixedPlaces {
-    ghost use Rattle.acceptance.specs.FixedPlaces.{Passed-agrees, Passed-join, Passed-none};
+    ghost use Rattle.acceptance.specs.FixedPlaces.{Ahead-begins, Passed-agrees, Passed-join, Passed-none};
 
     ghost passed = { Passed };
 
@@ -124,9 +144,19 @@ impl Taker for FixedPlaces {
         self.pop();
     }
 
+    fn batch(&mut self) -> Batch<'_> {
+        self.next_batch()
+    }
+
+    fn pass(&mut self, n: usize) {
+        self.take_first(n);
+    }
+
     ghost passed_none = { Passed-none };
 
     ghost passed_join = { Passed-join };
+
+    ghost begins = { Ahead-begins };
 
     ghost agrees = { Passed-agrees };
 }

@@ -5,7 +5,7 @@ use gs_kernel::Landing;
 use gs_layout::{Change, Message, Outcome, Refusal};
 use gs_lines::text_of;
 use gs_policy::Choice;
-use gs_report::report_text;
+use gs_report::Report;
 use gs_status::Mask;
 use std::alloc::{AllocError, Global};
 use std::test::Fail;
@@ -127,6 +127,15 @@ fn first_wrong_decision(alloc: Global) -> Result<Option<usize>, AllocError> {
     Ok(None)
 }
 
+/// The report of replies, with so many of the last lines.
+fn reported(alloc: Global, replies: &[Reply], last: usize) -> Result<String, AllocError> {
+    let mut report = Report::new(alloc);
+    for reply in replies {
+        report.add(reply)?;
+    }
+    report.to_line(alloc, last)
+}
+
 /// Whether replies have these lines, and this report with the last of them, so many.
 fn is_shown(
     alloc: Global,
@@ -136,7 +145,7 @@ fn is_shown(
     report: &str,
 ) -> Result<bool, AllocError> {
     let text = text_of(alloc, replies)?;
-    let reported = report_text(alloc, replies, text.as_str(), last)?;
+    let reported = reported(alloc, replies, last)?;
     Ok(text.as_str() == lines && reported.as_str() == report)
 }
 

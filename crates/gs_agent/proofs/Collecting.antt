@@ -1,9 +1,12 @@
 -- Slots are collected one after another.
-use Rattle.std.proofs.Common.{◌≡◌, refl, ap, sym, ◌∙◌, ℕ, zero, suc, ◌+◌, ◌≤◌, length, Some, List, [], ◌∷◌, ◌++◌, map, take, drop, slice_get, arith}
+use Rattle.std.proofs.Common.{◌≡◌, refl, ap, sym, ◌∙◌, ℕ, zero, suc, ◌+◌, ◌≤◌, length, true, None, Some, Ok, Err, List, [], ◌∷◌, ◌++◌, map, take, drop, slice_get, arith}
 use Rattle.std.proofs.lemmas.List.{take_all}
 use Rattle.gs_slots.specs.declared.state.SlotState.{SlotState}
 use Rattle.gs_slots.specs.declared.state.SlotState.TheVariants.{Idle, Stamped, Done}
-use Rattle.gs_slots.specs.Reading.{told_by}
+use Rattle.gs_slots.specs.Reading.{collected_in, idle_if_done, state_in, state_or_idle, told_by}
+use Rattle.gs_slots.specs.Spelling.{idle_bytes}
+use Rattle.gs_slots.specs.State.{Held, told_in}
+use Rattle.std.specs.Option.{is_some}
 use Rattle.gs_mind.specs.Mind.{MindState, picture_of, thinks}
 use Rattle.gs_mind.specs.Picture.{Picture, after_slot, after_slots}
 
@@ -52,3 +55,31 @@ told_count k (x ∷ xs) = ap suc (told_count (suc k) xs)
 -- past the last slot, all were collected
 pub all_told : (k : ℕ) (xs : List (List ℕ)) → length xs ≤ k → take k (told_by 0 xs) ≡ told_by 0 xs
 all_told k xs le = take_all k (told_by 0 xs) (omega (arith, told_count 0 xs, le))
+
+-- a slot that tells of no outcome stays as it is, and nothing is learnt of it
+pub slot_stays : (k : ℕ) (bytes : List ℕ) → told_in (state_in k bytes) ≡ None → collected_in k bytes ≡ bytes
+unfolding collected_in
+slot_stays k bytes e = by_state (state_in k bytes) e
+  where
+    by_state : (h : Held) → told_in h ≡ None → idle_if_done h bytes ≡ bytes
+    by_state (Ok Idle) f = refl
+    by_state (Ok (Stamped s)) f = refl
+    by_state (Ok (Done s outcome at seen)) f = absurd cc
+    by_state (Err x) f = refl
+
+pub nothing_learnt : (c : ℕ) (h : Held) (s : MindState) → told_in h ≡ None → thinks s (after_slot c (state_or_idle h) (picture_of s)) ≡ s
+nothing_learnt c (Ok Idle) s f = refl
+nothing_learnt c (Ok (Stamped b)) s f = refl
+nothing_learnt c (Ok (Done b outcome at seen)) s f = absurd cc
+nothing_learnt c (Err x) s f = refl
+
+-- one that tells of an outcome is idle then
+pub slot_cleared : (k : ℕ) (bytes : List ℕ) → is_some (told_in (state_in k bytes)) ≡ true → collected_in k bytes ≡ idle_bytes
+unfolding collected_in
+slot_cleared k bytes e = by_state (state_in k bytes) e
+  where
+    by_state : (h : Held) → is_some (told_in h) ≡ true → idle_if_done h bytes ≡ idle_bytes
+    by_state (Ok Idle) f = absurd cc
+    by_state (Ok (Stamped s)) f = absurd cc
+    by_state (Ok (Done s outcome at seen)) f = refl
+    by_state (Err x) f = absurd cc

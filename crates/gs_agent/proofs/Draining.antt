@@ -1,19 +1,23 @@
 -- A drain, one message at a time.
-use Rattle.std.proofs.Common.{◌≡◌, refl, ap, sym, ◌∙◌, ◌+◌, ◌≤◌, ◌||◌, Bool, true, false, Option, List, [], ◌∷◌, ◌++◌, arith, cond, length-append}
+use Rattle.std.proofs.Common.{◌≡◌, refl, ap, sym, subst, ◌∙◌, ℕ, ◌+◌, ◌<◌, ◌≤◌, ◌||◌, Bool, true, false, Option, None, Some, List, [], ◌∷◌, ◌++◌, length, drop, arith, cond, take, ◌⊎◌, ⊎_elim, append-nil, append_assoc, length-append}
 use Rattle.std.specs.List.{list_any}
-use Rattle.std.specs.Prelude.{count_by}
+use Rattle.std.specs.Prelude.{IsSome, count_by, is_some}
+use Rattle.std.proofs.lemmas.List.{drop_at, take_at}
 use Rattle.std.proofs.lemmas.List.Folds.{list_any-append}
 use Rattle.std.proofs.lemmas.List.Sums.{sum_by-append}
 use Rattle.gs_layout.specs.declared.message.Message.{Message}
 use Rattle.gs_layout.specs.declared.known.Word.{Word}
-use Rattle.gs_layout.specs.View.{Look, apply, catch_up, is_gap, is_orphan, is_skipped, word, words}
+use Rattle.gs_layout.specs.View.{Look, look_up, apply, catch_up, is_gap, is_orphan, is_skipped, word, words}
+use Rattle.gs_view.specs.Begins.{begins}
 use Rattle.gs_view.specs.declared.taken.Taken.{Taken}
 use Rattle.gs_view.specs.declared.taken.Taken.TheVariants.{Applied, Skipped, Orphan}
 use Rattle.gs_view.specs.Taken.{word_of}
 use Rattle.gs_agent.specs.declared.drained.Drained.{Drained}
 use Rattle.gs_agent.specs.declared.drained.Stop.{Stop}
-use Rattle.gs_agent.specs.Drains.{Took, count_word}
+use Rattle.gs_agent.specs.declared.drained.Stop.TheVariants as stops
+use Rattle.gs_agent.specs.Drains.{Took, TookFirst, count_word}
 use Rattle.gs_mind.proofs.Laws.{view_takes_all}
+use Rattle.gs_mind.specs.Mind.{MindState, picture_of}
 use Rattle.gs_mind.specs.Picture.{Picture, takes_in, takes_in_all}
 
 takes_push : (p : Picture) (ms : List Message) (m : Message) → takes_in_all p (ms ++ m ∷ []) ≡ takes_in m (takes_in_all p ms)
@@ -40,6 +44,17 @@ no_gap_taken Applied = refl
 no_gap_taken Skipped = refl
 no_gap_taken Orphan = refl
 
+none_is_some : {A : Type 0} (o : Option A) → o ≡ None → IsSome o → ⊥
+none_is_some None e h = cc
+none_is_some (Some x) e h = cc
+
+none_is_none : {A : Type 0} (o : Option A) (x : A) → o ≡ None → o ≡ Some x → ⊥
+none_is_none None x e h = cc
+none_is_none (Some y) x e h = cc
+
+some_same : (s t : Stop) → Some s ≡ Some t → s ≡ t
+some_same s t e = cc
+
 pub took_more : (p p' p'' : Picture) (ms : List Message) (m : Message) (w : Word) (d : Drained) → Took p ms d p' → w ≡ word p'.view m → is_gap w ≡ false → p'' ≡ takes_in m p' → Took p (ms ++ m ∷ []) (count_word d w) p''
 took_more p p' p'' ms m w d t is gap next =
     let is' : word (catch_up p.view ms) m ≡ w = ap (λ (x : Look). word x m) (sym t.view) ∙ sym is in
@@ -60,3 +75,97 @@ took_more p p' p'' ms m w d t is gap next =
 pub took_stop : (p p' : Picture) (ms : List Message) (d : Drained) (s : Option Stop) → Took p ms d p' → Took p ms (record d { stop = s }) p'
 took_stop p p' ms d s t =
     record { count = t.count; none_gap = t.none_gap; skipped = t.skipped; orphans = t.orphans; picture = t.picture; view = t.view; few_skipped = t.few_skipped; few_orphans = t.few_orphans }
+
+-- of a batch these messages were taken in so far, and these are left
+pub record TakenSoFar (batch : List Message) (max : ℕ) (d : Drained) (v : MindState) (d' : Drained) (v' : MindState) (left : List Message) : Type 0 where
+  pub done : List Message
+  pub all : batch ≡ done ++ left
+  pub count : d'.count ≡ d.count + length done
+  pub most : d'.count ≤ max
+  pub goes_on : d'.stop ≡ None
+  pub few_skipped : d'.skipped ≤ d'.count
+  pub few_orphans : d'.orphans ≤ d'.count
+  pub took : (p : Picture) (ms : List Message) → Took p ms d (picture_of v) → Took p (ms ++ done) d' (picture_of v')
+
+pub none_taken : (batch : List Message) (max : ℕ) (d : Drained) (v : MindState) → d.count ≤ max → d.skipped ≤ d.count → d.orphans ≤ d.count → d.stop ≡ None → TakenSoFar batch max d v d v batch
+none_taken batch max d v most skipped orphans goes_on =
+    record { done = []; all = refl; count = omega arith; most = most; goes_on = goes_on; few_skipped = skipped; few_orphans = orphans; took = λ p ms t. subst (λ l. Took p l d (picture_of v)) (sym (append-nil ms)) t }
+
+pub taken_one : (batch : List Message) (max : ℕ) (d : Drained) (v : MindState) (d' : Drained) (v' : MindState) (m : Message) (left : List Message) (w : Word) (d'' : Drained) (v'' : MindState)
+    → TakenSoFar batch max d v d' v' (m ∷ left) → d'.count < max → d'' ≡ count_word d' w → word (look_up v'.records) m ≡ w → is_gap w ≡ false → picture_of v'' ≡ takes_in m (picture_of v')
+    → TakenSoFar batch max d v d'' v'' left
+taken_one batch max d v d' v' m left w d'' v'' t lt counted is gap next =
+    let n = ap (λ (x : Drained). x.count) counted in
+    record {
+      done = t.done ++ m ∷ [];
+      all = t.all ∙ sym (append_assoc t.done (m ∷ []) left);
+      count = omega (arith, n, t.count, length-append t.done (m ∷ []));
+      most = omega (arith, n, lt);
+      goes_on = ap (λ (x : Drained). x.stop) counted ∙ t.goes_on;
+      few_skipped = omega (arith, n, ap (λ (x : Drained). x.skipped) counted, at_most_one (is_skipped w), t.few_skipped);
+      few_orphans = omega (arith, n, ap (λ (x : Drained). x.orphans) counted, at_most_one (is_orphan w), t.few_orphans);
+      took = λ p ms h.
+          subst (λ (x : Drained). Took p (ms ++ (t.done ++ m ∷ [])) x (picture_of v'')) (sym counted)
+          (subst (λ l. Took p l (count_word d' w) (picture_of v'')) (append_assoc ms t.done (m ∷ []))
+          (took_more p (picture_of v') (picture_of v'') (ms ++ t.done) m w d' (t.took p ms h) (sym is) gap next));
+    }
+
+-- where the walk ends, all of a batch was taken in, or as many as might be
+pub took_all : (batch : List Message) (max : ℕ) (d : Drained) (v : MindState) (d' : Drained) (v' : MindState) (left : List Message) → TakenSoFar batch max d v d' v' left → (d'.count < max → left ≡ []) → TookFirst batch max d v d' v'
+took_all batch max d v d' v' left t ends = record {
+  done = t.done;
+  left = left;
+  all = t.all;
+  count = t.count;
+  most = t.most;
+  took = t.took;
+  whole = λ _ lt. ends lt;
+  early = λ h. absurd (none_is_some d'.stop t.goes_on h);
+  gap = λ h. absurd (none_is_none d'.stop stops.Gap t.goes_on h);
+  memory = λ h. absurd (none_is_none d'.stop stops.Memory t.goes_on h);
+}
+
+pub took_to_stop : (batch : List Message) (max : ℕ) (d : Drained) (v : MindState) (d' : Drained) (v' : MindState) (m : Message) (left : List Message) (s : Stop) (v'' : MindState)
+    → TakenSoFar batch max d v d' v' (m ∷ left) → d'.count < max → v'' ≡ v' → (s ≡ stops.Gap → is_gap (word (look_up v'.records) m) ≡ true) → (s ≡ stops.Memory → begins (look_up v'.records) m ≡ true)
+    → TookFirst batch max d v (record d' { stop = Some s }) v''
+took_to_stop batch max d v d' v' m left s v'' t lt same gap memory = record {
+  done = t.done;
+  left = m ∷ left;
+  all = t.all;
+  count = t.count;
+  most = t.most;
+  took = λ p ms h. subst (λ (x : MindState). Took p (ms ++ t.done) (record d' { stop = Some s }) (picture_of x)) (sym same) (took_stop p (picture_of v') (ms ++ t.done) d' (Some s) (t.took p ms h));
+  whole = λ h. absurd (none_is_none (Some s) s h refl);
+  early = λ _. lt;
+  gap = λ h. (m, left, refl, subst (λ (x : MindState). is_gap (word (look_up x.records) m) ≡ true) (sym same) (gap (some_same s stops.Gap h)));
+  memory = λ h. (m, left, refl, subst (λ (x : MindState). begins (look_up x.records) m ≡ true) (sym same) (memory (some_same s stops.Memory h)));
+}
+
+-- what is ahead behind the messages of a batch that passed
+pub left_ahead : (done left more : List Message) → done ++ more ≡ done ++ left → more ≡ left
+left_ahead done left more e = sym (drop_at done more (length done) refl) ∙ ap (λ l. drop (length done) l) e ∙ drop_at done left (length done) refl
+
+-- as many as were taken in are those
+pub first_done : (all done left : List Message) (n : ℕ) → all ≡ done ++ left → length done ≡ n → take n all ≡ done
+first_done all done left n e count = ap (λ l. take n l) e ∙ take_at done left n count
+
+pub no_messages : (ms : List Message) → length ms ≡ 0 → ms ≡ []
+no_messages [] e = refl
+no_messages (m ∷ ms) e = absurd (omega (arith, e))
+
+pub none_where : {A : Type 0} (o : Option A) → is_some o ≡ false → o ≡ None
+none_where None e = refl
+none_where (Some x) e = absurd cc
+
+-- the next message is known to come where it is the first of those that are
+pub next_ahead : {S : Type 0} (ahead : S → List Message → Type 0) → ((t : S) (xs ys : List Message) → ahead t (xs ++ ys) → ahead t xs) → (u : S) (m : Message) (more left : List Message) → left ≡ m ∷ more → ahead u left → ahead u (m ∷ [])
+next_ahead ahead begins_ u m more left e h = begins_ u (m ∷ []) more (subst (ahead u) e h)
+
+-- behind the first of a batch that passed, its others are known to come
+pub left_after : {S : Type 0} (ahead : S → List Message → Type 0) (u : S) (all first done left : List Message) → first ≡ done → all ≡ done ++ left → 0 < length left
+    → ((more : List Message) × (first ++ more ≡ all) × ahead u more) ⊎ ((more : List Message) × (first ≡ all ++ more)) → ahead u left
+left_after ahead u all first done left is whole some h =
+    ⊎_elim
+    (λ s. subst (ahead u) (left_ahead done left s.0 (ap (λ l. l ++ s.0) (sym is) ∙ s.1 ∙ whole)) s.2)
+    (λ s. absurd (omega (arith, ap length s.1, length-append all s.0, ap length is, ap length whole, length-append done left, some)))
+    h

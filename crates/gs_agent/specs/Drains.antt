@@ -1,11 +1,13 @@
 -- What a drain took in.
-use Rattle.std.specs.Prelude.{false, ◌+◌, ◌≤◌, ◌≡◌, List, length, if◌then◌else◌}
+use Rattle.std.specs.Prelude.{true, false, ℕ, ◌+◌, ◌<◌, ◌≤◌, ◌≡◌, List, [], ◌∷◌, ◌++◌, length, None, Some, IsSome, if◌then◌else◌}
 use Rattle.std.specs.List.{list_any, count_by}
 use Rattle.gs_layout.specs.declared.message.Message.{Message}
 use Rattle.gs_layout.specs.declared.known.Word.{Word}
-use Rattle.gs_layout.specs.View.{catch_up, words, is_gap, is_skipped, is_orphan}
+use Rattle.gs_layout.specs.View.{catch_up, look_up, word, words, is_gap, is_skipped, is_orphan}
+use Rattle.gs_view.specs.Begins.{begins}
 use Rattle.gs_view.specs.declared.fault.ApplyFault.{ApplyFault}
 use Rattle.gs_view.specs.declared.fault.ApplyFault.TheVariants as faults
+use Rattle.gs_mind.specs.Mind.{MindState, picture_of}
 use Rattle.gs_mind.specs.Picture.{Picture, takes_in_all}
 use Rattle.gs_agent.specs.declared.drained.Drained.{Drained}
 use Rattle.gs_agent.specs.declared.drained.Stop.{Stop}
@@ -37,3 +39,17 @@ pub record Took (p : Picture) (ms : List Message) (d : Drained) (p' : Picture) :
   pub view : p'.view ≡ catch_up p.view ms
   pub few_skipped : d.skipped ≤ d.count
   pub few_orphans : d.orphans ≤ d.count
+
+-- the first messages of a batch were taken in, at most so many in all, and counted beside what was drained before; where the drain stopped, the next one is
+-- a gap, or begins a record
+pub record TookFirst (batch : List Message) (max : ℕ) (d : Drained) (v : MindState) (d' : Drained) (v' : MindState) : Type 0 where
+  pub done : List Message
+  pub left : List Message
+  pub all : batch ≡ done ++ left
+  pub count : d'.count ≡ d.count + length done
+  pub most : d'.count ≤ max
+  pub took : (p : Picture) (ms : List Message) → Took p ms d (picture_of v) → Took p (ms ++ done) d' (picture_of v')
+  pub whole : d'.stop ≡ None → d'.count < max → left ≡ []
+  pub early : IsSome d'.stop → d'.count < max
+  pub gap : d'.stop ≡ Some stops.Gap → (m : Message) × (more : List Message) × (left ≡ m ∷ more) × (is_gap (word (look_up v'.records) m) ≡ true)
+  pub memory : d'.stop ≡ Some stops.Memory → (m : Message) × (more : List Message) × (left ≡ m ∷ more) × (begins (look_up v'.records) m ≡ true)

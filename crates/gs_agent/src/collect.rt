@@ -7,7 +7,7 @@ ghost use Rattle.gs_mind.specs.Mind.{picture_of, thinks};
 ghost use Rattle.gs_mind.specs.Picture.{after_slot, after_slots};
 
 use gs_mind::Mind;
-use gs_slots::{Region, SlotMut, SlotState};
+use gs_slots::{Region, SlotMut};
 
 /// Takes in what became of each done slot of a region, by rising CPU, and makes it idle again.
 pub(crate) fn collect_all(mind: &mut Mind, region: &mut Region)
@@ -21,17 +21,16 @@ pub(crate) fn collect_all(mind: &mut Mind, region: &mut Region)
 
 /// Takes in what became of a done slot, and makes it idle again. Any other slot, a malformed one too,
 /// changes nothing, and stays as it is.
-#[tactic(auto, unfolding(gs_slots::specs::Reading::collected_in))]
+#[tactic(auto, using(crate::proofs::Collecting::slot_stays, crate::proofs::Collecting::nothing_learnt, crate::proofs::Collecting::slot_cleared))]
 fn collect_slot(mind: &mut Mind, slot: SlotMut<'_>)
     ensures slot { left_in slot.exit ≡ collected_in (cpu_of slot.entry) (bytes_of slot.entry) }
     ensures mind { mind.new ≡ thinks mind.old (after_slot (cpu_of slot.entry) (state_or_idle (state_of slot.entry)) (picture_of mind.old)) }
 {
-    let Ok(state) = slot.state() else {
+    if slot.outcome().is_none() {
         return;
-    };
-    let done = matches!(state, SlotState::Done { .. });
-    mind.collect(slot.cpu(), state);
-    if done {
+    }
+    if let Ok(state) = slot.state() {
+        mind.collect(slot.cpu(), state);
         slot.clear();
     }
 }

@@ -5,15 +5,17 @@ ghost use Rattle.gs_layout.specs.declared.message.Message.{Message};
 ghost use Rattle.gs_layout.specs.View.{is_gap, look_up, word};
 ghost use Rattle.gs_view.specs.Begins.{begins};
 ghost use Rattle.gs_view.specs.Taken.{word_of};
-ghost use Rattle.gs_agent.specs.Drains.{Took, count_word, stop_of};
+ghost use Rattle.gs_ring.specs.Batches.{messages_of};
+ghost use Rattle.gs_agent.specs.Drains.{TookFirst, Took, count_word, stop_of};
 ghost use Rattle.gs_mind.specs.Mind.{picture_of};
 
 use crate::drained::{Drained, Stop};
 use gs_mind::Mind;
-use gs_ring::Taker;
+use gs_ring::{Batch, Taker};
 use gs_view::{ApplyFault, Taken};
 
-/// Takes in messages, at most so many, up to a gap or to where memory runs out.
+/// Takes in messages, at most so many, up to a gap or to where memory runs out. They are read where they
+/// lie, batch by batch, and those that were taken in then pass.
 pub(crate) fn drain_into<T: Taker>(mind: &mut Mind, taker: &mut T, max: u32) -> Drained
     ensures took { (ms : List Message) × T.passed taker.old ms taker.new × Took (picture_of mind.old) ms result (picture_of mind.new) }
     ensures most { result.count ≤ max }
@@ -30,14 +32,37 @@ pub(crate) fn drain_into<T: Taker>(mind: &mut Mind, taker: &mut T, max: u32) -> 
         stop: None,
     };
     'taking: while drained.count < max {
-        let Some(peeked) = taker.peek() else {
+        let before = drained.count;
+        drained = take_in_first(mind, taker.batch(), max, drained);
+        let taken = drained.count - before;
+        if taken == 0 {
             break;
-        };
-        match mind.take_in(peeked.message()) {
-            Ok(taken) => {
-                taker.advance();
-                drained = counted(drained, taken);
-            }
+        }
+        taker.pass(taken);
+        if drained.stop.is_some() {
+            break;
+        }
+    }
+    drained
+}
+
+/// Takes in the first messages of a batch, up to a gap, to where memory runs out, or to where so many
+/// were drained in all. They are counted beside those that were drained before.
+fn take_in_first(mind: &mut Mind, batch: Batch<'_>, max: usize, drained: Drained) -> Drained
+    requires most { max < 2 ^ 32 }
+    requires count { drained.count ≤ max }
+    requires skipped { drained.skipped ≤ drained.count }
+    requires orphans { drained.orphans ≤ drained.count }
+    requires goes_on { drained.stop ≡ None }
+    ensures { TookFirst (messages_of batch.entry) max drained mind.old result mind.new }
+{
+    let mut drained = drained;
+    for message in batch.messages() {
+        if drained.count == max {
+            break;
+        }
+        match mind.take_in(message) {
+            Ok(taken) => drained = counted(drained, taken),
             Err(fault) => {
                 drained.stop = Some(stop_of(fault));
                 break;

@@ -1,5 +1,4 @@
-ghost use Rattle.std.specs.Prelude.{◌≡◌, ◌<◌, ◌≤◌, List, [], ◌∷◌, None, Some, IfErr, IfOk, IsSome, Ok, OnErr, OnOk, length, option_map, true};
-ghost use Rattle.gs_layout.specs.declared.known.Known.{Known};
+ghost use Rattle.std.specs.Prelude.{◌≡◌, ◌<◌, ◌≤◌, List, [], ◌∷◌, None, Some, IfErr, IfOk, IsSome, Ok, OnErr, OnOk, length, true};
 ghost use Rattle.gs_layout.specs.declared.message.Message.{Message};
 ghost use Rattle.gs_layout.specs.View.{is_gap, look_up, word};
 ghost use Rattle.gs_slots.specs.declared.state.SlotState.{SlotState};
@@ -22,7 +21,7 @@ use crate::drain::drain_into;
 use crate::drained::Drained;
 use gs_beliefs::Running;
 use gs_dump::Page;
-use gs_layout::Refusal;
+use gs_layout::{Known, Refusal};
 use gs_mind::Mind;
 use gs_policy::{Choice, Counted, Policy};
 use gs_ring::Taker;
@@ -225,7 +224,7 @@ impl<P> Role<P> {
 
     /// Stamps a transaction into an idle slot: the thread is to run on the slot's CPU, if its sequence
     /// number is then still the one that the view has. `preempt` says that a thread that is on the CPU
-    /// is to give way. Answers the number. It takes no memory.
+    /// is to give way. Answers what the view has of the thread. It takes no memory.
     ///
     /// The role remembers the stamp until the slot is collected: until then the thread does not wait,
     /// and the CPU is not one to use. Where it still remembered another stamp on that CPU, the thread
@@ -235,21 +234,21 @@ impl<P> Role<P> {
     ///
     /// The first that applies: `NoThread` where the view does not know the thread, `SlotOpen` where
     /// the slot is not idle, malformed too. Slot and role stay as they were.
-    pub fn stamp(&mut self, slot: SlotMut<'_>, tid: u32, preempt: bool) -> Result<u32, Refusal>
+    pub fn stamp(&mut self, slot: SlotMut<'_>, tid: u32, preempt: bool) -> Result<Known, Refusal>
         ensures ok { IfOk result (λ _. stamp_refusal (look_up self.old.mind.records tid) (state_of slot.entry) ≡ None) }
-        ensures number { IfOk result (λ tseq. option_map (λ (k : Known). k.tseq) (look_up self.old.mind.records tid) ≡ Some tseq) }
-        ensures stamped { IfOk result (λ tseq. state_in (cpu_of slot.entry) (left_in slot.exit) ≡ Ok (SlotState.Stamped (record { generation = self.old.generation; tid = tid; tseq = tseq; preempt = preempt }))) }
+        ensures known { IfOk result (λ known. look_up self.old.mind.records tid ≡ Some known) }
+        ensures stamped { IfOk result (λ known. state_in (cpu_of slot.entry) (left_in slot.exit) ≡ Ok (SlotState.Stamped (record { generation = self.old.generation; tid = tid; tseq = known.tseq; preempt = preempt }))) }
         ensures role { OnOk result (self.new ≡ record self.old { mind = thinks self.old.mind (after_stamp (cpu_of slot.entry) tid (picture_of self.old.mind)) }) }
         ensures refused { IfErr result (λ refusal. stamp_refusal (look_up self.old.mind.records tid) (state_of slot.entry) ≡ Some refusal) }
         ensures unchanged { OnErr result (left_in slot.exit ≡ bytes_of slot.entry) }
         ensures as_before { OnErr result (self.new ≡ self.old) }
     {
-        let tseq = self.mind.view().get(tid).ok_or(Refusal::NoThread)?.tseq;
+        let known = *self.mind.view().get(tid).ok_or(Refusal::NoThread)?;
         let cpu = slot.cpu();
-        match slot.stamp(self.generation, tid, tseq, preempt) {
+        match slot.stamp(self.generation, tid, known.tseq, preempt) {
             Ok(()) => {
                 self.mind.stamp(cpu, tid);
-                Ok(tseq)
+                Ok(known)
             }
             Err(SlotBusy) => Err(Refusal::SlotOpen),
         }

@@ -1,4 +1,6 @@
 mod Believed
-mod Changing
+mod Found
+mod Index
+mod Marks
 mod Rows
 pub mod Laws

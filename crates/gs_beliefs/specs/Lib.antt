@@ -1,3 +1,4 @@
-pub mod Cpus
 pub mod Belief
+pub mod ByThread
+pub mod Cpus
 pub mod Held

@@ -1,9 +1,10 @@
-ghost use Rattle.std.specs.Prelude.{◌≡◌, ◌≤◌, ℕ, IfOk, length};
+ghost use Rattle.std.specs.Prelude.{◌≡◌, ◌≤◌, ◌&&◌, not, nat_lt, ℕ, is_some, IfOk, length};
 ghost use Rattle.gs_status.specs.Masks.{has};
-ghost use Rattle.gs_beliefs.specs.Cpus.{believed_on, clears, is_believed, is_free, is_named, is_usable, places, raises, stamp_on, stamps, ticks, unknown, unstamps};
+ghost use Rattle.gs_beliefs.specs.Cpus.{believed_on, clears, is_believed, is_free, is_just, is_named, is_usable, places, raises, stamp_on, stamps, ticks, unknown, unstamps};
 ghost use Rattle.gs_beliefs.specs.Belief.{after_outcome, hears};
 
-use crate::running::{Running, clear_all, raise_all, runs, ticked};
+use crate::by_thread::ByThread;
+use crate::running::{Running, raise_at, ticked};
 use gs_layout::{Kind, Outcome};
 use gs_reader::MessageRef;
 use gs_status::{MOST_CPUS, Mask};
@@ -14,12 +15,14 @@ use std::marker::Model;
 /// ticks, and which thread an uncollected stamp names. Beside that it keeps the agent's own CPU.
 ///
 /// A belief lags behind the kernel by the messages that were not read yet. There are at most
-/// [`MOST_CPUS`] CPUs; what is said of a CPU past the last one changes nothing. Each call takes at most
-/// a number of steps that grows as the number of CPUs, and none but [`CpuBeliefs::new`] takes memory.
+/// [`MOST_CPUS`] CPUs; what is said of a CPU past the last one changes nothing. No call but
+/// [`CpuBeliefs::new`] takes memory or looks at every CPU: those of a thread are found by its tid, and
+/// where many CPUs are asked for, the answer is a mask.
 #[derive(Drop)]
 pub struct CpuBeliefs {
     beliefs: Vec<Option<Running>>,
-    stamps: Vec<Option<u32>>,
+    running: ByThread,
+    stamps: ByThread,
     agent: Option<u16>,
 }
 
@@ -29,9 +32,30 @@ impl Model for CpuBeliefs {
 
     ghost Value = { Cpus };
 
-    ghost view = { λ s. record { believed = s.beliefs.items; stamped = s.stamps.items; agent = s.agent } };
+    ghost view = { λ s. record { believed = s.beliefs.items; stamped = s.stamps; agent = s.agent } };
 
-    ghost invariant = { λ s. IsCpus s.beliefs.items s.stamps.items };
+    ghost invariant = { λ s. IsCpus s.beliefs.items s.running s.stamps };
+}
+
+/// The CPUs that are not in a set.
+#[tactic(auto, using(crate::proofs::Marks::has_others))]
+fn others(mask: Mask) -> Mask
+    ensures { (c : ℕ) → has result c ≡ (nat_lt c MOST_CPUS && not (has mask c)) }
+{
+    Mask::new(!mask.bits())
+}
+
+/// A set without a CPU, where there is one to leave out.
+#[tactic(auto, using(crate::proofs::Marks::without_past))]
+fn without_any(mask: Mask, cpu: Option<u16>) -> Mask
+    ensures { (c : ℕ) → has result c ≡ (has mask c && not (is_just c cpu)) }
+{
+    match cpu {
+        None => mask,
+        Some(cpu) if cpu < MOST_CPUS => mask.without(cpu),
+        // No CPU from there on is in any mask.
+        Some(_) => mask,
+    }
 }
 
 impl CpuBeliefs {
@@ -47,7 +71,8 @@ impl CpuBeliefs {
     {
         Ok(CpuBeliefs {
             beliefs: vec![in alloc; None; cpus as usize]?,
-            stamps: vec![in alloc; None; cpus as usize]?,
+            running: ByThread::new(alloc, cpus)?,
+            stamps: ByThread::new(alloc, cpus)?,
             agent,
         })
     }
@@ -80,21 +105,21 @@ impl CpuBeliefs {
     pub fn stamp_on(&self, cpu: u16) -> Option<u32>
         ensures { result ≡ stamp_on self.now cpu }
     {
-        *self.stamps.get(cpu as usize)?
+        self.stamps.on(cpu)
     }
 
     /// Whether some CPU is believed to run a thread.
     pub fn runs(&self, tid: u32) -> bool
         ensures { result ≡ is_believed self.now tid }
     {
-        self.beliefs.iter().any(|believed| runs(believed, tid))
+        self.running.has(tid)
     }
 
     /// Whether some uncollected stamp names a thread.
     pub fn names(&self, tid: u32) -> bool
         ensures { result ≡ is_named self.now tid }
     {
-        self.stamps.iter().any(|stamp| *stamp == Some(tid))
+        self.stamps.has(tid)
     }
 
     /// Whether the agent may use a CPU while the other class holds those of `taken`: there is such a
@@ -117,28 +142,26 @@ impl CpuBeliefs {
     }
 
     /// The CPUs that the agent may use while the other class holds those of `taken`.
-    #[tactic(auto, using(gs_status::proofs::Laws::marked_if))]
     pub fn usable(&self, taken: Mask) -> Mask
         ensures { (c : ℕ) → has result c ≡ is_usable self.now (has taken) c }
     {
-        let mut mask = Mask::none();
-        for cpu in 0..self.cpus() {
-            mask = mask.with_if(cpu, self.is_usable(taken, cpu));
-        }
-        mask
+        without_any(self.stamps.vacant().both(others(taken)), self.agent)
     }
 
     /// The CPUs that the agent may use, while the other class holds those of `taken`, and on which
     /// nobody is believed to run.
-    #[tactic(auto, using(gs_status::proofs::Laws::marked_if))]
     pub fn free(&self, taken: Mask) -> Mask
         ensures { (c : ℕ) → has result c ≡ is_free self.now (has taken) c }
     {
-        let mut mask = Mask::none();
-        for cpu in 0..self.cpus() {
-            mask = mask.with_if(cpu, self.is_free(taken, cpu));
-        }
-        mask
+        self.usable(taken).both(self.running.vacant())
+    }
+
+    /// The CPUs that the agent may use, while the other class holds those of `taken`, and on which
+    /// somebody is believed to run.
+    pub fn busy(&self, taken: Mask) -> Mask
+        ensures { (c : ℕ) → has result c ≡ (is_usable self.now (has taken) c && is_some (believed_on self.now c)) }
+    {
+        self.usable(taken).both(others(self.running.vacant()))
     }
 
     /// The agent's own CPU is this one, or it has none while it attaches.
@@ -152,14 +175,19 @@ impl CpuBeliefs {
     pub fn clear(&mut self, tid: u32)
         ensures { self.new ≡ clears tid self.old }
     {
-        clear_all(&mut self.beliefs, tid);
+        if let Some(cpu) = self.running.first_of(tid) {
+            self.beliefs[cpu as usize] = None;
+            self.running.set(cpu, None);
+        }
     }
 
     /// A thread has this sequence number now, where it is believed to run.
     pub fn raise(&mut self, tid: u32, tseq: u32)
         ensures { self.new ≡ raises tid tseq self.old }
     {
-        raise_all(&mut self.beliefs, tid, tseq);
+        if let Some(cpu) = self.running.first_of(tid) {
+            raise_at(&mut self.beliefs[cpu as usize], tid, tseq);
+        }
     }
 
     /// The timer of a CPU ticked: one tick more for whoever is believed to run there, up to
@@ -167,9 +195,11 @@ impl CpuBeliefs {
     pub fn tick(&mut self, cpu: u16)
         ensures { self.new ≡ ticks cpu self.old }
     {
-        if let Some(believed) = self.beliefs.get_mut(cpu as usize) {
-            *believed = ticked(*believed);
+        let at = cpu as usize;
+        if at >= self.beliefs.len() {
+            return;
         }
+        self.beliefs[at] = ticked(self.beliefs[at]);
     }
 
     /// A message that applied to the view: a tick counts for its CPU, one that takes its thread off a
@@ -205,6 +235,7 @@ impl CpuBeliefs {
                 tseq,
                 ticks: 0,
             });
+            self.running.set(cpu, Some(tid));
         }
     }
 
@@ -212,18 +243,14 @@ impl CpuBeliefs {
     pub fn stamp(&mut self, cpu: u16, tid: u32)
         ensures { self.new ≡ stamps cpu tid self.old }
     {
-        if let Some(stamp) = self.stamps.get_mut(cpu as usize) {
-            *stamp = Some(tid);
-        }
+        self.stamps.set(cpu, Some(tid));
     }
 
     /// A CPU has no uncollected stamp.
     pub fn unstamp(&mut self, cpu: u16)
         ensures { self.new ≡ unstamps cpu self.old }
     {
-        if let Some(stamp) = self.stamps.get_mut(cpu as usize) {
-            *stamp = None;
-        }
+        self.stamps.set(cpu, None);
     }
 
     /// What became of a stamp: the outcome, the CPU that the thread was then on, the thread, and the

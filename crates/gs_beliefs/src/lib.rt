@@ -1,6 +1,8 @@
 //! What an agent believes of each CPU: who runs there, since when, and whether the agent may use it.
 #![tactic(auto)]
 
+mod buckets;
+mod by_thread;
 mod cpu_beliefs;
 mod running;
 

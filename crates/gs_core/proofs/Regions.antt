@@ -1,18 +1,18 @@
 -- What is done to a region in which no slot is malformed is done to its states.
-use Rattle.std.proofs.Common.{◌≡◌, Bool, true, false, ℕ, zero, suc, ◌+◌, ◌<◌, Option, None, Some, Result, Ok, Err, IfOk, IfErr, IsOk, OnErr, List, [], ◌∷◌, ◌++◌, length, map, replicate, slice_get, slice_set, refl, ap, sym, subst, ◌∙◌, arith}
+use Rattle.std.proofs.Common.{◌≡◌, Bool, true, false, ℕ, zero, suc, ◌+◌, ◌<◌, Option, None, Some, Result, Ok, Err, IfOk, IfErr, OnErr, OnOk, List, [], ◌∷◌, ◌++◌, length, map, replicate, slice_get, slice_set, get_or, refl, ap, sym, subst, ◌∙◌, arith}
 use Rattle.std.specs.Global.{Vec}
-use Rattle.std.specs.Option.{option_map}
 use Rattle.std.specs.Result.{result_unwrap_or}
-use Rattle.std.proofs.lemmas.Option.{none-some, same_Some}
+use Rattle.std.proofs.lemmas.Option.{slice_get-get_or}
 use Rattle.gs_layout.specs.declared.known.Known.{Known}
 use Rattle.gs_layout.specs.declared.refusal.Refusal.{Refusal}
 use Rattle.gs_agent.specs.Role.{stamp_refusal}
-use Rattle.gs_slots.specs.declared.state.SlotState.TheVariants.{Idle, Stamped}
+use Rattle.gs_slots.specs.declared.state.SlotState.TheVariants.{Done, Idle, Stamped}
 use Rattle.gs_slots.specs.Spelling.{idle_bytes}
 use Rattle.gs_slots.specs.declared.state.SlotState.{SlotState}
+use Rattle.gs_slots.specs.declared.state.Stamp.{Stamp}
 use Rattle.gs_slots.specs.Reading.{all_collected, state_in, state_or_idle, states_in, told_by}
 use Rattle.gs_slots.specs.State.{Held, collected}
-use Rattle.gs_slots.proofs.Laws.{all_idle_read, collected_read, get_held, held_get, set_held, state_at, states_count, states_set, told_is}
+use Rattle.gs_slots.proofs.Laws.{all_idle_read, collected_read, get_held, held_get, set_as_it_was, set_held, state_at, states_count, states_set, told_is}
 use Rattle.gs_status.specs.Masks.{has}
 use Rattle.gs_journal.specs.History.{History}
 use Rattle.gs_kernel.specs.declared.settings.Settings.{Settings}
@@ -122,16 +122,48 @@ get_below [] k x e = absurd cc
 get_below (y ∷ ys) zero x e = omega arith
 get_below (y ∷ ys) (suc k) x e = omega (arith, get_below ys k x e)
 
--- what an agent knows of a thread is stamped into an idle slot
-pub stamps_ok : (r : Result ℕ Refusal) (o : Option Known) (h : Held) (t : ℕ) → option_map (λ (k : Known). k.tseq) o ≡ Some t → h ≡ Ok Idle → IfErr r (λ f. stamp_refusal o h ≡ Some f) → IsOk r
-stamps_ok (Ok n) o h t known idle q = refl
-stamps_ok (Err f) None h t known idle q = absurd cc
-stamps_ok (Err f) (Some k) h t known idle q = absurd (none-some f (sym (ap (stamp_refusal (Some k)) idle) ∙ q))
+-- ---- a stamp
 
-pub stamped_left : (r : Result ℕ Refusal) (o : Option Known) (g u t : ℕ) (p : Bool) (x : Held) → IsOk r → option_map (λ (k : Known). k.tseq) o ≡ Some t → IfOk r (λ n. option_map (λ (k : Known). k.tseq) o ≡ Some n)
-    → IfOk r (λ n. x ≡ Ok (Stamped (record { generation = g; tid = u; tseq = n; preempt = p }))) → x ≡ Ok (Stamped (record { generation = g; tid = u; tseq = t; preempt = p }))
-stamped_left (Ok n) o g u t p x ok known number left = left ∙ ap (λ (m : ℕ). Ok (Stamped (record { generation = g; tid = u; tseq = m; preempt = p }))) (same_Some n t (sym number ∙ known))
-stamped_left (Err f) o g u t p x ok known number left = absurd cc
+-- what a stamp leaves of the states: in the slot what was stamped, if it was
+abbrev pub stamped_slots : Result Known Refusal → (Known → Stamp) → ℕ → List SlotState → List SlotState
+stamped_slots (Ok k) stamp c zs = slice_set zs c (Stamped (stamp k))
+stamped_slots (Err f) stamp c zs = zs
+
+pub stamp_read : (r : Result Known Refusal) (stamp : Known → Stamp) (c : ℕ) (bs : List (List ℕ)) (b left : List ℕ) (zs : List SlotState) → AreRead bs zs → slice_get bs c ≡ Some b
+    → IfOk r (λ k. state_in c left ≡ Ok (Stamped (stamp k))) → OnErr r (left ≡ b) → AreRead (slice_set bs c left) (stamped_slots r stamp c zs)
+stamp_read (Ok k) stamp c bs b left zs e is ok same = slot_set bs zs c left (Stamped (stamp k)) e ok
+stamp_read (Err f) stamp c bs b left zs e is ok same = ap (states_in 0) (ap (slice_set bs c) same ∙ set_as_it_was bs c b is) ∙ e
+
+pub slots_stamped : (r : Result Known Refusal) (stamp : Known → Stamp) (c : ℕ) (zs xs : List SlotState) → xs ≡ stamped_slots r stamp c zs → IfOk r (λ k. xs ≡ slice_set zs c (Stamped (stamp k)))
+slots_stamped (Ok k) stamp c zs xs e = e
+slots_stamped (Err f) stamp c zs xs e = tt
+
+pub slots_kept : (r : Result Known Refusal) (stamp : Known → Stamp) (c : ℕ) (zs xs : List SlotState) → xs ≡ stamped_slots r stamp c zs → OnErr r (xs ≡ zs)
+slots_kept (Ok k) stamp c zs xs e = tt
+slots_kept (Err f) stamp c zs xs e = e
+
+-- what is read of a slot is its state
+abbrev pub Reads : List SlotState → ℕ → Held → Type 0
+Reads zs c h = (z : SlotState) → slice_get zs c ≡ Some z → h ≡ Ok z
+
+idle_only : (o : Option Known) (z : SlotState) → stamp_refusal o (Ok z) ≡ None → z ≡ Idle
+idle_only None z e = absurd cc
+idle_only (Some k) Idle e = refl
+idle_only (Some k) (Stamped t) e = absurd cc
+idle_only (Some k) (Done t outcome at seen) e = absurd cc
+
+-- only an idle slot is stamped
+pub idle_there : (r : Result Known Refusal) (o : Option Known) (h : Held) (zs : List SlotState) (c : ℕ) → Reads zs c h → c < length zs → IfOk r (λ _. stamp_refusal o h ≡ None) → OnOk r (slice_get zs c ≡ Some Idle)
+idle_there (Ok k) o h zs c reads lt none =
+    let there = slice_get-get_or zs c Idle lt in
+    let z = get_or zs c Idle in
+    there ∙ ap Some (idle_only o z (ap (stamp_refusal o) (sym (reads z there)) ∙ none))
+idle_there (Err f) o h zs c reads lt none = tt
+
+pub why_refused : (r : Result Known Refusal) (o : Option Known) (h : Held) (zs : List SlotState) (c : ℕ) → Reads zs c h → IfErr r (λ f. stamp_refusal o h ≡ Some f)
+    → IfErr r (λ f. (z : SlotState) → slice_get zs c ≡ Some z → stamp_refusal o (Ok z) ≡ Some f)
+why_refused (Ok k) o h zs c reads q = tt
+why_refused (Err f) o h zs c reads q = λ z is. ap (stamp_refusal o) (sym (reads z is)) ∙ q
 
 pub or_idle : (h : Held) → state_or_idle h ≡ result_unwrap_or h Idle
 or_idle (Ok z) = refl

@@ -16,10 +16,10 @@ ghost use Rattle.gs_core.specs.Safe.{Safe, IsFaithful, Run};
 use crate::config::{Config, ConfigFault};
 use crate::event::Event;
 use crate::items::Items;
-use crate::known::{known_of, known_threads};
+use crate::known::known_threads;
 use crate::reply::Reply;
 use crate::slots::MachineSlots;
-use crate::stamping::{stamp_all, stamp_choice};
+use crate::stamping::{make_room, stamp_all, stamp_choice, stamp_refusal};
 use crate::transaction::Transaction;
 use crate::unread::waiting;
 use gs_agent::Role;
@@ -249,27 +249,13 @@ impl<P: Counted + Copy> Machine<P> {
         let Some(role) = &mut self.role else {
             unreachable!()
         };
-        let Some(known) = known_of(role.view(), tid) else {
-            return Err(Refusal::NoThread);
-        };
-        let SlotState::Idle = self.region.state(cpu) else {
-            return Err(Refusal::SlotOpen);
-        };
-        let number = self.transactions.len();
-        if number >= self.kernel.settings().history as usize {
-            return Err(Refusal::HistoryFull);
+        let most = self.kernel.settings().history as usize;
+        if let Err(refusal) = make_room(&mut self.transactions, most) {
+            return Err(stamp_refusal(role, &self.region, cpu, tid).unwrap_or(refusal));
         }
-        if self.transactions.reserve(1).is_err() {
-            return Err(Refusal::OutOfMemory);
-        }
-        stamp_choice(
-            role,
-            &mut self.region,
-            &mut self.transactions,
-            Choice { cpu, tid, preempt },
-            known,
-        );
-        Ok(number + 1)
+        let choice = Choice { cpu, tid, preempt };
+        stamp_choice(role, &mut self.region, &mut self.transactions, choice)?;
+        Ok(self.transactions.len())
     }
 
     fn decide(&mut self) -> Reply

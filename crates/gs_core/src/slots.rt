@@ -1,23 +1,23 @@
 //! The slots of a machine: a region in which no slot is malformed.
 
-ghost use Rattle.std.specs.Prelude.{◌≡◌, ◌<◌, None, Some, Ok, IfOk, IfErr, OnErr, [], length, map, replicate, slice_get, slice_set};
+ghost use Rattle.std.specs.Prelude.{◌≡◌, ◌<◌, None, Some, Ok, IfOk, IfErr, OnErr, OnOk, [], length, map, replicate, slice_get, slice_set};
 ghost use Rattle.std.specs.List.{list_any};
-ghost use Rattle.std.specs.Option.{option_map};
-ghost use Rattle.gs_layout.specs.declared.known.Known.{Known};
 ghost use Rattle.gs_layout.specs.View.{look_up};
 ghost use Rattle.gs_slots.specs.declared.state.SlotState.{SlotState};
 ghost use Rattle.gs_slots.specs.Reading.{states_in};
 ghost use Rattle.gs_slots.specs.State.{collected, is_stamped};
+ghost use Rattle.gs_agent.specs.Role.{stamp_refusal};
 ghost use Rattle.gs_mind.specs.Mind.{picture_of, thinks};
 ghost use Rattle.gs_mind.specs.Picture.{after_slots, after_stamp};
 ghost use Rattle.gs_kernel.specs.Commit.{commit_refusal};
 ghost use Rattle.gs_kernel.specs.Kernel.{IsRefusal};
 ghost use Rattle.gs_kernel.specs.Legal.{Frame, RoomOf};
 ghost use Rattle.gs_kernel.specs.Lands.{Adds, LandsAll};
+ghost use Rattle.gs_core.specs.Machine.{stamp_of};
 
 use gs_agent::Role;
 use gs_kernel::{Kernel, Landing};
-use gs_layout::Refusal;
+use gs_layout::{Known, Refusal};
 use gs_ring::Poster;
 use gs_slots::{Region, SlotState};
 use gs_status::Mask;
@@ -90,22 +90,28 @@ impl MachineSlots {
         self.region.clear();
     }
 
-    /// A role stamps what it knows of a thread into the idle slot of a CPU.
+    /// A role stamps what it knows of a thread into the slot of a CPU. Answers what that is.
+    ///
+    /// # Errors
+    ///
+    /// As of `Role::stamp`.
     pub(crate) fn stamp<P>(
         &mut self,
         role: &mut Role<P>,
         cpu: u16,
         tid: u32,
-        tseq: u32,
         preempt: bool,
-    )
-        requires idle { slice_get self.old cpu ≡ Some SlotState.Idle }
-        requires known { option_map (λ (k : Known). k.tseq) (look_up role.old.mind.records tid) ≡ Some tseq }
-        ensures slots { self.new ≡ slice_set self.old cpu (SlotState.Stamped (record { generation = role.old.generation; tid = tid; tseq = tseq; preempt = preempt })) }
-        ensures role { role.new ≡ record role.old { mind = thinks role.old.mind (after_stamp cpu tid (picture_of role.old.mind)) } }
+    ) -> Result<Known, Refusal>
+        requires { cpu < length self.old }
+        ensures known { IfOk result (λ known. look_up role.old.mind.records tid ≡ Some known) }
+        ensures idle { OnOk result (slice_get self.old cpu ≡ Some SlotState.Idle) }
+        ensures slots { IfOk result (λ known. self.new ≡ slice_set self.old cpu (SlotState.Stamped (stamp_of tid preempt (role.old.generation, cpu) known))) }
+        ensures role { OnOk result (role.new ≡ record role.old { mind = thinks role.old.mind (after_stamp cpu tid (picture_of role.old.mind)) }) }
+        ensures refused { IfErr result (λ refusal. (state : SlotState) → slice_get self.old cpu ≡ Some state → stamp_refusal (look_up role.old.mind.records tid) (Ok state) ≡ Some refusal) }
+        ensures slots_stay { OnErr result (self.new ≡ self.old) }
+        ensures role_stays { OnErr result (role.new ≡ role.old) }
     {
-        let _tseq = tseq;
-        role.stamp(self.region.slot(cpu), tid, preempt).unwrap();
+        role.stamp(self.region.slot(cpu), tid, preempt)
     }
 
     /// The kernel lands the slots of a mask, as `Kernel::txns_commit` says.

@@ -7,7 +7,7 @@ use Rattle.std.proofs.lemmas.Bool.Decides.{nat_tests}
 use Rattle.std.proofs.lemmas.List.{drop_at, take_at, length-drop, length-take, take-append-drop, nil_from_length}
 use Rattle.byteorder.specs.Endian.{little_bytes, little_number}
 use Rattle.byteorder.specs.Numbers.{little_from-lt}
-use Rattle.gs_layout.proofs.Laws.{IsBytes, IsBytes-drop, IsBytes-take}
+use Rattle.gs_layout.proofs.Laws.{IsBytes, IsBytes-drop, IsBytes-take, at_2, at_4}
 use Rattle.gs_dump.specs.declared.fault.PageFault.{PageFault}
 use Rattle.gs_dump.specs.declared.fault.PageFault.TheVariants as faults
 use Rattle.gs_dump.specs.declared.record.DumpRecord.{DumpRecord}
@@ -15,7 +15,7 @@ use Rattle.gs_dump.specs.Record.{IsLive, record_spelling}
 use Rattle.gs_dump.specs.Page.{Contents, IsPage, end_number, page_spelling, rises}
 use Rattle.gs_dump.specs.Reading.{IsFault, IsSpelled, count_in, end_fits, end_in, field_fault, is_bad, is_other_version, is_short, next_in, next_number_in, page_fault, page_in, record_in, size_in, texts, texts_in}
 use Rattle.gs_dump.specs.Scan.{Faults}
-use Rattle.gs_dump.proofs.Records.{at_2, at_4, length-record_spelling, not_false, reads, record_again, record_back, record_sound}
+use Rattle.gs_dump.proofs.Records.{length-record_spelling, not_false, reads, record_again, record_back, record_sound}
 
 -- ---- what is spelled is read back
 

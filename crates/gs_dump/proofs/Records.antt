@@ -3,7 +3,7 @@ use Rattle.std.proofs.Common.{◌≡◌, Bool, true, false, cond, ℕ, zero, suc
 use Rattle.std.specs.Prelude.{◌==◌, ◌&&◌, ◌||◌, not, nat_le, nat_lt, if◌then◌else◌, slice_index, IfSome}
 use Rattle.std.specs.List.{list_all}
 use Rattle.std.proofs.Math.Seq.{drop-cons}
-use Rattle.std.proofs.lemmas.Bool.{and_from, and_parts, cases_Bool, cond-false, cond-true, eqb-true, le-leb, leb-true, lt-ltb, ltb-true, or_cases}
+use Rattle.std.proofs.lemmas.Bool.{and_from, and_parts, cond-true, eqb-true, le-leb, leb-true, lt-ltb, ltb-true, or_cases}
 use Rattle.std.proofs.lemmas.Bool.Decides.{nat_tests}
 use Rattle.std.proofs.lemmas.List.{drop-drop, drop_at, take_at, length-drop, length-take, length-replicate, take-append-drop}
 use Rattle.byteorder.specs.Endian.{little_bytes, little_number}
@@ -13,9 +13,9 @@ use Rattle.gs_layout.specs.declared.facts.Class.{Class}
 use Rattle.gs_layout.specs.declared.facts.Class.TheVariants.{Zero, One}
 use Rattle.gs_layout.specs.Class.{class_number}
 use Rattle.gs_layout.specs.Name.{is_name, is_name_byte}
-use Rattle.gs_layout.specs.Reading.{class_numbered, cpu_numbered, number_at}
+use Rattle.gs_layout.specs.Reading.{class_numbered, cpu_numbered}
 use Rattle.gs_layout.specs.Spelling.{AreNumbers, IsCpuOrNone, IsMask, cpu_number}
-use Rattle.gs_layout.proofs.Laws.{IsBytes, IsBytes-drop, back_2, back_4, back_8}
+use Rattle.gs_layout.proofs.Laws.{IsBytes, IsBytes-drop, at_2, at_4, at_8, cpu_again, flag_again}
 use Rattle.gs_dump.specs.declared.record.DumpRecord.{DumpRecord}
 use Rattle.gs_dump.specs.Record.{IsLive, name_field, record_spelling}
 use Rattle.gs_dump.specs.Reading.{cpu_fits, cpu_number_in, facts_fit, flags_in, is_bad, is_other_version, mask_in, name_fits, name_in, name_len_in, numbers_fit, record_fits, record_in, tid_in, tseq_in, version_in}
@@ -137,34 +137,10 @@ record_again r h =
 
 -- ---- bytes whose fields fit are a spelling
 
-pub at_2 : (p : ℕ) (xs : List ℕ) → p + 2 ≤ length xs → IsBytes xs → little_bytes 2 (number_at p 2 xs) ++ drop (p + 2) xs ≡ drop p xs
-at_2 p xs long fits =
-    ap (λ (ys : List ℕ). little_bytes 2 (number_at p 2 xs) ++ ys) (sym (drop-drop 2 p xs)) ∙ back_2 (drop p xs) (omega (arith, length-drop p xs)) (IsBytes-drop p xs fits)
-
-pub at_4 : (p : ℕ) (xs : List ℕ) → p + 4 ≤ length xs → IsBytes xs → little_bytes 4 (number_at p 4 xs) ++ drop (p + 4) xs ≡ drop p xs
-at_4 p xs long fits =
-    ap (λ (ys : List ℕ). little_bytes 4 (number_at p 4 xs) ++ ys) (sym (drop-drop 4 p xs)) ∙ back_4 (drop p xs) (omega (arith, length-drop p xs)) (IsBytes-drop p xs fits)
-
-at_8 : (p : ℕ) (xs : List ℕ) → p + 8 ≤ length xs → IsBytes xs → little_bytes 8 (number_at p 8 xs) ++ drop (p + 8) xs ≡ drop p xs
-at_8 p xs long fits =
-    ap (λ (ys : List ℕ). little_bytes 8 (number_at p 8 xs) ++ ys) (sym (drop-drop 8 p xs)) ∙ back_8 (drop p xs) (omega (arith, length-drop p xs)) (IsBytes-drop p xs fits)
-
 class_again : (b : ℕ) → b < 2 → class_number (class_numbered b) ≡ b
 class_again zero lt = refl
 class_again (suc zero) lt = refl
 class_again (suc (suc b)) lt = absurd (omega arith)
-
-flag_again : (f : ℕ) → f < 2 → (if f == 1 then 1 else 0) ≡ f
-flag_again f lt = elim (cases_Bool (f == 1)) [
-  | inl same ↦ cond-true (f == 1) 1 0 same ∙ sym (eqb-true f 1 same)
-  | inr other ↦ cond-false (f == 1) 1 0 other ∙ grind (arith, nat_tests)
-]
-
-cpu_again : (n : ℕ) → cpu_number (cpu_numbered n) ≡ n
-cpu_again n = elim (cases_Bool (n == 65535)) [
-  | inl same ↦ ap cpu_number (cond-true (n == 65535) None (Some n) same) ∙ sym (eqb-true n 65535 same)
-  | inr other ↦ ap cpu_number (cond-false (n == 65535) None (Some n) other)
-]
 
 zeros_are : (xs : List ℕ) → list_all (λ b. b == 0) xs ≡ true → xs ≡ replicate (length xs) 0
 zeros_are [] e = refl

@@ -1,2 +1,8 @@
-pub mod Places
-pub mod WorkedJournal
+mod Added
+mod Places
+mod WorkedJournal
+mod Words
+mod EntryWords
+mod ReadBack
+mod Alike
+pub mod Laws

@@ -1,238 +1,239 @@
-ghost use Rattle.std.specs.Prelude.{◌≡◌, ◌++◌, IfOk, OnOk, string_bytes};
-ghost use Rattle.serde_json.specs.View.{view};
+ghost use Rattle.std.specs.Prelude.{◌≡◌, ◌++◌, IfOk, OnOk};
 ghost use Rattle.serde_json.specs.Written.{compact_text};
 ghost use Rattle.gs_lines.specs.Lines.{line};
-ghost use Rattle.gs_history.specs.Json.{bare_data, changed_data, cpu_data, created_data, entry_data, held_data, json_lines, left_data, mask_data, posted_data, woken_data};
+ghost use Rattle.gs_history.specs.Json.{bare_data, changed_data, created_data, entry_data, held_data, json_lines, left_data, mask_data, posted_data, woken_data};
+ghost use Rattle.gs_history.specs.Written.{AddsValue};
 
+use crate::members::{
+    write_count, write_cpu, write_entry_kind, write_flag, write_text, write_thread,
+};
 use gs_journal::Entry;
 use gs_layout::{Change, Facts, Message};
 use gs_lines::name_str;
-use serde_json::{Value, json};
+use json::Writer;
 use std::alloc::{AllocError, Global};
 
-/// A CPU as JSON, or null for none.
-fn cpu_value(cpu: Option<u16>) -> Value
-    ensures { view result ≡ cpu_data cpu }
-{
-    match cpu {
-        Some(cpu) => Value::from(cpu),
-        None => Value::Null,
-    }
-}
-
-/// A creation, as JSON.
-fn created_value(
-    alloc: Global,
+/// Adds a creation.
+fn write_created(
+    out: &mut Writer,
     place: usize,
     tid: u32,
     tseq: u32,
     facts: &Facts,
-) -> Result<Value, AllocError>
-    ensures { IfOk result (λ value. view value ≡ created_data place tid tseq facts.now) }
+) -> Result<(), AllocError>
+    ensures { OnOk result (AddsValue out.old out.new (created_data place tid tseq facts.now)) }
 {
-    json!(in alloc; {
-        "class": facts.class.number(),
-        "entry": place,
-        "kind": "posted",
-        "mask": facts.mask.bits(),
-        "message": "created",
-        "name": name_str(&facts.name),
-        "runnable": facts.runnable,
-        "seq": tseq,
-        "tid": tid,
-    })
+    out.begin_object()?;
+    write_count(out, "class", facts.class.number() as u64)?;
+    write_entry_kind(out, place, "posted")?;
+    write_count(out, "mask", facts.mask.bits())?;
+    write_text(out, "message", "created")?;
+    write_text(out, "name", name_str(&facts.name))?;
+    write_flag(out, "runnable", facts.runnable)?;
+    write_thread(out, tid, tseq)?;
+    out.end_object()
 }
 
-/// A message with the CPU that its thread was on, as JSON.
-fn left_value(
-    alloc: Global,
+/// Adds a message with the CPU that its thread was on.
+fn write_left(
+    out: &mut Writer,
     place: usize,
     tid: u32,
     tseq: u32,
     cpu: Option<u16>,
     name: &str,
-) -> Result<Value, AllocError>
-    ensures { IfOk result (λ value. view value ≡ left_data place tid tseq cpu name.now) }
+) -> Result<(), AllocError>
+    ensures { OnOk result (AddsValue out.old out.new (left_data place tid tseq cpu name.now)) }
 {
-    let cpu = cpu_value(cpu);
-    json!(in alloc; {
-        "cpu": cpu,
-        "entry": place,
-        "kind": "posted",
-        "message": name,
-        "seq": tseq,
-        "tid": tid,
-    })
+    out.begin_object()?;
+    write_cpu(out, cpu)?;
+    write_entry_kind(out, place, "posted")?;
+    write_text(out, "message", name)?;
+    write_thread(out, tid, tseq)?;
+    out.end_object()
 }
 
-/// A new mask, as JSON.
-fn mask_value(
-    alloc: Global,
+/// Adds a new mask.
+fn write_mask(
+    out: &mut Writer,
     place: usize,
     tid: u32,
     tseq: u32,
     cpu: Option<u16>,
     off: bool,
     mask: u64,
-) -> Result<Value, AllocError>
-    ensures { IfOk result (λ value. view value ≡ mask_data place tid tseq cpu off mask) }
+) -> Result<(), AllocError>
+    ensures { OnOk result (AddsValue out.old out.new (mask_data place tid tseq cpu off mask)) }
 {
-    let cpu = cpu_value(cpu);
-    json!(in alloc; {
-        "cpu": cpu,
-        "entry": place,
-        "kind": "posted",
-        "mask": mask,
-        "message": "affinity",
-        "off": off,
-        "seq": tseq,
-        "tid": tid,
-    })
+    out.begin_object()?;
+    write_cpu(out, cpu)?;
+    write_entry_kind(out, place, "posted")?;
+    write_count(out, "mask", mask)?;
+    write_text(out, "message", "affinity")?;
+    write_flag(out, "off", off)?;
+    write_thread(out, tid, tseq)?;
+    out.end_object()
 }
 
-/// A wake-up, as JSON.
-fn woken_value(alloc: Global, place: usize, tid: u32, tseq: u32) -> Result<Value, AllocError>
-    ensures { IfOk result (λ value. view value ≡ woken_data place tid tseq) }
+/// Adds a wake-up.
+fn write_woken(out: &mut Writer, place: usize, tid: u32, tseq: u32) -> Result<(), AllocError>
+    ensures { OnOk result (AddsValue out.old out.new (woken_data place tid tseq)) }
 {
-    json!(in alloc; {
-        "entry": place,
-        "kind": "posted",
-        "message": "woken",
-        "seq": tseq,
-        "tid": tid,
-    })
+    out.begin_object()?;
+    write_entry_kind(out, place, "posted")?;
+    write_text(out, "message", "woken")?;
+    write_thread(out, tid, tseq)?;
+    out.end_object()
 }
 
-/// A message about a thread, as JSON.
-fn changed_value(
-    alloc: Global,
+/// Adds a message about a thread.
+fn write_changed(
+    out: &mut Writer,
     place: usize,
     tid: u32,
     tseq: u32,
     change: &Change,
-) -> Result<Value, AllocError>
-    ensures { IfOk result (λ value. view value ≡ changed_data place tid tseq change.now) }
+) -> Result<(), AllocError>
+    ensures { OnOk result (AddsValue out.old out.new (changed_data place tid tseq change.now)) }
 {
     match change {
-        Change::Created { facts } => created_value(alloc, place, tid, tseq, facts),
-        Change::Wakeup => woken_value(alloc, place, tid, tseq),
-        Change::Blocked { cpu } => left_value(alloc, place, tid, tseq, Some(*cpu), "blocked"),
-        Change::Preempted { cpu } => left_value(alloc, place, tid, tseq, Some(*cpu), "preempted"),
-        Change::Yield { cpu } => left_value(alloc, place, tid, tseq, Some(*cpu), "yielded"),
-        Change::Dead { cpu } => left_value(alloc, place, tid, tseq, *cpu, "dead"),
+        Change::Created { facts } => write_created(out, place, tid, tseq, facts),
+        Change::Wakeup => write_woken(out, place, tid, tseq),
+        Change::Blocked { cpu } => write_left(out, place, tid, tseq, Some(*cpu), "blocked"),
+        Change::Preempted { cpu } => write_left(out, place, tid, tseq, Some(*cpu), "preempted"),
+        Change::Yield { cpu } => write_left(out, place, tid, tseq, Some(*cpu), "yielded"),
+        Change::Dead { cpu } => write_left(out, place, tid, tseq, *cpu, "dead"),
         Change::Affinity { cpu, off, mask } => {
-            mask_value(alloc, place, tid, tseq, *cpu, *off, mask.bits())
+            write_mask(out, place, tid, tseq, *cpu, *off, mask.bits())
         }
     }
 }
 
-/// A message, as JSON.
-fn posted_value(alloc: Global, place: usize, message: &Message) -> Result<Value, AllocError>
-    ensures { IfOk result (λ value. view value ≡ posted_data place message.now) }
+/// Adds a timer tick.
+fn write_tick(out: &mut Writer, place: usize, cpu: u16) -> Result<(), AllocError>
+    ensures { OnOk result (AddsValue out.old out.new (posted_data place (Message.TimerTick cpu))) }
+{
+    out.begin_object()?;
+    write_cpu(out, Some(cpu))?;
+    write_entry_kind(out, place, "posted")?;
+    write_text(out, "message", "tick")?;
+    out.end_object()
+}
+
+/// Adds a message.
+fn write_posted(out: &mut Writer, place: usize, message: &Message) -> Result<(), AllocError>
+    ensures { OnOk result (AddsValue out.old out.new (posted_data place message.now)) }
 {
     match message {
-        Message::Thread { tid, tseq, change } => changed_value(alloc, place, *tid, *tseq, change),
-        Message::TimerTick { cpu } => {
-            json!(in alloc; { "cpu": *cpu, "entry": place, "kind": "posted", "message": "tick" })
-        }
+        Message::Thread { tid, tseq, change } => write_changed(out, place, *tid, *tseq, change),
+        Message::TimerTick { cpu } => write_tick(out, place, *cpu),
     }
 }
 
-/// An entry that has no more than its place and its kind, as JSON.
-fn bare_value(alloc: Global, place: usize, kind: &str) -> Result<Value, AllocError>
-    ensures { IfOk result (λ value. view value ≡ bare_data place kind.now) }
+/// Adds an entry that has no more than its place and its kind.
+fn write_bare(out: &mut Writer, place: usize, kind: &str) -> Result<(), AllocError>
+    ensures { OnOk result (AddsValue out.old out.new (bare_data place kind.now)) }
 {
-    json!(in alloc; { "entry": place, "kind": kind })
+    out.begin_object()?;
+    write_entry_kind(out, place, kind)?;
+    out.end_object()
 }
 
-/// An entry that has a CPU and nothing more, as JSON.
-fn held_value(alloc: Global, place: usize, cpu: u16, kind: &str) -> Result<Value, AllocError>
-    ensures { IfOk result (λ value. view value ≡ held_data place cpu kind.now) }
+/// Adds an entry that has a CPU and nothing more.
+fn write_held(out: &mut Writer, place: usize, cpu: u16, kind: &str) -> Result<(), AllocError>
+    ensures { OnOk result (AddsValue out.old out.new (held_data place cpu kind.now)) }
 {
-    json!(in alloc; { "cpu": cpu, "entry": place, "kind": kind })
+    out.begin_object()?;
+    write_cpu(out, Some(cpu))?;
+    write_entry_kind(out, place, kind)?;
+    out.end_object()
 }
 
-/// An agent that became active, as JSON.
-fn role_value(alloc: Global, place: usize, generation: u32, cpu: u16) -> Result<Value, AllocError>
-    ensures { IfOk result (λ value. view value ≡ entry_data place (Entry.Role generation cpu)) }
+/// Adds an agent that became active.
+fn write_role(out: &mut Writer, place: usize, generation: u32, cpu: u16) -> Result<(), AllocError>
+    ensures { OnOk result (AddsValue out.old out.new (entry_data place (Entry.Role generation cpu))) }
 {
-    json!(in alloc; { "cpu": cpu, "entry": place, "generation": generation, "kind": "role" })
+    out.begin_object()?;
+    write_cpu(out, Some(cpu))?;
+    write_count(out, "entry", place as u64)?;
+    write_count(out, "generation", generation as u64)?;
+    write_text(out, "kind", "role")?;
+    out.end_object()
 }
 
-/// An agent that began to attach, as JSON.
-fn begin_value(alloc: Global, place: usize, generation: u32) -> Result<Value, AllocError>
-    ensures { IfOk result (λ value. view value ≡ entry_data place (Entry.Begin generation)) }
+/// Adds an agent that began to attach.
+fn write_begin(out: &mut Writer, place: usize, generation: u32) -> Result<(), AllocError>
+    ensures { OnOk result (AddsValue out.old out.new (entry_data place (Entry.Begin generation))) }
 {
-    json!(in alloc; { "entry": place, "generation": generation, "kind": "begin" })
+    out.begin_object()?;
+    write_count(out, "entry", place as u64)?;
+    write_count(out, "generation", generation as u64)?;
+    write_text(out, "kind", "begin")?;
+    out.end_object()
 }
 
-/// A placing, as JSON.
-fn placed_value(
-    alloc: Global,
+/// Adds a placing.
+fn write_placed(
+    out: &mut Writer,
     place: usize,
     tid: u32,
     tseq: u32,
     cpu: u16,
     generation: u32,
-) -> Result<Value, AllocError>
-    ensures { IfOk result (λ value. view value ≡ entry_data place (Entry.Placed tid tseq cpu generation)) }
+) -> Result<(), AllocError>
+    ensures { OnOk result (AddsValue out.old out.new (entry_data place (Entry.Placed tid tseq cpu generation))) }
 {
-    json!(in alloc; {
-        "cpu": cpu,
-        "entry": place,
-        "generation": generation,
-        "kind": "placed",
-        "seq": tseq,
-        "tid": tid,
-    })
+    out.begin_object()?;
+    write_cpu(out, Some(cpu))?;
+    write_count(out, "entry", place as u64)?;
+    write_count(out, "generation", generation as u64)?;
+    write_text(out, "kind", "placed")?;
+    write_thread(out, tid, tseq)?;
+    out.end_object()
 }
 
-/// An entry, as JSON, by its place in the journal.
-fn entry_value(alloc: Global, place: usize, entry: &Entry) -> Result<Value, AllocError>
-    ensures { IfOk result (λ value. view value ≡ entry_data place entry.now) }
+/// Adds an entry, by its place in the journal.
+fn write_entry(out: &mut Writer, place: usize, entry: &Entry) -> Result<(), AllocError>
+    ensures { OnOk result (AddsValue out.old out.new (entry_data place entry.now)) }
 {
     match entry {
-        Entry::Posted { message } => posted_value(alloc, place, message),
+        Entry::Posted { message } => write_posted(out, place, message),
         Entry::Placed {
             tid,
             tseq,
             cpu,
             generation,
-        } => placed_value(alloc, place, *tid, *tseq, *cpu, *generation),
-        Entry::Role { generation, cpu } => role_value(alloc, place, *generation, *cpu),
-        Entry::Begin { generation } => begin_value(alloc, place, *generation),
-        Entry::Left => bare_value(alloc, place, "left"),
-        Entry::Taken { cpu } => held_value(alloc, place, *cpu, "taken"),
-        Entry::Given { cpu } => held_value(alloc, place, *cpu, "given"),
-        Entry::Torn => bare_value(alloc, place, "torn"),
+        } => write_placed(out, place, *tid, *tseq, *cpu, *generation),
+        Entry::Role { generation, cpu } => write_role(out, place, *generation, *cpu),
+        Entry::Begin { generation } => write_begin(out, place, *generation),
+        Entry::Left => write_bare(out, place, "left"),
+        Entry::Taken { cpu } => write_held(out, place, *cpu, "taken"),
+        Entry::Given { cpu } => write_held(out, place, *cpu, "given"),
+        Entry::Torn => write_bare(out, place, "torn"),
     }
 }
 
-/// Adds the line of an entry, by its place in the journal.
-fn write_line(
-    out: &mut String,
-    alloc: Global,
-    place: usize,
-    entry: &Entry,
-) -> Result<(), AllocError>
-    ensures { OnOk result (string_bytes out.new ≡ string_bytes out.old ++ line (compact_text (entry_data place entry.now))) }
+/// Adds the line of an entry, by its place in the journal, and gives all bytes back.
+fn with_line(out: Vec<u8>, place: usize, entry: &Entry) -> Result<Vec<u8>, AllocError>
+    ensures { IfOk result (λ bytes. bytes.items ≡ out.items ++ line (compact_text (entry_data place entry.now))) }
 {
-    let value = entry_value(alloc, place, entry)?;
-    let text = value.to_string(alloc)?;
-    out.push_str(text.as_str())?;
-    out.push('\n')
+    let mut writer = Writer::new(out);
+    write_entry(&mut writer, place, entry)?;
+    let mut bytes = writer.into_inner();
+    bytes.push(b'\n')?;
+    Ok(bytes)
 }
 
 /// A journal as JSON Lines: a JSON object for each entry, in order, its keys sorted. `entry` is the entry's place,
 /// counted from 0, `kind` what kind of entry it is, and of a posted message `message` what happened.
 ///
 /// It fails only for want of memory.
-pub fn json_text(alloc: Global, entries: &[Entry]) -> Result<String, AllocError>
-    ensures { IfOk result (λ text. string_bytes text ≡ json_lines entries.now) }
+pub fn json_text(alloc: Global, entries: &[Entry]) -> Result<Vec<u8>, AllocError>
+    ensures { IfOk result (λ bytes. bytes.items ≡ json_lines entries.now) }
 {
-    let mut out = String::new(alloc);
+    let mut out = Vec::new(alloc);
     for (place, entry) in entries.iter().enumerate() {
-        write_line(&mut out, alloc, place, entry)?;
+        out = with_line(out, place, entry)?;
     }
     Ok(out)
 }

@@ -11,3 +11,4 @@ mod query;
 pub use entry::Entry;
 pub use journal::Journal;
 pub use law::{at_is_least, record_is_fold};
+pub use query::thread_then;

@@ -75,8 +75,12 @@ fn takes_off(tid: u32, message: &Message) -> bool
     }
 }
 
-/// Who is on a CPU after one more entry.
-fn thread_then(cpu: u16, before: Option<u32>, entry: &Entry) -> Option<u32>
+/// Who is on a CPU after one more entry, if `before` was on it until then. A placing on the CPU puts its thread
+/// there, whoever was there. A message about the thread that is there, one that takes it off, leaves nobody, and so does
+/// the enclave's tear-down. All other entries leave it as it is.
+///
+/// For a caller that walks a history by itself, as for a picture of it.
+pub fn thread_then(cpu: u16, before: Option<u32>, entry: &Entry) -> Option<u32>
     ensures { result ≡ then_stands (placed_on cpu entry.now) ends_run entry.now before }
 {
     match entry {

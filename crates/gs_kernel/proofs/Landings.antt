@@ -237,11 +237,11 @@ pub record SoFar {Z : Type 0} (R : LandingsOf Z → Type 0) (before after : List
   pub slots : region ≡ made.slots ++ rest
   pub history : h' ≡ made.history
 
-get_middle : {A : Type 0} (xs ys : List A) (z : A) → slice_get (xs ++ z ∷ ys) (length xs) ≡ Some z
+pub get_middle : {A : Type 0} (xs ys : List A) (z : A) → slice_get (xs ++ z ∷ ys) (length xs) ≡ Some z
 get_middle [] ys z = refl
 get_middle (x ∷ xs) ys z = get_middle xs ys z
 
-set_middle : {A : Type 0} (xs ys : List A) (z w : A) → slice_set (xs ++ z ∷ ys) (length xs) w ≡ xs ++ w ∷ ys
+pub set_middle : {A : Type 0} (xs ys : List A) (z w : A) → slice_set (xs ++ z ∷ ys) (length xs) w ≡ xs ++ w ∷ ys
 set_middle [] ys z w = refl
 set_middle (x ∷ xs) ys z w = ap (λ r. x ∷ r) (set_middle xs ys z w)
 

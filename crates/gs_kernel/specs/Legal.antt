@@ -93,6 +93,12 @@ abbrev pub Tells : Room → History → Effect → Bool → History → Type 0
 Tells room h x true h' = IfSome (message_in x) (room h true) × (h' ≡ h ++ entries_in x)
 Tells room h x false h' = ((m : Message) × (message_in x ≡ Some m) × room h false m) × (h' ≡ h ++ Torn ∷ [])
 
+-- what is answered where this was told: the last of it, or that the enclave was torn down
+abbrev pub IsAnswered : Room → History → Effect → Answer → History → Type 0
+IsAnswered room h x (answers.Refused r) h' = ⊥
+IsAnswered room h x (answers.Done e) h' = (e ≡ last_in x) × Tells room h x true h'
+IsAnswered room h x answers.Torn h' = Tells room h x false h'
+
 -- a command that nothing refuses, and what it adds
 pub record Serves (room : Room) (s : Settings) (h : History) (given : Bool) (c : Command) (fits : Bool) (h' : History) : Type 0 where
   pub free : refusal s h given c ≡ None

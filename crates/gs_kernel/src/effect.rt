@@ -5,7 +5,8 @@ use gs_journal::Entry;
 use gs_layout::Message;
 
 /// What a step of the kernel adds to the journal. Of its entries at most one is a message, and that one
-/// has to fit into the ring.
+/// has to fit into the ring. A message that is all of it is told with no such value made, which has places for a
+/// message and an entry besides.
 #[derive(Clone, Copy)]
 pub enum Effect {
     /// A message is posted.

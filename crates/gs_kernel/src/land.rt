@@ -112,18 +112,13 @@ impl<P: Poster> Kernel<P> {
         // A look at a field, by which the proof has what the kernel keeps.
         let _settings = &self.settings;
         let cpu = slot.cpu();
-        match slot.state() {
-            Ok(SlotState::Stamped { stamp }) => {
-                let landing = self.land_stamp(cpu, &stamp)?;
-                slot.finish(landing.outcome, landing.at, landing.seen);
-                Ok(Some(landing))
-            }
-            Ok(_) => Ok(None),
-            Err(_) => {
-                slot.finish(Outcome::Malformed, None, 0);
-                Ok(Some(Landing::malformed(cpu)))
-            }
-        }
+        let landing = match slot.state() {
+            Ok(SlotState::Stamped { stamp }) => self.land_stamp(cpu, &stamp)?,
+            Ok(_) => return Ok(None),
+            Err(_) => Landing::malformed(cpu),
+        };
+        slot.finish(landing.outcome, landing.at, landing.seen);
+        Ok(Some(landing))
     }
 
     /// What was stamped into the slot of a CPU lands, as the slot would, but no slot is told of it: a landing

@@ -5,6 +5,7 @@
 mod agents;
 mod answer;
 mod attach;
+mod carry_out;
 mod command;
 mod commit;
 mod create;

@@ -1,18 +1,16 @@
 //! Commands are served.
 
-ghost use Rattle.std.specs.Prelude.{◌≡◌, ◌<◌, ◌≤◌, IfSome, OnErr, OnOk, None, length, true};
-ghost use Rattle.gs_layout.specs.Spelling.{IsSpellable};
+ghost use Rattle.std.specs.Prelude.{◌≡◌, ◌<◌, ◌≤◌, OnErr, OnOk, None, true};
 ghost use Rattle.gs_kernel.specs.declared.command.Command.{Command};
 ghost use Rattle.gs_kernel.specs.declared.thread_event.ThreadEvent.{ThreadEvent};
-ghost use Rattle.gs_kernel.specs.Legal.{IsServed, creates, effect, message_in, most_entries, own_refusal, paged_by, refusal};
+ghost use Rattle.gs_kernel.specs.Legal.{IsServed, creates, most_entries, own_refusal, paged_by, refusal};
 
 use crate::answer::Answer;
 use crate::command::Command;
-use crate::effect::Effect;
 use crate::kernel::Kernel;
 use crate::thread_event::ThreadEvent;
 use gs_journal::Entry;
-use gs_layout::{Facts, Message, Refusal};
+use gs_layout::{Facts, Refusal};
 use gs_ring::Poster;
 use gs_status::Mask;
 use std::alloc::AllocError;
@@ -34,14 +32,7 @@ impl<P: Poster> Kernel<P> {
                 refusal: Refusal::OutOfMemory,
             };
         }
-        let effect = self.effect(command);
-        let answer = if self.tell(&effect) {
-            Answer::Done {
-                entry: effect.last(),
-            }
-        } else {
-            Answer::Torn
-        };
+        let answer = self.carry_out(command);
         self.paged = paged_by(&answer, self.paged);
         answer
     }
@@ -93,47 +84,6 @@ impl<P: Poster> Kernel<P> {
             Command::Leave => self.leave_refusal(),
             Command::Begin => self.begin_refusal(),
             Command::Activate { cpu } => self.activate_refusal(*cpu),
-        }
-    }
-
-    /// What a command adds that nothing refuses.
-    fn effect(&self, command: &Command) -> Effect
-        requires { refusal self.now.settings self.now.history self.now.paged command.now ≡ None }
-        ensures value { result ≡ effect self.now.settings self.now.history command.now }
-        ensures spellable { IfSome (message_in result) IsSpellable }
-    {
-        // A look at a field, by which the proof has what the kernel keeps.
-        let _settings = &self.settings;
-        match command {
-            Command::Create { facts } => Effect::Post {
-                message: self.creation(facts),
-            },
-            Command::Thread { tid, event } => Effect::Post {
-                message: self.happening(*tid, *event),
-            },
-            Command::Take { cpu } => Effect::Append {
-                victim: self.preemption(*cpu),
-                entry: Entry::Taken { cpu: *cpu },
-            },
-            Command::Give { cpu } => Effect::Append {
-                victim: None,
-                entry: Entry::Given { cpu: *cpu },
-            },
-            Command::Tick { cpu } => Effect::Post {
-                message: Message::TimerTick { cpu: *cpu },
-            },
-            Command::HandOff { cpu } => self.handing_over(*cpu),
-            Command::Leave => Effect::Append {
-                victim: None,
-                entry: Entry::Left,
-            },
-            Command::Begin => Effect::Append {
-                victim: None,
-                entry: Entry::Begin {
-                    generation: self.next_generation(),
-                },
-            },
-            Command::Activate { cpu } => self.activating(*cpu),
         }
     }
 

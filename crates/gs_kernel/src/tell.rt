@@ -1,12 +1,13 @@
 //! What a step adds is told: to the ring, to the journal, and in the tables; or the enclave is torn down.
 
 ghost use Rattle.std.specs.Prelude.{◌≡◌, ℕ, ◌+◌, ◌<◌, ◌≤◌, ◌++◌, None, Some, true, false, length, IfSome};
-ghost use Rattle.std.specs.Option.{is_some};
+ghost use Rattle.std.specs.Option.{is_some, option_copied};
 ghost use Rattle.gs_layout.specs.declared.message.Message.{Message};
 ghost use Rattle.gs_layout.specs.Spelling.{IsSpellable};
 ghost use Rattle.gs_journal.specs.History.{posted};
 ghost use Rattle.gs_status.specs.Masks.{has};
 ghost use Rattle.gs_kernel.specs.Legal.{Frame, RoomOf, Tells, entries_in, message_in};
+ghost use Rattle.gs_kernel.specs.declared.effect.Effect.{Effect};
 ghost use Rattle.gs_kernel.specs.Lands.{ComesNext};
 ghost use Rattle.gs_kernel.specs.Inside.{HoldsNear, SeatsBelow, agents_by, behind, created_in, freed, held_by, left_by, left_in, listed_entry, listed_message, rows_seated, rows_told, seats_seated, seats_told};
 
@@ -41,6 +42,24 @@ impl<P: Poster> Kernel<P> {
         take_in(&mut self.threads, &mut self.running, effect);
         self.taken = hold(self.taken, effect);
         self.agents = lead(self.agents, effect);
+        true
+    }
+
+    /// The same of a message that is all that a step adds.
+    pub(crate) fn tell_message(&mut self, message: &Message) -> bool
+        requires due { ComesNext self.old.settings self.old.history (Effect.Post message.now) }
+        requires spellable { IsSpellable message.now }
+        requires room { 0 < self.old.room }
+        requires rows { is_some (created_in message.now) ≡ true → 0 < self.old.rows }
+        ensures tells { Tells (RoomOf P.same P.taken P.posted P.tight self.old.poster) self.old.history (Effect.Post message.now) result self.new.history }
+        ensures frame { Frame P.same P.taken P.posted self.old self.new }
+        ensures room { self.old.room + length self.old.history ≤ self.new.room + length self.new.history }
+    {
+        if !post(&mut self.journal, &mut self.poster, message) {
+            self.tear_down();
+            return false;
+        }
+        follow_message(&mut self.threads, &mut self.running, message);
         true
     }
 }
@@ -123,7 +142,7 @@ fn follow_message(threads: &mut ThreadTable, running: &mut [Option<u32>], messag
     ensures seats { running.new ≡ seats_told running.old (Some message.now) }
 {
     match created_in(message) {
-        Some(facts) => threads.create(&facts),
+        Some(facts) => threads.create(facts),
         None => threads.apply(message),
     }
     free(running, left_by(message));
@@ -157,14 +176,14 @@ fn free(running: &mut [Option<u32>], seat: Option<u16>)
 }
 
 /// The facts of the thread that a message creates, if it does.
-fn created_in(message: &Message) -> Option<Facts>
-    ensures { result ≡ created_in message.now }
+fn created_in(message: &Message) -> Option<&Facts>
+    ensures { option_copied result ≡ created_in message.now }
 {
     match message {
         Message::Thread {
             change: Change::Created { facts },
             ..
-        } => Some(*facts),
+        } => Some(facts),
         _ => None,
     }
 }

@@ -1,4 +1,7 @@
-pub mod Names
-pub mod WorkedLines
-pub mod Corners
-pub mod Choices
+mod Names
+mod WorkedLines
+mod Corners
+mod Choices
+mod Utf8
+mod Replies
+pub mod Laws

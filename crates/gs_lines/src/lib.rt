@@ -1,11 +1,15 @@
-//! The machine's replies as lines of text, and the words that other texts share with them.
+//! The machine's replies as lines of text, the text that they are written into, and the words that other texts share
+//! with them.
 #![tactic(auto)]
 
+mod backwards;
 mod choice_line;
 mod message_line;
 mod reply_line;
+mod text;
 mod thread_line;
 
-pub use message_line::{change_name, write_cpu};
-pub use reply_line::text_of;
+pub use message_line::{change_name, write_cpu, write_placed};
+pub use reply_line::{text_of, write_reply};
+pub use text::{MOST_WORD_LEN, Text};
 pub use thread_line::{name_str, write_facts};

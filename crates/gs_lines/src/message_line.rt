@@ -1,14 +1,15 @@
-ghost use Rattle.std.specs.Prelude.{◌≡◌, ◌++◌, OnOk, decimal, string_bytes};
-ghost use Rattle.gs_lines.specs.Lines.{begin_text, change_text, kind_text, cpu_text, entry_text, line, message_text, message_lines, off_text, posted_text, role_text};
+ghost use Rattle.std.specs.Prelude.{◌≡◌, ◌≤◌, ◌++◌, OnOk, length};
+ghost use Rattle.gs_lines.specs.Lines.{begin_text, change_text, cpu_text, entry_text, kind_text, line, message_lines, message_text, off_text, posted_text};
 
+use crate::text::Text;
 use gs_journal::Entry;
 use gs_layout::{Change, Kind, Message};
 use std::alloc::AllocError;
-use std::fmt::Write;
 
 /// The name of a kind.
 fn kind_name(kind: Kind) -> &'static str
-    ensures { result.now ≡ kind_text kind }
+    ensures name { result.now ≡ kind_text kind }
+    ensures short { length result.now ≤ 9 }
 {
     match kind {
         Kind::Created => "created",
@@ -23,30 +24,30 @@ fn kind_name(kind: Kind) -> &'static str
 }
 
 /// Adds a CPU, or `-` for none. It fails only for want of memory.
-pub fn write_cpu(out: &mut String, cpu: Option<u16>) -> Result<(), AllocError>
-    ensures { OnOk result (string_bytes out.new ≡ string_bytes out.old ++ cpu_text cpu) }
+pub fn write_cpu(out: &mut Text, cpu: Option<u16>) -> Result<(), AllocError>
+    ensures { OnOk result (out.new ≡ out.old ++ cpu_text cpu) }
 {
     match cpu {
-        Some(cpu) => write!(out, "{cpu}"),
-        None => out.push('-'),
+        Some(cpu) => out.push_number("", cpu as u64),
+        None => out.push_str("-"),
     }
 }
 
 /// Adds the line of a message that waits.
-fn write_message(out: &mut String, message: &Message) -> Result<(), AllocError>
-    ensures { OnOk result (string_bytes out.new ≡ string_bytes out.old ++ line (message_text message.now)) }
+fn write_message(out: &mut Text, message: &Message) -> Result<(), AllocError>
+    ensures { OnOk result (out.new ≡ out.old ++ line (message_text message.now)) }
 {
     let kind = kind_name(message.kind());
-    let tid = message.tid();
-    let tseq = message.tseq();
-    write!(out, "unread {kind} {tid} seq {tseq} cpu ")?;
+    out.push_str("unread ")?;
+    out.push_thread(kind, message.tid(), message.tseq())?;
+    out.push_str(" cpu ")?;
     write_cpu(out, message.cpu())?;
-    out.push('\n')
+    out.end_line()
 }
 
 /// Adds the lines of messages that wait, in order.
-pub(crate) fn write_messages(out: &mut String, messages: &[Message]) -> Result<(), AllocError>
-    ensures { OnOk result (string_bytes out.new ≡ string_bytes out.old ++ message_lines messages.now) }
+pub(crate) fn write_messages(out: &mut Text, messages: &[Message]) -> Result<(), AllocError>
+    ensures { OnOk result (out.new ≡ out.old ++ message_lines messages.now) }
 {
     for message in messages {
         write_message(out, message)?;
@@ -56,7 +57,8 @@ pub(crate) fn write_messages(out: &mut String, messages: &[Message]) -> Result<(
 
 /// What is said to have happened to a thread: one word, as `created` or `woken`.
 pub fn change_name(change: &Change) -> &'static str
-    ensures { result.now ≡ change_text change.now }
+    ensures name { result.now ≡ change_text change.now }
+    ensures short { length result.now ≤ 9 }
 {
     match change {
         Change::Created { .. } => "created",
@@ -70,60 +72,57 @@ pub fn change_name(change: &Change) -> &'static str
 }
 
 /// Adds the CPU that a thread was taken off by a new mask, if it was.
-fn write_off(out: &mut String, change: &Change) -> Result<(), AllocError>
-    ensures { OnOk result (string_bytes out.new ≡ string_bytes out.old ++ off_text change.now) }
+fn write_off(out: &mut Text, change: &Change) -> Result<(), AllocError>
+    ensures { OnOk result (out.new ≡ out.old ++ off_text change.now) }
 {
     match change {
         Change::Affinity {
             cpu: Some(cpu),
             off: true,
             ..
-        } => write!(out, " off {cpu}"),
+        } => out.push_number(" off ", *cpu as u64),
         _ => Ok(()),
     }
 }
 
 /// Adds what a message says that an event posted.
-fn write_posted(out: &mut String, message: &Message) -> Result<(), AllocError>
-    ensures { OnOk result (string_bytes out.new ≡ string_bytes out.old ++ posted_text message.now) }
+fn write_posted(out: &mut Text, message: &Message) -> Result<(), AllocError>
+    ensures { OnOk result (out.new ≡ out.old ++ posted_text message.now) }
 {
     match message {
         Message::Thread { tid, tseq, change } => {
-            let name = change_name(change);
-            write!(out, "{name} {tid} seq {tseq}")?;
+            out.push_thread(change_name(change), *tid, *tseq)?;
             write_off(out, change)
         }
-        Message::TimerTick { cpu } => write!(out, "tick {cpu}"),
+        Message::TimerTick { cpu } => out.push_number("tick ", *cpu as u64),
     }
 }
 
-/// Adds a text and a number behind it.
-fn write_after(out: &mut String, text: &str, number: u32) -> Result<(), AllocError>
-    ensures { OnOk result (string_bytes out.new ≡ string_bytes out.old ++ text.now ++ decimal number) }
+/// Adds a placing.
+pub fn write_placed(
+    out: &mut Text,
+    tid: u32,
+    tseq: u32,
+    cpu: u16,
+    generation: u32,
+) -> Result<(), AllocError>
+    ensures { OnOk result (out.new ≡ out.old ++ entry_text (Entry.Placed tid tseq cpu generation)) }
 {
-    out.push_str(text)?;
-    write!(out, "{number}")
-}
-
-/// Adds what is said of an agent that became active.
-fn write_role(out: &mut String, generation: u32, cpu: u16) -> Result<(), AllocError>
-    ensures { OnOk result (string_bytes out.new ≡ string_bytes out.old ++ role_text generation cpu) }
-{
-    write!(out, "agent {cpu}")?;
-    write_after(out, " generation ", generation)
+    out.push_thread("placed", tid, tseq)?;
+    out.push_number(" cpu ", cpu as u64)?;
+    out.push_number(" generation ", generation as u64)
 }
 
 /// Adds what is said of an agent that began to attach.
-fn write_begin(out: &mut String, generation: u32) -> Result<(), AllocError>
-    ensures { OnOk result (string_bytes out.new ≡ string_bytes out.old ++ begin_text generation) }
+fn write_begin(out: &mut Text, generation: u32) -> Result<(), AllocError>
+    ensures { OnOk result (out.new ≡ out.old ++ begin_text generation) }
 {
-    out.push_str("begun")?;
-    write_after(out, " generation ", generation)
+    out.push_number("begun generation ", generation as u64)
 }
 
 /// Adds what an entry of the journal says.
-fn write_entry_text(out: &mut String, entry: &Entry) -> Result<(), AllocError>
-    ensures { OnOk result (string_bytes out.new ≡ string_bytes out.old ++ entry_text entry.now) }
+fn write_entry_text(out: &mut Text, entry: &Entry) -> Result<(), AllocError>
+    ensures { OnOk result (out.new ≡ out.old ++ entry_text entry.now) }
 {
     match entry {
         Entry::Posted { message } => write_posted(out, message),
@@ -132,23 +131,23 @@ fn write_entry_text(out: &mut String, entry: &Entry) -> Result<(), AllocError>
             tseq,
             cpu,
             generation,
-        } => {
-            write!(out, "placed {tid} seq {tseq} cpu {cpu}")?;
-            write_after(out, " generation ", *generation)
+        } => write_placed(out, *tid, *tseq, *cpu, *generation),
+        Entry::Role { generation, cpu } => {
+            out.push_number("agent ", *cpu as u64)?;
+            out.push_number(" generation ", *generation as u64)
         }
-        Entry::Role { generation, cpu } => write_role(out, *generation, *cpu),
         Entry::Begin { generation } => write_begin(out, *generation),
         Entry::Left => out.push_str("left"),
-        Entry::Taken { cpu } => write!(out, "taken {cpu}"),
-        Entry::Given { cpu } => write!(out, "given {cpu}"),
+        Entry::Taken { cpu } => out.push_number("taken ", *cpu as u64),
+        Entry::Given { cpu } => out.push_number("given ", *cpu as u64),
         Entry::Torn => out.push_str("torn"),
     }
 }
 
 /// Adds the line of an entry of the journal.
-pub(crate) fn write_entry(out: &mut String, entry: &Entry) -> Result<(), AllocError>
-    ensures { OnOk result (string_bytes out.new ≡ string_bytes out.old ++ line (entry_text entry.now)) }
+pub(crate) fn write_entry(out: &mut Text, entry: &Entry) -> Result<(), AllocError>
+    ensures { OnOk result (out.new ≡ out.old ++ line (entry_text entry.now)) }
 {
     write_entry_text(out, entry)?;
-    out.push('\n')
+    out.end_line()
 }

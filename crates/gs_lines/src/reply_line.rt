@@ -1,15 +1,15 @@
-ghost use Rattle.std.specs.Prelude.{◌≡◌, ◌++◌, IfOk, OnOk, string_bytes};
-ghost use Rattle.gs_lines.specs.Lines.{refusal_text, outcome_text, drained_text, unless_zero, stop_text, line, landed_text, landing_text, landing_lines, late_text, page_text, torn_line, reply_lines, lines};
+ghost use Rattle.std.specs.Prelude.{◌≡◌, ◌≤◌, ◌++◌, IfOk, OnOk, codes, decimal, length};
+ghost use Rattle.gs_lines.specs.Lines.{refusal_text, outcome_text, drained_text, unless_zero, stop_text, line, landed_text, landing_text, landing_lines, late_text, next_text, page_text, torn_line, reply_lines, lines};
 
 use crate::choice_line::write_decided;
 use crate::message_line::{write_entry, write_messages};
+use crate::text::{MOST_WORD_LEN, Text};
 use crate::thread_line::{write_threads, write_view};
 use gs_agent::{Drained, Stop};
 use gs_core::Reply;
 use gs_kernel::Landing;
 use gs_layout::{Outcome, Refusal};
 use std::alloc::{AllocError, Global};
-use std::fmt::Write;
 
 /// The number and the name of a refusal.
 fn refusal_name(refusal: Refusal) -> &'static str
@@ -40,7 +40,8 @@ fn refusal_name(refusal: Refusal) -> &'static str
 
 /// The name of an outcome.
 fn outcome_name(outcome: Outcome) -> &'static str
-    ensures { result.now ≡ outcome_text outcome }
+    ensures name { result.now ≡ outcome_text outcome }
+    ensures short { length result.now ≤ 13 }
 {
     match outcome {
         Outcome::Placed => "placed",
@@ -61,32 +62,25 @@ fn outcome_name(outcome: Outcome) -> &'static str
 }
 
 /// Adds what became of a transaction, which ends a line.
-fn write_landed(out: &mut String, landing: &Landing) -> Result<(), AllocError>
-    ensures { OnOk result (string_bytes out.new ≡ string_bytes out.old ++ line (landed_text landing.now)) }
+fn write_landed(out: &mut Text, landing: &Landing) -> Result<(), AllocError>
+    ensures { OnOk result (out.new ≡ out.old ++ line (landed_text landing.now)) }
 {
-    let Landing {
-        cpu: _,
-        tid,
-        outcome,
-        seen,
-        at: _,
-    } = *landing;
-    let outcome = outcome_name(outcome);
-    write!(out, "{outcome} {tid} seq {seen}\n")
+    out.push_thread(outcome_name(landing.outcome), landing.tid, landing.seen)?;
+    out.end_line()
 }
 
 /// Adds the line of a landing.
-fn write_landing(out: &mut String, landing: &Landing) -> Result<(), AllocError>
-    ensures { OnOk result (string_bytes out.new ≡ string_bytes out.old ++ line (landing_text landing.now)) }
+fn write_landing(out: &mut Text, landing: &Landing) -> Result<(), AllocError>
+    ensures { OnOk result (out.new ≡ out.old ++ line (landing_text landing.now)) }
 {
-    let cpu = landing.cpu;
-    write!(out, "cpu {cpu} ")?;
+    out.push_number("cpu ", landing.cpu as u64)?;
+    out.push_str(" ")?;
     write_landed(out, landing)
 }
 
 /// Adds the lines of landings.
-fn write_landings(out: &mut String, landings: &[Landing]) -> Result<(), AllocError>
-    ensures { OnOk result (string_bytes out.new ≡ string_bytes out.old ++ landing_lines landings.now) }
+fn write_landings(out: &mut Text, landings: &[Landing]) -> Result<(), AllocError>
+    ensures { OnOk result (out.new ≡ out.old ++ landing_lines landings.now) }
 {
     for landing in landings {
         write_landing(out, landing)?;
@@ -95,28 +89,30 @@ fn write_landings(out: &mut String, landings: &[Landing]) -> Result<(), AllocErr
 }
 
 /// Adds the line of a late landing.
-fn write_late(out: &mut String, number: u32, landing: &Landing) -> Result<(), AllocError>
-    ensures { OnOk result (string_bytes out.new ≡ string_bytes out.old ++ line (late_text number landing.now)) }
+fn write_late(out: &mut Text, number: u32, landing: &Landing) -> Result<(), AllocError>
+    ensures { OnOk result (out.new ≡ out.old ++ line (late_text number landing.now)) }
 {
-    write!(out, "late {number} ")?;
+    out.push_number("late ", number as u64)?;
+    out.push_str(" ")?;
     write_landed(out, landing)
 }
 
 /// Adds the line behind landings that tore the enclave down.
-fn write_torn(out: &mut String, torn: bool) -> Result<(), AllocError>
-    ensures { OnOk result (string_bytes out.new ≡ string_bytes out.old ++ torn_line torn) }
+fn write_torn(out: &mut Text, torn: bool) -> Result<(), AllocError>
+    ensures { OnOk result (out.new ≡ out.old ++ torn_line torn) }
 {
     if torn { out.push_str("torn\n") } else { Ok(()) }
 }
 
 /// Adds a word and a number, where the number isn't 0.
-fn write_part(out: &mut String, word: &str, number: usize) -> Result<(), AllocError>
-    ensures { OnOk result (string_bytes out.new ≡ string_bytes out.old ++ unless_zero word.now number) }
+fn write_part(out: &mut Text, word: &str, number: usize) -> Result<(), AllocError>
+    requires { length word.now ≤ MOST_WORD_LEN }
+    ensures { OnOk result (out.new ≡ out.old ++ unless_zero word.now number) }
 {
     if number == 0 {
         return Ok(());
     }
-    write!(out, "{word}{number}")
+    out.push_number(word, number as u64)
 }
 
 /// Why a drain stopped, where its line says so.
@@ -130,8 +126,8 @@ fn stop_name(stop: Option<Stop>) -> &'static str
 }
 
 /// Adds the line of a drain.
-fn write_drained(out: &mut String, drained: &Drained) -> Result<(), AllocError>
-    ensures { OnOk result (string_bytes out.new ≡ string_bytes out.old ++ line (drained_text drained.now)) }
+fn write_drained(out: &mut Text, drained: &Drained) -> Result<(), AllocError>
+    ensures { OnOk result (out.new ≡ out.old ++ line (drained_text drained.now)) }
 {
     let Drained {
         count,
@@ -139,38 +135,63 @@ fn write_drained(out: &mut String, drained: &Drained) -> Result<(), AllocError>
         orphans,
         stop,
     } = *drained;
-    write!(out, "drained {count}")?;
+    out.push_number("drained ", count as u64)?;
     write_part(out, " skipped ", skipped)?;
     write_part(out, " orphans ", orphans)?;
     out.push_str(stop_name(stop))?;
-    out.push('\n')
+    out.end_line()
 }
 
-/// Adds the line of a page.
-fn write_page(out: &mut String, count: u16, next: Option<u32>) -> Result<(), AllocError>
-    ensures { OnOk result (string_bytes out.new ≡ string_bytes out.old ++ line (page_text count next)) }
+/// Adds where the next page begins, or that there is none.
+fn write_next(out: &mut Text, next: Option<u32>) -> Result<(), AllocError>
+    ensures { OnOk result (out.new ≡ out.old ++ next_text next) }
 {
     match next {
-        Some(next) => write!(out, "page {count} next {next}\n"),
-        None => write!(out, "page {count} end\n"),
+        Some(next) => out.push_number(" next ", next as u64),
+        None => out.push_str(" end"),
     }
 }
 
-/// Adds the lines of a reply.
-fn write_reply(out: &mut String, reply: &Reply) -> Result<(), AllocError>
-    ensures { OnOk result (string_bytes out.new ≡ string_bytes out.old ++ reply_lines reply.now) }
+/// Adds the line of a page.
+fn write_page(out: &mut Text, count: u16, next: Option<u32>) -> Result<(), AllocError>
+    ensures { OnOk result (out.new ≡ out.old ++ line (page_text count next)) }
+{
+    out.push_number("page ", count as u64)?;
+    write_next(out, next)?;
+    out.end_line()
+}
+
+/// Adds the line of a refusal.
+fn write_refused(out: &mut Text, refusal: Refusal) -> Result<(), AllocError>
+    ensures { OnOk result (out.new ≡ out.old ++ line (codes "refused " ++ refusal_text refusal)) }
+{
+    out.push_str("refused ")?;
+    out.push_str(refusal_name(refusal))?;
+    out.end_line()
+}
+
+/// Adds the line of a stamp, by its transaction's number.
+fn write_stamped(out: &mut Text, number: usize) -> Result<(), AllocError>
+    ensures { OnOk result (out.new ≡ out.old ++ line (codes "stamped " ++ decimal number)) }
+{
+    out.push_number("stamped ", number as u64)?;
+    out.end_line()
+}
+
+/// Adds the lines of a reply, each ended by a newline: of a commit a line for each landing, of a look one for each
+/// thread or message that it shows, of a decision one and one for each choice, and of any other reply one. It
+/// fails only for want of memory.
+pub fn write_reply(out: &mut Text, reply: &Reply) -> Result<(), AllocError>
+    ensures { OnOk result (out.new ≡ out.old ++ reply_lines reply.now) }
 {
     match reply {
-        Reply::Refused(refusal) => {
-            let name = refusal_name(*refusal);
-            write!(out, "refused {name}\n")
-        }
+        Reply::Refused(refusal) => write_refused(out, *refusal),
         Reply::Torn => out.push_str("torn\n"),
         Reply::Done(entry) => write_entry(out, entry),
         Reply::Crashed => out.push_str("crashed\n"),
         Reply::Page { count, next, .. } => write_page(out, *count, *next),
         Reply::Drained(drained) => write_drained(out, drained),
-        Reply::Stamped { number } => write!(out, "stamped {number}\n"),
+        Reply::Stamped { number } => write_stamped(out, *number),
         Reply::Decided { first, choices } => write_decided(out, *first, choices.as_slice()),
         Reply::Landed { landings, torn } => {
             write_landings(out, landings.as_slice())?;
@@ -190,13 +211,11 @@ fn write_reply(out: &mut String, reply: &Reply) -> Result<(), AllocError>
     }
 }
 
-/// The lines of replies, in order, each ended by a newline. A commit has a line for each landing, a look
-/// one for each thread or message that it shows, a decision one and one for each choice, and any other
-/// reply one. It fails only for want of memory.
-pub fn text_of(alloc: Global, replies: &[Reply]) -> Result<String, AllocError>
-    ensures { IfOk result (λ text. string_bytes text ≡ lines replies.now) }
+/// The lines of replies, in order, as [`write_reply`] adds them. It fails only for want of memory.
+pub fn text_of(alloc: Global, replies: &[Reply]) -> Result<Text, AllocError>
+    ensures { IfOk result (λ text. text ≡ lines replies.now) }
 {
-    let mut out = String::new(alloc);
+    let mut out = Text::new(alloc);
     for reply in replies {
         write_reply(&mut out, reply)?;
     }

@@ -1,11 +1,11 @@
-ghost use Rattle.std.specs.Prelude.{◌≡◌, ◌++◌, OnOk, string_bytes};
+ghost use Rattle.std.specs.Prelude.{◌≡◌, ◌≤◌, ◌++◌, OnOk, codes, length};
 ghost use Rattle.gs_lines.specs.Lines.{class_text, facts_text, known_text, line, live_lines, live_text, name_text, runnable_text, view_lines, view_text};
 
 use crate::message_line::write_cpu;
+use crate::text::{MOST_WORD_LEN, Text};
 use gs_kernel::LiveThread;
 use gs_layout::{Class, Facts, Known, Name};
 use std::alloc::AllocError;
-use std::fmt::Write;
 
 /// Whether a thread may run.
 fn runnable_name(runnable: bool) -> &'static str
@@ -33,50 +33,50 @@ pub fn name_str(name: &Name) -> &str
 
 /// Adds a name, or `-` for the empty one.
 #[tactic(auto, using(crate::proofs::Names::name_text_some))]
-fn write_name(out: &mut String, name: &Name) -> Result<(), AllocError>
-    ensures { OnOk result (string_bytes out.new ≡ string_bytes out.old ++ name_text name.now) }
+fn write_name(out: &mut Text, name: &Name) -> Result<(), AllocError>
+    ensures { OnOk result (out.new ≡ out.old ++ name_text name.now) }
 {
     let text = name_str(name);
     if text.is_empty() {
-        return out.push('-');
+        return out.push_str("-");
     }
     out.push_str(text)
 }
 
 /// Adds a thread's facts: whether it may run, its mask, its class and its name. It fails only for want of memory.
-pub fn write_facts(out: &mut String, facts: &Facts) -> Result<(), AllocError>
-    ensures { OnOk result (string_bytes out.new ≡ string_bytes out.old ++ facts_text facts.now) }
+pub fn write_facts(out: &mut Text, facts: &Facts) -> Result<(), AllocError>
+    ensures { OnOk result (out.new ≡ out.old ++ facts_text facts.now) }
 {
-    let mask = facts.mask.bits();
     out.push_str(runnable_name(facts.runnable))?;
-    write!(out, " mask {mask} class ")?;
+    out.push_number(" mask ", facts.mask.bits())?;
+    out.push_str(" class ")?;
     out.push_str(class_name(facts.class))?;
     out.push_str(" name ")?;
     write_name(out, &facts.name)
 }
 
-/// Adds what is known of a thread.
-fn write_known(out: &mut String, tid: u32, known: &Known) -> Result<(), AllocError>
-    ensures { OnOk result (string_bytes out.new ≡ string_bytes out.old ++ known_text tid known.now) }
+/// Adds a word and what is known of a thread.
+fn write_known(out: &mut Text, word: &str, tid: u32, known: &Known) -> Result<(), AllocError>
+    requires { length word.now ≤ MOST_WORD_LEN }
+    ensures { OnOk result (out.new ≡ out.old ++ word.now ++ codes " " ++ known_text tid known.now) }
 {
-    let tseq = known.tseq;
-    write!(out, "{tid} seq {tseq} ")?;
+    out.push_thread(word, tid, known.tseq)?;
+    out.push_str(" ")?;
     write_facts(out, &known.facts)
 }
 
 /// Adds the line of what the agent knows of a thread.
-fn write_known_line(out: &mut String, known: &(u32, Known)) -> Result<(), AllocError>
-    ensures { OnOk result (string_bytes out.new ≡ string_bytes out.old ++ line (view_text known.now)) }
+fn write_known_line(out: &mut Text, known: &(u32, Known)) -> Result<(), AllocError>
+    ensures { OnOk result (out.new ≡ out.old ++ line (view_text known.now)) }
 {
     let (tid, known) = known;
-    out.push_str("view ")?;
-    write_known(out, *tid, known)?;
-    out.push('\n')
+    write_known(out, "view", *tid, known)?;
+    out.end_line()
 }
 
 /// Adds the lines of what the agent knows, by rising tid.
-pub(crate) fn write_view(out: &mut String, view: &[(u32, Known)]) -> Result<(), AllocError>
-    ensures { OnOk result (string_bytes out.new ≡ string_bytes out.old ++ view_lines view.now) }
+pub(crate) fn write_view(out: &mut Text, view: &[(u32, Known)]) -> Result<(), AllocError>
+    ensures { OnOk result (out.new ≡ out.old ++ view_lines view.now) }
 {
     for known in view {
         write_known_line(out, known)?;
@@ -85,19 +85,18 @@ pub(crate) fn write_view(out: &mut String, view: &[(u32, Known)]) -> Result<(), 
 }
 
 /// Adds the line of a thread that lives.
-fn write_live(out: &mut String, thread: &LiveThread) -> Result<(), AllocError>
-    ensures { OnOk result (string_bytes out.new ≡ string_bytes out.old ++ line (live_text thread.now)) }
+fn write_live(out: &mut Text, thread: &LiveThread) -> Result<(), AllocError>
+    ensures { OnOk result (out.new ≡ out.old ++ line (live_text thread.now)) }
 {
-    out.push_str("state ")?;
-    write_known(out, thread.tid, &thread.known)?;
+    write_known(out, "state", thread.tid, &thread.known)?;
     out.push_str(" cpu ")?;
     write_cpu(out, thread.cpu)?;
-    out.push('\n')
+    out.end_line()
 }
 
 /// Adds the lines of threads that live, by rising tid.
-pub(crate) fn write_threads(out: &mut String, threads: &[LiveThread]) -> Result<(), AllocError>
-    ensures { OnOk result (string_bytes out.new ≡ string_bytes out.old ++ live_lines threads.now) }
+pub(crate) fn write_threads(out: &mut Text, threads: &[LiveThread]) -> Result<(), AllocError>
+    ensures { OnOk result (out.new ≡ out.old ++ live_lines threads.now) }
 {
     for thread in threads {
         write_live(out, thread)?;

@@ -105,7 +105,7 @@ pub planned_spent : (l : Candidates) (v : Look) (ts : List ℕ) → are_spent l 
 planned_spent l v [] e = refl
 planned_spent l v (t ∷ ts) e = ap (λ (ys : List Choice). planned_of l v ys ts) (choice_spent l t (v t) (spent_none l e)) ∙ planned_spent l v ts e
 
-choice_one : (n : ℕ) (f : ℕ → Bool) (p : Class → ℕ → Bool) (xs : List Choice) (t : ℕ) (o : Option Known) → length (choice n f p xs t o) ≤ 1
+pub choice_one : (n : ℕ) (f : ℕ → Bool) (p : Class → ℕ → Bool) (xs : List Choice) (t : ℕ) (o : Option Known) → length (choice n f p xs t o) ≤ 1
 choice_one n f p xs t None = omega arith
 choice_one n f p xs t (Some k) = by_least (least (is_open f k xs) n) (least (is_open (p k.facts.class) k xs) n)
   where
@@ -114,7 +114,7 @@ choice_one n f p xs t (Some k) = by_least (least (is_open f k xs) n) (least (is_
     by_least None (Some c) = omega arith
     by_least None None = omega arith
 
-few_behind : (n : ℕ) (f : ℕ → Bool) (p : Class → ℕ → Bool) (v : Look) (xs : List Choice) (ts : List ℕ) → length (planned n f p v xs ts) ≤ length xs + length ts
+pub few_behind : (n : ℕ) (f : ℕ → Bool) (p : Class → ℕ → Bool) (v : Look) (xs : List Choice) (ts : List ℕ) → length (planned n f p v xs ts) ≤ length xs + length ts
 few_behind n f p v xs [] = omega arith
 few_behind n f p v xs (t ∷ ts) =
     let more = few_behind n f p v (xs ++ choice n f p xs t (v t)) ts in omega (arith, more, length-append xs (choice n f p xs t (v t)), choice_one n f p xs t (v t))

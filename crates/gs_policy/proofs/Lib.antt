@@ -1,3 +1,5 @@
+mod Gathered
 pub mod Left
 pub mod Plans
 mod Rows
+mod Served

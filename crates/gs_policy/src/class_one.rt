@@ -1,37 +1,55 @@
-ghost use Rattle.std.specs.Prelude.{◌≡◌, ℕ};
+ghost use Rattle.std.specs.Prelude.{◌≡◌, ◌&&◌, ℕ};
+ghost use Rattle.gs_layout.specs.View.{look_up};
 ghost use Rattle.gs_status.specs.Masks.{has};
-ghost use Rattle.gs_policy.specs.Plan.{runs_one};
+ghost use Rattle.gs_beliefs.specs.Cpus.{believed_on};
+ghost use Rattle.gs_policy.specs.Plan.{has_had, is_known_one, runs_one};
 ghost use Rattle.gs_policy.specs.Shown.{shows};
 
 use crate::shown::Shown;
 use gs_layout::Class;
 use gs_status::Mask;
+use gs_view::AgentView;
 
-/// Whether a CPU is usable and believed to run a thread of class 1 that has had so many ticks.
-fn runs_class_one(shown: &Shown<'_>, ticks: u16, cpu: u16) -> bool
-    ensures { result ≡ runs_one ticks (shows shown.now) cpu }
+/// Whether a thread is known, and of class 1.
+fn is_class_one(view: &AgentView, tid: u32) -> bool
+    ensures { result ≡ is_known_one (look_up view.now tid) }
 {
-    if !shown.cpus.is_usable(shown.taken, cpu) {
+    let Some(known) = view.get(tid) else {
         return false;
-    }
+    };
+    known.facts.class == Class::One
+}
+
+/// Whether a CPU is believed to run a thread of class 1 that has had so many ticks. The view is asked
+/// last, since that is a search.
+fn has_had(shown: &Shown<'_>, ticks: u16, cpu: u16) -> bool
+    ensures { result ≡ has_had ticks (look_up shown.now.view.now) (believed_on shown.now.cpus.now cpu) }
+{
     let Some(running) = shown.cpus.believed(cpu) else {
         return false;
     };
-    let Some(known) = shown.view.get(running.tid) else {
-        return false;
-    };
-    known.facts.class == Class::One && ticks <= running.ticks
+    ticks <= running.ticks && is_class_one(shown.view, running.tid)
+}
+
+/// Those of a set of CPUs that are believed to run a thread of class 1 that has had at least so many
+/// ticks. It takes no memory, and looks at no CPU that is not in the set.
+#[tactic(auto, using(gs_beliefs::proofs::Laws::fewer_left, crate::proofs::Gathered::gathered_more, crate::proofs::Gathered::gathered_all))]
+pub(crate) fn those_that_have_had(shown: &Shown<'_>, ticks: u16, cpus: Mask) -> Mask
+    ensures { (c : ℕ) → has result c ≡ (has cpus c && has_had ticks (look_up shown.now.view.now) (believed_on shown.now.cpus.now c)) }
+{
+    let mut found = Mask::none();
+    let mut left = cpus;
+    while let Some(cpu) = left.lowest() {
+        found = found.with_if(cpu, has_had(shown, ticks, cpu));
+        left = left.without(cpu);
+    }
+    found
 }
 
 /// The usable CPUs that are believed to run a thread of class 1 that has had at least so many ticks. It
 /// takes no memory.
-#[tactic(auto, using(gs_status::proofs::Laws::marked_if))]
 pub fn class_one_cpus(shown: &Shown<'_>, ticks: u16) -> Mask
     ensures { (c : ℕ) → has result c ≡ runs_one ticks (shows shown.now) c }
 {
-    let mut mask = Mask::none();
-    for cpu in 0..shown.cpus.cpus() {
-        mask = mask.with_if(cpu, runs_class_one(shown, ticks, cpu));
-    }
-    mask
+    those_that_have_had(shown, ticks, shown.cpus.busy(shown.taken))
 }

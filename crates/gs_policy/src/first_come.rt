@@ -18,7 +18,7 @@ use std::alloc::{AllocError, Global};
 pub struct FirstCome;
 
 /// The free CPUs alone: the plan among them is this policy's.
-fn candidates(shown: &Shown<'_>) -> Candidates
+pub(crate) fn free_alone(shown: &Shown<'_>) -> Candidates
     ensures { plan_among result (shows shown.now) ≡ plan nobody (shows shown.now) }
 {
     Candidates::new(shown, Mask::none(), Mask::none())
@@ -31,7 +31,7 @@ impl Policy for FirstCome {
     ghost chosen = { λ p. plan nobody };
 
     fn plan(&self, alloc: Global, shown: &Shown<'_>) -> Result<Vec<Choice>, AllocError> {
-        plan_among(alloc, shown, candidates(shown))
+        plan_among(alloc, shown, free_alone(shown))
     }
 
     ghost safe = { λ p. nobody-safe };
@@ -39,6 +39,6 @@ impl Policy for FirstCome {
 
 impl Counted for FirstCome {
     fn count(&self, shown: &Shown<'_>) -> usize {
-        count_among(shown, candidates(shown))
+        count_among(shown, free_alone(shown))
     }
 }

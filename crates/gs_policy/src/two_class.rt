@@ -5,11 +5,12 @@ ghost use Rattle.gs_policy.specs.Shown.{shows};
 
 use crate::candidates::Candidates;
 use crate::choice::Choice;
-use crate::class_one::class_one_cpus;
+use crate::class_one::{class_one_cpus, those_that_have_had};
 use crate::counted::Counted;
+use crate::first_come::free_alone;
 use crate::policy::Policy;
 use crate::shown::Shown;
-use crate::walk::{count_among, plan_among};
+use crate::walk::{count_among, plan_among, serve_all};
 use std::alloc::{AllocError, Global};
 
 /// The waiting threads, in order, take the free CPUs as under [`FirstCome`](crate::FirstCome). Where
@@ -22,15 +23,16 @@ pub struct TwoClass {
 
 impl TwoClass {
     /// The free CPUs, and those that a thread of each class may take from one of class 1: the plan among
-    /// them is this policy's.
+    /// them is this policy's. Where the free CPUs serve all that wait, no other CPU is looked at.
     fn candidates(&self, shown: &Shown<'_>) -> Candidates
         ensures { plan_among result (shows shown.now) ≡ plan (class_one_after self.now.slice) (shows shown.now) }
     {
-        Candidates::new(
-            shown,
-            class_one_cpus(shown, 0),
-            class_one_cpus(shown, self.slice),
-        )
+        if serve_all(shown, free_alone(shown)) {
+            return free_alone(shown);
+        }
+        let zero_class = class_one_cpus(shown, 0);
+        let one_class = those_that_have_had(shown, self.slice, zero_class);
+        Candidates::new(shown, zero_class, one_class)
     }
 }
 

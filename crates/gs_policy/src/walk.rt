@@ -1,4 +1,4 @@
-ghost use Rattle.std.specs.Prelude.{◌≡◌, ◌≤◌, IfOk, length};
+ghost use Rattle.std.specs.Prelude.{◌≡◌, ◌≤◌, true, IfOk, length};
 ghost use Rattle.std.specs.Iterator.{YieldsFirst, item_count};
 ghost use Rattle.gs_policy.specs.Candidates.{plan_among};
 ghost use Rattle.gs_policy.specs.Shown.{shows};
@@ -7,6 +7,7 @@ use crate::candidates::Candidates;
 use crate::choice::Choice;
 use crate::shown::Shown;
 use gs_runq::Walk;
+use gs_status::MOST_CPUS;
 use gs_view::AgentView;
 use std::alloc::{AllocError, Global};
 use std::marker::Model;
@@ -92,4 +93,16 @@ pub fn count_among(shown: &Shown<'_>, all: Candidates) -> usize
     // No more choices than threads that wait, so that their number fits.
     let _most = shown.queue.len();
     choose(shown, all).count()
+}
+
+/// Whether these CPUs serve all that wait: each has a choice among them. It takes no memory, and goes
+/// through no more threads than there may be CPUs.
+pub(crate) fn serve_all(shown: &Shown<'_>, all: Candidates) -> bool
+    ensures { result ≡ true → length (plan_among all (shows shown.now)) ≡ length (shows shown.now).queue }
+{
+    let waiting = shown.queue.len();
+    if waiting > MOST_CPUS as usize {
+        return false;
+    }
+    count_among(shown, all) == waiting
 }

@@ -10,13 +10,12 @@ use Rattle.gs_layout.specs.declared.kind.Kind.{Kind}
 use Rattle.gs_layout.specs.declared.kind.Kind.TheVariants as kinds
 use Rattle.gs_layout.specs.Pad.{IsPadSize, pad}
 use Rattle.gs_layout.specs.Reading.{kind_numbered, number_at}
-use Rattle.gs_layout.proofs.Laws.{IsBytes}
+use Rattle.gs_layout.proofs.Laws.{IsBytes, at_2}
 use Rattle.gs_reader.specs.declared.item.Item.TheVariants as items
 use Rattle.gs_reader.specs.Fault.{front_fault, has_length, is_kind, kind_number_in, length_in}
 use Rattle.gs_reader.specs.Reading.{IsWhole, item_in, read, with_length}
 use Rattle.gs_reader.proofs.Again.{reads_as}
 use Rattle.gs_reader.proofs.Front.{front_none}
-use Rattle.gs_reader.proofs.Sound.{at_2}
 use Rattle.gs_reader.proofs.Ranges.{zeros_are, zeros_pass}
 
 -- the lengths of a PAD are the multiples of 8 from 8 to 40

@@ -1,15 +1,14 @@
 -- What the tests of a message's fields say.
 use Rattle.std.proofs.Common.{◌≡◌, true, false, cond, ℕ, zero, suc, ◌^◌, ◌<◌, Option, None, Some, List, [], ◌∷◌, length, replicate, refl, ap, sym, subst, ◌∙◌, inl, inr, arith}
-use Rattle.std.specs.Prelude.{◌==◌, ◌&&◌, ◌||◌, not, nat_le, nat_lt, if◌then◌else◌, unwrap_or}
+use Rattle.std.specs.Prelude.{◌==◌, ◌&&◌, ◌||◌, not, nat_le, nat_lt, unwrap_or}
 use Rattle.std.specs.List.{list_all}
 use Rattle.std.proofs.lemmas.Bool.{and_from, and_parts, cases_Bool, cond-false, cond-true, eqb-true, leb-true, ltb-true, or_cases}
-use Rattle.std.proofs.lemmas.Bool.Decides.{nat_tests}
 use Rattle.gs_layout.specs.declared.kind.Kind.{Kind}
 use Rattle.gs_layout.specs.declared.kind.Kind.TheVariants as kinds
 use Rattle.gs_layout.specs.declared.message.Change.TheVariants.{Affinity}
 use Rattle.gs_layout.specs.Kind.{kind_number}
 use Rattle.gs_layout.specs.Reading.{cpu_numbered, kind_numbered, number_at}
-use Rattle.gs_layout.specs.Spelling.{IsCpuOrNone, IsMask, AreNumbers, IsSpellableChange, cpu_number}
+use Rattle.gs_layout.specs.Spelling.{IsCpuOrNone, IsMask, AreNumbers, IsSpellableChange}
 use Rattle.gs_reader.specs.Reading.{cpu_fits, fields_fit, flags_fit, more_fits, numbers_fit}
 
 -- the four tests of a message
@@ -53,12 +52,6 @@ pub numbered_is : (n : ℕ) (k : Kind) → kind_numbered n ≡ Some k → n ≡ 
 numbered_is n k e =
     chain n 1 kinds.Created k _ refl e (λ e. chain n 2 kinds.Blocked k _ refl e (λ e. chain n 3 kinds.Wakeup k _ refl e (λ e. chain n 4 kinds.Preempted k _ refl e (λ e. chain n 5 kinds.Yield k _ refl e (λ e. chain n 6 kinds.Dead k _ refl e (λ e. chain n 7 kinds.Affinity k _ refl e (λ e. chain n 8 kinds.TimerTick k _ refl e (λ e. absurd cc))))))))
 
-pub cpu_again : (n : ℕ) → cpu_number (cpu_numbered n) ≡ n
-cpu_again n = elim (cases_Bool (n == 65535)) [
-  | inl same ↦ ap cpu_number (cond-true (n == 65535) None (Some n) same) ∙ sym (eqb-true n 65535 same)
-  | inr other ↦ ap cpu_number (cond-false (n == 65535) None (Some n) other)
-]
-
 below : (n : ℕ) → (nat_lt n 64 || n == 65535) ≡ true → (n == 65535) ≡ false → n < 64
 below n e other = elim (or_cases (nat_lt n 64) (n == 65535) e) [
   | inl lt ↦ ltb-true n 64 lt
@@ -72,12 +65,6 @@ cpu_or_none n e = elim (cases_Bool (n == 65535)) [
 ]
 
 -- a flag is 0 or 1
-pub flag_again : (f : ℕ) → f < 2 → (if f == 1 then 1 else 0) ≡ f
-flag_again f lt = elim (cases_Bool (f == 1)) [
-  | inl same ↦ cond-true (f == 1) 1 0 same ∙ sym (eqb-true f 1 same)
-  | inr other ↦ cond-false (f == 1) 1 0 other ∙ grind (arith, nat_tests)
-]
-
 -- the flag of a new mask
 pub flag_low : (n f : ℕ) → (f == 0 || (f == 1 && not (n == 65535))) ≡ true → f < 2
 flag_low n f e = elim (or_cases (f == 0) (f == 1 && not (n == 65535)) e) [

@@ -17,23 +17,11 @@ use Rattle.gs_layout.specs.Message.{tseq_of}
 use Rattle.gs_layout.specs.Name.{is_name}
 use Rattle.gs_layout.specs.Reading.{class_numbered, facts_in, message_in, message_with, name_in, number_at}
 use Rattle.gs_layout.specs.Spelling.{IsMask, AreNumbers, IsSpellable, cpu_number, cpu_of, facts_bytes, flags_of, header_bytes, kind_of, more_of, name_bytes, padding, round_up, size_of, spelling, tid_of}
-use Rattle.gs_layout.proofs.Laws.{IsBytes, IsBytes-drop, back_2, back_4, back_8}
+use Rattle.gs_layout.proofs.Laws.{IsBytes, IsBytes-drop, at_2, at_4, at_8, cpu_again, flag_again}
 use Rattle.gs_reader.specs.Fault.{has_length, kind_number_in}
 use Rattle.gs_reader.specs.Reading.{IsWhole, fields_fit, name_fits, sizes_fit}
 use Rattle.gs_reader.specs.RefHeld.{IsRef}
-use Rattle.gs_reader.proofs.Ranges.{Fit, affinity_fits, cpu_again, cpu_or_none, fit_parts, flag_again, flag_low, numbered_from, numbered_is, zeros_are}
-
-pub at_2 : (p : ℕ) (xs : List ℕ) → p + 2 ≤ length xs → IsBytes xs → little_bytes 2 (number_at p 2 xs) ++ drop (p + 2) xs ≡ drop p xs
-at_2 p xs long fits =
-    ap (λ (ys : List ℕ). little_bytes 2 (number_at p 2 xs) ++ ys) (sym (drop-drop 2 p xs)) ∙ back_2 (drop p xs) (omega (arith, length-drop p xs)) (IsBytes-drop p xs fits)
-
-at_4 : (p : ℕ) (xs : List ℕ) → p + 4 ≤ length xs → IsBytes xs → little_bytes 4 (number_at p 4 xs) ++ drop (p + 4) xs ≡ drop p xs
-at_4 p xs long fits =
-    ap (λ (ys : List ℕ). little_bytes 4 (number_at p 4 xs) ++ ys) (sym (drop-drop 4 p xs)) ∙ back_4 (drop p xs) (omega (arith, length-drop p xs)) (IsBytes-drop p xs fits)
-
-at_8 : (p : ℕ) (xs : List ℕ) → p + 8 ≤ length xs → IsBytes xs → little_bytes 8 (number_at p 8 xs) ++ drop (p + 8) xs ≡ drop p xs
-at_8 p xs long fits =
-    ap (λ (ys : List ℕ). little_bytes 8 (number_at p 8 xs) ++ ys) (sym (drop-drop 8 p xs)) ∙ back_8 (drop p xs) (omega (arith, length-drop p xs)) (IsBytes-drop p xs fits)
+use Rattle.gs_reader.proofs.Ranges.{Fit, affinity_fits, cpu_or_none, fit_parts, flag_low, numbered_from, numbered_is, zeros_are}
 
 -- the first 16 bytes are those of the numbers that stand there
 header_back : (xs : List ℕ) → 16 ≤ length xs → IsBytes xs → header_bytes (number_at 0 2 xs) (number_at 2 2 xs) (number_at 4 4 xs) (number_at 8 4 xs) (number_at 12 2 xs) (number_at 14 2 xs) ++ drop 16 xs ≡ xs

@@ -1,4 +1,5 @@
 ghost use Rattle.std.specs.Prelude.{◌≡◌, option_copied};
+ghost use Rattle.gs_layout.specs.declared.message.Message.{Message};
 ghost use Rattle.gs_layout.specs.Message.{tseq_of};
 ghost use Rattle.gs_layout.specs.Reading.{message_in};
 ghost use Rattle.gs_reader.specs.RefHeld.{IsRef};
@@ -35,6 +36,16 @@ impl<'a> MessageRef<'a> {
         ensures { result ≡ message_in bytes.now }
     {
         MessageRef { bytes }
+    }
+
+    /// The message whose spelling all of these bytes are. It looks at none of them, so it is for bytes that
+    /// are known to be one, as a ring knows of those that it wrote. For any other bytes there is
+    /// [`read_one`](crate::read_one).
+    pub fn spelled(bytes: &'a [u8]) -> MessageRef<'a>
+        requires { (m : Message) × IsSpellable m × (bytes.now ≡ spelling m) }
+        ensures { (m : Message) → IsSpellable m → bytes.now ≡ spelling m → result ≡ m }
+    {
+        MessageRef::over(bytes)
     }
 
     /// The same message once more.

@@ -1,3 +1,5 @@
-pub mod Landings
-pub mod Texts
-pub mod Values
+mod Landings
+mod Texts
+mod Values
+mod Folded
+mod Reported

@@ -1,5 +1,5 @@
 -- What is counted of the replies of a run.
-use Rattle.std.specs.Prelude.{ℕ, ◌-◌, List, [], ◌∷◌, length, Bool, true, false, count_by, sum_by}
+use Rattle.std.specs.Prelude.{ℕ, ◌+◌, ◌-◌, ◌||◌, if◌then◌else◌, List, [], ◌∷◌, length, Bool, true, false, count_by, sum_by}
 use Rattle.std.specs.List.{list_any}
 use Rattle.gs_layout.specs.declared.outcome.Outcome.{Outcome}
 use Rattle.gs_layout.specs.declared.outcome.Outcome.TheVariants.{Placed}
@@ -51,4 +51,15 @@ counts_of rs =
       refused = count_by is_refusal rs;
       torn = list_any tears_down rs;
       unplaced = sum_by unplaced_in rs;
+    }
+
+-- what is counted once there is one more reply
+abbrev pub counts_more : Counts → Reply → Counts
+counts_more c r =
+    record {
+      events = c.events + 1;
+      placed = c.placed + placed_in r;
+      refused = c.refused + (if is_refusal r then 1 else 0);
+      torn = c.torn || tears_down r;
+      unplaced = c.unplaced + unplaced_in r;
     }

@@ -10,6 +10,7 @@ use Rattle.gs_core.specs.declared.reply.Reply.{Reply}
 use Rattle.gs_lines.specs.Lines.{line, lines}
 use Rattle.gs_report.specs.Counts.{counts_of}
 use Rattle.gs_report.specs.declared.counts.Counts.{Counts}
+use Rattle.gs_report.specs.declared.report.Report.{Report}
 
 -- the last lines of a text, without their newlines: all of them where there are fewer
 abbrev pub last_lines : ℕ → List ℕ → List (List ℕ)
@@ -40,3 +41,8 @@ report_of last rs = line (compact_text (value_of last rs))
 -- the line is a JSON text that reads as the value, and a newline
 abbrev pub ReadsAs : List ℕ → Data → Type 0
 ReadsAs report value = (text : List ℕ) × (report ≡ line text) × (read text ≡ Some value)
+
+-- a report has taken in these replies: it has what is counted of them, and their lines
+pub record ReportsOn (report : Report) (rs : List Reply) : Type 0 where
+  pub counted : report.counts ≡ counts_of rs
+  pub written : report.text ≡ lines rs

@@ -1,6 +1,5 @@
-ghost use Rattle.std.specs.Prelude.{◌≡◌, ◌^◌, ◌<◌, sum_by};
-ghost use Rattle.std.specs.List.{list_any};
-ghost use Rattle.gs_report.specs.Counts.{landings_of, tears_down, is_refusal, is_placed, placed_in, unplaced_in, counts_of};
+ghost use Rattle.std.specs.Prelude.{◌≡◌, [], IfSome};
+ghost use Rattle.gs_report.specs.Counts.{counts_more, counts_of, is_placed, is_refusal, landings_of, placed_in, tears_down, unplaced_in};
 
 use gs_core::Reply;
 use gs_kernel::Landing;
@@ -75,40 +74,31 @@ fn unplaced_in(reply: &Reply) -> usize
     landings_of(reply).len() - placed_in(reply)
 }
 
-/// How many landings were answered `Placed`.
-fn placed(replies: &[Reply]) -> usize
-    requires { sum_by placed_in replies.now < 2 ^ 64 }
-    ensures { result ≡ sum_by placed_in replies.now }
-{
-    replies.iter().map(placed_in).sum()
-}
+impl Counts {
+    /// What is counted of no reply.
+    pub(crate) fn new() -> Counts
+        ensures { result ≡ counts_of [] }
+    {
+        Counts {
+            events: 0,
+            placed: 0,
+            refused: 0,
+            torn: false,
+            unplaced: 0,
+        }
+    }
 
-/// How many landings were answered otherwise.
-fn unplaced(replies: &[Reply]) -> usize
-    requires { sum_by unplaced_in replies.now < 2 ^ 64 }
-    ensures { result ≡ sum_by unplaced_in replies.now }
-{
-    replies.iter().map(unplaced_in).sum()
-}
-
-/// Whether the enclave was torn down.
-fn is_torn(replies: &[Reply]) -> bool
-    ensures { result ≡ list_any tears_down replies.now }
-{
-    replies.iter().any(tears_down)
-}
-
-/// What is counted of the replies of a run.
-pub(crate) fn counts_of(replies: &[Reply]) -> Counts
-    requires placed { sum_by placed_in replies.now < 2 ^ 64 }
-    requires unplaced { sum_by unplaced_in replies.now < 2 ^ 64 }
-    ensures { result ≡ counts_of replies.now }
-{
-    Counts {
-        events: replies.len(),
-        placed: placed(replies),
-        refused: replies.iter().filter(|reply| is_refusal(reply)).count(),
-        torn: is_torn(replies),
-        unplaced: unplaced(replies),
+    /// What is counted once there is one more reply, or `None` where a count would not fit.
+    pub(crate) fn with(&self, reply: &Reply) -> Option<Counts>
+        ensures { IfSome result (λ counts. counts ≡ counts_more self.now reply.now) }
+    {
+        let refused = usize::from(is_refusal(reply));
+        Some(Counts {
+            events: self.events.checked_add(1)?,
+            placed: self.placed.checked_add(placed_in(reply))?,
+            refused: self.refused.checked_add(refused)?,
+            torn: self.torn || tears_down(reply),
+            unplaced: self.unplaced.checked_add(unplaced_in(reply))?,
+        })
     }
 }

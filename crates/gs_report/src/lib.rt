@@ -5,4 +5,4 @@ mod counts;
 mod last_lines;
 mod report;
 
-pub use report::report_text;
+pub use report::Report;

@@ -1,14 +1,16 @@
-ghost use Rattle.std.specs.Prelude.{◌≡◌, IfOk, map, string_bytes};
+ghost use Rattle.std.specs.Prelude.{◌≡◌, List, [], ◌∷◌, ◌++◌, IfOk, OnOk, map, string_bytes};
 ghost use Rattle.serde_json.specs.View.{view};
 ghost use Rattle.serde_json.specs.Data.{string};
 ghost use Rattle.serde_json.specs.Written.{compact_text};
-ghost use Rattle.gs_lines.specs.Lines.{line, lines};
-ghost use Rattle.gs_report.specs.Report.{report_data, report_of, value_of, ReadsAs};
+ghost use Rattle.gs_core.specs.declared.reply.Reply as replies;
+ghost use Rattle.gs_lines.specs.Lines.{line};
+ghost use Rattle.gs_report.specs.Report.{report_data, report_of, value_of, ReadsAs, ReportsOn};
 
-use crate::counts::{Counts, counts_of};
+use crate::counts::Counts;
 use crate::last_lines::last_lines;
 use circular_buffer::HeapCircularBuffer;
 use gs_core::Reply;
+use gs_lines::{Text, write_reply};
 use serde_json::{Value, json};
 use std::alloc::{AllocError, Global};
 
@@ -57,20 +59,44 @@ fn report_line(
     Ok(report)
 }
 
-/// The report of a run: a line of JSON with what is counted of its replies, and the last lines of their text.
-///
-/// It fails only for want of memory.
-pub fn report_text(
-    alloc: Global,
-    replies: &[Reply],
-    text: &str,
-    last: usize,
-) -> Result<String, AllocError>
-    requires { text.now ≡ lines replies.now }
-    ensures text { IfOk result (λ report. string_bytes report ≡ report_of last replies.now) }
-    ensures reads { IfOk result (λ report. ReadsAs (string_bytes report) (value_of last replies.now)) }
-{
-    let counts = counts_of(replies);
-    let texts = last_lines(alloc, text, last)?;
-    report_line(alloc, counts, &texts)
+/// A report that grows with a run, by one reply after another.
+#[derive(Drop)]
+pub struct Report {
+    counts: Counts,
+    text: Text,
+}
+
+impl Report {
+    /// A report of no reply.
+    pub fn new(alloc: Global) -> Report
+        ensures { ReportsOn result [] }
+    {
+        Report {
+            counts: Counts::new(),
+            text: Text::new(alloc),
+        }
+    }
+
+    /// Takes in one more reply. It fails only for want of memory, or where a count would not fit.
+    pub fn add(&mut self, reply: &Reply) -> Result<(), AllocError>
+        ensures { OnOk result ((rs : List replies.Reply) → ReportsOn self.old rs → ReportsOn self.new (rs ++ reply.now ∷ [])) }
+    {
+        let Some(counts) = self.counts.with(reply) else {
+            return Err(AllocError);
+        };
+        write_reply(&mut self.text, reply)?;
+        self.counts = counts;
+        Ok(())
+    }
+
+    /// The report as a line of JSON: what is counted of the replies, and the last of their lines, so many.
+    ///
+    /// It fails only for want of memory.
+    pub fn to_line(&self, alloc: Global, last: usize) -> Result<String, AllocError>
+        ensures text { IfOk result (λ report. (rs : List replies.Reply) → ReportsOn self.now rs → string_bytes report ≡ report_of last rs) }
+        ensures reads { IfOk result (λ report. (rs : List replies.Reply) → ReportsOn self.now rs → ReadsAs (string_bytes report) (value_of last rs)) }
+    {
+        let texts = last_lines(alloc, self.text.as_str(), last)?;
+        report_line(alloc, self.counts, &texts)
+    }
 }

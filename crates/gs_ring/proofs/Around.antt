@@ -10,6 +10,12 @@ mod_further c p j lt =
     let e : p + j ≡ p / c * c + (p % c + j) = omega (arith, div-add-mod' p c) in
     ap (λ k. k % c) e ∙ mod-mul-add (p / c) c (p % c + j) lt
 
+-- and one past its end
+pub mod_past : (c p j : ℕ) → c ≤ p % c + j → j ≤ c → 0 < c → (p + j) % c ≡ p % c + j - c
+mod_past c p j past most pos =
+    let e : p + j ≡ (p / c + 1) * c + (p % c + j - c) = omega (arith, div-add-mod' p c, past) in
+    ap (λ k. k % c) e ∙ mod-mul-add (p / c + 1) c (p % c + j - c) (omega (arith, past, most, pos))
+
 -- behind the end of the block lies its start
 pub mod_round : (c p : ℕ) → 0 < c → (p + (c - p % c)) % c ≡ 0
 mod_round c p pos =

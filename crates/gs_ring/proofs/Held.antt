@@ -5,7 +5,8 @@ use Rattle.std.proofs.lemmas.List.{append-nil, drop_at}
 use Rattle.std.proofs.lemmas.List.Elements.{All-head, All-nil, All-push, All-tail}
 use Rattle.gs_layout.specs.declared.message.Message.{Message}
 use Rattle.gs_layout.specs.Spelling.{IsSpellable}
-use Rattle.gs_ring.specs.Block.{IsRing, block_with, messages_in, put_at, ring_of, seen}
+use Rattle.gs_ring.specs.declared.place.Place.{Place}
+use Rattle.gs_ring.specs.Block.{IsHeld, IsRing, block_with, messages_in, put_at, ring_of, seen}
 use Rattle.gs_ring.specs.Ends.{place_behind-grows}
 use Rattle.gs_layout.specs.Spelling.{spelling}
 use Rattle.gs_ring.specs.Places.{bytes, is_capacity, need, pad_bytes, pad_len, place_behind, record_len}
@@ -63,6 +64,22 @@ pub place_whole : (c w : ℕ) (ms : List Message) → IsWide c → w % 8 ≡ 0 �
 place_whole c w [] wide even fits = even
 place_whole c w (m ∷ ms) wide even fits =
     place_whole c (w + need c w (record_len m)) ms wide (sizes_of c w m wide even (All-head IsSpellable m ms fits)).next (All-tail IsSpellable m ms fits)
+
+-- the parts agree still where the ring goes on to be read at a later place
+pub read_later : (b : List ℕ) (r w q : Place) (t p n span : ℕ) → n ≡ length b → IsRing b (r.count + span) w.count t p → q.count ≡ r.count + span → q.index ≡ (r.count + span) % n → w.index ≡ w.count % length b → IsHeld b q w t p
+read_later b r w q t p n span size ring count at written = record {
+  ring = subst (λ k. IsRing b k w.count t p) (sym count) ring;
+  read_at = at ∙ ap (λ k. k % n) (sym count) ∙ ap (λ k. q.count % k) size;
+  written_at = written;
+}
+
+-- and where it goes on to be written there
+pub written_later : (b : List ℕ) (r w q : Place) (t p n span : ℕ) → n ≡ length b → IsRing b r.count (w.count + span) t p → q.count ≡ w.count + span → q.index ≡ (w.count + span) % n → r.index ≡ r.count % length b → IsHeld b r q t p
+written_later b r w q t p n span size ring count at read = record {
+  ring = subst (λ k. IsRing b r.count k t p) (sym count) ring;
+  read_at = read;
+  written_at = at ∙ ap (λ k. k % n) (sym count) ∙ ap (λ k. q.count % k) size;
+}
 
 -- a new ring
 pub made : (b : List ℕ) → is_capacity (length b) ≡ true → IsRing b 0 0 0 0

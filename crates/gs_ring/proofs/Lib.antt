@@ -5,5 +5,6 @@ pub mod ReadAgain
 pub mod Rows
 pub mod Held
 pub mod Next
-pub mod Waits
+pub mod Standing
+pub mod Laps
 pub mod Posting

@@ -2,9 +2,8 @@
 use Rattle.std.proofs.Common.{◌≡◌, Bool, true, false, cond, ℕ, ◌+◌, ◌-◌, ◌%◌, ◌<◌, ◌≤◌, ⊎_elim, List, [], ◌∷◌, ◌++◌, length, take, drop, refl, ap, sym, subst, ◌∙◌, append_assoc, arith, length-append}
 use Rattle.std.specs.Prelude.{◌==◌, min}
 use Rattle.std.proofs.lemmas.Bool.{cases_lt}
-use Rattle.std.proofs.lemmas.List.{drop_at, take-append-drop, take_at}
+use Rattle.std.proofs.lemmas.List.{drop_at, take-append-drop, take-append-le, take_at}
 use Rattle.std.proofs.lemmas.List.Elements.{All-head}
-use Rattle.byteorder.specs.Numbers.{little_number-reads_back}
 use Rattle.gs_layout.specs.declared.message.Change.{Change}
 use Rattle.gs_layout.specs.declared.message.Change.TheVariants.{Created, Blocked, Wakeup, Preempted, Yield, Dead, Affinity}
 use Rattle.gs_layout.specs.declared.message.Message.{Message}
@@ -19,8 +18,8 @@ use Rattle.gs_ring.specs.Places.{bytes, need, pad_bytes, pad_len, place_behind, 
 use Rattle.gs_ring.specs.RingState.{RingState, end}
 use Rattle.gs_ring.proofs.Around.{mod_round, mod_whole}
 use Rattle.gs_ring.proofs.Held.{Shows, length-messages_in, length-seen, ring_from, shown, shows_rest, waiting, waiting_is}
-use Rattle.gs_ring.proofs.Pads.{IsWide, need_is, pad_bytes_none, pad_bytes_some, pad_cases, record_is, record_size, wide}
-use Rattle.gs_ring.proofs.ReadAgain.{message_kind, pad_kind, sizes_of}
+use Rattle.gs_ring.proofs.Pads.{IsWide, need_is, pad_bytes_none, pad_bytes_some, pad_cases, record_is, wide}
+use Rattle.gs_ring.proofs.ReadAgain.{length_named, message_kind, pad_kind, sizes_of}
 use Rattle.gs_ring.proofs.Written.{seen-row, seen-split}
 
 -- what is seen, in two parts
@@ -92,10 +91,7 @@ first_lies b r w m ms wide_ s =
 
 -- the length that it names is its own
 pub names_length : (b : List ℕ) (r : ℕ) (m : Message) → Lies b r m → number_at (record_index b r) 2 b ≡ record_len m
-names_length b r m h =
-    let z = record_size m h.spellable in
-    let n : size_of m ≡ record_len m = sym (spelled_length m) ∙ ap length (sym (record_is m)) in
-    ap (λ (t : List ℕ). number_at 0 2 t) h.front ∙ little_number-reads_back 2 (size_of m) [] (omega (arith, n, z.most)) ∙ n
+names_length b r m h = ap (λ (t : List ℕ). number_at 0 2 t) h.front ∙ length_named m h.more h.spellable
 
 -- the first message of a ring, and the ring after it is taken
 pub record First (b : List ℕ) (r w t p : ℕ) (v : RingState) (m : Message) : Type 0 where
@@ -232,3 +228,7 @@ all_taken u v place h past ms ahead at =
 
 pub start_taking : (u : RingState) (place : ℕ) → ((ms : List Message) × Ahead u ms × (place_behind u.capacity u.read ms ≡ place)) → IsTaking u u place
 start_taking u place h = ([], Passed-none u, h)
+
+-- what was taken of a list is its beginning
+pub first_of : (done more ms other : List Message) → done ++ more ≡ ms ++ other → length done ≤ length ms → done ≡ take (length done) ms
+first_of done more ms other e fits = sym (take_at done more (length done) refl) ∙ ap (λ l. take (length done) l) e ∙ take-append-le (length done) ms other fits

@@ -12,8 +12,8 @@ use Rattle.gs_layout.specs.declared.message.Message.{Message}
 use Rattle.gs_layout.specs.Kind.{kind_number}
 use Rattle.gs_layout.specs.Pad.{pad}
 use Rattle.gs_layout.specs.Reading.{message_in, number_at}
-use Rattle.gs_layout.specs.Spelling.{IsSpellable, kind_of, spelling}
-use Rattle.gs_layout.proofs.Laws.{read_back}
+use Rattle.gs_layout.specs.Spelling.{IsSpellable, kind_of, size_of, spelling}
+use Rattle.gs_layout.proofs.Laws.{read_back, spelled_length}
 use Rattle.gs_ring.specs.Block.{behind_front, behind_pad, front_message, messages_in}
 use Rattle.gs_ring.specs.Places.{bytes, need, pad_bytes, pad_len, record_len}
 use Rattle.gs_ring.proofs.Pads.{IsSize, IsWide, length-pad, length-pad_bytes, need_is, pad_bytes_none, pad_bytes_some, pad_small, pad_whole, record_is, record_size}
@@ -31,6 +31,12 @@ kind_is_no_pad kinds.TimerTick = refl
 -- a message is no PAD
 pub message_kind : (m : Message) (more : List ℕ) → (number_at 2 2 (spelling m ++ more) == 9) ≡ false
 message_kind m more = kind_is_no_pad (kind_of m)
+
+-- and names its length
+pub length_named : (m : Message) (more : List ℕ) → IsSpellable m → number_at 0 2 (spelling m ++ more) ≡ record_len m
+length_named m more fits =
+    let n : size_of m ≡ record_len m = sym (spelled_length m) ∙ ap length (sym (record_is m)) in
+    little_number-reads_back 2 (size_of m) [] (omega (arith, n, (record_size m fits).most)) ∙ n
 
 -- a PAD tells that it is one, and how long it is
 pub pad_kind : (n : ℕ) (more : List ℕ) → (number_at 2 2 (pad n ++ more) == 9) ≡ true

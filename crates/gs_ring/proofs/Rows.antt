@@ -6,7 +6,7 @@ use Rattle.gs_layout.specs.declared.message.Message.{Message}
 use Rattle.gs_layout.specs.declared.message.Message.TheVariants.{Thread, TimerTick}
 use Rattle.gs_layout.specs.Pad.{pad}
 use Rattle.gs_layout.specs.Spelling.{spelling}
-use Rattle.gs_ring.specs.Block.{behind_front, behind_pad, front_message, messages_from}
+use Rattle.gs_ring.specs.Block.{behind_front, behind_pad, front_message, messages_in}
 use Rattle.gs_ring.specs.Places.{bytes, is_capacity, need, pad_bytes, pad_len, written}
 use Rattle.gs_ring.specs.RingState.{RingState, end, free, need_of}
 
@@ -47,7 +47,7 @@ ticks_row = refl
 capacities_row : (is_capacity 120 ∷ is_capacity 128 ∷ is_capacity 132 ∷ is_capacity 136 ∷ is_capacity 1048576 ∷ is_capacity 1048584 ∷ []) ≡ false ∷ true ∷ false ∷ true ∷ true ∷ false ∷ []
 capacities_row = refl
 
--- the first was consumed: in the block the third lies before the second, and the PAD behind it
-shown_row : messages_from (spelling (created 3) ++ spelling (created 2) ++ pad 32) 48 2 ≡ created 2 ∷ created 3 ∷ []
+-- the first was consumed: the second lies before a PAD in the first segment, the third in the second one
+shown_row : messages_in 2 ((spelling (created 2) ++ pad 32) ++ spelling (created 3)) ≡ created 2 ∷ created 3 ∷ []
 unfolding created front_message behind_pad behind_front
 shown_row = refl

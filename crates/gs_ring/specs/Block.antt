@@ -5,6 +5,7 @@ use Rattle.gs_layout.specs.Reading.{message_in, number_at}
 use Rattle.gs_layout.specs.Spelling.{IsSpellable, spelling}
 use Rattle.gs_ring.specs.declared.block.TheConstants.{ALIGNMENT}
 use Rattle.gs_ring.specs.declared.ends.TheConstants.{MOST_POSTS}
+use Rattle.gs_ring.specs.declared.place.Place.{Place}
 use Rattle.gs_ring.specs.Places.{bytes, is_capacity, pad_bytes, place_behind, record_len}
 use Rattle.gs_ring.specs.RingState.{RingState}
 
@@ -63,6 +64,12 @@ pub record IsRing (block : List ℕ) (read written taken posts : ℕ) : Type 0 w
   pub behind : place_behind (length block) read (messages_in (posts - taken) (seen block read (written - read))) ≡ written
   pub holds : seen block read (written - read) ≡ bytes (length block) read (messages_in (posts - taken) (seen block read (written - read)))
 
+-- and where its places lie in the block is kept beside them
+pub record IsHeld (block : List ℕ) (read written : Place) (taken posts : ℕ) : Type 0 where
+  pub ring : IsRing block read.count written.count taken posts
+  pub read_at : read.index ≡ read.count % length block
+  pub written_at : written.index ≡ written.count % length block
+
 -- what a ring of these parts is to its callers
 abbrev pub ring_of : List ℕ → ℕ → ℕ → ℕ → ℕ → RingState
 ring_of block read written taken posts = record {
@@ -71,13 +78,3 @@ ring_of block read written taken posts = record {
   read = read;
   unread = messages_in (posts - taken) (seen block read (written - read));
 }
-
--- so many messages wait in the block of a ring from a place on, and are the last that wait there
-pub record IsRest (block : List ℕ) (read left : ℕ) : Type 0 where
-  pub written : ℕ
-  pub taken : ℕ
-  pub ring : IsRing block read written taken (taken + left)
-
--- the messages that are read in the block from a place on, so many: they lie within one lap
-abbrev pub messages_from : List ℕ → ℕ → ℕ → List Message
-messages_from block place n = messages_in n (seen block place (length block))

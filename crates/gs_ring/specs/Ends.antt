@@ -61,6 +61,9 @@ Passed-join a b c xs ys p q = record {
 pub Passed-agrees : (a b : RingState) (xs ys : List Message) → Passed a xs b → Ahead a ys → ((more : List Message) × (xs ++ more ≡ ys) × Ahead b more) ⊎ ((more : List Message) × (xs ≡ ys ++ more))
 Passed-agrees a b xs ys p h = ⊎_elim (λ s. inl (s.0, s.1, (h.0, s.2))) inr (two_splits xs b.unread ys h.0 (sym p.unread ∙ h.1))
 
+pub Ahead-begins : (r : RingState) (xs ys : List Message) → Ahead r (xs ++ ys) → Ahead r xs
+Ahead-begins r xs ys h = (ys ++ h.0, h.1 ∙ append_assoc xs ys h.0)
+
 pub Posted-keeps : (a b : RingState) (xs ms : List Message) → Posted a xs → Passed a ms b → Posted b xs
 Posted-keeps a b xs ms h p = record {
   consumed = h.consumed ++ ms;

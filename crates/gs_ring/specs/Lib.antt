@@ -1,7 +1,9 @@
 pub mod Places
 pub mod RingState
 pub mod Block
+pub mod Segments
 pub mod Splits
 pub mod Ends
 pub mod Spelled
 pub mod Peek
+pub mod Batches

@@ -9,6 +9,7 @@ ghost use Rattle.gs_ring.specs.Peek.{message_of};
 ghost use Rattle.gs_ring.specs.Places.{is_capacity, need, pad_bytes, pad_len, record_len};
 
 use crate::peeked::Peeked;
+use crate::place::Place;
 use byteorder::{ByteOrder, LittleEndian};
 use gs_layout::{KIND_AT, Message, PAD, u16_at};
 
@@ -22,22 +23,15 @@ pub const MOST_CAPACITY: usize = 1_048_576;
 /// of the block never has fewer bytes than the header of a PAD.
 pub const ALIGNMENT: usize = 8;
 
-/// Where a place lies in a block of so many bytes.
-pub(crate) fn index_of(place: u64, capacity: usize) -> usize
-    requires { 0 < capacity }
-    ensures { result ≡ place % capacity }
-{
-    (place % capacity as u64) as usize
-}
-
 /// How many bytes of PAD stand before a record of so many bytes that is written at a place.
 #[tactic(auto, unfolding(crate::specs::Places::pad_len))]
-pub(crate) fn pad_len(place: u64, capacity: usize, len: usize) -> usize
-    requires { 0 < capacity }
-    ensures value { result ≡ pad_len capacity place len }
+pub(crate) fn pad_len(place: Place, capacity: usize, len: usize) -> usize
+    requires size { 0 < capacity }
+    requires at { place.index ≡ place.count % capacity }
+    ensures value { result ≡ pad_len capacity place.count len }
     ensures within { result ≤ capacity }
 {
-    let rest = capacity - index_of(place, capacity);
+    let rest = capacity - place.index;
     if len <= rest { 0 } else { rest }
 }
 
@@ -82,40 +76,42 @@ fn write_record(block: &mut [u8], at: usize, message: &Message)
 }
 
 /// Writes a message at a place, behind a PAD of so many bytes.
-pub(crate) fn write(block: &mut [u8], place: u64, pad: usize, message: &Message)
+pub(crate) fn write(block: &mut [u8], place: Place, pad: usize, message: &Message)
     requires size { 0 < length block.old }
-    requires fits { place % length block.old + pad ≤ length block.old }
+    requires small { length block.old ≤ MOST_CAPACITY }
+    requires at { place.index ≡ place.count % length block.old }
+    requires fits { place.count % length block.old + pad ≤ length block.old }
     requires whole { pad % ALIGNMENT ≡ 0 }
     requires most { pad ≤ u16.MAX }
-    requires place { place + pad ≤ u64.MAX }
-    requires behind { (place + pad) % length block.old + record_len message.now ≤ length block.old }
-    ensures { block.new ≡ block_with block.old place pad message.now }
+    requires place { place.count + pad ≤ u64.MAX }
+    requires behind { (place.count + pad) % length block.old + record_len message.now ≤ length block.old }
+    ensures { block.new ≡ block_with block.old place.count pad message.now }
 {
-    let len = block.len();
-    write_pad(block, index_of(place, len), pad);
-    write_record(block, index_of(place + pad as u64, len), message);
+    let start = place.further(pad, block.len());
+    write_pad(block, place.index, pad);
+    write_record(block, start.index, message);
 }
 
 /// Where the record begins in the block that is read at a place: behind its PAD, if it has one.
 #[tactic(auto, unfolding(crate::specs::Block::record_index))]
-fn record_index(block: &[u8], place: u64) -> usize
-    requires size { 0 < length block.now }
-    requires room { place % length block.now + 4 ≤ length block.now }
-    ensures value { result ≡ record_index block.now place }
+fn record_index(block: &[u8], place: Place) -> usize
+    requires at { place.index ≡ place.count % length block.now }
+    requires room { place.count % length block.now + 4 ≤ length block.now }
+    ensures value { result ≡ record_index block.now place.count }
     ensures within { result < length block.now }
 {
-    let index = index_of(place, block.len());
-    if u16_at(&block[index..], KIND_AT) == PAD {
+    if u16_at(&block[place.index..], KIND_AT) == PAD {
         0
     } else {
-        index
+        place.index
     }
 }
 
 /// The message that is read at a place, where it lies in the block.
-pub(crate) fn message_at(block: &[u8], place: u64) -> Peeked<'_>
-    requires { (m : Message) × Lies block.now place m }
-    ensures { (m : Message) → Lies block.now place m → message_of result ≡ m }
+pub(crate) fn message_at(block: &[u8], place: Place) -> Peeked<'_>
+    requires at { place.index ≡ place.count % length block.now }
+    requires lies { (m : Message) × Lies block.now place.count m }
+    ensures { (m : Message) → Lies block.now place.count m → message_of result ≡ m }
 {
     let start = record_index(block, place);
     let len = u16_at(block, start) as usize;
@@ -123,9 +119,11 @@ pub(crate) fn message_at(block: &[u8], place: u64) -> Peeked<'_>
 }
 
 /// How many bytes the message takes up that is read at a place, with its PAD.
-pub(crate) fn span_at(block: &[u8], place: u64) -> usize
-    requires { (m : Message) × Lies block.now place m }
-    ensures { (m : Message) → Lies block.now place m → result ≡ need (length block.now) place (record_len m) }
+pub(crate) fn span_at(block: &[u8], place: Place) -> usize
+    requires size { 0 < length block.now }
+    requires at { place.index ≡ place.count % length block.now }
+    requires lies { (m : Message) × Lies block.now place.count m }
+    ensures { (m : Message) → Lies block.now place.count m → result ≡ need (length block.now) place.count (record_len m) }
 {
     let len = u16_at(block, record_index(block, place)) as usize;
     pad_len(place, block.len(), len) + len

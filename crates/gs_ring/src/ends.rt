@@ -5,6 +5,7 @@ ghost use Rattle.std.specs.Borrow.{sem};
 ghost use Rattle.std.specs.Io.BufRead.{Rests};
 ghost use Rattle.gs_layout.specs.Spelling.{IsSpellable};
 
+use crate::batch::Batch;
 use crate::fault::Full;
 use crate::peeked::Peeked;
 use gs_layout::Message;
@@ -68,6 +69,7 @@ pub trait Poster {
 /// The end that messages are taken from, in the order in which they were posted.
 pub trait Taker {
     ghost use Rattle.gs_layout.specs.declared.message.Message.{Message};
+    ghost use Rattle.gs_ring.specs.Batches.{messages_of};
     ghost use Rattle.gs_ring.specs.Peek.{message_of};
 
     /// These messages passed from one state of the end to a later one.
@@ -89,10 +91,24 @@ pub trait Taker {
         requires { (m : Message) × ahead self.old (m ∷ []) }
         ensures { (m : Message) → ahead self.old (m ∷ []) → passed self.old (m ∷ []) self.new };
 
+    /// The first messages that wait, each where it lies. There is at least one if [`Taker::peek`] would find
+    /// one. They stay.
+    fn batch(&mut self) -> Batch<'_>
+        ensures none { messages_of result ≡ [] → idle self.old }
+        ensures* after { sem 𝓛 (Rests Self.row self.entry (λ new. passed self.old [] new × ahead new (messages_of result) × (messages_of result ≡ [] → (m : Message) (ms : List Message) → ahead new (m ∷ ms) → ⊥))) };
+
+    /// Takes the first `n` messages, which are known to come.
+    fn pass(&mut self, n: usize)
+        requires { (ms : List Message) × ahead self.old ms × (n ≤ length ms) }
+        ensures { (ms : List Message) → ahead self.old ms → n ≤ length ms → passed self.old (take n ms) self.new };
+
     /// Laws.
     ghost passed_none: { (t : Self) → passed t [] t };
 
     ghost passed_join: { (t u v : Self) (xs ys : List Message) → passed t xs u → passed u ys v → passed t (xs ++ ys) v };
+
+    /// Of messages that are known to come, the first ones are.
+    ghost begins: { (t : Self) (xs ys : List Message) → ahead t (xs ++ ys) → ahead t xs };
 
     /// What passes begins with what was known, or is a beginning of it, and then the rest is known still.
     ghost agrees: { (t u : Self) (xs ys : List Message) → passed t xs u → ahead t ys → ((rest : List Message) × (xs ++ rest ≡ ys) × ahead u rest) ⊎ ((rest : List Message) × (xs ≡ ys ++ rest)) };

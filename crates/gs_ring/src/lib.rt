@@ -2,13 +2,17 @@
 //! what the kernel and the agent see of it, which a ring between threads offers too.
 #![tactic(auto)]
 
+mod batch;
 mod block;
 mod ends;
 mod fault;
 mod peeked;
+mod place;
 mod ring;
+mod segments;
 mod waiting;
 
+pub use batch::Batch;
 pub use block::{ALIGNMENT, LEAST_CAPACITY, MOST_CAPACITY};
 pub use ends::{MOST_POSTS, Poster, Ring, Taker};
 pub use fault::{Full, RingFault};

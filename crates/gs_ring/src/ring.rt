@@ -6,10 +6,12 @@ ghost use Rattle.gs_layout.specs.Spelling.{IsSpellable};
 ghost use Rattle.gs_ring.specs.Places.{bytes, is_capacity, need, place_behind, rest};
 ghost use Rattle.gs_ring.specs.RingState.{IsTight, empty, end, free, posts};
 
+use crate::batch::Batch;
 use crate::block;
 use crate::ends::{MOST_POSTS, Poster, Ring, Taker};
 use crate::fault::{Full, RingFault};
 use crate::peeked::Peeked;
+use crate::place::Place;
 use crate::waiting::Waiting;
 use gs_layout::Message;
 use std::alloc::Global;
@@ -24,9 +26,9 @@ use std::marker::Model;
 pub struct ByteRing {
     block: Vec<u8>,
     /// The place of the first byte that was not consumed.
-    read: u64,
+    read: Place,
     /// The place behind the last byte that was written.
-    written: u64,
+    written: Place,
     /// How many messages were taken, and how many were posted.
     taken: u64,
     posts: u64,
@@ -34,13 +36,13 @@ pub struct ByteRing {
 
 impl Model for ByteRing {
     ghost use Rattle.gs_ring.specs.RingState.{RingState};
-    ghost use Rattle.gs_ring.specs.Block.{IsRing, ring_of};
+    ghost use Rattle.gs_ring.specs.Block.{IsHeld, ring_of};
 
     ghost Value = { RingState };
 
-    ghost view = { λ r. ring_of r.block.items r.read r.written r.taken r.posts };
+    ghost view = { λ r. ring_of r.block.items r.read.count r.written.count r.taken r.posts };
 
-    ghost invariant = { λ r. IsRing r.block.items r.read r.written r.taken r.posts };
+    ghost invariant = { λ r. IsHeld r.block.items r.read r.written r.taken r.posts };
 }
 
 impl ByteRing {
@@ -62,8 +64,8 @@ impl ByteRing {
         };
         Ok(ByteRing {
             block,
-            read: 0,
-            written: 0,
+            read: Place { count: 0, index: 0 },
+            written: Place { count: 0, index: 0 },
             taken: 0,
             posts: 0,
         })
@@ -90,7 +92,7 @@ impl ByteRing {
         ensures value { result ≡ free self.now }
         ensures within { result ≤ self.now.capacity }
     {
-        self.capacity() - (self.written - self.read) as usize
+        self.capacity() - (self.written.count - self.read.count) as usize
     }
 
     /// How many bytes a record of so many bytes takes up that is posted next, with its PAD.
@@ -120,7 +122,7 @@ impl ByteRing {
             return Err(Full);
         }
         block::write(self.block.as_mut_slice(), self.written, pad, message);
-        self.written += (pad + len) as u64;
+        self.written = self.written.further(pad + len, capacity);
         self.posts += 1;
         Ok(())
     }
@@ -139,8 +141,9 @@ impl ByteRing {
     pub fn waiting(&self) -> Waiting<'_>
         ensures { result ≡ self.now.unread }
     {
+        let (first, second) = self.front();
         let left = (self.posts - self.taken) as usize;
-        Waiting::new(self.block.as_slice(), self.read, left)
+        Waiting::new(first, second, left)
     }
 
     /// Takes the message that waits first.
@@ -148,7 +151,8 @@ impl ByteRing {
         requires { 0 < length self.old.unread }
         ensures { (m : Message) → Ahead self.old (m ∷ []) → Passed self.old (m ∷ []) self.new }
     {
-        self.read += block::span_at(self.block.as_slice(), self.read) as u64;
+        let span = block::span_at(self.block.as_slice(), self.read);
+        self.read = self.read.further(span, self.block.len());
         self.taken += 1;
     }
 
@@ -159,8 +163,8 @@ impl ByteRing {
         ensures first { length result.0.now ≡ min (end self.now - self.now.read) (rest self.now.capacity self.now.read) }
     {
         let block = self.block.as_slice();
-        let start = block::index_of(self.read, block.len());
-        let used = (self.written - self.read) as usize;
+        let start = self.read.index;
+        let used = (self.written.count - self.read.count) as usize;
         let first = used.min(block.len() - start);
         (&block[start..start + first], &block[..used - first])
     }
@@ -170,8 +174,8 @@ impl ByteRing {
         requires { (ms : List Message) × Ahead self.old ms × (place_behind self.old.capacity self.old.read ms ≡ self.old.read + n) }
         ensures { (ms : List Message) → Ahead self.old ms → place_behind self.old.capacity self.old.read ms ≡ self.old.read + n → Passed self.old ms self.new }
     {
-        let end = self.read + n as u64;
-        while self.read < end {
+        let end = self.read.count + n as u64;
+        while self.read.count < end {
             self.pop();
         }
     }
@@ -220,7 +224,7 @@ impl Poster for ByteRing {
 }
 
 impl Taker for ByteRing {
-    ghost use Rattle.gs_ring.specs.Ends.{Passed-agrees, Passed-join, Passed-none};
+    ghost use Rattle.gs_ring.specs.Ends.{Ahead-begins, Passed-agrees, Passed-join, Passed-none};
 
     ghost passed = { Passed };
 
@@ -236,9 +240,21 @@ impl Taker for ByteRing {
         self.pop();
     }
 
+    fn batch(&mut self) -> Batch<'_> {
+        Batch::Ring(self)
+    }
+
+    fn pass(&mut self, n: usize) {
+        for _ in 0..n {
+            self.pop();
+        }
+    }
+
     ghost passed_none = { Passed-none };
 
     ghost passed_join = { Passed-join };
+
+    ghost begins = { Ahead-begins };
 
     ghost agrees = { Passed-agrees };
 }

@@ -1,8 +1,9 @@
-ghost use Rattle.std.specs.Prelude.{◌≡◌, ◌==◌, length};
+ghost use Rattle.std.specs.Prelude.{◌≡◌, ◌==◌, ◌++◌, [], ◌∷◌, length};
 ghost use Rattle.std.specs.Iterator.{YieldsFirst, item_count};
-ghost use Rattle.gs_ring.specs.Block.{IsRest, messages_from};
+ghost use Rattle.gs_ring.specs.Block.{messages_in};
+ghost use Rattle.gs_ring.specs.Segments.{AreSegments};
 
-use crate::block;
+use crate::segments;
 use gs_reader::MessageRef;
 use std::marker::Model;
 
@@ -10,32 +11,51 @@ use std::marker::Model;
 /// where it lies in the ring's block. Clauses see the list of what is left.
 #[derive(Drop)]
 pub struct Waiting<'a> {
-    block: &'a [u8],
-    /// The place of the next one.
-    read: u64,
+    /// The bytes from the next one on to the end of the block, and those from its start on.
+    first: &'a [u8],
+    second: &'a [u8],
     /// How many are left.
     left: usize,
 }
 
 impl<'a> Model for Waiting<'a> {
-    ghost use Rattle.std.specs.Prelude.{List};
+    ghost use Rattle.std.specs.Prelude.{◌++◌, List};
     ghost use Rattle.gs_layout.specs.declared.message.Message.{Message};
-    ghost use Rattle.gs_ring.specs.Block.{IsRest, messages_from};
+    ghost use Rattle.gs_ring.specs.Block.{messages_in};
+    ghost use Rattle.gs_ring.specs.Segments.{AreSegments};
 
     ghost Value = { List Message };
 
-    ghost view = { λ w. messages_from w.block.now w.read w.left };
+    ghost view = { λ w. messages_in w.left (w.first.now ++ w.second.now) };
 
-    ghost invariant = { λ w. IsRest w.block.now w.read w.left };
+    ghost invariant = { λ w. AreSegments w.first.now w.second.now w.left };
 }
 
 impl<'a> Waiting<'a> {
-    /// So many messages that wait in a ring's block from a place on.
-    pub(crate) fn new(block: &'a [u8], read: u64, left: usize) -> Waiting<'a>
-        requires { IsRest block.now read left }
-        ensures { result ≡ messages_from block.now read left }
+    /// So many messages that stand in two segments.
+    pub(crate) fn new(first: &'a [u8], second: &'a [u8], left: usize) -> Waiting<'a>
+        requires { AreSegments first.now second.now left }
+        ensures { result ≡ messages_in left (first.now ++ second.now) }
     {
-        Waiting { block, read, left }
+        Waiting {
+            first,
+            second,
+            left,
+        }
+    }
+
+    /// No message.
+    pub(crate) fn none() -> Waiting<'a>
+        ensures { result ≡ [] }
+    {
+        Waiting::new(&[], &[], 0)
+    }
+
+    /// One message alone.
+    pub(crate) fn one(message: MessageRef<'a>) -> Waiting<'a>
+        ensures { result ≡ message.entry ∷ [] }
+    {
+        Waiting::new(message.as_bytes(), &[], 1)
     }
 
     /// How many are left.
@@ -64,9 +84,10 @@ impl<'a> Iterator for Waiting<'a> {
         if self.left == 0 {
             return None;
         }
-        let next = block::message_at(self.block, self.read);
-        self.read += block::span_at(self.block, self.read) as u64;
+        let (message, first, second) = segments::split_first(self.first, self.second);
+        self.first = first;
+        self.second = second;
         self.left -= 1;
-        Some(next.message())
+        Some(message)
     }
 }

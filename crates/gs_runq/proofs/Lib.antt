@@ -1,4 +1,5 @@
 mod Links
+mod Longer
 mod Lines
 mod Queues
 mod Rows

@@ -2,14 +2,14 @@
 use Rattle.std.proofs.Common.{◌≡◌, ◌≢◌, refl, ap, sym, ◌∙◌, subst, ℕ, zero, suc, ◌+◌, ◌-◌, ◌<◌, ◌≤◌, ◌⊎◌, inl, inr, Bool, true, false, not, ◌==◌, ◌||◌, List, [], ◌∷◌, ◌++◌, length, arith, set, get_or, get_or-set_other, get_or-set_same, length-set}
 use Rattle.std.specs.Prelude.{slice_index}
 use Rattle.std.proofs.lemmas.Grind.{common_steps}
-use Rattle.std.proofs.lemmas.Bool.{eqb-false, eqb-true}
+use Rattle.std.proofs.lemmas.Bool.{cases_lt, eqb-false, eqb-true}
 use Rattle.std.proofs.lemmas.List.Elements.{All-nil, All-cons}
 use Rattle.std.specs.List.{All}
 use Rattle.gs_runq.specs.Line.{LineState}
 use Rattle.gs_runq.specs.Queue.{IsTid, is_in, without, IsOut, Apart}
 use Rattle.gs_runq.specs.Linked.{Linked, Within, walked}
-use Rattle.gs_runq.specs.Inside.{AllIn, IsLine, threads_of}
-use Rattle.gs_runq.proofs.Links.{walked_is, length_walked, out_left, out_right, out_both, apart_before, apart_after, apart_less, apart_push, in_less, in_push, zero_out, length_less, length_more, out_from, not_in, split_at, without_mid, before_not, after_not, before_in, after_in, last_not, last_in, taken_out, put_last}
+use Rattle.gs_runq.specs.Inside.{AllIn, AreReserved, IsLine, IsLonger, room_in, threads_of}
+use Rattle.gs_runq.proofs.Links.{walked_is, length_walked, out_left, out_right, out_both, apart_before, apart_after, apart_less, apart_push, in_less, in_push, relinked, zero_out, length_less, length_more, out_from, not_in, split_at, without_mid, before_not, after_not, before_in, after_in, last_not, last_in, taken_out, put_last}
 
 two_other : (l : List ℕ) (u v x y k : ℕ) → u ≢ k → v ≢ k → get_or (set (set l u x) v y) k 0 ≡ get_or l k 0
 two_other l u v x y k a b = get_or-set_other (set l u x) v k y 0 (λ e. b (sym e)) ∙ get_or-set_other l u k x 0 (λ e. a (sym e))
@@ -19,6 +19,19 @@ two_first l u v x y a h = get_or-set_other (set l u x) v u y 0 a ∙ get_or-set_
 
 two_second : (l : List ℕ) (u v x y : ℕ) → v < length l → get_or (set (set l u x) v y) v 0 ≡ y
 two_second l u v x y h = get_or-set_same (set l u x) v y 0 (omega (arith, length-set l u x))
+
+-- place 0 leads to itself in a table that is lengthened from nothing
+place_zero : (ns ns' : List ℕ) (t : ℕ) → IsLonger ns ns' t → get_or ns' 0 0 ≡ get_or ns 0 0
+place_zero [] ns' t longer = longer.own 0 (omega arith) (omega (arith, longer.count))
+place_zero (n ∷ ns) ns' t longer = longer.kept 0 (omega arith)
+
+all_in_longer : (m n : ℕ) (xs : List ℕ) → m ≤ n → AllIn m xs → AllIn n xs
+all_in_longer m n [] le i = tt
+all_in_longer m n (x ∷ xs) le i = (i.0, (let below : x < m = i.1 in omega (arith, below, le)), all_in_longer m n xs le i.2)
+
+absent_longer : (ns ns' : List ℕ) (t u : ℕ) (xs : List ℕ) → IsLonger ns ns' t → u < length ns' → (u < length ns → IsOut u xs → get_or ns u 0 ≡ u) → IsOut u xs → (u < length ns) ⊎ (length ns ≤ u) → get_or ns' u 0 ≡ u
+absent_longer ns ns' t u xs longer lu before o (inl lt) = longer.kept u lt ∙ before lt o
+absent_longer ns ns' t u xs longer lu before o (inr le) = longer.own u le lu
 
 -- the line is there, and the thread isn't in it
 pub line_push : (ns ps : List ℕ) (k t : ℕ) → IsLine ns ps k → 0 < t → t < length ns → is_in t (threads_of ns k) ≡ false
@@ -52,7 +65,7 @@ line_push ns ps k t i pos lt out =
     let lp : length ps' ≡ length ps = length-set (set ps t last) 0 t ∙ length-set ps t last in (
       record {
         sizes = lp ∙ (i.sizes ∙ sym ln);
-        size = subst (λ (m : ℕ). (m ≡ 0) ⊎ (m ≡ 65537)) (sym ln) i.size;
+        most = subst (λ (m : ℕ). m ≤ 65537) (sym ln) i.most;
         linked = subst (λ (ys : List ℕ). Linked (slice_index ns') (slice_index ps') 0 ys 0) (sym same) l';
         apart = subst Apart (sym same) (apart_push t xs i.apart ot);
         within = subst (λ (ys : List ℕ). AllIn (length ns') ys) (sym same) (subst (λ (m : ℕ). AllIn m (xs ++ t ∷ [])) (sym ln) (in_push (length ns) t xs i.within pos lt));
@@ -62,6 +75,26 @@ line_push ns ps k t i pos lt out =
             let ut : u ≢ t = (out_right u xs (t ∷ []) o).0 in
             let u0 : u ≢ 0 = λ e. absurd (omega (arith, e, pu)) in
             two_other ns last t t 0 u (last_not n p u 0 0 xs i.linked (u0, ox)) (λ e. ut (sym e)) ∙ i.absent u pu (omega (arith, lu, ln)) ox;
+      },
+      same,
+    )
+
+-- a line whose tables were lengthened
+pub line_longer : (ns ps ns' ps' : List ℕ) (k t : ℕ) → IsLine ns ps k → IsLonger ns ns' t → IsLonger ps ps' t → t ≤ 65536 → IsLine ns' ps' k × (threads_of ns' k ≡ threads_of ns k)
+line_longer ns ps ns' ps' k t i longer longer' most =
+    let xs = threads_of ns k in
+    let low : length ns ≤ length ns' = omega (arith, longer.count) in
+    let l' : Linked (slice_index ns') (slice_index ps') 0 xs 0 =
+    relinked (slice_index ns) (slice_index ps) (slice_index ns') (slice_index ps') (length ns) longer.kept (λ j lt. longer'.kept j (omega (arith, lt, i.sizes)))
+    0 xs 0 i.linked (place_zero ns ns' t longer) (place_zero ps ps' t longer') i.within in
+    let same : threads_of ns' k ≡ xs = ap (λ (m : ℕ). walked m (slice_index ns') 0) (sym (length_walked k (slice_index ns) 0)) ∙ walked_is (slice_index ns') (slice_index ps') 0 xs 0 l' in (
+      record {
+        sizes = omega (arith, longer.count, longer'.count, i.sizes);
+        most = omega (arith, longer.count, i.most, most);
+        linked = subst (λ (ys : List ℕ). Linked (slice_index ns') (slice_index ps') 0 ys 0) (sym same) l';
+        apart = subst Apart (sym same) i.apart;
+        within = subst (AllIn (length ns')) (sym same) (all_in_longer (length ns) (length ns') xs low i.within);
+        absent = λ u pu lu o. absent_longer ns ns' t u (threads_of ns k) longer lu (i.absent u pu) (subst (IsOut u) same o) (cases_lt u (length ns));
       },
       same,
     )
@@ -177,7 +210,7 @@ line_remove ns ps k t i e =
       some = omega (arith, len0, kk);
       line = record {
         sizes = length-set ps after before ∙ (i.sizes ∙ sym ln);
-        size = subst (λ (m : ℕ). (m ≡ 0) ⊎ (m ≡ 65537)) (sym ln) i.size;
+        most = subst (λ (m : ℕ). m ≤ 65537) (sym ln) i.most;
         linked = subst (λ (ys : List ℕ). Linked (slice_index ns') (slice_index ps') 0 ys 0) (sym same) l';
         apart = subst Apart (sym same) (apart_less t us bs a);
         within = subst (λ (ys : List ℕ). AllIn (length ns') ys) (sym same) (subst (λ (m : ℕ). AllIn m (us ++ bs)) (sym ln) (in_less (length ns) t us bs w));
@@ -200,43 +233,42 @@ last_there ns ps k i here = last_in (length ns) (slice_index ns) (slice_index ps
 pub length_threads : (ns : List ℕ) (k : ℕ) → length (threads_of ns k) ≡ k
 length_threads ns k = length_walked k (slice_index ns) 0
 
-pub table_there : (ns : List ℕ) → (length ns ≡ 0) ⊎ (length ns ≡ 65537) → 0 < length ns → length ns ≡ 65537
-table_there ns (inl e) h = absurd (omega (arith, e, h))
-table_there ns (inr e) h = e
-
 default_zero : (l : List ℕ) (i v : ℕ) → i < length l → v ≡ get_or l i v → v ≡ get_or l i 0
 default_zero l i v h e = e ∙ grind (arith, common_steps)
 
-abbrev pub viewed : List ℕ → ℕ → LineState
-viewed ns k = record { threads = threads_of ns k; room = length ns - 1 }
+abbrev pub viewed : List ℕ → ℕ → ℕ → LineState
+viewed ns k room = record { threads = threads_of ns k; room = room }
 
 pub record Joins (ns ps : List ℕ) (k t last : ℕ) (v : LineState) : Type 0 where
   pub last_in : last < length ns
   pub few : k + 1 ≤ 65536
-  pub tid_in : t < length ns
   pub line : IsLine (set (set ns last t) t 0) (set (set ps t last) 0 t) (k + 1)
   pub threads : threads_of (set (set ns last t) t 0) (k + 1) ≡ v.threads ++ t ∷ []
 
-joins_zero : (ns ps : List ℕ) (k t : ℕ) → IsLine ns ps k → 0 < t → t ≤ 65536 → length (threads_of ns k) < length ns - 1 → is_in t (threads_of ns k) ≡ false → Joins ns ps k t (get_or ps 0 0) (viewed ns k)
-joins_zero ns ps k t i pos most room out =
-    let full = table_there ns i.size (omega (arith, room)) in
-    let r = line_push ns ps k t i pos (omega (arith, full, most)) out in
+joins_zero : (ns ps : List ℕ) (k t room : ℕ) → IsLine ns ps k → 0 < t → t < length ns → room ≤ 65536 → length (threads_of ns k) < room → is_in t (threads_of ns k) ≡ false
+    → Joins ns ps k t (get_or ps 0 0) (viewed ns k room)
+joins_zero ns ps k t room i pos lt most few out =
+    let r = line_push ns ps k t i pos lt out in
     record {
-      last_in = last_there ns ps k i (omega (arith, full));
-      few = omega (arith, full, room, length_threads ns k);
-      tid_in = omega (arith, full, most);
+      last_in = last_there ns ps k i (omega (arith, lt));
+      few = omega (arith, few, most, length_threads ns k);
       line = r.0;
       threads = r.1;
     }
 
-pub joins : (ns ps : List ℕ) (k t last : ℕ) (v : LineState) → viewed ns k ≡ v → IsLine ns ps k → last ≡ get_or ps 0 last → 0 < t → t ≤ 65536 → length v.threads < v.room → is_in t v.threads ≡ false → Joins ns ps k t last v
-joins ns ps k t last v is i read pos most room out =
-    let P : LineState → Type 0 = λ w. length w.threads < w.room → is_in t w.threads ≡ false → Joins ns ps k t last w in
-    subst P is
-    (λ room out.
-    let full = table_there ns i.size (omega (arith, room)) in
-    subst (λ (z : ℕ). Joins ns ps k t z (viewed ns k)) (sym (default_zero ps 0 last (omega (arith, full, i.sizes)) read)) (joins_zero ns ps k t i pos most room out))
-    room out
+-- a thread joins a line that was lengthened up to its place
+pub joins : (ns ps ns' ps' : List ℕ) (k t last room : ℕ) (v : LineState) → viewed ns k room ≡ v → IsLine ns ps k → IsLonger ns ns' t → IsLonger ps ps' t → last ≡ get_or ps' 0 last
+    → 0 < t → t ≤ 65536 → room ≤ 65536 → length v.threads < v.room → is_in t v.threads ≡ false → Joins ns' ps' k t last v
+joins ns ps ns' ps' k t last room v is i longer longer' read pos within most few out =
+    let grown = line_longer ns ps ns' ps' k t i longer longer' within in
+    let is' : viewed ns' k room ≡ v = ap (λ (ts : List ℕ). record { threads = ts; room = room }) grown.1 ∙ is in
+    let P : LineState → Type 0 = λ w. length w.threads < w.room → is_in t w.threads ≡ false → Joins ns' ps' k t last w in
+    let lt : t < length ns' = omega (arith, longer.count) in
+    let here : 0 < length ps' = omega (arith, longer'.count) in
+    subst P is'
+    (λ few out.
+    subst (λ (z : ℕ). Joins ns' ps' k t z (viewed ns' k room)) (sym (default_zero ps' 0 last here read)) (joins_zero ns' ps' k t room grown.0 pos lt most few out))
+    few out
 
 pub record Parts (ns ps : List ℕ) (k t before after : ℕ) (v : LineState) : Type 0 where
   pub before_in : before < length ns
@@ -246,34 +278,34 @@ pub record Parts (ns ps : List ℕ) (k t before after : ℕ) (v : LineState) : T
   pub line : IsLine (set (set ns before after) t t) (set ps after before) (k - 1)
   pub threads : threads_of (set (set ns before after) t t) (k - 1) ≡ without t v.threads
 
-pub parts : (ns ps : List ℕ) (k t before after : ℕ) (v : LineState) → viewed ns k ≡ v → IsLine ns ps k → before ≡ get_or ps t before → after ≡ get_or ns t after → is_in t v.threads ≡ true
+pub parts : (ns ps : List ℕ) (k t before after room : ℕ) (v : LineState) → viewed ns k room ≡ v → IsLine ns ps k → before ≡ get_or ps t before → after ≡ get_or ns t after → is_in t v.threads ≡ true
     → Parts ns ps k t before after v
-parts ns ps k t before after v is i read read' e =
+parts ns ps k t before after room v is i read read' e =
     let e' : is_in t (threads_of ns k) ≡ true = ap (λ (w : LineState). is_in t w.threads) is ∙ e in
     let lt : t < length ns = (place_in (length ns) t (threads_of ns k) i.within e').1 in
     let b = default_zero ps t before (omega (arith, lt, i.sizes)) read in
     let a = default_zero ns t after lt read' in
     let r = line_remove ns ps k t i e' in
     subst (Parts ns ps k t before after) is
-    (subst (λ (z : ℕ). Parts ns ps k t z after (viewed ns k)) (sym b)
-    (subst (λ (z : ℕ). Parts ns ps k t (get_or ps t 0) z (viewed ns k)) (sym a)
+    (subst (λ (z : ℕ). Parts ns ps k t z after (viewed ns k room)) (sym b)
+    (subst (λ (z : ℕ). Parts ns ps k t (get_or ps t 0) z (viewed ns k room)) (sym a)
     (record { before_in = r.before_in; after_in = r.after_in; previous_in = omega (arith, r.after_in, i.sizes); some = r.some; line = r.line; threads = r.threads })))
 
 -- a thread that is there has its place in both tables
-pub there : (ns ps : List ℕ) (k t : ℕ) (v : LineState) → viewed ns k ≡ v → IsLine ns ps k → is_in t v.threads ≡ true → (t < length ns) × (t < length ps)
-there ns ps k t v is i e =
+pub there : (ns ps : List ℕ) (k t room : ℕ) (v : LineState) → viewed ns k room ≡ v → IsLine ns ps k → is_in t v.threads ≡ true → (t < length ns) × (t < length ps)
+there ns ps k t room v is i e =
     let lt : t < length ns = (place_in (length ns) t (threads_of ns k) i.within (ap (λ (w : LineState). is_in t w.threads) is ∙ e)).1 in
     (lt, omega (arith, lt, i.sizes))
 
 -- what a look at the table of who follows whom says
-pub says : (ns ps : List ℕ) (k t z : ℕ) (v : LineState) → viewed ns k ≡ v → IsLine ns ps k → 0 < t → t < length ns → z ≡ get_or ns t z → not (z == t) ≡ is_in t v.threads
-says ns ps k t z v is i pos lt r = subst (λ (w : LineState). not (z == t) ≡ is_in t w.threads) is (ap (λ (y : ℕ). not (y == t)) (default_zero ns t z lt r) ∙ has_is ns ps k t i pos lt)
+pub says : (ns ps : List ℕ) (k t z room : ℕ) (v : LineState) → viewed ns k room ≡ v → IsLine ns ps k → 0 < t → t < length ns → z ≡ get_or ns t z → not (z == t) ≡ is_in t v.threads
+says ns ps k t z room v is i pos lt r = subst (λ (w : LineState). not (z == t) ≡ is_in t w.threads) is (ap (λ (y : ℕ). not (y == t)) (default_zero ns t z lt r) ∙ has_is ns ps k t i pos lt)
 
-pub says_past : (ns ps : List ℕ) (k t : ℕ) (v : LineState) → viewed ns k ≡ v → IsLine ns ps k → length ns ≤ t → is_in t v.threads ≡ false
-says_past ns ps k t v is i h = subst (λ (w : LineState). is_in t w.threads ≡ false) is (not_in t (threads_of ns k) (nobody_past ns ps k t i h))
+pub says_past : (ns ps : List ℕ) (k t room : ℕ) (v : LineState) → viewed ns k room ≡ v → IsLine ns ps k → length ns ≤ t → is_in t v.threads ≡ false
+says_past ns ps k t room v is i h = subst (λ (w : LineState). is_in t w.threads ≡ false) is (not_in t (threads_of ns k) (nobody_past ns ps k t i h))
 
-pub says_zero : (ns ps : List ℕ) (k t : ℕ) (v : LineState) → viewed ns k ≡ v → IsLine ns ps k → t ≡ 0 → not (t == 0) ≡ is_in t v.threads
-says_zero ns ps k t v is i e =
+pub says_zero : (ns ps : List ℕ) (k t room : ℕ) (v : LineState) → viewed ns k room ≡ v → IsLine ns ps k → t ≡ 0 → not (t == 0) ≡ is_in t v.threads
+says_zero ns ps k t room v is i e =
     subst (λ (z : ℕ). not (z == 0) ≡ is_in z v.threads) (sym e)
     (subst (λ (w : LineState). false ≡ is_in 0 w.threads) is (sym (not_in 0 (threads_of ns k) (zero_out (length ns) (threads_of ns k) i.within))))
 
@@ -285,15 +317,11 @@ all_tids m (x ∷ xs) le i =
     let below : x < m = i.1 in
     All-cons IsTid x xs (omega (arith, some), omega (arith, below, le)) (all_tids m xs le i.2)
 
-table_most : (ns : List ℕ) → (length ns ≡ 0) ⊎ (length ns ≡ 65537) → length ns ≤ 65537
-table_most ns (inl e) = omega (arith, e)
-table_most ns (inr e) = omega (arith, e)
+pub tids : (ns ps : List ℕ) (k room : ℕ) (v : LineState) → viewed ns k room ≡ v → IsLine ns ps k → All IsTid v.threads
+tids ns ps k room v is i = subst (λ (w : LineState). All IsTid w.threads) is (all_tids (length ns) (threads_of ns k) i.most i.within)
 
-pub tids : (ns ps : List ℕ) (k : ℕ) (v : LineState) → viewed ns k ≡ v → IsLine ns ps k → All IsTid v.threads
-tids ns ps k v is i = subst (λ (w : LineState). All IsTid w.threads) is (all_tids (length ns) (threads_of ns k) (table_most ns i.size) i.within)
-
-pub count_is : (ns : List ℕ) (k : ℕ) (v : LineState) → viewed ns k ≡ v → k ≡ length v.threads
-count_is ns k v is = subst (λ (w : LineState). k ≡ length w.threads) is (sym (length_threads ns k))
+pub count_is : (ns : List ℕ) (k room : ℕ) (v : LineState) → viewed ns k room ≡ v → k ≡ length v.threads
+count_is ns k room v is = subst (λ (w : LineState). k ≡ length w.threads) is (sym (length_threads ns k))
 
 -- a walk stays in the table
 within_from : (k : ℕ) (n : ℕ → ℕ) (m a : ℕ) → AllIn m (walked k n a) → a < m → Within k n m a
@@ -303,3 +331,8 @@ within_from (suc k) n m a i h = (h, within_from k n m (n a) i.2 i.1)
 pub within_all : (k : ℕ) (ns : List ℕ) → AllIn (length ns) (threads_of ns k) → Within k (slice_index ns) (length ns) 0
 within_all zero ns i = tt
 within_all (suc k) ns i = within_from (suc k) (slice_index ns) (length ns) 0 i (let p : slice_index ns 0 < length ns = i.1 in omega arith)
+
+-- where there is room for a thread, memory is reserved for all places
+pub reserved_all : (a b n : ℕ) → AreReserved a b → n < room_in b → (65537 ≤ a) × (65537 ≤ b)
+reserved_all a b n (inl none) lt = absurd (omega (arith, none, lt))
+reserved_all a b n (inr all) lt = all

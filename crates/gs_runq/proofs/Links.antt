@@ -129,6 +129,12 @@ frame : (n p n' p' : ℕ → ℕ) (u v w : ℕ) → ((k : ℕ) → u ≢ k → v
 frame n p n' p' u v w hn hp a [] b l ou ov ow wb = (hn a ou.0 ov.0 ∙ l.0, hp b wb ∙ l.1)
 frame n p n' p' u v w hn hp a (x ∷ xs) b l ou ov ow wb = (hn a ou.0 ov.0 ∙ l.0, hp x ow.0 ∙ l.1, frame n p n' p' u v w hn hp x xs b l.2 ou.1 ov.1 ow.1 wb)
 
+-- links that are the same at each place of a line
+pub relinked : (n p n' p' : ℕ → ℕ) (m : ℕ) → ((k : ℕ) → k < m → n' k ≡ n k) → ((k : ℕ) → k < m → p' k ≡ p k)
+    → (a : ℕ) (xs : List ℕ) (b : ℕ) → Linked n p a xs b → n' a ≡ n a → p' b ≡ p b → AllIn m xs → Linked n' p' a xs b
+relinked n p n' p' m hn hp a [] b l first last i = (first ∙ l.0, last ∙ l.1)
+relinked n p n' p' m hn hp a (x ∷ xs) b l first last i = (first ∙ l.0, hp x i.1 ∙ l.1, relinked n p n' p' m hn hp x xs b l.2 (hn x i.1) last i.2)
+
 flip : (a b : ℕ) → a ≢ b → b ≢ a
 flip a b h = λ e. h (sym e)
 

@@ -1,4 +1,5 @@
-ghost use Rattle.std.specs.Prelude.{◌≡◌, ◌<◌, ◌≤◌, ◌++◌, ◌∷◌, ℕ, [], false, length, slice_index, All, IfOk, OnOk, OnErr};
+ghost use Rattle.std.specs.Prelude.{◌≡◌, ◌<◌, ◌≤◌, ◌++◌, ◌∷◌, [], false, length, vec_capacity, All, OnOk, OnErr};
+ghost use Rattle.gs_runq.specs.Inside.{IsLonger};
 ghost use Rattle.gs_runq.specs.Queue.{IsTid, is_in, without};
 
 use crate::walk::{LineWalk, along};
@@ -9,12 +10,17 @@ use std::marker::Model;
 /// How many places a table has: place 0, and one for each tid.
 const PLACES: u32 = MOST_TIDS + 1;
 
-/// A table in which each place leads to itself.
-fn own_places(alloc: Global) -> Result<Vec<u32>, AllocError>
-    ensures length { IfOk result (λ v. length v.items ≡ PLACES) }
-    ensures own { IfOk result (λ v. (t : ℕ) → t < PLACES → slice_index v.items t ≡ t) }
+/// Gives a table a place for a thread: each place that it lacked up to there leads to itself. Memory for
+/// it is reserved.
+fn lengthen(table: &mut Vec<u32>, tid: u32)
+    requires room { tid < vec_capacity table.old }
+    requires tid { tid ≤ MOST_TIDS }
+    ensures longer { IsLonger table.old.items table.new.items tid }
+    ensures capacity { vec_capacity table.new ≡ vec_capacity table.old }
 {
-    (0..PLACES).collect(alloc)
+    while table.len() <= tid as usize {
+        table.push_reserved(table.len() as u32);
+    }
 }
 
 /// Threads in line: those of one class that wait.
@@ -24,11 +30,12 @@ fn own_places(alloc: Global) -> Result<Vec<u32>, AllocError>
 /// closes the circle: it leads to the first thread, the last one leads to it, and in an empty line it
 /// leads to itself. A thread that is not in the line follows itself, which no thread in line does. So
 /// whether a thread is there is one look at its own place, it goes last behind the one before place
-/// 0, and it leaves by linking its two neighbours: none of these walks along the line. Before the
-/// first reservation the tables are empty.
+/// 0, and it leaves by linking its two neighbours: none of these walks along the line.
+///
+/// The first reservation takes memory for all places. The tables grow into it as far as the greatest tid
+/// that came, so that memory for tids that never come is not touched.
 #[derive(Drop)]
 pub struct Line {
-    alloc: Global,
     next: Vec<u32>,
     previous: Vec<u32>,
     count: u32,
@@ -53,7 +60,6 @@ impl Line {
         ensures room { result.room ≡ 0 }
     {
         Line {
-            alloc,
             next: Vec::new(alloc),
             previous: Vec::new(alloc),
             count: 0,
@@ -72,11 +78,9 @@ impl Line {
         ensures most { self.new.room ≤ MOST_TIDS }
         ensures err { OnErr result (self.new ≡ self.old) }
     {
-        if self.next.is_empty() {
-            let next = own_places(self.alloc)?;
-            let previous = own_places(self.alloc)?;
-            self.next = next;
-            self.previous = previous;
+        if self.previous.capacity() == 0 {
+            self.next.reserve(PLACES as usize)?;
+            self.previous.reserve(PLACES as usize)?;
         }
         Ok(())
     }
@@ -92,7 +96,8 @@ impl Line {
     pub fn room(&self) -> u32
         ensures { result ≡ self.now.room }
     {
-        self.next.len().saturating_sub(1) as u32
+        let places = self.previous.capacity().min(PLACES as usize);
+        places.saturating_sub(1) as u32
     }
 
     /// The threads in order, each a thread's number.
@@ -104,7 +109,6 @@ impl Line {
     }
 
     /// Whether a thread is in line. Each thread in line has a thread's number.
-    #[tactic(auto, using(crate::proofs::Lines::tids))]
     pub fn has(&self, tid: u32) -> bool
         ensures has { result ≡ is_in tid self.now.threads }
         ensures tids { All IsTid self.now.threads }
@@ -116,7 +120,8 @@ impl Line {
         tid != 0 && self.next[at] != tid
     }
 
-    /// A thread goes last. It takes no memory.
+    /// A thread goes last. It takes no memory, and a constant number of steps but for the places that
+    /// come before its own for the first time.
     pub fn push(&mut self, tid: u32)
         requires tid { IsTid tid }
         requires room { length self.old.threads < self.old.room }
@@ -124,6 +129,8 @@ impl Line {
         ensures threads { self.new.threads ≡ self.old.threads ++ tid ∷ [] }
         ensures room { self.new.room ≡ self.old.room }
     {
+        lengthen(&mut self.next, tid);
+        lengthen(&mut self.previous, tid);
         let last = self.previous[0];
         self.next[last as usize] = tid;
         self.previous[tid as usize] = last;

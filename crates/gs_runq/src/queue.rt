@@ -12,7 +12,8 @@ use std::marker::Model;
 /// class 1. A thread is named by its tid.
 ///
 /// `push`, `remove` and `has` take a constant number of steps, however many threads wait, and no
-/// memory; a walk visits only the threads that wait.
+/// memory. Only the first push of a tid above all that came takes a step for each tid in between. A walk
+/// visits only the threads that wait.
 #[derive(Drop)]
 pub struct RunQueue {
     zero_class: Line,

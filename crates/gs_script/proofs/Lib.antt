@@ -8,6 +8,9 @@ pub mod Taken
 pub mod Sizes
 pub mod Extends
 pub mod Said
+pub mod Digits
+pub mod PlainWords
+pub mod PlainLines
 pub mod Lines
 pub mod HeaderLines
 pub mod Fits

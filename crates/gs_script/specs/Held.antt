@@ -1,5 +1,8 @@
 -- What a function returned, against what is read.
-use Rattle.std.specs.Prelude.{ℕ, ◌≡◌, List, Bool, not, ◌&&◌, ◌==◌, slice_index, Result, Ok, Err}
+use denote.Ref.{Bor}
+use Rattle.std.specs.Prelude.{ℕ, ◌≡◌, List, [], ◌∷◌, ◌++◌, Bool, not, ◌&&◌, ◌==◌, slice_index, Option, Some, None, Result, Ok, Err}
+use Rattle.gs_policy.specs.declared.any.AnyPolicy.{AnyPolicy}
+use Rattle.gs_core.specs.declared.event.Event.{Event}
 use Rattle.gs_script.specs.declared.fault.Reason.{Reason as TheReason}
 use Rattle.gs_script.specs.declared.fault.ScriptFault.{ScriptFault}
 use Rattle.gs_script.specs.declared.script.Script.{Script as TheScript}
@@ -8,7 +11,9 @@ use Rattle.gs_script.specs.declared.script.ScriptError.TheVariants as errors
 use Rattle.gs_script.specs.declared.script.LineError.{LineError}
 use Rattle.gs_script.specs.declared.script.LineError.TheVariants as lines
 use Rattle.gs_script.specs.Words.{is_shortest}
-use Rattle.gs_script.specs.Script.{Script, fault}
+use Rattle.gs_script.specs.Rows.{event_of}
+use Rattle.gs_script.specs.Plain.{FirstLine}
+use Rattle.gs_script.specs.Script.{Script, says, fault}
 
 -- a word that `parse` reads as a number is one, where this holds: a plus in front is no digit, though `parse` takes it
 abbrev pub begins_plainly : List ℕ → Bool
@@ -32,3 +37,19 @@ seen s = record { config = s.config; events = s.events.items }
 abbrev pub placed : ℕ → LineError → ScriptError
 placed n (lines.Fault reason) = errors.Fault (fault n reason)
 placed n lines.OutOfMemory = errors.OutOfMemory
+
+-- events, and then one that a line says, if it says one
+abbrev pub and_one : List (Event AnyPolicy) → Option (Event AnyPolicy) → List (Event AnyPolicy)
+and_one es None = es
+and_one es (Some e) = es ++ e ∷ []
+
+-- the first line of a text was read, with this left behind it, and what it says was added to the events
+pub record Adds (text : List ℕ) (left : Option (Bor (List ℕ))) (old new : List (Event AnyPolicy)) : Type 0 where
+  pub said : Option (Event AnyPolicy)
+  pub first : FirstLine (λ line. says event_of line ≡ Ok said) text left
+  pub events : new ≡ and_one old said
+
+-- the first line of a text was not read
+pub record Fails (text : List ℕ) (e : LineError) : Type 0 where
+  pub left : Option (Bor (List ℕ))
+  pub first : FirstLine (λ line. Gives {A = Option (Event AnyPolicy)} (Err e) (says event_of line)) text left

@@ -3,4 +3,5 @@ pub mod Grammar
 pub mod Rows
 pub mod Header
 pub mod Script
+pub mod Plain
 pub mod Held

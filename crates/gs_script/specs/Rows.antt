@@ -182,6 +182,10 @@ shown words = map (λ word. word.now) words
 abbrev pub number_between : ℕ → ℕ → List ℕ → Result ℕ Reason
 number_between low high word = if is_of_kind (Number low high) word then Ok (number word) else Err BadNumber
 
+-- what words say that are to be one number
+abbrev pub one_number : ℕ → List (List ℕ) → Result ℕ Reason
+one_number high words = or_fault (line_fault ((Number 0 high ∷ []) ∷ []) words) (number (at 0 words))
+
 -- what a word says that is to be a name
 abbrev pub name_in : List ℕ → Result TheName Reason
 name_in word = if is_of_kind Name word then Ok (name_of word) else Err BadName

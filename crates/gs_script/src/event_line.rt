@@ -1,8 +1,6 @@
-ghost use Rattle.std.specs.Prelude.{◌≡◌, ◌∷◌, []};
-ghost use Rattle.gs_script.specs.Grammar.{line_fault, or_fault};
+ghost use Rattle.std.specs.Prelude.{◌≡◌, ◌≤◌, ◌∷◌, [], IfOk};
 ghost use Rattle.gs_script.specs.Rows as rows;
 ghost use Rattle.gs_script.specs.Rows.{shown, reads, event_of};
-ghost use Rattle.gs_script.specs.Words.{number as number_of};
 
 use crate::fault::Reason;
 use crate::header::named_policy;
@@ -13,18 +11,43 @@ use gs_layout::{Class, Facts};
 use gs_policy::AnyPolicy;
 use gs_status::Mask;
 
-/// A number of 16 bits: of a CPU, also of one that is not there, or of the threads of a page.
+/// A number of 16 bits: of a CPU, also of one that is not there.
 fn u16_number(word: &str) -> Result<u16, Reason>
     ensures { result ≡ rows.number_between 0 u16.MAX word.now }
 {
     Ok(number(word, 0, u16::MAX as u64)? as u16)
 }
 
-/// A number of 32 bits: a thread's, or a count.
+/// A number of 32 bits: a thread's.
 fn u32_number(word: &str) -> Result<u32, Reason>
     ensures { result ≡ rows.number_between 0 u32.MAX word.now }
 {
     Ok(number(word, 0, u32::MAX as u64)? as u32)
+}
+
+/// A number up to `most` that is all that stands behind a line's first word.
+fn only_number(words: &[&str], most: u64) -> Result<u64, Reason>
+    ensures exact { result ≡ rows.one_number most (shown words.now) }
+    ensures high { IfOk result (λ n. n ≤ most) }
+{
+    let [word] = words else {
+        return Err(Reason::BadCount);
+    };
+    number(word, 0, most)
+}
+
+/// The same of 16 bits: a CPU, or how many threads a page has.
+fn only_u16(words: &[&str]) -> Result<u16, Reason>
+    ensures { result ≡ rows.one_number u16.MAX (shown words.now) }
+{
+    Ok(only_number(words, u16::MAX as u64)? as u16)
+}
+
+/// The same of 32 bits: a thread, a transaction, or how many messages are taken in.
+fn only_u32(words: &[&str]) -> Result<u32, Reason>
+    ensures { result ≡ rows.one_number u32.MAX (shown words.now) }
+{
+    Ok(only_number(words, u32::MAX as u64)? as u32)
 }
 
 fn read_class(word: &str) -> Result<Class, Reason>
@@ -64,7 +87,7 @@ fn create_of(mask: &str, class: &str, state: &str, text: &str) -> Result<Event<A
     let mask = Mask::new(number(mask, 0, u64::MAX)?);
     let class = read_class(class)?;
     let runnable = is_runnable(state)?;
-    let name = name(text)?;
+    let name = name(text.as_bytes())?;
     let facts = Facts {
         runnable,
         mask,
@@ -90,10 +113,7 @@ fn create(words: &[&str]) -> Result<Event<AnyPolicy>, Reason>
 fn to_thread(words: &[&str], event: ThreadEvent) -> Result<Event<AnyPolicy>, Reason>
     ensures { result ≡ reads (rows.to_thread [] event) (shown words.now) }
 {
-    let [tid] = words else {
-        return Err(Reason::BadCount);
-    };
-    let tid = u32_number(tid)?;
+    let tid = only_u32(words)?;
     Ok(Event::Kernel {
         command: Command::Thread { tid, event },
     })
@@ -116,20 +136,10 @@ fn affinity(words: &[&str]) -> Result<Event<AnyPolicy>, Reason>
     })
 }
 
-/// The CPU that is all that stands behind a line's first word.
-fn only_cpu(words: &[&str]) -> Result<u16, Reason>
-    ensures { result ≡ or_fault (line_fault rows.of_cpu (shown words.now)) (number_of (rows.at 0 (shown words.now))) }
-{
-    let [cpu] = words else {
-        return Err(Reason::BadCount);
-    };
-    u16_number(cpu)
-}
-
 fn take(words: &[&str]) -> Result<Event<AnyPolicy>, Reason>
     ensures { result ≡ reads rows.take (shown words.now) }
 {
-    let cpu = only_cpu(words)?;
+    let cpu = only_u16(words)?;
     Ok(Event::Kernel {
         command: Command::Take { cpu },
     })
@@ -138,7 +148,7 @@ fn take(words: &[&str]) -> Result<Event<AnyPolicy>, Reason>
 fn give(words: &[&str]) -> Result<Event<AnyPolicy>, Reason>
     ensures { result ≡ reads rows.give (shown words.now) }
 {
-    let cpu = only_cpu(words)?;
+    let cpu = only_u16(words)?;
     Ok(Event::Kernel {
         command: Command::Give { cpu },
     })
@@ -147,7 +157,7 @@ fn give(words: &[&str]) -> Result<Event<AnyPolicy>, Reason>
 fn tick(words: &[&str]) -> Result<Event<AnyPolicy>, Reason>
     ensures { result ≡ reads rows.tick (shown words.now) }
 {
-    let cpu = only_cpu(words)?;
+    let cpu = only_u16(words)?;
     Ok(Event::Kernel {
         command: Command::Tick { cpu },
     })
@@ -156,7 +166,7 @@ fn tick(words: &[&str]) -> Result<Event<AnyPolicy>, Reason>
 fn handoff(words: &[&str]) -> Result<Event<AnyPolicy>, Reason>
     ensures { result ≡ reads rows.handoff (shown words.now) }
 {
-    let cpu = only_cpu(words)?;
+    let cpu = only_u16(words)?;
     Ok(Event::Kernel {
         command: Command::HandOff { cpu },
     })
@@ -165,7 +175,7 @@ fn handoff(words: &[&str]) -> Result<Event<AnyPolicy>, Reason>
 fn activate(words: &[&str]) -> Result<Event<AnyPolicy>, Reason>
     ensures { result ≡ reads rows.activate (shown words.now) }
 {
-    let cpu = only_cpu(words)?;
+    let cpu = only_u16(words)?;
     Ok(Event::Kernel {
         command: Command::Activate { cpu },
     })
@@ -191,20 +201,14 @@ fn begin(words: &[&str]) -> Result<Event<AnyPolicy>, Reason>
 fn page(words: &[&str]) -> Result<Event<AnyPolicy>, Reason>
     ensures { result ≡ reads rows.page (shown words.now) }
 {
-    let [max] = words else {
-        return Err(Reason::BadCount);
-    };
-    let max = u16_number(max)?;
+    let max = only_u16(words)?;
     Ok(Event::Page { max })
 }
 
 fn drain(words: &[&str]) -> Result<Event<AnyPolicy>, Reason>
     ensures { result ≡ reads rows.drain (shown words.now) }
 {
-    let [max] = words else {
-        return Err(Reason::BadCount);
-    };
-    let max = u32_number(max)?;
+    let max = only_u32(words)?;
     Ok(Event::Drain { max })
 }
 
@@ -251,20 +255,14 @@ fn stamp(words: &[&str]) -> Result<Event<AnyPolicy>, Reason>
 fn commit(words: &[&str]) -> Result<Event<AnyPolicy>, Reason>
     ensures { result ≡ reads rows.commit (shown words.now) }
 {
-    let [mask] = words else {
-        return Err(Reason::BadCount);
-    };
-    let mask = Mask::new(number(mask, 0, u64::MAX)?);
+    let mask = Mask::new(only_number(words, u64::MAX)?);
     Ok(Event::Commit { mask })
 }
 
 fn late(words: &[&str]) -> Result<Event<AnyPolicy>, Reason>
     ensures { result ≡ reads rows.late (shown words.now) }
 {
-    let [number] = words else {
-        return Err(Reason::BadCount);
-    };
-    let number = u32_number(number)?;
+    let number = only_u32(words)?;
     Ok(Event::Late { number })
 }
 

@@ -1,9 +1,11 @@
 //! Scripts: what an enclave is opened with, and its events, as text.
 #![tactic(auto)]
 
+mod cursor;
 mod event_line;
 mod fault;
 mod header;
+mod plain_line;
 mod script;
 mod word;
 

@@ -1,19 +1,22 @@
-ghost use Rattle.std.specs.Prelude.{◌≡◌, ◌+◌, ◌<◌, ◌^◌, IfOk, IfSome, length, None, Some, Ok, if◌then◌else◌};
+ghost use Rattle.std.specs.Prelude.{◌≡◌, ◌+◌, ◌<◌, ◌^◌, IfOk, IfErr, IfSome, length, None, Some, Ok, if◌then◌else◌};
 ghost use Rattle.std.specs.Result.{result_map_both};
 ghost use Rattle.gs_core.specs.Config.{config_fault};
 ghost use Rattle.gs_script.specs.Words.{lines_of};
 ghost use Rattle.gs_script.specs.Rows.{event_of, shown};
 ghost use Rattle.gs_script.specs.Header.{header_of};
 ghost use Rattle.gs_script.specs.Script.{says, is_passed_over, events_of, script_from, script_of};
-ghost use Rattle.gs_script.specs.Held.{Gives, GivesBy, placed, seen};
+ghost use Rattle.gs_script.specs.Plain.{lines_left};
+ghost use Rattle.gs_script.specs.Held.{Adds, Fails, Gives, GivesBy, placed, seen};
 
+use crate::cursor::first_line;
 use crate::event_line::event;
 use crate::fault::{Reason, ScriptFault};
 use crate::header::header;
+use crate::plain_line::plain_event;
 use crate::word::{split, text};
 use gs_core::{Config, Event};
 use gs_policy::AnyPolicy;
-use std::alloc::{AllocError, Global};
+use std::alloc::Global;
 use thiserror::Error;
 
 /// The most bytes that a script may have, so that the memory that it is read into has a bound. A longer one
@@ -110,57 +113,78 @@ fn header_line(alloc: Global, line: &[u8]) -> Result<Option<Config<AnyPolicy>>, 
     }
 }
 
-/// The events of lines, of which the first has this number.
-#[tactic(auto, using(crate::proofs::Lines::passes, crate::proofs::Lines::adds, crate::proofs::Lines::stopped, crate::proofs::Lines::ends))]
+/// Adds the event that the first line of a text says, if it says one, and answers what is left behind the line.
+/// A plain line is read in one pass, and any other by its words.
+fn add_event<'a>(
+    text: &'a [u8],
+    words: &mut Vec<&'a str>,
+    events: &mut Vec<Event<AnyPolicy>>,
+) -> Result<Option<&'a [u8]>, LineError>
+    ensures ok { IfOk result (λ left. Adds text.now left events.old.items events.new.items) }
+    ensures err { IfErr result (λ e. Fails text.now e) }
+{
+    if let Some((event, left)) = plain_event(text) {
+        return match events.push(event) {
+            Ok(()) => Ok(left),
+            Err(_) => Err(LineError::OutOfMemory),
+        };
+    }
+    let (line, left) = first_line(text);
+    match event_line(line, words)? {
+        None => Ok(left),
+        Some(event) => match events.push(event) {
+            Ok(()) => Ok(left),
+            Err(_) => Err(LineError::OutOfMemory),
+        },
+    }
+}
+
+/// The events of the lines of a text, if there is one. The first line has this number.
 fn events(
     alloc: Global,
     first: usize,
-    lines: &[&[u8]],
+    text: Option<&[u8]>,
 ) -> Result<Vec<Event<AnyPolicy>>, ScriptError>
-    requires { first + length lines.now < 2 ^ 63 }
-    ensures { GivesBy (λ v. v.items) result (events_of first (shown lines.now)) }
+    requires { first + length (lines_left text) < 2 ^ 63 }
+    ensures { GivesBy (λ v. v.items) result (events_of first (lines_left text.entry)) }
 {
     let mut words = Vec::new(alloc);
     let mut events = Vec::new(alloc);
-    for (i, line) in lines.iter().enumerate() {
-        match event_line(line, &mut words) {
-            Ok(None) => {}
-            Ok(Some(event)) => {
-                if events.push(event).is_err() {
-                    return Err(ScriptError::OutOfMemory);
-                }
-            }
-            Err(error) => return Err(at(first + i, error)),
+    let mut rest = text;
+    let mut number = first;
+    while let Some(text) = rest {
+        match add_event(text, &mut words, &mut events) {
+            Ok(left) => rest = left,
+            Err(error) => return Err(at(number, error)),
         }
+        number += 1;
     }
     Ok(events)
 }
 
-/// The lines of a script.
-fn lines(alloc: Global, bytes: &[u8]) -> Result<Vec<&[u8]>, AllocError>
-    ensures { IfOk result (λ v. shown v.items ≡ lines_of bytes.now) }
-{
-    bytes.split(|byte| *byte == b'\n').collect(alloc)
-}
-
-/// The script of these lines.
-#[tactic(auto, using(crate::proofs::HeaderLines::passes, crate::proofs::HeaderLines::found, crate::proofs::HeaderLines::stopped, crate::proofs::HeaderLines::ends))]
-fn from_lines(alloc: Global, lines: &[&[u8]]) -> Result<Script, ScriptError>
-    requires { length lines.now < 2 ^ 62 }
-    ensures exact { GivesBy seen result (script_from 1 (shown lines.now)) }
+/// The script of a text.
+#[tactic(auto, using(crate::proofs::HeaderLines::passed, crate::proofs::HeaderLines::ended))]
+fn from_text(alloc: Global, text: &[u8]) -> Result<Script, ScriptError>
+    requires { length (lines_of text.now) < 2 ^ 62 }
+    ensures exact { GivesBy seen result (script_from 1 (lines_of text.now)) }
     ensures fits { IfOk result (λ script. config_fault script.config ≡ None) }
 {
-    for (i, line) in lines.iter().enumerate() {
+    let mut rest = Some(text);
+    let mut number = 1;
+    while let Some(text) = rest {
+        let (line, left) = first_line(text);
         match header_line(alloc, line) {
             Ok(None) => {}
             Ok(Some(config)) => {
-                return match events(alloc, i + 2, &lines[i + 1..]) {
+                return match events(alloc, number + 1, left) {
                     Ok(events) => Ok(Script { config, events }),
                     Err(error) => Err(error),
                 };
             }
-            Err(error) => return Err(at(i + 1, error)),
+            Err(error) => return Err(at(number, error)),
         }
+        number += 1;
+        rest = left;
     }
     let fault = ScriptFault {
         line: 0,
@@ -183,8 +207,5 @@ pub fn read_script(alloc: Global, bytes: &[u8]) -> Result<Script, ScriptError>
         };
         return Err(ScriptError::Fault(fault));
     }
-    let Ok(lines) = lines(alloc, bytes) else {
-        return Err(ScriptError::OutOfMemory);
-    };
-    from_lines(alloc, &lines)
+    from_text(alloc, bytes)
 }

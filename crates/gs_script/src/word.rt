@@ -66,11 +66,11 @@ pub(crate) fn number(word: &str, least: u64, most: u64) -> Result<u64, Reason>
 }
 
 /// A thread's name, of which `-` is the empty one.
-pub(crate) fn name(word: &str) -> Result<Name, Reason>
+pub(crate) fn name(word: &[u8]) -> Result<Name, Reason>
     ensures { result ≡ name_in word.now }
 {
-    let text = if word == "-" { "" } else { word };
-    match Name::new(text.as_bytes()) {
+    let text = if word == b"-".as_slice() { &[] } else { word };
+    match Name::new(text) {
         Some(name) => Ok(name),
         None => Err(Reason::BadName),
     }

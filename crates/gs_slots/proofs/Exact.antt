@@ -1,12 +1,10 @@
 -- Bytes are read as a state of a slot exactly where they are its spelling.
-use Rattle.std.proofs.Common.{◌≡◌, Bool, true, false, cond, ℕ, zero, suc, ◌+◌, ◌^◌, ◌<◌, ◌≤◌, ◌⊎◌, inl, inr, Option, None, Some, Ok, Err, IfOk, List, [], ◌∷◌, ◌++◌, length, drop, replicate, refl, ap, sym, subst, ◌∙◌, arith}
-use Rattle.std.specs.Prelude.{◌==◌, ◌&&◌, nat_eq, nat_lt, if◌then◌else◌, slice_index, unwrap_or}
-use Rattle.std.specs.Bool.{Decides}
-use Rattle.std.specs.Cmp.Lexicographic.{pointwise, bytes_decides}
+use Rattle.std.proofs.Common.{◌≡◌, Bool, true, false, ℕ, zero, suc, ◌+◌, ◌^◌, ◌<◌, ◌≤◌, inl, inr, Option, None, Some, Ok, Err, IfOk, List, [], ◌∷◌, ◌++◌, length, drop, replicate, refl, ap, sym, subst, ◌∙◌, arith}
+use Rattle.std.specs.Prelude.{◌==◌, ◌&&◌, nat_lt, if◌then◌else◌, slice_index, unwrap_or}
+use Rattle.std.specs.Cmp.Lexicographic.{bytes_decides}
 use Rattle.std.proofs.Math.Seq.{drop-cons}
-use Rattle.std.proofs.lemmas.Bool.{and_from, and_parts, cases_Bool, cond-false, cond-true, eq-eqb, eqb-true, false_from_ne_true, lt-ltb, ltb-true}
-use Rattle.std.proofs.lemmas.Bool.Decides.{nat_tests}
-use Rattle.std.proofs.lemmas.List.{drop-drop, length-drop, drop_all}
+use Rattle.std.proofs.lemmas.Bool.{and_parts, cases_Bool, cond-false, cond-true, eq-eqb, eqb-true, false_from_ne_true, lt-ltb, ltb-true}
+use Rattle.std.proofs.lemmas.List.{drop_all}
 use Rattle.byteorder.specs.Endian.{little_bytes, little_number}
 use Rattle.byteorder.specs.Numbers.{little_from-bytes}
 use Rattle.gs_layout.specs.declared.outcome.Outcome.{Outcome}
@@ -14,7 +12,7 @@ use Rattle.gs_layout.specs.declared.outcome.Outcome.TheVariants as outcomes
 use Rattle.gs_layout.specs.Outcome.{outcome_number, outcome_numbered}
 use Rattle.gs_layout.specs.Reading.{cpu_numbered, number_at}
 use Rattle.gs_layout.specs.Spelling.{IsCpuOrNone, cpu_number}
-use Rattle.gs_layout.proofs.Laws.{IsBytes, IsBytes-drop, back_2, back_4, back_8}
+use Rattle.gs_layout.proofs.Laws.{IsBytes, at_2, at_4, at_8, cpu_again, flag_again}
 use Rattle.gs_slots.specs.declared.state.SlotState.{SlotState}
 use Rattle.gs_slots.specs.declared.state.SlotState.TheVariants.{Idle, Stamped, Done}
 use Rattle.gs_slots.specs.declared.state.Stamp.{Stamp}
@@ -26,33 +24,9 @@ use Rattle.gs_slots.proofs.ReadBack.{read_back, reads}
 
 -- ---- numbers in a place
 
-at_2 : (p : ℕ) (xs : List ℕ) → p + 2 ≤ length xs → IsBytes xs → little_bytes 2 (number_at p 2 xs) ++ drop (p + 2) xs ≡ drop p xs
-at_2 p xs long fits =
-    ap (λ (ys : List ℕ). little_bytes 2 (number_at p 2 xs) ++ ys) (sym (drop-drop 2 p xs)) ∙ back_2 (drop p xs) (omega (arith, length-drop p xs)) (IsBytes-drop p xs fits)
-
-at_4 : (p : ℕ) (xs : List ℕ) → p + 4 ≤ length xs → IsBytes xs → little_bytes 4 (number_at p 4 xs) ++ drop (p + 4) xs ≡ drop p xs
-at_4 p xs long fits =
-    ap (λ (ys : List ℕ). little_bytes 4 (number_at p 4 xs) ++ ys) (sym (drop-drop 4 p xs)) ∙ back_4 (drop p xs) (omega (arith, length-drop p xs)) (IsBytes-drop p xs fits)
-
-at_8 : (p : ℕ) (xs : List ℕ) → p + 8 ≤ length xs → IsBytes xs → little_bytes 8 (number_at p 8 xs) ++ drop (p + 8) xs ≡ drop p xs
-at_8 p xs long fits =
-    ap (λ (ys : List ℕ). little_bytes 8 (number_at p 8 xs) ++ ys) (sym (drop-drop 8 p xs)) ∙ back_8 (drop p xs) (omega (arith, length-drop p xs)) (IsBytes-drop p xs fits)
-
 -- eight zeros, where the number there is zero
 zeros_at : (p : ℕ) (xs : List ℕ) → p + 8 ≤ length xs → IsBytes xs → is_zero_at p xs ≡ true → replicate 8 0 ++ drop (p + 8) xs ≡ drop p xs
 zeros_at p xs long fits e = ap (λ (n : ℕ). little_bytes 8 n ++ drop (p + 8) xs) (sym (eqb-true (number_at p 8 xs) 0 e)) ∙ at_8 p xs long fits
-
-flag_again : (f : ℕ) → f < 2 → (if f == 1 then 1 else 0) ≡ f
-flag_again f lt = elim (cases_Bool (f == 1)) [
-  | inl same ↦ cond-true (f == 1) 1 0 same ∙ sym (eqb-true f 1 same)
-  | inr other ↦ cond-false (f == 1) 1 0 other ∙ grind (arith, nat_tests)
-]
-
-cpu_again : (n : ℕ) → cpu_number (cpu_numbered n) ≡ n
-cpu_again n = elim (cases_Bool (n == 65535)) [
-  | inl same ↦ ap cpu_number (cond-true (n == 65535) None (Some n) same) ∙ sym (eqb-true n 65535 same)
-  | inr other ↦ ap cpu_number (cond-false (n == 65535) None (Some n) other)
-]
 
 outcome_again : (n : ℕ) → n < 14 → outcome_number (unwrap_or (outcome_numbered n) outcomes.Malformed) ≡ n
 outcome_again zero lt = refl

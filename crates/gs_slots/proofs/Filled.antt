@@ -1,8 +1,8 @@
 -- Transactions that are stamped into both parts of slots are stamped into all.
-use Rattle.std.proofs.Common.{◌≡◌, ◌≢◌, Bool, true, false, cond, ℕ, zero, suc, ◌+◌, ◌-◌, ◌<◌, ◌≤◌, inl, inr, ◌↔◌, Option, None, Some, Result, Ok, Err, IsOk, OnOk, OnErr, List, [], ◌∷◌, ◌++◌, length, take, drop, get_or, slice_set, refl, ap, sym, subst, ◌∙◌, arith}
+use Rattle.std.proofs.Common.{◌≡◌, ◌≢◌, Bool, true, false, cond, ℕ, suc, ◌+◌, ◌-◌, ◌<◌, ◌≤◌, ◌↔◌, Option, None, Some, Result, Ok, Err, IsOk, OnOk, OnErr, List, [], ◌∷◌, ◌++◌, length, take, drop, get_or, slice_set, refl, ap, sym, subst, ◌∙◌, arith}
 use Rattle.std.specs.Prelude.{nat_lt}
 use Rattle.std.specs.Option.{option_or}
-use Rattle.std.proofs.lemmas.Bool.{cases_Bool, cond-false, cond-true, lt-ltb, ltb-true, ltb-false}
+use Rattle.std.proofs.lemmas.Bool.{ltb-true, ltb-false}
 use Rattle.std.proofs.lemmas.List.{get_or-append_right, get_or_append_left, get_or-set_other, append-nil, drop_all, length-append, length-drop, length-set, set-append_left, set-append_right, take-append-drop, take_all}
 use Rattle.std.specs.Bool.{then_some}
 use Rattle.std.specs.Result.{is_err}

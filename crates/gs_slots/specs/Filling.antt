@@ -1,5 +1,5 @@
 -- Several slots are stamped, in order.
-use Rattle.std.specs.Prelude.{ℕ, suc, ◌+◌, ◌-◌, ◌<◌, ◌≤◌, nat_lt, Option, None, Some, Result, Ok, Err, List, [], ◌∷◌, slice_index_or, slice_set, if◌then◌else◌}
+use Rattle.std.specs.Prelude.{ℕ, suc, ◌-◌, ◌<◌, ◌≤◌, nat_lt, Option, None, Some, Result, Ok, Err, List, [], ◌∷◌, slice_index_or, slice_set, if◌then◌else◌}
 use Rattle.std.specs.Option.{option_or}
 use Rattle.gs_slots.specs.declared.fill.Fill.{Fill}
 use Rattle.gs_slots.specs.declared.fill.FillFault.{FillFault}

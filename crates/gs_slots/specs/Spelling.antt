@@ -1,5 +1,5 @@
 -- The bytes of a slot. All numbers are little-endian, and every byte that no field names is zero.
-use Rattle.std.specs.Prelude.{◌≡◌, Bool, true, false, not, ◌&&◌, ◌==◌, ℕ, ◌^◌, ◌<◌, nat_lt, Option, None, Some, is_none, List, [], ◌∷◌, ◌++◌, replicate, take, drop, slice_set, if◌then◌else◌}
+use Rattle.std.specs.Prelude.{◌≡◌, Bool, true, not, ◌&&◌, ◌==◌, ℕ, ◌^◌, ◌<◌, nat_lt, Option, None, Some, is_none, List, [], ◌∷◌, ◌++◌, replicate, take, drop, slice_set, if◌then◌else◌}
 use Rattle.byteorder.specs.Endian.{little_bytes}
 use Rattle.gs_status.specs.declared.mask.TheConstants.{MOST_CPUS}
 use Rattle.gs_layout.specs.declared.outcome.Outcome.{Outcome}
@@ -8,7 +8,7 @@ use Rattle.gs_layout.specs.Spelling.{cpu_number}
 use Rattle.gs_slots.specs.declared.state.SlotState.{SlotState}
 use Rattle.gs_slots.specs.declared.state.SlotState.TheVariants.{Idle, Stamped, Done}
 use Rattle.gs_slots.specs.declared.state.Stamp.{Stamp}
-use Rattle.gs_slots.specs.State.{is_malformed, refused}
+use Rattle.gs_slots.specs.State.{is_malformed}
 
 -- bit 0: whether a thread on the CPU is to give way
 abbrev pub flags_of : Stamp → ℕ

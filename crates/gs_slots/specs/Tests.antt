@@ -1,5 +1,5 @@
 -- How bytes are tested for a slot, field by field.
-use Rattle.std.specs.Prelude.{Bool, false, ◌&&◌, ◌==◌, nat_lt, ℕ, List, slice_index, if◌then◌else◌}
+use Rattle.std.specs.Prelude.{Bool, ◌&&◌, ◌==◌, nat_lt, ℕ, List, slice_index, if◌then◌else◌}
 use Rattle.gs_layout.specs.Reading.{number_at}
 
 -- whether the 8 bytes from a place on are zero

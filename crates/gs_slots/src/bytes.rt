@@ -1,6 +1,6 @@
 //! A slot as 32 bytes.
 
-ghost use Rattle.std.specs.Prelude.{◌≡◌, ◌+◌, ◌≤◌, ◌++◌, length, drop, true, false, Ok};
+ghost use Rattle.std.specs.Prelude.{◌≡◌, ◌==◌, ◌+◌, ◌≤◌, ◌++◌, length, slice_index, drop, true, false, Ok};
 ghost use Rattle.gs_layout.specs.Spelling.{IsCpuOrNone};
 ghost use Rattle.gs_slots.specs.declared.state.SlotState.{SlotState};
 ghost use Rattle.gs_slots.specs.declared.state.Stamp.{Stamp};
@@ -64,6 +64,14 @@ fn fields_at(bytes: &[u8]) -> SlotState
         },
         _ => SlotState::Idle,
     }
+}
+
+/// Whether the first byte is that of a done slot, whatever the others are.
+pub(crate) fn begins_as_done(bytes: &[u8]) -> bool
+    requires { length bytes.now ≡ 32 }
+    ensures { result ≡ (slice_index bytes.now 0 == 2) }
+{
+    bytes[0] == DONE
 }
 
 /// Whether the eight bytes from a place on are zero.

@@ -9,7 +9,7 @@ ghost use Rattle.gs_slots.specs.Spelling.{idle_bytes, slot_spelling};
 ghost use Rattle.gs_slots.specs.State.{has_stamp, is_malformed, refused, told_in};
 ghost use Rattle.gs_slots.specs.SlotMut.{bytes_of, cpu_of, left_in, reference_of, state_of};
 
-use crate::bytes::{SIZE, finish, state_at, write_stamped};
+use crate::bytes::{SIZE, begins_as_done, finish, state_at, write_stamped};
 use crate::state::{Malformed, SlotBusy, SlotState, Stamp};
 use gs_layout::Outcome;
 
@@ -59,10 +59,14 @@ impl<'a> SlotMut<'a> {
         state_at(self.cpu, self.bytes)
     }
 
-    /// What became of the transaction, where it landed.
+    /// What became of the transaction, where it landed. Of most other slots one byte says that none did.
+    #[tactic(auto, using(crate::proofs::States::untold))]
     pub fn outcome(&self) -> Option<Outcome>
         ensures { result ≡ told_in (state_of self.now) }
     {
+        if !begins_as_done(self.bytes) {
+            return None;
+        }
         match self.state() {
             Ok(SlotState::Done { outcome, .. }) => Some(outcome),
             _ => None,

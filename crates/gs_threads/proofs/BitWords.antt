@@ -47,7 +47,7 @@ pub same_words : (words words' : List ℕ) (n : ℕ) → ((w : ℕ) → get_or w
 unfolding is_in
 same_words words words' n same = ap (λ v. has v (n % 64)) (same (n / 64))
 
-is_zero : (m : ℕ) → has_none m ≡ true → m ≡ 0
+pub is_zero : (m : ℕ) → has_none m ≡ true → m ≡ 0
 is_zero m none = grind (arith, nat_tests)
 
 -- of an empty word no number is in
@@ -93,7 +93,7 @@ left_within words n c fits there = by_place (cases_lt (n % 64 + c) 64)
         absurd cc
 
 -- below the least number that passes none does
-least_before : (test : ℕ → Bool) (n c : ℕ) → least test n ≡ Some c → (k : ℕ) → k < c → test k ≡ false
+pub least_before : (test : ℕ → Bool) (n c : ℕ) → least test n ≡ Some c → (k : ℕ) → k < c → test k ≡ false
 unfolding least
 least_before test zero c found k lt = absurd cc
 least_before test (suc n) c found k lt = by_place (least_before test n c) (least test n) refl (test n) refl found

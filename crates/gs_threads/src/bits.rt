@@ -76,6 +76,15 @@ impl Bits {
         };
     }
 
+    /// Whether a number is in the set. There has to be room for it.
+    #[tactic(auto, unfolding(crate::specs::Bits::is_in))]
+    pub fn has(&self, number: usize) -> bool
+        requires { number / WORD < length self.now }
+        ensures { result ≡ is_in self.now number }
+    {
+        self.words[number / WORD].has((number % WORD) as u16)
+    }
+
     /// Whether a number of this word is in the set.
     pub fn has_some(&self, word: usize) -> bool
         requires { word < length self.now }

@@ -68,6 +68,9 @@ impl LiveSet {
         ensures others { (t : ℕ) → t ≢ tid → is_in self.new t ≡ is_in self.old t }
         ensures room { length self.new ≡ length self.old }
     {
+        if self.tids.has(tid) == lives {
+            return;
+        }
         let word = tid / WORD;
         self.tids.set(tid, lives);
         self.words.set(word, self.tids.has_some(word));

@@ -1,7 +1,8 @@
 ghost use Rattle.std.specs.Prelude.{◌≡◌, ◌<◌};
+ghost use Rattle.gs_layout.specs.Record.{after};
 ghost use Rattle.gs_threads.specs.Rows.{is_live, new_row, row_after};
 
-use gs_layout::{Facts, Message, Record};
+use gs_layout::{Change, Facts, Message, Record};
 
 /// What the kernel has of one thread.
 #[derive(Clone, Copy)]
@@ -28,21 +29,18 @@ impl ThreadRow {
         }
     }
 
-    /// The row after a message about the thread. A timer tick leaves it.
-    pub fn after(&self, message: &Message) -> ThreadRow
-        ensures { result ≡ row_after self.now message.now }
+    /// Takes in a message about the thread. A timer tick leaves the row.
+    #[inline(always)]
+    pub fn take_in(&mut self, message: &Message)
+        ensures { self.new ≡ row_after self.old message.now }
     {
-        match message {
-            Message::Thread { tseq, change, .. } => ThreadRow {
-                record: self.record.after(message),
-                tseq: *tseq,
-                cpu: if change.takes_off_cpu() {
-                    None
-                } else {
-                    self.cpu
-                },
-            },
-            Message::TimerTick { .. } => *self,
+        let Message::Thread { tseq, change, .. } = message else {
+            return;
+        };
+        follow(&mut self.record, message);
+        self.tseq = *tseq;
+        if change.takes_off_cpu() {
+            self.cpu = None;
         }
     }
 
@@ -51,5 +49,21 @@ impl ThreadRow {
         ensures { result ≡ is_live self.now.record }
     {
         matches!(self.record, Record::Live { .. })
+    }
+}
+
+/// Makes of a thread's record what a message about the thread makes of it. The facts of a thread that lives on
+/// change where they stand.
+#[inline(always)]
+fn follow(found: &mut Record, message: &Message)
+    ensures { found.new ≡ after found.old message.now }
+{
+    if let Record::Live { facts } = found
+        && let Message::Thread { change, .. } = message
+        && !matches!(change, Change::Dead { .. })
+    {
+        facts.change(change);
+    } else {
+        *found = found.after(message);
     }
 }

@@ -126,7 +126,7 @@ impl ThreadTable {
         };
         if self.has(*tid) {
             let row = &mut self.rows[*tid as usize - 1];
-            *row = row.after(message);
+            row.take_in(message);
             self.live.set(*tid as usize, row.is_live());
         }
     }

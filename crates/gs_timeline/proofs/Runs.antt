@@ -1,10 +1,7 @@
 -- The longest runs, one entry more.
-use Rattle.std.proofs.Common.{◌≡◌, refl, ap, ap₂, sym, ◌∙◌, subst, ℕ, zero, suc, ◌+◌, ◌-◌, ◌<◌, ◌==◌, ◌&&◌, Bool, true, false, cond, Option, None, Some, List, [], ◌∷◌, ◌++◌, length, length-append, append_assoc, get_or, take, add-one, zero-add, arith}
+use Rattle.std.proofs.Common.{◌≡◌, refl, ap, sym, ◌∙◌, subst, ℕ, zero, suc, ◌+◌, ◌==◌, ◌&&◌, Bool, true, false, cond, Option, None, Some, List, [], ◌∷◌, ◌++◌, length, length-append, append_assoc, take, add-one, zero-add, arith}
 use Rattle.std.proofs.lemmas.Bool.{and_parts, eqb-true}
-use Rattle.gs_journal.specs.declared.entry.Entry.{Entry}
-use Rattle.gs_journal.specs.History.{History, on, placed_on, ends_run}
-use Rattle.gs_journal.specs.Standing.{then_stands}
-use Rattle.gs_journal.proofs.Laws.{on_more}
+use Rattle.gs_journal.specs.History.{History, on}
 use Rattle.gs_timeline.specs.declared.stay.Stay.{Stay}
 use Rattle.gs_timeline.specs.Stays.{stay, goes_on, joined, grown, then_stay, seats, runs}
 
@@ -78,15 +75,8 @@ pub stays_none : (h : History) (c : ℕ) → first_stays h c 0 ≡ []
 unfolding seats runs
 stays_none h c = refl
 
-stays_at : (h : History) (c n m : ℕ) → m ≡ suc n → first_stays h c m ≡ then_stay c n (on (take m h) c) (first_stays h c n)
+pub stays_at : (h : History) (c n m : ℕ) → m ≡ suc n → first_stays h c m ≡ then_stay c n (on (take m h) c) (first_stays h c n)
 stays_at h c n m e = subst (λ k. first_stays h c k ≡ then_stay c n (on (take k h) c) (first_stays h c n)) (sym e) (stays_more h c n)
-
--- who is on the CPU, and its stays, after one entry more
-pub walked : (h : History) (c i : ℕ) (x : Entry) (o p : Option ℕ) (ss rs : List Stay) → i < length h → x ≡ get_or h i x → o ≡ on (take i h) c → ss ≡ first_stays h c i
-    → p ≡ then_stands (placed_on c x) ends_run x o → rs ≡ then_stay c i p ss → (p ≡ on (take (i + 1) h) c) × (rs ≡ first_stays h c (i + 1))
-walked h c i x o p ss rs lt is there so_far then stayed =
-    let next : p ≡ on (take (i + 1) h) c = then ∙ (ap₂ (λ y q. then_stands (placed_on c y) ends_run y q) is there ∙ sym (on_more h i c x lt)) in
-    (next, stayed ∙ (ap₂ (then_stay c i) next so_far ∙ sym (stays_at h c i (i + 1) (add-one i))))
 
 -- the last stay goes on or not, and then stands in front of the new one
 grown_push : (c t n : ℕ) (xs : List Stay) (s : Stay) → grown c t n (xs ++ s ∷ []) ≡ xs ++ joined s (stay c t n (n + 1) ∷ [])

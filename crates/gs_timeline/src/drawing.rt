@@ -4,22 +4,15 @@ use crate::layout::{BAR, LINE, TOP, foot_of, row_of};
 use crate::lives::{Life, count_stays, life_of, lives};
 use crate::marks::{write_axis, write_hold, write_marks, write_reign};
 use crate::part::{LEFT, Part};
-use crate::spans::{holds, reigns};
+use crate::spans::{Hold, holds, reigns};
 use crate::stay::Stay;
 use crate::walk::stays;
 use gs_journal::Entry;
 use std::alloc::{AllocError, Global};
 use std::fmt::Write;
 
-/// Adds the row of a CPU: its name, the other class, and the stays of threads on it.
-fn write_cpu(
-    out: &mut String,
-    alloc: Global,
-    part: &Part,
-    entries: &[Entry],
-    lives: &[Life],
-    cpu: u16,
-) -> Result<Vec<Stay>, AllocError> {
+/// Adds the row of a CPU: its name, and when the other class held it.
+fn write_row(out: &mut String, part: &Part, cpu: u16, holds: &[Hold]) -> Result<(), AllocError> {
     let y = row_of(cpu);
     let base = y.saturating_add(17);
     let width = part.width(part.first(), part.behind());
@@ -28,15 +21,47 @@ fn write_cpu(
         out,
         "<rect x=\"{LEFT}\" y=\"{y}\" width=\"{width}\" height=\"{BAR}\" fill=\"#f1f5f9\"/>\n"
     )?;
-    for hold in &holds(alloc, entries, cpu)? {
+    for hold in holds {
         write_hold(out, part, hold)?;
     }
-    let found = stays(alloc, entries, cpu)?;
-    for stay in &found {
+    Ok(())
+}
+
+/// Adds the bars of the threads on a CPU.
+fn write_stays(
+    out: &mut String,
+    part: &Part,
+    entries: &[Entry],
+    lives: &[Life],
+    stays: &[Stay],
+) -> Result<(), AllocError> {
+    for stay in stays {
         let life = life_of(lives, stay.tid);
         write_stay(out, part, stay, life, reason_of(entries.get(stay.to)))?;
     }
-    Ok(found)
+    Ok(())
+}
+
+/// Adds the rows of the CPUs, and counts how long each thread was on one.
+fn write_rows(
+    out: &mut String,
+    alloc: Global,
+    part: &Part,
+    entries: &[Entry],
+    lives: &mut [Life],
+    cpus: u16,
+) -> Result<(), AllocError> {
+    let lanes = stays(alloc, entries, cpus)?;
+    let held = holds(alloc, entries, cpus)?;
+    for cpu in 0..cpus {
+        let (Some(lane), Some(held)) = (lanes.get(cpu as usize), held.get(cpu as usize)) else {
+            break;
+        };
+        write_row(out, part, cpu, held.ended())?;
+        write_stays(out, part, entries, lives, lane.stays())?;
+        count_stays(lives, part, lane.stays());
+    }
+    Ok(())
 }
 
 /// Adds the begin of the picture: its size, its heading and what its bars are filled with.
@@ -94,10 +119,7 @@ pub fn picture(
     write_axis(&mut out, &part, cpus)?;
     let base = TOP + 17;
     write!(out, "<text x=\"10\" y=\"{base}\">agent</text>\n")?;
-    for cpu in 0..cpus {
-        let found = write_cpu(&mut out, alloc, &part, entries, &lives, cpu)?;
-        count_stays(&mut lives, &part, &found);
-    }
+    write_rows(&mut out, alloc, &part, entries, &mut lives, cpus)?;
     for reign in &reigns(alloc, entries)? {
         write_reign(&mut out, &part, cpus, reign)?;
     }

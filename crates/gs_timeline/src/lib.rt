@@ -4,6 +4,7 @@
 mod bars;
 mod drawing;
 mod foot;
+mod lane;
 mod layout;
 mod lives;
 mod marks;
@@ -15,6 +16,7 @@ mod threads;
 mod walk;
 
 pub use drawing::picture;
+pub use lane::Lane;
 pub use part::MOST_SHOWN;
 pub use stay::Stay;
 pub use walk::stays;

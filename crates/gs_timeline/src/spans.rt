@@ -49,31 +49,71 @@ pub(crate) fn reigns(alloc: Global, entries: &[Entry]) -> Result<Vec<Reign>, All
     Ok(reigns)
 }
 
-/// When the other class held a CPU, in order.
-pub(crate) fn holds(alloc: Global, entries: &[Entry], cpu: u16) -> Result<Vec<Hold>, AllocError> {
-    let mut holds = Vec::new(alloc);
-    let mut since = None;
+/// When the other class held a CPU so far.
+#[derive(Drop)]
+pub(crate) struct HeldTimes {
+    ended: Vec<Hold>,
+    /// Since which entry it holds the CPU, if it does.
+    since: Option<usize>,
+}
+
+impl HeldTimes {
+    /// The times that ended, in order.
+    pub(crate) fn ended(&self) -> &[Hold] {
+        self.ended.as_slice()
+    }
+
+    /// The other class gives the CPU back by the entry of this place, if it holds it.
+    fn end(&mut self, cpu: u16, place: usize) -> Result<(), AllocError> {
+        if let Some(from) = self.since.take() {
+            self.ended.push(Hold {
+                cpu,
+                from,
+                to: place,
+            })?;
+        }
+        Ok(())
+    }
+}
+
+/// So many CPUs that the other class never held.
+fn never_held(alloc: Global, cpus: u16) -> Result<Vec<HeldTimes>, AllocError> {
+    let mut all = Vec::with_capacity(alloc, cpus as usize)?;
+    for _ in 0..cpus {
+        all.push(HeldTimes {
+            ended: Vec::new(alloc),
+            since: None,
+        })?;
+    }
+    Ok(all)
+}
+
+/// When the other class held each of so many CPUs. It walks the entries once.
+pub(crate) fn holds(
+    alloc: Global,
+    entries: &[Entry],
+    cpus: u16,
+) -> Result<Vec<HeldTimes>, AllocError> {
+    let mut all = never_held(alloc, cpus)?;
     for (place, entry) in entries.iter().enumerate() {
         match entry {
-            Entry::Taken { cpu: taken } if *taken == cpu => since = Some(place),
-            Entry::Given { cpu: given } if *given == cpu => {
-                if let Some(from) = since.take() {
-                    holds.push(Hold {
-                        cpu,
-                        from,
-                        to: place,
-                    })?;
+            Entry::Taken { cpu } => {
+                if let Some(held) = all.get_mut(*cpu as usize) {
+                    held.since = Some(place);
+                }
+            }
+            Entry::Given { cpu } => {
+                if let Some(held) = all.get_mut(*cpu as usize) {
+                    held.end(*cpu, place)?;
                 }
             }
             _ => {}
         }
     }
-    if let Some(from) = since {
-        holds.push(Hold {
-            cpu,
-            from,
-            to: entries.len(),
-        })?;
+    for cpu in 0..cpus {
+        if let Some(held) = all.get_mut(cpu as usize) {
+            held.end(cpu, entries.len())?;
+        }
     }
-    Ok(holds)
+    Ok(all)
 }

@@ -1,95 +1,101 @@
-ghost use Rattle.std.specs.Prelude.{◌≡◌, ◌<◌, ◌^◌, IfOk, OnOk};
-ghost use Rattle.gs_layout.specs.Message.{takes_off};
-ghost use Rattle.gs_journal.specs.History.{ends_run, placed_on};
-ghost use Rattle.gs_journal.specs.Standing.{then_stands};
-ghost use Rattle.gs_timeline.specs.Stays.{grown, stays, then_stay};
+ghost use Rattle.std.specs.Prelude.{◌≡◌, ◌+◌, ◌<◌, ◌≤◌, ℕ, Some, IfOk, OnOk, length, replicate, slice_get};
+ghost use Rattle.std.specs.Option.{option_map};
+ghost use Rattle.gs_timeline.specs.Lanes.{LaneOf, each_then, empties, lane_then, left, placing_cpu, vacant};
+ghost use Rattle.gs_timeline.specs.Stays.{stays};
 
-use crate::stay::Stay;
+use crate::lane::Lane;
 use gs_journal::Entry;
 use gs_layout::Message;
 use std::alloc::{AllocError, Global};
 
-/// Whether a message takes a thread off its CPU.
-fn takes_off(tid: u32, message: &Message) -> bool
-    ensures { result ≡ takes_off tid message.now }
+/// What an entry makes of each CPU from one on.
+fn hear_each(lanes: &mut [Lane], cpu: u16, place: usize, entry: &Entry) -> Result<(), AllocError>
+    requires { cpu + length lanes.old ≤ u16.MAX }
+    ensures { OnOk result (lanes.new ≡ each_then (lane_then place entry.now) cpu lanes.old) }
 {
-    match message {
-        Message::Thread {
-            tid: other,
-            change,
-            ..
-        } => change.takes_off_cpu() && *other == tid,
-        Message::TimerTick { .. } => false,
-    }
-}
-
-/// Who is on a CPU after one more entry.
-fn thread_then(cpu: u16, before: Option<u32>, entry: &Entry) -> Option<u32>
-    ensures { result ≡ then_stands (placed_on cpu entry.now) ends_run entry.now before }
-{
-    match entry {
-        Entry::Placed {
-            tid,
-            cpu: other,
-            ..
-        } if *other == cpu => Some(*tid),
-        Entry::Posted { message } => before.filter(|tid| !takes_off(*tid, message)),
-        Entry::Torn => None,
-        _ => before,
-    }
-}
-
-/// Notes that a thread is on the CPU behind the entry of this place: its stay goes on, or one begins. After an error a stay may be missing.
-fn note(out: &mut Vec<Stay>, cpu: u16, tid: u32, place: usize) -> Result<(), AllocError>
-    requires { place < 2 ^ 63 }
-    ensures { OnOk result (out.new.items ≡ grown cpu tid place out.old.items) }
-{
-    let new = Stay {
-        cpu,
-        tid,
-        from: place,
-        to: place + 1,
-    };
-    let Some(last) = out.pop() else {
-        out.push(new)?;
-        return Ok(());
-    };
-    if last.goes_on(tid, place) {
-        out.push(Stay { to: new.to, ..last })?;
-    } else {
-        out.push(last)?;
-        out.push(new)?;
+    if let Some((first, others)) = lanes.split_first_mut() {
+        first.hear(cpu, place, entry)?;
+        hear_each(others, cpu + 1, place, entry)?;
     }
     Ok(())
 }
 
-/// Notes who is on the CPU behind the entry of this place, if somebody is.
-fn note_seat(
-    out: &mut Vec<Stay>,
-    cpu: u16,
-    there: Option<u32>,
-    place: usize,
-) -> Result<(), AllocError>
-    requires { place < 2 ^ 63 }
-    ensures { OnOk result (out.new.items ≡ then_stay cpu place there out.old.items) }
+/// Whoever is on a CPU, from one on, leaves by the entry of this place.
+fn end_each(lanes: &mut [Lane], cpu: u16, place: usize) -> Result<(), AllocError>
+    requires { cpu + length lanes.old ≤ u16.MAX }
+    ensures { OnOk result (lanes.new ≡ each_then (λ c. left c place) cpu lanes.old) }
 {
-    match there {
-        Some(tid) => note(out, cpu, tid, place),
-        None => Ok(()),
+    if let Some((first, others)) = lanes.split_first_mut() {
+        first.end(cpu, place)?;
+        end_each(others, cpu + 1, place)?;
+    }
+    Ok(())
+}
+
+/// Whether an entry takes a thread off its CPU, or all.
+fn empties_a_seat(entry: &Entry) -> bool
+    ensures { result ≡ empties entry.now }
+{
+    match entry {
+        Entry::Posted {
+            message: Message::Thread { change, .. },
+        } => change.takes_off_cpu(),
+        _ => matches!(entry, Entry::Torn),
     }
 }
 
-/// The stays on a CPU, in order: each is as long as can be, of one thread. A thread that is there still stays to the last entry.
-///
-/// It walks the entries once. It fails only for want of memory.
-pub fn stays(alloc: Global, entries: &[Entry], cpu: u16) -> Result<Vec<Stay>, AllocError>
-    ensures { IfOk result (λ found. found.items ≡ stays entries.now cpu) }
+/// The CPU that an entry places a thread on, if it places one.
+fn placing_cpu(entry: &Entry) -> Option<u16>
+    ensures { result ≡ placing_cpu entry.now }
 {
-    let mut found = Vec::new(alloc);
-    let mut there = None;
-    for (place, entry) in entries.iter().enumerate() {
-        there = thread_then(cpu, there, entry);
-        note_seat(&mut found, cpu, there, place)?;
+    match entry {
+        Entry::Placed { cpu, .. } => Some(*cpu),
+        _ => None,
     }
-    Ok(found)
+}
+
+/// What an entry makes of the CPUs. Only those are looked at which it may change.
+fn hear(lanes: &mut [Lane], place: usize, entry: &Entry) -> Result<(), AllocError>
+    requires { length lanes.old ≤ u16.MAX }
+    ensures { OnOk result (lanes.new ≡ each_then (lane_then place entry.now) 0 lanes.old) }
+{
+    if empties_a_seat(entry) {
+        return hear_each(lanes, 0, place, entry);
+    }
+    let Some(cpu) = placing_cpu(entry) else {
+        return Ok(());
+    };
+    if cpu as usize >= lanes.len() {
+        return Ok(());
+    }
+    lanes[cpu as usize].hear(cpu, place, entry)
+}
+
+/// So many CPUs on which nobody was yet.
+fn vacant_lanes(alloc: Global, cpus: u16) -> Result<Vec<Lane>, AllocError>
+    ensures { IfOk result (λ lanes. lanes.items ≡ replicate cpus vacant) }
+{
+    let mut lanes = Vec::with_capacity(alloc, cpus as usize)?;
+    for _ in 0..cpus {
+        lanes.push(Lane::new(alloc))?;
+    }
+    Ok(lanes)
+}
+
+/// The stays on each of so many CPUs, in order: each is as long as can be, of one thread. A
+/// thread that is there still stays to the last entry.
+///
+/// It walks the entries once, and looks at a CPU only where an entry may change who is on it. It fails only for want of
+/// memory.
+pub fn stays(alloc: Global, entries: &[Entry], cpus: u16) -> Result<Vec<Lane>, AllocError>
+    ensures count { IfOk result (λ lanes. length lanes.items ≡ cpus) }
+    ensures stays { IfOk result (λ lanes. (c : ℕ) → c < cpus → option_map (λ (lane : LaneOf). lane.ended) (slice_get lanes.items c) ≡ Some (stays entries.now c)) }
+{
+    let mut lanes = vacant_lanes(alloc, cpus)?;
+    for (place, entry) in entries.iter().enumerate() {
+        hear(lanes.as_mut_slice(), place, entry)?;
+    }
+    let end = entries.len();
+    end_each(lanes.as_mut_slice(), 0, end)?;
+    Ok(lanes)
 }

@@ -1,5 +1,6 @@
-pub mod Known
-pub mod Lists
+mod Known
+mod Lists
 mod One
-pub mod WorkedRuns
-pub mod Corners
+mod Taking
+mod WorkedRuns
+mod Corners

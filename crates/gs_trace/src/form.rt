@@ -1,13 +1,15 @@
-ghost use Rattle.std.specs.Prelude.{◌≡◌, IfOk, string_bytes};
-ghost use Rattle.gs_report.specs.Report.{report_of};
-ghost use Rattle.gs_trace.specs.Output.{history_shown, shown_as};
+ghost use Rattle.std.specs.Prelude.{◌≡◌, IfOk, map};
+ghost use Rattle.gs_core.specs.Machine.{planned, planning};
+ghost use Rattle.gs_trace.specs.Output.{any_plans, history_shown, shown_as};
+ghost use Rattle.gs_trace.specs.Taking.{ShowsRun};
 
-use gs_core::{Machine, Reply};
+use crate::running::{Nothing, run_into};
+use gs_core::{Event, Machine};
 use gs_history::{journal_text, json_text};
 use gs_journal::Entry;
-use gs_lines::text_of;
+use gs_lines::Text;
 use gs_policy::AnyPolicy;
-use gs_report::report_text;
+use gs_report::Report;
 use gs_timeline::picture;
 use std::alloc::{AllocError, Global};
 
@@ -43,39 +45,84 @@ pub enum Form {
 }
 
 /// The journal in this notation.
-fn show_journal(alloc: Global, notation: Notation, entries: &[Entry]) -> Result<String, AllocError>
-    ensures { IfOk result (λ text. string_bytes text ≡ history_shown notation entries.now) }
+fn show_journal(alloc: Global, notation: Notation, entries: &[Entry]) -> Result<Vec<u8>, AllocError>
+    ensures { IfOk result (λ bytes. bytes.items ≡ history_shown notation entries.now) }
 {
     match notation {
-        Notation::Lines => journal_text(alloc, entries),
+        Notation::Lines => Ok(journal_text(alloc, entries)?.into_bytes()),
         Notation::Json => json_text(alloc, entries),
     }
 }
 
-/// A report of replies.
-fn show_report(alloc: Global, replies: &[Reply], last: usize) -> Result<String, AllocError>
-    ensures { IfOk result (λ text. string_bytes text ≡ report_of last replies.now) }
+/// Runs events, and gives the lines of their replies.
+fn show_lines(
+    alloc: Global,
+    machine: &mut Machine<AnyPolicy>,
+    events: &[Event<AnyPolicy>],
+) -> Result<Vec<u8>, AllocError>
+    ensures { IfOk result (λ bytes. ShowsRun (shown_as Form.Lines) (planning any_plans machine.old) (map (planned any_plans) events.now) (planning any_plans machine.new) bytes.items) }
 {
-    let lines = text_of(alloc, replies)?;
-    report_text(alloc, replies, lines.as_str(), last)
+    let text = run_into(machine, events, Text::new(alloc))?;
+    Ok(text.into_bytes())
 }
 
-/// What came of a script, in this form: its replies, and the machine that they leave.
+/// Runs events, and gives a report of their replies, with so many of the last lines.
+fn show_report(
+    alloc: Global,
+    last: usize,
+    machine: &mut Machine<AnyPolicy>,
+    events: &[Event<AnyPolicy>],
+) -> Result<Vec<u8>, AllocError>
+    ensures { IfOk result (λ bytes. ShowsRun (shown_as (Form.Report last)) (planning any_plans machine.old) (map (planned any_plans) events.now) (planning any_plans machine.new) bytes.items) }
+{
+    let report = run_into(machine, events, Report::new(alloc))?;
+    Ok(report.to_line(alloc, last)?.into_bytes())
+}
+
+/// Runs events, and gives the journal of all that happened, in this notation.
+fn show_history(
+    alloc: Global,
+    notation: Notation,
+    machine: &mut Machine<AnyPolicy>,
+    events: &[Event<AnyPolicy>],
+) -> Result<Vec<u8>, AllocError>
+    ensures { IfOk result (λ bytes. ShowsRun (shown_as (Form.Journal notation)) (planning any_plans machine.old) (map (planned any_plans) events.now) (planning any_plans machine.new) bytes.items) }
+{
+    run_into(machine, events, Nothing)?;
+    show_journal(alloc, notation, machine.kernel().journal().entries())
+}
+
+/// Runs events, and gives a picture of the entries from one place in the journal on to another.
+fn show_picture(
+    alloc: Global,
+    from: usize,
+    to: usize,
+    machine: &mut Machine<AnyPolicy>,
+    events: &[Event<AnyPolicy>],
+) -> Result<Vec<u8>, AllocError>
+    ensures { IfOk result (λ bytes. ShowsRun (shown_as (Form.Timeline from to)) (planning any_plans machine.old) (map (planned any_plans) events.now) (planning any_plans machine.new) bytes.items) }
+{
+    run_into(machine, events, Nothing)?;
+    let kernel = machine.kernel();
+    let cpus = kernel.settings().cpus;
+    let text = picture(alloc, cpus, kernel.journal().entries(), from, to)?;
+    Ok(text.into_bytes())
+}
+
+/// Runs events, and shows what came of them in this form: their replies, and the machine that they leave. It fails only
+/// for want of memory, also where a reply tells of that.
 pub(crate) fn show(
     alloc: Global,
     form: Form,
-    replies: &[Reply],
-    machine: &Machine<AnyPolicy>,
-) -> Result<String, AllocError>
-    ensures { IfOk result (λ text. shown_as form replies.now machine.now.settings.cpus machine.now.history (string_bytes text)) }
+    machine: &mut Machine<AnyPolicy>,
+    events: &[Event<AnyPolicy>],
+) -> Result<Vec<u8>, AllocError>
+    ensures { IfOk result (λ bytes. ShowsRun (shown_as form) (planning any_plans machine.old) (map (planned any_plans) events.now) (planning any_plans machine.new) bytes.items) }
 {
-    let entries = machine.kernel().journal().entries();
     match form {
-        Form::Lines => text_of(alloc, replies),
-        Form::Report { last } => show_report(alloc, replies, last),
-        Form::Journal(notation) => show_journal(alloc, notation, entries),
-        Form::Timeline { from, to } => {
-            picture(alloc, machine.kernel().settings().cpus, entries, from, to)
-        }
+        Form::Lines => show_lines(alloc, machine, events),
+        Form::Report { last } => show_report(alloc, last, machine, events),
+        Form::Journal(notation) => show_history(alloc, notation, machine, events),
+        Form::Timeline { from, to } => show_picture(alloc, from, to, machine, events),
     }
 }

@@ -5,6 +5,7 @@ mod form;
 mod law;
 mod pipe;
 mod run;
+mod running;
 
 pub use form::{Form, Notation};
 pub use law::one_output;

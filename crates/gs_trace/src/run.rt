@@ -5,7 +5,7 @@ ghost use Rattle.gs_trace.specs.Streams.{AnswersAll, AnswersRead, BeginsAnswer, 
 
 use crate::form::{Form, Notation, show};
 use crate::pipe::{InputError, MOST_READ_BYTES, read_all, write_out};
-use gs_core::{ConfigFault, Machine, is_short};
+use gs_core::{ConfigFault, Machine};
 use gs_script::{Reason, ScriptError, ScriptFault, read_script};
 use std::alloc::{AllocError, Global};
 use std::io::{Read, Write};
@@ -38,7 +38,7 @@ pub enum TraceFault {
 #[derive(Drop)]
 struct Answer {
     ended: Ended,
-    text: String,
+    bytes: Vec<u8>,
 }
 
 /// The name of a reason.
@@ -69,7 +69,7 @@ fn fault_text(alloc: Global, fault: ScriptFault) -> Result<String, AllocError>
 
 /// What is to be written for an input, in this form. It fails only for want of memory.
 fn answer_to(alloc: Global, input: &[u8], form: Form) -> Result<Answer, AllocError>
-    ensures { IfOk result (λ answer. IsShown (shown_as form) input.now answer.ended (string_bytes answer.text)) }
+    ensures { IfOk result (λ answer. IsShown (shown_as form) input.now answer.ended answer.bytes.items) }
 {
     let script = match read_script(alloc, input) {
         Ok(script) => script,
@@ -78,7 +78,7 @@ fn answer_to(alloc: Global, input: &[u8], form: Form) -> Result<Answer, AllocErr
             let text = fault_text(alloc, fault)?;
             return Ok(Answer {
                 ended: Ended::Faulted,
-                text,
+                bytes: text.into_bytes(),
             });
         }
     };
@@ -87,14 +87,10 @@ fn answer_to(alloc: Global, input: &[u8], form: Form) -> Result<Answer, AllocErr
         Err(ConfigFault::OutOfMemory) => return Err(AllocError),
         Err(_) => unreachable!(),
     };
-    let replies = machine.run(&script.events)?;
-    if is_short(&replies) {
-        return Err(AllocError);
-    }
-    let text = show(alloc, form, &replies, &machine)?;
+    let bytes = show(alloc, form, &mut machine, &script.events)?;
     Ok(Answer {
         ended: Ended::Ran,
-        text,
+        bytes,
     })
 }
 
@@ -190,10 +186,10 @@ pub fn run_as<R: Read, W: Write>(
         Err(InputError::Failed) => return Err(TraceFault::ReadFailed),
         Err(InputError::OutOfMemory) => return Err(TraceFault::OutOfMemory),
     };
-    let Ok(Answer { ended, text }) = answer_to(alloc, &input, form) else {
+    let Ok(Answer { ended, bytes }) = answer_to(alloc, &input, form) else {
         return Err(TraceFault::OutOfMemory);
     };
-    match write_out(writer, text.as_bytes()) {
+    match write_out(writer, &bytes) {
         Ok(()) => Ok(ended),
         Err(_) => Err(TraceFault::WriteFailed),
     }

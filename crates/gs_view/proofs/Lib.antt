@@ -1,1 +1,8 @@
-pub mod Loading
+mod Agreed
+mod Indexed
+mod Listed
+mod Loading
+mod Rows
+mod Showing
+mod Steps
+mod Walked

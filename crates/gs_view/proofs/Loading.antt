@@ -1,5 +1,5 @@
--- A page is loaded a record at a time, and taken back, the last record first.
-use Rattle.std.proofs.Common.{◌≡◌, refl, ap, sym, ◌∙◌, ℕ, zero, suc, ◌+◌, ◌<◌, ◌==◌, Bool, true, false, cond, Option, None, Some, List, [], ◌∷◌, ◌++◌, take, slice_get, arith}
+-- A page is loaded a record at a time.
+use Rattle.std.proofs.Common.{◌≡◌, refl, ap, sym, ◌∙◌, ℕ, zero, suc, ◌+◌, ◌<◌, ◌≤◌, ◌==◌, Bool, true, false, cond, Option, None, Some, List, [], ◌∷◌, ◌++◌, take, slice_get, arith}
 use Rattle.std.specs.Prelude.{nat_lt}
 use Rattle.std.proofs.lemmas.Bool.{and_parts, eqb-true}
 use Rattle.std.proofs.lemmas.Bool.Decides.{nat_tests}
@@ -8,7 +8,7 @@ use Rattle.gs_layout.specs.View.{Look}
 use Rattle.gs_dump.specs.declared.record.DumpRecord.{DumpRecord}
 use Rattle.gs_dump.specs.Page.{rises}
 use Rattle.gs_view.specs.Loaded.{known_in, loaded, or_known, told_of}
-use Rattle.gs_view.specs.PutBack.{all_put_back, in_place, put_back}
+use Rattle.gs_view.specs.Records.{with_known}
 
 -- no record before the one at a place is of its thread, and each is above the number that the tids rise from
 above_earlier : (last : ℕ) (rs : List DumpRecord) (next : Option ℕ) → rises last rs next ≡ true → (i : ℕ) (r : DumpRecord) → slice_get rs i ≡ Some r
@@ -71,26 +71,25 @@ loaded_more rs next up i r found more v v' v'' before here = λ j. λ t. at t j
         here t ∙ (ap (λ (x : Look). loaded (r ∷ []) x t) before
         ∙ (sym (loaded_push (take i rs) r v (above_earlier 0 rs next up i r found).0 t) ∙ ap (λ (xs : List DumpRecord). loaded xs v t) (sym more)))
 
--- what was noted last is put back first
-pub put_back_last : (ps : List (ℕ × Option Known)) (t : ℕ) (o : Option Known) (v : Look) → all_put_back (ps ++ (t, o) ∷ []) v ≡ all_put_back ps (put_back t o v)
-put_back_last [] t o v = refl
-put_back_last (p ∷ ps) t o v = ap (put_back p.0 p.1) (put_back_last ps t o v)
+-- no record's tid is above that of a later one
+pub upto_later : (last : ℕ) (rs : List DumpRecord) (next : Option ℕ) → rises last rs next ≡ true → (i j : ℕ) (r s : DumpRecord) → i ≤ j
+    → slice_get rs i ≡ Some r → slice_get rs j ≡ Some s → r.tid ≤ s.tid
+upto_later last [] next up i j r s le e f = absurd cc
+upto_later last (x ∷ xs) next up zero zero r s le e f = let same : r ≡ s = cc in omega (arith, ap (λ (y : DumpRecord). y.tid) same)
+upto_later last (x ∷ xs) next up zero (suc j) r s le e f =
+    let both = and_parts (nat_lt last x.tid) (rises x.tid xs next) up in
+    let later = above_earlier x.tid xs next both.1 j s f in
+    let same : x ≡ r = cc in
+    omega (arith, ap (λ (y : DumpRecord). y.tid) same, later.1)
+upto_later last (x ∷ xs) next up (suc i) zero r s le e f = absurd (omega (arith, le))
+upto_later last (x ∷ xs) next up (suc i) (suc j) r s le e f =
+    let both = and_parts (nat_lt last x.tid) (rises x.tid xs next) up in
+    upto_later x.tid xs next both.1 i j r s (omega (arith, le)) e f
 
--- so what is noted is put back as far as before, where one thread less is noted and it was put back
-pub put_back_one : (ps qs : List (ℕ × Option Known)) (t : ℕ) (o : Option Known) (v v' v0 : Look) → qs ≡ ps ++ (t, o) ∷ []
-    → ((u : ℕ) → v' u ≡ put_back t o v u) → all_put_back qs v ≡ v0 → all_put_back ps v' ≡ v0
-put_back_one ps qs t o v v' v0 last here before =
-    ap (all_put_back ps) (λ j. λ u. here u j) ∙ (sym (put_back_last ps t o v) ∙ (ap (λ (xs : List (ℕ × Option Known)). all_put_back xs v) (sym last) ∙ before))
-
--- a record that was loaded is put back
-pub put_back_loaded : (ps : List (ℕ × Option Known)) (r : DumpRecord) (v v' v0 : Look) → all_put_back ps v ≡ v0 → ((t : ℕ) → v' t ≡ loaded (r ∷ []) v t)
-    → all_put_back (ps ++ (r.tid, v r.tid) ∷ []) v' ≡ v0
-put_back_loaded ps r v v' v0 before here = put_back_last ps r.tid (v r.tid) v' ∙ (ap (all_put_back ps) (λ j. λ t. at t j) ∙ before)
+-- a record is loaded if what it says is made known
+pub loaded_one : (r : DumpRecord) (v : Look) (t : ℕ) → with_known r.tid (Some (known_in r)) v t ≡ loaded (r ∷ []) v t
+loaded_one r v t = by_test (r.tid == t)
   where
-    at : (t : ℕ) → put_back r.tid (v r.tid) v' t ≡ v t
-    at t = ap (λ (o : Option Known). cond (r.tid == t) (in_place o (v r.tid)) o) (here t) ∙ by_test (r.tid == t) refl
-      where
-        by_test : (b : Bool) → (r.tid == t) ≡ b
-            → cond b (in_place (or_known (cond b (Some (known_in r)) None) (v t)) (v r.tid)) (or_known (cond b (Some (known_in r)) None) (v t)) ≡ v t
-        by_test true e = ap v (eqb-true r.tid t e)
-        by_test false e = refl
+    by_test : (b : Bool) → cond b (Some (known_in r)) (v t) ≡ or_known (cond b (Some (known_in r)) None) (v t)
+    by_test true = refl
+    by_test false = refl

@@ -1,5 +1,8 @@
 pub mod Begins
+pub mod Index
+pub mod Listed
+pub mod LiveTids
+pub mod Loaded
+pub mod Records
 pub mod Shown
 pub mod Taken
-pub mod Loaded
-pub mod PutBack

@@ -1,7 +1,7 @@
 ghost use Rattle.std.specs.Prelude.{◌≡◌};
 ghost use Rattle.gs_view.specs.declared.fault.ApplyFault.TheVariants.{OutOfMemory};
 
-use std::alloc::AllocFailed;
+use std::alloc::AllocError;
 use thiserror::Error;
 
 /// Why a view did not take a message in. The view is then as it was.
@@ -15,10 +15,10 @@ pub enum ApplyFault {
     OutOfMemory,
 }
 
-impl<T: Drop> From<AllocFailed<T>> for ApplyFault {
+impl From<AllocError> for ApplyFault {
     ghost from_gives = { λ _ fault. fault ≡ OutOfMemory };
 
-    fn from(_failed: AllocFailed<T>) -> ApplyFault {
+    fn from(_failed: AllocError) -> ApplyFault {
         ApplyFault::OutOfMemory
     }
 }

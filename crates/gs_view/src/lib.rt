@@ -3,7 +3,10 @@
 #![tactic(auto)]
 
 mod fault;
+mod index;
+mod live_tids;
 mod load;
+mod records;
 mod taken;
 mod view;
 mod walk;

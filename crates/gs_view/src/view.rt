@@ -1,8 +1,7 @@
 ghost use Rattle.std.specs.Prelude.{◌≡◌, ◌≢◌, ◌↔◌, ◌==◌, ℕ, true, false, [], length, All, IfOk, OnOk, OnErr, option_copied};
 ghost use Rattle.std.specs.List.Sorted.{IsStrictlyIncreasing};
-ghost use Rattle.gs_layout.specs.Message.{is_death};
 ghost use Rattle.gs_layout.specs.Spelling.{kind_of, tid_of};
-ghost use Rattle.gs_layout.specs.View.{apply, is_gap, learnt, look_up, word};
+ghost use Rattle.gs_layout.specs.View.{apply, is_gap, look_up, word};
 ghost use Rattle.gs_view.specs.Begins.{begins};
 ghost use Rattle.gs_view.specs.Loaded.{loaded};
 ghost use Rattle.gs_view.specs.Shown.{tids};
@@ -10,24 +9,23 @@ ghost use Rattle.gs_view.specs.Taken.{word_of};
 
 use crate::fault::ApplyFault;
 use crate::load::load_page;
+use crate::records::Records;
 use crate::taken::Taken;
 use crate::walk::Walk;
 use gs_dump::Page;
 use gs_layout::{Change, Kind, Known, Message};
 use gs_reader::MessageRef;
 use std::alloc::{AllocError, Global};
-use std::collections::BTreeMap;
 use std::marker::Model;
 
 /// What the agent knows of each thread: its facts, at a sequence number. Clauses see the records by
 /// rising tid.
 ///
-/// A look-up, and the taking in of a message, take a number of steps that grows as the logarithm of
-/// the number of records.
+/// A look-up, and the taking in of a message, take the same time for any number of records. Memory is
+/// taken for the records, and for a place for each tid up to the greatest that was seen.
 #[derive(Drop)]
 pub struct AgentView {
-    records: BTreeMap<u32, Known>,
-    alloc: Global,
+    records: Records,
 }
 
 impl Model for AgentView {
@@ -45,8 +43,7 @@ impl AgentView {
         ensures { result ≡ [] }
     {
         AgentView {
-            records: BTreeMap::new(alloc),
-            alloc,
+            records: Records::new(alloc),
         }
     }
 
@@ -61,7 +58,7 @@ impl AgentView {
     pub fn is_empty(&self) -> bool
         ensures { result ≡ (length self.now == 0) }
     {
-        self.records.is_empty()
+        self.records.len() == 0
     }
 
     /// What is known of a thread: its facts, and the sequence number at which they were so. `None`
@@ -69,7 +66,7 @@ impl AgentView {
     pub fn get(&self, tid: u32) -> Option<&Known>
         ensures { option_copied result ≡ look_up self.now tid }
     {
-        self.records.get(&tid)
+        self.records.get(tid)
     }
 
     /// All that is known, by rising tid: of each thread its tid and what is known of it.
@@ -79,7 +76,7 @@ impl AgentView {
         ensures rising { IsStrictlyIncreasing (tids self.now) }
         ensures found { All (λ entry. look_up self.now entry.0 ≡ Some entry.1) self.now }
     {
-        Walk::over(self.records.iter())
+        self.records.walk()
     }
 
     /// Takes in a message, and answers what it was to the view. Only news changes the view, at the
@@ -91,7 +88,6 @@ impl AgentView {
     /// messages between are missing. `OutOfMemory` where the message is the creation of a thread of
     /// which nothing is known, and there is no memory for its record. Then nothing changes, and the
     /// message can be taken in later.
-    #[tactic(auto, using(std::proofs::lemmas::Map::Steps::set_value_same))]
     pub fn apply(&mut self, message: MessageRef<'_>) -> Result<Taken, ApplyFault>
         ensures word { IfOk result (λ taken. word (look_up self.old) message.entry ≡ word_of taken) }
         ensures known { OnOk result ((t : ℕ) → look_up self.new t ≡ apply (look_up self.old) message.entry t) }
@@ -105,7 +101,7 @@ impl AgentView {
         }
         let tid = message.tid();
         let tseq = message.tseq();
-        let Some(known) = self.records.get_mut(&tid) else {
+        let Some(known) = self.records.get(tid) else {
             return self.begin(&message);
         };
         if tseq <= known.tseq {
@@ -115,9 +111,9 @@ impl AgentView {
             return Err(ApplyFault::Gap);
         }
         if kind == Kind::Dead {
-            self.records.remove(&tid);
+            self.records.remove(tid);
         } else {
-            renew(known, &message.message());
+            self.records.renew(tid, &message.message());
         }
         Ok(Taken::Applied)
     }
@@ -132,7 +128,7 @@ impl AgentView {
         ensures known { OnOk result ((t : ℕ) → look_up self.new t ≡ loaded page.now.records (look_up self.old) t) }
         ensures unchanged { OnErr result (self.new ≡ self.old) }
     {
-        load_page(self.alloc, &mut self.records, page)
+        load_page(&mut self.records, page)
     }
 
     /// Takes in a message about a thread of which nothing is known.
@@ -156,20 +152,8 @@ impl AgentView {
         else {
             unreachable!()
         };
-        self.records.insert(tid, Known { facts, tseq })?;
+        self.records.reserve(tid, 1)?;
+        self.records.put(tid, Known { facts, tseq });
         Ok(Taken::Applied)
     }
-}
-
-/// Makes of a live thread's record what a message says that comes next and is no death. A timer
-/// tick leaves it.
-fn renew(known: &mut Known, message: &Message)
-    requires { is_death message.now ≡ false }
-    ensures { Some known.new ≡ learnt (Some known.old) message.now }
-{
-    let Message::Thread { tseq, change, .. } = message else {
-        return;
-    };
-    known.facts.change(change);
-    known.tseq = *tseq;
 }

@@ -1,5 +1,6 @@
 -- Laws for those who stamp and collect slots.
 use Rattle.std.proofs.Common.{◌≡◌, false, ℕ, suc, ◌+◌, None, Result, Ok, Err, IfOk, OnOk, slice_set, List, [], ◌∷◌, ◌++◌, length, refl, ap, sym, ◌∙◌, arith}
+use Rattle.gs_layout.specs.declared.known.Known.{Known}
 use Rattle.gs_layout.specs.declared.outcome.Outcome.TheVariants.{Stale}
 use Rattle.gs_layout.specs.declared.refusal.Refusal.{Refusal}
 use Rattle.gs_slots.specs.declared.state.SlotBusy.{SlotBusy}
@@ -43,7 +44,7 @@ pub set_stamped : (r : Result (Unit {0}) SlotBusy) (xs : List (List ℕ)) (k n :
 set_stamped (Ok u) xs k n x z is e = ap (slice_set xs k) (read_bytes k x z (ap (λ (m : ℕ). state_in m x) (sym is) ∙ e))
 set_stamped (Err f) xs k n x z is e = tt
 
-pub set_known : (r : Result ℕ Refusal) (xs : List (List ℕ)) (k n : ℕ) (x : List ℕ) (z : ℕ → SlotState) → n ≡ k → IfOk r (λ t. state_in n x ≡ Ok (z t)) → IfOk r (λ t. slice_set xs k x ≡ slice_set xs k (slot_spelling k (z t)))
+pub set_known : (r : Result Known Refusal) (xs : List (List ℕ)) (k n : ℕ) (x : List ℕ) (z : Known → SlotState) → n ≡ k → IfOk r (λ t. state_in n x ≡ Ok (z t)) → IfOk r (λ t. slice_set xs k x ≡ slice_set xs k (slot_spelling k (z t)))
 set_known (Ok t) xs k n x z is e = ap (slice_set xs k) (read_bytes k x (z t) (ap (λ (m : ℕ). state_in m x) (sym is) ∙ e))
 set_known (Err f) xs k n x z is e = tt
 

@@ -4,6 +4,8 @@
 #[cfg(test)]
 mod agent;
 #[cfg(test)]
+mod batches;
+#[cfg(test)]
 mod beliefs;
 #[cfg(test)]
 mod dump;

@@ -1,4 +1,4 @@
-ghost use Rattle.std.specs.Prelude.{◌≡◌, IfErr, IfOk, map, string_bytes};
+ghost use Rattle.std.specs.Prelude.{◌≡◌, IfErr, IfOk, map};
 ghost use Rattle.gs_core.specs.Machine.{planned};
 ghost use Rattle.gs_policy.specs.declared.any.AnyPolicy as any;
 ghost use Rattle.gs_script.specs.Script.{script_of};
@@ -6,7 +6,7 @@ ghost use Rattle.round_robin.specs.Output.{IsError, IsOutput};
 
 use crate::policy::RoundRobin;
 use gs_core::{ConfigFault, Event, Machine, is_short};
-use gs_lines::text_of;
+use gs_lines::{Text, text_of};
 use gs_policy::AnyPolicy;
 use gs_script::{ScriptError, read_script};
 use std::alloc::{AllocError, Global};
@@ -30,8 +30,8 @@ fn own_events(
 /// # Errors
 ///
 /// The script's first fault; else `OutOfMemory` where memory runs out, also at an event.
-pub fn answer(alloc: Global, input: &[u8], policy: RoundRobin) -> Result<String, ScriptError>
-    ensures output { IfOk result (λ text. IsOutput policy input.now (string_bytes text)) }
+pub fn answer(alloc: Global, input: &[u8], policy: RoundRobin) -> Result<Text, ScriptError>
+    ensures output { IfOk result (λ text. IsOutput policy input.now text) }
     ensures error { IfErr result (IsError (script_of input.now)) }
 {
     let script = read_script(alloc, input)?;

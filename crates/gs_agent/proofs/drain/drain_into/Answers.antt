@@ -1,55 +1,93 @@
-use Rattle.std.proofs.Common.{◌≡◌, List, [], ◌∷◌, ◌++◌, Some, ap, sym, subst, ◌∙◌, append-nil, arith}
-use Rattle.std.specs.Prelude.{MatchOption}
+use Rattle.std.proofs.Common.{◌≡◌, ◌-◌, List, [], ◌++◌, length, take, ap, sym, subst, ◌∙◌, arith, length-append}
 use Rattle.gs_layout.specs.declared.message.Message.{Message}
-use Rattle.gs_layout.specs.View.{word}
-use Rattle.gs_ring.specs.Peek.{message_of}
-use Rattle.gs_view.specs.Taken.{word_of}
-use Rattle.gs_agent.specs.declared.drained.Drained.{Drained}
-use Rattle.gs_agent.specs.Drains.{Took}
-use Rattle.gs_mind.specs.Mind.{MindState, picture_of}
-use Rattle.gs_mind.specs.Picture.{Picture, takes_in}
-use Rattle.gs_agent.proofs.Draining.{no_gap_taken, took_more, took_stop}
+use Rattle.gs_ring.specs.Batches.{messages_of}
+use Rattle.gs_mind.specs.Mind.{picture_of}
+use Rattle.gs_agent.proofs.Draining.{first_done, left_after, next_ahead, no_messages, none_where}
 use Rattle.gs_agent.proofs.drain.drain_into.Goals as goal
 
--- what is counted is the messages that were taken in
-taken_so : (v v' : Picture) (ms : List Message) (d d' : Drained) → d ≡ d' → Took v ms d' v' → Took v ms d v'
-taken_so v v' ms d d' is t = subst (λ (x : Drained). Took v ms x v') (sym is) t
+pub pass-requires : goal.pass-requires
+pass-requires g c =
+    let t = c.take_in_first-drained.ensures in
+    (messages_of c.batch.result, c.batch.follows.holds-at-none.1, omega (arith, t.count, ap length t.all, length-append t.done t.left))
 
 pub taking-preserved : goal.taking-preserved
 taking-preserved g c =
-    let inv = c.taking.invariant in
-    let had = inv.took in
-    let follows = c.peek.follows.holds-at-none in
-    let m : Message = message_of c.in-Some.peeked in
-    let next =
-    subst (λ o. MatchOption o ((m : Message) (ms : List Message) → g.T.Taker.ahead c.peek.follows.lender-at-none (m ∷ ms) → ⊥) (λ p. g.T.Taker.ahead c.peek.follows.lender-at-none (message_of p ∷ []))) c.in-Some.is follows.1 in
-    let one = c.advance.ensures m next in
+    let had = c.taking.invariant.took in
+    let follows = c.batch.follows.holds-at-none in
+    let all = messages_of c.batch.result in
+    let t = c.take_in_first-drained.ensures in
+    let n = c.take_in_first-drained.result.count - c.taking.drained.count in
+    let is : take n all ≡ t.done = first_done all t.done t.left n t.all (omega (arith, t.count)) in
+    let one = c.pass.ensures all follows.1 (omega (arith, t.count, ap length t.all, length-append t.done t.left)) in
     let both = g.met.T.Taker.passed_join _ _ _ _ _ follows.0 one in
-    let all = g.met.T.Taker.passed_join _ _ _ _ _ had.1 both in
-    let same : c.message.result ≡ m = c.message.ensures in
-    let more = took_more (picture_of c.args.mind.now) (picture_of c.taking.mind) (picture_of c.take_in.new.self) had.0 m (word_of c.in-Ok.taken) c.taking.drained had.2
-    (sym (subst (λ (x : Message). word (picture_of c.taking.mind).view x ≡ word_of c.in-Ok.taken) same c.in-Ok.ensures.word))
-    (no_gap_taken c.in-Ok.taken)
-    (subst (λ (x : Message). picture_of c.take_in.new.self ≡ takes_in x (picture_of c.taking.mind)) same c.in-Ok.ensures.picture) in
-    let counted = c.counted-drained.ensures in
+    let so_far = g.met.T.Taker.passed_join _ _ _ _ _ had.1 both in
     record {
-      few = omega (arith, ap (λ (d : Drained). d.count) counted, c.taking-test.true);
-      goes_on = ap (λ (d : Drained). d.stop) counted ∙ inv.goes_on;
-      took = (had.0 ++ m ∷ [], all, taken_so (picture_of c.args.mind.now) (picture_of c.take_in.new.self) (had.0 ++ m ∷ []) _ _ counted more);
+      few = t.most;
+      goes_on = none_where c.take_in_first-drained.result.stop (sym c.is_some.ensures ∙ c.if-is_some.false);
+      took = (had.0 ++ t.done, subst (λ (l : List Message). g.T.Taker.passed c.args.taker.now (had.0 ++ l) c.pass.new.self) is so_far, t.took (picture_of c.args.mind.now) had.0 had.2);
     }
 
-pub returns-in_default-clause-took : goal.returns-in_default-clause-took
-returns-in_default-clause-took g c =
+pub returns-then-taken-eq0-clause-took : goal.returns-then-taken-eq0-clause-took
+returns-then-taken-eq0-clause-took g c =
     let had = c.taking.invariant.took in
-    let all = g.met.T.Taker.passed_join _ _ _ _ _ had.1 c.peek.follows.holds-at-none.0 in
-    (had.0, subst (λ (ms : List Message). g.T.Taker.passed c.args.taker.now ms c.peek.follows.lender-at-none) (append-nil had.0) all, had.2)
+    let t = c.take_in_first-drained.ensures in
+    let none : t.done ≡ [] = no_messages t.done (omega (arith, t.count, c.if-taken-eq0.true)) in
+    let so_far = g.met.T.Taker.passed_join _ _ _ _ _ had.1 c.batch.follows.holds-at-none.0 in
+    (had.0 ++ t.done, subst (λ (l : List Message). g.T.Taker.passed c.args.taker.now (had.0 ++ l) c.batch.follows.lender-at-none) (sym none) so_far, t.took (picture_of c.args.mind.now) had.0 had.2)
 
-pub returns-in-Err-clause-took : goal.returns-in-Err-clause-took
-returns-in-Err-clause-took g c =
+pub returns-then-taken-eq0-clause-whole : goal.returns-then-taken-eq0-clause-whole
+returns-then-taken-eq0-clause-whole g c = λ goes_on less m ms ahead.
+    let t = c.take_in_first-drained.ensures in
+    let none : t.done ≡ [] = no_messages t.done (omega (arith, t.count, c.if-taken-eq0.true)) in
+    c.batch.follows.holds-at-none.2 (t.all ∙ ap (λ l. l ++ t.left) none ∙ t.whole goes_on less) m ms ahead
+
+pub returns-then-taken-eq0-clause-gap : goal.returns-then-taken-eq0-clause-gap
+returns-then-taken-eq0-clause-gap g c = λ stop.
+    let t = c.take_in_first-drained.ensures in
+    let none : t.done ≡ [] = no_messages t.done (omega (arith, t.count, c.if-taken-eq0.true)) in
+    let next = t.gap stop in
+    (next.0, next_ahead g.T.Taker.ahead g.met.T.Taker.begins c.batch.follows.lender-at-none next.0 next.1 (messages_of c.batch.result) (t.all ∙ ap (λ l. l ++ t.left) none ∙ next.2) c.batch.follows.holds-at-none.1, next.3)
+
+pub returns-then-taken-eq0-clause-memory : goal.returns-then-taken-eq0-clause-memory
+returns-then-taken-eq0-clause-memory g c = λ stop.
+    let t = c.take_in_first-drained.ensures in
+    let none : t.done ≡ [] = no_messages t.done (omega (arith, t.count, c.if-taken-eq0.true)) in
+    let next = t.memory stop in
+    (next.0, next_ahead g.T.Taker.ahead g.met.T.Taker.begins c.batch.follows.lender-at-none next.0 next.1 (messages_of c.batch.result) (t.all ∙ ap (λ l. l ++ t.left) none ∙ next.2) c.batch.follows.holds-at-none.1, next.3)
+
+pub returns-then-is_some-clause-took : goal.returns-then-is_some-clause-took
+returns-then-is_some-clause-took g c =
     let had = c.taking.invariant.took in
-    let all = g.met.T.Taker.passed_join _ _ _ _ _ had.1 c.peek.follows.holds-at-none.0 in (
-      had.0,
-      subst (λ (ms : List Message). g.T.Taker.passed c.args.taker.now ms c.peek.follows.lender-at-none) (append-nil had.0) all,
-      subst (λ (v : MindState). Took (picture_of c.args.mind.now) had.0 (record c.taking.drained { stop = Some c.stop_of.result }) (picture_of v)) (sym c.in-Err.ensures.unchanged)
-          (took_stop (picture_of c.args.mind.now) (picture_of c.taking.mind) had.0 c.taking.drained (Some c.stop_of.result) had.2),
-    )
+    let follows = c.batch.follows.holds-at-none in
+    let all = messages_of c.batch.result in
+    let t = c.take_in_first-drained.ensures in
+    let n = c.take_in_first-drained.result.count - c.taking.drained.count in
+    let is : take n all ≡ t.done = first_done all t.done t.left n t.all (omega (arith, t.count)) in
+    let one = c.pass.ensures all follows.1 (omega (arith, t.count, ap length t.all, length-append t.done t.left)) in
+    let both = g.met.T.Taker.passed_join _ _ _ _ _ follows.0 one in
+    let so_far = g.met.T.Taker.passed_join _ _ _ _ _ had.1 both in
+    (had.0 ++ t.done, subst (λ (l : List Message). g.T.Taker.passed c.args.taker.now (had.0 ++ l) c.pass.new.self) is so_far, t.took (picture_of c.args.mind.now) had.0 had.2)
+
+pub returns-then-is_some-clause-gap : goal.returns-then-is_some-clause-gap
+returns-then-is_some-clause-gap g c = λ stop.
+    let follows = c.batch.follows.holds-at-none in
+    let all = messages_of c.batch.result in
+    let t = c.take_in_first-drained.ensures in
+    let n = c.take_in_first-drained.result.count - c.taking.drained.count in
+    let is : take n all ≡ t.done = first_done all t.done t.left n t.all (omega (arith, t.count)) in
+    let one = c.pass.ensures all follows.1 (omega (arith, t.count, ap length t.all, length-append t.done t.left)) in
+    let next = t.gap stop in
+    let left = left_after g.T.Taker.ahead c.pass.new.self all (take n all) t.done t.left is t.all (omega (arith, ap length next.2)) (g.met.T.Taker.agrees _ _ _ _ one follows.1) in
+    (next.0, next_ahead g.T.Taker.ahead g.met.T.Taker.begins c.pass.new.self next.0 next.1 t.left next.2 left, next.3)
+
+pub returns-then-is_some-clause-memory : goal.returns-then-is_some-clause-memory
+returns-then-is_some-clause-memory g c = λ stop.
+    let follows = c.batch.follows.holds-at-none in
+    let all = messages_of c.batch.result in
+    let t = c.take_in_first-drained.ensures in
+    let n = c.take_in_first-drained.result.count - c.taking.drained.count in
+    let is : take n all ≡ t.done = first_done all t.done t.left n t.all (omega (arith, t.count)) in
+    let one = c.pass.ensures all follows.1 (omega (arith, t.count, ap length t.all, length-append t.done t.left)) in
+    let next = t.memory stop in
+    let left = left_after g.T.Taker.ahead c.pass.new.self all (take n all) t.done t.left is t.all (omega (arith, ap length next.2)) (g.met.T.Taker.agrees _ _ _ _ one follows.1) in
+    (next.0, next_ahead g.T.Taker.ahead g.met.T.Taker.begins c.pass.new.self next.0 next.1 t.left next.2 left, next.3)

@@ -20,15 +20,15 @@ spells b place start len m h e f =
     ap (λ k. take k (drop start b)) n ∙ ap (λ k. take (length (spelling m)) (drop k b)) e ∙ ap (λ t. take (length (spelling m)) t) h.front ∙ take_at (spelling m) h.more (length (spelling m)) (let r : length (spelling m) ≡ length (spelling m) = omega arith in r)
 
 pub record_index-start-requires-clause-room : goal.record_index-start-requires-clause-room
-record_index-start-requires-clause-room c = c.requires.1.room
+record_index-start-requires-clause-room c = c.requires.lies.1.room
 
 pub u16_at-len-requires : goal.u16_at-len-requires
 u16_at-len-requires c =
-    let h = c.requires.1 in
-    omega (arith, h.fits, (record_size c.requires.0 h.spellable).least, c.record_index-start.ensures.value)
+    let h = c.requires.lies.1 in
+    omega (arith, h.fits, (record_size c.requires.lies.0 h.spellable).least, c.record_index-start.ensures.value)
 
 pub new-requires : goal.new-requires
-new-requires c = (c.requires.0, c.requires.1.spellable, spells c.args.block.now c.args.place c.record_index-start.result c.u16_at-len.result c.requires.0 c.requires.1 c.record_index-start.ensures.value c.u16_at-len.ensures)
+new-requires c = (c.requires.lies.0, c.requires.lies.1.spellable, spells c.args.block.now c.args.place.count c.record_index-start.result c.u16_at-len.result c.requires.lies.0 c.requires.lies.1 c.record_index-start.ensures.value c.u16_at-len.ensures)
 
 pub returns : goal.returns
-returns c = λ m h. c.new.ensures m h.spellable (spells c.args.block.now c.args.place c.record_index-start.result c.u16_at-len.result m h c.record_index-start.ensures.value c.u16_at-len.ensures)
+returns c = λ m h. c.new.ensures m h.spellable (spells c.args.block.now c.args.place.count c.record_index-start.result c.u16_at-len.result m h c.record_index-start.ensures.value c.u16_at-len.ensures)

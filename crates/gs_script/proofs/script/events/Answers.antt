@@ -1,9 +1,17 @@
-use Rattle.std.proofs.Common.{Vec, Global}
-use Rattle.gs_policy.specs.declared.any.AnyPolicy.{AnyPolicy}
-use Rattle.gs_core.specs.declared.event.Event.{Event}
-use Rattle.gs_script.proofs.Lines.{stopped}
+use Rattle.std.proofs.Common.{◌∙◌, ap, arith, sym, subst, length, ◌≡◌, ◌+◌}
+use Rattle.gs_script.specs.Plain.{lines_left}
+use Rattle.gs_script.specs.Script.{events_of}
+use Rattle.gs_script.specs.Words.{lines_of}
+use Rattle.gs_script.proofs.Lines.{with_front, more, fewer}
 use Rattle.gs_script.proofs.script.events.Goals as goal
 
-pub returns-in-Err : goal.returns-in-Err
-returns-in-Err c =
-    rw c.at.ensures (stopped {A = Vec (Event AnyPolicy) Global} (λ v. v.items) c.args.first c.loop-i.i c.loop-i.events.items c.in-Err.error c.args.lines.now _ _ c.loop-i-test.true c.loop-i.invariant c.in-Err.ensures)
+pub loop-rest-preserved : goal.loop-rest-preserved
+loop-rest-preserved c =
+    let text = c.in-Some.text.now in
+    let said = subst (λ rest. with_front c.loop-rest.events.items (events_of c.loop-rest.number (lines_left rest)) ≡ events_of c.args.first (lines_left c.args.text)) c.in-Some.is c.loop-rest.invariant.said in
+    let count : c.loop-rest.number + length (lines_of text) ≡ c.args.first + length (lines_left c.args.text) = subst (λ rest. c.loop-rest.number + length (lines_left rest) ≡ c.args.first + length (lines_left c.args.text)) c.in-Some.is c.loop-rest.invariant.count in
+    let less = fewer text c.in-Ok.left c.loop-rest.events.items c.add_event.new.events.items c.in-Ok.ensures.ok in
+    record {
+      said = more c.loop-rest.number c.loop-rest.events.items c.add_event.new.events.items text c.in-Ok.left (events_of c.args.first (lines_left c.args.text)) said c.in-Ok.ensures.ok;
+      count = omega arith;
+    }

@@ -1,7 +1,5 @@
-use Rattle.std.proofs.Common.{◌≡◌, Bool, true, false, Ok, Err, refl, sym, ◌∙◌, arith}
-use Rattle.gs_layout.proofs.Laws.{IsBytes}
+use Rattle.std.proofs.Common.{true, false, refl, sym, ◌∙◌, arith}
 use Rattle.gs_slots.specs.Spelling.{can_hold}
-use Rattle.gs_slots.specs.Tests.{passes}
 use Rattle.gs_slots.proofs.Exact.{read_by_tests}
 use Rattle.gs_slots.proofs.bytes.state_at.Goals as goal
 use Rattle.gs_slots.proofs.bytes.state_at.Goals.{else-passes-via-then-passes+else-can_hold, else-passes-via-else-passes}

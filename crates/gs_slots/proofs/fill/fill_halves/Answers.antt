@@ -1,6 +1,6 @@
 use Rattle.std.proofs.Common.{ap, sym, ◌∙◌}
 use Rattle.gs_slots.specs.Filling.{fault_of}
-use Rattle.gs_slots.proofs.Filled.{Parted, high_within, low_within, parted, whole_busy, whole_filled}
+use Rattle.gs_slots.proofs.Filled.{high_within, low_within, parted, whole_busy, whole_filled}
 use Rattle.gs_slots.proofs.fill.fill_halves.Goals as goal
 
 pub fill_both-busy-requires-clause-below : goal.fill_both-busy-requires-clause-below

@@ -1,12 +1,41 @@
-use Rattle.std.proofs.Common.{◌∙◌, sym}
-use Rattle.gs_journal.proofs.Laws.{on_nil}
-use Rattle.gs_timeline.proofs.Runs.{stays_none, walked}
+use Rattle.std.proofs.Common.{◌≡◌, ◌+◌, ◌++◌, ℕ, Some, refl, List, sym, subst, ap, ◌∙◌, length, take, drop, slice_get, arith}
+use Rattle.std.specs.Option.{option_map}
+use Rattle.std.proofs.lemmas.List.{length-replicate}
+use Rattle.gs_timeline.specs.Lanes.{LaneOf, each_then, lane_then, left, vacant}
+use Rattle.gs_timeline.specs.Stays.{stays}
+use Rattle.gs_timeline.proofs.Walked.{AreLanes, in_place, lanes_ended, lanes_more, lanes_none, length_each}
 use Rattle.gs_timeline.proofs.walk.stays.Goals as goal
 
+-- what stands in the place of all lanes, once each has changed
+changed : (f : ℕ → LaneOf → LaneOf) (n : ℕ) (xs ys seen : List LaneOf) → seen ≡ xs → length seen ≡ n → ys ≡ each_then f 0 seen → take n (ys ++ drop (length ys) xs) ≡ each_then f 0 xs
+changed f n xs ys seen value len is =
+    let same : ys ≡ each_then f 0 xs = is ∙ ap (each_then f 0) value in
+    in_place n ys xs (ap length same ∙ (length_each f 0 xs ∙ (sym (ap length value) ∙ len))) ∙ same
+
 pub loop-place-init : goal.loop-place-init
-loop-place-init c = (sym (on_nil c.args.cpu), c.new-found.ensures.items ∙ sym (stays_none c.args.entries.now c.args.cpu))
+loop-place-init c = (
+  subst (AreLanes c.args.entries.now 0 0) (sym c.in_ok-lanes.ensures) (lanes_none c.args.entries.now c.args.cpus 0),
+  ap length c.in_ok-lanes.ensures ∙ length-replicate c.args.cpus vacant,
+)
 
 pub loop-place-preserved : goal.loop-place-preserved
 loop-place-preserved c =
-    walked c.args.entries.now c.args.cpu c.loop-place.place c.index-entries-place.result c.loop-place.there c.thread_then-there.result c.loop-place.found.items c.note_seat.new.out.items
-    c.loop-place-test.true c.index-entries-place.is c.loop-place.invariant.0 c.loop-place.invariant.1 c.thread_then-there.ensures c.in_ok-note_seat.ensures
+    let n = c.loop-place.place in
+    let x = c.index-entries-place.result in
+    let xs = c.loop-place.lanes.items in
+    let s = c.as_mut_slice.ensures in
+    let whole = changed (lane_then n x) c.loop-place.lanes.len xs c.hear.new.lanes c.as_mut_slice.result.now s.value s.len c.in_ok-hear.ensures in (
+      subst (AreLanes c.args.entries.now (n + 1) 0) (sym whole) (lanes_more c.args.entries.now n x c.loop-place-test.true c.index-entries-place.is 0 xs c.loop-place.invariant.0),
+      ap length whole ∙ (length_each (lane_then n x) 0 xs ∙ c.loop-place.invariant.1),
+    )
+
+pub returns-clause-stays : goal.returns-clause-stays
+returns-clause-stays c = λ d lt.
+    let h = c.args.entries.now in
+    let xs = c.loop-place.lanes.items in
+    let s = c.as_mut_slice-2.ensures in
+    let whole = changed (λ e. left e (length h)) c.loop-place.lanes.len xs c.end_each.new.lanes c.as_mut_slice-2.result.now s.value s.len c.in_ok-end_each.ensures in
+    let all : c.loop-place.place ≡ length h = omega (arith, c.loop-place-test.false, c.loop-place.auto.place-end) in
+    ap (λ (ls : List LaneOf). option_map (λ (l : LaneOf). l.ended) (slice_get ls d)) whole
+    ∙ lanes_ended h (length h) 0 xs refl (subst (λ (m : ℕ). AreLanes h m 0 xs) all c.loop-place.invariant.0) d (omega (arith, lt, c.loop-place.invariant.1))
+    ∙ ap (λ (e : ℕ). Some (stays h e)) (omega arith)

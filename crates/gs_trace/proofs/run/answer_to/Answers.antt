@@ -1,4 +1,4 @@
-use Rattle.std.proofs.Common.{rules, refl, sym, subst, string_bytes, Result}
+use Rattle.std.proofs.Common.{rules, refl, sym, subst, Result}
 use Rattle.gs_core.specs.Machine.{planning}
 use Rattle.gs_script.specs.Script.{Script}
 use Rattle.gs_script.specs.declared.fault.ScriptFault.{ScriptFault}
@@ -8,14 +8,16 @@ use Rattle.gs_trace.proofs.run.answer_to.Goals as goal
 
 pub returns : goal.returns
 returns c =
-    let answers = λ (read : Result Script ScriptFault). IsShownOf (shown_as c.args.form) read Ran (string_bytes c.in_ok-text.text) in
+    let answers = λ (read : Result Script ScriptFault). IsShownOf (shown_as c.args.form) read Ran c.in_ok-bytes.bytes.items in
+    let shows = c.in_ok-bytes.ensures in
+    let run = shows.run in
     subst answers (sym c.in-Ok.ensures.exact) (
       refl,
       record {
-        replies = c.in_ok-replies.replies.items;
-        left = planning any_plans c.run.new.self;
+        replies = shows.replies;
+        left = planning any_plans c.show.new.machine;
         run = search rules;
-        sufficed = search rules;
-        shown = search rules;
+        sufficed = shows.sufficed;
+        shown = shows.shown;
       },
     )

@@ -1,4 +1,4 @@
-use Rattle.std.proofs.Common.{◌≡◌, ◌==◌, ◌∷◌, [], ◌++◌, Some, false, ap, sym, subst, ◌∙◌, arith, replicate}
+use Rattle.std.proofs.Common.{◌≡◌, ◌==◌, ◌∷◌, [], ◌++◌, Some, true, false, ap, sym, subst, ◌∙◌, arith, replicate}
 use Rattle.std.proofs.lemmas.Bool.Decides.{nat_tests}
 use Rattle.gs_slots.specs.declared.state.SlotState.TheVariants.{Idle}
 use Rattle.gs_journal.specs.declared.entry.Entry.{Entry}
@@ -9,7 +9,8 @@ use Rattle.gs_kernel.specs.Legal.{paged_by}
 use Rattle.gs_kernel.specs.declared.answer.Answer.TheVariants as answers
 use Rattle.gs_kernel.proofs.Laws.{begins_when, free_when}
 use Rattle.gs_agent.specs.Role.{RoleOf}
-use Rattle.gs_core.specs.Machine.{newcomer}
+use Rattle.gs_core.specs.declared.reply.Reply.TheVariants as replies
+use Rattle.gs_core.specs.Machine.{Carries, State, StateOf, newcomer, planned_by, planning}
 use Rattle.gs_core.specs.Good.{Good}
 use Rattle.gs_core.specs.Held.{Kept, agent_of, machine_now}
 use Rattle.gs_core.proofs.Posting.{with_kernel}
@@ -46,3 +47,22 @@ invariant_of-self g c =
       told = e.frame.told;
       suits = suits_begun c.args.policy m.history k.history (next_generation m.history) k.paged c.in-Ok.role history none (ap (λ (r : RoleOf _). r.policy) c.in-Ok.ensures) (ap (λ (r : RoleOf _). r.next) c.in-Ok.ensures);
     }
+
+pub returns-in-Done-clause-begun : goal.returns-in-Done-clause-begun
+returns-in-Done-clause-begun g c =
+    let m : State = machine_now g.P.Policy.chosen c.self.inside in
+    let p = g.P.Policy.chosen c.args.policy in
+    let e = c.in-Done.ensures in
+    let k = c.begin.new.self in
+    let good : Good m = c.self.invariant.kept.good in
+    let cpus : c.settings-cpus.result.cpus ≡ m.settings.cpus = ap (λ (x : _). x.cpus) c.settings-cpus.ensures.value in
+    let agent : agent_of c.in-Ok.role ≡ newcomer m.settings.cpus = ap agent_of c.in-Ok.ensures ∙ ap newcomer cpus in
+    let slots : c.clear.new.self ≡ replicate m.settings.cpus Idle = c.clear.ensures ∙ ap (λ n. replicate n Idle) good.count in
+    let made : State = record (with_kernel m k.settings k.poster k.history) { agent = Some (agent_of c.in-Ok.role); policy = p; slots = c.clear.new.self } in
+    let carries : Carries (planned_by p m) commands.Begin (replies.Done c.in-Done.entry) made = record {
+      fit = true;
+      reply = ap replies.Done e.legal.0;
+      tells = (tt, e.legal.1.tells.1);
+      others = λ j. record m { settings = e.frame.settings j; ring = e.frame.ring j; history = k.history; consumed = e.frame.stays j; agent = Some (agent j); policy = p; slots = slots j };
+    } in
+    subst (λ (x : StateOf _). Carries (planned_by p (planning g.P.Policy.chosen x)) commands.Begin (replies.Done c.in-Done.entry) made) c.self.view_is carries

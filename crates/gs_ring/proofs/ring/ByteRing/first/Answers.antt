@@ -10,22 +10,22 @@ use Rattle.gs_ring.proofs.ring.ByteRing.first.Goals as goal
 
 record Found (i : Inside) (v : RingState) (m : Message) : Type 0 where
   pub ahead : Ahead v (m ∷ [])
-  pub lies : Lies i.block.items i.read m
+  pub lies : Lies i.block.items i.read.count m
 
-found : (i : Inside) (v : RingState) → IsRing i.block.items i.read i.written i.taken i.posts → ring_of i.block.items i.read i.written i.taken i.posts ≡ v
+found : (i : Inside) (v : RingState) → IsRing i.block.items i.read.count i.written.count i.taken i.posts → ring_of i.block.items i.read.count i.written.count i.taken i.posts ≡ v
     → (i.taken ≡ i.posts → ⊥) → (m : Message) × Found i v m
 found i v h view some =
-    let n : length v.unread ≡ i.posts - i.taken = ap (λ (x : RingState). length x.unread) (sym view) ∙ length-messages_in (i.posts - i.taken) (seen i.block.items i.read (i.written - i.read)) in
+    let n : length v.unread ≡ i.posts - i.taken = ap (λ (x : RingState). length x.unread) (sym view) ∙ length-messages_in (i.posts - i.taken) (seen i.block.items i.read.count (i.written.count - i.read.count)) in
     let m = head_in v (omega (arith, n, h.order, some)) in
-    (m.0, record { ahead = m.1; lies = (first_in i.block.items i.read i.written i.taken i.posts v m.0 h view m.1).lies })
+    (m.0, record { ahead = m.1; lies = (first_in i.block.items i.read.count i.written.count i.taken i.posts v m.0 h view m.1).lies })
 
-pub message_at-requires : goal.message_at-requires
-message_at-requires c =
-    let f = found c.self.inside c.args.self.now c.self.invariant c.self.view_is c.if-self.false in
-    (f.0, subst (λ (b : List ℕ). Lies b c.self.inside.read f.0) (sym c.as_slice.ensures.value) f.1.lies)
+pub message_at-requires-clause-lies : goal.message_at-requires-clause-lies
+message_at-requires-clause-lies c =
+    let f = found c.self.inside c.args.self.now c.self.invariant.ring c.self.view_is c.if-self.false in
+    (f.0, subst (λ (b : List ℕ). Lies b c.self.inside.read.count f.0) (sym c.as_slice.ensures.value) f.1.lies)
 
 pub returns : goal.returns
 returns c =
-    let f = found c.self.inside c.args.self.now c.self.invariant c.self.view_is c.if-self.false in
-    let e = c.message_at.ensures f.0 (subst (λ (b : List ℕ). Lies b c.self.inside.read f.0) (sym c.as_slice.ensures.value) f.1.lies) in
+    let f = found c.self.inside c.args.self.now c.self.invariant.ring c.self.view_is c.if-self.false in
+    let e = c.message_at.ensures f.0 (subst (λ (b : List ℕ). Lies b c.self.inside.read.count f.0) (sym c.as_slice.ensures.value) f.1.lies) in
     (f.1.ahead.0, f.1.ahead.1 ∙ ap (λ (m : Message). m ∷ f.1.ahead.0) (sym e))

@@ -1,46 +1,47 @@
-use Rattle.std.proofs.Common.{◌≡◌, ℕ, ◌+◌, ◌-◌, List, ◌∷◌, length, ap, sym, subst, ◌∙◌, arith}
+use Rattle.std.proofs.Common.{◌≡◌, ℕ, ◌-◌, List, [], ◌∷◌, ◌++◌, length, ap, sym, ◌∙◌, arith}
 use Rattle.gs_layout.specs.declared.message.Message.{Message}
 use Rattle.gs_ring.specs.declared.waiting.Waiting.TheInside.{Inside}
-use Rattle.gs_ring.specs.Block.{IsRest, messages_from}
-use Rattle.gs_ring.specs.Places.{need, record_len}
-use Rattle.gs_ring.proofs.Waits.{Shown, shown_next}
+use Rattle.gs_ring.specs.Block.{messages_in}
+use Rattle.gs_ring.specs.Segments.{AreSegments, Stands}
+use Rattle.gs_ring.proofs.Standing.{read_segments}
 use Rattle.gs_ring.proofs.waiting.WaitingIterator.next.Goals as goal
 
--- what a walk shows next
-shown : (i : Inside) → IsRest i.block.now i.read i.left → (i.left ≡ 0 → ⊥) → (m : Message) × Shown i.block.now i.read i.left m
-shown i h some = shown_next i.block.now i.read i.left h (omega (arith, some))
+-- what a walk shows next, and what it shows then
+record Shown (i : Inside) : Type 0 where
+  pub message : Message
+  pub others : List Message
+  pub stands : Stands i.first.now i.second.now (message ∷ others)
+  pub count : length others ≡ i.left - 1
+  pub list : messages_in i.left (i.first.now ++ i.second.now) ≡ message ∷ others
 
--- its list, and what is left of it behind so many bytes
-list_is : (i : Inside) (v : List Message) (m x : Message) (k : ℕ) → Shown i.block.now i.read i.left m → messages_from i.block.now i.read i.left ≡ v → x ≡ m → k ≡ need (length i.block.now) i.read (record_len m)
-    → v ≡ x ∷ messages_from i.block.now (i.read + k) (i.left - 1)
-list_is i v m x k s view is span = sym view ∙ s.first ∙ (λ j. sym is j ∷ messages_from i.block.now (i.read + sym span j) (i.left - 1))
+some_shown : (i : Inside) (ms : List Message) → Stands i.first.now i.second.now ms → length ms ≡ i.left → (i.left ≡ 0 → ⊥) → Shown i
+some_shown i [] h count some = absurd (some (sym count))
+some_shown i (m ∷ ms) h count some = record { message = m; others = ms; stands = h; count = omega (arith, count); list = read_segments i.first.now i.second.now (m ∷ ms) i.left h count }
 
-pub message_at-next-requires : goal.message_at-next-requires
-message_at-next-requires c = let s = shown c.self.inside c.self.invariant c.if-self-eq0.false in (s.0, s.1.lies)
+shown : (i : Inside) → AreSegments i.first.now i.second.now i.left → (i.left ≡ 0 → ⊥) → Shown i
+shown i h some = some_shown i h.0 h.1 h.2 some
 
-pub span_at-requires : goal.span_at-requires
-span_at-requires c = let s = shown c.self.inside c.self.invariant c.if-self-eq0.false in (s.0, s.1.lies)
+-- the list of a walk, by what is shown and what is left
+list_is : (i : Inside) (v : List Message) (s : Shown i) (x : Message) (f g : List ℕ) → messages_in i.left (i.first.now ++ i.second.now) ≡ v → x ≡ s.message → Stands f g s.others → v ≡ x ∷ messages_in (i.left - 1) (f ++ g)
+list_is i v s x f g view is rest = sym view ∙ s.list ∙ ap (λ (m : Message). m ∷ s.others) (sym is) ∙ ap (λ l. x ∷ l) (sym (read_segments f g s.others (i.left - 1) rest s.count))
 
-pub overflow_add-self : goal.overflow_add-self
-overflow_add-self c =
-    let s = shown c.self.inside c.self.invariant c.if-self-eq0.false in
-    omega (arith, c.span_at.ensures s.0 s.1.lies, s.1.low)
+pub split_first-message-requires : goal.split_first-message-requires
+split_first-message-requires c = let s = shown c.self.inside c.self.invariant c.if-self-eq0.false in (s.message, s.others, s.stands)
 
 pub invariant_of-self : goal.invariant_of-self
 invariant_of-self c =
-    let i = c.self.inside in
-    let s = shown i c.self.invariant c.if-self-eq0.false in
-    subst (λ (k : ℕ). IsRest i.block.now (i.read + k) (i.left - 1)) (sym (c.span_at.ensures s.0 s.1.lies)) s.1.rest
+    let s = shown c.self.inside c.self.invariant c.if-self-eq0.false in
+    (s.others, (c.split_first-message.ensures s.message s.others s.stands).1, s.count)
 
 pub returns-clause-steps : goal.returns-clause-steps
 returns-clause-steps c =
-    let i = c.self.inside in
-    let s = shown i c.self.invariant c.if-self-eq0.false in
-    list_is i c.args.self.now s.0 c.message.result c.span_at.result s.1 c.self.view_is (c.message.ensures ∙ c.message_at-next.ensures s.0 s.1.lies) (c.span_at.ensures s.0 s.1.lies)
+    let s = shown c.self.inside c.self.invariant c.if-self-eq0.false in
+    let e = c.split_first-message.ensures s.message s.others s.stands in
+    list_is c.self.inside c.args.self.now s c.split_first-message.result.0 c.split_first-message.result.1.now c.split_first-message.result.2.now c.self.view_is e.0 e.1
 
 pub returns-clause-goes : goal.returns-clause-goes
 returns-clause-goes c =
-    let i = c.self.inside in
-    let s = shown i c.self.invariant c.if-self-eq0.false in
-    let list = list_is i c.args.self.now s.0 c.message.result c.span_at.result s.1 c.self.view_is (c.message.ensures ∙ c.message_at-next.ensures s.0 s.1.lies) (c.span_at.ensures s.0 s.1.lies) in
+    let s = shown c.self.inside c.self.invariant c.if-self-eq0.false in
+    let e = c.split_first-message.ensures s.message s.others s.stands in
+    let list = list_is c.self.inside c.args.self.now s c.split_first-message.result.0 c.split_first-message.result.1.now c.split_first-message.result.2.now c.self.view_is e.0 e.1 in
     record { on = λ _. (tt, tt, omega (arith, ap length list)); keeps = tt; rests = λ _. tt }

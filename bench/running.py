@@ -1,0 +1,87 @@
+"""What the scripts here share: scripts of events are written, programs run on them, and runs are measured."""
+import os
+import pathlib
+import re
+import resource
+import statistics
+import subprocess
+import tempfile
+
+HERE = pathlib.Path(__file__).resolve().parent
+PROGRAM = HERE.parent / "crates/ghost_cli/out/ghost_cli"
+THREADS = (64, 1_024, 16_384, 65_536)
+# The plain programs, as bench/plain/build names them.
+PLAIN = ("ghost", "kept")
+
+
+def churn(kind, threads, rounds, *options):
+    """The script that bench/churn writes; None where it would be too long."""
+    command = [HERE / "churn", kind, "--threads", str(threads), "--rounds", str(rounds), *options]
+    done = subprocess.run(command, stdout=subprocess.PIPE, stderr=subprocess.PIPE)
+    if b"the most is" in done.stderr:
+        return None
+    done.check_returncode()
+    return done.stdout
+
+
+def run(command, script=b"", output=subprocess.DEVNULL):
+    """Runs a command on a script, which it reads from a file."""
+    with tempfile.TemporaryFile() as file:
+        file.write(script)
+        file.seek(0)
+        return subprocess.run(command, check=True, stdin=file, stdout=output, stderr=subprocess.PIPE)
+
+
+def instructions(command, script=b""):
+    """How many instructions a command executes."""
+    valgrind = ["valgrind", "--tool=callgrind", "--callgrind-out-file=/dev/null"]
+    return int(re.search(rb"Collected : (\d+)", run([*valgrind, *command], script).stderr)[1])
+
+
+def children_time():
+    """The processor time of all commands that were run, in seconds."""
+    usage = resource.getrusage(resource.RUSAGE_CHILDREN)
+    return usage.ru_utime + usage.ru_stime
+
+
+def nanoseconds(command, script=b""):
+    """The processor time that a command takes, its own and the system's for it."""
+    before = children_time()
+    run(command, script)
+    return (children_time() - before) * 1e9
+
+
+def cell(costs, digits=0):
+    """The median of the turns and, where there are several, its standard error."""
+    middle = statistics.median(costs)
+    if len(costs) == 1:
+        return f"{middle:,.{digits}f}"
+    low, _, high = statistics.quantiles(costs, n=4)
+    # As the error of a median is where costs spread as on a bell curve with these quartiles.
+    return f"{middle:,.{digits}f} ± {0.93 * (high - low) / len(costs) ** 0.5:,.{digits}f}"
+
+
+def markdown(heads, rows):
+    """The lines of a table whose first column alone is text."""
+    yield "| " + " | ".join(heads) + " |"
+    yield "|---|" + "---:|" * (len(heads) - 1)
+    for row in rows:
+        yield "| " + " | ".join(row) + " |"
+
+
+def build(folder):
+    """Builds the plain programs into a folder: their paths."""
+    subprocess.run([HERE / "plain/build", folder], check=True)
+    return [pathlib.Path(folder) / name for name in PLAIN]
+
+
+def add_program(parser):
+    """The argument that names the proved program."""
+    parser.add_argument("--program", type=pathlib.Path, default=PROGRAM, help="the proved program, else the one built here")
+
+
+def found_program(parser, given):
+    """The proved program, which has to be there."""
+    if not os.access(given.program, os.X_OK):
+        parser.error(f"{given.program} is not there; `rt run` in crates/ghost_cli builds it")
+    return given.program.resolve()

@@ -1,0 +1,129 @@
+ghost use Rattle.std.specs.Prelude.{◌≡◌, ◌≢◌, ◌<◌, ◌≤◌, ◌&&◌, nat_lt, ℕ, None, false, true, is_none, length, replicate, slice_set, IfNone, IfOk, IfSome};
+ghost use Rattle.std.specs.List.{list_any};
+ghost use Rattle.gs_status.specs.Masks.{has};
+ghost use Rattle.gs_beliefs.specs.ByThread.{stands};
+ghost use Rattle.gs_beliefs.specs.Cpus.{is_just};
+
+use crate::buckets::Buckets;
+use gs_status::{MOST_CPUS, Mask};
+use std::alloc::{AllocError, Global};
+use std::marker::Model;
+
+/// Which thread stands on each CPU, at most one on each.
+///
+/// The CPUs of a thread are found by the buckets that threads fall into: each has the mask of the CPUs
+/// on which a thread of the bucket stands, and few threads share one. So no call looks at every CPU.
+#[derive(Drop)]
+pub struct ByThread {
+    tids: Vec<Option<u32>>,
+    buckets: Buckets,
+    vacant: Mask,
+}
+
+impl Model for ByThread {
+    ghost use Rattle.std.specs.Prelude.{List, Option, ℕ};
+    ghost use Rattle.gs_beliefs.specs.ByThread.{IsIndexed};
+
+    ghost Value = { List (Option ℕ) };
+
+    ghost view = { λ s. s.tids.items };
+
+    ghost invariant = { λ s. IsIndexed s.tids.items s.buckets.masks.items s.vacant };
+}
+
+/// The vacant CPUs once a thread stands on a CPU, or nobody does.
+fn vacant_after(vacant: Mask, cpu: u16, tid: Option<u32>) -> Mask
+    requires { cpu < MOST_CPUS }
+    ensures here { has result cpu ≡ is_none tid }
+    ensures others { (c : ℕ) → c ≢ cpu → has result c ≡ has vacant c }
+{
+    if tid.is_none() {
+        vacant.with(cpu)
+    } else {
+        vacant.without(cpu)
+    }
+}
+
+/// The CPUs below a number.
+#[tactic(auto, using(crate::proofs::Marks::below_more))]
+fn all_below(cpus: u16) -> Mask
+    requires { cpus ≤ MOST_CPUS }
+    ensures { (c : ℕ) → has result c ≡ nat_lt c cpus }
+{
+    let mut mask = Mask::none();
+    for cpu in 0..cpus {
+        mask = mask.with(cpu);
+    }
+    mask
+}
+
+impl ByThread {
+    /// So many CPUs, at most [`MOST_CPUS`], on which nobody stands.
+    ///
+    /// # Errors
+    ///
+    /// Where memory runs out.
+    pub fn new(alloc: Global, cpus: u16) -> Result<ByThread, AllocError>
+        requires { cpus ≤ MOST_CPUS }
+        ensures { IfOk result (λ made. made ≡ replicate cpus None) }
+    {
+        Ok(ByThread {
+            tids: vec![in alloc; None; cpus as usize]?,
+            buckets: Buckets::new(alloc)?,
+            vacant: all_below(cpus),
+        })
+    }
+
+    /// The thread on a CPU, `None` for nobody and past the last CPU.
+    #[inline(always)]
+    pub fn on(&self, cpu: u16) -> Option<u32>
+        ensures { result ≡ stands self.now cpu }
+    {
+        *self.tids.get(cpu as usize)?
+    }
+
+    /// The least CPU on which a thread stands.
+    #[tactic(auto, using(crate::proofs::Marks::fewer_left, crate::proofs::Index::not_in_bucket))]
+    pub fn first_of(&self, tid: u32) -> Option<u16>
+        ensures found { IfSome result (λ c. is_just tid (stands self.now c) ≡ true) }
+        ensures none { IfNone result ((c : ℕ) → is_just tid (stands self.now c) ≡ false) }
+    {
+        let mut left = self.buckets.of(tid);
+        while let Some(cpu) = left.lowest() {
+            if self.on(cpu) == Some(tid) {
+                return Some(cpu);
+            }
+            left = left.without(cpu);
+        }
+        None
+    }
+
+    /// Whether a thread stands on some CPU.
+    #[tactic(auto, using(crate::proofs::Index::stands_somewhere, crate::proofs::Index::stands_nowhere))]
+    pub fn has(&self, tid: u32) -> bool
+        ensures { result ≡ list_any (is_just tid) self.now }
+    {
+        self.first_of(tid).is_some()
+    }
+
+    /// The CPUs on which nobody stands.
+    pub fn vacant(&self) -> Mask
+        ensures { (c : ℕ) → has result c ≡ (nat_lt c (length self.now) && is_none (stands self.now c)) }
+    {
+        self.vacant
+    }
+
+    /// A thread stands on a CPU from then on, or nobody does. Past the last CPU nothing changes.
+    pub fn set(&mut self, cpu: u16, tid: Option<u32>)
+        ensures { self.new ≡ slice_set self.old cpu tid }
+    {
+        let at = cpu as usize;
+        if at >= self.tids.len() {
+            return;
+        }
+        self.buckets.leave(cpu, self.tids[at]);
+        self.buckets.enter(cpu, tid);
+        self.tids[at] = tid;
+        self.vacant = vacant_after(self.vacant, cpu, tid);
+    }
+}

@@ -1,0 +1,15 @@
+use Rattle.std.proofs.Common.{append_assoc}
+use Rattle.gs_history.specs.Json.{mask_data}
+use Rattle.gs_history.proofs.Added.{first_token, last_of_value, then_tokens}
+use Rattle.gs_history.proofs.entry_json.write_mask.Goals as goal
+
+pub returns : goal.returns
+returns c =
+    let tokens = first_token c.in_ok-begin_object.ensures in
+    let tokens = then_tokens tokens c.in_ok-write_cpu.ensures in
+    let tokens = then_tokens tokens c.in_ok-write_entry_kind.ensures in
+    let tokens = then_tokens tokens c.in_ok-write_count.ensures in
+    let tokens = then_tokens tokens c.in_ok-write_text.ensures in
+    let tokens = then_tokens tokens c.in_ok-write_flag.ensures in
+    let tokens = then_tokens tokens c.in_ok-write_thread.ensures in
+    last_of_value c.end_object.result (mask_data c.args.place c.args.tid c.args.tseq c.args.cpu c.args.off c.args.mask) tokens c.end_object.ensures (simp append_assoc)

@@ -1,0 +1,13 @@
+use Rattle.std.proofs.Common.{refl}
+use Rattle.gs_layout.specs.declared.message.Message.TheVariants.{TimerTick}
+use Rattle.gs_history.specs.Json.{posted_data}
+use Rattle.gs_history.proofs.Added.{first_token, last_of_value, then_tokens}
+use Rattle.gs_history.proofs.entry_json.write_tick.Goals as goal
+
+pub returns : goal.returns
+returns c =
+    let tokens = first_token c.in_ok-begin_object.ensures in
+    let tokens = then_tokens tokens c.in_ok-write_cpu.ensures in
+    let tokens = then_tokens tokens c.in_ok-write_entry_kind.ensures in
+    let tokens = then_tokens tokens c.in_ok-write_text.ensures in
+    last_of_value c.end_object.result (posted_data c.args.place (TimerTick c.args.cpu)) tokens c.end_object.ensures refl

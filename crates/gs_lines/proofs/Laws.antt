@@ -1,0 +1,2 @@
+-- What the proofs of the crates above cite of this crate.
+pub use Rattle.gs_lines.proofs.Replies.{lines_more}

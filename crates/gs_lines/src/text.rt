@@ -1,0 +1,126 @@
+ghost use Rattle.std.specs.Prelude.{◌≡◌, ◌≤◌, ◌++◌, ◌∷◌, [], codes, decimal, length, OnOk};
+ghost use Rattle.std.specs.Str.{IsUtf8};
+
+use crate::backwards::{put, put_number};
+use itoa::Buffer;
+use std::alloc::{AllocError, Global};
+use std::marker::Model;
+
+/// The most bytes of a word that stands before a number.
+pub const MOST_WORD_LEN: usize = 32;
+
+/// Room for a word and two numbers.
+const SIZE: usize = 80;
+
+/// A text that grows at its end, for lines of words and numbers. A word and the numbers behind it are put together in
+/// a small array, the last digit first, and added at once. What adds to it fails only for want of memory. Clauses
+/// see its bytes, which are UTF-8.
+#[derive(Drop)]
+pub struct Text {
+    bytes: Vec<u8>,
+}
+
+impl Model for Text {
+    ghost use Rattle.std.specs.Prelude.{List, ℕ, ◌≡◌, true};
+    ghost use Rattle.std.specs.Str.{is_utf8};
+
+    ghost Value = { List ℕ };
+
+    ghost view = { λ t. t.bytes.items };
+
+    ghost invariant = { λ t. is_utf8 t.bytes.items ≡ true };
+}
+
+impl Text {
+    /// No text.
+    pub fn new(alloc: Global) -> Text
+        ensures { result ≡ [] }
+    {
+        Text {
+            bytes: Vec::new(alloc),
+        }
+    }
+
+    /// The bytes of the text.
+    pub fn as_bytes(&self) -> &[u8]
+        ensures { result.now ≡ self.now }
+    {
+        &self.bytes
+    }
+
+    /// The text. Each call reads it all, to see that it is UTF-8.
+    pub fn as_str(&self) -> &str
+        ensures { result.now ≡ self.now }
+    {
+        str::from_utf8(&self.bytes).unwrap()
+    }
+
+    /// The bytes of the text, to keep.
+    pub fn into_bytes(self) -> Vec<u8>
+        ensures { result.items ≡ self }
+    {
+        let Text { bytes } = self;
+        bytes
+    }
+
+    /// Adds bytes.
+    #[inline(always)]
+    fn append(&mut self, bytes: &[u8]) -> Result<(), AllocError>
+        requires { IsUtf8 bytes.now }
+        ensures { OnOk result (self.new ≡ self.old ++ bytes.now) }
+    {
+        self.bytes.extend_from_slice(bytes)
+    }
+
+    /// Adds words.
+    pub fn push_str(&mut self, words: &str) -> Result<(), AllocError>
+        ensures { OnOk result (self.new ≡ self.old ++ words.now) }
+    {
+        self.append(words.as_bytes())
+    }
+
+    /// Ends a line.
+    pub fn end_line(&mut self) -> Result<(), AllocError>
+        ensures { OnOk result (self.new ≡ self.old ++ 10 ∷ []) }
+    {
+        self.push_str("\n")
+    }
+
+    /// Adds a word of at most [`MOST_WORD_LEN`] bytes and a number behind it.
+    pub fn push_number(&mut self, word: &str, number: u64) -> Result<(), AllocError>
+        requires { length word.now ≤ MOST_WORD_LEN }
+        ensures { OnOk result (self.new ≡ self.old ++ word.now ++ decimal number) }
+    {
+        let mut array = [0; SIZE];
+        let at = put_number(&mut array, SIZE, number);
+        let at = put(&mut array, at, word);
+        self.append(&array[at..])
+    }
+
+    /// Adds a word of at most [`MOST_WORD_LEN`] bytes, a thread's tid and a sequence number of the thread.
+    pub fn push_thread(&mut self, word: &str, tid: u32, tseq: u32) -> Result<(), AllocError>
+        requires { length word.now ≤ MOST_WORD_LEN }
+        ensures { OnOk result (self.new ≡ self.old ++ word.now ++ codes " " ++ decimal tid ++ codes " seq " ++ decimal tseq) }
+    {
+        let mut array = [0; SIZE];
+        let at = put_number(&mut array, SIZE, tseq as u64);
+        let at = put(&mut array, at, " seq ");
+        let at = put_number(&mut array, at, tid as u64);
+        let at = put(&mut array, at, " ");
+        let at = put(&mut array, at, word);
+        self.append(&array[at..])
+    }
+
+    /// Adds a word of at most [`MOST_WORD_LEN`] bytes and a number behind it, which may be too large for a `u64`.
+    pub fn push_wide(&mut self, word: &str, number: u128) -> Result<(), AllocError>
+        requires { length word.now ≤ MOST_WORD_LEN }
+        ensures { OnOk result (self.new ≡ self.old ++ word.now ++ decimal number) }
+    {
+        let Ok(narrow) = u64::try_from(number) else {
+            let mut buffer = Buffer::new();
+            self.push_str(word)?;
+            return self.push_str(buffer.format(number));
+        };
+        self.push_number(word, narrow)
+    }
+}

@@ -1,0 +1,144 @@
+//! What stands first in a text. Each answer is what was read and what is left behind it, and `None` says nothing of
+//! the text.
+
+ghost use Rattle.std.specs.Prelude.{◌≡◌, ◌≤◌, ◌++◌, ◌∷◌, [], codes, IfSome, Ok, true, if◌then◌else◌};
+ghost use Rattle.gs_script.specs.Words.{is_word, lines_of};
+ghost use Rattle.gs_script.specs.Rows.{number_between};
+ghost use Rattle.gs_script.specs.Plain.{FirstLine, StartsWith, lines_left};
+
+/// The most digits of a number that is read here: 64 bits hold each number of so many.
+const MOST_DIGITS: usize = 19;
+
+/// The first line of a text, and what stands behind its newline.
+#[inline(always)]
+pub(crate) fn first_line(text: &[u8]) -> (&[u8], Option<&[u8]>)
+    ensures { lines_of text.now ≡ result.0.now ∷ lines_left result.1 }
+{
+    let mut end = 0;
+    while end < text.len() && text[end] != b'\n' {
+        end += 1;
+    }
+    if end >= text.len() {
+        return (text, None);
+    }
+    (&text[..end], Some(&text[end + 1..]))
+}
+
+/// What stands behind these bytes, where a text begins with them.
+#[inline(always)]
+pub(crate) fn behind<'a>(text: &'a [u8], front: &[u8]) -> Option<&'a [u8]>
+    ensures { IfSome result (λ rest. text.now ≡ front.now ++ rest.now) }
+{
+    text.strip_prefix(front)
+}
+
+/// What is left behind a line that ends here.
+#[inline(always)]
+pub(crate) fn line_end(text: &[u8]) -> Option<Option<&[u8]>>
+    ensures { IfSome result (λ left. lines_of text.now ≡ [] ∷ lines_left left) }
+{
+    match text {
+        [] => Some(None),
+        [b'\n', rest @ ..] => Some(Some(rest)),
+        _ => None,
+    }
+}
+
+/// The number of 1 to 19 digits that a text begins with, without a needless zero.
+#[inline(always)]
+fn digits_first(text: &[u8]) -> Option<(u64, &[u8])>
+    ensures { IfSome result (λ p. StartsWith (λ digits. number_between 0 u64.MAX digits ≡ Ok p.0) text.now p.1.now) }
+{
+    let mut value: u64 = 0;
+    let mut count = 0;
+    while count < text.len() && text[count].is_ascii_digit() {
+        if count >= MOST_DIGITS {
+            return None;
+        }
+        value = value * 10 + (text[count] - b'0') as u64;
+        count += 1;
+    }
+    if count == 0 {
+        return None;
+    }
+    if count > 1 && text[0] == b'0' {
+        return None;
+    }
+    Some((value, &text[count..]))
+}
+
+/// A number up to `most`.
+#[inline(always)]
+pub(crate) fn number_first(text: &[u8], most: u64) -> Option<(u64, &[u8])>
+    ensures number { IfSome result (λ p. StartsWith (λ digits. number_between 0 most digits ≡ Ok p.0) text.now p.1.now) }
+    ensures high { IfSome result (λ p. p.0 ≤ most) }
+{
+    let (number, rest) = digits_first(text)?;
+    if number > most {
+        return None;
+    }
+    Some((number, rest))
+}
+
+/// A number up to `most`, and the space behind it.
+#[inline(always)]
+pub(crate) fn number_spaced(text: &[u8], most: u64) -> Option<(u64, &[u8])>
+    ensures number { IfSome result (λ p. StartsWith (λ digits. number_between 0 most digits ≡ Ok p.0) text.now (32 ∷ p.1.now)) }
+    ensures high { IfSome result (λ p. p.0 ≤ most) }
+{
+    let (number, rest) = number_first(text, most)?;
+    let rest = behind(rest, b" ")?;
+    Some((number, rest))
+}
+
+/// A number up to `most` that is all of a line.
+#[inline(always)]
+pub(crate) fn number_last(text: &[u8], most: u64) -> Option<(u64, Option<&[u8]>)>
+    ensures number { IfSome result (λ p. FirstLine (λ digits. number_between 0 most digits ≡ Ok p.0) text.now p.1) }
+    ensures high { IfSome result (λ p. p.0 ≤ most) }
+{
+    let (number, rest) = number_first(text, most)?;
+    let left = line_end(rest)?;
+    Some((number, left))
+}
+
+/// A number of 16 bits that is all of a line.
+#[inline(always)]
+pub(crate) fn u16_last(text: &[u8]) -> Option<(u16, Option<&[u8]>)>
+    ensures { IfSome result (λ p. FirstLine (λ digits. number_between 0 u16.MAX digits ≡ Ok p.0) text.now p.1) }
+{
+    let (number, left) = number_last(text, u16::MAX as u64)?;
+    Some((number as u16, left))
+}
+
+/// A number of 32 bits that is all of a line.
+#[inline(always)]
+pub(crate) fn u32_last(text: &[u8]) -> Option<(u32, Option<&[u8]>)>
+    ensures { IfSome result (λ p. FirstLine (λ digits. number_between 0 u32.MAX digits ≡ Ok p.0) text.now p.1) }
+{
+    let (number, left) = number_last(text, u32::MAX as u64)?;
+    Some((number as u32, left))
+}
+
+/// The flag of a stamp, or nothing, up to the end of a line: whether the flag stands there.
+#[inline(always)]
+pub(crate) fn flag_last(text: &[u8]) -> Option<(bool, Option<&[u8]>)>
+    ensures { IfSome result (λ p. FirstLine (λ line. line ≡ (if p.0 then codes " p" else [])) text.now p.1) }
+{
+    match behind(text, b" p") {
+        Some(rest) => Some((true, line_end(rest)?)),
+        None => Some((false, line_end(text)?)),
+    }
+}
+
+/// All of a line that is not empty.
+#[inline(always)]
+pub(crate) fn rest_of_line(text: &[u8]) -> Option<(&[u8], Option<&[u8]>)>
+    ensures { IfSome result (λ p. FirstLine (λ line. (line ≡ p.0.now) × (is_word line ≡ true)) text.now p.1) }
+{
+    let (line, left) = first_line(text);
+    if line.is_empty() {
+        return None;
+    }
+    Some((line, left))
+}

@@ -1,0 +1,70 @@
+ghost use Rattle.std.specs.Prelude.{◌≡◌, ◌<◌, ◌^◌, None, OnOk};
+ghost use Rattle.gs_timeline.specs.Lanes.{lane_then, left, vacant};
+
+use crate::stay::Stay;
+use gs_journal::{Entry, thread_then};
+use std::alloc::{AllocError, Global};
+use std::marker::Model;
+
+/// What was on a CPU so far: the stays that ended, and who is there, with the place of the entry since which that is so.
+#[derive(Drop)]
+pub struct Lane {
+    ended: Vec<Stay>,
+    there: Option<(u32, usize)>,
+}
+
+impl Model for Lane {
+    ghost use Rattle.gs_timeline.specs.Lanes.{LaneOf};
+
+    ghost Value = { LaneOf };
+
+    ghost view = { λ lane. record { ended = lane.ended.items; there = lane.there } };
+}
+
+impl Lane {
+    /// A CPU on which nobody was yet. It takes no memory.
+    pub(crate) fn new(alloc: Global) -> Lane
+        ensures { result ≡ vacant }
+    {
+        Lane {
+            ended: Vec::new(alloc),
+            there: None,
+        }
+    }
+
+    /// The stays that ended, in order.
+    pub fn stays(&self) -> &[Stay]
+        ensures { result.now ≡ self.now.ended }
+    {
+        self.ended.as_slice()
+    }
+
+    /// Whoever is there leaves by the entry of this place. After an error that stay may be missing.
+    pub(crate) fn end(&mut self, cpu: u16, place: usize) -> Result<(), AllocError>
+        ensures { OnOk result (self.new ≡ left cpu place self.old) }
+    {
+        if let Some((tid, from)) = self.there.take() {
+            self.ended.push(Stay {
+                cpu,
+                tid,
+                from,
+                to: place,
+            })?;
+        }
+        Ok(())
+    }
+
+    /// What the entry of this place makes of the CPU. After an error a stay may be missing.
+    pub(crate) fn hear(&mut self, cpu: u16, place: usize, entry: &Entry) -> Result<(), AllocError>
+        ensures { OnOk result (self.new ≡ lane_then place entry.now cpu self.old) }
+    {
+        let before = self.there.map(|(tid, _)| tid);
+        let after = thread_then(cpu, before, entry);
+        if after == before {
+            return Ok(());
+        }
+        self.end(cpu, place)?;
+        self.there = after.map(|tid| (tid, place));
+        Ok(())
+    }
+}

@@ -1,0 +1,28 @@
+use Rattle.std.proofs.Common.{◌≡◌, ◌+◌, ◌∙◌, ap, sym, subst, false, List, [], ◌∷◌, drop, map}
+use Rattle.std.specs.List.{list_any}
+use Rattle.gs_core.specs.declared.event.Event.{Event}
+use Rattle.gs_core.specs.Machine.{Plan, planned, planning}
+use Rattle.gs_core.specs.Short.{wants_memory}
+use Rattle.gs_trace.specs.Output.{any_plans}
+use Rattle.gs_trace.specs.Taking.{TakenSoFar}
+use Rattle.gs_trace.proofs.Taking.{none_left, none_taken, one_left, taken_more}
+use Rattle.gs_trace.proofs.running.run_into.Goals as goal
+
+pub loop-event-init : goal.loop-event-init
+loop-event-init g c = none_taken g.T.Taker.has (planning any_plans c.args.machine.now) (map (planned any_plans) c.args.events.now) c.args.taker c.requires
+
+pub loop-event-preserved : goal.loop-event-preserved
+loop-event-preserved g c =
+    let i = c.loop-event.event-index in
+    let event : Event _ = c.event-item.result in
+    let rest : List (Event Plan) = map (planned any_plans) (drop (i + 1) c.args.events.now) in
+    let next : map (planned any_plans) (drop i c.args.events.now) ≡ planned any_plans event ∷ rest =
+    one_left (planned any_plans) c.args.events.now i event c.loop-event-test.true ∙ ap (λ (e : Event _). planned any_plans e ∷ rest) (sym c.event-item.is) in
+    let fine : list_any wants_memory (c.step-reply.result ∷ []) ≡ false =
+    sym (ap (list_any wants_memory) c.from_ref.ensures.value) ∙ (sym c.is_short.ensures ∙ c.if-is_short.false) in
+    taken_more g.T.Taker.has (planning any_plans c.args.machine.now) (map (planned any_plans) c.args.events.now) (map (planned any_plans) (drop i c.args.events.now)) rest (planning any_plans c.loop-event.machine) (planning any_plans c.step-reply.new.self) (planned any_plans event) c.step-reply.result c.loop-event.taken c.take.new.self c.loop-event.invariant next c.step-reply.ensures.step c.step-reply.ensures.safe c.step-reply.ensures.faithful fine c.in_ok-take.ensures
+
+pub returns : goal.returns
+returns g c =
+    subst (λ (left : List (Event Plan)). TakenSoFar g.T.Taker.has (planning any_plans c.args.machine.now) (map (planned any_plans) c.args.events.now) left (planning any_plans c.loop-event.machine) c.loop-event.taken)
+    (none_left (planned any_plans) c.args.events.now c.loop-event.event-index c.loop-event-test.false) c.loop-event.invariant

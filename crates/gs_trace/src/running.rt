@@ -1,0 +1,76 @@
+//! A run whose replies are taken in one by one, none of which is kept.
+
+ghost use Rattle.std.specs.Prelude.{◌≡◌, List, [], ◌∷◌, ◌++◌, IfOk, OnOk, map};
+ghost use Rattle.gs_core.specs.Machine.{planned, planning};
+ghost use Rattle.gs_core.specs.declared.reply.Reply as replies;
+ghost use Rattle.gs_lines.specs.Lines.{lines};
+ghost use Rattle.gs_report.specs.Report.{ReportsOn};
+ghost use Rattle.gs_trace.specs.Output.{any_plans};
+ghost use Rattle.gs_trace.specs.Taking.{TakenSoFar};
+
+use gs_core::{Event, Machine, Reply, is_short};
+use gs_lines::{Text, write_reply};
+use gs_policy::AnyPolicy;
+use gs_report::Report;
+use std::alloc::AllocError;
+use std::slice;
+
+/// What takes in the replies of a run, one after another.
+pub(crate) trait Taker: Drop {
+    /// It has taken in these replies, and no others.
+    ghost has: { Self → List replies.Reply → Type 0 };
+
+    /// Takes in one more reply. It fails only for want of memory.
+    fn take(&mut self, reply: &Reply) -> Result<(), AllocError>
+        ensures { OnOk result ((rs : List replies.Reply) → has self.old rs → has self.new (rs ++ reply.now ∷ [])) };
+}
+
+/// The lines of the replies.
+impl Taker for Text {
+    ghost has = { λ text rs. text ≡ lines rs };
+
+    #[tactic(auto, using(crate::proofs::Taking::text_more))]
+    fn take(&mut self, reply: &Reply) -> Result<(), AllocError> {
+        write_reply(self, reply)
+    }
+}
+
+impl Taker for Report {
+    ghost has = { ReportsOn };
+
+    fn take(&mut self, reply: &Reply) -> Result<(), AllocError> {
+        self.add(reply)
+    }
+}
+
+/// What takes in replies and keeps nothing of them.
+#[derive(Drop)]
+pub(crate) struct Nothing;
+
+impl Taker for Nothing {
+    ghost has = { λ _ _. Unit {0} };
+
+    fn take(&mut self, _reply: &Reply) -> Result<(), AllocError> {
+        Ok(())
+    }
+}
+
+/// Runs events, and has each reply taken in. It fails only for want of memory, also where a reply tells of that.
+pub(crate) fn run_into<T: Taker>(
+    machine: &mut Machine<AnyPolicy>,
+    events: &[Event<AnyPolicy>],
+    taker: T,
+) -> Result<T, AllocError>
+    requires { T.has taker [] }
+    ensures { IfOk result (λ taken. TakenSoFar T.has (planning any_plans machine.old) (map (planned any_plans) events.now) [] (planning any_plans machine.new) taken) }
+{
+    let mut taken = taker;
+    for event in events {
+        let reply = machine.step(event);
+        if is_short(slice::from_ref(&reply)) {
+            return Err(AllocError);
+        }
+        taken.take(&reply)?;
+    }
+    Ok(taken)
+}

@@ -1,0 +1,135 @@
+ghost use Rattle.std.specs.Prelude.{◌≡◌, ◌+◌, ◌==◌, ◌<◌, ◌≤◌, ℕ, [], true, false, None, Some, All, OnOk, is_some, length, option_copied};
+ghost use Rattle.std.specs.List.Sorted.{IsStrictlyIncreasing};
+ghost use Rattle.gs_layout.specs.Message.{is_death};
+ghost use Rattle.gs_layout.specs.View.{learnt, look_up};
+ghost use Rattle.gs_view.specs.Records.{with_known};
+ghost use Rattle.gs_view.specs.Shown.{tids};
+
+use crate::index::KeyIndex;
+use crate::walk::Walk;
+use gs_layout::{Known, Message};
+use slab::Slab;
+use std::alloc::{AllocError, Global};
+use std::marker::Model;
+
+/// What is known of each thread, in a slab: an index has the key of each tid of which something is known.
+/// Clauses see the records by rising tid.
+///
+/// A look-up and a change take the same time for any number of threads.
+#[derive(Drop)]
+pub(crate) struct Records {
+    index: KeyIndex,
+    slab: Slab<Known>,
+}
+
+impl Model for Records {
+    ghost use Rattle.gs_view.specs.Records.{Agree, RecordsState, state_of};
+
+    ghost Value = { RecordsState };
+
+    ghost view = { λ r. state_of r.index r.slab };
+
+    ghost invariant = { λ r. Agree r.index r.slab };
+}
+
+impl Records {
+    /// Nothing is known. It takes no memory.
+    pub(crate) fn new(alloc: Global) -> Records
+        ensures { result.entries ≡ [] }
+    {
+        Records {
+            index: KeyIndex::new(alloc),
+            slab: Slab::new(alloc),
+        }
+    }
+
+    /// Of how many threads something is known.
+    pub(crate) fn len(&self) -> usize
+        ensures { result ≡ length self.now.entries }
+    {
+        self.slab.len()
+    }
+
+    /// What is known of a thread.
+    pub(crate) fn get(&self, tid: u32) -> Option<&Known>
+        ensures { option_copied result ≡ look_up self.now.entries tid }
+    {
+        let key = self.index.get(tid as usize)?;
+        self.slab.get(key)
+    }
+
+    /// All that is known, by rising tid.
+    pub(crate) fn walk(&self) -> Walk<'_>
+        ensures whole { result ≡ self.now.entries }
+        ensures rising { IsStrictlyIncreasing (tids self.now.entries) }
+        ensures found { All (λ entry. look_up self.now.entries entry.0 ≡ Some entry.1) self.now.entries }
+    {
+        Walk::over(self, self.index.tids())
+    }
+
+    /// Makes room for so many records, of threads up to a tid.
+    ///
+    /// # Errors
+    ///
+    /// `AllocError` if memory runs out. Either way the records stay as they are.
+    pub(crate) fn reserve(&mut self, tid: u32, records: usize) -> Result<(), AllocError>
+        ensures place { OnOk result (tid < self.new.tids) }
+        ensures room { OnOk result (records ≤ self.new.room) }
+        ensures same { self.new.entries ≡ self.old.entries }
+    {
+        self.index.reserve(tid as usize)?;
+        self.slab.reserve(records)
+    }
+
+    /// Makes this known of a thread, whatever was known of it. There is room.
+    pub(crate) fn put(&mut self, tid: u32, known: Known)
+        requires place { tid < self.old.tids }
+        requires room { 0 < self.old.room }
+        ensures known { (t : ℕ) → look_up self.new.entries t ≡ with_known tid (Some known) (look_up self.old.entries) t }
+        ensures places { self.new.tids ≡ self.old.tids }
+        ensures room { self.old.room ≤ self.new.room + 1 }
+    {
+        let tid = tid as usize;
+        if let Some(key) = self.index.get(tid) {
+            self.slab[key] = known;
+        } else {
+            let key = self.slab.insert_reserved(known);
+            self.index.set(tid, key);
+        }
+    }
+
+    /// Makes of what is known of a thread, in its place, what a message says that comes next and is no death.
+    pub(crate) fn renew(&mut self, tid: u32, message: &Message)
+        requires known { is_some (look_up self.old.entries tid) ≡ true }
+        requires lives { is_death message.now ≡ false }
+        ensures { (t : ℕ) → look_up self.new.entries t ≡ with_known tid (learnt (look_up self.old.entries tid) message.now) (look_up self.old.entries) t }
+    {
+        if let Some(key) = self.index.get(tid as usize) {
+            renew(&mut self.slab[key], message);
+        }
+    }
+
+    /// Makes nothing known of a thread. Its key is free then.
+    pub(crate) fn remove(&mut self, tid: u32)
+        ensures { (t : ℕ) → look_up self.new.entries t ≡ with_known tid None (look_up self.old.entries) t }
+    {
+        let tid = tid as usize;
+        if let Some(key) = self.index.get(tid) {
+            self.index.clear(tid);
+            self.slab.remove(key);
+        }
+    }
+}
+
+/// Makes of a live thread's record what a message says that comes next and is no death. A timer
+/// tick leaves it.
+fn renew(known: &mut Known, message: &Message)
+    requires { is_death message.now ≡ false }
+    ensures { Some known.new ≡ learnt (Some known.old) message.now }
+{
+    let Message::Thread { tseq, change, .. } = message else {
+        return;
+    };
+    known.facts.change(change);
+    known.tseq = *tseq;
+}

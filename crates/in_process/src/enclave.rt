@@ -1,0 +1,179 @@
+//! An enclave without a script: a kernel with its ring, the role of the agent, and the slots.
+
+ghost use Rattle.std.specs.Prelude.{◌≡◌, ◌≤◌, false};
+ghost use Rattle.gs_status.specs.Masks.{has};
+
+use gs_agent::Role;
+use gs_dump::{read_page, write_page};
+use gs_kernel::{Kernel, LEAST_CPUS, LEAST_GENERATION, MOST_HISTORY, Settings};
+use gs_layout::{Class, Facts, Name};
+use gs_policy::{Choice, FirstCome};
+use gs_ring::ByteRing;
+use gs_slots::Region;
+use gs_status::{MOST_CPUS, Mask};
+use std::alloc::Global;
+
+/// The bytes of the ring, the most that one may have.
+const RING: usize = 1_048_576;
+
+/// So many creations wait at most until they are drained: their messages take half of the ring.
+const CREATIONS: u32 = 16_384;
+
+/// The most messages that are drained where only those of a round wait.
+const MANY: u32 = 65_536;
+
+/// The threads of a page.
+const PAGE: u16 = 1_000;
+
+/// An enclave in which all threads may run on all CPUs but the first, which is the agent's.
+#[derive(Drop)]
+pub(crate) struct Enclave {
+    alloc: Global,
+    kernel: Kernel<ByteRing>,
+    role: Role<FirstCome>,
+    region: Region,
+    mask: Mask,
+}
+
+/// The CPUs but the first, of so many.
+fn others(cpus: u16) -> Mask
+    requires few { LEAST_CPUS ≤ cpus }
+    requires most { cpus ≤ MOST_CPUS }
+    ensures { has result 0 ≡ false }
+{
+    Mask::new(u64::MAX >> (MOST_CPUS - cpus)).without(0)
+}
+
+impl Enclave {
+    /// An enclave of so many CPUs and threads, of all of which the agent knows.
+    pub(crate) fn open(alloc: Global, threads: u32, cpus: u16) -> Option<Enclave>
+        requires few { LEAST_CPUS ≤ cpus }
+        requires most { cpus ≤ MOST_CPUS }
+    {
+        let settings = Settings {
+            cpus,
+            first_tseq: 0,
+            first_generation: LEAST_GENERATION,
+            history: MOST_HISTORY,
+        };
+        let ring = ByteRing::new(alloc, RING).ok()?;
+        let mut enclave = Enclave {
+            alloc,
+            kernel: Kernel::new(alloc, settings, ring).ok()?,
+            role: Role::new(alloc, FirstCome, cpus, LEAST_GENERATION, 0).ok()?,
+            region: Region::new(alloc, cpus).ok()?,
+            mask: others(cpus),
+        };
+        enclave.create(threads, Name::new(b"a")?);
+        Some(enclave)
+    }
+
+    /// So many threads are created.
+    fn create(&mut self, threads: u32, name: Name) {
+        let facts = Facts {
+            mask: self.mask,
+            runnable: true,
+            class: Class::Zero,
+            name,
+        };
+        for number in 0..threads {
+            self.kernel.create(&facts);
+            if number % CREATIONS == 0 {
+                self.drain();
+            }
+        }
+        self.drain();
+    }
+
+    /// The agent drains what waits: how many messages.
+    pub(crate) fn drain(&mut self) -> usize
+        ensures { result ≤ MANY }
+    {
+        let mut head = self.kernel.taker();
+        self.role.drain(&mut head, MANY).count
+    }
+
+    /// The agent stamps a choice.
+    fn stamp(&mut self, choice: Choice) {
+        if choice.cpu < self.region.cpus() {
+            let slot = self.region.slot(choice.cpu);
+            let _ = self.role.stamp(slot, choice.tid, choice.preempt);
+        }
+    }
+
+    /// The agent commits all slots and takes in what became of them: how many landed.
+    fn commit(&mut self) -> usize {
+        if self.region.cpus() != self.kernel.settings().cpus {
+            return 0;
+        }
+        let committed = self
+            .kernel
+            .txns_commit(self.alloc, &mut self.region, self.mask);
+        self.role.collect(&mut self.region);
+        committed.map_or(0, |landings| landings.len())
+    }
+
+    /// A thread is placed on a CPU by a transaction.
+    pub(crate) fn place(&mut self, tid: u32, cpu: u16) {
+        self.stamp(Choice {
+            cpu,
+            tid,
+            preempt: false,
+        });
+        self.commit();
+    }
+
+    /// A thread blocks and wakes.
+    pub(crate) fn block_and_wake(&mut self, tid: u32) {
+        self.kernel.block(tid);
+        self.kernel.wake(tid);
+    }
+
+    /// A thread is told its mask anew.
+    pub(crate) fn tell_mask(&mut self, tid: u32) {
+        self.kernel.affinity(tid, self.mask);
+    }
+
+    /// What the policy plans is stamped and committed, and all that were placed yield: how many slots landed.
+    pub(crate) fn decide(&mut self) -> usize {
+        let Ok(choices) = self.role.decide(self.alloc, self.kernel.taken()) else {
+            return 0;
+        };
+        for choice in &choices {
+            self.stamp(*choice);
+        }
+        let landed = self.commit();
+        for choice in &choices {
+            self.kernel.yield_cpu(choice.tid);
+        }
+        landed
+    }
+
+    /// A new agent takes the place of the one before: how many threads it was told of. `None` where memory runs out.
+    pub(crate) fn attach(&mut self, threads: u32) -> Option<usize> {
+        self.kernel.leave();
+        self.kernel.begin();
+        let generation = self.kernel.attaching()?;
+        let cpus = self.kernel.settings().cpus;
+        self.role = Role::attach(self.alloc, FirstCome, cpus, generation).ok()?;
+        let mut told: usize = 0;
+        for _ in 0..=threads / PAGE as u32 {
+            told = told.wrapping_add(self.load_page()?);
+        }
+        self.kernel.activate(0);
+        self.role.promote(generation, 0);
+        Some(told)
+    }
+
+    /// The agent is told of the next page, which goes through its bytes: of how many threads.
+    fn load_page(&mut self) -> Option<usize> {
+        let Some(from) = self.role.next_page() else {
+            return Some(0);
+        };
+        let page = self.kernel.page(self.alloc, from, PAGE).ok()?;
+        let bytes = write_page(self.alloc, &page).ok()?;
+        let page = read_page(self.alloc, &bytes).ok()?;
+        self.role.rebuild(&page).ok()?;
+        Some(page.records.len())
+    }
+}

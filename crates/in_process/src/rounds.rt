@@ -1,0 +1,118 @@
+//! Rounds of one kind, each about another thread.
+
+ghost use Rattle.std.specs.Prelude.{◌<◌, ◌≤◌, IfSome};
+
+use crate::enclave::Enclave;
+use gs_kernel::LEAST_CPUS;
+use gs_layout::MOST_TIDS;
+use gs_status::MOST_CPUS;
+use std::alloc::Global;
+
+/// What happens in a round.
+#[derive(Clone, Copy, PartialEq, Eq, Debug)]
+pub(crate) enum Kind {
+    /// A thread is told its mask anew, and the message is drained.
+    Affinities,
+    /// A thread is placed, blocks and wakes, and the messages are drained.
+    Blocks,
+    /// What the policy plans is stamped and committed; all that were placed yield, and the messages are drained.
+    Decides,
+    /// A new agent takes the place of the one before, and is told of all threads.
+    Attaches,
+}
+
+impl Kind {
+    /// The kind that a word names.
+    pub(crate) fn named(word: &str) -> Option<Kind> {
+        match word {
+            "affinities" => Some(Kind::Affinities),
+            "blocks" => Some(Kind::Blocks),
+            "decides" => Some(Kind::Decides),
+            "attaches" => Some(Kind::Attaches),
+            _ => None,
+        }
+    }
+}
+
+/// A prime above the most threads, so that its multiples pass through all of them.
+const STRIDE: u32 = 2_654_435_761;
+
+/// How many rounds there are, and among how many threads and CPUs.
+#[derive(Clone, Copy)]
+pub(crate) struct Size {
+    rounds: u32,
+    threads: u32,
+    cpus: u16,
+}
+
+impl Size {
+    /// The numbers of rounds, of 1 to 65,536 threads and of 2 to 64 CPUs, `None` where that is not what the words tell.
+    pub(crate) fn told(rounds: &str, threads: &str, cpus: &str) -> Option<Size>
+        ensures threads { IfSome result (λ size. 0 < size.threads) }
+        ensures few { IfSome result (λ size. LEAST_CPUS ≤ size.cpus) }
+        ensures most { IfSome result (λ size. size.cpus ≤ MOST_CPUS) }
+    {
+        let size = Size {
+            rounds: rounds.parse::<u32>().ok()?,
+            threads: threads.parse::<u32>().ok()?,
+            cpus: cpus.parse::<u16>().ok()?,
+        };
+        let fits = (1..=MOST_TIDS).contains(&size.threads)
+            && (LEAST_CPUS..=MOST_CPUS).contains(&size.cpus);
+        fits.then_some(size)
+    }
+
+    /// The thread and the CPU that a round is about. No thread is on the first CPU.
+    fn subject(self, turn: u32) -> (u32, u16)
+        requires threads { 0 < self.threads }
+        requires cpus { LEAST_CPUS ≤ self.cpus }
+        ensures first { 1 ≤ result.0 }
+        ensures last { result.0 ≤ self.threads }
+        ensures other { 1 ≤ result.1 }
+        ensures below { result.1 < self.cpus }
+    {
+        let tid = turn.wrapping_mul(STRIDE) % self.threads + 1;
+        let cpu = (turn % (self.cpus as u32 - 1)) as u16 + 1;
+        (tid, cpu)
+    }
+
+    /// Runs the rounds in a new enclave. How much came of them: messages drained, slots landed or threads told of.
+    /// `None` where memory runs out before the first.
+    pub(crate) fn run(self, alloc: Global, kind: Kind) -> Option<u64>
+        requires threads { 0 < self.threads }
+        requires few { LEAST_CPUS ≤ self.cpus }
+        requires most { self.cpus ≤ MOST_CPUS }
+    {
+        let mut enclave = Enclave::open(alloc, self.threads, self.cpus)?;
+        let mut sum: u64 = 0;
+        for turn in 0..self.rounds {
+            sum = sum.wrapping_add(self.round(kind, &mut enclave, turn));
+        }
+        Some(sum)
+    }
+
+    /// How much came of a round.
+    fn round(self, kind: Kind, enclave: &mut Enclave, turn: u32) -> u64
+        requires threads { 0 < self.threads }
+        requires cpus { LEAST_CPUS ≤ self.cpus }
+    {
+        let (tid, cpu) = self.subject(turn);
+        match kind {
+            Kind::Affinities => {
+                enclave.tell_mask(tid);
+                enclave.drain() as u64
+            }
+            Kind::Blocks => {
+                enclave.place(tid, cpu);
+                enclave.block_and_wake(tid);
+                enclave.drain() as u64
+            }
+            Kind::Decides => {
+                let landed = enclave.decide();
+                enclave.drain();
+                landed as u64
+            }
+            Kind::Attaches => enclave.attach(self.threads).unwrap_or(0) as u64,
+        }
+    }
+}
