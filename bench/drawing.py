@@ -1,4 +1,4 @@
-"""Random scripts for bench/agree, with all events in them, and drawn so that there is something to answer."""
+"""Random scripts for bench/agree, with all events in them, and drawn so that there is something to reply."""
 
 # Lines that are passed over or have a bad byte, words that no event has, and a header in an event's place.
 STRANGE = (
@@ -24,7 +24,7 @@ class Script:
     def __init__(self, chance, cpus=None):
         self.chance = chance
         self.cpus = cpus or chance.choice((2, 2, 3, 3, 4, 5, 8, 64))
-        # Where the number of CPUs is asked for, threads run on all of them; else mostly on the first few.
+        # If the number of CPUs is asked for, threads run on all of them, and else mostly on the first few.
         self.spread = bool(cpus)
         self.ring = chance.choice((128, 128, 136, 192, 256, 256, 512, 1024, 4096, 1_048_576))
         self.classes = chance.random() < 0.5
@@ -257,7 +257,7 @@ class Script:
         return lines if self.chance.random() < 0.1 else [*lines, "page 65535"]
 
     def mending(self):
-        """An agent is made active again where there is none."""
+        """An agent is made active again if there is none."""
         first = [] if self.agent == "attaching" else self.begin()
         return [*first, *self.paging(), *self.activate()]
 
@@ -354,7 +354,7 @@ def with_fault(chance, line):
 
 
 def random_script(chance, cpus=None):
-    """A script as bytes, of so many CPUs where that is asked for."""
+    """A script as bytes, of so many CPUs if that is asked for."""
     drawn = Script(chance, cpus)
     lines = [drawn.header()]
     if chance.random() < 0.8:

@@ -15,7 +15,7 @@ PLAIN = ("ghost", "kept")
 
 
 def churn(kind, threads, rounds, *options):
-    """The script that bench/churn writes; None where it would be too long."""
+    """The script that bench/churn writes; None if it would be too long."""
     command = [HERE / "churn", kind, "--threads", str(threads), "--rounds", str(rounds), *options]
     done = subprocess.run(command, stdout=subprocess.PIPE, stderr=subprocess.PIPE)
     if b"the most is" in done.stderr:
@@ -52,12 +52,12 @@ def nanoseconds(command, script=b""):
 
 
 def cell(costs, digits=0):
-    """The median of the turns and, where there are several, its standard error."""
+    """The median of the turns and, if there are several, its standard error."""
     middle = statistics.median(costs)
     if len(costs) == 1:
         return f"{middle:,.{digits}f}"
     low, _, high = statistics.quantiles(costs, n=4)
-    # As the error of a median is where costs spread as on a bell curve with these quartiles.
+    # As the error of a median is if costs spread as on a bell curve with these quartiles.
     return f"{middle:,.{digits}f} ± {0.93 * (high - low) / len(costs) ** 0.5:,.{digits}f}"
 
 

@@ -1,11 +1,11 @@
-// The yardstick for the proved program: it answers the same scripts with the same output, byte for byte, and is as
+// The yardstick for the proved program: it writes the same output for the same scripts, byte for byte, and is as
 // fast as a plain program can be. `bench/compare` builds it and measures both, `bench/agree` tries whether they agree.
 //
-//     ghost run                 answers the script that it reads from standard input
-//     ghost report --last N     answers the report on it
+//     ghost run                 writes the replies to the script that it reads from standard input
+//     ghost report --last N     writes the report on it
 //
 // The script is read at once and each line is run when it has been parsed. The output goes into one block, and is
-// thrown away where a later line turns out to be at fault. Nothing is kept that no event can show: of the journal
+// thrown away if a later line turns out to be at fault. Nothing is kept that no event can show: of the journal
 // there is the count of its entries alone, of the ring the places where bytes would stand, and the messages beside it.
 // For processors that store the lowest byte first.
 
@@ -139,7 +139,7 @@ static bool torn;
 static enum role { NOBODY, ATTACHING, ACTIVE } role = ACTIVE;
 static uint32_t generation;
 static uint8_t agent;
-// The thread from which the next page goes on, 0 where there is none after the last one.
+// The thread from which the next page goes on, 0 if there is none after the last one.
 static uint32_t next_page;
 
 // Of a message that waits in the ring all is kept that its record has.
@@ -160,7 +160,7 @@ struct message {
 static uint32_t queue_first, queue_length;
 static uint32_t write_place, used_bytes;
 
-// The agent's record of a thread. `next` and `previous` are the threads beside it in the run queue of its class, 0 where
+// The agent's record of a thread. `next` and `previous` are the threads beside it in the run queue of its class, 0 if
 // it does not wait. Of a record of another era than the agent's nothing counts: the agent does not know the thread.
 struct record {
     uint64_t mask;
@@ -244,7 +244,7 @@ static void write_all(const char *from, size_t length)
     }
 }
 
-// ---- writing lines; each function answers the place behind what it wrote ----
+// ---- writing lines; each function returns the place behind what it wrote ----
 
 #define PUT(s) (memcpy(o, s, sizeof(s) - 1), o += sizeof(s) - 1)
 
@@ -344,7 +344,7 @@ static inline char *refuse(char *o, enum refusal refusal)
 
 // ---- the ring ----
 
-// The place for a message of so many bytes, which has tid, number and CPU already; null where it does not fit.
+// The place for a message of so many bytes, which has tid, number and CPU already; null if it does not fit.
 static inline struct message *post(enum kind kind, uint32_t length, uint32_t tid, uint32_t tseq, uint8_t cpu)
 {
     uint32_t rest = capacity - write_place;
@@ -783,7 +783,7 @@ static bool number_in(const struct words *words, unsigned i, uint64_t least, uin
     return least <= n && n <= most;
 }
 
-// The fault of a policy's name, with `i` at its last word then; where there is none, its slice, or 0 for the one without.
+// The fault of a policy's name, with `i` at its last word then; if there is none, its slice, or 0 for the one without.
 static enum fault policy_fault(const struct words *words, unsigned *i, uint64_t *n)
 {
     *n = 0;
@@ -947,7 +947,7 @@ static enum fault fault_from(const char *p, const char *end, const char **where)
 
 // ---- running ----
 
-// The first byte that no line may have; `length` where there is none.
+// The first byte that no line may have; `length` if there is none.
 static size_t first_bad_byte(const unsigned char *s, size_t length)
 {
     for (size_t at = 0; at < length; at += 4096) {
@@ -981,7 +981,7 @@ static char *spill(char *o)
     return out;
 }
 
-// Numbers from left to right; `goto odd` where the line is at fault, or is not an event.
+// Numbers from left to right; `goto odd` if the line is at fault, or is not an event.
 #define DIGIT(p) ((unsigned)(unsigned char)*(p) - '0')
 #define END_WORD() do { if (unlikely((unsigned char)*p > ' ')) goto odd; while (*p == ' ') p++; } while (0)
 #define NUMBER(n, most) \
@@ -1030,7 +1030,7 @@ static char *spill(char *o)
             goto tear; \
         t->tseq++; \
     } while (0)
-// Whoever is on the CPU makes way, where it can be had, and no generation that is wanted is spent.
+// Whoever is on the CPU makes way, if it can be had, and no generation that is wanted is spent.
 #define FREE_SEAT(spent) do { \
         REFUSE_IF(cpu >= cpus, BAD_CPU); \
         REFUSE_IF(cpu == agent, AGENT_THERE); \
@@ -1093,7 +1093,7 @@ static const uint64_t WORDS[32] = {
     [E_ACTIVATE] = W('a', 'c', 't', 'i', 'v', 'a', 't', 'e'),
 };
 
-// The line of a fault where there is one, else null; `*behind` is then the place behind the output.
+// The line of a fault if there is one, else null; `*behind` is then the place behind the output.
 static const char *run(const char *p, const char *end, char **behind, enum fault *fault)
 {
     char *o = out;
@@ -1546,7 +1546,7 @@ static enum status faulted(const char *line, enum fault fault)
     return SCRIPT_FAULT;
 }
 
-// Reads up to so many bytes, and answers how many there were.
+// Reads up to so many bytes, and returns how many there were.
 static size_t read_all(char *to, size_t most)
 {
     size_t length = 0;

@@ -1,4 +1,4 @@
-//! A set of thread numbers, walked by rising number.
+//! A set of thread numbers, walked in increasing order.
 
 #[derive(Default)]
 pub struct Bits {

@@ -127,7 +127,7 @@ impl Refusal {
     }
 }
 
-/// Answers a refusal where it holds.
+/// Returns a refusal if it holds.
 #[inline(always)]
 pub fn refuse_if(holds: bool, refusal: Refusal) -> Result<(), Refusal> {
     if holds {
@@ -198,7 +198,7 @@ impl Outcome {
     }
 }
 
-/// The CPUs of a mask, rising.
+/// The CPUs of a mask, in increasing order.
 #[inline(always)]
 pub fn cpus_in(mut mask: u64) -> impl Iterator<Item = u8> {
     std::iter::from_fn(move || {

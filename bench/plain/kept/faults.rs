@@ -22,7 +22,7 @@ pub fn words(line: &[u8]) -> Words<'_> {
     line.split(|&byte| byte == b' ').filter(|word| !word.is_empty()).collect()
 }
 
-/// The number that a word is, where it is one from `least` to `most`.
+/// The number that a word is, if it is one from `least` to `most`.
 fn number(word: &[u8], least: u64, most: u64) -> Result<u64, Fault> {
     let digits = std::str::from_utf8(word).map_err(|_| BadNumber)?;
     if !word.iter().all(u8::is_ascii_digit) || word.len() > 1 && word[0] == b'0' {
@@ -129,7 +129,7 @@ const EVENTS: [(&[u8], &[u8]); 22] = [
     (b"activate", b"C"),
 ];
 
-/// The fault of an event's line, where it has one.
+/// The fault of an event's line, if it has one.
 pub fn event(line: &[u8]) -> Result<(), Fault> {
     let words = words(line);
     let (&first, rest) = words.split_first().ok_or(BadWord)?;

@@ -122,7 +122,7 @@ impl Kernel {
         Ok(self.threads.find(tid).ok_or(NoThread)?.status())
     }
 
-    /// Posts the next message of a thread, where it has a number left and there is room.
+    /// Posts the next message of a thread, if it has a number left and there is room.
     #[inline(always)]
     fn tell(&mut self, kind: u16, tid: u32, status: Status) -> Result<u32, Refusal> {
         refuse_if(status.tseq() == u32::MAX, SeqSpent)?;
@@ -211,7 +211,7 @@ impl Kernel {
         Ok((tseq, cpu))
     }
 
-    /// A CPU that the other class, or an agent, may have, where no generation that is wanted is spent.
+    /// A CPU that the other class, or an agent, may have, if no generation that is wanted is spent.
     #[inline(always)]
     fn seat(&self, cpu: u16, is_spent: bool) -> Result<u8, Refusal> {
         let cpu = self.cpu(cpu)?;

@@ -57,7 +57,7 @@ impl Kernel {
         Outcome::Placed
     }
 
-    /// The stamped slots of a mask land, by rising CPU; each is told of. How many they were.
+    /// The stamped slots of a mask land, in increasing order of CPU, and each is told of. Returns how many they were.
     #[inline(always)]
     pub fn commit(
         &mut self,

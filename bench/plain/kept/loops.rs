@@ -9,7 +9,7 @@ const RING: usize = 1_048_576;
 const HISTORY: u32 = 16_777_216;
 /// So many creations wait at most until they are drained: their messages take half of the ring.
 const CREATIONS: u32 = 16_384;
-/// The most messages that are drained where only those of a round wait.
+/// The most messages that are drained if only those of a round wait.
 const MANY: u32 = 65_536;
 /// The threads of a page.
 const PAGE: u16 = 1_000;

@@ -1,10 +1,10 @@
-//! A second yardstick for the proved program: it answers the same scripts with the same output, byte for byte, keeps what
+//! A second yardstick for the proved program: it writes the same output for the same scripts, byte for byte, keeps what
 //! the proved one keeps, and proves nothing. `bench/compare` builds it and measures all, `bench/agree` tries whether they
 //! agree.
 //!
-//!     kept run                 answers the script that it reads from standard input
-//!     kept report --last N     answers the report on it
-//!     kept journal             answers all that happened
+//!     kept run                 writes the replies to the script that it reads from standard input
+//!     kept report --last N     writes the report on it
+//!     kept journal             writes all that happened
 //!     kept KIND N THREADS CPUS runs N rounds of events without a script, and tells how much came of them
 //!
 //! The whole script is read into events before the first one runs, and nothing is written before the last has ended. It

@@ -1,7 +1,7 @@
 //! The ring: a block of bytes in which messages wait, none of them split over its end.
 //!
 //! Each message is a multiple of eight bytes long, so the block is kept as words, lowest byte first: byte for byte it
-//! is the layout's. A pad fills the rest of the block where the next message does not fit there, and is passed over
+//! is the layout's. A pad fills the rest of the block if the next message does not fit there, and is passed over
 //! together with that message.
 
 use crate::event::{Facts, Name, NO_CPU};
@@ -45,7 +45,7 @@ impl Ring {
         Ring { block: vec![0; capacity / 8].into(), write: 0, read: 0, used: 0 }
     }
 
-    /// Writes a message, and a pad before it where that is wanted.
+    /// Writes a message, and a pad before it if that is wanted.
     #[inline(always)]
     pub fn post<const WORDS: usize>(&mut self, message: [u64; WORDS]) -> Result<(), Full> {
         let capacity = self.block.len();

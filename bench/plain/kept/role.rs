@@ -115,7 +115,7 @@ impl Role {
         (tid != 0 && record.known).then_some((&record.facts, record.tseq))
     }
 
-    /// The threads of which something is known, by rising number.
+    /// The threads of which something is known, in increasing order of number.
     pub fn walk(&self) -> impl Iterator<Item = (u32, &Facts, u32)> {
         self.known.from(0).filter_map(|tid| self.get(tid).map(|(facts, tseq)| (tid, facts, tseq)))
     }

@@ -175,7 +175,7 @@ impl Cursor<'_> {
         Some(Event::Begin { policy: Some(policy) })
     }
 
-    /// The event of a line, behind which the cursor stands then; none where the line is at fault or has no words.
+    /// The event of a line, behind which the cursor stands then; none if the line is at fault or has no words.
     #[inline(always)]
     fn event(&mut self) -> Option<Event> {
         let word = self.word()?;

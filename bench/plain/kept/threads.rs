@@ -129,7 +129,7 @@ impl Threads {
         &mut self.rows[tid as usize - 1]
     }
 
-    /// The row of a thread, where it was created.
+    /// The row of a thread, if it was created.
     #[inline(always)]
     pub fn get(&self, tid: u32) -> Option<&Row> {
         self.rows.get((tid as usize).wrapping_sub(1))

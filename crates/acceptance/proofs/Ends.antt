@@ -29,14 +29,14 @@ greatest_same test other (suc n) same =
     ap (λ (b : Bool). last_or b n (greatest test n)) (same n (omega arith))
     ∙ ap (λ (o : Option ℕ). last_or (other n) n o) (greatest_same test other n (λ i l. same i (omega arith)))
 
--- none is the greatest where none passes
+-- none is the greatest if none passes
 pub greatest_none : (test : ℕ → Bool) (n : ℕ) → ((i : ℕ) → i < n → test i ≡ false) → greatest test n ≡ None
 unfolding greatest
 greatest_none test zero none = refl
 greatest_none test (suc n) none =
     ap (λ (b : Bool). last_or b n (greatest test n)) (none n (omega arith)) ∙ greatest_none test n (λ i l. none i (omega arith))
 
--- one that passes is the greatest where none above it does
+-- one that passes is the greatest if none above it does
 pub greatest_found : (test : ℕ → Bool) (c d : ℕ) → test c ≡ true → ((i : ℕ) → c < i → test i ≡ false) → greatest test (suc c + d) ≡ Some c
 unfolding greatest
 greatest_found test c zero passes none =

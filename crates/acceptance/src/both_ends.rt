@@ -12,12 +12,12 @@ use gs_status::{MOST_CPUS, Mask};
 use gs_view::AgentView;
 use std::alloc::{AllocError, Global};
 
-/// The waiting threads, in order, take the free CPUs of their masks that the plan has not used yet: a
-/// thread of class 0 the least of them, a thread of class 1 the greatest. Nobody is preempted.
+/// The waiting threads, in order, take the free CPUs of their masks that the plan has not used yet. A thread
+/// of class 0 takes the least of them, and a thread of class 1 the greatest. Nobody is preempted.
 #[derive(Clone, Copy, PartialEq, Eq, Debug)]
 pub struct BothEnds;
 
-/// The greatest CPU of a set, or `None` where no CPU is in it.
+/// Returns the greatest CPU of a set, or `None` if no CPU is in it.
 #[tactic(auto, using(crate::proofs::Ends::greatest_of_none, crate::proofs::Ends::greatest_of_some, crate::proofs::Ends::highest_within))]
 fn highest(mask: Mask) -> Option<u16>
     ensures greatest { result ≡ greatest (has mask) MOST_CPUS }

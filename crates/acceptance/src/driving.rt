@@ -1,5 +1,5 @@
-//! A policy of one's own in the role of an agent: threads come to it out of the kernel's ring, and what it chooses
-//! goes to the kernel by the slots.
+//! A policy of one's own in the role of an agent. Threads come to it out of the kernel's ring, and what it
+//! chooses goes to the kernel by the slots.
 
 use crate::BothEnds;
 use gs_agent::Role;
@@ -53,7 +53,7 @@ fn facts(class: Class) -> Option<Facts> {
     })
 }
 
-/// Creates a thread of each class, in order. Answers whether all were created.
+/// Creates a thread of each class, in order. Returns whether all were created.
 fn create(kernel: &mut Kernel<ByteRing>, classes: &[Class]) -> bool {
     for class in classes {
         let Some(facts) = facts(*class) else {
@@ -66,7 +66,7 @@ fn create(kernel: &mut Kernel<ByteRing>, classes: &[Class]) -> bool {
     true
 }
 
-/// Stamps each choice of a plan into the slot of its CPU. Answers whether all were stamped.
+/// Stamps each choice of a plan into the slot of its CPU. Returns whether all were stamped.
 fn stamp<P>(role: &mut Role<P>, region: &mut Region, plan: &[Choice]) -> bool {
     for choice in plan {
         if choice.cpu >= region.cpus() {
@@ -93,7 +93,7 @@ struct Turn {
     stamped: [Option<u32>; 4],
     /// The first thread that waits behind it.
     waits: Option<u32>,
-    /// The threads that are placed, where the slots land then.
+    /// The threads that are placed, if the slots land then.
     placed: Option<&'static [(u16, u32)]>,
     /// The thread that is believed to run on the last CPU then.
     believed: Option<u32>,
@@ -114,7 +114,8 @@ fn is_plan(plan: &[Choice], wanted: &[(u16, u32)]) -> bool {
     plan.len() == wanted.len()
 }
 
-/// The agent takes in what the kernel has told, decides, and stamps its choices. Answers whether that is the plan.
+/// The agent takes in what the kernel has told, decides, and stamps its choices. Returns whether that is the
+/// plan.
 fn plans<P: Policy>(alloc: Global, enclave: &mut Enclave<P>, turn: &Turn) -> bool {
     let drained = enclave.role.drain(&mut enclave.kernel.taker(), 9);
     if drained.stop.is_some() {
@@ -164,7 +165,8 @@ fn are_placed(landings: &[Landing], wanted: &[(u16, u32)]) -> bool {
     landings.len() == wanted.len()
 }
 
-/// The stamped slots of all CPUs land, and the agent learns what became of them. Answers whether these were placed.
+/// The stamped slots of all CPUs land, and the agent learns what became of them. Returns whether these were
+/// placed.
 fn lands<P>(alloc: Global, enclave: &mut Enclave<P>, wanted: &[(u16, u32)]) -> bool {
     if enclave.region.cpus() != enclave.kernel.settings().cpus {
         return false;

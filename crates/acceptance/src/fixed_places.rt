@@ -36,7 +36,7 @@ impl FixedPlaces {
     ///
     /// # Errors
     ///
-    /// Where memory runs out.
+    /// If out of memory.
     pub(crate) fn new(alloc: Global, places: usize) -> Result<FixedPlaces, AllocError>
         ensures { IfOk result (λ r. r ≡ unused places) }
     {

@@ -25,7 +25,7 @@ const THREE_CPUS: Config<AnyPolicy> = Config {
     ..TWO_CPUS
 };
 
-/// Configs with two faults or one, and the first of them.
+/// Configurations with two faults or one, and the first of them.
 const FAULTS: [(Config<AnyPolicy>, ConfigFault); 4] = [
     (
         Config {
@@ -60,7 +60,7 @@ const FAULTS: [(Config<AnyPolicy>, ConfigFault); 4] = [
     ),
 ];
 
-/// The first row of `FAULTS` that is answered otherwise.
+/// The first row of `FAULTS` that comes out otherwise.
 fn first_wrong_fault(alloc: Global) -> Option<usize> {
     for (i, (config, fault)) in FAULTS.iter().enumerate() {
         if Machine::new(alloc, *config).err() != Some(*fault) {
@@ -81,17 +81,17 @@ enum Look {
     Taken(u16, bool),
     /// The thread that the agent believes to run on a CPU.
     Believed(u16, Option<u32>),
-    /// How many threads the agent knows, `None` where there is no agent.
+    /// How many threads the agent knows, `None` if there is no agent.
     Known(Option<usize>),
     /// How many slots there are.
     Slots(u16),
     /// Whether the slot of a CPU is idle.
     Idle(u16, bool),
     /// A transaction by its number: its CPU, and the generation, the thread and the number that it is stamped with.
-    Transaction(usize, Option<(u16, u32, u32, u32)>),
+    Transaction(u32, Option<(u16, u32, u32, u32)>),
 }
 
-fn stamped(machine: &Machine<AnyPolicy>, number: usize) -> Option<(u16, u32, u32, u32)> {
+fn stamped(machine: &Machine<AnyPolicy>, number: u32) -> Option<(u16, u32, u32, u32)> {
     let transaction = machine.transaction(number)?;
     let slot = transaction.slot;
     Some((transaction.cpu, slot.generation, slot.tid, slot.tseq))
@@ -125,14 +125,14 @@ fn is_so(machine: &Machine<AnyPolicy>, look: Look) -> bool {
 }
 
 /// The CPU that the thread of the first landing is on then.
-fn first_place(landings: &[Landing]) -> Option<usize> {
+fn first_place(landings: &[Landing]) -> Option<u32> {
     let at = landings.first()?.at?;
-    Some(at as usize)
+    Some(at as u32)
 }
 
 /// The number that a reply has and its lines may not show: that of the first transaction, or the CPU that the thread
 /// of the first landing is on.
-fn number_of(reply: &Reply) -> Option<usize> {
+fn number_of(reply: &Reply) -> Option<u32> {
     match reply {
         Reply::Stamped { number } => Some(*number),
         Reply::Decided { first, .. } => Some(*first),
@@ -142,9 +142,9 @@ fn number_of(reply: &Reply) -> Option<usize> {
 }
 
 /// An event, the number that its reply has, and what is to be seen behind it.
-type Row<'a> = (Event<AnyPolicy>, Option<usize>, &'a [Look]);
+type Row<'a> = (Event<AnyPolicy>, Option<u32>, &'a [Look]);
 
-/// The first event that is answered otherwise, or behind which something else is seen.
+/// The first event that comes out otherwise, or behind which something else is seen.
 fn first_wrong(machine: &mut Machine<AnyPolicy>, rows: &[Row<'_>]) -> Option<usize> {
     for (i, (event, number, looks)) in rows.iter().enumerate() {
         if number_of(&machine.step(event)) != *number {

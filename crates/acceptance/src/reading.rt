@@ -15,7 +15,7 @@ const LEAST: Config<AnyPolicy> = Config {
     policy: AnyPolicy::FirstCome(FirstCome),
 };
 
-/// Scripts, the configs that they are read as, how many events they have, and whether the first is a decision.
+/// Scripts, the configurations that they are read as, how many events they have, and whether the first is a decision.
 const ROWS: [(&str, Config<AnyPolicy>, usize, bool); 6] = [
     (
         "cpus 2 ring 128\ncreate 3 0 r web\ndrain 1\nstamp 1 1\ncommit 2\n",

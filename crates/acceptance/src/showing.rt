@@ -1,4 +1,4 @@
-//! Replies as their lines, and as a report, where no script comes to such replies.
+//! The lines of replies, and a report of them, of those replies that no script comes to.
 
 use gs_core::{Items, Reply};
 use gs_kernel::Landing;
@@ -10,7 +10,7 @@ use gs_status::Mask;
 use std::alloc::{AllocError, Global};
 use std::test::Fail;
 
-/// Changes, of which thread and with which number, and what is written where a message about them waits.
+/// Changes, of which thread and with which number, and what is written if a message about them waits.
 fn changes() -> [(u32, u32, Change, &'static str); 7] {
     [
         (
@@ -70,7 +70,7 @@ fn shows_changes(alloc: Global) -> Result<bool, AllocError> {
 }
 
 /// Decisions: the first number, the choices, their lines, and the report with the last two of these.
-const DECISIONS: [(usize, &[Choice], &str, &str); 3] = [
+const DECISIONS: [(u32, &[Choice], &str, &str); 3] = [
     (
         9,
         &[
@@ -107,7 +107,7 @@ const DECISIONS: [(usize, &[Choice], &str, &str); 3] = [
 ];
 
 /// A decision, the first of whose transactions has this number.
-fn decided(alloc: Global, first: usize, choices: &[Choice]) -> Result<Reply, AllocError> {
+fn decided(alloc: Global, first: u32, choices: &[Choice]) -> Result<Reply, AllocError> {
     let mut all = Vec::new(alloc);
     all.extend_from_slice(choices)?;
     Ok(Reply::Decided {
@@ -227,7 +227,7 @@ fn first_wrong_landing(alloc: Global) -> Result<Option<usize>, AllocError> {
     Ok(None)
 }
 
-/// How many of the last lines a report is to show, and how it shows them where the replies are a refusal, a
+/// How many of the last lines a report is to show, and how it shows them if the replies are a refusal, a
 /// tear-down, and a refusal for that.
 const LAST: [(usize, &str); 6] = [
     (0, ""),

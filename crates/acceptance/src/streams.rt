@@ -97,8 +97,8 @@ fn ends_at_read(
     ended == wanted && written.as_slice() == lines.as_bytes()
 }
 
-/// The first read whose failure is not answered by it, with nothing written. The last read finds the end; a run
-/// does no further one.
+/// The first read whose failure is not returned by the run, with nothing written. The last read finds the
+/// end, and a run does no further one.
 fn first_wrong_read(alloc: Global) -> Option<u64> {
     let reads = FIRST_PATH.len() as u64 + 1;
     for read in 1..=reads {
@@ -132,8 +132,8 @@ fn ends_at_write(
     ended == wanted && is_beginning && writer.taken.len() == room
 }
 
-/// The first count of bytes behind which a writer's failure, or its taking none, is not answered by it. With room
-/// for all bytes the run ends well.
+/// The first count of bytes behind which a writer's failure, or its taking none, is not returned by the run.
+/// With room for all bytes the run ends well.
 fn first_wrong_write(alloc: Global) -> Option<usize> {
     let len = FIRST_PATH_LINES.len();
     for room in 0..=len {
@@ -151,7 +151,7 @@ fn first_wrong_write(alloc: Global) -> Option<usize> {
     None
 }
 
-/// What is written for a script of so many bytes `#`, by its lines or as a report, where it has a fault.
+/// What is written for a script of so many bytes `#`, by its lines or as a report, if it has a fault.
 fn faulted(alloc: Global, len: usize, reports: bool) -> Result<String, AllocError> {
     let script = vec![in alloc; b'#'; len]?;
     let mut reader = script.as_slice();
@@ -174,7 +174,7 @@ const LENGTHS: [(usize, bool, &str); 3] = [
     (MOST_BYTES + 1, true, TOO_LONG),
 ];
 
-/// The first row of `LENGTHS` that is answered otherwise.
+/// The first row of `LENGTHS` that comes out otherwise.
 fn first_wrong_length(alloc: Global) -> Result<Option<usize>, AllocError> {
     for (i, (len, reports, wanted)) in LENGTHS.iter().enumerate() {
         if faulted(alloc, *len, *reports)?.as_str() != *wanted {

@@ -45,14 +45,14 @@ fn woken(tid: u32) -> Message
     }
 }
 
-/// What a kernel answered to creations and then to a tick.
+/// What a kernel returned for creations and then for a tick.
 #[derive(Clone, Copy)]
 struct Answers {
     created: [Answer; 4],
     ticked: Answer,
 }
 
-/// What an answer says: the thread and the number of the message that was posted, `None` where it did not fit,
+/// What an answer says: the thread and the number of the message that was posted, `None` if it did not fit,
 /// or the refusal.
 fn said(answer: &Answer) -> Result<Option<(u32, u32)>, Refusal> {
     match answer {
@@ -84,7 +84,7 @@ fn take_tids<T: Taker>(alloc: Global, taker: &mut T, max: usize) -> Result<Vec<u
     Ok(tids)
 }
 
-/// Creates a thread. Where its message did not fit, every place was used.
+/// Creates a thread. If its message did not fit, every place was used.
 fn create(kernel: &mut Kernel<FixedPlaces>, facts: &Facts) -> Answer
     ensures { result ≡ Answer.Torn → IsFull kernel.old.poster }
 {
@@ -118,7 +118,7 @@ fn takes<T: Taker>(alloc: Global, taker: &mut T, wanted: &[u32]) -> Result<bool,
     Ok(tids.as_slice() == wanted)
 }
 
-/// Whether two places are used by one message each, also where the first was taken before the second comes.
+/// Whether two places are used by one message each, even if the first was taken before the second comes.
 fn uses_each_once(alloc: Global, ring: &mut FixedPlaces) -> Result<bool, AllocError>
     requires { ring.old ≡ unused 2 }
 {
@@ -137,7 +137,7 @@ fn uses_a_place_once(rt: HostRuntime) -> Result<(), Fail> {
     Ok(())
 }
 
-/// What creations are answered over two places, whether both are used then, and whether the enclave is torn down.
+/// What creations return over two places, whether both are used then, and whether the enclave is torn down.
 const CREATIONS: [(Result<Option<(u32, u32)>, Refusal>, bool, bool); 4] = [
     (Ok(Some((1, 1))), false, false),
     (Ok(Some((2, 1))), true, false),
@@ -145,7 +145,7 @@ const CREATIONS: [(Result<Option<(u32, u32)>, Refusal>, bool, bool); 4] = [
     (Err(Refusal::Gone), true, true),
 ];
 
-/// The first creation that is answered otherwise, or leaves another state.
+/// The first creation that comes out otherwise, or leaves another state.
 fn first_wrong(kernel: &mut Kernel<FixedPlaces>, facts: &Facts) -> Option<usize> {
     for (i, (created, is_full, is_torn)) in CREATIONS.iter().enumerate() {
         let is_so = said(&create(kernel, facts)) == *created;
@@ -167,7 +167,7 @@ fn tears_down_at_the_last_place(rt: HostRuntime) -> Result<(), Fail> {
     Ok(())
 }
 
-/// Whether a kernel with room for two messages answers so, and these two are taken from its ring.
+/// Whether a kernel with room for two messages returns this, and these two are taken from its ring.
 fn answers_so<P: Ring>(
     alloc: Global,
     kernel: &mut Kernel<P>,
@@ -190,7 +190,7 @@ fn over_bytes(alloc: Global) -> Option<Kernel<ByteRing>> {
     Kernel::new(alloc, SETTINGS, bytes).ok()
 }
 
-/// Kernels over the two rings answer the same, and the same messages are taken from them.
+/// Kernels over the two rings return the same, and the same messages are taken from them.
 #[test]
 fn answers_alike_over_two_rings(rt: HostRuntime) -> Result<(), Fail> {
     let facts = web().ok_or("a name")?;

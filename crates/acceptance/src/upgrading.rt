@@ -21,7 +21,7 @@ enum End {
 }
 
 /// A script, the most threads of a page (none counts as one), and how the agent's replacement ends after so many
-/// events of the script, and after more: where nothing is said, the new agent becomes active.
+/// events of the script, and after more. If nothing is said, the new agent becomes active.
 type Row = (&'static str, u16, &'static [(usize, End)]);
 
 /// Of some threads no message was read, and one of them is dead.
@@ -144,8 +144,8 @@ fn end_of(replies: &[Reply]) -> Option<End> {
     }
 }
 
-/// How many replies a whole replacement has: of the crash of an agent that there is, of the beginning, of each page,
-/// and of the one by which the new agent becomes active.
+/// How many replies a whole replacement has. They are those of the crash of an agent that there is, of the
+/// beginning, of each page, and of the activation.
 fn most_replies(has_agent: bool, living: usize, max: u16) -> usize {
     let pages = if max > 1 { 1 } else { living.max(1) };
     let others = if has_agent { 3 } else { 2 };

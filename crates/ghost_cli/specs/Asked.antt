@@ -37,9 +37,9 @@ form_asked (commands.Timeline from to) = Timeline from to
 abbrev pub IsAsked : List Text → List ℕ → Ended → List ℕ → Type 0
 IsAsked words input ended out = IsSomeAnd (command_in words) (λ command. IsShown (shown_as (form_asked command)) input ended out)
 
--- what comes of the words of a command line, of what a reader has, and of what a writer holds:
--- what the command asks for is written for all that the reader has, and for what was read; an error but that of a write leaves the writer
--- as it was, and that one leaves a beginning; words that have a fault are told one, and others that give a command are not
+-- what comes of the words of a command line, of what a reader has, and of what a writer holds. What the command asks for is written
+-- for all that the reader has, and for what was read. An error but that of a write leaves the writer as it was, and that one leaves a
+-- beginning. Words that have a fault are told one, and others that give a command are not
 pub record Obeys (words : List Text) (had left before after : Option (List ℕ)) (result : Result Ended Failure) : Type 0 where
   pub ended : IfOk result (λ ended. AnswersAll (IsAsked words) ended had before after)
   pub read : IfOk result (λ ended. AnswersRead (IsAsked words) ended had left before after)

@@ -10,18 +10,18 @@ use Rattle.gs_trace.specs.declared.run.TraceFault.TheVariants.{ReadFailed, OutOf
 use Rattle.ghost_cli.specs.declared.failure.Failure.{Failure}
 use Rattle.ghost_cli.specs.declared.failure.Failure.TheVariants.{Arguments, NotText, Script}
 
--- 0 where a script ran, 2 where it has a fault
+-- 0 if a script ran, 2 if it has a fault
 abbrev pub ended_status : Ended → ℕ
 ended_status Ran = 0
 ended_status Faulted = 2
 
--- 4 where a read or a write failed, 5 for want of memory
+-- 4 if a read or a write failed, 5 if out of memory
 abbrev pub fault_status : TraceFault → ℕ
 fault_status ReadFailed = 4
 fault_status OutOfMemory = 5
 fault_status WriteFailed = 4
 
--- 3 where the arguments are wrong; where the help or the version was asked for 0, or 4 where it could not be written
+-- 3 if the arguments are wrong. If the help or the version was asked for, 0, or 4 if it could not be written
 abbrev pub IsArgumentsStatus : ErrorKind → ℕ → Type 0
 IsArgumentsStatus kind status = (kind ≢ DisplayHelp → kind ≢ DisplayVersion → status ≡ 3) × ((kind ≡ DisplayHelp) ⊎ (kind ≡ DisplayVersion) → (status ≡ 0) ⊎ (status ≡ 4))
 

@@ -16,14 +16,14 @@ use std::env::Args;
 use std::io;
 use std::io::{Read, Write};
 
-/// All words that are left, in order.
+/// Returns all words that are left, in order.
 fn collected(alloc: Global, arguments: Args) -> Result<Vec<String>, AllocError>
     ensures { IfOk result (λ words. words.items ≡ into_iter_items arguments) }
 {
     arguments.collect(alloc)
 }
 
-/// The command that the words give.
+/// Returns the command that the words give.
 fn command_of(alloc: Global, words: &[String]) -> Result<Command, Failure>
     ensures given { IfOk result (λ command. command_in (map string_bytes words.now) ≡ Some command) }
     ensures told { fault_of ghost_program (map string_bytes words.now) ≢ [] → IsErrAnd result (TellsOneOf (fault_of ghost_program (map string_bytes words.now))) }
@@ -36,7 +36,7 @@ fn command_of(alloc: Global, words: &[String]) -> Result<Command, Failure>
     }
 }
 
-/// How what comes of the script is to be shown.
+/// Returns how what comes of the script is to be shown.
 fn form_of(command: Command) -> Form
     ensures { result ≡ form_asked command }
 {

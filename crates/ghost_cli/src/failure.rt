@@ -20,7 +20,7 @@ pub(crate) enum Failure {
     Script(TraceFault),
 }
 
-/// Why there are no arguments: memory ran out, or they are not text.
+/// Returns why there are no arguments: out of memory, or they are not text.
 pub(crate) fn unread(error: io::Error) -> Failure
     ensures { IsUnreadBy (error_kind error) result }
 {
@@ -30,7 +30,8 @@ pub(crate) fn unread(error: io::Error) -> Failure
     }
 }
 
-/// Why the arguments give no command: memory ran out, or they are told what is wrong with them, the help or the version.
+/// Returns why the arguments give no command: out of memory, or they are told what is wrong with them, the
+/// help or the version.
 pub(crate) fn unsettled(error: clap::Error) -> Failure
     ensures { IsToldBy error result }
 {

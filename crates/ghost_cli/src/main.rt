@@ -13,7 +13,7 @@ use failure::Failure;
 use gs_trace::{Ended, TraceFault};
 use std::process::ExitCode;
 
-/// The exit status of a script that ended.
+/// Returns the exit status of a script that ended.
 fn ended_code(ended: Ended) -> u8
     ensures { result ≡ ended_status ended }
 {
@@ -23,7 +23,7 @@ fn ended_code(ended: Ended) -> u8
     }
 }
 
-/// The exit status of a script that didn't end.
+/// Returns the exit status of a script that didn't end.
 fn fault_code(fault: TraceFault) -> u8
     ensures { result ≡ fault_status fault }
 {
@@ -33,8 +33,8 @@ fn fault_code(fault: TraceFault) -> u8
     }
 }
 
-/// Says what is wrong with the arguments, or writes the help or the version, which are no failure, and
-/// gives the exit status.
+/// Says what is wrong with the arguments, or writes the help or the version, which are no failure. Returns
+/// the exit status.
 fn report_arguments(rt: &HostRuntime, error: &clap::Error) -> u8
     ensures { IsArgumentsStatus (kind_of error.now) result }
 {
@@ -48,7 +48,7 @@ fn report_arguments(rt: &HostRuntime, error: &clap::Error) -> u8
     }
 }
 
-/// Says what went wrong, and gives the exit status.
+/// Says what went wrong, and returns the exit status.
 fn report(rt: &HostRuntime, failure: &Failure) -> u8
     ensures { IsFailureStatus failure.now result }
 {
@@ -65,7 +65,7 @@ fn report(rt: &HostRuntime, failure: &Failure) -> u8
     }
 }
 
-/// Says what went wrong, if something did, and gives the exit status.
+/// Says what went wrong, if something did, and returns the exit status.
 fn conclude(rt: &HostRuntime, done: &Result<Ended, Failure>) -> u8
     ensures { IsStatus done.now result }
 {

@@ -110,7 +110,7 @@ taken_one batch max d v d' v' m left w d'' v'' t lt counted is gap next =
           (took_more p (picture_of v') (picture_of v'') (ms ++ t.done) m w d' (t.took p ms h) (sym is) gap next));
     }
 
--- where the walk ends, all of a batch was taken in, or as many as might be
+-- when the walk ends, all of a batch was taken in, or as many as might be
 pub took_all : (batch : List Message) (max : ℕ) (d : Drained) (v : MindState) (d' : Drained) (v' : MindState) (left : List Message) → TakenSoFar batch max d v d' v' left → (d'.count < max → left ≡ []) → TookFirst batch max d v d' v'
 took_all batch max d v d' v' left t ends = record {
   done = t.done;
@@ -157,7 +157,7 @@ pub none_where : {A : Type 0} (o : Option A) → is_some o ≡ false → o ≡ N
 none_where None e = refl
 none_where (Some x) e = absurd cc
 
--- the next message is known to come where it is the first of those that are
+-- the next message is known to come if it is the first of those that are
 pub next_ahead : {S : Type 0} (ahead : S → List Message → Type 0) → ((t : S) (xs ys : List Message) → ahead t (xs ++ ys) → ahead t xs) → (u : S) (m : Message) (more left : List Message) → left ≡ m ∷ more → ahead u left → ahead u (m ∷ [])
 next_ahead ahead begins_ u m more left e h = begins_ u (m ∷ []) more (subst (ahead u) e h)
 

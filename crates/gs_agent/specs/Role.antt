@@ -7,7 +7,7 @@ use Rattle.gs_slots.specs.declared.state.SlotState.TheVariants.{Idle, Stamped, D
 use Rattle.gs_slots.specs.State.{Held}
 use Rattle.gs_mind.specs.Mind.{MindState}
 
--- what the agent has in mind, its generation, its policy, and where the next page begins, none where it needs no more
+-- what the agent has in mind, its generation, its policy, and where the next page begins, none if it needs no more
 pub record RoleOf (P : Type 0) : Type 0 where
   pub mind : MindState
   pub generation : ℕ

@@ -14,7 +14,7 @@ use gs_mind::Mind;
 use gs_ring::{Batch, Taker};
 use gs_view::{ApplyFault, Taken};
 
-/// Takes in messages, at most so many, up to a gap or to where memory runs out. They are read where they
+/// Takes in messages, at most `max` of them, up to a gap or until out of memory. They are read where they
 /// lie, batch by batch, and those that were taken in then pass.
 pub(crate) fn drain_into<T: Taker>(mind: &mut Mind, taker: &mut T, max: u32) -> Drained
     ensures took { (ms : List Message) × T.passed taker.old ms taker.new × Took (picture_of mind.old) ms result (picture_of mind.new) }
@@ -46,8 +46,8 @@ pub(crate) fn drain_into<T: Taker>(mind: &mut Mind, taker: &mut T, max: u32) -> 
     drained
 }
 
-/// Takes in the first messages of a batch, up to a gap, to where memory runs out, or to where so many
-/// were drained in all. They are counted beside those that were drained before.
+/// Takes in the first messages of a batch. It stops at a gap, if out of memory, or once `max` messages were
+/// drained in all. They are counted beside those that were drained before.
 fn take_in_first(mind: &mut Mind, batch: Batch<'_>, max: usize, drained: Drained) -> Drained
     requires most { max < 2 ^ 32 }
     requires count { drained.count ≤ max }
@@ -72,7 +72,7 @@ fn take_in_first(mind: &mut Mind, batch: Batch<'_>, max: usize, drained: Drained
     drained
 }
 
-/// One message more, which was this to the view.
+/// Counts one message more, which was this to the view.
 fn counted(drained: Drained, taken: Taken) -> Drained
     requires count { drained.count < 2 ^ 63 }
     requires skipped { drained.skipped < 2 ^ 63 }
@@ -87,7 +87,7 @@ fn counted(drained: Drained, taken: Taken) -> Drained
     }
 }
 
-/// Why a drain stops at a message that the view did not take in.
+/// Returns why a drain stops at a message that the view did not take in.
 fn stop_of(fault: ApplyFault) -> Stop
     ensures { result ≡ stop_of fault }
 {

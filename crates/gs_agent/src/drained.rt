@@ -3,7 +3,7 @@
 pub enum Stop {
     /// The next message's number is more than one above the record's.
     Gap,
-    /// The next message begins a record, and there was no memory for that.
+    /// The next message begins a record, and memory for that ran out.
     Memory,
 }
 
@@ -16,6 +16,6 @@ pub struct Drained {
     pub skipped: usize,
     /// How many of these were about threads without a record, and no creations.
     pub orphans: usize,
-    /// Why it stopped early, where it did.
+    /// Why it stopped early, if it did.
     pub stop: Option<Stop>,
 }

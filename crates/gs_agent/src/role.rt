@@ -37,8 +37,8 @@ use std::marker::Model;
 ///
 /// Messages reach it through [`Role::drain`], its transactions leave by [`Role::stamp`], and
 /// [`Role::collect`] frees the slots of those that landed. The role of an agent that attaches is told of
-/// the threads that live by pages, through [`Role::rebuild`]. Clauses see its records by rising tid, and the
-/// queue without its room.
+/// the threads that live by pages, through [`Role::rebuild`]. Clauses see its records in increasing order of
+/// tid, and the queue without its room.
 #[derive(Drop)]
 pub struct Role<P> {
     mind: Mind,
@@ -56,13 +56,13 @@ impl<P> Model for Role<P> {
 }
 
 impl<P> Role<P> {
-    /// The role of an active agent of this generation, on this CPU of so many (at most
-    /// [`MOST_CPUS`]), that plans by this policy. It knows nothing yet: nobody is believed to run
-    /// anywhere, and nobody waits. It needs no page.
+    /// Makes the role of an active agent that plans by this policy: of this generation, and on this CPU of
+    /// `cpus`, at most [`MOST_CPUS`]. It knows nothing yet: nobody is believed to run anywhere, and nobody
+    /// waits. It needs no page.
     ///
     /// # Errors
     ///
-    /// Where memory runs out.
+    /// If out of memory.
     pub fn new(
         alloc: Global,
         policy: P,
@@ -78,13 +78,13 @@ impl<P> Role<P> {
         Role::begin(alloc, policy, cpus, generation, Some(cpu), None)
     }
 
-    /// The role of an agent that attaches, as one of this generation, on a machine of so many CPUs (at
-    /// most [`MOST_CPUS`]), and that plans by this policy. It has no CPU of its own. It knows nothing
-    /// yet, and its first page begins at tid 1.
+    /// Makes the role of an agent that attaches and plans by this policy: of this generation, on a machine of
+    /// `cpus` CPUs, at most [`MOST_CPUS`]. It has no CPU of its own. It knows nothing yet, and its first page
+    /// begins at tid 1.
     ///
     /// # Errors
     ///
-    /// Where memory runs out.
+    /// If out of memory.
     pub fn attach(
         alloc: Global,
         policy: P,
@@ -99,8 +99,8 @@ impl<P> Role<P> {
         Role::begin(alloc, policy, cpus, generation, None, Some(1))
     }
 
-    /// The role of an agent that knows nothing yet, on this CPU or on none, whose next page begins at this
-    /// tid, where it needs one.
+    /// Makes the role of an agent that knows nothing yet, on this CPU or on none. If it needs pages, the next
+    /// one begins at this tid.
     fn begin(
         alloc: Global,
         policy: P,
@@ -129,36 +129,36 @@ impl<P> Role<P> {
         self.policy
     }
 
-    /// The generation of the agent, which each of its transactions is stamped with.
+    /// Returns the generation of the agent, which each of its transactions is stamped with.
     pub fn generation(&self) -> u32
         ensures { result ≡ self.now.generation }
     {
         self.generation
     }
 
-    /// The policy by which the agent plans.
+    /// Returns the policy by which the agent plans.
     pub fn policy(&self) -> &P
         ensures { result.now ≡ self.now.policy }
     {
         &self.policy
     }
 
-    /// What the agent knows of each thread.
+    /// Returns what the agent knows of each thread.
     pub fn view(&self) -> &AgentView
         ensures { result.now ≡ self.now.mind.records }
     {
         self.mind.view()
     }
 
-    /// Who is believed to run on a CPU, `None` for nobody and past the last CPU.
+    /// Returns who is believed to run on a CPU, `None` for nobody and past the last CPU.
     pub fn believed(&self, cpu: u16) -> Option<Running>
         ensures { result ≡ believed_on self.now.mind.cpus cpu }
     {
         self.mind.believed(cpu)
     }
 
-    /// The tids of those who wait, each once: those of class 0 in the order in which they began to
-    /// wait, then those of class 1. It takes no memory.
+    /// Walks over the tids of those who wait, each once: those of class 0 in the order in which they began to
+    /// wait, then those of class 1. It does not allocate.
     pub fn waiting(&self) -> Walk<'_>
         ensures order { result ≡ order self.now.mind.queue }
         ensures apart { Apart (order self.now.mind.queue) }
@@ -167,20 +167,20 @@ impl<P> Role<P> {
         self.mind.waiting()
     }
 
-    /// The tid at which the next page begins that the agent needs, `None` where it needs no more.
+    /// Returns the tid at which the next page begins that the agent needs, `None` if it needs no more.
     pub fn next_page(&self) -> Option<u32>
         ensures { result ≡ self.now.next }
     {
         self.next
     }
 
-    /// Takes a page in, of threads that live: what it tells of them is known then, each of them is
-    /// believed to run where the page says, and who waits follows. The next page begins where this one
-    /// says, and after the last page none is needed.
+    /// Takes a page in, of threads that live. What it tells of them is known then, each of them is believed
+    /// to run where the page says, and who waits follows. The next page begins where this one says, and after
+    /// the last page none is needed.
     ///
     /// # Errors
     ///
-    /// Where memory runs out. Then nothing changes, and the page can be taken in later.
+    /// If out of memory. Then nothing changes, and the page can be taken in later.
     pub fn rebuild(&mut self, page: &Page) -> Result<(), AllocError>
         ensures picture { OnOk result (picture_of self.new.mind ≡ after_page page.now.records (picture_of self.old.mind)) }
         ensures next { OnOk result (self.new.next ≡ page.now.next) }
@@ -192,9 +192,9 @@ impl<P> Role<P> {
         Ok(())
     }
 
-    /// The agent goes on as one of this generation, on this CPU. All that it has in mind stays, the stamps of
-    /// its earlier generation too: their threads do not wait, and their CPUs are not used, until they are
-    /// collected. It takes no memory.
+    /// Lets the agent go on as one of this generation, on this CPU. All that it has in mind stays, the stamps
+    /// of its earlier generation too: their threads do not wait, and their CPUs are not used, until they are
+    /// collected. It does not allocate.
     pub fn promote(&mut self, generation: u32, cpu: u16)
         ensures { self.new ≡ record self.old { mind = moved cpu self.old.mind; generation = generation } }
     {
@@ -203,13 +203,12 @@ impl<P> Role<P> {
     }
 
     /// Takes messages in, at most `max` of them, in the order in which they were posted: view, beliefs
-    /// and queue follow each one that applies. The view is then what it was, caught up over them. Answers
-    /// what it took in, and why it stopped early, where it did.
+    /// and queue follow each one that applies. The view is then what it was, caught up over them. Returns
+    /// what it took in, and why it stopped early, if it did.
     ///
     /// It stops early at a message whose number is more than one above the one that is known of its
-    /// thread, and at the creation of a thread of which nothing is known where there is no memory for
-    /// its record or for its place in the queue. That message stays unread, and a later drain begins
-    /// with it.
+    /// thread. It also stops at the creation of a thread of which nothing is known, if out of memory for its
+    /// record or for its place in the queue. That message stays unread, and a later drain begins with it.
     pub fn drain<T: Taker>(&mut self, taker: &mut T, max: u32) -> Drained
         ensures took { (ms : List Message) × T.passed taker.old ms taker.new × Took (picture_of self.old.mind) ms result (picture_of self.new.mind) }
         ensures most { result.count ≤ max }
@@ -224,16 +223,16 @@ impl<P> Role<P> {
 
     /// Stamps a transaction into an idle slot: the thread is to run on the slot's CPU, if its sequence
     /// number is then still the one that the view has. `preempt` says that a thread that is on the CPU
-    /// is to give way. Answers what the view has of the thread. It takes no memory.
+    /// is to give way. Returns what the view has of the thread. It does not allocate.
     ///
     /// The role remembers the stamp until the slot is collected: until then the thread does not wait,
-    /// and the CPU is not one to use. Where it still remembered another stamp on that CPU, the thread
-    /// which that named may wait again.
+    /// and the CPU is not one to use. If it still remembered another stamp on that CPU, the thread which that
+    /// named may wait again.
     ///
     /// # Errors
     ///
-    /// The first that applies: `NoThread` where the view does not know the thread, `SlotOpen` where
-    /// the slot is not idle, malformed too. Slot and role stay as they were.
+    /// The first that applies: `NoThread` if the view does not know the thread, `SlotOpen` if the slot is not
+    /// idle, malformed too. Slot and role stay as they were.
     pub fn stamp(&mut self, slot: SlotMut<'_>, tid: u32, preempt: bool) -> Result<Known, Refusal>
         ensures ok { IfOk result (λ _. stamp_refusal (look_up self.old.mind.records tid) (state_of slot.entry) ≡ None) }
         ensures known { IfOk result (λ known. look_up self.old.mind.records tid ≡ Some known) }
@@ -254,9 +253,9 @@ impl<P> Role<P> {
         }
     }
 
-    /// Takes in what became of each done slot of a region, by rising CPU, and makes it idle again: a
-    /// thread that was placed, or found placed already, is believed to run there, and who waits follows.
-    /// Other slots, malformed ones too, stay as they are. It takes no memory.
+    /// Takes in what became of each done slot of a region, in increasing order of CPU, and makes it idle
+    /// again. A thread that was placed, or found placed already, is believed to run there, and who waits
+    /// follows. Other slots, malformed ones too, stay as they are. It does not allocate.
     pub fn collect(&mut self, region: &mut Region)
         ensures region { region.new ≡ all_collected 0 region.old }
         ensures role { self.new ≡ record self.old { mind = thinks self.old.mind (after_slots 0 (told_by 0 region.old) (picture_of self.old.mind)) } }
@@ -266,12 +265,12 @@ impl<P> Role<P> {
 }
 
 impl<P: Policy> Role<P> {
-    /// What the role's policy plans by all that the agent has in mind, where the other class holds the
+    /// Returns what the role's policy plans by all that the agent has in mind, if the other class holds the
     /// CPUs of `taken` and no other. Each choice is safe to stamp. Nothing is changed.
     ///
     /// # Errors
     ///
-    /// Where there is no memory for the choices.
+    /// If out of memory for the choices.
     pub fn decide(&self, alloc: Global, taken: Mask) -> Result<Vec<Choice>, AllocError>
         ensures plan { IfOk result (λ r. r.items ≡ P.chosen self.now.policy (shown_in self.now.mind (has taken))) }
         ensures safe { IfOk result (λ r. IsSafePlan (shown_in self.now.mind (has taken)) r.items) }
@@ -281,9 +280,9 @@ impl<P: Policy> Role<P> {
 }
 
 impl<P: Counted> Role<P> {
-    /// How many choices the role's policy plans where the other class holds the CPUs of `taken` and no
-    /// other: as many as [`Role::decide`] answers where there is memory. It takes none. Nothing is
-    /// changed.
+    /// Returns how many choices the role's policy plans if the other class holds the CPUs of `taken` and no
+    /// other. They are as many as [`Role::decide`] returns unless out of memory. It does not allocate, and
+    /// changes nothing.
     pub fn count(&self, taken: Mask) -> usize
         ensures { result ≡ length (P.chosen self.now.policy (shown_in self.now.mind (has taken))) }
     {

@@ -143,7 +143,7 @@ no_fault_passes (v ∷ vs) e = by_head (passes v) (no_fault_passes vs) e
 
 -- ---- one use of an argument
 
--- an argument of `report`, where there is one: `last`, or one whose use changes no row
+-- an argument of `report`, if there is one: `last`, or one whose use changes no row
 abbrev Known : Option Rule → Type 0
 Known None = ⊤
 Known (Some a) = (a ≡ last) ⊎ (a ≡ help)
@@ -383,7 +383,7 @@ report_in_range rows command p e = by_text (one_of (codes "last") rows) refl e
     by_text None is e = absurd cc
     by_text (Some text) is e = by_number text (number_of text) (one_passes rows text p is) refl e
 
--- a subcommand of the built program, where there is one
+-- a subcommand of the built program, if there is one
 abbrev Sub : Option Shape → Type 0
 Sub None = ⊤
 Sub (Some s) = (s ≡ shape) ⊎ ((s.name ≡ codes "run") ⊎ ((s.name ≡ codes "journal") ⊎ ((s.name ≡ codes "timeline") ⊎ (s.name ≡ codes "help"))))

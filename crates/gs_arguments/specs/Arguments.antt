@@ -58,7 +58,7 @@ command_given given =
     else if bytes_eq given.0 (codes "timeline") then Some (Timeline (place_in given.1 (codes "from") 0) (place_in given.1 (codes "to") 18446744073709551615))
     else None
 
--- the first and the last entry that a picture is to show, where the first is above the last
+-- the first and the last entry that a picture is to show, if the first is above the last
 abbrev pub backward : Command → Option (ℕ × ℕ)
 backward (Timeline from to) = if nat_lt to from then Some (from, to) else None
 backward _ = None

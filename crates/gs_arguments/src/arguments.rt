@@ -27,12 +27,11 @@ const DEFAULT_WORD: &str = "10";
 /// What the program is to do with the script of standard input.
 #[derive(Clone, Copy, PartialEq, Eq, Debug)]
 pub enum Command {
-    /// Run it, and write its answer to standard output.
+    /// Run it, and write the lines of its replies to standard output.
     Run,
     /// Run it, and write a report of the run to standard output.
     Report {
-        /// How many of the last lines of the answer the report shows, from [`LEAST_LINES`] to
-        /// [`MOST_LINES`].
+        /// How many of the last of these lines the report shows, from [`LEAST_LINES`] to [`MOST_LINES`].
         last: usize,
     },
     /// Run it, and write the journal of all that happened to standard output.
@@ -203,7 +202,7 @@ fn command_given(matches: &clap::ArgMatches<'_>) -> Option<Command>
     }
 }
 
-/// The first and the last entry that a picture is to show, where the first is above the last.
+/// The first and the last entry that a picture is to show, if the first is above the last.
 fn backward(command: Command) -> Option<(usize, usize)>
     ensures { result ≡ backward command }
 {
@@ -243,11 +242,13 @@ fn no_command(
 
 /// Reads the arguments. The first word is the name that the program was called by.
 ///
+/// # Errors
+///
 /// An error is clap's own: its text says what is wrong, or is the help or the version that was asked
-/// for. Its kind says which: it is that of the words' fault, or that memory ran out; or, where the words
-/// have no fault, that no command is given, or that a picture is to end before it begins. So the help and the version are answered where the words ask
-/// for them, memory aside, and only there, and words without a fault that give a command are refused only
-/// for want of memory.
+/// for. Its kind says which. It is that of the words' fault, or out of memory. If the words have no fault, it
+/// may also be that no command is given, or that a picture is to end before it begins. So the help and the
+/// version are returned only if the words ask for them, and always then, unless out of memory. Words without
+/// a fault that give a command are refused only if out of memory.
 pub fn settings<'a, S: AsStr>(alloc: Global, words: &'a [S]) -> Result<Command, clap::Error>
     ensures given { IfOk result (λ command. command_in (map S.text words.entry.now) ≡ Some command) }
     ensures allowed { IfOk result ShowsAllowed }

@@ -12,7 +12,7 @@ use Rattle.gs_beliefs.specs.Cpus.{Cpus, cleared_at, clears, is_just, raised_at, 
 use Rattle.gs_beliefs.specs.Held.{IsCpus, thread_of}
 use Rattle.gs_beliefs.proofs.Index.{stands_within}
 
--- a belief is of a thread where its thread is this one
+-- a belief is of a thread if its thread is this one
 pub runs_thread : (t : ℕ) (o : Option Running) → is_just t (thread_of o) ≡ runs t o
 runs_thread t None = refl
 runs_thread t (Some r) = refl
@@ -124,7 +124,7 @@ within_beliefs xs ts ss t c is here = subst (λ n. c < n) (ap length is.found �
 abbrev cpus_of : List (Option Running) → List (Option ℕ) → Option ℕ → Cpus
 cpus_of xs ss a = record { believed = xs; stamped = ss; agent = a }
 
--- a thread that stands on a CPU stands nowhere any more, or has another number; one that stands nowhere changes nothing
+-- a thread that stands on a CPU stands nowhere any more, or has another number. One that stands nowhere changes nothing
 pub clears_one : (xs : List (Option Running)) (ts ss : List (Option ℕ)) (a : Option ℕ) (t c : ℕ) → IsCpus xs ts ss → is_just t (stands ts c) ≡ true
     → cpus_of (set xs c None) ss a ≡ clears t (cpus_of xs ss a)
 clears_one xs ts ss a t c is here =
@@ -153,7 +153,7 @@ raises_nobody xs ts ss a t n is none =
 some_none : (n : ℕ) → Some n ≡ None → ⊥
 some_none n e = cc
 
--- threads stay apart where whoever comes to a CPU stands on no other
+-- threads stay apart if whoever comes to a CPU stands on no other
 apart_set : (ts : List (Option ℕ)) (c : ℕ) (o : Option ℕ) → StandApart ts → ((d t : ℕ) → d ≢ c → o ≡ Some t → stands ts d ≡ Some t → ⊥) → StandApart (set ts c o)
 apart_set ts c o apart alone d e t one two = at (cases_eq d c) (cases_eq e c)
   where

@@ -75,8 +75,7 @@ indexed_none n xs buckets vacant most begun is below =
     count : length (replicate n (none ℕ)) ≡ n
     count = length-replicate n (none ℕ)
 
--- a thread stands on a CPU, or nobody does: the CPU left the bucket of whoever stood there, and went into the bucket of whoever
--- stands there now
+-- a thread stands on a CPU, or nobody does. The CPU left the bucket of whoever stood there, and went into the bucket of whoever stands there now
 pub record IsMoved (xs : List (Option ℕ)) (buckets left entered : List ℕ) (vacant vacant' c : ℕ) (o : Option ℕ) : Type 0 where
   pub indexed : IsIndexed xs buckets vacant
   pub within : c < length xs

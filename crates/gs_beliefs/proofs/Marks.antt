@@ -13,7 +13,7 @@ flipped zero lt = refl
 flipped (suc zero) lt = refl
 flipped (suc (suc x)) lt = absurd (omega arith)
 
--- a CPU is in a mask where its bit is one
+-- a CPU is in a mask if its bit is one
 has_by_bit : (n c : ℕ) → has n c ≡ (bit_at n c == 1)
 has_by_bit n c = ap (λ (k : ℕ). k == 1) (shr_and_one n c)
 

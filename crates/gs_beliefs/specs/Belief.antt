@@ -8,8 +8,8 @@ use Rattle.gs_layout.specs.Message.{takes_off_cpu}
 use Rattle.gs_beliefs.specs.Cpus.{Cpus, cleared_at, raised_at, ticked, clears, raises, ticks, places}
 use Rattle.gs_beliefs.specs.declared.running.Running.{Running}
 
--- a message that applied: a tick counts for its CPU; one that takes its thread off a CPU clears the thread's belief, and any other
--- gives it the message's number
+-- a message that applied: a tick counts for its CPU. One that takes its thread off a CPU clears the thread's belief, and any other gives it the
+-- message's number
 abbrev pub hears : Message → Cpus → Cpus
 hears (TimerTick c) s = ticks c s
 hears (Thread t n change) s = if takes_off_cpu change then clears t s else raises t n s

@@ -17,7 +17,7 @@ is_in_bucket bucket (Some t) = t % BUCKETS == bucket
 abbrev pub StandApart : List (Option ℕ) → Type 0
 StandApart tids = (c d t : ℕ) → stands tids c ≡ Some t → stands tids d ≡ Some t → c ≡ d
 
--- a bucket has just the CPUs on which a thread of the bucket stands; vacant are the CPUs on which nobody does
+-- a bucket has just the CPUs on which a thread of the bucket stands. Vacant are the CPUs on which nobody does
 pub record IsIndexed (tids : List (Option ℕ)) (buckets : List ℕ) (vacant : ℕ) : Type 0 where
   pub most : length tids ≤ MOST_CPUS
   pub count : length buckets ≡ BUCKETS

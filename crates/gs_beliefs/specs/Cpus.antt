@@ -4,8 +4,7 @@ use Rattle.std.specs.List.{list_any}
 use Rattle.gs_beliefs.specs.declared.running.Running.{Running}
 use Rattle.gs_beliefs.specs.declared.running.TheConstants.{MOST_TICKS}
 
--- who is believed to run on each CPU; the thread that an uncollected stamp on each CPU names; the agent's own CPU, none while it
--- attaches
+-- who is believed to run on each CPU; the thread that an uncollected stamp on each CPU names; the agent's own CPU (none while it attaches)
 pub record Cpus : Type 0 where
   pub believed : List (Option Running)
   pub stamped : List (Option ℕ)
@@ -41,8 +40,8 @@ is_believed s t = list_any (runs t) s.believed
 abbrev pub is_named : Cpus → ℕ → Bool
 is_named s t = list_any (is_just t) s.stamped
 
--- whether the agent may use a CPU while the other class holds those that are taken: it is below the count, neither the agent's own nor
--- taken, and has no uncollected stamp
+-- whether the agent may use a CPU while the other class holds those that are taken. It is below the count, neither the agent's own nor taken, and has
+-- no uncollected stamp
 abbrev pub is_usable : Cpus → (ℕ → Bool) → ℕ → Bool
 is_usable s taken c = nat_lt c (length s.believed) && (not (is_just c s.agent) && (not (taken c) && is_none (stamp_on s c)))
 

@@ -14,7 +14,7 @@ pub struct Buckets {
     masks: Vec<Mask>,
 }
 
-/// The bucket that a thread belongs to.
+/// Returns the bucket that a thread belongs to.
 fn bucket_of(tid: u32) -> usize
     ensures bucket { result ≡ tid % BUCKETS }
     ensures below { result < BUCKETS }
@@ -23,11 +23,11 @@ fn bucket_of(tid: u32) -> usize
 }
 
 impl Buckets {
-    /// Buckets without a CPU.
+    /// Makes buckets without a CPU.
     ///
     /// # Errors
     ///
-    /// Where memory runs out.
+    /// `AllocError` if out of memory.
     pub fn new(alloc: Global) -> Result<Buckets, AllocError>
         ensures { IfOk result (λ buckets. buckets.masks.items ≡ replicate BUCKETS 0) }
     {
@@ -36,7 +36,7 @@ impl Buckets {
         })
     }
 
-    /// The CPUs in the bucket of a thread.
+    /// Returns the CPUs in the bucket of a thread.
     pub fn of(&self, tid: u32) -> Mask
         requires { length self.now.masks.items ≡ BUCKETS }
         ensures { result ≡ slice_index self.now.masks.items (tid % BUCKETS) }
@@ -44,7 +44,7 @@ impl Buckets {
         self.masks[bucket_of(tid)]
     }
 
-    /// A CPU goes into the bucket of a thread, where there is one.
+    /// Puts a CPU into the bucket of a thread, if there is one.
     pub fn enter(&mut self, cpu: u16, tid: Option<u32>)
         requires cpu { cpu < MOST_CPUS }
         requires count { length self.old.masks.items ≡ BUCKETS }
@@ -58,7 +58,7 @@ impl Buckets {
         }
     }
 
-    /// A CPU leaves the bucket of a thread, where there is one.
+    /// Takes a CPU out of the bucket of a thread, if there is one.
     pub fn leave(&mut self, cpu: u16, tid: Option<u32>)
         requires cpu { cpu < MOST_CPUS }
         requires count { length self.old.masks.items ≡ BUCKETS }

@@ -11,7 +11,7 @@ use std::marker::Model;
 
 /// Which thread stands on each CPU, at most one on each.
 ///
-/// The CPUs of a thread are found by the buckets that threads fall into: each has the mask of the CPUs
+/// The CPUs of a thread are found by the buckets that threads fall into. Each bucket has the mask of the CPUs
 /// on which a thread of the bucket stands, and few threads share one. So no call looks at every CPU.
 #[derive(Drop)]
 pub struct ByThread {
@@ -31,7 +31,7 @@ impl Model for ByThread {
     ghost invariant = { λ s. IsIndexed s.tids.items s.buckets.masks.items s.vacant };
 }
 
-/// The vacant CPUs once a thread stands on a CPU, or nobody does.
+/// Returns the vacant CPUs once a thread stands on a CPU, or nobody does.
 fn vacant_after(vacant: Mask, cpu: u16, tid: Option<u32>) -> Mask
     requires { cpu < MOST_CPUS }
     ensures here { has result cpu ≡ is_none tid }
@@ -44,7 +44,7 @@ fn vacant_after(vacant: Mask, cpu: u16, tid: Option<u32>) -> Mask
     }
 }
 
-/// The CPUs below a number.
+/// Returns the CPUs below a number.
 #[tactic(auto, using(crate::proofs::Marks::below_more))]
 fn all_below(cpus: u16) -> Mask
     requires { cpus ≤ MOST_CPUS }
@@ -58,11 +58,11 @@ fn all_below(cpus: u16) -> Mask
 }
 
 impl ByThread {
-    /// So many CPUs, at most [`MOST_CPUS`], on which nobody stands.
+    /// Makes the table of so many CPUs, at most [`MOST_CPUS`], on which nobody stands.
     ///
     /// # Errors
     ///
-    /// Where memory runs out.
+    /// `AllocError` if out of memory.
     pub fn new(alloc: Global, cpus: u16) -> Result<ByThread, AllocError>
         requires { cpus ≤ MOST_CPUS }
         ensures { IfOk result (λ made. made ≡ replicate cpus None) }
@@ -74,7 +74,7 @@ impl ByThread {
         })
     }
 
-    /// The thread on a CPU, `None` for nobody and past the last CPU.
+    /// Returns the thread on a CPU, `None` for nobody and past the last CPU.
     #[inline(always)]
     pub fn on(&self, cpu: u16) -> Option<u32>
         ensures { result ≡ stands self.now cpu }
@@ -82,7 +82,7 @@ impl ByThread {
         *self.tids.get(cpu as usize)?
     }
 
-    /// The least CPU on which a thread stands.
+    /// Returns the least CPU on which a thread stands, or `None` if it stands on none.
     #[tactic(auto, using(crate::proofs::Marks::fewer_left, crate::proofs::Index::not_in_bucket))]
     pub fn first_of(&self, tid: u32) -> Option<u16>
         ensures found { IfSome result (λ c. is_just tid (stands self.now c) ≡ true) }
@@ -98,7 +98,7 @@ impl ByThread {
         None
     }
 
-    /// Whether a thread stands on some CPU.
+    /// Returns whether a thread stands on some CPU.
     #[tactic(auto, using(crate::proofs::Index::stands_somewhere, crate::proofs::Index::stands_nowhere))]
     pub fn has(&self, tid: u32) -> bool
         ensures { result ≡ list_any (is_just tid) self.now }
@@ -106,14 +106,15 @@ impl ByThread {
         self.first_of(tid).is_some()
     }
 
-    /// The CPUs on which nobody stands.
+    /// Returns the CPUs on which nobody stands.
     pub fn vacant(&self) -> Mask
         ensures { (c : ℕ) → has result c ≡ (nat_lt c (length self.now) && is_none (stands self.now c)) }
     {
         self.vacant
     }
 
-    /// A thread stands on a CPU from then on, or nobody does. Past the last CPU nothing changes.
+    /// Puts a thread on a CPU in the place of whoever stood there, or nobody. Past the last CPU it changes
+    /// nothing.
     pub fn set(&mut self, cpu: u16, tid: Option<u32>)
         ensures { self.new ≡ slice_set self.old cpu tid }
     {

@@ -11,13 +11,13 @@ use gs_status::{MOST_CPUS, Mask};
 use std::alloc::{AllocError, Global};
 use std::marker::Model;
 
-/// What an agent believes of each CPU: who runs there, at which sequence number and for how many
+/// What an agent believes of each CPU. It says who runs there, at which sequence number and for how many
 /// ticks, and which thread an uncollected stamp names. Beside that it keeps the agent's own CPU.
 ///
-/// A belief lags behind the kernel by the messages that were not read yet. There are at most
-/// [`MOST_CPUS`] CPUs; what is said of a CPU past the last one changes nothing. No call but
-/// [`CpuBeliefs::new`] takes memory or looks at every CPU: those of a thread are found by its tid, and
-/// where many CPUs are asked for, the answer is a mask.
+/// A belief lags behind the kernel by the messages that were not read yet. There are at most [`MOST_CPUS`]
+/// CPUs, and a call that names a CPU past the last one changes nothing. No call but [`CpuBeliefs::new`]
+/// allocates or looks at every CPU. The CPUs of a thread are found by its tid, and a call that asks for many
+/// CPUs returns a mask.
 #[derive(Drop)]
 pub struct CpuBeliefs {
     beliefs: Vec<Option<Running>>,
@@ -37,7 +37,7 @@ impl Model for CpuBeliefs {
     ghost invariant = { λ s. IsCpus s.beliefs.items s.running s.stamps };
 }
 
-/// The CPUs that are not in a set.
+/// Returns the CPUs that are not in a set.
 #[tactic(auto, using(crate::proofs::Marks::has_others))]
 fn others(mask: Mask) -> Mask
     ensures { (c : ℕ) → has result c ≡ (nat_lt c MOST_CPUS && not (has mask c)) }
@@ -45,7 +45,7 @@ fn others(mask: Mask) -> Mask
     Mask::new(!mask.bits())
 }
 
-/// A set without a CPU, where there is one to leave out.
+/// Returns a set without a CPU, if there is one to leave out.
 #[tactic(auto, using(crate::proofs::Marks::without_past))]
 fn without_any(mask: Mask, cpu: Option<u16>) -> Mask
     ensures { (c : ℕ) → has result c ≡ (has mask c && not (is_just c cpu)) }
@@ -59,12 +59,12 @@ fn without_any(mask: Mask, cpu: Option<u16>) -> Mask
 }
 
 impl CpuBeliefs {
-    /// So many CPUs, at most [`MOST_CPUS`], of which nothing is believed yet: nobody runs, and there is
-    /// no stamp. `agent` is the agent's own CPU, `None` while it attaches.
+    /// Makes the beliefs of so many CPUs, at most [`MOST_CPUS`], of which nothing is believed yet: nobody
+    /// runs, and there is no stamp. `agent` is the agent's own CPU, `None` while it attaches.
     ///
     /// # Errors
     ///
-    /// Where memory runs out.
+    /// `AllocError` if out of memory.
     pub fn new(alloc: Global, cpus: u16, agent: Option<u16>) -> Result<CpuBeliefs, AllocError>
         requires { cpus ≤ MOST_CPUS }
         ensures { IfOk result (λ made. made ≡ unknown cpus agent) }
@@ -77,7 +77,7 @@ impl CpuBeliefs {
         })
     }
 
-    /// How many CPUs there are, at most [`MOST_CPUS`].
+    /// Returns how many CPUs there are, at most [`MOST_CPUS`].
     pub fn cpus(&self) -> u16
         ensures count { result ≡ length self.now.believed }
         ensures stamps { result ≡ length self.now.stamped }
@@ -86,21 +86,21 @@ impl CpuBeliefs {
         self.beliefs.len() as u16
     }
 
-    /// The agent's own CPU, `None` while it attaches.
+    /// Returns the agent's own CPU, `None` while it attaches.
     pub fn agent(&self) -> Option<u16>
         ensures { result ≡ self.now.agent }
     {
         self.agent
     }
 
-    /// Who is believed to run on a CPU, `None` for nobody and past the last CPU.
+    /// Returns who is believed to run on a CPU, `None` for nobody and past the last CPU.
     pub fn believed(&self, cpu: u16) -> Option<Running>
         ensures { result ≡ believed_on self.now cpu }
     {
         *self.beliefs.get(cpu as usize)?
     }
 
-    /// The thread that an uncollected stamp on a CPU names, `None` where there is no such stamp and past
+    /// Returns the thread that an uncollected stamp on a CPU names, `None` if there is no such stamp and past
     /// the last CPU.
     pub fn stamp_on(&self, cpu: u16) -> Option<u32>
         ensures { result ≡ stamp_on self.now cpu }
@@ -108,22 +108,22 @@ impl CpuBeliefs {
         self.stamps.on(cpu)
     }
 
-    /// Whether some CPU is believed to run a thread.
+    /// Returns whether some CPU is believed to run a thread.
     pub fn runs(&self, tid: u32) -> bool
         ensures { result ≡ is_believed self.now tid }
     {
         self.running.has(tid)
     }
 
-    /// Whether some uncollected stamp names a thread.
+    /// Returns whether some uncollected stamp names a thread.
     pub fn names(&self, tid: u32) -> bool
         ensures { result ≡ is_named self.now tid }
     {
         self.stamps.has(tid)
     }
 
-    /// Whether the agent may use a CPU while the other class holds those of `taken`: there is such a
-    /// CPU, it is neither the agent's own nor taken, and it has no uncollected stamp.
+    /// Returns whether the agent may use a CPU while the other class holds those of `taken`. It may if there
+    /// is such a CPU, it is neither the agent's own nor taken, and it has no uncollected stamp.
     pub fn is_usable(&self, taken: Mask, cpu: u16) -> bool
         ensures { result ≡ is_usable self.now (has taken) cpu }
     {
@@ -133,22 +133,22 @@ impl CpuBeliefs {
             && self.stamp_on(cpu).is_none()
     }
 
-    /// Whether a CPU is usable, while the other class holds those of `taken`, and nobody is believed to
-    /// run there.
+    /// Returns whether a CPU is usable, while the other class holds those of `taken`, and nobody is believed
+    /// to run there.
     pub fn is_free(&self, taken: Mask, cpu: u16) -> bool
         ensures { result ≡ is_free self.now (has taken) cpu }
     {
         self.is_usable(taken, cpu) && self.believed(cpu).is_none()
     }
 
-    /// The CPUs that the agent may use while the other class holds those of `taken`.
+    /// Returns the CPUs that the agent may use while the other class holds those of `taken`.
     pub fn usable(&self, taken: Mask) -> Mask
         ensures { (c : ℕ) → has result c ≡ is_usable self.now (has taken) c }
     {
         without_any(self.stamps.vacant().both(others(taken)), self.agent)
     }
 
-    /// The CPUs that the agent may use, while the other class holds those of `taken`, and on which
+    /// Returns the CPUs that the agent may use, while the other class holds those of `taken`, and on which
     /// nobody is believed to run.
     pub fn free(&self, taken: Mask) -> Mask
         ensures { (c : ℕ) → has result c ≡ is_free self.now (has taken) c }
@@ -156,7 +156,7 @@ impl CpuBeliefs {
         self.usable(taken).both(self.running.vacant())
     }
 
-    /// The CPUs that the agent may use, while the other class holds those of `taken`, and on which
+    /// Returns the CPUs that the agent may use, while the other class holds those of `taken`, and on which
     /// somebody is believed to run.
     pub fn busy(&self, taken: Mask) -> Mask
         ensures { (c : ℕ) → has result c ≡ (is_usable self.now (has taken) c && is_some (believed_on self.now c)) }
@@ -164,14 +164,14 @@ impl CpuBeliefs {
         self.usable(taken).both(others(self.running.vacant()))
     }
 
-    /// The agent's own CPU is this one, or it has none while it attaches.
+    /// Sets the agent's own CPU, or `None` while it attaches.
     pub fn set_agent(&mut self, agent: Option<u16>)
         ensures { self.new ≡ record self.old { agent = agent } }
     {
         self.agent = agent;
     }
 
-    /// A thread is believed to run nowhere.
+    /// Clears the belief of a thread, so that it is believed to run nowhere.
     pub fn clear(&mut self, tid: u32)
         ensures { self.new ≡ clears tid self.old }
     {
@@ -181,7 +181,7 @@ impl CpuBeliefs {
         }
     }
 
-    /// A thread has this sequence number now, where it is believed to run.
+    /// Gives a thread this sequence number, if it is believed to run.
     pub fn raise(&mut self, tid: u32, tseq: u32)
         ensures { self.new ≡ raises tid tseq self.old }
     {
@@ -190,7 +190,7 @@ impl CpuBeliefs {
         }
     }
 
-    /// The timer of a CPU ticked: one tick more for whoever is believed to run there, up to
+    /// Counts a tick of a CPU's timer for whoever is believed to run there, up to
     /// [`MOST_TICKS`](crate::MOST_TICKS).
     pub fn tick(&mut self, cpu: u16)
         ensures { self.new ≡ ticks cpu self.old }
@@ -202,8 +202,8 @@ impl CpuBeliefs {
         self.beliefs[at] = ticked(self.beliefs[at]);
     }
 
-    /// A message that applied to the view: a tick counts for its CPU, one that takes its thread off a
-    /// CPU clears the thread's belief, and any other gives it the message's number.
+    /// Takes in a message that applied to the view. A tick counts for its CPU. A message that takes its
+    /// thread off a CPU clears the thread's belief, and any other gives it the message's number.
     pub fn hear(&mut self, message: &MessageRef<'_>)
         ensures { self.new ≡ hears message.now self.old }
     {
@@ -223,8 +223,8 @@ impl CpuBeliefs {
         }
     }
 
-    /// A thread begins to run on a CPU, at this sequence number and with no tick yet, and runs nowhere
-    /// else. Whoever was believed to run there does so no more.
+    /// Begins the belief that a thread runs on a CPU, at this sequence number and with no tick yet, and
+    /// nowhere else. Whoever was believed to run there does so no more.
     pub fn place(&mut self, cpu: u16, tid: u32, tseq: u32)
         ensures { self.new ≡ places cpu tid tseq self.old }
     {
@@ -239,23 +239,23 @@ impl CpuBeliefs {
         }
     }
 
-    /// An uncollected stamp on a CPU names a thread.
+    /// Notes that an uncollected stamp on a CPU names a thread.
     pub fn stamp(&mut self, cpu: u16, tid: u32)
         ensures { self.new ≡ stamps cpu tid self.old }
     {
         self.stamps.set(cpu, Some(tid));
     }
 
-    /// A CPU has no uncollected stamp.
+    /// Notes that a CPU has no uncollected stamp.
     pub fn unstamp(&mut self, cpu: u16)
         ensures { self.new ≡ unstamps cpu self.old }
     {
         self.stamps.set(cpu, None);
     }
 
-    /// What became of a stamp: the outcome, the CPU that the thread was then on, the thread, and the
-    /// sequence number that was stamped. `Placed` and `AlreadyPlaced` say that the thread is on that
-    /// CPU; any other outcome changes nothing.
+    /// Takes in what became of a stamp: the outcome, the CPU that the thread was then on, the thread, and the
+    /// sequence number that was stamped. `Placed` and `AlreadyPlaced` say that the thread is on that CPU; any
+    /// other outcome changes nothing.
     pub fn learn(&mut self, outcome: Outcome, at: Option<u16>, tid: u32, tseq: u32)
         ensures { self.new ≡ after_outcome outcome at tid tseq self.old }
     {

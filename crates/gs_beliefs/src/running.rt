@@ -15,7 +15,7 @@ pub struct Running {
     pub ticks: u16,
 }
 
-/// A belief after one tick more.
+/// Returns a belief after one tick more.
 pub(crate) fn ticked(believed: Option<Running>) -> Option<Running>
     ensures { result ≡ ticked believed }
 {
@@ -26,7 +26,7 @@ pub(crate) fn ticked(believed: Option<Running>) -> Option<Running>
     })
 }
 
-/// A thread has this number now, where it runs there.
+/// Gives a thread this number, if it runs there.
 #[inline(always)]
 pub(crate) fn raise_at(believed: &mut Option<Running>, tid: u32, tseq: u32)
     ensures { believed.new ≡ raised_at tid tseq believed.old }

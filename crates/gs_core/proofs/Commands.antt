@@ -60,7 +60,7 @@ kept_promoted m g c last k = by_who (on m.history c) refl
         subst (λ (y : History). Kept (record m { history = y; agent = a })) (append_assoc m.history (Posted x ∷ []) (Role g c ∷ []))
         (leads_kept (record m { history = h }) g c last (grown_kept m h first k))
 
--- where one that attaches becomes active it needs no more pages
+-- if one that attaches becomes active, it needs no more pages
 needs_none : (s : Settings) (h : History) (o : Option ℕ) (c : ℕ) → activate_refusal s h (is_none o) c ≡ None → o ≡ None
 unfolding activate_refusal
 needs_none s h o c e = by_page o (first_passed (not (is_some (attaching h) && is_none o)) refusals.NotAttaching (take_refusal s h c) e).0

@@ -58,7 +58,7 @@ events_left max (Some Begin) m = length (created m.history) / max + 3
 events_left max (Some Page) m = from_on m.history (unwrap_or (page_of m.agent) 0) / max + 2
 events_left max (Some Activate) m = 1
 
--- a page fewer, where the next one begins so much further
+-- a page fewer, if the next one begins so much further
 fewer_pages : (n k max : ℕ) → 0 < max → k + max ≤ n → k / max + 1 ≤ n / max
 fewer_pages n k max some le = le-div (k / max + 1) n max some (omega (arith, le, add-mul (k / max) 1 max, div-mul-le_self k max))
 

@@ -1,4 +1,4 @@
--- Whoever is active or attaches after an event was so before it, but where an agent begins, or is active on a CPU from then on.
+-- Whoever is active or attaches after an event was so before it, unless an agent begins, or is active on a CPU from then on.
 use Rattle.std.proofs.Common.{◌≡◌, refl, ap, sym, subst, ◌∙◌, ℕ, Option, None, Some, List, [], ◌∷◌, ◌++◌}
 use Rattle.gs_journal.specs.Standing.{standing, last_of}
 use Rattle.gs_layout.specs.declared.message.Message.{Message}
@@ -69,7 +69,7 @@ pub lands_roles : (room : Room) (s : Settings) (mask k : ℕ) (slots : List Slot
 lands_roles room s mask k slots h r lands =
     all_keep (NoNewRole h) room s mask k slots h r (λ i c b o g h' is at t p. roles_then h g h' p (landing_roles room s g c b o h' t)) lands (same_history h h refl)
 
--- a role goes on as that of the active agent, where it is of the same generation
+-- a role goes on as that of the active agent, if it is of the same generation
 pub acts_on : (h h' : History) (g g' : ℕ) → NoNewAgent h h' → g' ≡ g → Acts h g → Acts h' g'
 acts_on h h' g g' same is_g acts a p = is_g ∙ acts a (same a p)
 

@@ -25,7 +25,7 @@ use Rattle.gs_core.proofs.OneAgent.{none_there}
 use Rattle.gs_core.proofs.Roles.{NoNewRole, acts_on, entry_roles, roles_given, roles_posted, roles_taken, roles_torn, same_history}
 use Rattle.gs_core.proofs.Steps.{was_role}
 
--- where nobody new is active or attaches, a role that differs in its mind alone suits on
+-- if nobody new is active or attaches, a role that differs in its mind alone suits on
 pub suits_still : {P : Type 0} (p : P) (h h' : History) (b b' : Bool) (r r' : RoleOf P) → NoNewRole h h' → b' ≡ b → r' ≡ record r { mind = r'.mind } → Suits p h b (Some r) → Suits p h' b' (Some r')
 suits_still p h h' b b' r r' roles same is s =
     record {
@@ -39,7 +39,7 @@ pub suits_on : {P : Type 0} (p : P) (h h' : History) (b b' : Bool) (o : Option (
 suits_on p h h' b b' None roles same s = record { plans = tt; acts = tt; given = λ q. same ∙ s.given (was_role (attaching h) (attaching h') roles.attaching q) }
 suits_on p h h' b b' (Some r) roles same s = suits_still p h h' b b' r r roles same refl s
 
--- where no agent is there, none has to suit
+-- if no agent is there, none has to suit
 pub suits_left : {P : Type 0} (p : P) (h h' : History) (b : Bool) → h' ≡ h ++ Left ∷ [] → Suits p h' b None
 suits_left p h h' b is = record { plans = tt; acts = tt; given = λ q. absurd (none_there (attaching h') (ap attaching is ∙ attaching_left h) q) }
 

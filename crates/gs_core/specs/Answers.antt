@@ -1,4 +1,4 @@
--- What the kernel's answer to a command makes of the agent's role, and how the machine answers it.
+-- What the kernel's answer to a command makes of the agent's role, and the machine's reply to it.
 use Rattle.std.specs.Prelude.{ℕ, Option, option_map}
 use Rattle.gs_journal.specs.declared.entry.Entry.{Entry}
 use Rattle.gs_journal.specs.declared.entry.Entry.TheVariants.{Role}
@@ -24,7 +24,7 @@ answered (answers.Refused f) o = o
 answered answers.Torn o = o
 answered (answers.Done e) o = follows e o
 
--- what is answered, by what the kernel answered
+-- the machine's reply, by the kernel's answer
 abbrev pub reply_of : Answer → Reply
 reply_of (answers.Refused f) = replies.Refused f
 reply_of answers.Torn = replies.Torn

@@ -1,4 +1,4 @@
--- The machine: what each event answers and leaves.
+-- The machine: the reply to each event, and what it leaves.
 use Rattle.std.specs.Prelude.{Bool, true, false, not, ◌||◌, ◌&&◌, ℕ, zero, suc, ◌+◌, ◌-◌, ◌<◌, ◌≤◌, ◌≡◌, ◌⊎◌, nat_le, nat_lt, min, Option, None, Some, IsSome, List, [], ◌∷◌, ◌++◌, length, take, drop, slice_get, slice_set, map, replicate, is_some, is_none, option_map, unwrap_or}
 use Rattle.std.specs.List.{list_any, count_by}
 use Rattle.gs_layout.specs.declared.message.Message.{Message}
@@ -46,13 +46,13 @@ use Rattle.gs_core.specs.declared.reply.Reply.{Reply}
 use Rattle.gs_core.specs.declared.reply.Reply.TheVariants as replies
 use Rattle.gs_core.specs.declared.transaction.Transaction.{Transaction}
 
--- what an agent keeps: what it has in mind, and the tid where its next page begins, none where it needs no more pages
+-- what an agent keeps: what it has in mind, and the tid where its next page begins, none if it needs no more pages
 pub record Agent : Type 0 where
   pub mind : MindState
   pub next : Option ℕ
 
--- a machine: the kernel's numbers, how many bytes the ring has, what happened, how many messages the agents consumed, the agent if there is
--- one, the policy by which it plans, each CPU's slot, and all that was ever stamped
+-- a machine: the kernel's numbers, how many bytes the ring has, what happened, and how many messages the agents consumed. It has the
+-- agent if there is one, the policy by which it plans, each CPU's slot, and all that was ever stamped
 pub record StateOf (P : Type 0) : Type 0 where
   pub settings : Settings
   pub ring : ℕ
@@ -85,7 +85,7 @@ planning chosen m =
       transactions = m.transactions;
     }
 
--- an event whose policy, where it names one, plans so
+-- an event whose policy, if it names one, plans so
 abbrev pub planned : {P Q : Type 0} → (P → Q) → Event P → Event Q
 planned f (events.Kernel c) = events.Kernel c
 planned f events.Crash = events.Crash
@@ -100,12 +100,12 @@ planned f events.View = events.View
 planned f events.State = events.State
 planned f events.Unread = events.Unread
 
--- what an agent has in mind: nothing, where there is none
+-- what an agent has in mind: nothing, if there is none
 abbrev pub mind_of : Option Agent → MindState
 mind_of None = nothing 0 None
 mind_of (Some a) = a.mind
 
--- where the next page begins: the first one, where there is no agent
+-- where the next page begins: the first one, if there is no agent
 abbrev pub page_of : Option Agent → Option ℕ
 page_of None = Some 1
 page_of (Some a) = a.next
@@ -118,7 +118,7 @@ view m = look_up (mind_of m.agent).records
 abbrev pub picture : State → Picture
 picture m = picture_of (mind_of m.agent)
 
--- an agent of whose picture this is made, its records aside
+-- an agent of whose picture this is made, apart from its records
 abbrev pub thinking : (Picture → Picture) → Agent → Agent
 thinking f a = record a { mind = thinks a.mind (f (picture_of a.mind)) }
 
@@ -130,15 +130,15 @@ promoted c a = record a { mind = moved c a.mind }
 abbrev pub newcomer : ℕ → Agent
 newcomer cpus = record { mind = nothing cpus None; next = Some 1 }
 
--- the agent after a command, in an enclave of so many CPUs, by the last entry that the command adds and whether that was added: a role moves
--- it to the role's CPU, one that left is gone, and where one begins it is a new one
+-- the agent after a command, in an enclave of so many CPUs, by the last entry that the command adds and whether that was added. A
+-- role moves it to the role's CPU, one that left is gone, and if one begins, it is a new one
 abbrev pub led : ℕ → Entry → Bool → Option Agent → Option Agent
 led cpus (Role g c) true o = option_map (promoted c) o
 led cpus (Begin g) true o = Some (newcomer cpus)
 led cpus Left true o = None
 led cpus _ _ o = o
 
--- the slots after it: where an agent begins they are idle
+-- the slots after it: if an agent begins, they are idle
 abbrev pub freed_by : ℕ → Entry → Bool → List SlotState → List SlotState
 freed_by cpus (Begin g) true slots = replicate cpus Idle
 freed_by cpus _ _ slots = slots
@@ -221,7 +221,7 @@ standing_refusal m events.Unread = None
 abbrev pub refusal : State → Event Plan → Option Refusal
 refusal m e = unless_torn m.history (standing_refusal m e)
 
--- whether a message fits behind a history into a ring of so many bytes, of which so many messages were consumed: it takes up no more
+-- whether a message fits behind a history into a ring of so many bytes, of which so many messages were consumed. It takes up no more
 -- bytes, with its PAD, than are free
 abbrev pub fits_into : ℕ → ℕ → History → Message → Bool
 fits_into ring consumed h k = nat_le (need ring (written ring (posted h)) (record_len k)) (free_after ring (posted h) consumed)
@@ -234,7 +234,7 @@ IsFit ring consumed h b k = fits_into ring consumed h k ≡ b
 abbrev pub fits : State → Room
 fits m = IsFit m.ring m.consumed
 
--- what a command answers that was carried out, or tore the enclave down
+-- the reply to a command that was carried out, or tore the enclave down
 abbrev pub carried : State → Command → Bool → Reply
 carried m c true = replies.Done (last_in (effect m.settings m.history c))
 carried m c false = replies.Torn
@@ -254,7 +254,7 @@ pub record Carries (m : State) (c : Command) (r : Reply) (m' : State) : Type 0 w
 abbrev pub stamp_of : ℕ → Bool → (ℕ × ℕ) → Known → Stamp
 stamp_of t p a k = record { generation = a.0; tid = t; tseq = k.tseq; preempt = p }
 
--- the record that the view has is stamped into the slot, and kept with the transaction; the agent remembers the stamp
+-- the record that the view has is stamped into the slot, and kept with the transaction, and the agent remembers the stamp
 abbrev pub stamps_with : State → ℕ → ℕ → Bool → Option (ℕ × ℕ) → Option Known → Reply × State
 stamps_with m c t p (Some a) (Some k) = (
   replies.Stamped (length m.transactions + 1),
@@ -284,7 +284,7 @@ abbrev pub committed : State → Landings → State
 committed m made =
     record m { history = made.history; agent = option_map (thinking (after_slots 0 made.slots)) m.agent; slots = map collected made.slots }
 
--- a commit: the stamped slots of a mask land and are collected; the answer says whether that tore the enclave down
+-- a commit: the stamped slots of a mask land and are collected, and the reply says whether that tore the enclave down
 pub record Commits (m : State) (mask : ℕ) (r : Reply) (m' : State) : Type 0 where
   pub made : Landings
   pub lands : LandsAll (fits m) m.settings mask 0 m.slots m.history made
@@ -305,8 +305,8 @@ abbrev pub begins_next : Look → List Message → Bool
 begins_next v [] = false
 begins_next v (m ∷ ms) = begins v m
 
--- of these messages the first count were taken in, none of them a gap; a drain stops early where the next one is a gap, or where it
--- begins a record and there is no memory for that
+-- of these messages the first count were taken in, none of them a gap. A drain stops early if the next one is a gap, or if it begins
+-- a record and memory for that runs out
 pub record Takes (p : Picture) (ms : List Message) (most : ℕ) (d : Drained) (p' : Picture) : Type 0 where
   pub count : d.count ≤ min most (length ms)
   pub whole : d.stop ≡ None → d.count ≡ min most (length ms)
@@ -327,12 +327,12 @@ pub record Drains (m : State) (max : ℕ) (d : Drained) (m' : State) : Type 0 wh
   pub stays : is_some m'.agent ≡ is_some m.agent
   pub page : page_of m'.agent ≡ page_of m.agent
 
--- all that is known, by rising tid
+-- all that is known, in increasing order of tid
 pub record IsListOf (v : Look) (xs : List (ℕ × Known)) : Type 0 where
   pub rising : IsStrictlyIncreasing (tids xs)
   pub all : (t : ℕ) → look_up xs t ≡ v t
 
--- a look at a view answers all that is known
+-- the reply to a look at a view has all that is known
 abbrev pub Shows : Look → Reply → Type 0
 Shows v r = (xs : List (ℕ × Known)) × (r ≡ replies.View xs) × IsListOf v xs
 
@@ -344,7 +344,7 @@ crashed m = record m { history = m.history ++ Left ∷ []; agent = None }
 abbrev pub next_dump : State → ℕ → Contents
 next_dump m max = dumped m.settings m.history (unwrap_or (page_of m.agent) 0) max
 
--- what is answered to a page: how many threads it tells of, where the next one begins, and its bytes
+-- the reply to a page: how many threads it tells of, where the next one begins, and its bytes
 abbrev pub page_reply : Contents → Reply
 page_reply p = replies.Page (length p.records) p.next (page_spelling p)
 
@@ -360,7 +360,8 @@ pub record Attaches (m : State) (max : ℕ) (r : Reply) (m' : State) : Type 0 wh
 abbrev pub planned_by : Plan → State → State
 planned_by p m = record m { policy = p }
 
--- what an event answers and leaves that is not refused and finds memory; a drain and a look at the view have their own words
+-- the reply to an event that is not refused and not out of memory, and what it leaves. A drain and a look at the view have their own
+-- words
 abbrev pub Does : State → Event Plan → Reply → State → Type 0
 Does m (events.Kernel c) r m' = Carries m c r m'
 Does m events.Crash r m' = (r ≡ replies.Crashed) × (m' ≡ crashed m)
@@ -375,17 +376,17 @@ Does m events.View r m' = Shows (view m) r × (m' ≡ m)
 Does m events.State r m' = (r ≡ replies.State (live_threads m.settings m.history)) × (m' ≡ m)
 Does m events.Unread r m' = (r ≡ replies.Unread (unread m)) × (m' ≡ m)
 
--- want of memory refuses an event; a drain stops in place of that
+-- being out of memory refuses an event, and a drain stops in place of that
 abbrev pub IsShort : {P : Type 0} → Event P → Reply → Type 0
 IsShort (events.Drain max) r = ⊥
 IsShort e r = r ≡ replies.Refused refusals.OutOfMemory
 
--- what is refused changes nothing; what is not is done, or there was no memory and nothing changed
+-- what is refused changes nothing, and what is not is done, or was out of memory and changed nothing
 abbrev pub Serves : Option Refusal → State → Event Plan → Reply → State → Type 0
 Serves (Some f) m e r m' = (r ≡ replies.Refused f) × (m' ≡ m)
 Serves None m e r m' = Does m e r m' ⊎ (IsShort e r × (m' ≡ m))
 
--- from m an event may answer r and leave m'
+-- from m an event may have the reply r and leave m'
 abbrev pub Step : State → Event Plan → Reply → State → Type 0
 Step m e r m' = Serves (refusal m e) m e r m'
 

@@ -5,7 +5,7 @@ use Rattle.gs_core.specs.declared.event.Event.TheVariants.{Begin}
 use Rattle.gs_core.specs.declared.reply.Reply.{Reply}
 use Rattle.gs_core.specs.declared.reply.Reply.TheVariants.{Done}
 
--- the policy after an event that answered this: the one by which a new agent begins, where the event names it and is not refused
+-- the policy after an event with this reply: the one by which a new agent begins, if the event names it and is not refused
 abbrev pub policy_after : {P : Type 0} → Event P → Reply → P → P
 policy_after (Begin p) (Done e) q = p
 policy_after _ _ q = q

@@ -11,7 +11,7 @@ use Rattle.gs_core.specs.declared.stage.Stage.TheVariants.{Crash, Begin, Page, A
 use Rattle.gs_core.specs.Machine.{Plan, State}
 use Rattle.gs_core.specs.Safe.{Run}
 
--- what comes first: the agent that there is crashes, and where there is none a new one begins
+-- what comes first: the agent that there is crashes, and if there is none a new one begins
 abbrev pub first_stage : Bool → Stage
 first_stage true = Crash
 first_stage false = Begin
@@ -31,7 +31,7 @@ stage_behind Page (replies.Page n None bytes) = Some Activate
 stage_behind Page r = Some Page
 stage_behind Activate r = None
 
--- what comes after a stage whose event answered this: nothing where it was refused, or tore the enclave down
+-- what comes after a stage whose event had this reply: nothing if it was refused, or tore the enclave down
 abbrev pub stage_after : Stage → Reply → Option Stage
 stage_after s (replies.Refused f) = None
 stage_after s replies.Torn = None
@@ -43,7 +43,7 @@ GoesOn cpu max s [] [] s' = s ≡ s'
 GoesOn cpu max (Some s) (e ∷ es) (r ∷ rs) s' = (e ≡ stage_event cpu max s) × GoesOn cpu max (stage_after s r) es rs s'
 GoesOn cpu max s es rs s' = ⊥
 
--- an agent is replaced by a run of all the stages' events, which answers this
+-- an agent is replaced by a run of all the stages' events, with these replies
 pub record Replaces (cpu max : ℕ) (m : State) (rs : List Reply) (m' : State) : Type 0 where
   pub events : List (Event Plan)
   pub in_order : GoesOn cpu max (Some (first_stage (has_agent m.history))) events rs None

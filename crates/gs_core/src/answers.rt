@@ -1,24 +1,25 @@
-//! What the kernel's answer to a command makes of the agent's role, and how the machine answers it.
+//! What becomes of the agent's role after a command, and the machine's reply to it.
 
 ghost use Rattle.std.specs.Prelude.{◌≡◌};
+ghost use Rattle.gs_kernel.specs.Fate.{answer_by};
 ghost use Rattle.gs_core.specs.Answers.{answered, follows, reply_of};
 
 use crate::reply::Reply;
 use gs_agent::Role;
 use gs_journal::Entry;
-use gs_kernel::Answer;
+use gs_kernel::Fate;
 
-/// The role of the agent, where there is one, follows an answer: where a generation of it is active on a CPU,
-/// it is promoted to that.
-pub(crate) fn follow_answer<P>(role: &mut Option<Role<P>>, answer: &Answer)
-    ensures { role.new ≡ answered answer.now role.old }
+/// Lets the role of the agent, if there is one, follow a command that was done. If the last entry says that a generation
+/// is active on a CPU, the role is promoted to that.
+pub(crate) fn follow_fate<P>(role: &mut Option<Role<P>>, fate: Fate, last: &Entry)
+    ensures { role.new ≡ answered (answer_by fate last.now) role.old }
 {
-    if let Answer::Done { entry } = answer {
-        follow(role, entry);
+    if let Fate::Done = fate {
+        follow(role, last);
     }
 }
 
-/// The role follows the last entry that was added.
+/// Lets the role follow the last entry that was added.
 fn follow<P>(role: &mut Option<Role<P>>, entry: &Entry)
     ensures { role.new ≡ follows entry.now role.old }
 {
@@ -29,13 +30,15 @@ fn follow<P>(role: &mut Option<Role<P>>, entry: &Entry)
     }
 }
 
-/// What the machine answers where the kernel answered this.
-pub(crate) fn reply(answer: Answer) -> Reply
-    ensures { result ≡ reply_of answer }
-{
-    match answer {
-        Answer::Refused { refusal } => Reply::Refused(refusal),
-        Answer::Torn => Reply::Torn,
-        Answer::Done { entry } => Reply::Done(entry),
+impl Reply {
+    /// Returns the reply to a command by its fate and the kernel's last entry.
+    pub fn by(fate: Fate, last: &Entry) -> Reply
+        ensures { result ≡ reply_of (answer_by fate last.now) }
+    {
+        match fate {
+            Fate::Refused { refusal } => Reply::Refused(refusal),
+            Fate::Torn => Reply::Torn,
+            Fate::Done => Reply::Done(*last),
+        }
     }
 }

@@ -7,28 +7,29 @@ ghost use Rattle.gs_journal.specs.declared.entry.Entry.{Entry};
 ghost use Rattle.gs_journal.specs.History.{torn};
 ghost use Rattle.gs_kernel.specs.declared.command.Command.{Command};
 ghost use Rattle.gs_kernel.specs.Kernel.{IsRefusal};
+ghost use Rattle.gs_kernel.specs.Fate.{last_entry};
+ghost use Rattle.gs_core.specs.Fates.{reply_by};
 ghost use Rattle.gs_core.specs.declared.event.Event.{Event};
 ghost use Rattle.gs_core.specs.declared.reply.Reply.{Reply};
 ghost use Rattle.gs_core.specs.Machine.{Attaches, Carries, Step, crashed, kernel_refusal, next_dump, planned_by, planning, standing_refusal, stays_with};
 ghost use Rattle.gs_core.specs.Policies.{policy_after};
 
-use crate::answers::{follow_answer, reply};
+use crate::answers::follow_fate;
 use crate::items::Items;
 use crate::machine::Machine;
 use crate::reply::Reply;
 use gs_agent::Role;
 use gs_dump::{Page, read_page, write_page};
-use gs_journal::Entry;
-use gs_kernel::{Answer, Command};
+use gs_kernel::{Command, Fate};
 use gs_layout::Refusal;
 use gs_policy::Counted;
 use std::alloc::Global;
 
 impl<P: Counted + Copy> Machine<P> {
-    /// Tells the kernel a command, which agent and slots follow.
-    pub(crate) fn tell(&mut self, command: &Command) -> Reply
+    /// Tells the kernel a command, and lets agent and slots follow it.
+    pub(crate) fn tell(&mut self, command: &Command) -> Fate
         requires { torn self.old.history ≡ false }
-        ensures step { Step (planning P.chosen self.old) (Event.Kernel command.now) result (planning P.chosen self.new) }
+        ensures step { Step (planning P.chosen self.old) (Event.Kernel command.now) (reply_by result self.new.history) (planning P.chosen self.new) }
         ensures policy { self.new.policy ≡ self.old.policy }
     {
         match command {
@@ -39,18 +40,18 @@ impl<P: Counted + Copy> Machine<P> {
     }
 
     /// Tells the kernel a command by which no agent goes and none begins.
-    fn serve(&mut self, command: &Command) -> Reply
+    fn serve(&mut self, command: &Command) -> Fate
         requires stands { torn self.old.history ≡ false }
         requires stays { stays_with command.now ≡ true }
-        ensures step { Step (planning P.chosen self.old) (Event.Kernel command.now) result (planning P.chosen self.new) }
+        ensures step { Step (planning P.chosen self.old) (Event.Kernel command.now) (reply_by result self.new.history) (planning P.chosen self.new) }
         ensures policy { self.new.policy ≡ self.old.policy }
     {
-        let answer = self.kernel.serve(command);
-        follow_answer(&mut self.role, &answer);
-        reply(answer)
+        let fate = self.kernel.obey(command);
+        follow_fate(&mut self.role, fate, self.kernel.last());
+        fate
     }
 
-    /// The agent crashes.
+    /// Lets the agent crash.
     pub(crate) fn crash(&mut self) -> Reply
         requires { torn self.old.history ≡ false }
         ensures step { Step (planning P.chosen self.old) Event.Crash result (planning P.chosen self.new) }
@@ -62,61 +63,65 @@ impl<P: Counted + Copy> Machine<P> {
         }
     }
 
-    /// The agent leaves, where no slot is stamped.
-    fn leave(&mut self) -> Reply
+    /// Lets the agent leave, if no slot is stamped.
+    fn leave(&mut self) -> Fate
         requires { torn self.old.history ≡ false }
-        ensures step { Step (planning P.chosen self.old) (Event.Kernel Command.Leave) result (planning P.chosen self.new) }
+        ensures step { Step (planning P.chosen self.old) (Event.Kernel Command.Leave) (reply_by result self.new.history) (planning P.chosen self.new) }
         ensures policy { self.new.policy ≡ self.old.policy }
     {
         if !self.kernel.has_agent() {
-            return Reply::Refused(Refusal::NotActive);
+            return Fate::Refused {
+                refusal: Refusal::NotActive,
+            };
         }
         if self.region.has_stamped() {
-            return Reply::Refused(Refusal::SlotOpen);
+            return Fate::Refused {
+                refusal: Refusal::SlotOpen,
+            };
         }
         match self.drop_agent() {
-            Ok(entry) => Reply::Done(entry),
-            Err(refusal) => Reply::Refused(refusal),
+            Ok(()) => Fate::Done,
+            Err(refusal) => Fate::Refused { refusal },
         }
     }
 
-    /// Tells the kernel that the agent is gone, and drops its role. Returns the entry of that.
-    fn drop_agent(&mut self) -> Result<Entry, Refusal>
+    /// Tells the kernel that the agent is gone, and drops its role.
+    fn drop_agent(&mut self) -> Result<(), Refusal>
         requires { torn self.old.history ≡ false }
-        ensures entry { IfOk result (λ e. e ≡ Entry.Left) }
+        ensures entry { OnOk result (last_entry self.new.history ≡ Entry.Left) }
         ensures fits { IfOk result (λ _. kernel_refusal (planning P.chosen self.old) Command.Leave ≡ None) }
         ensures gone { OnOk result (planning P.chosen self.new ≡ crashed (planning P.chosen self.old)) }
         ensures refused { IfErr result (IsRefusal (kernel_refusal (planning P.chosen self.old) Command.Leave)) }
         ensures unchanged { OnErr result (self.new ≡ self.old) }
         ensures policy { self.new.policy ≡ self.old.policy }
     {
-        match self.kernel.leave() {
-            Answer::Done { entry } => {
+        match self.kernel.obey(&Command::Leave) {
+            Fate::Done => {
                 self.role = None;
-                Ok(entry)
+                Ok(())
             }
-            Answer::Refused { refusal } => Err(refusal),
-            Answer::Torn => unreachable!(),
+            Fate::Refused { refusal } => Err(refusal),
+            Fate::Torn => unreachable!(),
         }
     }
 
-    /// A new agent begins to attach, and plans by this policy.
-    pub(crate) fn begin(&mut self, policy: P) -> Reply
+    /// Lets a new agent begin to attach, which plans by this policy.
+    pub(crate) fn begin(&mut self, policy: P) -> Fate
         requires { torn self.old.history ≡ false }
-        ensures step { Step (planning P.chosen self.old) (Event.Begin (P.chosen policy)) result (planning P.chosen self.new) }
-        ensures policy { self.new.policy ≡ policy_after (Event.Begin policy) result self.old.policy }
+        ensures step { Step (planning P.chosen self.old) (Event.Begin (P.chosen policy)) (reply_by result self.new.history) (planning P.chosen self.new) }
+        ensures policy { self.new.policy ≡ policy_after (Event.Begin policy) (reply_by result self.new.history) self.old.policy }
     {
         match self.try_begin(policy) {
-            Ok(entry) => Reply::Done(entry),
-            Err(refusal) => Reply::Refused(refusal),
+            Ok(()) => Fate::Done,
+            Err(refusal) => Fate::Refused { refusal },
         }
     }
 
-    /// Finds memory for the role of a new agent, and begins. Returns the entry of that.
-    fn try_begin(&mut self, policy: P) -> Result<Entry, Refusal>
+    /// Allocates for the role of a new agent, and begins.
+    fn try_begin(&mut self, policy: P) -> Result<(), Refusal>
         requires { torn self.old.history ≡ false }
         ensures fits { IfOk result (λ _. kernel_refusal (planning P.chosen self.old) Command.Begin ≡ None) }
-        ensures begun { IfOk result (λ e. Carries (planned_by (P.chosen policy) (planning P.chosen self.old)) Command.Begin (Reply.Done e) (planning P.chosen self.new)) }
+        ensures begun { OnOk result (Carries (planned_by (P.chosen policy) (planning P.chosen self.old)) Command.Begin (Reply.Done (last_entry self.new.history)) (planning P.chosen self.new)) }
         ensures policy { OnOk result (self.new.policy ≡ policy) }
         ensures refused { IfErr result (IsRefusal (kernel_refusal (planning P.chosen self.old) Command.Begin)) }
         ensures unchanged { OnErr result (self.new ≡ self.old) }
@@ -126,22 +131,20 @@ impl<P: Counted + Copy> Machine<P> {
         }
         let generation = self.kernel.generation() + 1;
         let cpus = self.kernel.settings().cpus;
-        let Ok(role) = Role::attach(self.alloc, policy, cpus, generation) else {
-            return Err(Refusal::OutOfMemory);
-        };
-        match self.kernel.begin() {
-            Answer::Done { entry } => {
+        let role = Role::attach(self.alloc, policy, cpus, generation)?;
+        match self.kernel.obey(&Command::Begin) {
+            Fate::Done => {
                 self.region.clear();
                 self.policy = policy;
                 self.role = Some(role);
-                Ok(entry)
+                Ok(())
             }
-            Answer::Refused { refusal } => Err(refusal),
-            Answer::Torn => unreachable!(),
+            Fate::Refused { refusal } => Err(refusal),
+            Fate::Torn => unreachable!(),
         }
     }
 
-    /// The agent that attaches is told of the next threads that live, at most `max`.
+    /// Tells the agent that attaches of the next threads that live, at most `max`.
     pub(crate) fn page(&mut self, max: u16) -> Reply
         requires { torn self.old.history ≡ false }
         ensures step { Step (planning P.chosen self.old) (Event.Page max) result (planning P.chosen self.new) }
@@ -153,7 +156,7 @@ impl<P: Counted + Copy> Machine<P> {
         }
     }
 
-    /// The page that begins where the agent's next one does.
+    /// Returns the page that begins where the agent's next one does.
     fn next_dump(&self, max: u16) -> Result<Page, Refusal>
         requires { torn self.now.history ≡ false }
         ensures page { IfOk result (λ p. p ≡ next_dump (planning P.chosen self.now) max) }
@@ -181,9 +184,7 @@ impl<P: Counted + Copy> Machine<P> {
         let Some(role) = &mut self.role else {
             unreachable!()
         };
-        let Ok(()) = role.rebuild(&page) else {
-            return Err(Refusal::OutOfMemory);
-        };
+        role.rebuild(&page)?;
         self.kernel.note_page(&page);
         Ok(Reply::Page {
             count: page.records.len() as u16,
@@ -193,20 +194,18 @@ impl<P: Counted + Copy> Machine<P> {
     }
 }
 
-/// A page as bytes, and the page that is read from them.
+/// Returns a page as bytes, and the page that is read from them.
 ///
 /// # Errors
 ///
-/// `OutOfMemory`, where memory runs out.
+/// `OutOfMemory` if out of memory.
 fn hand_over(alloc: Global, page: &Page) -> Result<(Vec<u8>, Page), Refusal>
     ensures bytes { IfOk result (λ r. r.0.items ≡ page_spelling page.now) }
     ensures page { IfOk result (λ r. r.1 ≡ page.now) }
     ensures short { IfErr result (λ f. f ≡ Refusal.OutOfMemory) }
 {
-    let Ok(bytes) = write_page(alloc, page) else {
-        return Err(Refusal::OutOfMemory);
-    };
-    // A look at a field, by which the proof has that this is a page: it is read, unless memory runs out.
+    let bytes = write_page(alloc, page)?;
+    // A look at a field, by which the proof has that this is a page: it is read, unless out of memory.
     let _next = &page.next;
     match read_page(alloc, &bytes) {
         Ok(read) => Ok((bytes, read)),

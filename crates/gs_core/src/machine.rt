@@ -1,11 +1,13 @@
-ghost use Rattle.std.specs.Prelude.{◌≡◌, ℕ, None, Some, Ok, IfOk, IfErr, IfSome, OnOk, OnErr, is_some, map, true, false};
+ghost use Rattle.std.specs.Prelude.{◌≡◌, ◌+◌, ◌≤◌, ℕ, None, Some, Ok, IfOk, IfErr, IfSome, OnOk, OnErr, is_some, length, map, true, false};
 ghost use Rattle.std.specs.Option.{option_map};
 ghost use Rattle.gs_kernel.specs.Kernel.{IsRefusal};
+ghost use Rattle.gs_kernel.specs.declared.settings.TheConstants.{MOST_HISTORY};
 ghost use Rattle.gs_core.specs.Config.{config_fault, IsFault};
 ghost use denote.Ref.{Bor};
 ghost use Rattle.gs_agent.specs.Role.{RoleOf};
 ghost use Rattle.gs_core.specs.Held.{agent_of};
 ghost use Rattle.gs_core.specs.Machine.{Step, decides, mind_of, plan_of, planned, planning, standing_refusal, start, stamps, transaction_of, unread, without_agent};
+ghost use Rattle.gs_core.specs.Fates.{reply_by};
 ghost use Rattle.gs_core.specs.Policies.{policy_after, policy_after_all};
 ghost use Rattle.gs_core.specs.Desk.{AreBelow, AreStampable};
 ghost use Rattle.gs_journal.specs.History.{active, posted, torn};
@@ -19,11 +21,12 @@ use crate::items::Items;
 use crate::known::known_threads;
 use crate::reply::Reply;
 use crate::slots::MachineSlots;
-use crate::stamping::{make_room, stamp_all, stamp_choice, stamp_refusal};
+use crate::stamping::{stamp_all, stamp_choice, stamp_refusal};
 use crate::transaction::Transaction;
+use crate::transactions::Transactions;
 use crate::unread::waiting;
 use gs_agent::Role;
-use gs_kernel::Kernel;
+use gs_kernel::{Command, Fate, Kernel};
 use gs_layout::Refusal;
 use gs_policy::{Choice, Counted};
 use gs_ring::ByteRing;
@@ -32,17 +35,17 @@ use gs_status::Mask;
 use std::alloc::{AllocError, Global};
 use std::marker::Model;
 
-/// An enclave: the kernel, the global agent that the kernel tells of its threads, and the slots by
-/// which the agent tells the kernel its decisions (after the ghOSt paper, SOSP 2021).
+/// An enclave, after the ghOSt paper (SOSP 2021). It has the kernel, the global agent that the kernel tells
+/// of its threads, and the slots by which the agent tells the kernel its decisions.
 #[derive(Drop)]
 pub struct Machine<P: Counted> {
     pub(crate) alloc: Global,
     pub(crate) kernel: Kernel<ByteRing>,
     pub(crate) policy: P,
-    /// The role of the agent, where one is active or attaches.
+    /// The role of the agent, if one is active or attaches.
     pub(crate) role: Option<Role<P>>,
     pub(crate) region: MachineSlots,
-    transactions: Vec<Transaction>,
+    transactions: Transactions,
 }
 
 impl<P: Counted> Model for Machine<P> {
@@ -58,11 +61,11 @@ impl<P: Counted> Model for Machine<P> {
 }
 
 impl<P: Counted + Copy> Machine<P> {
-    /// An enclave in which nothing happened but that the first agent is active on CPU 0.
+    /// Opens an enclave in which nothing happened but that the first agent is active on CPU 0.
     ///
     /// # Errors
     ///
-    /// The first fault of the configuration, else `OutOfMemory` where memory runs out.
+    /// The first fault of the configuration, else `OutOfMemory` if out of memory.
     pub fn new(alloc: Global, config: Config<P>) -> Result<Machine<P>, ConfigFault>
         ensures ok { IfOk result (λ m. m ≡ start config) }
         ensures fits { IfOk result (λ _. config_fault config ≡ None) }
@@ -73,48 +76,43 @@ impl<P: Counted + Copy> Machine<P> {
         if let Some(fault) = config.fault() {
             return Err(fault);
         }
-        match Machine::open(alloc, &config) {
-            Some(machine) => Ok(machine),
-            None => Err(ConfigFault::OutOfMemory),
-        }
+        Ok(Machine::open(alloc, &config)?)
     }
 
-    /// An enclave with these numbers, where memory does not run out.
-    fn open(alloc: Global, config: &Config<P>) -> Option<Machine<P>>
+    /// Opens an enclave with these numbers.
+    ///
+    /// # Errors
+    ///
+    /// `AllocError` if out of memory.
+    fn open(alloc: Global, config: &Config<P>) -> Result<Machine<P>, AllocError>
         requires { config_fault config.now ≡ None }
-        ensures { IfSome result (λ m. m ≡ start config.now) }
+        ensures { IfOk result (λ m. m ≡ start config.now) }
     {
         let settings = config.settings();
-        let Ok(region) = MachineSlots::new(alloc, settings.cpus) else {
-            return None;
-        };
+        let region = MachineSlots::new(alloc, settings.cpus)?;
         let Ok(ring) = ByteRing::new(alloc, config.ring as usize) else {
-            return None;
+            return Err(AllocError);
         };
-        let Ok(kernel) = Kernel::new(alloc, settings, ring) else {
-            return None;
-        };
-        let Ok(role) = Role::new(
+        let kernel = Kernel::new(alloc, settings, ring)?;
+        let role = Role::new(
             alloc,
             config.policy,
             settings.cpus,
             settings.first_generation,
             0,
-        ) else {
-            return None;
-        };
-        Some(Machine {
+        )?;
+        Ok(Machine {
             alloc,
             kernel,
             policy: config.policy,
             role: Some(role),
             region,
-            transactions: Vec::new(alloc),
+            transactions: Transactions::new(alloc),
         })
     }
 
-    /// The role of the agent, to look at, where one is active or attaches. It plans by the machine's policy, and
-    /// while an agent is active, it is of the active generation and takes the active agent's CPU for its own.
+    /// Lends the role of the agent, if one is active or attaches. It plans by the machine's policy. While an
+    /// agent is active, it is of the active generation and takes the active agent's CPU for its own.
     pub fn role(&self) -> Option<&Role<P>>
         ensures agent { option_map (λ (r : Bor (RoleOf P)). agent_of r.now) result ≡ self.now.agent }
         ensures policy { IfSome result (λ r. r.now.policy ≡ self.now.policy) }
@@ -124,14 +122,14 @@ impl<P: Counted + Copy> Machine<P> {
         self.role.as_ref()
     }
 
-    /// The slots of all CPUs, to look at.
+    /// Lends the slots of all CPUs.
     pub fn region(&self) -> &Region
         ensures { states_in 0 result.now ≡ map Ok self.now.slots }
     {
         self.region.region()
     }
 
-    /// The kernel, to look at.
+    /// Lends the kernel.
     pub fn kernel(&self) -> &Kernel<ByteRing>
         ensures settings { result.now.settings ≡ self.now.settings }
         ensures history { result.now.history ≡ self.now.history }
@@ -143,19 +141,19 @@ impl<P: Counted + Copy> Machine<P> {
         &self.kernel
     }
 
-    /// A transaction by its number, counted from 1 by the stampings: the slot as it was stamped, and
+    /// Returns a transaction by its number, counted from 1 by the stampings: the slot as it was stamped, and
     /// the facts that it was stamped from.
-    pub fn transaction(&self, number: usize) -> Option<Transaction>
+    pub fn transaction(&self, number: u32) -> Option<Transaction>
         ensures { result ≡ transaction_of self.now.transactions number }
     {
-        self.transactions.get(number.checked_sub(1)?).copied()
+        self.transactions.get(number).copied()
     }
 
-    /// The CPU of a transaction and the slot as it was stamped, by the transaction's number.
+    /// Returns the CPU of a transaction and the slot as it was stamped, by the transaction's number.
     fn stamped(&self, number: u32) -> Option<(u16, Stamp)>
         ensures { result ≡ option_map (λ (x : Transaction). (x.cpu, x.slot)) (transaction_of self.now.transactions number) }
     {
-        let transaction = self.transactions.get((number as usize).checked_sub(1)?)?;
+        let transaction = self.transactions.get(number)?;
         Some((transaction.cpu, transaction.slot))
     }
 
@@ -211,7 +209,7 @@ impl<P: Counted + Copy> Machine<P> {
         }
     }
 
-    /// Whether an agent is active, and else the refusal of whatever takes one.
+    /// Tests that an agent is active, and else returns the refusal of whatever takes one.
     fn active_agent(&self) -> Result<(), Refusal>
         ensures active { OnOk result (is_some (active self.now.history) ≡ true) }
         ensures refused { IfErr result (λ r. without_agent (planning P.chosen self.now) None ≡ Some r) }
@@ -233,8 +231,8 @@ impl<P: Counted + Copy> Machine<P> {
         }
     }
 
-    /// Stamps what the view has of a thread into the slot of a CPU. Answers the transaction's number.
-    fn try_stamp(&mut self, cpu: u16, tid: u32, preempt: bool) -> Result<usize, Refusal>
+    /// Stamps what the view has of a thread into the slot of a CPU. Returns the transaction's number.
+    fn try_stamp(&mut self, cpu: u16, tid: u32, preempt: bool) -> Result<u32, Refusal>
         ensures fits { IfOk result (λ _. standing_refusal (planning P.chosen self.old) (Event.Stamp cpu tid preempt) ≡ None) }
         ensures number { IfOk result (λ n. Reply.Stamped n ≡ (stamps (planning P.chosen self.old) cpu tid preempt).0) }
         ensures ok { OnOk result (planning P.chosen self.new ≡ (stamps (planning P.chosen self.old) cpu tid preempt).1) }
@@ -249,8 +247,8 @@ impl<P: Counted + Copy> Machine<P> {
         let Some(role) = &mut self.role else {
             unreachable!()
         };
-        let most = self.kernel.settings().history as usize;
-        if let Err(refusal) = make_room(&mut self.transactions, most) {
+        let most = self.kernel.settings().history;
+        if let Err(refusal) = self.transactions.make_room(most) {
             return Err(stamp_refusal(role, &self.region, cpu, tid).unwrap_or(refusal));
         }
         let choice = Choice { cpu, tid, preempt };
@@ -272,8 +270,8 @@ impl<P: Counted + Copy> Machine<P> {
         }
     }
 
-    /// Stamps what the policy plans. Answers the number of the first transaction, and the choices.
-    fn try_decide(&mut self) -> Result<(usize, Vec<Choice>), Refusal>
+    /// Stamps what the policy plans. Returns the number of the first transaction, and the choices.
+    fn try_decide(&mut self) -> Result<(u32, Vec<Choice>), Refusal>
         ensures fits { IfOk result (λ _. standing_refusal (planning P.chosen self.old) Event.Decide ≡ None) }
         ensures reply { IfOk result (λ r. Reply.Decided r.0 r.1.items ≡ (decides (planning P.chosen self.old)).0) }
         ensures ok { OnOk result (planning P.chosen self.new ≡ (decides (planning P.chosen self.old)).1) }
@@ -286,9 +284,7 @@ impl<P: Counted + Copy> Machine<P> {
             unreachable!()
         };
         let first = self.transactions.len() + 1;
-        if self.transactions.reserve(choices.len()).is_err() {
-            return Err(Refusal::OutOfMemory);
-        }
+        self.transactions.reserve(choices.len())?;
         stamp_all(
             role,
             &mut self.region,
@@ -298,10 +294,11 @@ impl<P: Counted + Copy> Machine<P> {
         Ok((first, choices))
     }
 
-    /// What the policy plans, where there is room for its transactions.
+    /// Returns what the policy plans, if there is room for its transactions.
     fn plan(&self) -> Result<Vec<Choice>, Refusal>
         ensures plan { IfOk result (λ r. r.items ≡ plan_of (planning P.chosen self.now)) }
         ensures active { OnOk result (is_some (active self.now.history) ≡ true) }
+        ensures few { IfOk result (λ r. length self.now.transactions + length r.items ≤ MOST_HISTORY) }
         ensures stampable { IfOk result (λ r. AreStampable (mind_of self.now.agent).records self.now.slots r.items) }
         ensures below { IfOk result (λ r. AreBelow self.now.settings.cpus r.items) }
         ensures fits { IfOk result (λ _. standing_refusal (planning P.chosen self.now) Event.Decide ≡ None) }
@@ -309,8 +306,8 @@ impl<P: Counted + Copy> Machine<P> {
     {
         self.active_agent()?;
         let taken = self.kernel.taken();
-        let history = self.kernel.settings().history as usize;
-        let room = history.saturating_sub(self.transactions.len());
+        let history = self.kernel.settings().history;
+        let room = history.saturating_sub(self.transactions.len()) as usize;
         let Some(role) = &self.role else {
             unreachable!()
         };
@@ -364,33 +361,59 @@ impl<P: Counted + Copy> Machine<P> {
         }
     }
 
-    /// One event. It is refused by the first refusal that applies, and changes nothing then.
+    /// Lets one event happen, and returns the reply. It is refused by the first refusal that applies, and
+    /// changes nothing then.
     pub fn step(&mut self, event: &Event<P>) -> Reply
         ensures step { Step (planning P.chosen self.old) (planned P.chosen event.now) result (planning P.chosen self.new) }
         ensures safe { Safe (planning P.chosen self.new) }
         ensures faithful { IsFaithful (planning P.chosen self.new) }
         ensures policy { self.new.policy ≡ policy_after event.now result self.old.policy }
     {
-        let reply = if self.kernel.is_torn() {
-            Reply::Refused(Refusal::Gone)
-        } else {
-            self.standing_step(event)
-        };
         // A look at a field, by which the proof has what the machine keeps.
+        if self.kernel.is_torn() {
+            return Reply::Refused(Refusal::Gone);
+        }
+        let reply = self.standing_step(event);
+        // The same.
         let _region = &self.region;
         reply
     }
 
-    /// One event while the enclave stands.
+    /// Tells the kernel a command, as [`Machine::step`] does at the event of it, and returns its fate. The reply is
+    /// [`Reply::by`] that and the kernel's last entry.
+    pub fn command(&mut self, command: &Command) -> Fate
+        ensures step { Step (planning P.chosen self.old) (Event.Kernel command.now) (reply_by result self.new.history) (planning P.chosen self.new) }
+        ensures safe { Safe (planning P.chosen self.new) }
+        ensures faithful { IsFaithful (planning P.chosen self.new) }
+        ensures policy { self.new.policy ≡ self.old.policy }
+    {
+        if self.kernel.is_torn() {
+            return Fate::Refused {
+                refusal: Refusal::Gone,
+            };
+        }
+        let fate = self.tell(command);
+        // A look at a field, by which the proof has what the machine keeps.
+        let _region = &self.region;
+        fate
+    }
+
+    /// Lets one event happen while the enclave stands.
     fn standing_step(&mut self, event: &Event<P>) -> Reply
         requires { torn self.old.history ≡ false }
         ensures step { Step (planning P.chosen self.old) (planned P.chosen event.now) result (planning P.chosen self.new) }
         ensures policy { self.new.policy ≡ policy_after event.now result self.old.policy }
     {
         match event {
-            Event::Kernel { command } => self.tell(command),
+            Event::Kernel { command } => {
+                let fate = self.tell(command);
+                Reply::by(fate, self.kernel.last())
+            }
             Event::Crash => self.crash(),
-            Event::Begin { policy } => self.begin(*policy),
+            Event::Begin { policy } => {
+                let fate = self.begin(*policy);
+                Reply::by(fate, self.kernel.last())
+            }
             Event::Page { max } => self.page(*max),
             Event::Drain { max } => self.drain(*max),
             Event::Stamp { cpu, tid, preempt } => self.stamp(*cpu, *tid, *preempt),
@@ -403,11 +426,11 @@ impl<P: Counted + Copy> Machine<P> {
         }
     }
 
-    /// Events, one after another. Each machine on the way is safe.
+    /// Lets events happen, one after another, and returns their replies. Each machine on the way is safe.
     ///
     /// # Errors
     ///
-    /// Where there is no memory for the replies. Then no event ran.
+    /// If out of memory for the replies. Then no event ran.
     pub fn run(&mut self, events: &[Event<P>]) -> Result<Vec<Reply>, AllocError>
         ensures run { IfOk result (λ replies. Run (planning P.chosen self.old) (map (planned P.chosen) events.now) replies.items (planning P.chosen self.new)) }
         ensures policy { IfOk result (λ replies. self.new.policy ≡ policy_after_all events.now replies.items self.old.policy) }

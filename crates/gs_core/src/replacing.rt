@@ -1,4 +1,4 @@
-//! One agent is replaced by another.
+//! Replacing one agent by another.
 
 ghost use Rattle.std.specs.Prelude.{◌≡◌, ◌≤◌, IfOk, OnErr, OnOk};
 ghost use Rattle.gs_core.specs.Machine.{planning};
@@ -12,13 +12,13 @@ use std::alloc::AllocError;
 
 impl<P: Counted + Copy> Machine<P> {
     /// Replaces the agent by a new one, which plans by the same policy and becomes active on a CPU. The agent
-    /// crashes, where one is active or attaches. A new one begins, is told of the threads that live in pages of
+    /// crashes, if one is active or attaches. A new one begins, is told of the threads that live in pages of
     /// at most `max`, and becomes active. After the first of these events that is refused, or that tears the
     /// enclave down, no other comes. Returns the reply of each.
     ///
     /// # Errors
     ///
-    /// Where there is no memory for the replies. Then no event ran.
+    /// If out of memory for the replies. Then no event ran.
     pub fn replace(&mut self, cpu: u16, max: u16) -> Result<Vec<Reply>, AllocError>
         requires { 1 ≤ max }
         ensures replaces { IfOk result (λ replies. Replaces cpu max (planning P.chosen self.old) replies.items (planning P.chosen self.new)) }

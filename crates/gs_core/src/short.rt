@@ -1,12 +1,16 @@
 ghost use Rattle.std.specs.Prelude.{◌≡◌};
 ghost use Rattle.std.specs.List.{list_any};
+ghost use Rattle.gs_journal.specs.declared.entry.Entry.{Entry};
+ghost use Rattle.gs_kernel.specs.Fate.{answer_by};
+ghost use Rattle.gs_core.specs.Answers.{reply_of};
 ghost use Rattle.gs_core.specs.Short.{wants_memory};
 
 use crate::reply::Reply;
 use gs_agent::Stop;
+use gs_kernel::Fate;
 use gs_layout::Refusal;
 
-/// Whether a reply says that memory ran out.
+/// Tells whether a reply says that memory ran out.
 fn wants_memory(reply: &Reply) -> bool
     ensures { result ≡ wants_memory reply.now }
 {
@@ -17,8 +21,18 @@ fn wants_memory(reply: &Reply) -> bool
     }
 }
 
-/// Whether some reply says that memory ran out: an event was refused for want of it, or a drain stopped.
-/// With more memory the replies of the same events may differ.
+/// Tells whether the reply to a command of this fate says that memory ran out.
+pub fn is_short_fate(fate: Fate) -> bool
+    ensures { (e : Entry) → result ≡ wants_memory (reply_of (answer_by fate e)) }
+{
+    match fate {
+        Fate::Refused { refusal } => refusal == Refusal::OutOfMemory,
+        Fate::Torn | Fate::Done => false,
+    }
+}
+
+/// Tells whether some reply says that memory ran out: an event was refused for it, or a drain stopped. With
+/// more memory the replies to the same events may differ.
 pub fn is_short(replies: &[Reply]) -> bool
     ensures { result ≡ list_any wants_memory replies.now }
 {

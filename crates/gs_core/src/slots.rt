@@ -46,7 +46,7 @@ impl Model for MachineSlots {
 }
 
 impl MachineSlots {
-    /// So many slots, all idle.
+    /// Makes the slots of `cpus` CPUs, all idle.
     pub(crate) fn new(alloc: Global, cpus: u16) -> Result<MachineSlots, AllocError>
         ensures { IfOk result (λ slots. slots ≡ replicate cpus SlotState.Idle) }
     {
@@ -54,21 +54,21 @@ impl MachineSlots {
         Ok(MachineSlots { region })
     }
 
-    /// The region, to look at.
+    /// Lends the region.
     pub(crate) fn region(&self) -> &Region
         ensures { states_in 0 result.now ≡ map Ok self.now }
     {
         &self.region
     }
 
-    /// How many slots there are.
+    /// Returns how many slots there are.
     pub(crate) fn cpus(&self) -> u16
         ensures { result ≡ length self.now }
     {
         self.region.cpus()
     }
 
-    /// What is in the slot of a CPU.
+    /// Returns what is in the slot of a CPU.
     pub(crate) fn state(&self, cpu: u16) -> SlotState
         requires { cpu < length self.now }
         ensures { slice_get self.now cpu ≡ Some result }
@@ -76,7 +76,7 @@ impl MachineSlots {
         self.region.state(cpu).unwrap_or(SlotState::Idle)
     }
 
-    /// Whether a transaction is stamped into a slot, that did not land yet.
+    /// Tells whether a transaction is stamped into a slot and did not land yet.
     pub(crate) fn has_stamped(&self) -> bool
         ensures { result ≡ list_any is_stamped self.now }
     {
@@ -90,7 +90,7 @@ impl MachineSlots {
         self.region.clear();
     }
 
-    /// A role stamps what it knows of a thread into the slot of a CPU. Answers what that is.
+    /// Lets a role stamp what it knows of a thread into the slot of a CPU. Returns what that is.
     ///
     /// # Errors
     ///
@@ -114,7 +114,7 @@ impl MachineSlots {
         role.stamp(self.region.slot(cpu), tid, preempt)
     }
 
-    /// The kernel lands the slots of a mask, as `Kernel::txns_commit` says.
+    /// Lets the kernel land the slots of a mask, as `Kernel::txns_commit` says.
     pub(crate) fn commit<P: Poster>(
         &mut self,
         alloc: Global,
@@ -131,7 +131,7 @@ impl MachineSlots {
         kernel.txns_commit(alloc, &mut self.region, mask)
     }
 
-    /// A role takes in what became of the slots that are done, which are idle then.
+    /// Lets a role take in what became of the slots that are done, and makes these idle.
     pub(crate) fn collect<P>(&mut self, role: &mut Role<P>)
         ensures slots { self.new ≡ map collected self.old }
         ensures role { role.new ≡ record role.old { mind = thinks role.old.mind (after_slots 0 self.old (picture_of role.old.mind)) } }

@@ -7,7 +7,7 @@ use crate::event::Event;
 use crate::reply::Reply;
 use gs_kernel::Command;
 
-/// What is done next where an agent is replaced.
+/// What is done next as an agent is replaced.
 #[derive(Clone, Copy)]
 pub(crate) enum Stage {
     /// The agent that there is crashes.
@@ -21,7 +21,7 @@ pub(crate) enum Stage {
 }
 
 impl Stage {
-    /// The first, where there is an agent or none.
+    /// Returns the first stage, which depends on whether there is an agent.
     pub(crate) fn first(has_agent: bool) -> Stage
         ensures { result ≡ first_stage has_agent }
     {
@@ -32,7 +32,8 @@ impl Stage {
         }
     }
 
-    /// The event of this one: a page has at most `max` threads, and the new agent becomes active on a CPU.
+    /// Returns the event of this stage: a page has at most `max` threads, and the new agent becomes active on
+    /// a CPU.
     pub(crate) fn event<P>(self, cpu: u16, max: u16) -> Event<P>
         ensures { result ≡ stage_event cpu max self }
     {
@@ -48,7 +49,8 @@ impl Stage {
         }
     }
 
-    /// The one after it, by what its event answered: none where that was refused, or tore the enclave down.
+    /// Returns the stage after this one, by the reply to its event: none if that was refused, or tore the
+    /// enclave down.
     pub(crate) fn after(self, reply: &Reply) -> Option<Stage>
         ensures { result ≡ stage_after self reply.now }
     {

@@ -214,7 +214,7 @@ is_fault bytes faults.BadField fits h = h
 is_fault bytes faults.BadOrder fits h = h
 is_fault bytes faults.OutOfMemory fits h = (page_in bytes, page_sound bytes fits h)
 
--- no fault is found in a page but want of memory
+-- no fault is found in a page but out of memory
 pub none_found : (f : PageFault) (o : Option PageFault) → Faults f o → o ≡ None → f ≡ faults.OutOfMemory
 none_found faults.Short o h e = absurd (let w : Some faults.Short ≡ None = sym h ∙ e in cc)
 none_found faults.Trailing o h e = absurd (let w : Some faults.Trailing ≡ None = sym h ∙ e in cc)

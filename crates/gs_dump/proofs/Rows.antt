@@ -50,7 +50,7 @@ two_right : page_fault (page_spelling (record { records = web ∷ high ∷ []; n
 unfolding texts
 two_right = refl
 
--- the next page begins above the last thread, and tids rise
+-- the next page begins above the last thread, and tids increase
 next_at_the_last : page_fault (page_spelling (record { records = web ∷ high ∷ []; next = Some 65535 })) ≡ Some faults.BadOrder
 unfolding texts
 next_at_the_last = refl

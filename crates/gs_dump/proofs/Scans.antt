@@ -100,7 +100,7 @@ none_left count i bytes le =
     let k : count - i ≡ 0 = omega arith in
     ap (λ (n : ℕ). texts n bytes) k
 
--- what is answered once no record is left
+-- what is returned once no record is left
 pub at_end : (count i : ℕ) (bytes : List ℕ) (fit rise : Bool) (last : ℕ) (next : Option ℕ) (total : Option PageFault) → count ≤ i → field_fault fit rise last next (texts (count - i) bytes) ≡ total
     → total ≡ faulted false (not fit) (rise && rises last [] next)
 at_end count i bytes true rise last next total le so_far = sym so_far ∙ ap (field_fault true rise last next) (none_left count i bytes le)

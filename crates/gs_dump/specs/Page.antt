@@ -6,12 +6,12 @@ use Rattle.gs_layout.specs.declared.message.TheConstants.{MOST_TIDS}
 use Rattle.gs_dump.specs.declared.record.DumpRecord.{DumpRecord}
 use Rattle.gs_dump.specs.Record.{IsLive, record_spelling}
 
--- what a page tells: its threads, and the first live thread that it does not tell of, none on the last page
+-- what a page tells: its threads, and the first live thread that it does not tell of (none on the last page)
 pub record Contents : Type 0 where
   pub records : List DumpRecord
   pub next : Option ℕ
 
--- whether the tids rise, from above a number on, and the next page begins above them
+-- whether the tids increase, from above a number on, and the next page begins above them
 abbrev pub rises : ℕ → List DumpRecord → Option ℕ → Bool
 rises last [] None = true
 rises last [] (Some next) = nat_lt last next

@@ -118,12 +118,13 @@ page_in bytes = record { records = map record_in (texts_in bytes); next = next_i
 abbrev pub is_short : List ℕ → Bool
 is_short bytes = nat_lt (length bytes) 8 || nat_lt (length bytes) (size_in bytes)
 
--- the first fault of records, over all of them: whether all before them fits, whether the tids before them rise, up to the last of these, and where the next page begins
+-- the first fault of records, over all of them. The Bools say whether all before them fits and whether the tids before them increase.
+-- The numbers say which tid was the last of these and where the next page begins
 abbrev pub field_fault : Bool → Bool → ℕ → Option ℕ → List (List ℕ) → Option PageFault
 field_fault fit rise last next ts =
     if list_any is_other_version ts then Some faults.BadVersion else if not fit || list_any is_bad ts then Some faults.BadField else if not (rise && rises last (map record_in ts) next) then Some faults.BadOrder else None
 
--- the first fault of the bytes, memory aside
+-- the first fault of the bytes, apart from `OutOfMemory`
 abbrev pub page_fault : List ℕ → Option PageFault
 page_fault bytes =
     if is_short bytes then Some faults.Short else if nat_lt (size_in bytes) (length bytes) then Some faults.Trailing else field_fault (end_fits bytes) true 0 (next_in bytes) (texts_in bytes)
@@ -133,12 +134,12 @@ pub record IsSpelled (bytes : List ℕ) (p : Contents) : Type 0 where
   pub page : IsPage p
   pub whole : bytes ≡ page_spelling p
 
--- where each fault stands: the first that applies, and want of memory only where the bytes are a page
+-- when each fault is returned: it is the first that applies, and out of memory only if the bytes are a page
 abbrev pub IsFault : List ℕ → PageFault → Type 0
 IsFault bytes faults.OutOfMemory = (p : Contents) × IsSpelled bytes p
 IsFault bytes f = page_fault bytes ≡ Some f
 
--- what is read is that page, unless memory runs out
+-- what is read is that page, unless it is out of memory
 abbrev pub ReadsAs : Result Contents PageFault → Contents → Type 0
 ReadsAs (Ok q) p = q ≡ p
 ReadsAs (Err f) p = f ≡ faults.OutOfMemory

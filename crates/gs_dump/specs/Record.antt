@@ -16,7 +16,7 @@ pub record IsLive (r : DumpRecord) : Type 0 where
   pub cpu : IsCpuOrNone r.cpu
   pub runs : IfSome r.cpu (λ c. (r.facts.runnable ≡ true) × (has r.facts.mask c ≡ true))
 
--- version 1, class, the name's length, tid, sequence number, CPU, and the flags, of which bit 0 says that the thread is runnable
+-- version 1, class, the name's length, tid, sequence number, CPU, and the flags. Bit 0 of these says that the thread is runnable
 abbrev pub front_bytes : DumpRecord → List ℕ
 front_bytes r =
     little_bytes 2 1 ++ (class_number r.facts.class ∷ length r.facts.name ∷ []) ++ little_bytes 4 r.tid ++ little_bytes 4 r.tseq ++ little_bytes 2 (cpu_number r.cpu) ++ little_bytes 2 (if r.facts.runnable then 1 else 0)

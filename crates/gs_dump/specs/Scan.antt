@@ -1,4 +1,4 @@
--- What the pass over the records answers.
+-- What the pass over the records returns.
 use Rattle.std.specs.Prelude.{◌≡◌, ℕ, Option, None, Some, Result, Ok, Err, List, map}
 use Rattle.std.specs.Global.{Vec}
 use Rattle.gs_dump.specs.declared.fault.PageFault.{PageFault}
@@ -6,7 +6,7 @@ use Rattle.gs_dump.specs.declared.fault.PageFault.TheVariants as faults
 use Rattle.gs_dump.specs.declared.record.DumpRecord.{DumpRecord}
 use Rattle.gs_dump.specs.Reading.{record_in}
 
--- the first fault is this one; want of memory is answered where there is none
+-- the first fault is this one; it is out of memory only if there is no other
 abbrev pub Faults : PageFault → Option PageFault → Type 0
 Faults faults.OutOfMemory o = o ≡ None
 Faults f o = o ≡ Some f

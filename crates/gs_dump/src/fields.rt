@@ -67,7 +67,7 @@ fn cpu_fits(text: &[u8]) -> bool
     cpu == NO_CPU || (cpu < MOST_CPUS && u16_at(text, 14) == 1 && mask.has(cpu))
 }
 
-/// Whether each field of a record is in its range.
+/// Returns whether each field of a record is in its range.
 fn record_fits(text: &[u8]) -> bool
     requires { length text.now ≡ 40 }
     ensures { result ≡ record_fits text.now }
@@ -93,7 +93,7 @@ fn facts_at(text: &[u8]) -> Facts
     }
 }
 
-/// The record that these 40 bytes tell, or what is wrong with them.
+/// Returns the record that these 40 bytes tell, or what is wrong with them.
 pub(crate) fn read_record(text: &[u8]) -> Result<DumpRecord, PageFault>
     requires { length text.now ≡ 40 }
     ensures { result ≡ record_read text.now }
@@ -112,7 +112,7 @@ pub(crate) fn read_record(text: &[u8]) -> Result<DumpRecord, PageFault>
     })
 }
 
-/// Whether the header says that the page is the last and names no next thread, or names one.
+/// Returns whether the header says that the page is the last and names no next thread, or names one.
 pub(crate) fn end_fits(bytes: &[u8]) -> bool
     requires { 8 ≤ length bytes.now }
     ensures { result ≡ end_fits bytes.now }
@@ -125,7 +125,7 @@ pub(crate) fn end_fits(bytes: &[u8]) -> bool
     }
 }
 
-/// Where the header says that the next page begins.
+/// Returns the thread at which the next page begins, as the header says, or `None` on the last page.
 pub(crate) fn next_at(bytes: &[u8]) -> Option<u32>
     requires { 8 ≤ length bytes.now }
     ensures { result ≡ next_in bytes.now }

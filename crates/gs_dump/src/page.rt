@@ -1,13 +1,13 @@
 use crate::record::DumpRecord;
 use std::marker::Model;
 
-/// Some of the kernel's live threads, by rising tid.
+/// Some of the kernel's live threads, in increasing order of tid.
 ///
-/// There are at most 65,535 records, each in its ranges, and a thread on a CPU is runnable and has
-/// that CPU in its mask. The next page begins above the last record: no other page can be made.
+/// There are at most 65,535 records, each in its ranges. A thread on a CPU is runnable and has that CPU in
+/// its mask. The next page begins above the last record. No other page can be made.
 #[derive(Drop, Debug)]
 pub struct Page {
-    /// The threads, by rising tid.
+    /// The threads, in increasing order of tid.
     pub records: Vec<DumpRecord>,
     /// The first live thread that this page does not tell of, or `None` on the last page.
     pub next: Option<u32>,

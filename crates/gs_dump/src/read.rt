@@ -16,7 +16,7 @@ use std::alloc::Global;
 /// How many bytes stand before the records.
 pub(crate) const HEADER: usize = 8;
 
-/// Whether the next page, if there is one, begins above a thread.
+/// Returns whether the next page, if there is one, begins above a thread.
 fn begins_above(last: u32, next: Option<u32>) -> bool
     ensures { result ≡ rises last [] next }
 {
@@ -76,18 +76,19 @@ fn read_records(
     Ok(records)
 }
 
-/// Reads a page where the bytes are its one spelling, and else says what is wrong with them.
+/// Reads a page if the bytes are its one spelling, and else returns what is wrong with them.
 ///
 /// # Errors
 ///
 /// The first that applies to the whole of the bytes: `Short`, `Trailing`, `BadVersion` of any record,
-/// `BadField` of the header or any record, `BadOrder`, and `OutOfMemory` where the bytes are a page.
+/// `BadField` of the header or any record, `BadOrder`. `OutOfMemory` if out of memory, only for bytes that
+/// are a page.
 pub fn read_page(alloc: Global, bytes: &[u8]) -> Result<Page, PageFault>
-    // What is read is spelled so, and what is spelled so is read, unless memory runs out.
+    // What is read is spelled so, and what is spelled so is read, unless it is out of memory.
     ensures ok { IfOk result (IsSpelled bytes.now) }
     ensures only { (p : Contents) → IsSpelled bytes.now p → ReadsAs result p }
 
-    // Each fault stands exactly where the order puts it.
+    // Each fault is returned exactly if it is the first in the order.
     ensures fault { IfErr result (IsFault bytes.now) }
     ensures only_fault { (f : PageFault) → page_fault bytes.now ≡ Some f → result ≡ Err f }
 {

@@ -58,11 +58,11 @@ fn header(page: &Page) -> [u8; 8]
     bytes
 }
 
-/// The bytes of a page: 8 of a header, and 40 for each record.
+/// Returns the bytes of a page: 8 of a header, and 40 for each record.
 ///
 /// # Errors
 ///
-/// Where memory runs out.
+/// `AllocError` if out of memory.
 pub fn write_page(alloc: Global, page: &Page) -> Result<Vec<u8>, AllocError>
     ensures { IfOk result (λ bytes. bytes.items ≡ page_spelling page.now) }
 {

@@ -1,4 +1,4 @@
-mod Added
+mod Pieces
 mod Places
 mod WorkedJournal
 mod Words

@@ -9,7 +9,7 @@ use Rattle.gs_journal.specs.declared.entry.Entry.{Entry}
 use Rattle.gs_journal.specs.declared.entry.Entry.TheVariants.{Posted, Placed, Role, Begin, Left, Taken, Given, Torn}
 use Rattle.gs_lines.specs.Lines.{change_text, cpu_text, facts_text, line}
 
--- whether a new mask took a thread off its CPU: a word that is only there where it did
+-- whether a new mask took a thread off its CPU: a word that is only there if it did
 abbrev pub off_text : Bool → List ℕ
 off_text true = codes " off"
 off_text false = []

@@ -1,5 +1,5 @@
 pub mod Journal
 pub mod Json
 pub mod Legible
+pub mod Pieces
 pub mod Reading
-pub mod Written

@@ -7,7 +7,7 @@ use gs_layout::{Change, Message};
 use gs_lines::{Text, change_name, write_cpu, write_facts, write_placed};
 use std::alloc::{AllocError, Global};
 
-/// Whether a new mask took a thread off its CPU.
+/// Returns the word that says that a new mask took a thread off its CPU, behind a space, or nothing if it did not.
 fn off_name(off: bool) -> &'static str
     ensures { result.now ≡ off_text off }
 {
@@ -102,9 +102,12 @@ fn write_line(out: &mut Text, place: usize, entry: &Entry) -> Result<(), AllocEr
     out.end_line()
 }
 
-/// A journal as text: a line for each entry, in order, which begins with the entry's place, counted from 0.
+/// Returns a journal as text: a line for each entry, in order, which begins with the entry's place, counted
+/// from 0.
 ///
-/// It fails only for want of memory.
+/// # Errors
+///
+/// `AllocError` if out of memory.
 pub fn journal_text(alloc: Global, entries: &[Entry]) -> Result<Text, AllocError>
     ensures { IfOk result (λ text. text ≡ journal_lines entries.now) }
 {

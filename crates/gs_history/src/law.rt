@@ -4,9 +4,9 @@ ghost use Rattle.gs_history.specs.Journal.{journal_lines};
 ghost use Rattle.gs_history.specs.Legible.{IsLegible};
 ghost use Rattle.gs_history.specs.Reading.{history_in};
 
-/// A journal's entries are read back from its lines, so two journals with the same lines are one. That asks of each entry
-/// that its numbers have at most 64 digits, and that the name of a new thread is a name and not `-`, which stands for no
-/// name in a line. It does nothing when it runs.
+/// States that a journal's entries are read back from its lines, so two journals with the same lines are one.
+/// That asks of each entry that its numbers have at most 64 digits. The name of a new thread has to be a name
+/// and not `-`, which stands for no name in a line. It does nothing when it runs.
 #[tactic(auto, using(crate::proofs::Laws::history_read_back, crate::proofs::Laws::same_lines))]
 pub fn lines_tell_all()
     ensures read_back { (h : History) → All IsLegible h → history_in (journal_lines h) ≡ h }

@@ -4,7 +4,6 @@
 mod entry_json;
 mod entry_line;
 mod law;
-mod members;
 
 pub use entry_json::json_text;
 pub use entry_line::journal_text;

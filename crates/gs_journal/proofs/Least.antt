@@ -13,7 +13,7 @@ thread_is : (t : ℕ) (o : Option ℕ) → is_thread t o ≡ true → o ≡ Some
 thread_is t None q = absurd cc
 thread_is t (Some u) q = ap Some (let same : u ≡ t = grind (arith, nat_tests) in same)
 
--- where none is found below a count, the thread is on none of them
+-- if none is found below a count, the thread is on none of them
 below_none : (n : ℕ) (h : History) (t : ℕ) → at_below n h t ≡ None → (d : ℕ) → d < n → on h d ≡ Some t → ⊥
 below_none zero h t e d lt there = absurd (omega arith)
 below_none (suc n) h t e d lt there = by_rest (below_none n h t) (at_below n h t) refl e

@@ -84,7 +84,7 @@ learnt_was first h t j m r s k is at before known =
       facts = ap (λ x. record_of (take x (messages h t))) n ∙ (record_at (messages h t) j m is ∙ (ap (λ x. after x m) before ∙ l.0));
     }
 
--- Known facts stay so where the message is skipped, and a message that applies gives facts that were so
+-- Known facts stay so if the message is skipped, and a message that applies gives facts that were so
 pub next_was : (first : ℕ) (h : History) (t j u s : ℕ) (c : Change) (o : Option Known) (k : Known)
     → Numbered first 0 (messages h t) → slice_get (messages h t) j ≡ Some (Thread u s c)
     → ((k : Known) → o ≡ Some k → Was first h t k) → next_known o (Thread u s c) ≡ Some k → Was first h t k
@@ -169,7 +169,7 @@ snoc_from P step h (e ∷ rest) p = subst P (append_assoc h (e ∷ []) rest) (sn
 pub snoc_induction : {A : Type 0} (P : List A → Type 0) → P [] → ((h : List A) (e : A) → P h → P (h ++ e ∷ [])) → (h : List A) → P h
 snoc_induction P none step h = snoc_from P step [] h none
 
--- the messages about a thread where an entry stands in front
+-- the messages about a thread if an entry stands in front
 in_front : (e : Entry) (h : History) (t : ℕ) → messages (e ∷ h) t ≡ filter (is_about t) (posted_by e) ++ messages h t
 unfolding messages posted
 in_front e h t = filter-append (is_about t) (posted_by e) (flat_map posted_by h)

@@ -14,7 +14,8 @@ use Rattle.gs_journal.specs.State.{state}
 facts : Bool → ℕ → Facts
 facts may mask = record { runnable = may; mask = mask; class = Zero; name = 119 ∷ 101 ∷ 98 ∷ [] }
 
--- the life of thread 1: created, placed, a tick, blocked, woken, placed, preempted, placed, two new masks of which the second takes it off, placed, gives way, dies
+-- the life of thread 1: created, placed, a tick, blocked, woken, placed, preempted, placed. Then two new masks of which the second takes it off,
+-- placed, gives way, dies
 life : History
 life =
     Role 1 0

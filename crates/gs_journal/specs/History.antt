@@ -28,7 +28,7 @@ abbrev pub seq_after : ℕ → ℕ → ℕ
 seq_after first zero = 0
 seq_after first (suc n) = first + suc n
 
--- a thread's sequence number: the first one plus the count of its messages, and 0 where there are none
+-- a thread's sequence number: the first one plus the count of its messages, or 0 if there are none
 unfoldable pub seq : ℕ → History → ℕ → ℕ
 seq first h t = seq_after first (length (messages h t))
 

@@ -43,8 +43,8 @@ abbrev pub live_of : Option Facts → Option Bool → Option ℕ → Record
 live_of None r m = records.Absent
 live_of (Some f) r m = records.Live (record { runnable = or_given r f.runnable; mask = or_given m f.mask; class = f.class; name = f.name })
 
--- the record of a thread with these messages: absent where it has none, dead where a death is among them; else runnable by the last
--- creation, block or wake-up, the mask of the last creation or affinity, class and name of the creation
+-- the record of a thread with these messages. It is absent if it has none, and dead if a death is among them. Else it is runnable by the last
+-- creation, block or wake-up, with the mask of the last creation or affinity. Its class and name are the creation's
 unfoldable pub record_of : List Message → Record
 record_of ms =
     if list_any is_death ms

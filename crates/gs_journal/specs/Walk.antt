@@ -1,4 +1,4 @@
--- What one more entry makes of an answer, for a walk over the journal.
+-- What one more entry makes of what a query returns, for a walk over the journal.
 use Rattle.std.specs.Prelude.{Bool, false, ℕ, if◌then◌else◌}
 use Rattle.gs_layout.specs.declared.record.Record.{Record}
 use Rattle.gs_layout.specs.Message.{is_about}

@@ -6,11 +6,12 @@ use crate::query;
 use gs_layout::{Record, Refusal};
 use std::alloc::Global;
 use std::marker::Model;
+use std::slice;
 
 /// All that ever happened in an enclave, the oldest first.
 ///
-/// A query says what the first `n` entries say, and what all of them say where there are no more
-/// than `n`. It walks the entries: it is not meant to be fast.
+/// A query says what the first `n` entries say, or what all of them say if there are no more than `n`. It
+/// walks the entries: it is not meant to be fast.
 #[derive(Drop)]
 pub struct Journal {
     entries: Vec<Entry>,
@@ -35,8 +36,8 @@ impl Model for Journal {
 }
 
 impl Journal {
-    /// A journal in which nothing has happened, of at most `limit` entries. A thread's sequence
-    /// numbers begin above `first_tseq`. It takes no memory.
+    /// Makes a journal in which nothing has happened, of at most `limit` entries. A thread's sequence numbers
+    /// begin above `first_tseq`. It does not allocate.
     pub fn new(alloc: Global, first_tseq: u32, limit: u32) -> Journal
         ensures entries { result.entries ≡ [] }
         ensures limit { result.limit ≡ limit }
@@ -54,8 +55,8 @@ impl Journal {
     ///
     /// # Errors
     ///
-    /// `HistoryFull` where the limit leaves fewer, and else `OutOfMemory` where memory runs out.
-    /// All is then as before.
+    /// `HistoryFull` if the limit leaves fewer, and else `OutOfMemory` if out of memory. Nothing changes
+    /// then.
     pub fn reserve(&mut self, additional: usize) -> Result<(), Refusal>
         ensures room { OnOk result (additional ≤ self.new.room) }
         ensures full { IsErrOf result Refusal.HistoryFull ↔ (self.old.limit < length self.old.entries + additional) }
@@ -69,12 +70,11 @@ impl Journal {
         if left < additional {
             return Err(Refusal::HistoryFull);
         }
-        self.entries
-            .reserve(additional)
-            .map_err(|_| Refusal::OutOfMemory)
+        Ok(self.entries.reserve(additional)?)
     }
 
     /// Appends an entry, for which room was made before.
+    #[inline(always)]
     pub fn append(&mut self, entry: Entry)
         requires { 0 < self.old.room }
         ensures entries { self.new.entries ≡ self.old.entries ++ entry ∷ [] }
@@ -82,18 +82,20 @@ impl Journal {
         ensures first_tseq { self.new.first_tseq ≡ self.old.first_tseq }
         ensures room { self.old.room ≤ self.new.room + 1 }
     {
-        // There is room, so it takes no memory and cannot fail.
-        self.entries.extend_from_slice(&[entry]).unwrap();
+        // There is room, so it does not allocate and cannot fail.
+        self.entries
+            .extend_from_slice(slice::from_ref(&entry))
+            .unwrap();
     }
 
-    /// All entries, the oldest first.
+    /// Lends all entries, the oldest first.
     pub fn entries(&self) -> &[Entry]
         ensures { result.now ≡ self.now.entries }
     {
         self.entries.as_slice()
     }
 
-    /// How many entries there are.
+    /// Returns how many entries there are.
     pub fn len(&self) -> usize
         ensures value { result ≡ length self.now.entries }
         ensures within { result ≤ self.now.limit }
@@ -101,28 +103,28 @@ impl Journal {
         self.entries.len()
     }
 
-    /// Whether nothing has happened.
+    /// Returns whether nothing has happened.
     pub fn is_empty(&self) -> bool
         ensures { result ≡ (length self.now.entries == 0) }
     {
         self.entries.is_empty()
     }
 
-    /// The most entries that there may be.
+    /// Returns the most entries that there may be.
     pub fn limit(&self) -> u32
         ensures { result ≡ self.now.limit }
     {
         self.limit
     }
 
-    /// The number above which a thread's sequence numbers begin.
+    /// Returns the number above which a thread's sequence numbers begin.
     pub fn first_tseq(&self) -> u32
         ensures { result ≡ self.now.first_tseq }
     {
         self.first_tseq
     }
 
-    /// The first entries, all where there are no more.
+    /// Lends the first entries, all if there are no more.
     fn first(&self, n: usize) -> &[Entry]
         ensures value { result.now ≡ take n self.now.entries }
         ensures within { length result.now < 2 ^ 32 }
@@ -132,15 +134,15 @@ impl Journal {
         &self.entries[..n.min(self.len())]
     }
 
-    /// A thread's record.
+    /// Returns a thread's record.
     pub fn facts_at(&self, n: usize, tid: u32) -> Record
         ensures { result ≡ record_in (take n self.now.entries) tid }
     {
         query::last_record(self.first(n), tid)
     }
 
-    /// A thread's sequence number: `first_tseq` and one more for each message about the thread, 0
-    /// where there is none.
+    /// Returns a thread's sequence number: `first_tseq` and one more for each message about the thread, or 0
+    /// if there is none.
     #[tactic(auto, using(crate::proofs::Steps::seq_is))]
     pub fn seq_at(&self, n: usize, tid: u32) -> u64
         ensures { result ≡ seq self.now.first_tseq (take n self.now.entries) tid }
@@ -151,35 +153,35 @@ impl Journal {
         }
     }
 
-    /// Who is on a CPU.
+    /// Returns who is on a CPU, or `None` for nobody.
     pub fn on_cpu(&self, n: usize, cpu: u16) -> Option<u32>
         ensures { result ≡ on (take n self.now.entries) cpu }
     {
         query::thread_on(self.first(n), cpu)
     }
 
-    /// The CPU that a thread is on, of those below the count.
+    /// Returns the CPU that a thread is on, the least of those below the count, or `None` if it is on none.
     pub fn at(&self, n: usize, tid: u32, cpus: u16) -> Option<u16>
         ensures { result ≡ at cpus (take n self.now.entries) tid }
     {
         query::cpu_of(self.first(n), tid, cpus)
     }
 
-    /// The active agent: its generation and CPU.
+    /// Returns the active agent, its generation and CPU, or `None` if no agent is active.
     pub fn active(&self, n: usize) -> Option<(u32, u16)>
         ensures { result ≡ active (take n self.now.entries) }
     {
         query::active_agent(self.first(n))
     }
 
-    /// Whether the other class holds a CPU.
+    /// Returns whether the other class holds a CPU.
     pub fn is_taken(&self, n: usize, cpu: u16) -> bool
         ensures { result ≡ taken (take n self.now.entries) cpu }
     {
         query::is_taken(self.first(n), cpu)
     }
 
-    /// Whether the enclave was torn down.
+    /// Returns whether the enclave was torn down.
     pub fn is_torn(&self, n: usize) -> bool
         ensures { result ≡ torn (take n self.now.entries) }
     {

@@ -7,7 +7,7 @@ ghost use Rattle.gs_journal.specs.Walk.{posts_about, record_then};
 use crate::entry::Entry;
 use gs_layout::{Change, Message, Record};
 
-/// Whether a message is about a thread. A tick is about none.
+/// Returns whether a message is about a thread. A tick is about none.
 fn is_about(tid: u32, message: &Message) -> bool
     ensures { result ≡ is_about tid message.now }
 {
@@ -17,7 +17,7 @@ fn is_about(tid: u32, message: &Message) -> bool
     }
 }
 
-/// A thread's record after one more entry.
+/// Returns a thread's record after one more entry.
 fn record_then(tid: u32, before: Record, entry: &Entry) -> Record
     ensures { result ≡ record_then tid before entry.now }
 {
@@ -27,7 +27,7 @@ fn record_then(tid: u32, before: Record, entry: &Entry) -> Record
     }
 }
 
-/// A thread's record.
+/// Returns a thread's record.
 #[tactic(auto, using(crate::proofs::Steps::record_more, crate::proofs::Steps::record_nil))]
 pub fn last_record(entries: &[Entry], tid: u32) -> Record
     ensures { result ≡ record_in entries.now tid }
@@ -39,7 +39,7 @@ pub fn last_record(entries: &[Entry], tid: u32) -> Record
     found
 }
 
-/// Whether an entry is a message about a thread.
+/// Returns whether an entry is a message about a thread.
 fn posts_about(tid: u32, entry: &Entry) -> bool
     ensures { result ≡ posts_about tid entry.now }
 {
@@ -49,7 +49,7 @@ fn posts_about(tid: u32, entry: &Entry) -> bool
     }
 }
 
-/// How many messages about a thread were posted.
+/// Returns how many messages about a thread were posted.
 #[tactic(auto, using(crate::proofs::Steps::count_is))]
 pub fn count_messages(entries: &[Entry], tid: u32) -> usize
     ensures value { result ≡ length (messages entries.now tid) }
@@ -61,7 +61,7 @@ pub fn count_messages(entries: &[Entry], tid: u32) -> usize
         .count()
 }
 
-/// Whether a message takes a thread off its CPU.
+/// Returns whether a message takes a thread off its CPU.
 fn takes_off(tid: u32, message: &Message) -> bool
     ensures { result ≡ takes_off tid message.now }
 {
@@ -75,9 +75,9 @@ fn takes_off(tid: u32, message: &Message) -> bool
     }
 }
 
-/// Who is on a CPU after one more entry, if `before` was on it until then. A placing on the CPU puts its thread
-/// there, whoever was there. A message about the thread that is there, one that takes it off, leaves nobody, and so does
-/// the enclave's tear-down. All other entries leave it as it is.
+/// Returns who is on a CPU after one more entry, if `before` was on it until then. A placing on the CPU puts
+/// its thread there, whoever was there. Nobody is left there by a message that takes the thread that is there
+/// off, nor by the enclave's tear-down. All other entries leave it as it is.
 ///
 /// For a caller that walks a history by itself, as for a picture of it.
 pub fn thread_then(cpu: u16, before: Option<u32>, entry: &Entry) -> Option<u32>
@@ -95,7 +95,7 @@ pub fn thread_then(cpu: u16, before: Option<u32>, entry: &Entry) -> Option<u32>
     }
 }
 
-/// Who is on a CPU.
+/// Returns who is on a CPU.
 #[tactic(auto, using(crate::proofs::Steps::on_more, crate::proofs::Steps::on_nil))]
 pub fn thread_on(entries: &[Entry], cpu: u16) -> Option<u32>
     ensures { result ≡ on entries.now cpu }
@@ -107,7 +107,7 @@ pub fn thread_on(entries: &[Entry], cpu: u16) -> Option<u32>
     thread
 }
 
-/// Whether a thread is on a CPU.
+/// Returns whether a thread is on a CPU.
 fn is_on(entries: &[Entry], tid: u32, cpu: u16) -> bool
     ensures { IsTrue result ↔ (on entries.now cpu ≡ Some tid) }
 {
@@ -117,7 +117,7 @@ fn is_on(entries: &[Entry], tid: u32, cpu: u16) -> bool
     }
 }
 
-/// The least CPU below the count that a thread is on.
+/// Returns the least CPU below the count that a thread is on.
 #[tactic(auto, using(crate::proofs::Steps::at_found, crate::proofs::Steps::at_not, crate::proofs::Steps::at_is))]
 pub fn cpu_of(entries: &[Entry], tid: u32, cpus: u16) -> Option<u16>
     ensures { result ≡ at cpus entries.now tid }
@@ -130,7 +130,7 @@ pub fn cpu_of(entries: &[Entry], tid: u32, cpus: u16) -> Option<u16>
     None
 }
 
-/// The active agent after one more entry.
+/// Returns the active agent after one more entry.
 fn role_then(before: Option<(u32, u16)>, entry: &Entry) -> Option<(u32, u16)>
     ensures { result ≡ then_stands (role_by entry.now) ends_role entry.now before }
 {
@@ -141,7 +141,7 @@ fn role_then(before: Option<(u32, u16)>, entry: &Entry) -> Option<(u32, u16)>
     }
 }
 
-/// The active agent: its generation and CPU.
+/// Returns the active agent: its generation and CPU.
 #[tactic(auto, using(crate::proofs::Steps::active_more, crate::proofs::Steps::active_nil))]
 pub fn active_agent(entries: &[Entry]) -> Option<(u32, u16)>
     ensures { result ≡ active entries.now }
@@ -153,7 +153,7 @@ pub fn active_agent(entries: &[Entry]) -> Option<(u32, u16)>
     role
 }
 
-/// What was last said of whether the other class holds a CPU, after one more entry.
+/// Returns what was last said of whether the other class holds a CPU, after one more entry.
 fn taken_then(cpu: u16, before: Option<bool>, entry: &Entry) -> Option<bool>
     ensures { result ≡ then_latest (taken_by cpu entry.now) before }
 {
@@ -164,7 +164,7 @@ fn taken_then(cpu: u16, before: Option<bool>, entry: &Entry) -> Option<bool>
     }
 }
 
-/// Whether the other class holds a CPU.
+/// Returns whether the other class holds a CPU.
 #[tactic(auto, using(crate::proofs::Steps::taken_more, crate::proofs::Steps::taken_nil), unfolding(crate::specs::History::taken))]
 pub fn is_taken(entries: &[Entry], cpu: u16) -> bool
     ensures { result ≡ taken entries.now cpu }
@@ -176,14 +176,14 @@ pub fn is_taken(entries: &[Entry], cpu: u16) -> bool
     last.unwrap_or(false)
 }
 
-/// Whether the enclave is torn down after one more entry.
+/// Returns whether the enclave is torn down after one more entry.
 fn torn_then(before: bool, entry: &Entry) -> bool
     ensures { result ≡ (before || is_torn entry.now) }
 {
     before || matches!(entry, Entry::Torn)
 }
 
-/// Whether the enclave was torn down.
+/// Returns whether the enclave was torn down.
 #[tactic(auto, using(crate::proofs::Steps::torn_more, crate::proofs::Steps::torn_nil))]
 pub fn was_torn(entries: &[Entry]) -> bool
     ensures { result ≡ torn entries.now }

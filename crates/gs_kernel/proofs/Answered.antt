@@ -1,4 +1,4 @@
--- What was told, and what is answered of it.
+-- What was told, and the answer to it.
 use Rattle.std.proofs.Common.{◌≡◌, Bool, ℕ, None, List, ap, sym, subst, ◌∙◌}
 use Rattle.gs_layout.specs.declared.message.Message.{Message}
 use Rattle.gs_journal.specs.History.{History, posted}

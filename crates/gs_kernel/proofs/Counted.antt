@@ -7,10 +7,9 @@ use Rattle.std.proofs.lemmas.Bool.Decides.{nat_tests}
 use Rattle.std.proofs.lemmas.Nat.{zero_from_ones}
 use Rattle.std.proofs.lemmas.Nat.Bits.{bit_at-lt, bit_at-suc, bit_at_above, bit_at_lowest, same_from_bits, shr_and_one}
 use Rattle.gs_status.specs.Masks.{has, has_none, has_past}
-use Rattle.gs_status.proofs.Laws.{nobody}
-use Rattle.gs_threads.proofs.Laws.{is_zero}
+use Rattle.gs_status.proofs.Laws.{is_zero, nobody}
 
--- a CPU is in a mask where its bit is one
+-- a CPU is in a mask if its bit is one
 has_bit : (n c : ℕ) → has n c ≡ (bit_at n c == 1)
 has_bit n c = ap (λ (k : ℕ). k == 1) (shr_and_one n c)
 

@@ -131,7 +131,7 @@ left_there s h u (happens.Affinity mask) d own q = by_off (at s.cpus h u) (must_
     by_off o true q = q
     by_off o false q = absurd cc
 
--- the CPU that an event takes its thread off is the one that it is on, where it takes it off
+-- the CPU that an event takes its thread off is the one that it is on, if it takes it off
 left_seat : (s : Settings) (h : History) (u : ℕ) (e : ThreadEvent) → event_refusal s h u e ≡ None
     → left_in (change_by (at s.cpus h u) e) ≡ cond (takes_off_cpu (change_by (at s.cpus h u) e)) (at s.cpus h u) None
 left_seat s h u happens.Block own = on_it (at s.cpus h u) (refuses_not _ _ own)

@@ -45,7 +45,7 @@ agents_after a h Left k =
 agents_after a h Torn k =
     record { active = sym (active_none h); attaching = sym (attaching_none h); generation = generation-push h Torn ∙ (latest_stays (generation h) ∙ k.generation) }
 
--- where one is active, none attaches
+-- if one is active, none attaches
 none_at_first : attaching [] ≡ None
 unfolding attaching standing last_of
 none_at_first = refl

@@ -64,7 +64,7 @@ pub kept_preempted : (s : Settings) (h : History) (t t' : TableState) (running :
 kept_preempted s h t t' running held a down u c k there rows first =
     kept_about s h t t' running held a down u (Preempted c) (Some c) k tt (seated_row s h t running held a down u c k there) refl (sym (seated_at s h t running held a down u c k there)) rows first (λ d q off. absurd cc)
 
--- what holds where a taking is not refused
+-- what holds if a taking is not refused
 pub record Takes (s : Settings) (h : History) (c : ℕ) : Type 0 where
   pub cpu : c < s.cpus
   pub numbers : is_spent_there s h (on h c) ≡ false
@@ -81,7 +81,7 @@ takes_when s h c e =
     let p4 = first_passed (is_spent_there s h (on h c)) refusals.SeqSpent None p3.1 in
     record { cpu = not_le s.cpus c p1.0; numbers = p4.0 }
 
--- what holds where a hand-off is not refused
+-- what holds if a hand-off is not refused
 pub record HandsOff (s : Settings) (h : History) (c : ℕ) : Type 0 where
   pub active : is_some (active h) ≡ true
   pub cpu : c < s.cpus

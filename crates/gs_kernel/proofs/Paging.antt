@@ -26,7 +26,7 @@ one_more [] (suc n) y ys e = absurd cc
 one_more (x ∷ xs) zero y ys e = let p : x ≡ y = cc in let q : xs ≡ ys = cc in (ap (λ z. z ∷ []) p, q)
 one_more (x ∷ xs) (suc n) y ys e = let r = one_more xs n y ys e in (ap (λ zs. x ∷ zs) r.0, r.1)
 
--- where nothing is left, no more can be taken
+-- if nothing is left, no more can be taken
 pub no_more : {A : Type 0} (xs : List A) (n m : ℕ) → drop n xs ≡ [] → n ≤ m → (take m xs ≡ take n xs) × (drop m xs ≡ [])
 no_more [] zero zero e le = (refl, refl)
 no_more [] zero (suc m) e le = (refl, refl)
@@ -64,7 +64,7 @@ rises_none last zero [] e = refl
 rises_none last (suc max) [] e = refl
 rises_none last max (l ∷ ls) e = absurd cc
 
--- their tids rise, the next page's too
+-- their tids increase, the next page's too
 rising : (f : ℕ → Option LiveThread) (a n max last : ℕ) → Tells f → ((u : ℕ) (l : LiveThread) → a ≤ u → f u ≡ Some l → last < u)
     → rises last (map record_of (take max (filter_map f (range_with_len a n)))) (first_tid (drop max (filter_map f (range_with_len a n)))) ≡ true
 unfolding Tells
@@ -103,7 +103,7 @@ live_rises s h t running held a down from max most k =
     rising (live_thread s h) from (suc (length (created h)) - from) max 0 (λ u l is. told_at s h t running held a down most k u l is)
     (λ u l le is. let w = told_at s h t running held a down most k u l is in omega (arith, w.0.tid_low, w.1))
 
--- a page of them can be spelled, where each of its records can
+-- a page of them can be spelled, if each of its records can
 pub page_fits : (s : Settings) (h : History) (t : TableState) (running : List (Option ℕ)) (held : ℕ) (a : Agents) (down : Bool) (from max : ℕ) → s.cpus ≤ 64 → IsKept s h t running held a down → max < 2 ^ 16
     → AllByRecursion IsLive (map record_of (take max (live_from s h from))) → IsPage (dumped s h from max)
 page_fits s h t running held a down from max most k few live =
@@ -120,7 +120,7 @@ page_of rs o = record { records = rs; next = o }
 same_page : (rs rs' : List DumpRecord) (o o' : Option ℕ) → rs ≡ rs' → o ≡ o' → page_of rs o ≡ page_of rs' o'
 same_page rs rs' o o' p q = λ i. record { records = p i; next = q i }
 
--- the page that these records make, at its edge or where no more live
+-- the page that these records make, at its edge or if no more live
 pub page_edge : (ls : List LiveThread) (items : List DumpRecord) (max : ℕ) (l : LiveThread) (later : List LiveThread) → items ≡ map record_of (take (length items) ls) → length items ≡ max → l ∷ later ≡ drop (length items) ls
     → page_of (map record_of (take max ls)) (first_tid (drop max ls)) ≡ page_of items (Some l.tid)
 page_edge ls items max l later told full left =

@@ -1,4 +1,4 @@
--- What holds where a landing is placed.
+-- What holds if a landing is placed.
 use Rattle.std.proofs.Common.{◌≡◌, ℕ, zero, suc, ◌+◌, ◌<◌, ◌≤◌, ◌==◌, ◌++◌, ◌∷◌, [], length, Bool, true, false, nat_le, cond, Option, None, Some, refl, ap, sym, subst, ◌∙◌, arith}
 use Rattle.std.specs.Option.{is_some}
 use Rattle.std.proofs.lemmas.Bool.{false≢true}
@@ -44,7 +44,7 @@ cpu_placed s h k preempt e =
     let most : length h + placing_entries (on h k) < s.history + 1 = not_le (s.history + 1) (length h + placing_entries (on h k)) p5.0 in
     (p4.0, omega (arith, most))
 
--- what holds where a transaction is to be placed: of it and its thread, and of the CPU
+-- what holds if a transaction is to be placed: of it and its thread, and of the CPU
 pub record IsToPlace (s : Settings) (h : History) (k : ℕ) (b : Stamp) : Type 0 where
   pub up : torn h ≡ false
   pub generation : is_generation b.generation (active h) ≡ true
@@ -77,7 +77,7 @@ placing_when s h k b e =
       fits = cpu.1;
     }
 
--- what holds where it is placed: nobody is on the CPU
+-- what holds if it is placed: nobody is on the CPU
 pub record IsPlacing (s : Settings) (h : History) (k : ℕ) (b : Stamp) : Type 0 where
   pub up : torn h ≡ false
   pub generation : is_generation b.generation (active h) ≡ true
@@ -87,7 +87,7 @@ pub record IsPlacing (s : Settings) (h : History) (k : ℕ) (b : Stamp) : Type 0
   pub allowed : may_run_on k (record_in h b.tid) ≡ true
   pub free : on h k ≡ None
 
--- a thread that is nowhere is on no CPU, and stays nowhere where nobody is put on a CPU
+-- a thread that is nowhere is on no CPU, and stays nowhere if nobody is put on a CPU
 step_none : (c : ℕ) (h : History) (t : ℕ) → at_below (suc c) h t ≡ None → (at_below c h t ≡ None) × (is_thread t (on h c) ≡ false)
 step_none c h t = by_below (at_below c h t) (is_thread t (on h c))
   where
@@ -138,7 +138,7 @@ stood h m c t e = by_who (on h c) (sym (on-push h (Posted m) c) ∙ e)
     by_who None q = q
     by_who (Some u) q = by_test u (ends_run u (Posted m)) q
 
--- where nobody is on the CPU, it is placed; else once the thread there was told that it is taken off
+-- if nobody is on the CPU, it is placed; else once the thread there was told that it is taken off
 pub placing_free : (s : Settings) (h : History) (k : ℕ) (b : Stamp) → on h k ≡ None → IsToPlace s h k b → IsPlacing s h k b
 placing_free s h k b free p = record { up = p.up; generation = p.generation; current = p.current; runnable = p.runnable; nowhere = p.nowhere; allowed = p.allowed; free = free }
 

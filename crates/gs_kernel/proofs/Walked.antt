@@ -42,7 +42,7 @@ past_some {Z} L mask i (suc d) old region h now before mid le none t =
     (past_one L mask (i + d) old region h now before mid (omega (arith, le)) (none (i + d) (omega arith) (omega arith))
     (past_some L mask i d old region h now before mid (omega (arith, le)) (λ c ge lt. none c ge (omega (arith, lt))) t))
 
--- The slots of the CPUs below a place landed where they are of the mask. What is left of the mask is what it has from there on.
+-- The slots of the CPUs below a place landed if they are of the mask. What is left of the mask is what it has from there on.
 pub record IsWalked {Z : Type 0} (L : LandsOn Z) (mask left : ℕ) (old : List Z) (h : History) (before mid : List Landing) (region : List Z) (now : History) : Type 0 where
   pub from : ℕ
   pub within : from ≤ length old
@@ -86,7 +86,7 @@ pub lowest_wanted : {Z : Type 0} (L : LandsOn Z) (mask left k : ℕ) (old : List
     → IsWalked L mask left old h before mid region now → has left k ≡ true → has mask k ≡ true
 lowest_wanted L mask left k old h before mid region now w there = sym (w.to_come k (lowest_ahead left w.from k w.passed there)) ∙ there
 
--- those before a place stay, where none of them is left
+-- those before a place stay, if none of them is left
 walked_to : {Z : Type 0} (L : LandsOn Z) (mask left k : ℕ) (old : List Z) (h : History) (before mid : List Landing) (region : List Z) (now : History)
     → (w : IsWalked L mask left old h before mid region now) → w.from ≤ k → k ≤ length old → ((c : ℕ) → c < k → has left c ≡ false)
     → SoFar (LandsAllBy L mask 0 (take k old) h) before mid region (drop k old) now
@@ -126,7 +126,7 @@ walked_push {Z} L mask left left' k old x y h before mid after region now later 
     by_place c (inl below) lt' = same c (λ e. absurd (omega (arith, e, below))) ∙ before_none c below
     by_place c (inr past) lt' = ap (has left') (let e : c ≡ k = omega (arith, past, lt') in e) ∙ is_gone
 
--- where none is left, all landed that are of the mask
+-- if none is left, all landed that are of the mask
 pub walked_end : {Z : Type 0} (L : LandsOn Z) (mask left : ℕ) (old : List Z) (h : History) (before after : List Landing) (region : List Z) (now : History)
     → IsWalked L mask left old h before after region now → ((c : ℕ) → has left c ≡ false) → Adds (LandsAllBy L mask 0 old h) before after region now
 walked_end {Z} L mask left old h before after region now w none =

@@ -19,7 +19,7 @@ begin_refusal h = first_that ((has_agent h, Some refusals.StillAttached) ∷ (is
 unfoldable pub page_refusal : History → Bool → Option Refusal
 page_refusal h given = first_that ((not (is_some (attaching h)) || given, Some refusals.NotAttaching) ∷ []) None
 
--- the refusals that an agent's becoming active on a CPU has of its own, in order: no agent attaches, or the one that does was not given
--- the last page; then those of a taking, of which one cannot apply: no active agent is there
+-- the refusals that an agent's becoming active on a CPU has of its own, in order: no agent attaches, or the one that does was not given the last
+-- page. Then come those of a taking, of which one cannot apply: no active agent is there
 unfoldable pub activate_refusal : Settings → History → Bool → ℕ → Option Refusal
 activate_refusal s h given c = first_that ((not (is_some (attaching h) && given), Some refusals.NotAttaching) ∷ []) (take_refusal s h c)

@@ -30,9 +30,9 @@ pub record AgentsAre (a : Agents) (h : History) : Type 0 where
   pub attaching : a.attaching ≡ attaching h
   pub generation : generation h ≡ Some a.generation
 
--- The rows of threads mirror the history. There is a seat for each CPU, with the thread that is on it, which may run there. The mask has
--- the CPUs that the other class holds. Each thread that lives has a CPU in its mask. The agents are the history's, and so is whether the
--- enclave was torn down.
+-- The rows of threads mirror the history. There is a seat for each CPU, with the thread that is on it, which may run there. The mask has the CPUs
+-- that the other class holds. Each thread that lives has a CPU in its mask. The agents are the history's, and so is whether the enclave was torn
+-- down.
 pub record IsKept (s : Settings) (h : History) (t : TableState) (running : List (Option ℕ)) (held : ℕ) (a : Agents) (down : Bool) : Type 0 where
   pub rows : Mirrors s.first_tseq h t.rows
   pub first : t.first_tseq ≡ s.first_tseq

@@ -1,4 +1,4 @@
--- What the kernel answers, and what it leaves.
+-- What the kernel returns, and what it leaves.
 use Rattle.std.specs.Prelude.{Bool, false, not, ◌||◌, ℕ, ◌+◌, ◌≡◌, ◌==◌, nat_le, Option, None, Some, List, [], ◌∷◌, length, if◌then◌else◌, is_none, is_some, unwrap_or}
 use Rattle.std.specs.Option.{option_map}
 use Rattle.gs_layout.specs.declared.facts.Facts.{Facts}
@@ -20,8 +20,8 @@ use Rattle.gs_kernel.specs.First.{first_that}
 use Rattle.gs_threads.specs.Rows.{is_live}
 use Rattle.gs_kernel.specs.Threads.{is_runnable}
 
--- what a kernel is to its callers: its numbers, its history, how many more entries may be appended and threads created without more
--- memory, the end of the ring that it posts to, and whether the last page was given since the last begin
+-- What a kernel is to its callers: its numbers, its history, and how many more entries may be appended and threads created with no more memory.
+-- Beside that it is the end of the ring that it posts to, and whether the last page was given since the last begin.
 pub record KernelOf (P : Type 0) : Type 0 where
   pub settings : Settings
   pub history : List Entry
@@ -163,7 +163,7 @@ creation first h f = Thread (new_tid h) (first + 1) (Created f)
 abbrev pub has_agent : History → Bool
 has_agent h = is_some (active h) || is_some (attaching h)
 
--- what an Err says: the first refusal whose condition holds, or want of memory where none holds
+-- what an Err says: the first refusal whose condition holds, or out of memory if none holds
 abbrev pub IsRefusal : Option Refusal → Refusal → Type 0
 IsRefusal (Some f) e = e ≡ f
 IsRefusal None e = e ≡ refusals.OutOfMemory

@@ -27,8 +27,8 @@ abbrev pub is_to_place : Outcome → Bool
 is_to_place outcomes.Placed = true
 is_to_place _ = false
 
--- what becomes of a transaction with this verdict: one that is to be placed is placed, or is gone with the enclave where the message to the
--- thread there does not fit; of any other nothing comes
+-- what becomes of a transaction with this verdict. One that is to be placed is placed, or is gone with the enclave if the message to the thread there
+-- does not fit. Of any other nothing comes
 abbrev pub SettlesIf : Bool → Room → Settings → History → ℕ → Stamp → Outcome → Outcome → History → Type 0
 SettlesIf true room s h k b v o h' = (fit : Bool) × (o ≡ (if fit then outcomes.Placed else outcomes.Gone)) × Tells room h (placement s h k b) fit h'
 SettlesIf false room s h k b v o h' = (o ≡ v) × (h' ≡ h)
@@ -47,12 +47,12 @@ LandsIn room s h k (Stamped b) o z h' = (l : Landing) × Lands room s h k b l h'
 LandsIn room s h k Idle o z h' = (o ≡ None) × (z ≡ Idle) × (h' ≡ h)
 LandsIn room s h k (Done b p a n) o z h' = (o ≡ None) × (z ≡ Done b p a n) × (h' ≡ h)
 
--- what is answered of the malformed slot of CPU k: no thread, and no CPU that it is on
+-- what is returned of the malformed slot of CPU k: no thread, and no CPU that it is on
 abbrev pub malformed_landing : ℕ → Landing
 malformed_landing k = record { cpu = k; tid = 0; outcome = outcomes.Malformed; seen = 0; at = None }
 
--- the slot of CPU k lands, of which this is read before and that afterwards: one with a state as the state does; a malformed one is answered
--- as malformed, of which alone is left, and nothing is added to the history
+-- the slot of CPU k lands, of which this is read before and that after the landing. One with a state lands as the state does. A malformed one is
+-- returned as malformed, of which alone is left, and nothing is added to the history
 abbrev pub LandsHeld : Room → Settings → History → ℕ → Held → Option Landing → Held → History → Type 0
 LandsHeld room s h k (Ok z) o x h' = (z' : SlotState) × LandsIn room s h k z o z' h' × (x ≡ Ok z')
 LandsHeld room s h k (Err e) o x h' = (o ≡ Some (malformed_landing k)) × (x ≡ Ok refused) × (h' ≡ h)
@@ -65,7 +65,7 @@ LandsBytes room s h k b o b' h' = LandsHeld room s h k (state_in k b) o (state_i
 abbrev pub LandsOn : Type 0 → Type 1
 LandsOn Z = History → ℕ → Z → Option Landing → Z → History → Type 0
 
--- what landings answer, in order, and what they leave: the history, and their slots
+-- what landings return, in order, and what they leave: the history, and their slots
 pub record LandingsOf (Z : Type 0) : Type 0 where
   pub answers : List Landing
   pub history : History
@@ -83,12 +83,12 @@ listed (Some l) = l ∷ []
 abbrev pub then_others : {Z : Type 0} → LandingsOf Z → LandingsOf Z → LandingsOf Z
 then_others a b = record { answers = a.answers ++ b.answers; history = b.history; slots = a.slots ++ b.slots }
 
--- a slot lands, or stays, where it is not wanted
+-- a slot lands, or stays if it is not wanted
 abbrev pub LandsIfBy : {Z : Type 0} → LandsOn Z → Bool → ℕ → Z → History → LandingsOf Z → Type 0
 LandsIfBy L false k z h r = r ≡ record { answers = []; history = h; slots = z ∷ [] }
 LandsIfBy L true k z h r = (o : Option Landing) × (z' : _) × L h k z o z' r.history × (r.answers ≡ listed o) × (r.slots ≡ z' ∷ [])
 
--- the slots of the mask land, by rising CPU from k on, each on the history that the one before left
+-- the slots of the mask land, in increasing order of CPU from k on, each on the history that the one before left
 abbrev pub LandsAllBy : {Z : Type 0} → LandsOn Z → ℕ → ℕ → List Z → History → LandingsOf Z → Type 0
 LandsAllBy L mask k [] h r = r ≡ record { answers = []; history = h; slots = [] }
 LandsAllBy L mask k (z ∷ zs) h r = (one : LandingsOf _) × (rest : LandingsOf _) × LandsIfBy L (has mask k) k z h one × LandsAllBy L mask (suc k) zs one.history rest × (r ≡ then_others one rest)

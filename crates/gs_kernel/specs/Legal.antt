@@ -18,7 +18,7 @@ use Rattle.gs_kernel.specs.declared.answer.Answer.TheVariants as answers
 use Rattle.gs_kernel.specs.Kernel.{KernelOf, IsRefusal, or_else, unless_torn, is_full, create_refusal, thread_refusal, take_refusal, give_refusal, tick_refusal, hand_off_refusal, next_generation, creation, happening, preemption}
 use Rattle.gs_kernel.specs.Attaching.{leave_refusal, begin_refusal, activate_refusal}
 
--- the first refusal that a command has of its own, where the last page was given since the last begin, or was not
+-- the first refusal that a command has of its own, by whether the last page was given since the last begin
 abbrev pub own_refusal : Settings → History → Bool → Command → Option Refusal
 own_refusal s h given (commands.Create f) = create_refusal s h f
 own_refusal s h given (commands.Thread t e) = thread_refusal s h t e
@@ -82,8 +82,8 @@ last_in (Append victim e) = e
 abbrev pub Room : Type 1
 Room = History → Bool → Message → Type 0
 
--- as an end of a ring tells: from where it is, with nothing taken, it can come to where the history is posted, and from there to where
--- the message is too; or to where the history is posted and the message may be refused
+-- as an end of a ring tells. From its state, with nothing taken, it can come to one in which the history is posted, and from there to one in which
+-- the message is too. Or it can come to one in which the history is posted and the message may be refused
 abbrev pub RoomOf : {P : Type 0} → (P → P → Type 0) → (P → ℕ) → (P → List Message → Type 0) → (P → Message → Type 0) → P → Room
 RoomOf {P = P} same taken sent tight p h true m = (q : P) × same p q × (taken q ≡ taken p) × sent q (posted h) × (r : P) × same q r × (taken r ≡ taken q) × sent r (posted h ++ m ∷ [])
 RoomOf {P = P} same taken sent tight p h false m = (q : P) × same p q × (taken q ≡ taken p) × sent q (posted h) × tight q m
@@ -93,7 +93,7 @@ abbrev pub Tells : Room → History → Effect → Bool → History → Type 0
 Tells room h x true h' = IfSome (message_in x) (room h true) × (h' ≡ h ++ entries_in x)
 Tells room h x false h' = ((m : Message) × (message_in x ≡ Some m) × room h false m) × (h' ≡ h ++ Torn ∷ [])
 
--- what is answered where this was told: the last of it, or that the enclave was torn down
+-- the answer if this was told: the last of it, or that the enclave was torn down
 abbrev pub IsAnswered : Room → History → Effect → Answer → History → Type 0
 IsAnswered room h x (answers.Refused r) h' = ⊥
 IsAnswered room h x (answers.Done e) h' = (e ≡ last_in x) × Tells room h x true h'
@@ -104,7 +104,7 @@ pub record Serves (room : Room) (s : Settings) (h : History) (given : Bool) (c :
   pub free : refusal s h given c ≡ None
   pub tells : Tells room h (effect s h c) fits h'
 
--- refused by the first refusal that holds, or for want of memory where none does, and nothing changed; or done; or torn down
+-- refused by the first refusal that holds, or as out of memory if none does, and nothing changed; or done; or torn down
 abbrev pub Legal : Room → Settings → History → Bool → Command → Answer → History → Type 0
 Legal room s h given c (answers.Refused r) h' = IsRefusal (refusal s h given c) r × (h' ≡ h)
 Legal room s h given c (answers.Done e) h' = (e ≡ last_in (effect s h c)) × Serves room s h given c true h'
@@ -125,13 +125,13 @@ Refuses (answers.Refused r) = Unit {0}
 Refuses (answers.Done e) = ⊥
 Refuses answers.Torn = ⊥
 
--- whether the last page was given since the last begin, once a command was answered: it was not where that was a begin that was done
+-- whether the last page was given since the last begin, after an answer: it was not if that was a begin that was done
 abbrev pub paged_by : Answer → Bool → Bool
 paged_by (answers.Done (Begin g)) p = false
 paged_by _ p = p
 
--- A call that tells a kernel to do something: the step is legal. Where it is refused, all is as before, but that more threads may find
--- room. The frame stays, but that once a begin was done no page was given since.
+-- A call that tells a kernel to do something: the step is legal. If it is refused, all is as before, but that more threads may find room. The frame
+-- stays, but that once a begin was done no page was given since.
 pub record IsServed {P : Type 0} (same : P → P → Type 0) (taken : P → ℕ) (sent : P → List Message → Type 0) (tight : P → Message → Type 0) (a : KernelOf P) (c : Command) (r : Answer) (b : KernelOf P) : Type 0 where
   pub legal : Legal (RoomOf same taken sent tight a.poster) a.settings a.history a.paged c r b.history
   pub refused : Refuses r → b ≡ record a { rows = b.rows }

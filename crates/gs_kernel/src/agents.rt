@@ -13,7 +13,7 @@ pub struct Agents {
 }
 
 impl Agents {
-    /// None is active and none attaches. The generation stays.
+    /// Returns the agents once none is active and none attaches. The generation stays.
     pub(crate) fn gone(self) -> Agents
         ensures { result ≡ gone self }
     {

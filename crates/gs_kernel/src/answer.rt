@@ -1,7 +1,7 @@
 use gs_journal::Entry;
 use gs_layout::Refusal;
 
-/// What the kernel answers to a command.
+/// The kernel's answer to a command.
 #[derive(Clone, Copy, PartialEq, Eq, Debug)]
 pub enum Answer {
     /// It was refused and changed nothing.

@@ -13,7 +13,7 @@ use gs_layout::Refusal;
 use gs_ring::Poster;
 
 impl<P: Poster> Kernel<P> {
-    /// The refusal that an agent's leaving has of its own.
+    /// Returns the refusal that an agent's leaving has of its own.
     #[tactic(auto, unfolding(crate::specs::Attaching::leave_refusal))]
     pub(crate) fn leave_refusal(&self) -> Option<Refusal>
         ensures { result ≡ leave_refusal self.now.history }
@@ -24,7 +24,7 @@ impl<P: Poster> Kernel<P> {
         None
     }
 
-    /// The refusal that a new agent's beginning has of its own.
+    /// Returns the refusal that a new agent's beginning has of its own.
     #[tactic(auto, unfolding(crate::specs::Attaching::begin_refusal))]
     pub(crate) fn begin_refusal(&self) -> Option<Refusal>
         ensures { result ≡ begin_refusal self.now.history }
@@ -38,7 +38,7 @@ impl<P: Poster> Kernel<P> {
         None
     }
 
-    /// The refusal that an agent's becoming active on a CPU has of its own.
+    /// Returns the refusal that an agent's becoming active on a CPU has of its own.
     #[tactic(auto, unfolding(crate::specs::Attaching::activate_refusal))]
     pub(crate) fn activate_refusal(&self, cpu: u16) -> Option<Refusal>
         ensures { result ≡ activate_refusal self.now.settings self.now.history self.now.paged cpu }
@@ -49,7 +49,7 @@ impl<P: Poster> Kernel<P> {
         self.take_refusal(cpu)
     }
 
-    /// What an agent's becoming active on a CPU adds that nothing refuses.
+    /// Returns what an agent's becoming active on a CPU adds that nothing refuses.
     pub(crate) fn activating(&self, cpu: u16) -> Effect
         requires { activate_refusal self.now.settings self.now.history self.now.paged cpu ≡ None }
         ensures value { result ≡ effect self.now.settings self.now.history (Command.Activate cpu) }

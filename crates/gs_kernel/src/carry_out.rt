@@ -3,107 +3,154 @@
 ghost use Rattle.std.specs.Prelude.{◌≡◌, ◌+◌, ◌<◌, ◌≤◌, IfSome, None, length, true};
 ghost use Rattle.std.specs.Option.{is_some};
 ghost use Rattle.gs_layout.specs.Spelling.{IsSpellable};
+ghost use Rattle.gs_kernel.specs.declared.command.Command.{Command};
 ghost use Rattle.gs_kernel.specs.declared.effect.Effect.{Effect};
 ghost use Rattle.gs_kernel.specs.Inside.{created_in};
 ghost use Rattle.gs_kernel.specs.Lands.{ComesNext};
-ghost use Rattle.gs_kernel.specs.Legal.{Frame, IsAnswered, RoomOf, creates, effect, entries_in, message_in, most_entries, refusal};
+ghost use Rattle.gs_kernel.specs.Legal.{Frame, RoomOf, Tells, creates, effect, entries_in, message_in, most_entries, refusal};
 
-use crate::answer::Answer;
 use crate::command::Command;
 use crate::effect::Effect;
 use crate::kernel::Kernel;
+use crate::thread_event::ThreadEvent;
 use gs_journal::Entry;
-use gs_layout::Message;
+use gs_layout::{Facts, Message};
 use gs_ring::Poster;
 
 impl<P: Poster> Kernel<P> {
-    /// Does a command that nothing refuses. There is room for all that it adds.
-    pub(crate) fn carry_out(&mut self, command: &Command) -> Answer
+    /// Does a command that nothing refuses, and returns whether its message fits. There is room for all that it adds. If
+    /// the message does not fit, the call tears the enclave down in place of all this.
+    pub(crate) fn carry_out(&mut self, command: &Command) -> bool
         requires free { refusal self.old.settings self.old.history self.old.paged command.now ≡ None }
         requires room { most_entries command.now ≤ self.old.room }
         requires rows { creates command.now ≡ true → 0 < self.old.rows }
-        ensures told { IsAnswered (RoomOf P.same P.taken P.posted P.tight self.old.poster) self.old.history (effect self.old.settings self.old.history command.now) result self.new.history }
+        ensures told { Tells (RoomOf P.same P.taken P.posted P.tight self.old.poster) self.old.history (effect self.old.settings self.old.history command.now) result self.new.history }
         ensures frame { Frame P.same P.taken P.posted self.old self.new }
     {
         // A look at a field, by which the proof has what the kernel keeps.
         let _settings = &self.settings;
         match command {
-            Command::Create { facts } => {
-                let message = self.creation(facts);
-                self.answer_message(&message)
-            }
-            Command::Thread { tid, event } => {
-                let message = self.happening(*tid, *event);
-                self.answer_message(&message)
-            }
-            Command::Tick { cpu } => self.answer_message(&Message::TimerTick { cpu: *cpu }),
-            Command::Take { cpu } => {
-                let victim = self.preemption(*cpu);
-                self.answer_entry(victim, Entry::Taken { cpu: *cpu })
-            }
-            Command::Give { cpu } => self.answer_entry(None, Entry::Given { cpu: *cpu }),
-            Command::HandOff { cpu } => {
-                let effect = self.handing_over(*cpu);
-                self.answer(&effect)
-            }
-            Command::Leave => self.answer_entry(None, Entry::Left),
-            Command::Begin => {
-                let generation = self.next_generation();
-                self.answer_entry(None, Entry::Begin { generation })
-            }
-            Command::Activate { cpu } => {
-                let effect = self.activating(*cpu);
-                self.answer(&effect)
-            }
+            Command::Create { facts } => self.tell_creation(facts),
+            Command::Thread { tid, event } => self.tell_happening(*tid, *event),
+            Command::Take { cpu } => self.tell_taking(*cpu),
+            Command::Give { cpu } => self.tell_giving(*cpu),
+            Command::Tick { cpu } => self.tell_tick(*cpu),
+            Command::HandOff { cpu } => self.tell_hand_off(*cpu),
+            Command::Leave => self.tell_leaving(),
+            Command::Begin => self.tell_beginning(),
+            Command::Activate { cpu } => self.tell_activation(*cpu),
         }
     }
 
-    /// Tells what a message says, and answers what became of it.
-    fn answer_message(&mut self, message: &Message) -> Answer
-        requires due { ComesNext self.old.settings self.old.history (Effect.Post message.now) }
-        requires spellable { IsSpellable message.now }
-        requires room { 0 < self.old.room }
-        requires rows { is_some (created_in message.now) ≡ true → 0 < self.old.rows }
-        ensures told { IsAnswered (RoomOf P.same P.taken P.posted P.tight self.old.poster) self.old.history (Effect.Post message.now) result self.new.history }
+    /// Creates a thread.
+    fn tell_creation(&mut self, facts: &Facts) -> bool
+        requires free { refusal self.old.settings self.old.history self.old.paged (Command.Create facts.now) ≡ None }
+        requires room { 1 ≤ self.old.room }
+        requires rows { 0 < self.old.rows }
+        ensures told { Tells (RoomOf P.same P.taken P.posted P.tight self.old.poster) self.old.history (effect self.old.settings self.old.history (Command.Create facts.now)) result self.new.history }
         ensures frame { Frame P.same P.taken P.posted self.old self.new }
     {
-        if self.tell_message(message) {
-            Answer::Done {
-                entry: Entry::Posted { message: *message },
-            }
-        } else {
-            Answer::Torn
-        }
+        let message = self.creation(facts);
+        self.tell_message(&message)
     }
 
-    /// Appends an entry, behind the message to the thread that makes way for it, if there is one, and answers what
-    /// became of it.
-    fn answer_entry(&mut self, victim: Option<Message>, entry: Entry) -> Answer
+    /// Lets something happen to a thread.
+    fn tell_happening(&mut self, tid: u32, event: ThreadEvent) -> bool
+        requires free { refusal self.old.settings self.old.history self.old.paged (Command.Thread tid event) ≡ None }
+        requires room { 1 ≤ self.old.room }
+        ensures told { Tells (RoomOf P.same P.taken P.posted P.tight self.old.poster) self.old.history (effect self.old.settings self.old.history (Command.Thread tid event)) result self.new.history }
+        ensures frame { Frame P.same P.taken P.posted self.old self.new }
+    {
+        let message = self.happening(tid, event);
+        self.tell_message(&message)
+    }
+
+    /// Takes a CPU for the other class.
+    fn tell_taking(&mut self, cpu: u16) -> bool
+        requires free { refusal self.old.settings self.old.history self.old.paged (Command.Take cpu) ≡ None }
+        requires room { 2 ≤ self.old.room }
+        ensures told { Tells (RoomOf P.same P.taken P.posted P.tight self.old.poster) self.old.history (effect self.old.settings self.old.history (Command.Take cpu)) result self.new.history }
+        ensures frame { Frame P.same P.taken P.posted self.old self.new }
+    {
+        let victim = self.preemption(cpu);
+        self.tell_entry(victim, Entry::Taken { cpu })
+    }
+
+    /// Gives a CPU back.
+    fn tell_giving(&mut self, cpu: u16) -> bool
+        requires free { refusal self.old.settings self.old.history self.old.paged (Command.Give cpu) ≡ None }
+        requires room { 1 ≤ self.old.room }
+        ensures told { Tells (RoomOf P.same P.taken P.posted P.tight self.old.poster) self.old.history (effect self.old.settings self.old.history (Command.Give cpu)) result self.new.history }
+        ensures frame { Frame P.same P.taken P.posted self.old self.new }
+    {
+        self.tell_entry(None, Entry::Given { cpu })
+    }
+
+    /// Lets the timer of a CPU tick.
+    fn tell_tick(&mut self, cpu: u16) -> bool
+        requires free { refusal self.old.settings self.old.history self.old.paged (Command.Tick cpu) ≡ None }
+        requires room { 1 ≤ self.old.room }
+        ensures told { Tells (RoomOf P.same P.taken P.posted P.tight self.old.poster) self.old.history (effect self.old.settings self.old.history (Command.Tick cpu)) result self.new.history }
+        ensures frame { Frame P.same P.taken P.posted self.old self.new }
+    {
+        // A look at a field, by which the proof has what the kernel keeps.
+        let _settings = &self.settings;
+        self.tell_message(&Message::TimerTick { cpu })
+    }
+
+    /// Hands the active agent off to a CPU, as one of the next generation.
+    fn tell_hand_off(&mut self, cpu: u16) -> bool
+        requires free { refusal self.old.settings self.old.history self.old.paged (Command.HandOff cpu) ≡ None }
+        requires room { 2 ≤ self.old.room }
+        ensures told { Tells (RoomOf P.same P.taken P.posted P.tight self.old.poster) self.old.history (effect self.old.settings self.old.history (Command.HandOff cpu)) result self.new.history }
+        ensures frame { Frame P.same P.taken P.posted self.old self.new }
+    {
+        let effect = self.handing_over(cpu);
+        self.tell(&effect)
+    }
+
+    /// Lets the agent leave.
+    fn tell_leaving(&mut self) -> bool
+        requires free { refusal self.old.settings self.old.history self.old.paged Command.Leave ≡ None }
+        requires room { 1 ≤ self.old.room }
+        ensures told { Tells (RoomOf P.same P.taken P.posted P.tight self.old.poster) self.old.history (effect self.old.settings self.old.history Command.Leave) result self.new.history }
+        ensures frame { Frame P.same P.taken P.posted self.old self.new }
+    {
+        self.tell_entry(None, Entry::Left)
+    }
+
+    /// Lets a new agent begin to attach.
+    fn tell_beginning(&mut self) -> bool
+        requires free { refusal self.old.settings self.old.history self.old.paged Command.Begin ≡ None }
+        requires room { 1 ≤ self.old.room }
+        ensures told { Tells (RoomOf P.same P.taken P.posted P.tight self.old.poster) self.old.history (effect self.old.settings self.old.history Command.Begin) result self.new.history }
+        ensures frame { Frame P.same P.taken P.posted self.old self.new }
+    {
+        let generation = self.next_generation();
+        self.tell_entry(None, Entry::Begin { generation })
+    }
+
+    /// Activates the agent that attaches, on a CPU.
+    fn tell_activation(&mut self, cpu: u16) -> bool
+        requires free { refusal self.old.settings self.old.history self.old.paged (Command.Activate cpu) ≡ None }
+        requires room { 2 ≤ self.old.room }
+        ensures told { Tells (RoomOf P.same P.taken P.posted P.tight self.old.poster) self.old.history (effect self.old.settings self.old.history (Command.Activate cpu)) result self.new.history }
+        ensures frame { Frame P.same P.taken P.posted self.old self.new }
+    {
+        let effect = self.activating(cpu);
+        self.tell(&effect)
+    }
+
+    /// Appends an entry, behind the message to the thread that makes way for it, if there is one. Returns whether that
+    /// fits, as [`Kernel::tell`] does.
+    fn tell_entry(&mut self, victim: Option<Message>, entry: Entry) -> bool
         requires due { ComesNext self.old.settings self.old.history (Effect.Append victim entry) }
         requires spellable { IfSome victim IsSpellable }
         requires room { length (entries_in (Effect.Append victim entry)) ≤ self.old.room }
         requires rows { IfSome victim (λ m. is_some (created_in m) ≡ true → 0 < self.old.rows) }
-        ensures told { IsAnswered (RoomOf P.same P.taken P.posted P.tight self.old.poster) self.old.history (Effect.Append victim entry) result self.new.history }
+        ensures told { Tells (RoomOf P.same P.taken P.posted P.tight self.old.poster) self.old.history (Effect.Append victim entry) result self.new.history }
         ensures frame { Frame P.same P.taken P.posted self.old self.new }
     {
-        self.answer(&Effect::Append { victim, entry })
-    }
-
-    /// Tells what a command adds, and answers what became of it.
-    fn answer(&mut self, effect: &Effect) -> Answer
-        requires due { ComesNext self.old.settings self.old.history effect.now }
-        requires spellable { IfSome (message_in effect.now) IsSpellable }
-        requires room { length (entries_in effect.now) ≤ self.old.room }
-        requires rows { IfSome (message_in effect.now) (λ m. is_some (created_in m) ≡ true → 0 < self.old.rows) }
-        ensures told { IsAnswered (RoomOf P.same P.taken P.posted P.tight self.old.poster) self.old.history effect.now result self.new.history }
-        ensures frame { Frame P.same P.taken P.posted self.old self.new }
-    {
-        if self.tell(effect) {
-            Answer::Done {
-                entry: effect.last(),
-            }
-        } else {
-            Answer::Torn
-        }
+        self.tell(&Effect::Append { victim, entry })
     }
 }

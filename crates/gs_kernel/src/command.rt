@@ -30,7 +30,7 @@ pub enum Command {
 }
 
 impl Command {
-    /// The most entries that it adds: the journal has to have room for so many.
+    /// Returns the most entries that it adds: the journal has to have room for so many.
     pub(crate) fn most_entries(&self) -> usize
         ensures value { result ≡ most_entries self.now }
         ensures most { result ≤ 2 }
@@ -41,7 +41,7 @@ impl Command {
         }
     }
 
-    /// Whether it adds a thread.
+    /// Returns whether it adds a thread.
     pub(crate) fn creates(&self) -> bool
         ensures { result ≡ creates self.now }
     {

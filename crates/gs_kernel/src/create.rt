@@ -9,7 +9,7 @@ use gs_layout::{Change, Facts, MOST_TIDS, Message, Refusal};
 use gs_ring::Poster;
 
 impl<P: Poster> Kernel<P> {
-    /// The first message about a thread that can be created.
+    /// Returns the first message about a thread that can be created.
     pub(crate) fn creation(&self, facts: &Facts) -> Message
         requires { create_refusal self.now.settings self.now.history facts.now ≡ None }
         ensures value { result ≡ creation self.now.settings.first_tseq self.now.history facts.now }
@@ -25,7 +25,7 @@ impl<P: Poster> Kernel<P> {
         }
     }
 
-    /// The refusal that a creation has of its own.
+    /// Returns the refusal that a creation has of its own.
     #[tactic(auto, unfolding(crate::specs::Kernel::create_refusal))]
     pub(crate) fn create_refusal(&self, facts: &Facts) -> Option<Refusal>
         ensures { result ≡ create_refusal self.now.settings self.now.history facts.now }

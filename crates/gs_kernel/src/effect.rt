@@ -1,12 +1,9 @@
-ghost use Rattle.std.specs.Prelude.{◌≡◌, length};
-ghost use Rattle.gs_kernel.specs.Legal.{entries_in, last_in};
-
 use gs_journal::Entry;
 use gs_layout::Message;
 
-/// What a step of the kernel adds to the journal. Of its entries at most one is a message, and that one
-/// has to fit into the ring. A message that is all of it is told with no such value made, which has places for a
-/// message and an entry besides.
+/// What a step of the kernel adds to the journal. Of its entries at most one is a message, and that one has
+/// to fit into the ring. A message that is all that a step adds is told with no such value made, since this
+/// has places for a message and an entry besides.
 #[derive(Clone, Copy)]
 pub enum Effect {
     /// A message is posted.
@@ -18,16 +15,4 @@ pub enum Effect {
         victim: Option<Message>,
         entry: Entry,
     },
-}
-
-impl Effect {
-    /// The last entry that it adds.
-    pub(crate) fn last(&self) -> Entry
-        ensures { result ≡ last_in self.now }
-    {
-        match self {
-            Effect::Post { message } => Entry::Posted { message: *message },
-            Effect::Append { entry, .. } => *entry,
-        }
-    }
 }

@@ -13,7 +13,7 @@ use gs_layout::Refusal;
 use gs_ring::Poster;
 
 impl<P: Poster> Kernel<P> {
-    /// The refusal that a hand-off to a CPU has of its own.
+    /// Returns the refusal that a hand-off to a CPU has of its own.
     #[tactic(auto, unfolding(crate::specs::Kernel::hand_off_refusal))]
     pub(crate) fn hand_off_refusal(&self, cpu: u16) -> Option<Refusal>
         ensures { result ≡ hand_off_refusal self.now.settings self.now.history cpu }
@@ -30,7 +30,7 @@ impl<P: Poster> Kernel<P> {
         None
     }
 
-    /// What a hand-off to a CPU adds that nothing refuses.
+    /// Returns what a hand-off to a CPU adds that nothing refuses.
     pub(crate) fn handing_over(&self, cpu: u16) -> Effect
         requires { hand_off_refusal self.now.settings self.now.history cpu ≡ None }
         ensures value { result ≡ effect self.now.settings self.now.history (Command.HandOff cpu) }

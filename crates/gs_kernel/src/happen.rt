@@ -12,7 +12,7 @@ use gs_layout::{Change, Message, Refusal};
 use gs_ring::Poster;
 
 impl<P: Poster> Kernel<P> {
-    /// The message about a thread to which this can happen.
+    /// Returns the message about a thread to which this can happen.
     pub(crate) fn happening(&self, tid: u32, event: ThreadEvent) -> Message
         requires { thread_refusal self.now.settings self.now.history tid event ≡ None }
         ensures value { result ≡ happening self.now.settings self.now.history tid event }
@@ -27,7 +27,7 @@ impl<P: Poster> Kernel<P> {
         }
     }
 
-    /// The refusal that what happens to a thread has of its own.
+    /// Returns the refusal that what happens to a thread has of its own.
     #[tactic(auto, unfolding(crate::specs::Kernel::thread_refusal))]
     pub(crate) fn thread_refusal(&self, tid: u32, event: ThreadEvent) -> Option<Refusal>
         ensures { result ≡ thread_refusal self.now.settings self.now.history tid event }
@@ -44,7 +44,7 @@ impl<P: Poster> Kernel<P> {
         None
     }
 
-    /// The refusal that this kind of event has of its own.
+    /// Returns the refusal that this kind of event has of its own.
     fn event_refusal(&self, tid: u32, event: ThreadEvent) -> Option<Refusal>
         ensures { result ≡ event_refusal self.now.settings self.now.history tid event }
     {
@@ -75,7 +75,7 @@ impl<P: Poster> Kernel<P> {
     }
 }
 
-/// What the message of an event says of a thread that is on this CPU, if any.
+/// Returns what the message of an event says of a thread that is on this CPU, if any.
 fn change_by(there: Option<u16>, event: ThreadEvent) -> Change
     ensures value { result ≡ change_by there event }
     ensures mask { NamesMask event }

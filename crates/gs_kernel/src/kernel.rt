@@ -2,6 +2,7 @@ ghost use Rattle.std.specs.Prelude.{◌≡◌, ℕ, ◌-◌, ◌≤◌, ◌∷�
 ghost use Rattle.gs_journal.specs.History.{posted, active, attaching, taken, torn};
 ghost use Rattle.gs_status.specs.Masks.{has};
 ghost use Rattle.gs_kernel.specs.Settings.{IsInRange};
+ghost use Rattle.gs_kernel.specs.Fate.{last_entry};
 ghost use Rattle.gs_kernel.specs.Kernel.{has_agent, is_bad_mask, is_full};
 
 use crate::agents::Agents;
@@ -45,12 +46,12 @@ impl<P: Poster> Model for Kernel<P> {
 }
 
 impl<P: Poster> Kernel<P> {
-    /// A kernel in which only the first agent's role has happened: it is active on CPU 0. It posts to
-    /// a ring to which nothing was posted before.
+    /// Opens a kernel in which only the first agent's role has happened: it is active on CPU 0. It posts to a
+    /// ring to which nothing was posted before.
     ///
     /// # Errors
     ///
-    /// Where memory runs out.
+    /// `AllocError` if out of memory.
     pub fn new(alloc: Global, settings: Settings, poster: P) -> Result<Kernel<P>, AllocError>
     where
         P: Drop,
@@ -87,7 +88,7 @@ impl<P: Poster> Kernel<P> {
         })
     }
 
-    /// The numbers that the kernel was opened with.
+    /// Returns the numbers that the kernel was opened with.
     pub fn settings(&self) -> Settings
         ensures value { result ≡ self.now.settings }
         ensures in_range { IsInRange result }
@@ -95,7 +96,7 @@ impl<P: Poster> Kernel<P> {
         self.settings
     }
 
-    /// All that happened.
+    /// Lends the journal of all that happened.
     pub fn journal(&self) -> &Journal
         ensures entries { result.now.entries ≡ self.now.history }
         ensures first_tseq { result.now.first_tseq ≡ self.now.settings.first_tseq }
@@ -104,7 +105,17 @@ impl<P: Poster> Kernel<P> {
         &self.journal
     }
 
-    /// The end of the ring that the kernel posts to.
+    /// Lends the last thing that happened.
+    pub fn last(&self) -> &Entry
+        ensures { result.now ≡ last_entry self.now.history }
+    {
+        match self.journal.entries().last() {
+            Some(entry) => entry,
+            None => unreachable!(),
+        }
+    }
+
+    /// Lends the end of the ring that the kernel posts to.
     pub fn poster(&self) -> &P
         ensures value { result.now ≡ self.now.poster }
         ensures told { P.posted result.now (posted self.now.history) }
@@ -112,35 +123,35 @@ impl<P: Poster> Kernel<P> {
         &self.poster
     }
 
-    /// Whether the enclave was torn down: a message did not fit into the ring.
+    /// Returns whether the enclave was torn down: a message did not fit into the ring.
     pub fn is_torn(&self) -> bool
         ensures { result ≡ torn self.now.history }
     {
         self.torn
     }
 
-    /// The active agent: its generation and CPU.
+    /// Returns the active agent, its generation and CPU, or `None` if no agent is active.
     pub fn active(&self) -> Option<(u32, u16)>
         ensures { result ≡ active self.now.history }
     {
         self.agents.active
     }
 
-    /// The generation of the agent that attaches.
+    /// Returns the generation of the agent that attaches, or `None` if none attaches.
     pub fn attaching(&self) -> Option<u32>
         ensures { result ≡ attaching self.now.history }
     {
         self.agents.attaching
     }
 
-    /// Whether the last page was given since the last begin.
+    /// Returns whether the last page was given since the last begin.
     pub fn is_paged(&self) -> bool
         ensures { result ≡ self.now.paged }
     {
         self.paged
     }
 
-    /// Whether an agent is active or attaching.
+    /// Returns whether an agent is active or attaching.
     pub fn has_agent(&self) -> bool
         ensures { result ≡ has_agent self.now.history }
     {
@@ -151,7 +162,7 @@ impl<P: Poster> Kernel<P> {
     ///
     /// # Errors
     ///
-    /// Where memory runs out.
+    /// `AllocError` if out of memory.
     pub fn reserve(&mut self, additional: usize) -> Result<(), AllocError>
         ensures room { OnOk result (min additional (self.old.settings.history - length self.old.history) ≤ self.new.room) }
         ensures kept { self.old.room ≤ self.new.room }
@@ -165,7 +176,7 @@ impl<P: Poster> Kernel<P> {
         }
     }
 
-    /// Whether so many more entries, two at most, do not fit into the journal.
+    /// Returns whether so many more entries, two at most, do not fit into the journal.
     pub(crate) fn is_full(&self, additional: usize) -> bool
         requires { additional ≤ 2 }
         ensures { result ≡ is_full self.now.settings self.now.history additional }
@@ -173,14 +184,14 @@ impl<P: Poster> Kernel<P> {
         self.journal.len() + additional > self.settings.history as usize
     }
 
-    /// Whether a mask names no CPU, or one past the last.
+    /// Returns whether a mask names no CPU, or one past the last.
     pub(crate) fn is_bad_mask(&self, mask: Mask) -> bool
         ensures { result ≡ is_bad_mask self.now.settings mask }
     {
         mask.is_empty() || mask.has_past(self.settings.cpus)
     }
 
-    /// The CPUs that the other class holds.
+    /// Returns the CPUs that the other class holds.
     pub fn taken(&self) -> Mask
         ensures { (c : ℕ) → has result c ≡ taken self.now.history c }
     {

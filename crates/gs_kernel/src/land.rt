@@ -21,7 +21,7 @@ use gs_slots::{SlotMut, SlotState, Stamp};
 use std::alloc::AllocError;
 
 impl<P: Poster> Kernel<P> {
-    /// What becomes of what was stamped into the slot of a CPU.
+    /// Returns what becomes of what was stamped into the slot of a CPU.
     #[tactic(auto, unfolding(crate::specs::Landing::verdict))]
     fn verdict(&self, cpu: u16, slot: &Stamp) -> Outcome
         requires { cpu < self.now.settings.cpus }
@@ -52,7 +52,8 @@ impl<P: Poster> Kernel<P> {
         self.cpu_verdict(cpu, slot.preempt)
     }
 
-    /// Whether a CPU may be given to a thread, by a transaction that takes the thread there off or does not.
+    /// Returns whether a CPU may be given to a thread, by a transaction that takes the thread there off or
+    /// does not.
     fn cpu_verdict(&self, cpu: u16, preempt: bool) -> Outcome
         requires { cpu < self.now.settings.cpus }
         ensures value { result ≡ cpu_verdict self.now.settings self.now.history cpu preempt }
@@ -76,7 +77,7 @@ impl<P: Poster> Kernel<P> {
         Outcome::Placed
     }
 
-    /// How many entries a placing on a CPU appends.
+    /// Returns how many entries a placing on a CPU appends.
     fn placing_entries(&self, cpu: u16) -> usize
         requires { cpu < self.now.settings.cpus }
         ensures value { result ≡ placing_entries (on self.now.history cpu) }
@@ -88,18 +89,20 @@ impl<P: Poster> Kernel<P> {
         }
     }
 
-    /// The slot of a CPU lands: what is stamped in it takes effect where its outcome is
-    /// [`Outcome::Placed`], and the slot is done then, with the outcome, the CPU that the thread is on
-    /// afterwards, and the thread's sequence number before. Where a thread is on the CPU and the stamp
-    /// says that it is to be taken off, it is told so first; where that message does not fit, the enclave
-    /// is torn down, and the outcome is [`Outcome::Gone`]. A malformed slot lands too, as
-    /// [`Outcome::Malformed`] with no thread: nothing comes of it, and that alone is left in it. Answers
-    /// `None` for a slot that is idle or done, and leaves it. The slot is that of a CPU of the enclave.
+    /// Lands the slot of a CPU of the enclave. What is stamped in it takes effect if its outcome is
+    /// [`Outcome::Placed`]. The slot is done then, with the outcome, the CPU that the thread is on after the
+    /// landing, and the thread's sequence number before it. Returns what became of it, or `None` for a slot
+    /// that is idle or done, which stays as it is.
+    ///
+    /// If a thread is on the CPU and the stamp says that it is to be taken off, it is told so first. If that
+    /// message does not fit, the enclave is torn down, and the outcome is [`Outcome::Gone`]. A malformed slot
+    /// lands too, as [`Outcome::Malformed`] with no thread: nothing comes of it, and that alone is left in
+    /// it.
     ///
     /// # Errors
     ///
-    /// Where the transaction is to be placed, no room was reserved for its entries (one, and one more where a
-    /// thread is taken off), and memory runs out. Then nothing changes.
+    /// `AllocError` if out of memory. That happens only if the transaction is to be placed and no room was
+    /// reserved for its entries: one, and one more if a thread is taken off. Then nothing changes.
     pub fn land(&mut self, slot: SlotMut<'_>) -> Result<Option<Landing>, AllocError>
         requires { cpu_of slot < self.old.settings.cpus }
         ensures lands { IfOk result (λ o. LandsBytes (RoomOf P.same P.taken P.posted P.tight self.old.poster) self.old.settings self.old.history (cpu_of slot.entry) (bytes_of slot.entry) o (left_in slot.exit) self.new.history) }
@@ -121,8 +124,8 @@ impl<P: Poster> Kernel<P> {
         Ok(Some(landing))
     }
 
-    /// What was stamped into the slot of a CPU lands, as the slot would, but no slot is told of it: a landing
-    /// that comes late, of a CPU of the enclave.
+    /// Lands what was stamped into the slot of a CPU of the enclave, as the slot would, but tells no slot of
+    /// it. That is for a landing that comes late.
     ///
     /// # Errors
     ///
@@ -150,7 +153,7 @@ impl<P: Poster> Kernel<P> {
         })
     }
 
-    /// What becomes of a transaction that has this verdict. It is placed where it may be.
+    /// Does what this verdict says of a transaction, and returns its outcome. It is placed if it may be.
     fn settle(&mut self, judged: Outcome, cpu: u16, slot: &Stamp) -> Result<Outcome, AllocError>
         requires cpu { cpu < self.old.settings.cpus }
         requires verdict { judged ≡ verdict self.old.settings self.old.history cpu slot.now }
@@ -175,8 +178,8 @@ impl<P: Poster> Kernel<P> {
         }
     }
 
-    /// Places a thread, after the one that is on the CPU, if there is one, was told that it is taken off. Answers
-    /// whether that message fits; where it does not, the enclave is torn down and nobody placed.
+    /// Places a thread, after the one that is on the CPU, if there is one, was told that it is taken off.
+    /// Returns whether that message fits; if it does not, the enclave is torn down and nobody placed.
     fn place(&mut self, cpu: u16, slot: &Stamp) -> Result<bool, AllocError>
         requires cpu { cpu < self.old.settings.cpus }
         requires placed { verdict self.old.settings self.old.history cpu slot.now ≡ Outcome.Placed }

@@ -12,7 +12,7 @@ use gs_layout::{Change, Message, Refusal};
 use gs_ring::Poster;
 
 impl<P: Poster> Kernel<P> {
-    /// The message to the thread on a CPU, if there is one, that it was taken off.
+    /// Returns the message to the thread on a CPU, if there is one, that it was taken off.
     pub(crate) fn preemption(&self, cpu: u16) -> Option<Message>
         requires cpu { cpu < self.now.settings.cpus }
         requires numbers { is_spent_there self.now.settings self.now.history (on self.now.history cpu) ≡ false }
@@ -29,7 +29,7 @@ impl<P: Poster> Kernel<P> {
         })
     }
 
-    /// The refusal that the other class's taking a CPU has of its own.
+    /// Returns the refusal that the other class's taking a CPU has of its own.
     #[tactic(auto, unfolding(crate::specs::Kernel::take_refusal))]
     pub(crate) fn take_refusal(&self, cpu: u16) -> Option<Refusal>
         ensures { result ≡ take_refusal self.now.settings self.now.history cpu }
@@ -49,7 +49,7 @@ impl<P: Poster> Kernel<P> {
         None
     }
 
-    /// Whether the thread on a CPU, if there is one, can have no more messages.
+    /// Returns whether the thread on a CPU, if there is one, can have no more messages.
     pub(crate) fn is_spent_there(&self, cpu: u16) -> bool
         requires { cpu < self.now.settings.cpus }
         ensures { result ≡ is_spent_there self.now.settings self.now.history (on self.now.history cpu) }
@@ -60,7 +60,7 @@ impl<P: Poster> Kernel<P> {
         }
     }
 
-    /// The refusal that its giving a CPU back has of its own.
+    /// Returns the refusal that its giving a CPU back has of its own.
     #[tactic(auto, unfolding(crate::specs::Kernel::give_refusal))]
     pub(crate) fn give_refusal(&self, cpu: u16) -> Option<Refusal>
         ensures { result ≡ give_refusal self.now.settings self.now.history cpu }

@@ -15,14 +15,14 @@ use gs_ring::Poster;
 use std::alloc::{AllocError, Global};
 
 impl<P: Poster> Kernel<P> {
-    /// The kernel gives a page of its live threads to the agent that attaches: those from a tid on, by rising tid,
-    /// at most `max` of them, 0 to 65,535. It remembers that the last page was given, behind which no next one begins.
-    /// It takes as long as its records, and a look-up of the first of them.
+    /// Gives a page of the live threads to the agent that attaches: those from a tid on, in increasing order
+    /// of tid, at most `max` of them, 0 to 65,535. It notes if that is the last page, behind which no next
+    /// one begins. It takes as long as its records, and a look-up of the first of them.
     ///
     /// # Errors
     ///
-    /// The first that applies, and then nothing changes: `Gone` where the enclave was torn down, `NotAttaching` where
-    /// no agent attaches or it was given the last page, `OutOfMemory`.
+    /// The first that applies, and then nothing changes: `Gone` if the enclave was torn down, `NotAttaching`
+    /// if no agent attaches or it was given the last page, `OutOfMemory`.
     pub fn page(&mut self, alloc: Global, from: u32, max: u16) -> Result<Page, Refusal>
         ensures page { IfOk result (λ p. p ≡ dumped self.old.settings self.old.history from max) }
         ensures remembered { IfOk result (λ p. self.new ≡ record self.old { paged = paged_after p self.old.paged }) }
@@ -35,7 +35,7 @@ impl<P: Poster> Kernel<P> {
         Ok(page)
     }
 
-    /// The page that [`Kernel::page`] gives, without the kernel remembering that it was given.
+    /// Returns the page that [`Kernel::page`] gives, and does not note that it was given.
     ///
     /// # Errors
     ///
@@ -48,13 +48,10 @@ impl<P: Poster> Kernel<P> {
         if let Some(refusal) = self.page_refusal() {
             return Err(refusal);
         }
-        match self.live_page(alloc, from, max) {
-            Ok(page) => Ok(page),
-            Err(_) => Err(Refusal::OutOfMemory),
-        }
+        Ok(self.live_page(alloc, from, max)?)
     }
 
-    /// The kernel remembers that a page was given: the last one, where no next one begins.
+    /// Notes that a page was given. The last one is that behind which no next one begins.
     pub fn note_page(&mut self, page: &Page)
         ensures { self.new ≡ record self.old { paged = paged_after page.now self.old.paged } }
     {
@@ -63,7 +60,7 @@ impl<P: Poster> Kernel<P> {
         }
     }
 
-    /// Why no page is given, memory aside.
+    /// Returns why no page is given, apart from `OutOfMemory`.
     #[tactic(auto, unfolding(crate::specs::Attaching::page_refusal))]
     fn page_refusal(&self) -> Option<Refusal>
         ensures { result ≡ unless_torn self.now.history (page_refusal self.now.history self.now.paged) }
@@ -77,7 +74,8 @@ impl<P: Poster> Kernel<P> {
         None
     }
 
-    /// The threads that live from a tid on, by rising tid, at most `max` of them, and where the next page begins.
+    /// Returns the threads that live from a tid on, in increasing order of tid, at most `max` of them, and
+    /// where the next page begins.
     fn live_page(&self, alloc: Global, from: u32, max: u16) -> Result<Page, AllocError>
         ensures { IfOk result (λ p. p ≡ dumped self.now.settings self.now.history from max) }
     {
@@ -103,7 +101,7 @@ impl<P: Poster> Kernel<P> {
     }
 }
 
-/// The record of a page that tells of a thread.
+/// Returns the record of a page that tells of a thread.
 fn record_of(thread: LiveThread) -> DumpRecord
     requires { IsTold thread }
     ensures value { result ≡ record_of thread }

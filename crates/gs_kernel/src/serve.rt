@@ -3,58 +3,70 @@
 ghost use Rattle.std.specs.Prelude.{◌≡◌, ◌<◌, ◌≤◌, OnErr, OnOk, None, true};
 ghost use Rattle.gs_kernel.specs.declared.command.Command.{Command};
 ghost use Rattle.gs_kernel.specs.declared.thread_event.ThreadEvent.{ThreadEvent};
-ghost use Rattle.gs_kernel.specs.Legal.{IsServed, creates, most_entries, own_refusal, paged_by, refusal};
+ghost use Rattle.gs_kernel.specs.Fate.{answer_by, last_entry, paged_after};
+ghost use Rattle.gs_kernel.specs.Legal.{IsServed, creates, most_entries, own_refusal, refusal};
 
 use crate::answer::Answer;
 use crate::command::Command;
+use crate::fate::Fate;
 use crate::kernel::Kernel;
 use crate::thread_event::ThreadEvent;
-use gs_journal::Entry;
 use gs_layout::{Facts, Refusal};
 use gs_ring::Poster;
 use gs_status::Mask;
 use std::alloc::AllocError;
 
 impl<P: Poster> Kernel<P> {
-    /// Serves a command. It is refused by the first refusal that applies, and then nothing changes; or it is
-    /// done; or its message does not fit, which tears the enclave down. It is refused `OutOfMemory` only where
-    /// no other refusal applies and memory runs out.
+    /// Serves a command. It is refused by the first refusal that applies, and then nothing changes. Or it is
+    /// done, or its message does not fit, which tears the enclave down. It is refused `OutOfMemory` only if
+    /// no other refusal applies and it is out of memory.
     pub fn serve(&mut self, command: &Command) -> Answer
         ensures { IsServed P.same P.taken P.posted P.tight self.old command.now result self.new }
+    {
+        let fate = self.obey(command);
+        fate.answer(self.last())
+    }
+
+    /// Serves a command as [`Kernel::serve`] does, and returns what became of it. If it was done, the last entry that
+    /// it added is [`Kernel::last`].
+    pub fn obey(&mut self, command: &Command) -> Fate
+        ensures { IsServed P.same P.taken P.posted P.tight self.old command.now (answer_by result (last_entry self.new.history)) self.new }
     {
         // A look at a field, by which the proof has what the kernel keeps.
         let _settings = &self.settings;
         if let Some(refusal) = self.refusal(command) {
-            return Answer::Refused { refusal };
+            return Fate::Refused { refusal };
         }
         if self.make_room(command).is_err() {
-            return Answer::Refused {
+            return Fate::Refused {
                 refusal: Refusal::OutOfMemory,
             };
         }
-        let answer = self.carry_out(command);
-        self.paged = paged_by(&answer, self.paged);
-        answer
+        let fits = self.carry_out(command);
+        self.paged = paged_after(command, fits, self.paged);
+        Fate::told(fits)
     }
 
-    /// Why a command is refused, memory aside: the first that applies. Nothing is done.
+    /// Returns why a command is refused, apart from `OutOfMemory`: the first refusal that applies. It does
+    /// nothing.
     ///
-    /// `Gone` where the enclave was torn down. Then what the command has of its own:
+    /// `Gone` if the enclave was torn down. Then what the command has of its own:
     ///
     /// | Command | Refusals, in order |
     /// |---|---|
-    /// | `Create` | `EmptyMask` where the mask has no CPU or one past the last; `TidsSpent` where 65,536 threads were created |
-    /// | `Thread` | `NoThread` where no such thread lives; `NotRunning` of a block or a yield where it is on no CPU, `NotBlocked` of a wake where it may run, `EmptyMask` of an affinity, as above; `SeqSpent` where its sequence number is 4,294,967,295 |
-    /// | `Take` | `BadCpu` where there is no such CPU; `AgentThere` where the active agent is on it; `CpuTaken` where the other class holds it; `SeqSpent` of the thread there |
-    /// | `Give` | `BadCpu`; `NotTaken` where the other class does not hold it |
+    /// | `Create` | `EmptyMask` if the mask has no CPU or one past the last; `TidsSpent` if 65,536 threads were created |
+    /// | `Thread` | `NoThread` if no such thread lives; `NotRunning` of a block or a yield if it is on no CPU, `NotBlocked` of a wake if it may run, `EmptyMask` of an affinity, as above; `SeqSpent` if its sequence number is 4,294,967,295 |
+    /// | `Take` | `BadCpu` if there is no such CPU; `AgentThere` if the active agent is on it; `CpuTaken` if the other class holds it; `SeqSpent` of the thread there |
+    /// | `Give` | `BadCpu`; `NotTaken` if the other class does not hold it |
     /// | `Tick` | `BadCpu` |
-    /// | `HandOff` | `NotActive` where no agent is active; `BadCpu`; `AgentThere`; `CpuTaken`; `SeqSpent`, as of a `Take`; `GenSpent` where the generation is 4,294,967,295 |
-    /// | `Leave` | `NotActive` where no agent is active and none attaches |
-    /// | `Begin` | `StillAttached` where an agent is active or attaches; `GenSpent` |
-    /// | `Activate` | `NotAttaching` where no agent attaches, or it was not given the last page; `BadCpu`; `CpuTaken`; `SeqSpent` of the thread there |
+    /// | `HandOff` | `NotActive` if no agent is active; `BadCpu`; `AgentThere`; `CpuTaken`; `SeqSpent`, as of a `Take`; `GenSpent` if the generation is 4,294,967,295 |
+    /// | `Leave` | `NotActive` if no agent is active and none attaches |
+    /// | `Begin` | `StillAttached` if an agent is active or attaches; `GenSpent` |
+    /// | `Activate` | `NotAttaching` if no agent attaches, or it was not given the last page; `BadCpu`; `CpuTaken`; `SeqSpent` of the thread there |
     ///
-    /// And `HistoryFull` where the journal has no room for an entry, or for two of a `Take`, a `HandOff` or an
+    /// And `HistoryFull` if the journal has no room for an entry, or for two of a `Take`, a `HandOff` or an
     /// `Activate`.
+    #[inline(always)]
     pub fn refusal(&self, command: &Command) -> Option<Refusal>
         ensures { result ≡ refusal self.now.settings self.now.history self.now.paged command.now }
     {
@@ -70,7 +82,7 @@ impl<P: Poster> Kernel<P> {
         None
     }
 
-    /// The first refusal that a command has of its own.
+    /// Returns the first refusal that a command has of its own.
     fn own_refusal(&self, command: &Command) -> Option<Refusal>
         ensures { result ≡ own_refusal self.now.settings self.now.history self.now.paged command.now }
     {
@@ -110,7 +122,7 @@ impl<P: Poster> Kernel<P> {
         self.serve(&Command::Create { facts: *facts })
     }
 
-    /// A thread blocks, on its CPU.
+    /// Blocks a thread, on its CPU.
     pub fn block(&mut self, tid: u32) -> Answer
         ensures { IsServed P.same P.taken P.posted P.tight self.old (Command.Thread tid ThreadEvent.Block) result self.new }
     {
@@ -120,7 +132,7 @@ impl<P: Poster> Kernel<P> {
         })
     }
 
-    /// A thread may run again.
+    /// Wakes a thread, which may run again.
     pub fn wake(&mut self, tid: u32) -> Answer
         ensures { IsServed P.same P.taken P.posted P.tight self.old (Command.Thread tid ThreadEvent.Wake) result self.new }
     {
@@ -130,7 +142,7 @@ impl<P: Poster> Kernel<P> {
         })
     }
 
-    /// A thread gives up its CPU, and may run on.
+    /// Gives up a thread's CPU. The thread may run on.
     pub fn yield_cpu(&mut self, tid: u32) -> Answer
         ensures { IsServed P.same P.taken P.posted P.tight self.old (Command.Thread tid ThreadEvent.Yield) result self.new }
     {
@@ -140,7 +152,7 @@ impl<P: Poster> Kernel<P> {
         })
     }
 
-    /// A thread ends.
+    /// Ends a thread.
     pub fn die(&mut self, tid: u32) -> Answer
         ensures { IsServed P.same P.taken P.posted P.tight self.old (Command.Thread tid ThreadEvent.Die) result self.new }
     {
@@ -150,7 +162,7 @@ impl<P: Poster> Kernel<P> {
         })
     }
 
-    /// From now on a thread may run on the CPUs of a mask.
+    /// Sets the mask of a thread: from now on it may run on the CPUs of the mask.
     pub fn affinity(&mut self, tid: u32, mask: Mask) -> Answer
         ensures { IsServed P.same P.taken P.posted P.tight self.old (Command.Thread tid (ThreadEvent.Affinity mask)) result self.new }
     {
@@ -160,49 +172,49 @@ impl<P: Poster> Kernel<P> {
         })
     }
 
-    /// The other scheduling class takes a CPU.
+    /// Takes a CPU for the other scheduling class.
     pub fn take(&mut self, cpu: u16) -> Answer
         ensures { IsServed P.same P.taken P.posted P.tight self.old (Command.Take cpu) result self.new }
     {
         self.serve(&Command::Take { cpu })
     }
 
-    /// The other scheduling class gives a CPU back.
+    /// Gives a CPU back that the other scheduling class holds.
     pub fn give(&mut self, cpu: u16) -> Answer
         ensures { IsServed P.same P.taken P.posted P.tight self.old (Command.Give cpu) result self.new }
     {
         self.serve(&Command::Give { cpu })
     }
 
-    /// The timer of a CPU ticks.
+    /// Ticks the timer of a CPU.
     pub fn tick(&mut self, cpu: u16) -> Answer
         ensures { IsServed P.same P.taken P.posted P.tight self.old (Command.Tick cpu) result self.new }
     {
         self.serve(&Command::Tick { cpu })
     }
 
-    /// The active agent hands over to a CPU.
+    /// Hands the active agent over to a CPU.
     pub fn hand_off(&mut self, cpu: u16) -> Answer
         ensures { IsServed P.same P.taken P.posted P.tight self.old (Command.HandOff cpu) result self.new }
     {
         self.serve(&Command::HandOff { cpu })
     }
 
-    /// The agent leaves, or crashed.
+    /// Ends the agent, which leaves or crashed.
     pub fn leave(&mut self) -> Answer
         ensures { IsServed P.same P.taken P.posted P.tight self.old Command.Leave result self.new }
     {
         self.serve(&Command::Leave)
     }
 
-    /// A new agent begins to attach.
+    /// Begins a new agent, which attaches then.
     pub fn begin(&mut self) -> Answer
         ensures { IsServed P.same P.taken P.posted P.tight self.old Command.Begin result self.new }
     {
         self.serve(&Command::Begin)
     }
 
-    /// The agent that attaches becomes active on a CPU.
+    /// Activates the agent that attaches, on a CPU.
     pub fn activate(&mut self, cpu: u16) -> Answer
         ensures { IsServed P.same P.taken P.posted P.tight self.old (Command.Activate cpu) result self.new }
     {
@@ -210,14 +222,12 @@ impl<P: Poster> Kernel<P> {
     }
 }
 
-/// Whether the last page was given since the last begin, after an answer.
-fn paged_by(answer: &Answer, paged: bool) -> bool
-    ensures { result ≡ paged_by answer.now paged }
+/// Returns whether the last page was given since the last begin, after a command whose message fits or not.
+fn paged_after(command: &Command, fits: bool, paged: bool) -> bool
+    ensures { result ≡ paged_after command.now fits paged }
 {
-    match answer {
-        Answer::Done {
-            entry: Entry::Begin { .. },
-        } => false,
+    match command {
+        Command::Begin => paged && !fits,
         _ => paged,
     }
 }

@@ -22,9 +22,9 @@ use gs_status::Mask;
 use gs_threads::ThreadTable;
 
 impl<P: Poster> Kernel<P> {
-    /// Posts the message of what a step adds, if it has one, and appends the entry behind it, if there is one.
-    /// Says whether the message fits; where it does not, the enclave is torn down in place of all this. There
-    /// is room for it.
+    /// Posts the message of what a step adds, if it has one, and appends the entry behind it, if there is
+    /// one. Returns whether the message fits; if it does not, the enclave is torn down in place of all this.
+    /// There is room for it.
     pub(crate) fn tell(&mut self, effect: &Effect) -> bool
         requires due { ComesNext self.old.settings self.old.history effect.now }
         requires spellable { IfSome (message_in effect.now) IsSpellable }
@@ -45,7 +45,8 @@ impl<P: Poster> Kernel<P> {
         true
     }
 
-    /// The same of a message that is all that a step adds.
+    /// Does the same with a message that is all that a step adds.
+    #[inline(always)]
     pub(crate) fn tell_message(&mut self, message: &Message) -> bool
         requires due { ComesNext self.old.settings self.old.history (Effect.Post message.now) }
         requires spellable { IsSpellable message.now }
@@ -64,8 +65,8 @@ impl<P: Poster> Kernel<P> {
     }
 }
 
-/// Posts the message, if there is one, to the ring and to the journal together, or to neither where it does not
-/// fit into the ring. Says whether it fits.
+/// Posts the message, if there is one, to the ring and to the journal together, or to neither if it does not
+/// fit into the ring. Returns whether it fits.
 fn send<P: Poster>(journal: &mut Journal, poster: &mut P, effect: &Effect) -> bool
     requires room { length (listed_message (message_in effect.now)) ≤ journal.old.room }
     requires few { P.count poster.old < MOST_POSTS }
@@ -102,7 +103,7 @@ fn append(journal: &mut Journal, effect: &Effect)
     }
 }
 
-/// The rows and the seats after all that a step adds.
+/// Changes the rows and the seats by all that a step adds.
 fn take_in(threads: &mut ThreadTable, running: &mut [Option<u32>], effect: &Effect)
     requires room { IfSome (message_in effect.now) (λ m. is_some (created_in m) ≡ true → 0 < threads.old.room) }
     requires seats { IfSome (message_in effect.now) (λ m. (c : ℕ) → left_by m ≡ Some c → c < length running.old) }
@@ -115,7 +116,7 @@ fn take_in(threads: &mut ThreadTable, running: &mut [Option<u32>], effect: &Effe
     seat(threads, running, effect);
 }
 
-/// The rows and the seats after the message, if there is one.
+/// Changes the rows and the seats by the message, if there is one.
 fn follow(threads: &mut ThreadTable, running: &mut [Option<u32>], effect: &Effect)
     requires room { IfSome (message_in effect.now) (λ m. is_some (created_in m) ≡ true → 0 < threads.old.room) }
     requires seats { IfSome (message_in effect.now) (λ m. (c : ℕ) → left_by m ≡ Some c → c < length running.old) }
@@ -133,7 +134,8 @@ fn follow(threads: &mut ThreadTable, running: &mut [Option<u32>], effect: &Effec
     }
 }
 
-/// The rows and the seats after a message.
+/// Changes the rows and the seats by a message.
+#[inline(always)]
 fn follow_message(threads: &mut ThreadTable, running: &mut [Option<u32>], message: &Message)
     requires room { is_some (created_in message.now) ≡ true → 0 < threads.old.room }
     requires seats { (c : ℕ) → left_by message.now ≡ Some c → c < length running.old }
@@ -148,7 +150,7 @@ fn follow_message(threads: &mut ThreadTable, running: &mut [Option<u32>], messag
     free(running, left_by(message));
 }
 
-/// The rows and the seats after the entry behind the message, if there is one.
+/// Changes the rows and the seats by the entry behind the message, if there is one.
 fn seat(threads: &mut ThreadTable, running: &mut [Option<u32>], effect: &Effect)
     requires { IfSome (behind effect.now) (SeatsBelow (length running.old)) }
     ensures rows { threads.new.rows ≡ rows_seated threads.old.rows (behind effect.now) }
@@ -175,7 +177,7 @@ fn free(running: &mut [Option<u32>], seat: Option<u16>)
     }
 }
 
-/// The facts of the thread that a message creates, if it does.
+/// Returns the facts of the thread that a message creates, if it does.
 fn created_in(message: &Message) -> Option<&Facts>
     ensures { option_copied result ≡ created_in message.now }
 {
@@ -188,7 +190,7 @@ fn created_in(message: &Message) -> Option<&Facts>
     }
 }
 
-/// The CPU that a message takes its thread off, if it does.
+/// Returns the CPU that a message takes its thread off, if it does.
 fn left_by(message: &Message) -> Option<u16>
     ensures { result ≡ left_by message.now }
 {
@@ -198,7 +200,7 @@ fn left_by(message: &Message) -> Option<u16>
     }
 }
 
-/// The CPU that a change takes its thread off, if it does.
+/// Returns the CPU that a change takes its thread off, if it does.
 fn left_in(change: &Change) -> Option<u16>
     ensures { result ≡ left_in change.now }
 {
@@ -210,7 +212,7 @@ fn left_in(change: &Change) -> Option<u16>
     }
 }
 
-/// The agents after the entry behind the message, if there is one.
+/// Returns the agents after the entry behind the message, if there is one.
 fn lead(agents: Agents, effect: &Effect) -> Agents
     ensures { result ≡ agents_by (behind effect.now) agents }
 {
@@ -233,7 +235,7 @@ fn lead(agents: Agents, effect: &Effect) -> Agents
     }
 }
 
-/// The CPUs that the other class holds after the entry behind the message, if there is one.
+/// Returns the CPUs that the other class holds after the entry behind the message, if there is one.
 fn hold(taken: Mask, effect: &Effect) -> Mask
     requires { IfSome (behind effect.now) HoldsNear }
     ensures { (c : ℕ) → has result c ≡ held_by (behind effect.now) c (has taken c) }

@@ -8,7 +8,7 @@ use gs_layout::Refusal;
 use gs_ring::Poster;
 
 impl<P: Poster> Kernel<P> {
-    /// The refusal that a tick has of its own.
+    /// Returns the refusal that a tick has of its own.
     #[tactic(auto, unfolding(crate::specs::Kernel::tick_refusal))]
     pub(crate) fn tick_refusal(&self, cpu: u16) -> Option<Refusal>
         ensures { result ≡ tick_refusal self.now.settings cpu }

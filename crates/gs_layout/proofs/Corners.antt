@@ -44,7 +44,7 @@ never_dies = refl
 ticked : after (Live (facts true 3)) (TimerTick 0) ≡ Live (facts true 3)
 ticked = refl
 
--- a new mask is all that changes, also where it takes the thread off
+-- a new mask is all that changes, also if it takes the thread off
 new_mask : after (Live (facts false 3)) (Thread 1 2 (changes.Affinity (Some 1) true 4)) ≡ Live (facts false 4)
 new_mask = refl
 

@@ -9,7 +9,7 @@ use Rattle.gs_layout.specs.Reading.{cpu_numbered, number_at}
 use Rattle.gs_layout.specs.Spelling.{cpu_number}
 use Rattle.gs_layout.proofs.NumberBytes.{IsBytes, IsBytes-drop, back_2, back_4, back_8}
 
--- a number of so many bytes, where those bytes are its own
+-- a number of so many bytes, if those bytes are its own
 at_width : (w p : ℕ) (xs : List ℕ) → little_bytes w (number_at p w xs) ++ drop w (drop p xs) ≡ drop p xs → little_bytes w (number_at p w xs) ++ drop (p + w) xs ≡ drop p xs
 at_width w p xs own = ap (λ (ys : List ℕ). little_bytes w (number_at p w xs) ++ ys) (sym (drop-drop w p xs)) ∙ own
 

@@ -14,7 +14,7 @@ kind_number kinds.Dead = 6
 kind_number kinds.Affinity = 7
 kind_number kinds.TimerTick = 8
 
--- whether a message of a kind takes its own thread off the CPU, where a new mask says whether it does
+-- whether a message of a kind takes its own thread off the CPU; of a new mask the Bool says whether it does
 abbrev pub kind_takes_off : Kind → Bool → Bool
 kind_takes_off kinds.Created off = false
 kind_takes_off kinds.Blocked off = true

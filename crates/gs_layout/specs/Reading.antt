@@ -78,10 +78,10 @@ least kinds.Created = 32
 least kinds.Affinity = 24
 least _ = 16
 
--- the kind that the bytes name; they name one where they begin with a message
+-- the kind that the bytes name; they name one if they begin with a message
 abbrev pub kind_in : List ℕ → Kind
 kind_in bytes = unwrap_or (kind_numbered (number_at 2 2 bytes)) kinds.TimerTick
 
--- the message that the bytes begin with, where they do
+-- the message that the bytes begin with, if they do
 abbrev pub message_in : List ℕ → Message
 message_in bytes = message_with (kind_in bytes) bytes

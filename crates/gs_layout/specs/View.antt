@@ -33,7 +33,7 @@ abbrev pub record_known : Option Known → Record
 record_known None = Absent
 record_known (Some k) = Live k.facts
 
--- what is known of a thread with this record and sequence number: nothing where it does not live
+-- what is known of a thread with this record and sequence number: nothing if it does not live
 abbrev pub known_at : ℕ → Record → Option Known
 known_at s Absent = None
 known_at s Dead = None
@@ -49,7 +49,7 @@ learn Orphan o m = o
 learn Skipped o m = o
 learn Gap o m = o
 
--- what is known of the message's own thread afterwards
+-- what is known of the message's own thread after it
 abbrev pub next_known : Option Known → Message → Option Known
 next_known o m = learn (word_at o m) o m
 

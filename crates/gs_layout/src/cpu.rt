@@ -8,7 +8,7 @@ ghost use Rattle.gs_layout.specs.Spelling.{cpu_number};
 /// so that it is no CPU's.
 pub const NO_CPU: u16 = 65_535;
 
-/// The CPU of this number, or `None` if it is [`NO_CPU`].
+/// Returns the CPU of this number, or `None` if it is [`NO_CPU`].
 pub fn cpu_numbered(number: u16) -> Option<u16>
     ensures { result ≡ cpu_numbered number }
 {
@@ -18,7 +18,7 @@ pub fn cpu_numbered(number: u16) -> Option<u16>
     }
 }
 
-/// The number of a CPU, or [`NO_CPU`] for none.
+/// Returns the number of a CPU, or [`NO_CPU`] for none.
 pub fn cpu_number(cpu: Option<u16>) -> u16
     ensures { result ≡ cpu_number cpu }
 {

@@ -22,7 +22,7 @@ struct Header {
     flags: u16,
 }
 
-/// How many bytes a creation has whose name has this many: 32, 40 or 48.
+/// Returns how many bytes a creation has whose name has this many: 32, 40 or 48.
 pub fn creation_len(name_len: usize) -> usize
     requires { name_len ≤ MOST_NAME_LEN }
     ensures { result ≡ round_up (26 + name_len) }
@@ -62,7 +62,7 @@ fn size(message: &Message) -> u16
     }
 }
 
-/// How many bytes the message has: 16 to 48, a multiple of 8.
+/// Returns how many bytes the message has: 16 to 48, a multiple of 8.
 #[tactic(auto, using(crate::proofs::Spelled::spelled_length))]
 pub fn message_len(message: &Message) -> usize
     ensures { result ≡ length (spelling message.now) }
@@ -135,8 +135,8 @@ fn write_more(message: &Message, out: &mut [u8])
     }
 }
 
-/// Writes the message at the front of `out` and leaves the rest as it was. It answers how many bytes
-/// it wrote, which is [`message_len`] of the message.
+/// Writes the message at the front of `out` and leaves the rest as it was. Returns how many bytes it wrote,
+/// which is [`message_len`] of the message.
 pub fn encode_message(message: &Message, out: &mut [u8]) -> usize
     requires { length (spelling message.now) ≤ length out.old }
     ensures count { result ≡ length (spelling message.now) }

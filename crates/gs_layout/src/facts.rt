@@ -14,7 +14,7 @@ pub enum Class {
 impl Class {
     ghost use Rattle.gs_layout.specs.Class.{class_number};
 
-    /// The class's number, 0 or 1.
+    /// Returns the class's number, 0 or 1.
     pub fn number(self) -> u8
         ensures { result ≡ class_number self }
     {
@@ -38,7 +38,7 @@ impl Facts {
     ghost use Rattle.gs_layout.specs.declared.facts.Facts.{Facts};
     ghost use Rattle.gs_layout.specs.declared.record.Record.TheVariants.{Dead, Live};
 
-    /// Makes of a live thread's facts what a change makes of them. A death leaves them.
+    /// Changes a live thread's facts as a change says. A death leaves them.
     pub fn change(&mut self, change: &Change)
         ensures lives { (f : Facts) → changed self.old change.now ≡ Live f → self.new ≡ f }
         ensures dies { changed self.old change.now ≡ Dead → self.new ≡ self.old }

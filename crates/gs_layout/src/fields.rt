@@ -19,7 +19,7 @@ use crate::wire::{
 };
 use gs_status::Mask;
 
-/// The kind of the message that the bytes begin with.
+/// Returns the kind of the message that the bytes begin with.
 pub fn kind_of(bytes: &[u8]) -> Kind
     requires { IsMessage bytes.now }
     ensures { (m : Message) → Begins bytes.now m → result ≡ kind_of m }
@@ -27,7 +27,7 @@ pub fn kind_of(bytes: &[u8]) -> Kind
     Kind::numbered(u16_at(bytes, KIND_AT)).unwrap()
 }
 
-/// The thread that the message is about, 0 for a tick.
+/// Returns the thread that the message is about, 0 for a tick.
 pub fn tid_of(bytes: &[u8]) -> u32
     requires { IsMessage bytes.now }
     ensures { (m : Message) → Begins bytes.now m → result ≡ tid_of m }
@@ -35,7 +35,7 @@ pub fn tid_of(bytes: &[u8]) -> u32
     u32_at(bytes, TID_AT)
 }
 
-/// The message's sequence number, 0 for a tick.
+/// Returns the message's sequence number, 0 for a tick.
 pub fn tseq_of(bytes: &[u8]) -> u32
     requires { IsMessage bytes.now }
     ensures { (m : Message) → Begins bytes.now m → result ≡ tseq_of m }
@@ -43,7 +43,7 @@ pub fn tseq_of(bytes: &[u8]) -> u32
     u32_at(bytes, TSEQ_AT)
 }
 
-/// The CPU that the thread was on just before, or the CPU of a tick.
+/// Returns the CPU that the thread was on just before, or the CPU of a tick.
 pub fn cpu_of(bytes: &[u8]) -> Option<u16>
     requires { IsMessage bytes.now }
     ensures { (m : Message) → Begins bytes.now m → result ≡ cpu_of m }
@@ -51,8 +51,8 @@ pub fn cpu_of(bytes: &[u8]) -> Option<u16>
     cpu_numbered(u16_at(bytes, CPU_AT))
 }
 
-/// The message's flags: bit 0 of a creation says that the thread is runnable, of a new mask that the
-/// thread was taken off its CPU. All else is 0.
+/// Returns the message's flags. Bit 0 of a creation says that the thread is runnable. Bit 0 of a new mask
+/// says that the thread was taken off its CPU. All else is 0.
 pub fn flags_of(bytes: &[u8]) -> u16
     requires { IsMessage bytes.now }
     ensures { (m : Message) → Begins bytes.now m → result ≡ flags_of m }
@@ -60,7 +60,7 @@ pub fn flags_of(bytes: &[u8]) -> u16
     u16_at(bytes, FLAGS_AT)
 }
 
-/// The mask of a creation or of a new mask.
+/// Returns the mask of a creation or of a new mask, or `None` for any other kind.
 pub fn mask_of(bytes: &[u8]) -> Option<Mask>
     requires { IsMessage bytes.now }
     ensures { (m : Message) → Begins bytes.now m → result ≡ mask_of m }
@@ -71,7 +71,7 @@ pub fn mask_of(bytes: &[u8]) -> Option<Mask>
     }
 }
 
-/// The class of a creation.
+/// Returns the class of a creation, or `None` for any other kind.
 pub fn class_of(bytes: &[u8]) -> Option<Class>
     requires { IsMessage bytes.now }
     ensures { (m : Message) → Begins bytes.now m → result ≡ class_of m }
@@ -82,7 +82,7 @@ pub fn class_of(bytes: &[u8]) -> Option<Class>
     }
 }
 
-/// The name of a creation, where it stands in the bytes.
+/// Lends the name of a creation, where it stands in the bytes, or returns `None` for any other kind.
 pub fn name_of(bytes: &[u8]) -> Option<&[u8]>
     requires { IsMessage bytes.now }
     ensures { (m : Message) → Begins bytes.now m → option_copied result ≡ name_of m }
@@ -153,7 +153,7 @@ fn change_at(kind: Kind, bytes: &[u8]) -> Change
     }
 }
 
-/// The message that the bytes begin with.
+/// Returns the message that the bytes begin with.
 pub fn message_of(bytes: &[u8]) -> Message
     requires { IsMessage bytes.now }
     ensures { (m : Message) → Begins bytes.now m → result ≡ m }

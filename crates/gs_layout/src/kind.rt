@@ -17,14 +17,14 @@ impl Kind {
     ghost use Rattle.gs_layout.specs.Kind.{kind_number, kind_takes_off};
     ghost use Rattle.gs_layout.specs.Reading.{kind_numbered};
 
-    /// The kind's number in the layout.
+    /// Returns the kind's number in the layout, from 1 to 8.
     pub fn number(self) -> u16
         ensures { result ≡ kind_number self }
     {
         self as u16 + 1
     }
 
-    /// The kind of this number, or `None` where it is not from 1 to 8.
+    /// Returns the kind of this number, or `None` if it is not from 1 to 8.
     pub fn numbered(number: u16) -> Option<Kind>
         ensures { result ≡ kind_numbered number }
     {
@@ -41,8 +41,8 @@ impl Kind {
         }
     }
 
-    /// Whether a message of this kind takes its own thread off the CPU: a new mask does so if `off` says
-    /// so. A tick has no thread.
+    /// Returns whether a message of this kind takes its own thread off the CPU. A new mask does so if `off`
+    /// says so. A tick has no thread.
     pub fn takes_off_cpu(self, off: bool) -> bool
         ensures { result ≡ kind_takes_off self off }
     {

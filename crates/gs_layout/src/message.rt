@@ -7,7 +7,7 @@ use crate::kind::Kind;
 use gs_status::Mask;
 
 /// How many tids there are, and so how many threads there may ever be: a thread's tid is from 1 to this.
-/// There are so few that a table with a place for each takes little memory.
+/// There are so few that a table with a place for each is small.
 pub const MOST_TIDS: u32 = 65_536;
 
 /// What happened to a thread. `cpu` is the CPU that it was on just before.
@@ -38,7 +38,7 @@ pub enum Change {
 }
 
 impl Change {
-    /// Whether it takes its thread off its CPU.
+    /// Returns whether it takes its thread off its CPU.
     pub fn takes_off_cpu(&self) -> bool
         ensures { result ≡ takes_off_cpu self.now }
     {
@@ -46,7 +46,7 @@ impl Change {
         self.kind().takes_off_cpu(off)
     }
 
-    /// What kind of message says it.
+    /// Returns the kind of message that says it.
     fn kind(&self) -> Kind
         ensures { result ≡ kind_of_change self.now }
     {
@@ -72,7 +72,7 @@ pub enum Message {
 }
 
 impl Message {
-    /// What kind of message it is.
+    /// Returns the kind of the message.
     pub fn kind(&self) -> Kind
         ensures { result ≡ kind_of self.now }
     {
@@ -82,7 +82,7 @@ impl Message {
         }
     }
 
-    /// The thread that it is about, 0 for a tick.
+    /// Returns the thread that it is about, 0 for a tick.
     pub fn tid(&self) -> u32
         ensures { result ≡ tid_of self.now }
     {
@@ -92,7 +92,7 @@ impl Message {
         }
     }
 
-    /// Its sequence number, 0 for a tick.
+    /// Returns its sequence number, 0 for a tick.
     pub fn tseq(&self) -> u32
         ensures { result ≡ tseq_of self.now }
     {
@@ -102,7 +102,7 @@ impl Message {
         }
     }
 
-    /// The CPU that the thread was on just before, or the CPU of a tick.
+    /// Returns the CPU that the thread was on just before, or the CPU of a tick.
     pub fn cpu(&self) -> Option<u16>
         ensures { result ≡ cpu_of self.now }
     {

@@ -30,7 +30,7 @@ impl Model for Name {
     ghost inverse_ok = { held_of-text };
 }
 
-/// Whether each byte may stand in a name.
+/// Returns whether each byte may stand in a name.
 fn is_printed(text: &[u8]) -> bool
     ensures { result ≡ list_all is_name_byte text.now }
 {
@@ -38,15 +38,15 @@ fn is_printed(text: &[u8]) -> bool
 }
 
 impl Name {
-    /// Whether these bytes are a name: at most [`MOST_NAME_LEN`], each from 33 to 126.
+    /// Returns whether these bytes are a name: at most [`MOST_NAME_LEN`], each from 33 to 126.
     pub fn is_name(text: &[u8]) -> bool
         ensures { result ≡ is_name text.now }
     {
         text.len() <= MOST_NAME_LEN && is_printed(text)
     }
 
-    /// The name of these bytes, or `None` if they are over [`MOST_NAME_LEN`] or one of them is not from 33
-    /// to 126.
+    /// Returns the name of these bytes, or `None` if they are over [`MOST_NAME_LEN`] or one of them is not
+    /// from 33 to 126.
     pub fn new(text: &[u8]) -> Option<Name>
         ensures some { IsSome result ↔ (is_name text.now ≡ true) }
         ensures value { IfSome result (λ name. name ≡ text.now) }
@@ -62,7 +62,7 @@ impl Name {
         })
     }
 
-    /// The bytes of the name.
+    /// Lends the bytes of the name.
     pub fn as_bytes(&self) -> &[u8]
         ensures value { result.now ≡ self.now }
         ensures name { is_name result.now ≡ true }

@@ -5,7 +5,7 @@ ghost use Rattle.gs_layout.specs.Reading.{number_at};
 
 use byteorder::{ByteOrder, LittleEndian};
 
-/// The number of two bytes that stands at a place.
+/// Returns the number of two bytes that stands at a place.
 pub fn u16_at(bytes: &[u8], place: usize) -> u16
     requires { place + 2 ≤ length bytes.now }
     ensures { result ≡ number_at place 2 bytes.now }
@@ -13,7 +13,7 @@ pub fn u16_at(bytes: &[u8], place: usize) -> u16
     LittleEndian::read_u16(&bytes[place..])
 }
 
-/// The number of four bytes that stands at a place.
+/// Returns the number of four bytes that stands at a place.
 pub fn u32_at(bytes: &[u8], place: usize) -> u32
     requires { place + 4 ≤ length bytes.now }
     ensures { result ≡ number_at place 4 bytes.now }
@@ -21,7 +21,7 @@ pub fn u32_at(bytes: &[u8], place: usize) -> u32
     LittleEndian::read_u32(&bytes[place..])
 }
 
-/// The number of eight bytes that stands at a place.
+/// Returns the number of eight bytes that stands at a place.
 pub fn u64_at(bytes: &[u8], place: usize) -> u64
     requires { place + 8 ≤ length bytes.now }
     ensures { result ≡ number_at place 8 bytes.now }

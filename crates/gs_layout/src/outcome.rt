@@ -1,7 +1,7 @@
 ghost use Rattle.std.specs.Prelude.{◌≡◌};
 
-/// What becomes of a transaction: the first that applies when it lands, `Malformed` before all, then
-/// the others in the order in which they stand here, and `Placed` where none applies. The layout
+/// What becomes of a transaction when it lands: the first outcome that applies. `Malformed` is tested before
+/// all, then the others in the order in which they stand here. It is `Placed` if none applies. The layout
 /// numbers them from 0 to 13, in this order.
 #[derive(Clone, Copy, PartialEq, Eq, Debug)]
 pub enum Outcome {
@@ -38,14 +38,14 @@ pub enum Outcome {
 impl Outcome {
     ghost use Rattle.gs_layout.specs.Outcome.{outcome_number, outcome_numbered};
 
-    /// The outcome's number in the layout.
+    /// Returns the outcome's number in the layout, from 0 to 13.
     pub fn number(self) -> u16
         ensures { result ≡ outcome_number self }
     {
         self as u16
     }
 
-    /// The outcome of this number, or `None` where it is above 13.
+    /// Returns the outcome of this number, or `None` if it is above 13.
     pub fn numbered(number: u16) -> Option<Outcome>
         ensures { result ≡ outcome_numbered number }
     {

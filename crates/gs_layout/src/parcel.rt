@@ -32,7 +32,7 @@ impl Model for Parcel {
 }
 
 impl Parcel {
-    /// The message, encoded.
+    /// Encodes the message.
     pub fn new(message: &Message) -> Parcel
         requires { IsSpellable message.now }
         ensures { result ≡ message.now }
@@ -45,7 +45,7 @@ impl Parcel {
         }
     }
 
-    /// The bytes of the message: 16 to 48, a multiple of 8.
+    /// Lends the bytes of the message: 16 to 48, a multiple of 8.
     pub fn as_bytes(&self) -> &[u8]
         ensures value { result.now ≡ spelling self.now }
         ensures spellable { IsSpellable self.now }
@@ -53,7 +53,7 @@ impl Parcel {
         &self.bytes[..self.len as usize]
     }
 
-    /// The message itself.
+    /// Returns the message itself.
     pub fn message(&self) -> Message
         ensures { result ≡ self.now }
     {

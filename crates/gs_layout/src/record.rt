@@ -13,7 +13,7 @@ pub enum Record {
 }
 
 impl Record {
-    /// The record after one more message about the thread. A timer tick leaves it.
+    /// Returns the record after one more message about the thread. A timer tick leaves it.
     pub fn after(self, message: &Message) -> Record
         ensures { result ≡ after self message.now }
     {
@@ -28,7 +28,7 @@ impl Record {
     }
 }
 
-/// What a change makes of a live thread.
+/// Returns what a change makes of a live thread.
 fn changed(mut facts: Facts, change: &Change) -> Record
     ensures { result ≡ changed facts change.now }
 {
@@ -39,7 +39,7 @@ fn changed(mut facts: Facts, change: &Change) -> Record
     Record::Live { facts }
 }
 
-/// What a change makes of a thread that never was.
+/// Returns what a change makes of a thread that never was.
 fn begun(change: &Change) -> Record
     ensures { result ≡ begun change.now }
 {

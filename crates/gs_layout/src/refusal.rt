@@ -1,3 +1,7 @@
+ghost use Rattle.std.specs.Prelude.{◌≡◌};
+ghost use Rattle.gs_layout.specs.declared.refusal.Refusal.TheVariants.{OutOfMemory};
+
+use std::alloc::AllocError;
 use thiserror::Error;
 
 /// Why an event is refused. A refused event changes nothing.
@@ -41,4 +45,12 @@ pub enum Refusal {
     Gone,
     #[error("out of memory")]
     OutOfMemory,
+}
+
+impl From<AllocError> for Refusal {
+    ghost from_gives = { λ _ refusal. refusal ≡ OutOfMemory };
+
+    fn from(_failed: AllocError) -> Refusal {
+        Refusal::OutOfMemory
+    }
 }

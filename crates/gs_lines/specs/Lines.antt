@@ -87,11 +87,11 @@ abbrev pub torn_line : Bool → List ℕ
 torn_line true = line (codes "torn")
 torn_line false = []
 
--- a part that is only there where its number is not 0
+-- a part that is only there if its number is not 0
 abbrev pub unless_zero : List ℕ → ℕ → List ℕ
 unless_zero text n = if n == 0 then [] else text ++ decimal n
 
--- only a gap is told of: a drain that stopped for want of memory has no line
+-- only a gap is told of: a drain that stopped as it was out of memory has no line
 abbrev pub stop_text : Option Stop → List ℕ
 stop_text None = []
 stop_text (Some stops.Gap) = codes " stopped gap"
@@ -104,7 +104,7 @@ drained_text d = codes "drained " ++ decimal d.count ++ unless_zero (codes " ski
 abbrev pub landing_lines : List Landing → List ℕ
 landing_lines landings = flat_map (λ a. line (landing_text a)) landings
 
--- whether a thread takes the CPU from somebody: a word that is only there where it does
+-- whether a thread takes the CPU from somebody: a word that is only there if it does
 abbrev pub preempt_text : Bool → List ℕ
 preempt_text true = codes " preempt"
 preempt_text false = []
@@ -113,7 +113,7 @@ preempt_text false = []
 abbrev pub choice_text : ℕ → Choice → List ℕ
 choice_text n x = codes "stamped " ++ decimal n ++ codes " cpu " ++ decimal x.cpu ++ codes " thread " ++ decimal x.tid ++ preempt_text x.preempt
 
--- the lines of choices, one for each, whose numbers rise from one on
+-- the lines of choices, one for each, whose numbers are one and those that follow it
 abbrev pub choice_lines : ℕ → List Choice → List ℕ
 choice_lines n [] = []
 choice_lines n (x ∷ xs) = line (choice_text n x) ++ choice_lines (n + 1) xs
@@ -229,8 +229,8 @@ live_text a = codes "state " ++ known_text a.tid a.known ++ codes " cpu " ++ cpu
 abbrev pub live_lines : List LiveThread → List ℕ
 live_lines threads = flat_map (λ a. line (live_text a)) threads
 
--- the lines of a reply: a commit has one for each landing, a look one for each thread or message that it shows, a decision one and one for
--- each choice, and any other reply has one; a commit and a late landing that tore the enclave down have one more
+-- the lines of a reply. A commit has one for each landing, and a look one for each thread or message that it shows. A decision has
+-- one and one for each choice, and any other reply has one. A commit and a late landing that tore the enclave down have one more
 abbrev pub reply_lines : Reply → List ℕ
 reply_lines (replies.Refused f) = line (codes "refused " ++ refusal_text f)
 reply_lines replies.Torn = line (codes "torn")

@@ -1,11 +1,11 @@
-//! Words and numbers that are written into an array from its end.
+//! Writing words and numbers into an array from its end.
 
 ghost use Rattle.std.specs.Prelude.{◌≡◌, ◌≤◌, ◌+◌, ◌++◌, decimal, drop, length};
 ghost use Rattle.std.specs.Str.{IsUtf8};
 
 use itoa::write_digits;
 
-/// Writes bytes so that they end here, and answers where they begin.
+/// Writes bytes so that they end here, and returns where they begin.
 #[inline(always)]
 fn put_bytes(array: &mut [u8], end: usize, bytes: &[u8]) -> usize
     requires { (length bytes.now ≤ end) × (end ≤ length array.old) }
@@ -18,7 +18,7 @@ fn put_bytes(array: &mut [u8], end: usize, bytes: &[u8]) -> usize
     start
 }
 
-/// Writes a word so that it ends here, and answers where it begins.
+/// Writes a word so that it ends here, and returns where it begins.
 #[inline(always)]
 pub(crate) fn put(array: &mut [u8], end: usize, word: &str) -> usize
     requires { (length word.now ≤ end) × (end ≤ length array.old) }
@@ -30,7 +30,7 @@ pub(crate) fn put(array: &mut [u8], end: usize, word: &str) -> usize
     put_bytes(array, end, word.as_bytes())
 }
 
-/// Writes a number so that it ends here, and answers where it begins.
+/// Writes a number so that it ends here, and returns where it begins.
 #[inline(always)]
 pub(crate) fn put_number(array: &mut [u8], end: usize, number: u64) -> usize
     requires { (20 ≤ end) × (end ≤ length array.old) }

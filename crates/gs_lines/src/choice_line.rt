@@ -13,23 +13,23 @@ fn preempt_name(preempt: bool) -> &'static str
 }
 
 /// Adds the line of a choice, by its transaction's number.
-fn write_choice(out: &mut Text, number: u128, choice: &Choice) -> Result<(), AllocError>
+fn write_choice(out: &mut Text, number: u64, choice: &Choice) -> Result<(), AllocError>
     ensures { OnOk result (out.new ≡ out.old ++ line (choice_text number choice.now)) }
 {
     let Choice { cpu, tid, preempt } = *choice;
-    out.push_wide("stamped ", number)?;
+    out.push_number("stamped ", number)?;
     out.push_number(" cpu ", cpu as u64)?;
     out.push_number(" thread ", tid as u64)?;
     out.push_str(preempt_name(preempt))?;
     out.end_line()
 }
 
-/// Adds the lines of choices, whose numbers rise from `first` on: no count of choices is too large for that.
-fn write_choices(out: &mut Text, first: usize, choices: &[Choice]) -> Result<(), AllocError>
+/// Adds the lines of choices, whose numbers are `first` and those that follow it.
+fn write_choices(out: &mut Text, first: u32, choices: &[Choice]) -> Result<(), AllocError>
     ensures { OnOk result (out.new ≡ out.old ++ choice_lines first choices.now) }
 {
     for (i, choice) in choices.iter().enumerate() {
-        write_choice(out, first as u128 + i as u128, choice)?;
+        write_choice(out, first as u64 + i as u64, choice)?;
     }
     Ok(())
 }
@@ -37,7 +37,7 @@ fn write_choices(out: &mut Text, first: usize, choices: &[Choice]) -> Result<(),
 /// Adds the lines of a decision.
 pub(crate) fn write_decided(
     out: &mut Text,
-    first: usize,
+    first: u32,
     choices: &[Choice],
 ) -> Result<(), AllocError>
     ensures { OnOk result (out.new ≡ out.old ++ line (decided_text choices.now) ++ choice_lines first choices.now) }

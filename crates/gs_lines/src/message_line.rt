@@ -23,7 +23,7 @@ fn kind_name(kind: Kind) -> &'static str
     }
 }
 
-/// Adds a CPU, or `-` for none. It fails only for want of memory.
+/// Adds a CPU, or `-` for none. It fails only if out of memory.
 pub fn write_cpu(out: &mut Text, cpu: Option<u16>) -> Result<(), AllocError>
     ensures { OnOk result (out.new ≡ out.old ++ cpu_text cpu) }
 {
@@ -55,7 +55,7 @@ pub(crate) fn write_messages(out: &mut Text, messages: &[Message]) -> Result<(),
     Ok(())
 }
 
-/// What is said to have happened to a thread: one word, as `created` or `woken`.
+/// Returns what is said to have happened to a thread: one word, as `created` or `woken`.
 pub fn change_name(change: &Change) -> &'static str
     ensures name { result.now ≡ change_text change.now }
     ensures short { length result.now ≤ 9 }
@@ -99,6 +99,7 @@ fn write_posted(out: &mut Text, message: &Message) -> Result<(), AllocError>
 }
 
 /// Adds a placing.
+/// It fails only if out of memory.
 pub fn write_placed(
     out: &mut Text,
     tid: u32,

@@ -1,4 +1,6 @@
 ghost use Rattle.std.specs.Prelude.{◌≡◌, ◌≤◌, ◌++◌, IfOk, OnOk, codes, decimal, length};
+ghost use Rattle.gs_kernel.specs.Fate.{answer_by};
+ghost use Rattle.gs_core.specs.Answers.{reply_of};
 ghost use Rattle.gs_lines.specs.Lines.{refusal_text, outcome_text, drained_text, unless_zero, stop_text, line, landed_text, landing_text, landing_lines, late_text, next_text, page_text, torn_line, reply_lines, lines};
 
 use crate::choice_line::write_decided;
@@ -7,7 +9,8 @@ use crate::text::{MOST_WORD_LEN, Text};
 use crate::thread_line::{write_threads, write_view};
 use gs_agent::{Drained, Stop};
 use gs_core::Reply;
-use gs_kernel::Landing;
+use gs_journal::Entry;
+use gs_kernel::{Fate, Landing};
 use gs_layout::{Outcome, Refusal};
 use std::alloc::{AllocError, Global};
 
@@ -104,7 +107,7 @@ fn write_torn(out: &mut Text, torn: bool) -> Result<(), AllocError>
     if torn { out.push_str("torn\n") } else { Ok(()) }
 }
 
-/// Adds a word and a number, where the number isn't 0.
+/// Adds a word and a number, if the number isn't 0.
 fn write_part(out: &mut Text, word: &str, number: usize) -> Result<(), AllocError>
     requires { length word.now ≤ MOST_WORD_LEN }
     ensures { OnOk result (out.new ≡ out.old ++ unless_zero word.now number) }
@@ -115,7 +118,7 @@ fn write_part(out: &mut Text, word: &str, number: usize) -> Result<(), AllocErro
     out.push_number(word, number as u64)
 }
 
-/// Why a drain stopped, where its line says so.
+/// Returns why a drain stopped, if its line says so.
 fn stop_name(stop: Option<Stop>) -> &'static str
     ensures { result.now ≡ stop_text stop }
 {
@@ -171,16 +174,16 @@ fn write_refused(out: &mut Text, refusal: Refusal) -> Result<(), AllocError>
 }
 
 /// Adds the line of a stamp, by its transaction's number.
-fn write_stamped(out: &mut Text, number: usize) -> Result<(), AllocError>
+fn write_stamped(out: &mut Text, number: u32) -> Result<(), AllocError>
     ensures { OnOk result (out.new ≡ out.old ++ line (codes "stamped " ++ decimal number)) }
 {
     out.push_number("stamped ", number as u64)?;
     out.end_line()
 }
 
-/// Adds the lines of a reply, each ended by a newline: of a commit a line for each landing, of a look one for each
-/// thread or message that it shows, of a decision one and one for each choice, and of any other reply one. It
-/// fails only for want of memory.
+/// Adds the lines of a reply, each ended by a newline. A commit has a line for each landing, and a look one
+/// for each thread or message that it shows. A decision has one and one for each choice, and any other reply
+/// has one. It fails only if out of memory.
 pub fn write_reply(out: &mut Text, reply: &Reply) -> Result<(), AllocError>
     ensures { OnOk result (out.new ≡ out.old ++ reply_lines reply.now) }
 {
@@ -211,7 +214,18 @@ pub fn write_reply(out: &mut Text, reply: &Reply) -> Result<(), AllocError>
     }
 }
 
-/// The lines of replies, in order, as [`write_reply`] adds them. It fails only for want of memory.
+/// Adds the line of the reply to a command by its fate and the kernel's last entry. It fails only if out of memory.
+pub fn write_fate(out: &mut Text, fate: Fate, last: &Entry) -> Result<(), AllocError>
+    ensures { OnOk result (out.new ≡ out.old ++ reply_lines (reply_of (answer_by fate last.now))) }
+{
+    match fate {
+        Fate::Refused { refusal } => write_refused(out, refusal),
+        Fate::Torn => out.push_str("torn\n"),
+        Fate::Done => write_entry(out, last),
+    }
+}
+
+/// Returns the lines of replies, in order, as [`write_reply`] adds them. It fails only if out of memory.
 pub fn text_of(alloc: Global, replies: &[Reply]) -> Result<Text, AllocError>
     ensures { IfOk result (λ text. text ≡ lines replies.now) }
 {

@@ -2,7 +2,6 @@ ghost use Rattle.std.specs.Prelude.{◌≡◌, ◌≤◌, ◌++◌, ◌∷◌, [
 ghost use Rattle.std.specs.Str.{IsUtf8};
 
 use crate::backwards::{put, put_number};
-use itoa::Buffer;
 use std::alloc::{AllocError, Global};
 use std::marker::Model;
 
@@ -13,8 +12,8 @@ pub const MOST_WORD_LEN: usize = 32;
 const SIZE: usize = 80;
 
 /// A text that grows at its end, for lines of words and numbers. A word and the numbers behind it are put together in
-/// a small array, the last digit first, and added at once. What adds to it fails only for want of memory. Clauses
-/// see its bytes, which are UTF-8.
+/// a small array, the last digit first, and added at once. What adds to it fails only if out of memory.
+/// Clauses see its bytes, which are UTF-8.
 #[derive(Drop)]
 pub struct Text {
     bytes: Vec<u8>,
@@ -32,7 +31,7 @@ impl Model for Text {
 }
 
 impl Text {
-    /// No text.
+    /// Makes an empty text. It does not allocate.
     pub fn new(alloc: Global) -> Text
         ensures { result ≡ [] }
     {
@@ -41,21 +40,21 @@ impl Text {
         }
     }
 
-    /// The bytes of the text.
+    /// Lends the bytes of the text.
     pub fn as_bytes(&self) -> &[u8]
         ensures { result.now ≡ self.now }
     {
         &self.bytes
     }
 
-    /// The text. Each call reads it all, to see that it is UTF-8.
+    /// Lends the text. Each call reads it all, to see that it is UTF-8.
     pub fn as_str(&self) -> &str
         ensures { result.now ≡ self.now }
     {
         str::from_utf8(&self.bytes).unwrap()
     }
 
-    /// The bytes of the text, to keep.
+    /// Returns the bytes of the text, to keep.
     pub fn into_bytes(self) -> Vec<u8>
         ensures { result.items ≡ self }
     {
@@ -87,6 +86,7 @@ impl Text {
     }
 
     /// Adds a word of at most [`MOST_WORD_LEN`] bytes and a number behind it.
+    #[inline(always)]
     pub fn push_number(&mut self, word: &str, number: u64) -> Result<(), AllocError>
         requires { length word.now ≤ MOST_WORD_LEN }
         ensures { OnOk result (self.new ≡ self.old ++ word.now ++ decimal number) }
@@ -109,18 +109,5 @@ impl Text {
         let at = put(&mut array, at, " ");
         let at = put(&mut array, at, word);
         self.append(&array[at..])
-    }
-
-    /// Adds a word of at most [`MOST_WORD_LEN`] bytes and a number behind it, which may be too large for a `u64`.
-    pub fn push_wide(&mut self, word: &str, number: u128) -> Result<(), AllocError>
-        requires { length word.now ≤ MOST_WORD_LEN }
-        ensures { OnOk result (self.new ≡ self.old ++ word.now ++ decimal number) }
-    {
-        let Ok(narrow) = u64::try_from(number) else {
-            let mut buffer = Buffer::new();
-            self.push_str(word)?;
-            return self.push_str(buffer.format(number));
-        };
-        self.push_number(word, narrow)
     }
 }

@@ -23,7 +23,7 @@ fn class_name(class: Class) -> &'static str
     }
 }
 
-/// A name as text: its bytes are ASCII.
+/// Returns a name as text: its bytes are ASCII.
 #[tactic(auto, using(crate::proofs::Names::name_is_utf8))]
 pub fn name_str(name: &Name) -> &str
     ensures { result.now ≡ name.now }
@@ -43,7 +43,8 @@ fn write_name(out: &mut Text, name: &Name) -> Result<(), AllocError>
     out.push_str(text)
 }
 
-/// Adds a thread's facts: whether it may run, its mask, its class and its name. It fails only for want of memory.
+/// Adds a thread's facts: whether it may run, its mask, its class and its name. It fails only if out of
+/// memory.
 pub fn write_facts(out: &mut Text, facts: &Facts) -> Result<(), AllocError>
     ensures { OnOk result (out.new ≡ out.old ++ facts_text facts.now) }
 {
@@ -74,7 +75,7 @@ fn write_known_line(out: &mut Text, known: &(u32, Known)) -> Result<(), AllocErr
     out.end_line()
 }
 
-/// Adds the lines of what the agent knows, by rising tid.
+/// Adds the lines of what the agent knows, in increasing order of tid.
 pub(crate) fn write_view(out: &mut Text, view: &[(u32, Known)]) -> Result<(), AllocError>
     ensures { OnOk result (out.new ≡ out.old ++ view_lines view.now) }
 {
@@ -94,7 +95,7 @@ fn write_live(out: &mut Text, thread: &LiveThread) -> Result<(), AllocError>
     out.end_line()
 }
 
-/// Adds the lines of threads that live, by rising tid.
+/// Adds the lines of threads that live, in increasing order of tid.
 pub(crate) fn write_threads(out: &mut Text, threads: &[LiveThread]) -> Result<(), AllocError>
     ensures { OnOk result (out.new ≡ out.old ++ live_lines threads.now) }
 {

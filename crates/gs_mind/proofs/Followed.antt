@@ -29,7 +29,7 @@ runnable_known (Some k) e = (k, refl)
 waits_known : (v : Look) (s : Cpus) (t : ℕ) → waits v s t ≡ true → (k : Known) × (v t ≡ Some k)
 waits_known v s t e = runnable_known (v t) (and_parts (is_runnable (v t)) _ e).0
 
--- who is in the queue once a thread is settled: it where it waits, and the others as before
+-- who is in the queue once a thread is settled: it if it waits, and the others as before
 in_settled : (v : Look) (s : Cpus) (t u : ℕ) (q : Queue) → is_in u (order (settled v s t q)) ≡ cond (u == t) (waits v s t) (is_in u (order q))
 in_settled v s t u q = by_waits (waits v s t) refl (is_in t (order q)) refl (u == t) refl
   where
@@ -44,7 +44,7 @@ in_settled v s t u q = by_waits (waits v s t) refl (is_in t (order q)) refl (u =
     by_waits false w i ii true e = in_removed u t q ∙ (ap (λ (z : Bool). is_in u (order q) && not z) e ∙ and-false (is_in u (order q)))
     by_waits false w i ii false e = in_removed u t q ∙ (ap (λ (z : Bool). is_in u (order q) && not z) e ∙ and-true (is_in u (order q)))
 
--- a thread that is in the queue where it waits, and else not, is settled
+-- a thread that is in the queue if it waits, and else not, is settled
 settled_kept : (v : Look) (s : Cpus) (t : ℕ) (q : Queue) → is_in t (order q) ≡ waits v s t → settled v s t q ≡ q
 settled_kept v s t q e = by_waits (waits v s t) e
   where
@@ -57,7 +57,7 @@ pub settled_again : (v : Look) (s : Cpus) (t : ℕ) (q : Queue) → settled v s 
 settled_again v s t q =
     settled_kept v s t (settled v s t q) (in_settled v s t t q ∙ ap (λ (b : Bool). cond b (waits v s t) (is_in t (order q))) (eq-eqb t t refl))
 
--- so one more is settled only where it is another
+-- so one more is settled only if it is another
 pub settled_other : (v : Look) (s : Cpus) (t : ℕ) (o : Option ℕ) (q : Queue) → settled_all v s (option_to_list (other_than t o)) (settled v s t q) ≡ settled_all v s (option_to_list o) (settled v s t q)
 settled_other v s t None q = refl
 settled_other v s t (Some u) q = by_test (u == t) refl

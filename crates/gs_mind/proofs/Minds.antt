@@ -161,7 +161,7 @@ room_news v v' q q' m h known more fits p = record { least = λ t e. (tid t e).0
     room : (t : ℕ) → is_some (v' t) ≡ true → 65536 ≤ q'.room
     room t e = room_by t (which t e)
 
--- who waits is the same where view, beliefs and the queue's threads are
+-- who waits is the same if view, beliefs and the queue's threads are
 pub waiting_as_before : (v v' : Look) (s : Cpus) (q q' : Queue) → ((t : ℕ) → v' t ≡ v t) → bare q' ≡ bare q → HoldsWaiting v s q → HoldsWaiting v' s q'
 waiting_as_before v v' s q q' known b h = λ u. ap (λ (x : Queue). is_in u (order x)) b ∙ (h u ∙ sym (λ i. waits (λ t. known t i) s u))
 

@@ -80,7 +80,7 @@ dead_row = refl
 blocked_row : (takes_in (Thread 9 6 (Blocked 1)) all_wait).queue ≡ queue (7 ∷ 8 ∷ []) []
 blocked_row = refl
 
--- a turn that ended: the thread goes last anew; one that merely is told of keeps its place
+-- if its turn ended, the thread goes last anew, and one that merely is told of keeps its place
 preempted_row : (takes_in (Thread 7 6 (Preempted 1)) all_wait).queue ≡ queue (8 ∷ 7 ∷ []) (9 ∷ [])
 preempted_row = refl
 
@@ -151,7 +151,7 @@ idle_row = refl
 stamped_row : after_slot 1 (Stamped (record { generation = 3; tid = 7; tseq = 5; preempt = true })) stamped ≡ stamped
 stamped_row = refl
 
--- slots by rising CPU
+-- slots in increasing order of CPU
 slots_row : after_slots 1 (landed 7 Placed (Some 1) ∷ landed 9 Stale None ∷ []) (knows (cpus None None (Some 7) (Some 9)) (queue (8 ∷ []) [])) ≡ knows (cpus (at 7 5 0) None None None) (queue (8 ∷ []) (9 ∷ []))
 slots_row = refl
 
@@ -172,7 +172,7 @@ page_other_row = refl
 page_blocked_row : (after_page (told 7 Zero false None ∷ []) all_wait).queue ≡ queue (8 ∷ []) (9 ∷ [])
 page_blocked_row = refl
 
--- whom a page's thread displaces waits again, and a belief stays where a page says that the thread is on no CPU
+-- whom a page's thread displaces waits again, and a belief stays if a page says that the thread is on no CPU
 page_displaces_row : (after_page (told 7 Zero true (Some 1) ∷ []) (knows (cpus (at 9 5 2) None None None) (queue (7 ∷ 8 ∷ []) []))).queue ≡ queue (8 ∷ []) (9 ∷ [])
 page_displaces_row = refl
 

@@ -8,7 +8,7 @@ use Rattle.gs_mind.specs.Mind.{MindState, bare}
 use Rattle.gs_mind.specs.Picture.{HoldsWaiting}
 use Rattle.gs_mind.specs.declared.mind.Mind.TheInside.{Inside}
 
--- a thread of which something is known has a tid, and where there is one the queue has room for all that there can be
+-- a thread of which something is known has a tid, and if there is one, the queue has room for all that there can be
 pub record HasRoom (v : Look) (q : Queue) : Type 0 where
   pub least : (t : ℕ) → is_some (v t) ≡ true → 1 ≤ t
   pub most : (t : ℕ) → is_some (v t) ≡ true → t ≤ MOST_TIDS

@@ -7,7 +7,7 @@ use Rattle.gs_runq.specs.Queue.{Queue, order}
 use Rattle.gs_policy.specs.Shown.{Shown}
 use Rattle.gs_mind.specs.Picture.{Picture}
 
--- what is known of each thread, by rising tid, what is believed of each CPU, and the queue, its room aside
+-- what is known of each thread, in increasing order of tid, what is believed of each CPU, and the queue without its room
 pub record MindState : Type 0 where
   pub records : List (ℕ × Known)
   pub cpus : Cpus
@@ -25,7 +25,7 @@ picture_of s = record { view = look_up s.records; cpus = s.cpus; queue = s.queue
 abbrev pub thinks : MindState → Picture → MindState
 thinks s p = record { records = s.records; cpus = p.cpus; queue = p.queue }
 
--- what a policy is shown of this, where the other class holds these CPUs
+-- what a policy is shown of this, if the other class holds these CPUs
 abbrev pub shown_in : MindState → (ℕ → Bool) → Shown
 shown_in s taken = record { view = look_up s.records; cpus = s.cpus; taken = taken; queue = order s.queue }
 

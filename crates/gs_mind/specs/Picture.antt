@@ -35,13 +35,13 @@ is_runnable (Some k) = k.facts.runnable
 abbrev pub waits : Look → Cpus → ℕ → Bool
 waits v s t = is_runnable (v t) && (not (is_believed s t) && not (is_named s t))
 
--- a thread goes last of the class that is known of it; one of which nothing is known goes nowhere
+-- a thread goes last of the class that is known of it, and one of which nothing is known goes nowhere
 abbrev pub goes_last : Option Known → ℕ → Queue → Queue
 goes_last None t q = q
 goes_last (Some k) t q = put k.facts.class t q
 
--- the queue brought up to date for a thread: one that begins to wait goes last of its class, one that waits already keeps its place,
--- also where another class is known of it now, and one that does not wait is not in the queue
+-- the queue brought up to date for a thread. One that begins to wait goes last of its class, and one that does not wait is not in the
+-- queue. One that waits already keeps its place, even if another class is known of it now
 abbrev pub settled : Look → Cpus → ℕ → Queue → Queue
 settled v s t q = if waits v s t then (if is_in t (order q) then q else goes_last (v t) t q) else removed t q
 
@@ -94,7 +94,7 @@ believes s ts p = record { view = p.view; cpus = s; queue = settled_all p.view s
 abbrev pub after_stamp : ℕ → ℕ → Picture → Picture
 after_stamp c t p = believes (stamps c t p.cpus) (t ∷ option_to_list (stamp_on p.cpus c)) p
 
--- a thread, where there is one that is another than this one
+-- a thread, if there is one and it is another than this one
 abbrev pub other_than : ℕ → Option ℕ → Option ℕ
 other_than t None = None
 other_than t (Some u) = if u == t then None else Some u
@@ -104,12 +104,12 @@ abbrev pub running_tid : Option Running → Option ℕ
 running_tid None = None
 running_tid (Some r) = Some r.tid
 
--- the thread that is believed to run on a CPU, where there is such a CPU
+-- the thread that is believed to run on a CPU, if there is such a CPU
 abbrev pub displaced : Cpus → Option ℕ → Option ℕ
 displaced s None = None
 displaced s (Some c) = running_tid (believed_on s c)
 
--- the picture after the slot of a CPU was collected: what became of a transaction that landed is believed, and its stamp is gone; its
+-- the picture after the slot of a CPU was collected. What became of a transaction that landed is believed, and its stamp is gone. Its
 -- thread, whom the stamp there named, and whom it displaced begin to wait or wait no more
 abbrev pub after_slot : ℕ → SlotState → Picture → Picture
 after_slot c Idle p = p
@@ -117,7 +117,7 @@ after_slot c (Stamped b) p = p
 after_slot c (Done b outcome at seen) p =
     believes (unstamps c (after_outcome outcome at b.tid b.tseq p.cpus)) (b.tid ∷ option_to_list (stamp_on p.cpus c) ++ option_to_list (displaced p.cpus at)) p
 
--- the picture after slots were collected by rising CPU, the first one that of a CPU
+-- the picture after slots were collected in increasing order of CPU, the first one that of a CPU
 abbrev pub after_slots : ℕ → List SlotState → Picture → Picture
 after_slots c [] p = p
 after_slots c (x ∷ xs) p = after_slots (c + 1) xs (after_slot c x p)

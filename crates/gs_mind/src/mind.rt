@@ -25,15 +25,14 @@ use gs_view::{AgentView, ApplyFault, Taken};
 use std::alloc::{AllocError, Global};
 use std::marker::Model;
 
-/// What an agent has in mind: the view, what it knows of each thread; the beliefs, what it believes of
-/// each CPU; and the queue, who waits for a CPU.
+/// What an agent has in mind. The view is what it knows of each thread, the beliefs are what it believes of
+/// each CPU, and the queue is who waits for a CPU.
 ///
-/// A thread waits where it is known to be runnable, no CPU is believed to run it, and no uncollected
-/// stamp names it. The queue holds those threads at all times, and no other. A thread that begins to
-/// wait goes last of its class; one that stops waiting leaves; one whose turn ended, as a preemption or
-/// a yield says, goes last of its class anew. One that waits already keeps its place, even where it is
-/// created once more and with another class, which no kernel sends. The queue has room for every
-/// thread of the view.
+/// A thread waits if it is known to be runnable, no CPU is believed to run it, and no uncollected stamp names
+/// it. The queue holds those threads at all times, and no other. A thread that begins to wait goes last of
+/// its class, and one that stops waiting leaves. One whose turn ended, as a preemption or a yield says, goes
+/// last of its class anew. One that waits already keeps its place, even if it is created once more and with
+/// another class, which no kernel sends. The queue has room for every thread of the view.
 #[derive(Drop)]
 pub struct Mind {
     view: AgentView,
@@ -54,13 +53,13 @@ impl Model for Mind {
 }
 
 impl Mind {
-    /// The mind of an agent that has heard nothing: no thread is known, nobody is believed to run on
-    /// any of so many CPUs, at most [`MOST_CPUS`], there is no stamp, and nobody waits. `agent` is the
-    /// agent's own CPU, `None` while it attaches.
+    /// Makes the mind of an agent that has heard nothing, on a machine of `cpus` CPUs, at most [`MOST_CPUS`].
+    /// No thread is known, nobody is believed to run on any CPU, there is no stamp, and nobody waits. `agent`
+    /// is the agent's own CPU, `None` while it attaches.
     ///
     /// # Errors
     ///
-    /// Where there is no memory for the beliefs.
+    /// If out of memory for the beliefs.
     pub fn new(alloc: Global, cpus: u16, agent: Option<u16>) -> Result<Mind, AllocError>
         requires { cpus ≤ MOST_CPUS }
         ensures { IfOk result (λ mind. mind ≡ nothing cpus agent) }
@@ -73,22 +72,22 @@ impl Mind {
         })
     }
 
-    /// What is known of each thread. It takes no memory.
+    /// Returns what is known of each thread. It does not allocate.
     pub fn view(&self) -> &AgentView
         ensures { result.now ≡ self.now.records }
     {
         &self.view
     }
 
-    /// What is believed of each CPU. It takes no memory.
+    /// Returns what is believed of each CPU. It does not allocate.
     pub fn beliefs(&self) -> &CpuBeliefs
         ensures { result.now ≡ self.now.cpus }
     {
         &self.cpus
     }
 
-    /// The tids of those who wait, each once: those of class 0 in the order in which they began to
-    /// wait, then those of class 1. It takes no memory.
+    /// Walks over the tids of those who wait, each once: those of class 0 in the order in which they began to
+    /// wait, then those of class 1. It does not allocate.
     pub fn waiting(&self) -> Walk<'_>
         ensures order { result ≡ order self.now.queue }
         ensures apart { Apart (order self.now.queue) }
@@ -97,22 +96,22 @@ impl Mind {
         self.queue.walk()
     }
 
-    /// Who is believed to run on a CPU, `None` for nobody and past the last CPU. It takes no memory.
+    /// Returns who is believed to run on a CPU, `None` for nobody and past the last CPU. It does not
+    /// allocate.
     pub fn believed(&self, cpu: u16) -> Option<Running>
         ensures { result ≡ believed_on self.now.cpus cpu }
     {
         self.cpus.believed(cpu)
     }
 
-    /// Takes a message in, and answers what it was to the view. Where it applied, the beliefs hear it,
-    /// and its thread begins to wait, goes on or stops; else nothing changes.
+    /// Takes a message in, and returns what it was to the view. If it applied, the beliefs hear it, and its
+    /// thread begins to wait, goes on or stops. Else nothing changes.
     ///
     /// # Errors
     ///
-    /// [`ApplyFault::Gap`] where messages about its thread are missing before it, and
-    /// [`ApplyFault::OutOfMemory`] where it creates a thread of which nothing is known, and there is no
-    /// memory for its record or for the queue. Nothing changes then, and the message can be taken in
-    /// later. No other message takes memory.
+    /// [`ApplyFault::Gap`] if messages about its thread are missing before it. [`ApplyFault::OutOfMemory`] if
+    /// it creates a thread of which nothing is known, and memory for its record or for the queue runs out.
+    /// Nothing changes then, and the message can be taken in later. No other message allocates.
     pub fn take_in(&mut self, message: MessageRef<'_>) -> Result<Taken, ApplyFault>
         ensures word { IfOk result (λ taken. word (look_up self.old.records) message.entry ≡ word_of taken) }
         ensures picture { OnOk result (picture_of self.new ≡ takes_in message.entry (picture_of self.old)) }
@@ -132,13 +131,13 @@ impl Mind {
     }
 
     /// Takes a page in, of threads that live: what it tells of them is known then, whatever was known of
-    /// them before. By rising tid, each of them is believed to run where the page says, and begins to
-    /// wait, goes on or stops; and so does whoever was believed to run there.
+    /// them before. In increasing order of tid, each of them is believed to run where the page says, and
+    /// begins to wait, goes on or stops. So does whoever was believed to run there.
     ///
     /// # Errors
     ///
-    /// Where there is no memory for the records of threads of which nothing was known, or for the queue.
-    /// Nothing changes then.
+    /// If out of memory for the records of threads of which nothing was known, or for the queue. Nothing
+    /// changes then.
     pub fn rebuild(&mut self, page: &Page) -> Result<(), AllocError>
         ensures picture { OnOk result (picture_of self.new ≡ after_page page.now.records (picture_of self.old)) }
         ensures unchanged { OnErr result (self.new ≡ self.old) }
@@ -149,16 +148,16 @@ impl Mind {
         Ok(())
     }
 
-    /// The agent's own CPU is this one from then on. What is known and believed stays, and so does who
-    /// waits. It takes no memory.
+    /// Makes this CPU the agent's own. What is known and believed stays, and so does who waits. It does not
+    /// allocate.
     pub fn move_to(&mut self, cpu: u16)
         ensures { self.new ≡ moved cpu self.old }
     {
         self.cpus.set_agent(Some(cpu));
     }
 
-    /// A thread was stamped for a CPU: it waits no more. The thread that an older stamp there named may
-    /// wait again. Past the last CPU no stamp is noted. It takes no memory.
+    /// Notes that a thread was stamped for a CPU: it waits no more. The thread that an older stamp there
+    /// named may wait again. Past the last CPU no stamp is noted. It does not allocate.
     pub fn stamp(&mut self, cpu: u16, tid: u32)
         ensures { self.new ≡ thinks self.old (after_stamp cpu tid (picture_of self.old)) }
     {
@@ -168,11 +167,11 @@ impl Mind {
         settle_if_any(&self.view, &self.cpus, &mut self.queue, older);
     }
 
-    /// The slot of a CPU is collected, with what was in it. Where its transaction landed, its outcome is
-    /// believed, and no stamp there is uncollected any more. That may make three threads wait, or wait
-    /// no more: the transaction's own, the one that the stamp there named, and the one that was believed
-    /// to run where the transaction's thread was found. Where the slot is idle, or its transaction has
-    /// not landed, nothing changes. It takes no memory.
+    /// Takes in the slot of a CPU that is collected, with what was in it. If its transaction landed, its
+    /// outcome is believed, and no stamp there is uncollected any more. That may make three threads wait, or
+    /// wait no more. They are the transaction's own, the one that the stamp there named, and the one that was
+    /// believed to run where the transaction's thread was found. If the slot is idle, or its transaction has
+    /// not landed, nothing changes. It does not allocate.
     pub fn collect(&mut self, cpu: u16, slot: SlotState)
         ensures { self.new ≡ thinks self.old (after_slot cpu slot (picture_of self.old)) }
     {
@@ -194,12 +193,12 @@ impl Mind {
         settle_if_any(&self.view, &self.cpus, &mut self.queue, displaced);
     }
 
-    /// What a policy plans by all that the agent has in mind, where the other class holds the CPUs of
+    /// Returns what a policy plans by all that the agent has in mind, if the other class holds the CPUs of
     /// `taken` and no other. Whatever the policy, its plan is safe to stamp. Nothing is changed.
     ///
     /// # Errors
     ///
-    /// Where there is no memory for the choices.
+    /// If out of memory for the choices.
     pub fn plan<P: Policy>(
         &self,
         alloc: Global,
@@ -213,16 +212,16 @@ impl Mind {
         policy.plan(alloc, &self.shown(taken))
     }
 
-    /// How many choices a policy's plan has by all that the agent has in mind, where the other class
-    /// holds the CPUs of `taken` and no other: as many as [`Mind::plan`] answers where there is memory.
-    /// It takes none. Nothing is changed.
+    /// Returns how many choices a policy's plan has by all that the agent has in mind, if the other class
+    /// holds the CPUs of `taken` and no other. They are as many as [`Mind::plan`] returns unless out of
+    /// memory. It does not allocate, and changes nothing.
     pub fn count<P: Counted>(&self, policy: &P, taken: Mask) -> usize
         ensures { result ≡ length (P.chosen policy.now (shown_in self.now (has taken))) }
     {
         policy.count(&self.shown(taken))
     }
 
-    /// What a policy is shown, where the other class holds the CPUs of `taken` and no other.
+    /// Returns what a policy is shown if the other class holds the CPUs of `taken` and no other.
     fn shown(&self, taken: Mask) -> Shown<'_>
         ensures { shows result ≡ shown_in self.now (has taken) }
     {

@@ -1,4 +1,4 @@
-//! A page's records taken in, once the view has loaded them.
+//! Taking in a page's records, once the view has loaded them.
 
 ghost use Rattle.std.specs.Prelude.{◌≡◌, ◌<◌, ◌≤◌, ◌∷◌, length, OnErr, OnOk};
 ghost use Rattle.std.specs.Option.{option_to_list};
@@ -16,12 +16,12 @@ use gs_runq::RunQueue;
 use gs_view::AgentView;
 use std::alloc::AllocError;
 
-/// Makes room in the queue for all threads that there may be, where a page tells of any. Who waits stays
-/// as it is.
+/// Makes room in the queue for all threads that there may be, if a page tells of any. Who waits stays as it
+/// is.
 ///
 /// # Errors
 ///
-/// Where there is no memory for the room.
+/// If out of memory for the room.
 pub(crate) fn make_room_for_page(queue: &mut RunQueue, page: &Page) -> Result<(), AllocError>
     ensures told { OnOk result (0 < length page.now.records → MOST_TIDS ≤ queue.new.room) }
     ensures waiting { bare queue.new ≡ bare queue.old }
@@ -33,7 +33,7 @@ pub(crate) fn make_room_for_page(queue: &mut RunQueue, page: &Page) -> Result<()
     Ok(())
 }
 
-/// Takes in the records of threads that the view knows, in order. It takes no memory.
+/// Takes in the records of threads that the view knows, in order. It does not allocate.
 pub(crate) fn take_records(
     view: &AgentView,
     cpus: &mut CpuBeliefs,

@@ -1,4 +1,4 @@
-//! The queue brought up to date with what is known and believed.
+//! Bringing the queue up to date with what is known and believed.
 
 ghost use Rattle.std.specs.Prelude.{◌≡◌, ◌≤◌, ℕ, None, is_some, true, if◌then◌else◌, option_map, IfErr, OnOk, OnErr};
 ghost use Rattle.gs_layout.specs.declared.known.Known.{Known};
@@ -21,7 +21,7 @@ use gs_view::{AgentView, ApplyFault};
 ///
 /// # Errors
 ///
-/// [`ApplyFault::OutOfMemory`] where there is no memory for the room. No other message takes any.
+/// [`ApplyFault::OutOfMemory`] if out of memory for the room. No other message takes any.
 pub(crate) fn make_room(
     view: &AgentView,
     queue: &mut RunQueue,
@@ -33,20 +33,21 @@ pub(crate) fn make_room(
     ensures memory { OnErr result (begins (look_up view.now) message.now ≡ true) }
     ensures fault { IfErr result (λ fault. fault ≡ ApplyFault.OutOfMemory) }
 {
-    if queue.room() < MOST_TIDS && is_begun_by(view, message) && queue.reserve(MOST_TIDS).is_err() {
-        return Err(ApplyFault::OutOfMemory);
+    if queue.room() < MOST_TIDS && is_begun_by(view, message) {
+        queue.reserve(MOST_TIDS)?;
     }
     Ok(())
 }
 
-/// Whether a message begins a record of the view: it creates a thread of which nothing is known.
+/// Tells whether a message begins a record of the view: it creates a thread of which nothing is known.
 fn is_begun_by(view: &AgentView, message: &MessageRef<'_>) -> bool
     ensures { result ≡ begins (look_up view.now) message.now }
 {
     matches!(message.kind(), Kind::Created) && view.get(message.tid()).is_none()
 }
 
-/// The class of a thread that waits, `None` where it does not. The CPUs are asked first, of which there are few.
+/// Returns the class of a thread that waits, `None` if it does not. The CPUs are asked first, of which there
+/// are few.
 fn waiting_class(view: &AgentView, cpus: &CpuBeliefs, tid: u32) -> Option<Class>
     ensures { result ≡ (if waits (look_up view.now) cpus.now tid then option_map (λ (k : Known). k.facts.class) (look_up view.now tid) else None) }
 {
@@ -58,7 +59,7 @@ fn waiting_class(view: &AgentView, cpus: &CpuBeliefs, tid: u32) -> Option<Class>
 }
 
 /// Puts a thread that begins to wait last of its class, and takes one that does not wait out. One that
-/// waits already keeps its place. It takes no memory.
+/// waits already keeps its place. It does not allocate.
 #[tactic(auto, using(crate::proofs::Rooms::room_settled))]
 pub(crate) fn settle(view: &AgentView, cpus: &CpuBeliefs, queue: &mut RunQueue, tid: u32)
     requires { HasRoom (look_up view.now) queue.old }
@@ -75,7 +76,7 @@ pub(crate) fn settle(view: &AgentView, cpus: &CpuBeliefs, queue: &mut RunQueue, 
     }
 }
 
-/// The same of a thread, where there is one.
+/// Does the same of a thread, if there is one.
 pub(crate) fn settle_if_any(
     view: &AgentView,
     cpus: &CpuBeliefs,
@@ -91,7 +92,7 @@ pub(crate) fn settle_if_any(
     }
 }
 
-/// The thread that is believed to run on a CPU, where there is one.
+/// Returns the thread that is believed to run on a CPU, if there is one.
 pub(crate) fn running_on(cpus: &CpuBeliefs, cpu: Option<u16>) -> Option<u32>
     ensures { result ≡ displaced cpus.now cpu }
 {
@@ -99,7 +100,7 @@ pub(crate) fn running_on(cpus: &CpuBeliefs, cpu: Option<u16>) -> Option<u32>
     Some(running.tid)
 }
 
-/// A thread, where there is one that is another than this one.
+/// Returns the found thread, if there is one and it is another than this one.
 pub(crate) fn other_than(tid: u32, found: Option<u32>) -> Option<u32>
     ensures { result ≡ other_than tid found }
 {
@@ -107,7 +108,7 @@ pub(crate) fn other_than(tid: u32, found: Option<u32>) -> Option<u32>
 }
 
 /// Brings the queue up to date after a message that view and beliefs took in: its thread is settled, and
-/// goes last anew where its turn ended.
+/// goes last anew if its turn ended.
 pub(crate) fn requeue(
     view: &AgentView,
     cpus: &CpuBeliefs,
@@ -128,7 +129,7 @@ pub(crate) fn requeue(
     settle(view, cpus, queue, tid);
 }
 
-/// Whether a message ends its thread's turn, though it may go on waiting.
+/// Tells whether a message ends its thread's turn, though it may go on waiting.
 fn ends_turn(message: &MessageRef<'_>) -> bool
     ensures { result ≡ ends_own_turn message.now }
 {

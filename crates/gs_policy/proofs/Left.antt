@@ -100,7 +100,7 @@ choice_spent l t (Some k) s =
     ap (λ (z : Option ℕ). placed t z (least (is_open (takes_in l k.facts.class) k []) 64)) (least_spent (has l.free) k s.free)
     ∙ ap (λ (z : Option ℕ). placed t None z) (least_spent (takes_in l k.facts.class) k (s.busy k.facts.class))
 
--- where none is left nothing is chosen
+-- if none is left nothing is chosen
 pub planned_spent : (l : Candidates) (v : Look) (ts : List ℕ) → are_spent l ≡ true → planned_of l v [] ts ≡ []
 planned_spent l v [] e = refl
 planned_spent l v (t ∷ ts) e = ap (λ (ys : List Choice). planned_of l v ys ts) (choice_spent l t (v t) (spent_none l e)) ∙ planned_spent l v ts e
@@ -140,7 +140,7 @@ picked_free l v t k c known free =
     sym (ap (λ (z : Option ℕ). placed t z (least (is_open (takes_in l k.facts.class) k []) 64)) (least_open (has l.free) k (Some c) free))
     ∙ picked_known l v t k known
 
--- where there is none, one that it may take from somebody, if there is one
+-- if there is none, one that it may take from somebody, if there is one
 pub picked_busy : (l : Candidates) (v : Look) (t : ℕ) (k : Known) (busy : ℕ) (o : Option ℕ) → Some k ≡ v t
     → None ≡ least (λ i. has l.free i && has k.facts.mask i) 64 → busy ≡ busy_for l k.facts.class → o ≡ least (λ i. has busy i && has k.facts.mask i) 64
     → placed t None o ≡ picked l v t
@@ -149,7 +149,7 @@ picked_busy l v t k busy o known none is taken =
     ∙ ap (placed t None) (least_open (takes_in l k.facts.class) k o (taken ∙ ap (λ (m : ℕ). least (λ i. has m i && has k.facts.mask i) 64) is)))
     ∙ picked_known l v t k known
 
--- among 64 CPUs or among those that there are, where none passes past the last
+-- among 64 CPUs or among those that there are, if none passes past the last
 record AreSame (n : ℕ) (f g : ℕ → Bool) (p q : Class → ℕ → Bool) : Type 0 where
   most : n ≤ 64
   free : (c : ℕ) → f c ≡ g c

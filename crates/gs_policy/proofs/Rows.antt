@@ -46,7 +46,7 @@ taken_runs : plan (class_one_after 0) (seen ((1, known 3 One) ∷ (2, known 3 Ze
 unfolding known cpus seen running least
 taken_runs = refl
 
--- nobody is preempted where the first come first
+-- nobody is preempted if the first come first
 first_waits : plan nobody (seen ((1, known 3 One) ∷ (2, known 3 Zero) ∷ []) (cpus (None ∷ running 1 9 ∷ []) (None ∷ None ∷ [])) 0 (2 ∷ [])) ≡ []
 unfolding known cpus seen running least
 first_waits = refl
@@ -72,7 +72,7 @@ one_preempts : plan (class_one_after 2) (seen ((1, known 2 One) ∷ (2, known 2 
 unfolding known cpus seen running least
 one_preempts = refl
 
--- a free CPU comes before one that is taken from somebody, also where it is greater
+-- a free CPU comes before one that is taken from somebody, also if it is greater
 free_first : plan (class_one_after 0) (seen ((1, known 6 One) ∷ (2, known 6 Zero) ∷ []) (cpus (None ∷ running 1 0 ∷ None ∷ []) (None ∷ None ∷ None ∷ [])) 0 (2 ∷ []))
     ≡ record { cpu = 2; tid = 2; preempt = false } ∷ []
 unfolding known cpus seen running least

@@ -12,7 +12,7 @@ use Rattle.gs_policy.specs.Plan.{Taking, choice, is_open, nobody, placed, plan, 
 use Rattle.gs_policy.specs.Shown.{Shown}
 use Rattle.gs_policy.proofs.Left.{choice_one, few_behind}
 
--- who is placed where nobody makes way is placed on a free CPU
+-- if nobody makes way, a thread that is placed is placed on a free CPU
 placed_free : (t : ℕ) (free taken busy : Option ℕ) → taken ≡ None → length (placed t free taken) ≡ 1 → placed t free busy ≡ placed t free taken
 placed_free t (Some c) taken busy is one = refl
 placed_free t None taken busy is one =
@@ -35,6 +35,6 @@ served n f p q v xs (t ∷ ts) none all =
     ap (λ (ys : List Choice). planned n f p v (xs ++ ys) ts) (same_choice n f p q xs t (v t) none one)
     ∙ served n f p q v (xs ++ choice n f q xs t (v t)) ts none (omega (arith, all, one, length-append xs (choice n f q xs t (v t))))
 
--- where the plan that preempts nobody has a choice for each thread that waits, it is the plan, whoever may be preempted
+-- if the plan that preempts nobody has a choice for each thread that waits, it is the plan, whoever may be preempted
 pub plan_served : (may_take : Taking) (s : Shown) → length (plan nobody s) ≡ length s.queue → plan nobody s ≡ plan may_take s
 plan_served may_take s all = sym (served (length s.cpus.believed) (is_free s.cpus s.taken) (may_take s) (nobody s) s.view [] s.queue (λ class c. refl) (omega (arith, all)))

@@ -38,8 +38,8 @@ placed t (Some c) o = record { cpu = c; tid = t; preempt = false } ∷ []
 placed t None (Some c) = record { cpu = c; tid = t; preempt = true } ∷ []
 placed t None None = []
 
--- the choice of a thread after those of a plan, where there are so many CPUs: the least that is free, or else the least that a
--- thread of its class may take from somebody
+-- the choice of a thread after those of a plan, of so many CPUs. It takes the least that is free, or else the least that a thread of its class may
+-- take from somebody
 abbrev pub choice : ℕ → (ℕ → Bool) → (Class → ℕ → Bool) → List Choice → ℕ → Option Known → List Choice
 choice count free may_take xs t None = []
 choice count free may_take xs t (Some k) = placed t (least (is_open free k xs) count) (least (is_open (may_take k.facts.class) k xs) count)

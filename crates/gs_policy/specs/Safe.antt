@@ -12,8 +12,8 @@ abbrev pub allows : Option Known → ℕ → Bool
 allows None c = false
 allows (Some k) c = has k.facts.mask c
 
--- a choice of a thread that waits, for a usable CPU that the thread's mask allows, with leave to preempt just where somebody is
--- believed to run there
+-- a choice of a thread that waits, for a usable CPU that the thread's mask allows. It has leave to preempt exactly if somebody is believed to run
+-- there
 pub record IsSafeChoice (s : Shown) (x : Choice) : Type 0 where
   pub waits : is_in x.tid s.queue ≡ true
   pub usable : is_usable s.cpus s.taken x.cpu ≡ true

@@ -6,7 +6,7 @@ use crate::shown::Shown;
 use crate::two_class::TwoClass;
 use std::alloc::{AllocError, Global};
 
-/// Either policy, where which one it is is known only as the program runs.
+/// Either policy, of which the program knows only as it runs which one it is.
 #[derive(Clone, Copy, PartialEq, Eq, Debug)]
 pub enum AnyPolicy {
     FirstCome(FirstCome),

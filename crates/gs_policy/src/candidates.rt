@@ -20,13 +20,13 @@ use gs_view::AgentView;
 pub struct Candidates {
     /// The CPUs that any thread may use.
     pub free: Mask,
-    /// The CPUs that a thread of class 0 may take from somebody, where none is free for it.
+    /// The CPUs that a thread of class 0 may take from somebody, if none is free for it.
     pub zero_class: Mask,
     /// The same of a thread of class 1.
     pub one_class: Mask,
 }
 
-/// The least CPU that is in both sets.
+/// Returns the least CPU that is in both sets.
 #[tactic(auto, using(gs_status::proofs::Laws::least_same))]
 fn least_of(one: Mask, other: Mask) -> Option<u16>
     ensures least { result ≡ least (λ c. has one c && has other c) MOST_CPUS }
@@ -36,8 +36,8 @@ fn least_of(one: Mask, other: Mask) -> Option<u16>
 }
 
 impl Candidates {
-    /// The free CPUs of what is shown, and these, which a thread of class 0 and one of class 1 may take
-    /// from somebody. It takes no memory.
+    /// Gathers the free CPUs of what is shown, and these, which a thread of class 0 and one of class 1 may
+    /// take from somebody. It does not allocate.
     ///
     /// What is planned among them is the plan by any test that has them so, if it has only usable CPUs
     /// on which somebody is believed to run.
@@ -53,14 +53,14 @@ impl Candidates {
         }
     }
 
-    /// Whether no CPU can be chosen any more.
+    /// Returns whether no CPU can be chosen any more.
     pub fn are_spent(self) -> bool
         ensures { result ≡ are_spent self }
     {
         self.free.is_empty() && self.zero_class.is_empty() && self.one_class.is_empty()
     }
 
-    /// The CPUs that a thread of a class may take from somebody.
+    /// Returns the CPUs that a thread of a class may take from somebody.
     fn busy_for(self, class: Class) -> Mask
         ensures { result ≡ busy_for self class }
     {
@@ -70,7 +70,7 @@ impl Candidates {
         }
     }
 
-    /// All of them but a CPU.
+    /// Returns all of them but a CPU.
     fn without(self, cpu: u16) -> Candidates
         requires { cpu < MOST_CPUS }
         ensures free { (c : ℕ) → has result.free c ≡ (has self.free c && not (cpu == c)) }
@@ -83,7 +83,7 @@ impl Candidates {
         }
     }
 
-    /// The choice of a thread among them, if it has one.
+    /// Returns the choice of a thread among them, if it has one.
     #[tactic(auto, using(crate::proofs::Left::picked_unknown, crate::proofs::Left::picked_free, crate::proofs::Left::picked_busy))]
     fn pick(self, view: &AgentView, tid: u32) -> Option<Choice>
         ensures pick { option_to_list result ≡ picked self (look_up view.now) tid }
@@ -106,7 +106,8 @@ impl Candidates {
         })
     }
 
-    /// The choice of a thread among them, if it has one, which uses its CPU up. It takes no memory.
+    /// Takes out the CPU that a thread chooses among them, and returns the choice, or `None` if it has none.
+    /// It does not allocate.
     pub fn take(&mut self, view: &AgentView, tid: u32) -> Option<Choice>
         ensures choice { option_to_list result ≡ picked self.old (look_up view.now) tid }
         ensures left { AreLeft self.old self.new (picked self.old (look_up view.now) tid) }

@@ -10,7 +10,7 @@ use gs_layout::Class;
 use gs_status::Mask;
 use gs_view::AgentView;
 
-/// Whether a thread is known, and of class 1.
+/// Returns whether a thread is known, and of class 1.
 fn is_class_one(view: &AgentView, tid: u32) -> bool
     ensures { result ≡ is_known_one (look_up view.now tid) }
 {
@@ -20,7 +20,7 @@ fn is_class_one(view: &AgentView, tid: u32) -> bool
     known.facts.class == Class::One
 }
 
-/// Whether a CPU is believed to run a thread of class 1 that has had so many ticks. The view is asked
+/// Returns whether a CPU is believed to run a thread of class 1 that has had so many ticks. The view is asked
 /// last, since that is a search.
 fn has_had(shown: &Shown<'_>, ticks: u16, cpu: u16) -> bool
     ensures { result ≡ has_had ticks (look_up shown.now.view.now) (believed_on shown.now.cpus.now cpu) }
@@ -31,8 +31,8 @@ fn has_had(shown: &Shown<'_>, ticks: u16, cpu: u16) -> bool
     ticks <= running.ticks && is_class_one(shown.view, running.tid)
 }
 
-/// Those of a set of CPUs that are believed to run a thread of class 1 that has had at least so many
-/// ticks. It takes no memory, and looks at no CPU that is not in the set.
+/// Returns those of a set of CPUs that are believed to run a thread of class 1 that has had at least so many
+/// ticks. It does not allocate, and looks at no CPU that is not in the set.
 #[tactic(auto, using(gs_beliefs::proofs::Laws::fewer_left, crate::proofs::Gathered::gathered_more, crate::proofs::Gathered::gathered_all))]
 pub(crate) fn those_that_have_had(shown: &Shown<'_>, ticks: u16, cpus: Mask) -> Mask
     ensures { (c : ℕ) → has result c ≡ (has cpus c && has_had ticks (look_up shown.now.view.now) (believed_on shown.now.cpus.now c)) }
@@ -46,8 +46,8 @@ pub(crate) fn those_that_have_had(shown: &Shown<'_>, ticks: u16, cpus: Mask) -> 
     found
 }
 
-/// The usable CPUs that are believed to run a thread of class 1 that has had at least so many ticks. It
-/// takes no memory.
+/// Returns the usable CPUs that are believed to run a thread of class 1 that has had at least so many ticks.
+/// It does not allocate.
 pub fn class_one_cpus(shown: &Shown<'_>, ticks: u16) -> Mask
     ensures { (c : ℕ) → has result c ≡ runs_one ticks (shows shown.now) c }
 {

@@ -4,12 +4,12 @@ ghost use Rattle.gs_policy.specs.Shown.{shows};
 use crate::policy::Policy;
 use crate::shown::Shown;
 
-/// A policy that can tell how many choices its plan has, without taking memory for them.
+/// A policy that can tell how many choices its plan has, without allocating them.
 ///
-/// It is for whoever has to know, where [`Policy::plan`] finds no memory for the choices, how many there
-/// would have been: whether the plan would have fitted in the room that there is for it.
+/// It is for whoever has to know, if [`Policy::plan`] is out of memory for the choices, how many there would
+/// have been. So it is known whether the plan would have fitted in the room that there is for it.
 pub trait Counted: Policy {
-    /// How many choices the plan has. It takes no memory, and nothing is changed.
+    /// Returns how many choices the plan has. It does not allocate, and changes nothing.
     fn count(&self, shown: &Shown<'_>) -> usize
         ensures { result ≡ length (Self.chosen self.now (shows shown.now)) };
 }

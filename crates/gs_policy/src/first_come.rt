@@ -12,12 +12,12 @@ use crate::walk::{count_among, plan_among};
 use gs_status::Mask;
 use std::alloc::{AllocError, Global};
 
-/// The waiting threads, in order, take the free CPUs: each the least one of its mask that the plan
-/// has not used yet, and none where there is no such CPU. Nobody is preempted.
+/// The waiting threads, in order, take the free CPUs. Each takes the least one of its mask that the plan has
+/// not used yet, or none if there is no such CPU. Nobody is preempted.
 #[derive(Clone, Copy, PartialEq, Eq, Debug)]
 pub struct FirstCome;
 
-/// The free CPUs alone: the plan among them is this policy's.
+/// Returns the free CPUs alone: the plan among them is this policy's.
 pub(crate) fn free_alone(shown: &Shown<'_>) -> Candidates
     ensures { plan_among result (shows shown.now) ≡ plan nobody (shows shown.now) }
 {

@@ -7,10 +7,9 @@ use std::alloc::{AllocError, Global};
 
 /// How an agent chooses who runs where.
 ///
-/// A policy decides by what it is shown: what the agent knows of each thread, whom it believes to run on
-/// each CPU, which CPUs the other class holds, and who waits, in order. Its plan is a function of these,
-/// `chosen`, which is the policy's own; whatever it is, `safe` says that an agent may stamp it as it
-/// stands.
+/// A policy decides by what it is shown. That is what the agent knows of each thread, whom it believes to run
+/// on each CPU, which CPUs the other class holds, and who waits, in order. Its plan is a function of these,
+/// `chosen`, which is the policy's own. Whatever it is, `safe` says that an agent may stamp it as it stands.
 pub trait Policy {
     ghost use Rattle.std.specs.Prelude.{List};
     ghost use Rattle.gs_runq.specs.Queue.{Apart};
@@ -21,11 +20,11 @@ pub trait Policy {
     /// The plan: what it chooses by what it is shown.
     ghost chosen: { Self → Shown → List Choice };
 
-    /// The choices, in the order in which they were made. Nothing is changed.
+    /// Returns the choices, in the order in which they were made. It changes nothing.
     ///
     /// # Errors
     ///
-    /// Where there is no memory for the choices.
+    /// `AllocError` if out of memory for the choices.
     fn plan(&self, alloc: Global, shown: &Shown<'_>) -> Result<Vec<Choice>, AllocError>
         ensures { IfOk result (λ r. r.items ≡ chosen self.now (shows shown.now)) };
 

@@ -5,7 +5,7 @@ use gs_view::AgentView;
 
 /// What a policy is shown: all that its plan may depend on.
 ///
-/// It borrows what an agent has in mind. Where two of these are the same, so is the plan.
+/// It borrows what an agent has in mind. If two of these are the same, so is the plan.
 #[derive(Clone, Copy)]
 pub struct Shown<'a> {
     /// What the agent knows of each thread.

@@ -13,17 +13,17 @@ use crate::shown::Shown;
 use crate::walk::{count_among, plan_among, serve_all};
 use std::alloc::{AllocError, Global};
 
-/// The waiting threads, in order, take the free CPUs as under [`FirstCome`](crate::FirstCome). Where
-/// none is left for a thread, it may take the least other CPU of its mask from a thread of class 1: a
-/// thread of class 0 at once, a thread of class 1 where that thread has had at least `slice` ticks.
+/// The waiting threads, in order, take the free CPUs as under [`FirstCome`](crate::FirstCome). If none is
+/// left for a thread, it may take the least other CPU of its mask from a thread of class 1. A thread of class
+/// 0 may do so at once, and a thread of class 1 if that thread has had at least `slice` ticks.
 #[derive(Clone, Copy, PartialEq, Eq, Debug)]
 pub struct TwoClass {
     pub slice: u16,
 }
 
 impl TwoClass {
-    /// The free CPUs, and those that a thread of each class may take from one of class 1: the plan among
-    /// them is this policy's. Where the free CPUs serve all that wait, no other CPU is looked at.
+    /// Returns the free CPUs, and those that a thread of each class may take from one of class 1: the plan
+    /// among them is this policy's. If the free CPUs serve all that wait, no other CPU is looked at.
     fn candidates(&self, shown: &Shown<'_>) -> Candidates
         ensures { plan_among result (shows shown.now) ≡ plan (class_one_after self.now.slice) (shows shown.now) }
     {

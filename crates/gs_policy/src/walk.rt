@@ -50,7 +50,7 @@ impl<'a> Iterator for Choices<'a> {
     }
 }
 
-/// The choices of all that wait. There are no more of them than threads.
+/// Walks the choices of all that wait. There are no more of them than threads.
 #[tactic(auto, using(crate::proofs::Left::planned_few))]
 fn choose<'a>(shown: &Shown<'a>, all: Candidates) -> Choices<'a>
     ensures choices { result ≡ plan_among all (shows shown.now) }
@@ -63,16 +63,16 @@ fn choose<'a>(shown: &Shown<'a>, all: Candidates) -> Choices<'a>
     }
 }
 
-/// The choices of the waiting threads among these CPUs, one thread after another: each takes the least
-/// free one of its mask, or else the least one of its mask that its class may take from somebody, and
+/// Returns the choices of the waiting threads among these CPUs, one thread after another. Each takes the
+/// least free one of its mask, or else the least one of its mask that its class may take from somebody, and
 /// so uses that CPU up. A thread that is unknown, or for which no CPU is left, has no choice.
 ///
-/// The walk ends as soon as no CPU is left. There are no more choices than CPUs or threads, and memory
-/// for them is taken once.
+/// The walk ends as soon as no CPU is left. There are no more choices than CPUs or threads, and they are
+/// allocated at once.
 ///
 /// # Errors
 ///
-/// Where there is no memory for the choices.
+/// `AllocError` if out of memory for the choices.
 pub fn plan_among(
     alloc: Global,
     shown: &Shown<'_>,
@@ -86,7 +86,7 @@ pub fn plan_among(
     Ok(plan)
 }
 
-/// How many choices [`plan_among`] makes of these CPUs. It takes no memory.
+/// Returns how many choices [`plan_among`] makes of these CPUs. It does not allocate.
 pub fn count_among(shown: &Shown<'_>, all: Candidates) -> usize
     ensures { result ≡ length (plan_among all (shows shown.now)) }
 {
@@ -95,8 +95,8 @@ pub fn count_among(shown: &Shown<'_>, all: Candidates) -> usize
     choose(shown, all).count()
 }
 
-/// Whether these CPUs serve all that wait: each has a choice among them. It takes no memory, and goes
-/// through no more threads than there may be CPUs.
+/// Returns whether these CPUs serve all that wait: each has a choice among them. It does not allocate, and
+/// goes through no more threads than there may be CPUs.
 pub(crate) fn serve_all(shown: &Shown<'_>, all: Candidates) -> bool
     ensures { result ≡ true → length (plan_among all (shows shown.now)) ≡ length (shows shown.now).queue }
 {

@@ -32,7 +32,7 @@ use Rattle.gs_reader.proofs.Ranges.{Fit, fit_from, numbered_is, zeros_pass}
 reads : (n x : ℕ) → x < 256 ^ n → little_number n (little_bytes n x ++ []) ≡ x
 reads n x lt = little_number-reads_back n x [] lt
 
--- what bytes are read as whose front is right
+-- what bytes are read as if their front is right
 pub reads_as : (bytes : List ℕ) (n : ℕ) (o : Option Kind) (text : List ℕ) → front_fault bytes ≡ None → length_in bytes ≡ n → kind_numbered (kind_number_in bytes) ≡ o → take n bytes ≡ text
     → read bytes ≡ with_length n (item_in o text)
 reads_as bytes n o text front len kind same =

@@ -1,4 +1,4 @@
--- Reading is the spelling backwards, and each fault stands where the order puts it.
+-- Reading is the spelling backwards, and each fault is returned exactly if it is the first in the order.
 use Rattle.std.proofs.Common.{◌≡◌, Bool, true, false, cond, ℕ, ◌≤◌, Option, None, Some, Result, Ok, Err, List, ◌++◌, length, take, drop, refl, ap, sym, subst, ◌∙◌, arith}
 use Rattle.std.specs.Prelude.{◌==◌, IfOk, IfErr}
 use Rattle.std.specs.List.{list_all}
@@ -78,7 +78,7 @@ found_item bytes items.Pad k h =
 pub is_read : (bytes : List ℕ) (r : Item × ℕ) → IsRead bytes r → read bytes ≡ ok_read r
 is_read bytes r h = found_item bytes r.0 r.1 h
 
--- a fault of the front stands where the front has it
+-- a fault of the front is the fault that the front has
 front_is : (bytes : List ℕ) (f : ReadFault) → front_fault bytes ≡ Some f → IsFault bytes f
 front_is bytes Short e = e
 front_is bytes BadKind e = e
@@ -105,7 +105,7 @@ fault_behind bytes None f front e whole =
 pub is_fault : (bytes : List ℕ) (f : ReadFault) → read bytes ≡ err_read f → IsFault bytes f
 is_fault bytes f e = fault_behind bytes (front_fault bytes) f refl e e
 
--- and where it stands it is answered
+-- and a fault that is the first is returned
 front_read : (bytes : List ℕ) (f : ReadFault) → front_fault bytes ≡ Some f → read bytes ≡ err_read f
 front_read bytes f e = ap (λ (o : Option ReadFault). read_behind o bytes) e
 

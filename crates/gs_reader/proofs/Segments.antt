@@ -23,7 +23,7 @@ step_again x y bytes (Ok r) e long a b again =
     let size = size_read bytes r e in
     ap (step (Ok r)) (again (drop r.1 bytes) (omega (arith, length-drop r.1 bytes, size.0)) (omega (arith, length-drop r.1 bytes, size.0)))
 
--- it does not matter how many items are allowed, where they are enough
+-- it does not matter how many items are allowed, if they are enough
 enough : (x y : ℕ) (bytes : List ℕ) → length bytes ≤ x → length bytes ≤ y → items_of x bytes ≡ items_of y bytes
 unfolding items_of
 enough zero zero bytes a b = refl

@@ -209,7 +209,7 @@ sound_kind kinds.Dead text w f = sound_dead text w f
 sound_kind kinds.Affinity text w f = sound_affinity text w f
 sound_kind kinds.TimerTick text w f = sound_tick text w f
 
--- bytes whose fields are in range are the spelling of the message that they name, which has a spelling
+-- bytes whose fields are in range are the spelling of the message that they name, and that message has a spelling
 pub sound : (k : Kind) (text : List ℕ) → IsBytes text → IsWhole (Some k) text → fields_fit k text ≡ true → IsRef text
 sound k text fits w e =
     let is = sound_kind k text (named k text fits w) (fit_parts k text e) in

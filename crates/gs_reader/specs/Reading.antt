@@ -26,8 +26,7 @@ IsSpelled Pad text = IsPadSize (length text) × (text ≡ pad (length text))
 abbrev pub IsRead : List ℕ → Item × ℕ → Type 0
 IsRead bytes read = (read.1 ≤ length bytes) × IsSpelled read.0 (take read.1 bytes)
 
--- where each fault stands: the first that applies. A field is bad where all else is right and yet the
--- bytes begin with no spelling.
+-- when each fault is returned: it is the first that applies. A field is bad if all else is right and yet the bytes begin with no spelling.
 abbrev pub IsFault : List ℕ → ReadFault → Type 0
 IsFault bytes BadField = (front_fault bytes ≡ None) × ((read : Item × ℕ) → IsRead bytes read → ⊥)
 IsFault bytes f = front_fault bytes ≡ Some f
@@ -72,7 +71,7 @@ abbrev pub item_in : Option Kind → List ℕ → Result Item ReadFault
 item_in None text = if list_all (λ b. b == 0) (drop 4 text) then Ok Pad else Err BadField
 item_in (Some k) text = if fields_fit k text then Ok (Message (message_in text)) else Err BadField
 
--- these bytes have the length that they name, which is one of the kind's; they name the kind, or a PAD
+-- these bytes have the length that they name, which is one of the kind's, and they name the kind, or a PAD
 pub record IsWhole (o : Option Kind) (text : List ℕ) : Type 0 where
   pub kind : kind_numbered (kind_number_in text) ≡ o
   pub known : is_kind (kind_number_in text) ≡ true
@@ -87,7 +86,6 @@ abbrev pub read_behind : Option ReadFault → List ℕ → Result (Item × ℕ) 
 read_behind (Some f) bytes = Err f
 read_behind None bytes = with_length (length_in bytes) (item_in (kind_numbered (kind_number_in bytes)) (take (length_in bytes) bytes))
 
--- what the bytes begin with and how many bytes that has, or the first fault; `read_one` says that this
--- is the spelling backwards
+-- what the bytes begin with and how many bytes that has, or the first fault. `read_one` says that this is the spelling backwards
 abbrev pub read : List ℕ → Result (Item × ℕ) ReadFault
 read bytes = read_behind (front_fault bytes) bytes

@@ -31,7 +31,7 @@ items_of zero bytes = []
 items_of (suc most) [] = []
 items_of (suc most) (b ∷ bytes) = step (read (b ∷ bytes)) (items_of most (drop (taken (read (b ∷ bytes))) (b ∷ bytes)))
 
--- what is read of a segment, to its end; no item is without bytes
+-- what is read of a segment, to its end. No item is without bytes
 abbrev pub segment : List ℕ → Found
 segment bytes = items_of (length bytes) bytes
 

@@ -1,7 +1,7 @@
 use thiserror::Error;
 
-/// Why bytes do not begin with a message or a PAD: the first of these that applies, in the order
-/// `Short` for fewer than 4 bytes, `BadKind`, `BadLength`, `Short`, `BadField`.
+/// Why bytes do not begin with a message or a PAD: the first of these that applies. The order is `Short` for
+/// fewer than 4 bytes, `BadKind`, `BadLength`, `Short` for fewer bytes than the length says, `BadField`.
 #[derive(Clone, Copy, PartialEq, Eq, Debug, Error)]
 pub enum ReadFault {
     #[error("fewer than 4 bytes, or fewer than the length says")]

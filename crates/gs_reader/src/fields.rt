@@ -79,7 +79,7 @@ fn more_fits(kind: Kind, text: &[u8]) -> bool
     }
 }
 
-/// Whether each field of a message of this kind is in its range.
+/// Returns whether each field of a message of this kind is in its range.
 pub(crate) fn fields_fit(kind: Kind, text: &[u8]) -> bool
     requires { least kind ≤ length text.now }
     ensures { result ≡ fields_fit kind text.now }

@@ -4,8 +4,8 @@ ghost use Rattle.gs_reader.specs.declared.item.Item.{Item};
 ghost use Rattle.gs_reader.specs.Reading.{IsFault, IsSpelled};
 ghost use Rattle.gs_reader.specs.Records.{item_then, segment};
 
-/// What is read of a segment: of the spelling of a message that message, of a PAD nothing, and then
-/// what is read of the bytes after it; of a fault that fault alone; of no bytes nothing. It does
+/// States what is read of a segment. Of no bytes nothing is read, and of a fault that fault alone. A
+/// message's spelling is read as the message, a PAD as nothing, and then the bytes after it are read. It does
 /// nothing when it runs.
 pub fn segment_law()
     ensures item { (item : Item) (text rest : List ℕ) → IsSpelled item text → segment (text ++ rest) ≡ item_then item (segment rest) }

@@ -30,7 +30,7 @@ impl<'a> Model for MessageRef<'a> {
 }
 
 impl<'a> MessageRef<'a> {
-    /// The message whose spelling these bytes are.
+    /// Returns the message whose spelling these bytes are.
     pub(crate) fn over(bytes: &'a [u8]) -> MessageRef<'a>
         requires { IsRef bytes.now }
         ensures { result ≡ message_in bytes.now }
@@ -38,8 +38,8 @@ impl<'a> MessageRef<'a> {
         MessageRef { bytes }
     }
 
-    /// The message whose spelling all of these bytes are. It looks at none of them, so it is for bytes that
-    /// are known to be one, as a ring knows of those that it wrote. For any other bytes there is
+    /// Returns the message whose spelling all of these bytes are. It looks at none of them, so it is for
+    /// bytes that are known to be one, as a ring knows of those that it wrote. For any other bytes there is
     /// [`read_one`](crate::read_one).
     pub fn spelled(bytes: &'a [u8]) -> MessageRef<'a>
         requires { (m : Message) × IsSpellable m × (bytes.now ≡ spelling m) }
@@ -48,14 +48,14 @@ impl<'a> MessageRef<'a> {
         MessageRef::over(bytes)
     }
 
-    /// The same message once more.
+    /// Returns the same message once more, over the same bytes.
     pub fn again(&self) -> MessageRef<'a>
         ensures { result ≡ self.now }
     {
         MessageRef { bytes: self.bytes }
     }
 
-    /// The bytes of the message, which are its spelling.
+    /// Lends the bytes of the message, which are its spelling.
     pub fn as_bytes(&self) -> &'a [u8]
         ensures value { result.now ≡ spelling self.now }
         ensures spellable { IsSpellable self.now }
@@ -63,78 +63,78 @@ impl<'a> MessageRef<'a> {
         self.bytes
     }
 
-    /// What kind of message it is.
+    /// Returns the kind of the message.
     pub fn kind(&self) -> Kind
         ensures { result ≡ kind_of self.now }
     {
         gs_layout::kind_of(self.bytes)
     }
 
-    /// The thread that it is about, 0 for a tick.
+    /// Returns the thread that it is about, 0 for a tick.
     pub fn tid(&self) -> u32
         ensures { result ≡ tid_of self.now }
     {
         gs_layout::tid_of(self.bytes)
     }
 
-    /// Its sequence number, 0 for a tick.
+    /// Returns its sequence number, 0 for a tick.
     pub fn tseq(&self) -> u32
         ensures { result ≡ tseq_of self.now }
     {
         gs_layout::tseq_of(self.bytes)
     }
 
-    /// The CPU that the thread was on just before, or the CPU of a tick.
+    /// Returns the CPU that the thread was on just before, or the CPU of a tick.
     pub fn cpu(&self) -> Option<u16>
         ensures { result ≡ cpu_of self.now }
     {
         gs_layout::cpu_of(self.bytes)
     }
 
-    /// Bit 0 of a creation says that the thread is runnable, of a new mask that the thread was taken off
-    /// its CPU. All else is 0.
+    /// Returns the flags. Bit 0 of a creation says that the thread is runnable. Bit 0 of a new mask says that
+    /// the thread was taken off its CPU. All else is 0.
     pub fn flags(&self) -> u16
         ensures { result ≡ flags_of self.now }
     {
         gs_layout::flags_of(self.bytes)
     }
 
-    /// Whether it takes its own thread off the CPU. A tick has none.
+    /// Returns whether it takes its own thread off the CPU. A tick has none.
     pub fn takes_off_cpu(&self) -> bool
         ensures { result ≡ takes_own_off self.now }
     {
         self.kind().takes_off_cpu(self.flags() & 1 == 1)
     }
 
-    /// The mask of a creation or of a new mask.
+    /// Returns the mask of a creation or of a new mask, or `None` for any other kind.
     pub fn mask(&self) -> Option<Mask>
         ensures { result ≡ mask_of self.now }
     {
         gs_layout::mask_of(self.bytes)
     }
 
-    /// The class of a creation.
+    /// Returns the class of a creation, or `None` for any other kind.
     pub fn class(&self) -> Option<Class>
         ensures { result ≡ class_of self.now }
     {
         gs_layout::class_of(self.bytes)
     }
 
-    /// The name of a creation, where it stands in the bytes.
+    /// Lends the name of a creation, where it stands in the bytes, or returns `None` for any other kind.
     pub fn name(&self) -> Option<&'a [u8]>
         ensures { option_copied result ≡ name_of self.now }
     {
         gs_layout::name_of(self.bytes)
     }
 
-    /// The message itself, with a name of its own.
+    /// Returns the message itself, with a name of its own.
     pub fn message(&self) -> Message
         ensures { result ≡ self.now }
     {
         gs_layout::message_of(self.as_bytes())
     }
 
-    /// The message in a parcel.
+    /// Returns the message in a parcel, where it stands there.
     pub fn in_parcel(parcel: &'a Parcel) -> MessageRef<'a>
         ensures { result ≡ parcel.now }
     {

@@ -45,7 +45,7 @@ fn front_fault(bytes: &[u8]) -> Option<ReadFault>
     None
 }
 
-/// The item that all of these bytes are.
+/// Returns the item that all of these bytes are.
 fn item_in(kind: Option<Kind>, text: &[u8]) -> Result<Item<'_>, ReadFault>
     requires { IsWhole kind text.now }
     ensures { result ≡ item_in kind text.now }
@@ -68,15 +68,19 @@ fn first_item(bytes: &[u8]) -> Result<(Item<'_>, usize), ReadFault>
     Ok((item_in(kind, &bytes[..len])?, len))
 }
 
-/// Reads the message or the PAD that the bytes begin with, and says how many bytes it has. The message
-/// stays where it is. Of the faults it answers the first that applies, in the order `Short` for fewer
-/// than 4 bytes, `BadKind`, `BadLength`, `Short` for fewer bytes than the length says, `BadField`.
+/// Reads the message or the PAD that the bytes begin with, and returns how many bytes it has. The message
+/// stays where it is.
+///
+/// # Errors
+///
+/// The first that applies, in this order: `Short` for fewer than 4 bytes, `BadKind`, `BadLength`, `Short` for
+/// fewer bytes than the length says, `BadField`.
 pub fn read_one(bytes: &[u8]) -> Result<(Item<'_>, usize), ReadFault>
     // What is read is spelled so, and what is spelled so is read.
     ensures ok { IfOk result (IsRead bytes.now) }
     ensures only { (found : Item × ℕ) → IsRead bytes.now found → result ≡ Ok found }
 
-    // Each fault stands exactly where the order puts it.
+    // Each fault is returned exactly if it is the first in the order.
     ensures fault { IfErr result (IsFault bytes.now) }
     ensures only_fault { (f : ReadFault) → IsFault bytes.now f → result ≡ Err f }
 

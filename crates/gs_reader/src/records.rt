@@ -25,7 +25,7 @@ impl<'a> Model for Records<'a> {
     ghost view = { λ r. and_then (segment r.first.now) (segment r.second.now) };
 }
 
-/// The first message or fault of a segment, and the bytes that are to be read after it.
+/// Returns the first message or fault of a segment, and the bytes that are to be read after it.
 fn next_in(bytes: &[u8]) -> Option<(Result<MessageRef<'_>, ReadFault>, &[u8])>
     ensures { MatchOption result (segment bytes.now ≡ [])
         (λ found. segment bytes.now ≡ found.0 ∷ segment found.1.now) }
@@ -46,7 +46,7 @@ fn next_in(bytes: &[u8]) -> Option<(Result<MessageRef<'_>, ReadFault>, &[u8])>
     None
 }
 
-/// The first message or fault of two segments, and what is to be read of them after it.
+/// Returns the first message or fault of two segments, and what is to be read of them after it.
 fn next_of<'a>(
     first: &'a [u8],
     second: &'a [u8],
@@ -66,7 +66,7 @@ fn next_of<'a>(
 }
 
 impl<'a> Records<'a> {
-    /// The messages of these two segments.
+    /// Reads the messages of these two segments, one at each call of `next`.
     pub fn new(first: &'a [u8], second: &'a [u8]) -> Records<'a>
         ensures { result ≡ and_then (segment first.now) (segment second.now) }
     {

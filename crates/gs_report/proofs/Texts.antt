@@ -48,7 +48,7 @@ pub lines-le-length : (bs : List ℕ) → length (lines bs) ≤ length bs
 lines-le-length [] = omega arith
 lines-le-length (b ∷ bs) = omega (arith, cut_or_not (b == 10) b (slice_split (λ c. c == 10) bs), lines-le-length bs)
 
--- what was kept of the lines of a text, where all of them came
+-- what was kept of the lines of a text, if all of them came
 pub last_lines_kept : (last most : ℕ) (text : List ℕ) (came : List (Bor (List ℕ))) → most ≡ min last (length text) → map (λ line. line.now) came ≡ lines text → map (λ line. line.now) (keep_last most came) ≡ keep_last last (lines text)
 last_lines_kept last most text came e h =
     keep_last-map (λ (line : Bor (List ℕ)). line.now) most came ∙ ap (keep_last most) h ∙ ap (λ n. keep_last n (lines text)) e ∙ keep_last-min last (length text) (lines text) (lines-le-length text)

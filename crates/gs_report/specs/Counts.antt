@@ -26,7 +26,7 @@ abbrev pub is_refusal : Reply → Bool
 is_refusal (replies.Refused reason) = true
 is_refusal _ = false
 
--- whether a landing was answered Placed
+-- whether the outcome of a landing is Placed
 abbrev pub is_placed : Landing → Bool
 is_placed a = is_placed_by a.outcome
   where
@@ -34,7 +34,7 @@ is_placed a = is_placed_by a.outcome
     is_placed_by Placed = true
     is_placed_by _ = false
 
--- how many of a reply's landings were answered Placed
+-- how many of a reply's landings have the outcome Placed
 unfoldable pub placed_in : Reply → ℕ
 placed_in r = count_by is_placed (landings_of r)
 

@@ -12,7 +12,7 @@ use Rattle.gs_report.specs.Counts.{counts_of}
 use Rattle.gs_report.specs.declared.counts.Counts.{Counts}
 use Rattle.gs_report.specs.declared.report.Report.{Report}
 
--- the last lines of a text, without their newlines: all of them where there are fewer
+-- the last lines of a text, without their newlines: all of them if there are fewer
 abbrev pub last_lines : ℕ → List ℕ → List (List ℕ)
 last_lines last text = keep_last last (lines_in text)
 

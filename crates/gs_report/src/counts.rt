@@ -11,7 +11,7 @@ use std::slice;
 pub struct Counts {
     /// The events of the run: each has one reply.
     pub events: usize,
-    /// The landings that were answered `Placed`, late ones too.
+    /// The landings whose outcome is `Placed`, late ones too.
     pub placed: usize,
     /// The refused events.
     pub refused: usize,
@@ -50,14 +50,14 @@ fn is_refusal(reply: &Reply) -> bool
     matches!(reply, Reply::Refused(_))
 }
 
-/// Whether a landing was answered `Placed`.
+/// Tells whether the outcome of a landing is `Placed`.
 fn is_placed(landing: &Landing) -> bool
     ensures { result ≡ is_placed landing.now }
 {
     matches!(landing.outcome, Outcome::Placed)
 }
 
-/// How many of a reply's landings were answered `Placed`.
+/// Returns how many of a reply's landings have the outcome `Placed`.
 #[tactic(auto, unfolding(crate::specs::Counts::placed_in))]
 fn placed_in(reply: &Reply) -> usize
     ensures { result ≡ placed_in reply.now }
@@ -66,7 +66,7 @@ fn placed_in(reply: &Reply) -> usize
     landings.filter(|landing| is_placed(landing)).count()
 }
 
-/// How many of a reply's landings were answered otherwise.
+/// Returns how many of a reply's landings have another outcome.
 #[tactic(auto, using(crate::proofs::Landings::among_landings), unfolding(crate::specs::Counts::unplaced_in))]
 fn unplaced_in(reply: &Reply) -> usize
     ensures { result ≡ unplaced_in reply.now }
@@ -88,7 +88,7 @@ impl Counts {
         }
     }
 
-    /// What is counted once there is one more reply, or `None` where a count would not fit.
+    /// Returns what is counted once there is one more reply, or `None` if a count would not fit.
     pub(crate) fn with(&self, reply: &Reply) -> Option<Counts>
         ensures { IfSome result (λ counts. counts ≡ counts_more self.now reply.now) }
     {

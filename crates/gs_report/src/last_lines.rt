@@ -4,9 +4,9 @@ ghost use Rattle.gs_report.specs.Report.{last_lines};
 use circular_buffer::HeapCircularBuffer;
 use std::alloc::{AllocError, Global};
 
-/// The last lines of a text, in order and without their newlines: all of them where there are fewer.
+/// Returns the last lines of a text, in order and without their newlines: all of them if there are fewer.
 ///
-/// It fails only for want of memory.
+/// It fails only if out of memory.
 pub(crate) fn last_lines<'a>(
     alloc: Global,
     text: &'a str,

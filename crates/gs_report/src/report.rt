@@ -67,7 +67,7 @@ pub struct Report {
 }
 
 impl Report {
-    /// A report of no reply.
+    /// Makes a report of no reply.
     pub fn new(alloc: Global) -> Report
         ensures { ReportsOn result [] }
     {
@@ -77,7 +77,7 @@ impl Report {
         }
     }
 
-    /// Takes in one more reply. It fails only for want of memory, or where a count would not fit.
+    /// Takes in one more reply. It fails only if out of memory, or if a count would not fit.
     pub fn add(&mut self, reply: &Reply) -> Result<(), AllocError>
         ensures { OnOk result ((rs : List replies.Reply) → ReportsOn self.old rs → ReportsOn self.new (rs ++ reply.now ∷ [])) }
     {
@@ -89,9 +89,10 @@ impl Report {
         Ok(())
     }
 
-    /// The report as a line of JSON: what is counted of the replies, and the last of their lines, so many.
+    /// Returns the report as a line of JSON: what is counted of the replies, and the last `last` of their
+    /// lines.
     ///
-    /// It fails only for want of memory.
+    /// It fails only if out of memory.
     pub fn to_line(&self, alloc: Global, last: usize) -> Result<String, AllocError>
         ensures text { IfOk result (λ report. (rs : List replies.Reply) → ReportsOn self.now rs → string_bytes report ≡ report_of last rs) }
         ensures reads { IfOk result (λ report. (rs : List replies.Reply) → ReportsOn self.now rs → ReadsAs (string_bytes report) (value_of last rs)) }

@@ -65,7 +65,7 @@ place_whole c w [] wide even fits = even
 place_whole c w (m ∷ ms) wide even fits =
     place_whole c (w + need c w (record_len m)) ms wide (sizes_of c w m wide even (All-head IsSpellable m ms fits)).next (All-tail IsSpellable m ms fits)
 
--- the parts agree still where the ring goes on to be read at a later place
+-- the parts agree still if the ring goes on to be read at a later place
 pub read_later : (b : List ℕ) (r w q : Place) (t p n span : ℕ) → n ≡ length b → IsRing b (r.count + span) w.count t p → q.count ≡ r.count + span → q.index ≡ (r.count + span) % n → w.index ≡ w.count % length b → IsHeld b q w t p
 read_later b r w q t p n span size ring count at written = record {
   ring = subst (λ k. IsRing b k w.count t p) (sym count) ring;
@@ -73,7 +73,7 @@ read_later b r w q t p n span size ring count at written = record {
   written_at = written;
 }
 
--- and where it goes on to be written there
+-- and if it goes on to be written there
 pub written_later : (b : List ℕ) (r w q : Place) (t p n span : ℕ) → n ≡ length b → IsRing b r.count (w.count + span) t p → q.count ≡ w.count + span → q.index ≡ (w.count + span) % n → r.index ≡ r.count % length b → IsHeld b r q t p
 written_later b r w q t p n span size ring count at read = record {
   ring = subst (λ k. IsRing b r.count k t p) (sym count) ring;
@@ -159,7 +159,7 @@ free_in b r w t p v h view = ap free (sym view) ∙ ap (λ n. length b - (n - r)
 pub posts_in : (b : List ℕ) (r w t p : ℕ) (v : RingState) → IsRing b r w t p → ring_of b r w t p ≡ v → posts v ≡ p
 posts_in b r w t p v h view = ap posts (sym view) ∙ omega (arith, length-messages_in (p - t) (seen b r (w - r)), h.order)
 
--- what is asked where a message is written behind a PAD of so many bytes
+-- what is asked if a message is written behind a PAD of so many bytes
 pub record Fitting (b : List ℕ) (w : ℕ) (m : Message) (k : ℕ) : Type 0 where
   pub fits : w % length b + k ≤ length b
   pub whole : k % 8 ≡ 0

@@ -21,7 +21,7 @@ front_plain m more fits = ap (λ t. front_message ((t ++ spelling m) ++ more)) (
 rest_plain : (m : Message) (more : List ℕ) → IsSpellable m → behind_front (spelling m ++ more) ≡ more
 rest_plain m more fits = ap (λ t. behind_front ((t ++ spelling m) ++ more)) (sym (pad_bytes_none 0 refl)) ∙ rest_is 0 m more refl (omega arith) fits
 
--- what is read where a message stands, and then what is read behind it
+-- what is read at a place at which a message stands, and then what is read behind it
 then_read : (n : ℕ) (m : Message) (text more : List ℕ) (ms : List Message) → front_message text ≡ m → behind_front text ≡ more → messages_in n more ≡ ms → messages_in (suc n) text ≡ m ∷ ms
 then_read n m text more ms e f g = ap (λ x. x ∷ messages_in n (behind_front text)) e ∙ ap (λ t. m ∷ messages_in n t) f ∙ ap (λ l. m ∷ l) g
 

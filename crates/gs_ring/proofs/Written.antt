@@ -53,7 +53,7 @@ within_put at more b h =
     ∙ ap (λ t. take (length more) t) (drop_at (take at b) (more ++ drop (at + length more) b) at (length-take-le at b (omega arith)))
     ∙ take_at more (drop (at + length more) b) (length more) refl
 
--- what is seen stays where bytes are written behind it
+-- what is seen stays if bytes are written behind it
 pub seen_same : (b more : List ℕ) (u p n : ℕ) → 0 < length b → u % length b + length more ≤ length b → p + n ≤ u → u + length more ≤ p + length b
     → seen (put_at (u % length b) more b) p n ≡ seen b p n
 seen_same b more u p zero pos fits before near = refl

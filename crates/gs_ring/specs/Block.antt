@@ -14,7 +14,7 @@ abbrev pub seen : List ℕ → ℕ → ℕ → List ℕ
 seen block place zero = []
 seen block place (suc n) = slice_index block (place % length block) ∷ seen block (suc place) n
 
--- the bytes behind a PAD, where there is one
+-- the bytes behind a PAD, if there is one
 unfoldable pub behind_pad : List ℕ → List ℕ
 behind_pad text = if number_at 2 2 text == 9 then drop (number_at 0 2 text) text else text
 
@@ -39,7 +39,7 @@ put_at at more block = take at block ++ more ++ drop (at + length more) block
 abbrev pub block_with : List ℕ → ℕ → ℕ → Message → List ℕ
 block_with block place pad m = put_at ((place + pad) % length block) (spelling m) (put_at (place % length block) (pad_bytes pad) block)
 
--- where the record begins in the block that is read at a place: behind its PAD, where there is one
+-- where the record begins in the block that is read at a place: behind its PAD, if there is one
 unfoldable pub record_index : List ℕ → ℕ → ℕ
 record_index block place = if number_at 2 2 (drop (place % length block) block) == 9 then 0 else place % length block
 

@@ -125,20 +125,20 @@ Posted-free r xs h = omega (arith, Posted-end r xs h, Posted-read r xs h)
 pub Posted-need : (r : RingState) (xs : List Message) (m : Message) → Posted r xs → need_of r m ≡ need r.capacity (written r.capacity xs) (record_len m)
 Posted-need r xs m h = ap (λ n. need r.capacity n (record_len m)) (Posted-end r xs h)
 
--- places only rise, so what was consumed takes up no more than all that was posted
+-- places only grow, so what was consumed takes up no more than all that was posted
 consumed_below : (c n : ℕ) (xs : List Message) → written c (take n xs) ≤ written c xs
 consumed_below c n xs =
     let whole : written c xs ≡ place_behind c (written c (take n xs)) (drop n xs) = ap (written c) (sym (take-append-drop n xs)) ∙ place_behind-append c 0 (take n xs) (drop n xs) in
     omega (arith, whole, place_behind-grows c (written c (take n xs)) (drop n xs))
 
--- where a message was posted, and others behind it, and what was taken came before it, it had room
+-- a message had room if it was posted, others were posted behind it, and what was taken came before it
 pub Posted-fitted : (r : RingState) (xs ys : List Message) (m : Message) → r.taken ≤ length xs → Posted r (xs ++ m ∷ ys) → need r.capacity (written r.capacity xs) (record_len m) ≤ free_after r.capacity xs r.taken
 Posted-fitted r xs ys m few h =
     let read : r.read ≡ written r.capacity (take r.taken xs) = Posted-read r (xs ++ m ∷ ys) h ∙ ap (written r.capacity) (take-append-le r.taken xs (m ∷ ys) few) in
     let last : end r ≡ place_behind r.capacity (written r.capacity xs + need r.capacity (written r.capacity xs) (record_len m)) ys = Posted-end r (xs ++ m ∷ ys) h ∙ place_behind-append r.capacity 0 xs (m ∷ ys) in
     omega (arith, read, last, h.room, place_behind-grows r.capacity (written r.capacity xs + need r.capacity (written r.capacity xs) (record_len m)) ys, consumed_below r.capacity r.taken xs)
 
--- where a message was posted behind others, nothing taken, it had room
+-- a message had room if it was posted behind others, and nothing was taken meanwhile
 pub Posted-fits : (r r' : RingState) (xs : List Message) (m : Message) → SameCapacity r r' → r'.taken ≡ r.taken → Posted r xs → Posted r' (xs ++ m ∷ [])
     → need r.capacity (written r.capacity xs) (record_len m) ≤ free_after r.capacity xs r.taken
 Posted-fits r r' xs m ring taken h h' =

@@ -9,7 +9,7 @@ use Rattle.gs_ring.specs.declared.block.TheConstants.{ALIGNMENT, LEAST_CAPACITY,
 abbrev pub is_capacity : ℕ → Bool
 is_capacity n = nat_le LEAST_CAPACITY n && nat_le n MOST_CAPACITY && n % ALIGNMENT == 0
 
--- how many bytes a message has in the ring, where its spelling lies
+-- how many bytes a message has in the ring, in which its spelling lies
 abbrev pub record_len : Message → ℕ
 record_len m = length (spelling m)
 
@@ -34,7 +34,7 @@ place_behind capacity place (m ∷ ms) = place_behind capacity (place + need cap
 abbrev pub written : ℕ → List Message → ℕ
 written capacity ms = place_behind capacity 0 ms
 
--- a PAD of so many bytes, where there is one
+-- a PAD of so many bytes, if there is one
 unfoldable pub pad_bytes : ℕ → List ℕ
 pad_bytes len = if len == 0 then [] else pad len
 
@@ -43,6 +43,6 @@ abbrev pub bytes : ℕ → ℕ → List Message → List ℕ
 bytes capacity place [] = []
 bytes capacity place (m ∷ ms) = (pad_bytes (pad_len capacity place (record_len m)) ++ spelling m) ++ bytes capacity (place + need capacity place (record_len m)) ms
 
--- how many bytes are free where these messages were posted and the first of them, so many, are consumed
+-- how many bytes are free once these messages were posted and the first of them, so many, were consumed
 abbrev pub free_after : ℕ → List Message → ℕ → ℕ
 free_after capacity posted consumed = capacity - (written capacity posted - written capacity (take consumed posted))

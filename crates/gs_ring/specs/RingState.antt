@@ -30,6 +30,6 @@ free r = r.capacity - (end r - r.read)
 abbrev pub need_of : RingState → Message → ℕ
 need_of r m = need r.capacity (end r) (record_len m)
 
--- where a message does not fit
+-- a message does not fit
 abbrev pub IsTight : RingState → Message → Type 0
 IsTight r m = free r < need_of r m

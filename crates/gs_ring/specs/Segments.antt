@@ -11,7 +11,8 @@ abbrev pub spellings : List Message → List ℕ
 spellings [] = []
 spellings (m ∷ ms) = spelling m ++ spellings ms
 
--- these messages stand in two segments: the first of them in the first segment, before a PAD of so many bytes, if it has any, and the others in the second
+-- these messages stand in two segments. The first of them stand in the first segment, before a PAD of so many bytes, if it has any. The others stand
+-- in the second
 pub record Stands (first second : List ℕ) (ms : List Message) : Type 0 where
   pub front : List Message
   pub back : List Message

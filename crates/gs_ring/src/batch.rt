@@ -18,7 +18,7 @@ pub enum Batch<'a> {
 impl<'a> Batch<'a> {
     ghost use Rattle.gs_ring.specs.Batches.{messages_of};
 
-    /// The messages, each where it lies.
+    /// Lends the messages, each where it lies.
     pub fn messages(self) -> Waiting<'a>
         ensures { result ≡ messages_of self.entry }
     {

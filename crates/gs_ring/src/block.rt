@@ -23,7 +23,7 @@ pub const MOST_CAPACITY: usize = 1_048_576;
 /// of the block never has fewer bytes than the header of a PAD.
 pub const ALIGNMENT: usize = 8;
 
-/// How many bytes of PAD stand before a record of so many bytes that is written at a place.
+/// Returns how many bytes of PAD stand before a record of so many bytes that is written at a place.
 #[tactic(auto, unfolding(crate::specs::Places::pad_len))]
 pub(crate) fn pad_len(place: Place, capacity: usize, len: usize) -> usize
     requires size { 0 < capacity }
@@ -35,7 +35,7 @@ pub(crate) fn pad_len(place: Place, capacity: usize, len: usize) -> usize
     if len <= rest { 0 } else { rest }
 }
 
-/// How many bytes the message has in a ring.
+/// Returns how many bytes the message has in a ring.
 pub(crate) fn record_len(message: &Message) -> usize
     ensures { result ≡ record_len message.now }
 {
@@ -54,7 +54,7 @@ fn fill_pad(out: &mut [u8])
     out[4..].fill(0);
 }
 
-/// Writes a PAD of so many bytes at an index of the block, where it is to have any.
+/// Writes a PAD of so many bytes at an index of the block, if it is to have any.
 fn write_pad(block: &mut [u8], at: usize, len: usize)
     requires fits { at + len ≤ length block.old }
     requires whole { len % ALIGNMENT ≡ 0 }
@@ -92,7 +92,7 @@ pub(crate) fn write(block: &mut [u8], place: Place, pad: usize, message: &Messag
     write_record(block, start.index, message);
 }
 
-/// Where the record begins in the block that is read at a place: behind its PAD, if it has one.
+/// Returns where the record begins in the block that is read at a place: behind its PAD, if it has one.
 #[tactic(auto, unfolding(crate::specs::Block::record_index))]
 fn record_index(block: &[u8], place: Place) -> usize
     requires at { place.index ≡ place.count % length block.now }
@@ -107,7 +107,7 @@ fn record_index(block: &[u8], place: Place) -> usize
     }
 }
 
-/// The message that is read at a place, where it lies in the block.
+/// Lends the message that is read at a place, where it lies in the block.
 pub(crate) fn message_at(block: &[u8], place: Place) -> Peeked<'_>
     requires at { place.index ≡ place.count % length block.now }
     requires lies { (m : Message) × Lies block.now place.count m }
@@ -118,7 +118,7 @@ pub(crate) fn message_at(block: &[u8], place: Place) -> Peeked<'_>
     Peeked::new(&block[start..start + len])
 }
 
-/// How many bytes the message takes up that is read at a place, with its PAD.
+/// Returns how many bytes the message takes up that is read at a place, with its PAD.
 pub(crate) fn span_at(block: &[u8], place: Place) -> usize
     requires size { 0 < length block.now }
     requires at { place.index ≡ place.count % length block.now }
@@ -129,7 +129,7 @@ pub(crate) fn span_at(block: &[u8], place: Place) -> usize
     pad_len(place, block.len(), len) + len
 }
 
-/// Whether a ring may have so many bytes.
+/// Returns whether a ring may have so many bytes.
 pub(crate) fn is_capacity(capacity: usize) -> bool
     ensures { result ≡ is_capacity capacity }
 {

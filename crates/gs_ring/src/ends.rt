@@ -29,7 +29,7 @@ pub trait Poster {
     /// How many of them are known to be taken.
     ghost taken: { Self → ℕ };
 
-    /// Where a message may be refused.
+    /// Whether a message may be refused.
     ghost tight: { Self → Message → Type 0 };
 
     /// The same end of the same ring.
@@ -40,7 +40,7 @@ pub trait Poster {
     ///
     /// # Errors
     ///
-    /// `Full` where the message is refused. Nothing was posted.
+    /// `Full` if the message is refused. Nothing was posted.
     fn post(&mut self, message: &Message) -> Result<(), Full>
         requires few { count self.old < MOST_POSTS }
         requires spellable { IsSpellable message.now }
@@ -52,7 +52,7 @@ pub trait Poster {
         ensures still { OnErr result (tight self.new message.now) }
         ensures unchanged { OnErr result ((xs : List Message) → posted self.old xs → posted self.new xs) };
 
-    /// Laws.
+    /// Laws. The count is that of the messages that were posted.
     ghost counted: { (p : Self) (xs : List Message) → posted p xs → count p ≡ length xs };
 
     /// No more are taken than were posted.
@@ -78,10 +78,10 @@ pub trait Taker {
     /// These are known to come next.
     ghost ahead: { Self → List Message → Type 0 };
 
-    /// Where none may be found.
+    /// Whether none may be found.
     ghost idle: { Self → Type 0 };
 
-    /// The next message, which stays.
+    /// Lends the next message, which stays, or returns `None` if none is found.
     fn peek(&mut self) -> Option<Peeked<'_>>
         ensures none { IfNone result (idle self.old) }
         ensures* after { sem 𝓛 (Rests Self.row self.entry (λ new. passed self.old [] new × MatchOption result ((m : Message) (ms : List Message) → ahead new (m ∷ ms) → ⊥) (λ p. ahead new (message_of p ∷ [])))) };
@@ -91,8 +91,8 @@ pub trait Taker {
         requires { (m : Message) × ahead self.old (m ∷ []) }
         ensures { (m : Message) → ahead self.old (m ∷ []) → passed self.old (m ∷ []) self.new };
 
-    /// The first messages that wait, each where it lies. There is at least one if [`Taker::peek`] would find
-    /// one. They stay.
+    /// Lends the first messages that wait, each where it lies. There is at least one if [`Taker::peek`] would
+    /// find one. They stay.
     fn batch(&mut self) -> Batch<'_>
         ensures none { messages_of result ≡ [] → idle self.old }
         ensures* after { sem 𝓛 (Rests Self.row self.entry (λ new. passed self.old [] new × ahead new (messages_of result) × (messages_of result ≡ [] → (m : Message) (ms : List Message) → ahead new (m ∷ ms) → ⊥))) };
@@ -102,7 +102,7 @@ pub trait Taker {
         requires { (ms : List Message) × ahead self.old ms × (n ≤ length ms) }
         ensures { (ms : List Message) → ahead self.old ms → n ≤ length ms → passed self.old (take n ms) self.new };
 
-    /// Laws.
+    /// Laws. From a state to itself no message passes.
     ghost passed_none: { (t : Self) → passed t [] t };
 
     ghost passed_join: { (t u v : Self) (xs ys : List Message) → passed t xs u → passed u ys v → passed t (xs ++ ys) v };
@@ -126,6 +126,6 @@ pub trait Ring: Poster + Taker {
     /// What passes is the next of what was posted.
     ghost passes: { (p q : Self) (xs ms : List Message) → Self.posted p xs → Self.passed p ms q → (Self.taken q ≡ Self.taken p + length ms) × (ms ≡ take (length ms) (drop (Self.taken p) xs)) };
 
-    /// Where none was found, all was taken.
+    /// If none was found, all was taken.
     ghost ends: { (p : Self) (xs : List Message) → Self.posted p xs → Self.idle p → Self.taken p ≡ length xs };
 }

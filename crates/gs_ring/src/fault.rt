@@ -1,4 +1,8 @@
+ghost use Rattle.std.specs.Prelude.{◌≡◌};
+ghost use Rattle.gs_ring.specs.declared.fault.RingFault.TheVariants.{OutOfMemory};
+
 use crate::block::{ALIGNMENT, LEAST_CAPACITY, MOST_CAPACITY};
+use std::alloc::AllocError;
 use thiserror::Error;
 
 /// Why no ring can be made.
@@ -8,6 +12,14 @@ pub enum RingFault {
     BadCapacity,
     #[error("out of memory")]
     OutOfMemory,
+}
+
+impl From<AllocError> for RingFault {
+    ghost from_gives = { λ _ fault. fault ≡ OutOfMemory };
+
+    fn from(_failed: AllocError) -> RingFault {
+        RingFault::OutOfMemory
+    }
 }
 
 /// There is no room for the message. Nothing was posted.

@@ -1,5 +1,5 @@
-//! The ring through which the kernel's messages reach the agent: a block of bytes of fixed size, and
-//! what the kernel and the agent see of it, which a ring between threads offers too.
+//! The ring through which the kernel's messages reach the agent. It is a block of bytes of fixed size. What
+//! the kernel and the agent see of it, a ring between threads offers too.
 #![tactic(auto)]
 
 mod batch;

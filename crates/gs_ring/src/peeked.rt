@@ -15,7 +15,7 @@ pub struct Peeked<'a> {
 impl<'a> Peeked<'a> {
     ghost use Rattle.gs_ring.specs.Peek.{message_of};
 
-    /// The message whose bytes these are.
+    /// Wraps the message whose bytes these are.
     #[tactic(auto, unfolding(crate::specs::Peek::message_of))]
     pub fn new(bytes: &'a [u8]) -> Peeked<'a>
         requires { (m : Message) × IsSpellable m × (bytes.now ≡ spelling m) }
@@ -24,7 +24,7 @@ impl<'a> Peeked<'a> {
         Peeked { bytes }
     }
 
-    /// The message.
+    /// Lends the message.
     pub fn message(&self) -> MessageRef<'a>
         ensures { result ≡ message_of self.now }
     {

@@ -11,7 +11,7 @@ pub(crate) struct Place {
 }
 
 impl Place {
-    /// The place so many bytes further on, at most a block.
+    /// Returns the place so many bytes further on, at most a block.
     #[tactic(auto, using(crate::proofs::Around::mod_further, crate::proofs::Around::mod_past))]
     pub(crate) fn further(self, bytes: usize, capacity: usize) -> Place
         requires at { self.index ≡ self.count % capacity }

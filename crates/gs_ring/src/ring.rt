@@ -19,9 +19,9 @@ use std::marker::Model;
 
 /// Messages in a block of bytes of fixed size, in the order in which they were posted.
 ///
-/// Each lies there as its bytes, and none is split over the end of the block: where the rest of the
-/// block is too short, a PAD fills it and the message stands at the block's start. Places are counted
-/// from 0 and never wrap. Nothing but `new` takes memory.
+/// Each lies there as its bytes, and none is split over the end of the block. If the rest of the block is too
+/// short, a PAD fills it and the message stands at the block's start. Places are counted from 0 and never
+/// wrap. Nothing but `new` allocates.
 #[derive(Drop)]
 pub struct ByteRing {
     block: Vec<u8>,
@@ -46,12 +46,12 @@ impl Model for ByteRing {
 }
 
 impl ByteRing {
-    /// A ring of so many bytes to which nothing was posted.
+    /// Makes a ring of so many bytes to which nothing was posted.
     ///
     /// # Errors
     ///
-    /// `BadCapacity` if [`ByteRing::is_capacity`] does not hold of `capacity`, and else `OutOfMemory` if
-    /// memory runs out.
+    /// `BadCapacity` if [`ByteRing::is_capacity`] does not hold of `capacity`, and else `OutOfMemory` if out
+    /// of memory.
     pub fn new(alloc: Global, capacity: usize) -> Result<ByteRing, RingFault>
         ensures made { IfOk result (λ r. r ≡ empty capacity) }
         ensures bad { IsErrOf result RingFault.BadCapacity ↔ (is_capacity capacity ≡ false) }
@@ -59,11 +59,8 @@ impl ByteRing {
         if !ByteRing::is_capacity(capacity) {
             return Err(RingFault::BadCapacity);
         }
-        let Ok(block) = vec![in alloc; 0; capacity] else {
-            return Err(RingFault::OutOfMemory);
-        };
         Ok(ByteRing {
-            block,
+            block: vec![in alloc; 0; capacity]?,
             read: Place { count: 0, index: 0 },
             written: Place { count: 0, index: 0 },
             taken: 0,
@@ -71,7 +68,7 @@ impl ByteRing {
         })
     }
 
-    /// Whether a ring may have so many bytes: a multiple of [`ALIGNMENT`] from [`LEAST_CAPACITY`] to
+    /// Returns whether a ring may have so many bytes: a multiple of [`ALIGNMENT`] from [`LEAST_CAPACITY`] to
     /// [`MOST_CAPACITY`].
     pub fn is_capacity(capacity: usize) -> bool
         ensures { result ≡ is_capacity capacity }
@@ -79,7 +76,7 @@ impl ByteRing {
         block::is_capacity(capacity)
     }
 
-    /// How many bytes the block has.
+    /// Returns how many bytes the block has.
     pub fn capacity(&self) -> usize
         ensures value { result ≡ self.now.capacity }
         ensures range { is_capacity result ≡ true }
@@ -87,7 +84,7 @@ impl ByteRing {
         self.block.len()
     }
 
-    /// How many bytes are free.
+    /// Returns how many bytes are free.
     pub fn free(&self) -> usize
         ensures value { result ≡ free self.now }
         ensures within { result ≤ self.now.capacity }
@@ -95,7 +92,7 @@ impl ByteRing {
         self.capacity() - (self.written.count - self.read.count) as usize
     }
 
-    /// How many bytes a record of so many bytes takes up that is posted next, with its PAD.
+    /// Returns how many bytes a record of so many bytes takes up that is posted next, with its PAD.
     pub fn need(&self, len: usize) -> usize
         requires { len ≤ u16.MAX }
         ensures { result ≡ need self.now.capacity (end self.now) len }
@@ -107,7 +104,7 @@ impl ByteRing {
     ///
     /// # Errors
     ///
-    /// `Full` exactly where the message needs more bytes than are free. The ring is as it was.
+    /// `Full` exactly if the message needs more bytes than are free. The ring stays as it is.
     pub(crate) fn push(&mut self, message: &Message) -> Result<(), Full>
         requires few { posts self.old < MOST_POSTS }
         requires spellable { IsSpellable message.now }
@@ -127,7 +124,7 @@ impl ByteRing {
         Ok(())
     }
 
-    /// The message that waits first, where it lies in the block.
+    /// Lends the message that waits first, where it lies in the block, or returns `None` if none waits.
     pub fn first(&self) -> Option<Peeked<'_>>
         ensures { MatchOption result (IsEmpty self.now) (λ p. Ahead self.now (message_of p ∷ [])) }
     {
@@ -137,7 +134,7 @@ impl ByteRing {
         Some(block::message_at(self.block.as_slice(), self.read))
     }
 
-    /// The messages that wait, in order, each where it lies in the block. None is taken.
+    /// Lends the messages that wait, in order, each where it lies in the block. None is taken.
     pub fn waiting(&self) -> Waiting<'_>
         ensures { result ≡ self.now.unread }
     {
@@ -156,7 +153,7 @@ impl ByteRing {
         self.taken += 1;
     }
 
-    /// The bytes that were not consumed: those up to the end of the block, then those from its start.
+    /// Lends the bytes that were not consumed: those up to the end of the block, then those from its start.
     pub fn front(&self) -> (&[u8], &[u8])
         ensures value { result.0.now ++ result.1.now ≡ bytes self.now.capacity self.now.read self.now.unread }
         ensures all { end self.now ≡ self.now.read + (length result.0.now + length result.1.now) }

@@ -8,7 +8,7 @@ ghost use Rattle.gs_ring.specs.Segments.{Stands, is_ended};
 use gs_layout::{KIND_AT, PAD, u16_at};
 use gs_reader::MessageRef;
 
-/// Whether no message is left of a segment: it is at its end, or at a PAD.
+/// Returns whether no message is left of a segment: it is at its end, or at a PAD.
 #[tactic(auto, unfolding(crate::specs::Segments::is_ended))]
 fn is_ended(segment: &[u8]) -> bool
     requires { 0 < length segment.now → 4 ≤ length segment.now }
@@ -17,7 +17,7 @@ fn is_ended(segment: &[u8]) -> bool
     segment.is_empty() || u16_at(segment, KIND_AT) == PAD
 }
 
-/// The message that a segment begins with, and the bytes behind it.
+/// Lends the message that a segment begins with, and the bytes behind it.
 fn cut(segment: &[u8]) -> (MessageRef<'_>, &[u8])
     requires { (m : Message) × (more : List ℕ) × IsSpellable m × (segment.now ≡ spelling m ++ more) }
     ensures { (m : Message) (more : List ℕ) → IsSpellable m → segment.now ≡ spelling m ++ more → (result.0 ≡ m) × (result.1.now ≡ more) }
@@ -27,7 +27,7 @@ fn cut(segment: &[u8]) -> (MessageRef<'_>, &[u8])
     (MessageRef::spelled(record), rest)
 }
 
-/// The first message of two segments that have one, and the segments behind it.
+/// Lends the first message of two segments that have one, and the segments behind it.
 pub(crate) fn split_first<'a>(
     first: &'a [u8],
     second: &'a [u8],

@@ -7,8 +7,8 @@ use crate::segments;
 use gs_reader::MessageRef;
 use std::marker::Model;
 
-/// The messages of a ring that a walk has still to show, in the order in which they were posted, each
-/// where it lies in the ring's block. Clauses see the list of what is left.
+/// The messages of a ring that a walk has still to show, in the order in which they were posted. Each is
+/// shown where it lies in the ring's block. Clauses see the list of what is left.
 #[derive(Drop)]
 pub struct Waiting<'a> {
     /// The bytes from the next one on to the end of the block, and those from its start on.
@@ -32,7 +32,7 @@ impl<'a> Model for Waiting<'a> {
 }
 
 impl<'a> Waiting<'a> {
-    /// So many messages that stand in two segments.
+    /// Lends so many messages that stand in two segments.
     pub(crate) fn new(first: &'a [u8], second: &'a [u8], left: usize) -> Waiting<'a>
         requires { AreSegments first.now second.now left }
         ensures { result ≡ messages_in left (first.now ++ second.now) }
@@ -44,28 +44,28 @@ impl<'a> Waiting<'a> {
         }
     }
 
-    /// No message.
+    /// Lends no message.
     pub(crate) fn none() -> Waiting<'a>
         ensures { result ≡ [] }
     {
         Waiting::new(&[], &[], 0)
     }
 
-    /// One message alone.
+    /// Lends one message alone.
     pub(crate) fn one(message: MessageRef<'a>) -> Waiting<'a>
         ensures { result ≡ message.entry ∷ [] }
     {
         Waiting::new(message.as_bytes(), &[], 1)
     }
 
-    /// How many are left.
+    /// Returns how many are left.
     pub fn len(&self) -> usize
         ensures { result ≡ length self.now }
     {
         self.left
     }
 
-    /// Whether none is left.
+    /// Returns whether none is left.
     pub fn is_empty(&self) -> bool
         ensures { result ≡ (length self.now == 0) }
     {

@@ -219,7 +219,7 @@ line_remove ns ps k t i e =
       threads = same ∙ (sym (without_mid t us bs ou ob) ∙ ap (without t) (sym s.2));
     }
 
--- the answer of a look at the table
+-- the result of a look at the table
 pub has_is : (ns ps : List ℕ) (k t : ℕ) → IsLine ns ps k → 0 < t → t < length ns → not (get_or ns t 0 == t) ≡ is_in t (threads_of ns k)
 has_is ns ps k t i pos lt = by_test (get_or ns t 0 == t) refl (line_has ns ps k t i pos lt)
   where
@@ -332,7 +332,7 @@ pub within_all : (k : ℕ) (ns : List ℕ) → AllIn (length ns) (threads_of ns 
 within_all zero ns i = tt
 within_all (suc k) ns i = within_from (suc k) (slice_index ns) (length ns) 0 i (let p : slice_index ns 0 < length ns = i.1 in omega arith)
 
--- where there is room for a thread, memory is reserved for all places
+-- if there is room for a thread, memory is reserved for all places
 pub reserved_all : (a b n : ℕ) → AreReserved a b → n < room_in b → (65537 ≤ a) × (65537 ≤ b)
 reserved_all a b n (inl none) lt = absurd (omega (arith, none, lt))
 reserved_all a b n (inr all) lt = all

@@ -1,4 +1,4 @@
--- A thread that does not wait finds room where there is room for all.
+-- A thread that does not wait finds room if there is room for all.
 use Rattle.std.proofs.Common.{◌≡◌, ◌≢◌, refl, ℕ, ◌+◌, ◌<◌, ◌≤◌, ◌||◌, eqb, Bool, true, false, List, [], ◌∷◌, length, arith, length-append}
 use Rattle.std.specs.Prelude.{All}
 use Rattle.std.specs.List.{AllByRecursion, IsDistinct, list_any}
@@ -63,7 +63,7 @@ few t xs apart all is out =
     below : (k : ℕ) → list_any (eqb k) (0 ∷ t ∷ xs) ≡ true → k < 65537
     below k h = by_first k (eqb k 0) refl h
 
--- fewer than 65,536 of a class wait where some thread does not
+-- fewer than 65,536 of a class wait if some thread does not
 pub spare : (t : ℕ) (q : Queue) → Apart (order q) → All IsTid (order q) → IsTid t → is_in t (order q) ≡ false → (c : Class) → length (class_of c q) < 65536
 spare t q apart all is out c = by_class c
   where

@@ -20,7 +20,7 @@ turned_row : order (removed 5 (put Zero 3 (removed 3 some))) ≡ 65536 ∷ 3 ∷
 unfolding some
 turned_row = refl
 
--- who is not there leaves nothing changed, and takes no room
+-- to take out who is not there changes nothing, and uses no room
 absent_row : removed 4 (removed 0 some) ≡ some
 unfolding some
 absent_row = refl

@@ -47,7 +47,7 @@ pub record LineInvariant (s : Inside) : Type 0 where
   pub line : IsLine s.next.items s.previous.items s.count
   pub reserved : AreReserved (vec_capacity s.next) (vec_capacity s.previous)
 
--- no thread stands twice, also not in both classes; the second line is given its room last
+-- no thread stands twice, and none stands in both classes. The second line is given its room last
 pub record IsQueue (zero_class one_class : LineState) : Type 0 where
   pub rooms : one_class.room ≤ zero_class.room
   pub apart : Apart (zero_class.threads ++ one_class.threads)

@@ -28,8 +28,8 @@ abbrev pub Apart : List ℕ → Type 0
 Apart [] = Unit {0}
 Apart (x ∷ xs) = IsOut x xs × Apart xs
 
--- the waiting threads of class 0 and of class 1, each class in the order in which they came, and how many of each class
--- there can be with no more memory
+-- the waiting threads of class 0 and of class 1, each class in the order in which they came. The room is how many of each class there can be with no
+-- more memory
 pub record Queue : Type 0 where
   pub zero_class : List ℕ
   pub one_class : List ℕ

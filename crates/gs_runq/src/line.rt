@@ -10,8 +10,8 @@ use std::marker::Model;
 /// How many places a table has: place 0, and one for each tid.
 const PLACES: u32 = MOST_TIDS + 1;
 
-/// Gives a table a place for a thread: each place that it lacked up to there leads to itself. Memory for
-/// it is reserved.
+/// Lengthens a table up to a thread's place: each place that it lacked up to there leads to itself. Memory
+/// for it is reserved.
 fn lengthen(table: &mut Vec<u32>, tid: u32)
     requires room { tid < vec_capacity table.old }
     requires tid { tid ≤ MOST_TIDS }
@@ -25,15 +25,16 @@ fn lengthen(table: &mut Vec<u32>, tid: u32)
 
 /// Threads in line: those of one class that wait.
 ///
-/// They are linked in a circle through two tables by tid: place t of `next` has the thread that
-/// follows thread t, and place t of `previous` the one before it. Place 0, which is no thread's,
-/// closes the circle: it leads to the first thread, the last one leads to it, and in an empty line it
-/// leads to itself. A thread that is not in the line follows itself, which no thread in line does. So
-/// whether a thread is there is one look at its own place, it goes last behind the one before place
-/// 0, and it leaves by linking its two neighbours: none of these walks along the line.
+/// They are linked in a circle through two tables by tid. Place t of `next` has the thread that follows
+/// thread t, and place t of `previous` the one before it. Place 0 is no thread's and closes the circle: it
+/// leads to the first thread, and the last one leads to it. In an empty line it leads to itself. A thread
+/// that is not in the line follows itself, which no thread in line does.
 ///
-/// The first reservation takes memory for all places. The tables grow into it as far as the greatest tid
-/// that came, so that memory for tids that never come is not touched.
+/// So whether a thread is there is one look at its own place. It goes last behind the one before place 0, and
+/// it leaves by linking its two neighbours. None of these walks along the line.
+///
+/// The first reservation allocates all places. The tables grow into it as far as the greatest tid that came,
+/// so that memory for tids that never come is not touched.
 #[derive(Drop)]
 pub struct Line {
     next: Vec<u32>,
@@ -54,7 +55,7 @@ impl Model for Line {
 }
 
 impl Line {
-    /// An empty line, with room for nobody. It takes no memory.
+    /// Makes an empty line, with room for nobody. It does not allocate.
     pub fn new(alloc: Global) -> Line
         ensures threads { result.threads ≡ [] }
         ensures room { result.room ≡ 0 }
@@ -66,11 +67,11 @@ impl Line {
         }
     }
 
-    /// Room for each thread that there can be.
+    /// Makes room for each thread that there can be.
     ///
     /// # Errors
     ///
-    /// Where there is no memory for both tables; nothing changes then.
+    /// `AllocError` if out of memory for both tables; nothing changes then.
     pub fn reserve(&mut self) -> Result<(), AllocError>
         ensures ok { OnOk result (self.new.room ≡ MOST_TIDS) }
         ensures threads { self.new.threads ≡ self.old.threads }
@@ -85,14 +86,14 @@ impl Line {
         Ok(())
     }
 
-    /// How many threads are in line.
+    /// Returns how many threads are in line.
     pub fn len(&self) -> u32
         ensures { result ≡ length self.now.threads }
     {
         self.count
     }
 
-    /// How many threads there is room for, those in line among them.
+    /// Returns how many threads there is room for, those in line among them.
     pub fn room(&self) -> u32
         ensures { result ≡ self.now.room }
     {
@@ -100,7 +101,7 @@ impl Line {
         places.saturating_sub(1) as u32
     }
 
-    /// The threads in order, each a thread's number.
+    /// Walks the threads in order, each a thread's number.
     pub fn walk(&self) -> LineWalk<'_>
         ensures threads { result ≡ self.now.threads }
         ensures tids { All IsTid self.now.threads }
@@ -108,7 +109,7 @@ impl Line {
         along(&self.next, self.count)
     }
 
-    /// Whether a thread is in line. Each thread in line has a thread's number.
+    /// Returns whether a thread is in line. Each thread in line has a thread's number.
     pub fn has(&self, tid: u32) -> bool
         ensures has { result ≡ is_in tid self.now.threads }
         ensures tids { All IsTid self.now.threads }
@@ -120,8 +121,8 @@ impl Line {
         tid != 0 && self.next[at] != tid
     }
 
-    /// A thread goes last. It takes no memory, and a constant number of steps but for the places that
-    /// come before its own for the first time.
+    /// Puts a thread last. It does not allocate. It takes a constant number of steps, and one more for each
+    /// place that comes before the thread's own for the first time.
     pub fn push(&mut self, tid: u32)
         requires tid { IsTid tid }
         requires room { length self.old.threads < self.old.room }
@@ -139,7 +140,7 @@ impl Line {
         self.count += 1;
     }
 
-    /// A thread leaves, where it is there.
+    /// Takes a thread out of the line, if it is there.
     pub fn remove(&mut self, tid: u32)
         ensures threads { self.new.threads ≡ without tid self.old.threads }
         ensures room { self.new.room ≡ self.old.room }

@@ -11,8 +11,8 @@ use std::marker::Model;
 /// Threads that wait, each once: those of class 0 in the order in which they came, then those of
 /// class 1. A thread is named by its tid.
 ///
-/// `push`, `remove` and `has` take a constant number of steps, however many threads wait, and no
-/// memory. Only the first push of a tid above all that came takes a step for each tid in between. A walk
+/// `push`, `remove` and `has` take a constant number of steps, however many threads wait, and do not
+/// allocate. Only the first push of a tid above all that came takes a step for each tid in between. A walk
 /// visits only the threads that wait.
 #[derive(Drop)]
 pub struct RunQueue {
@@ -33,7 +33,7 @@ impl Model for RunQueue {
 }
 
 impl RunQueue {
-    /// A queue in which nobody waits, with room for nobody. It takes no memory.
+    /// Makes a queue in which nobody waits, with room for nobody. It does not allocate.
     pub fn new(alloc: Global) -> RunQueue
         ensures { result ≡ empty }
     {
@@ -43,12 +43,12 @@ impl RunQueue {
         }
     }
 
-    /// Makes room for that many threads of each class, at most [`MOST_TIDS`]. Who waits stays as it
-    /// is, and room that was there stays.
+    /// Makes room for that many threads of each class, at most [`MOST_TIDS`]. It changes nothing of who
+    /// waits, and keeps the room that was there.
     ///
     /// # Errors
     ///
-    /// Where there is no memory. All is then as before.
+    /// `AllocError` if out of memory. Nothing changes then.
     pub fn reserve(&mut self, n: u32) -> Result<(), AllocError>
         requires { n ≤ MOST_TIDS }
         ensures ok { OnOk result (n ≤ self.new.room) }
@@ -65,8 +65,8 @@ impl RunQueue {
         Ok(())
     }
 
-    /// A thread that does not wait yet goes last of its class. There has to be room for it. It takes
-    /// no memory.
+    /// Puts a thread that does not wait yet last of its class. There has to be room for it. It does not
+    /// allocate.
     pub fn push(&mut self, tid: u32, class: Class)
         requires tid { IsTid tid }
         requires room { length (class_of class self.old) < self.old.room }
@@ -79,7 +79,7 @@ impl RunQueue {
         }
     }
 
-    /// A thread leaves, of whichever class; where it does not wait, nothing changes.
+    /// Takes a thread out of its class, or changes nothing if it does not wait.
     pub fn remove(&mut self, tid: u32)
         ensures { self.new ≡ removed tid self.old }
     {
@@ -87,8 +87,8 @@ impl RunQueue {
         self.one_class.remove(tid);
     }
 
-    /// Whether a thread waits. Tid 0 and tids above [`MOST_TIDS`] never do. If it does not, it finds
-    /// room in a queue that was given room for all of them.
+    /// Returns whether a thread waits. Tid 0 and tids above [`MOST_TIDS`] never do. A thread that does not
+    /// wait finds room in a queue that was given room for all of them.
     #[tactic(auto, using(crate::proofs::Queues::in_append))]
     pub fn has(&self, tid: u32) -> bool
         ensures has { result ≡ is_in tid (order self.now) }
@@ -97,28 +97,28 @@ impl RunQueue {
         self.zero_class.has(tid) || self.one_class.has(tid)
     }
 
-    /// How many threads wait, of both classes together.
+    /// Returns how many threads wait, of both classes together.
     pub fn len(&self) -> usize
         ensures { result ≡ length (order self.now) }
     {
         self.zero_class.len() as usize + self.one_class.len() as usize
     }
 
-    /// How many threads of each class there is room for, those that wait among them.
+    /// Returns how many threads of each class there is room for, those that wait among them.
     pub fn room(&self) -> u32
         ensures { result ≡ self.now.room }
     {
         self.one_class.room()
     }
 
-    /// Whether nobody waits.
+    /// Returns whether nobody waits.
     pub fn is_empty(&self) -> bool
         ensures { result ≡ (length (order self.now) == 0) }
     {
         self.len() == 0
     }
 
-    /// The tids of those who wait, in order, each once. It takes no memory.
+    /// Walks the tids of those who wait, in order, each once. It does not allocate.
     pub fn walk(&self) -> Walk<'_>
         ensures order { result ≡ order self.now }
         ensures apart { Apart (order self.now) }

@@ -25,7 +25,7 @@ impl<'a> Model for LineWalk<'a> {
     ghost invariant = { LineWithin };
 }
 
-/// A walk of that many threads through the table, from the one that follows place 0.
+/// Walks that many threads through the table, from the one that follows place 0.
 pub fn along(next: &[u32], left: u32) -> LineWalk<'_>
     requires { Within left (slice_index next.now) (length next.now) 0 }
     ensures { result ≡ walked left (slice_index next.now) 0 }
@@ -68,7 +68,7 @@ impl<'a> Model for Walk<'a> {
     ghost view = { walk_rest };
 }
 
-/// One walk after another.
+/// Joins two walks, one after another.
 pub fn both<'a>(first: LineWalk<'a>, later: LineWalk<'a>) -> Walk<'a>
     ensures { result ≡ first.entry ++ later.entry }
 {

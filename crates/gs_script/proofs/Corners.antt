@@ -1,4 +1,4 @@
--- What the definitions say where a script, a line or a word is at its edge.
+-- What the definitions say if a script, a line or a word is at its edge.
 use Rattle.std.proofs.Common.{◌≡◌, ℕ, List, [], ◌∷◌, ◌++◌, codes, refl, Ok, Err, true, false, Option, Some, None, Result}
 use Rattle.gs_layout.specs.declared.facts.Class.TheVariants.{Zero, One}
 use Rattle.gs_policy.specs.declared.any.AnyPolicy.TheVariants as policies
@@ -473,7 +473,7 @@ stamp_left_first = refl
 stamp_short : stamps (codes "1") ≡ Some BadCount
 stamp_short = refl
 
--- what a helper of the code answers
+-- what a helper of the code returns
 placed_in_line : placed 3 (line_errors.Fault BadByte) ≡ script_errors.Fault (fault 3 BadByte)
 placed_in_line = refl
 

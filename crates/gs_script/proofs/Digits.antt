@@ -2,7 +2,6 @@
 use Rattle.std.proofs.Common.{◌≡◌, refl, ap, sym, subst, ℕ, zero, suc, ◌+◌, ◌<◌, ◌≤◌, length, true, false, List, [], ◌∷◌, take, get_or, arith, nat_le, nat_eq, ◌&&◌, Ok}
 use Rattle.std.proofs.lemmas.Bool.{and_parts, and_from}
 use Rattle.std.proofs.Math.Bool.{or-true}
-use Rattle.std.proofs.lemmas.Str.Parse.{IsNumeralModel, numerals_by_value, tells_all_ascii_digits, digits_value_short}
 use Rattle.std.proofs.lemmas.Bool.Decides.{nat_tests}
 use Rattle.std.proofs.lemmas.List.{length-take-le}
 use Rattle.std.proofs.lemmas.Str.{digit_value_digit}
@@ -17,9 +16,6 @@ use Rattle.gs_script.specs.Rows.{number_between}
 use Rattle.gs_script.specs.Plain.{StartsWith}
 use Rattle.gs_script.proofs.Taken.{went}
 
-own : IsNumeralModel (λ ds. all_ascii_digits ds ≡ true) (digits_value 10)
-own = numerals_by_value _ tells_all_ascii_digits
-
 pub all_more : (ds : List ℕ) (i : ℕ) → i < length ds → all_ascii_digits (take i ds) ≡ true → is_ascii_digit (get_or ds i 0) ≡ true → all_ascii_digits (take (i + 1) ds) ≡ true
 all_more [] i lt h d = absurd (omega arith)
 all_more (c ∷ cs) zero lt h d = and_from _ _ d refl
@@ -27,10 +23,6 @@ all_more (c ∷ cs) (suc i) lt h d =
     let p = and_parts (is_ascii_digit c) _ h in
     let e : suc (i + 1) ≡ suc i + 1 = omega arith in
     subst (λ n. all_ascii_digits (take n (c ∷ cs)) ≡ true) e (and_from _ _ p.0 (all_more cs i (omega arith) p.1 d))
-
--- 18 digits write less than this
-pub short : (ds : List ℕ) (i : ℕ) → i ≤ length ds → i ≤ 18 → all_ascii_digits (take i ds) ≡ true → digits_value 10 (take i ds) < 1000000000000000000
-short ds i within few all = digits_value_short own (take i ds) 18 all (omega (arith, length-take-le i ds within))
 
 -- what a digit is worth
 pub worth : (c : ℕ) → is_ascii_digit c ≡ true → (48 ≤ c) × (c ≤ 57) × (digit_value c + 48 ≡ c)
@@ -46,10 +38,10 @@ shortest (c ∷ cs) (suc (suc k)) some within plain =
     let unlike : nat_eq c 48 ≡ false = grind (arith, nat_tests) in
     rw unlike (or-true _)
 
-pub read_number : (text : List ℕ) (i n : ℕ) → i ≤ length text → i ≤ 19 → all_ascii_digits (take i text) ≡ true → n ≡ digits_value 10 (take i text) → 0 < i → (1 < i → get_or text 0 0 ≡ 48 → ⊥) → number_between 0 18446744073709551615 (take i text) ≡ Ok n
-read_number text i n within few all is some plain =
+pub read_number : (text : List ℕ) (i n : ℕ) → i ≤ length text → n ≤ 18446744073709551615 → all_ascii_digits (take i text) ≡ true → n ≡ digits_value 10 (take i text) → 0 < i → (1 < i → get_or text 0 0 ≡ 48 → ⊥) → number_between 0 18446744073709551615 (take i text) ≡ Ok n
+read_number text i n within fits all is some plain =
     let size : length (take i text) ≡ i = length-take-le i text within in
-    let low : digits_value 10 (take i text) < 10000000000000000000 = digits_value_short own (take i text) 19 all (omega (arith, size)) in
+    let low : digits_value 10 (take i text) ≤ 18446744073709551615 = subst (λ m. m ≤ 18446744073709551615) is fits in
     let word : is_word (take i text) ≡ true = grind (arith, nat_tests) in
     let t : is_of_kind (Number 0 18446744073709551615) (take i text) ≡ true =
     and_from (is_number (take i text) && nat_le 0 (number (take i text))) (nat_le (number (take i text)) 18446744073709551615)

@@ -65,7 +65,7 @@ generation_failed ws vs o e h k = rw (tseq_read ws vs o h, gen_fault vs e k) ref
 pub history_failed : (ws vs us : List (List ℕ)) (o p : Option ℕ) (e : Reason) → part_in tseq 0 4294967294 ws ≡ Ok (o, vs) → part_in gen 1 4294967295 vs ≡ Ok (p, us) → part_in limit 2 16777216 us ≡ Err e → Err e ≡ firsts_in ws
 history_failed ws vs us o p e h k l = rw (tseq_read ws vs o h, gen_read vs us p k, history_fault us e l) refl
 
--- the parts before the policy, where they were read
+-- the parts before the policy, if they were read
 pub record AreRead (ws vs us left : List (List ℕ)) (o p q : Option ℕ) : Type 0 where
   pub tseq : part_in (codes "first-tseq") 0 4294967294 ws ≡ Ok (o, vs)
   pub generation : part_in (codes "first-gen") 1 4294967295 vs ≡ Ok (p, us)

@@ -1,4 +1,4 @@
--- A config whose numbers are in range is one that an enclave can be opened with.
+-- A configuration whose numbers are in range is one that an enclave can be opened with.
 use Rattle.std.proofs.Common.{◌≡◌, ℕ, ◌≤◌, ◌%◌, true, false, refl, None}
 use Rattle.std.proofs.lemmas.Bool.{le-leb, le-ltb}
 use Rattle.gs_ring.specs.Places.{is_capacity}

@@ -56,7 +56,7 @@ takes_it low high word t =
     (let e = t.low in grind (arith, nat_tests)))
     (let e = t.high in grind (arith, nat_tests))
 
--- what is known where a number was parsed
+-- what is known if a number was parsed
 record Parsed (n : ℕ) (word : List ℕ) : Type 0 where
   digits : all_ascii_digits word ≡ true
   some : 0 < length word

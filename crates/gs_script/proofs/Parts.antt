@@ -19,7 +19,7 @@ closed : (kind : Kind) (word : List ℕ) (forms : List Form) → is_of_kind kind
 closed kind word [] h = refl
 closed kind word (form ∷ forms) h = rw h (closed kind word forms h)
 
--- where a word is taken that stands in front of each form, the rest is read against the forms behind it
+-- if a word is taken that stands in front of each form, the rest is read against the forms behind it
 pub one_step : (kind : Kind) (word : List ℕ) (words : List (List ℕ)) (form : Form) (forms : List Form) → is_of_kind kind word ≡ true → first_fault (map (λ f. kind ∷ f) (form ∷ forms)) (word ∷ words) ≡ first_fault (form ∷ forms) words
 one_step kind word words form forms h = rw (opened kind word (form ∷ forms) h) refl
 

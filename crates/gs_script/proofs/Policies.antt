@@ -1,4 +1,4 @@
--- Words that name a policy: in a header, and where an agent begins.
+-- Words that name a policy: in a header, and when an agent begins.
 use Rattle.std.proofs.Common.{◌≡◌, ℕ, ◌≤◌, List, [], ◌∷◌, refl, ap, ◌∙◌, sym, Ok, Err, codes, length, arith, suc, false, Bor}
 use Rattle.std.proofs.lemmas.Bool.Decides.{nat_tests}
 use Rattle.gs_policy.specs.declared.any.AnyPolicy.{AnyPolicy}
@@ -18,7 +18,7 @@ pub behind_slice : (v : List ℕ) (left : List (Bor (List ℕ))) (n : ℕ) → O
 behind_slice v [] n h some = absurd (omega arith)
 behind_slice v (w ∷ left) n h some = rw ((went (is_of_kind (Number 1 65535) v) n (number v) BadNumber h).0) refl
 
--- where an agent begins, one word or two name its policy as in a header
+-- when an agent begins, one word or two name its policy as in a header
 pub begins_unnamed : (words : List (Bor (List ℕ))) (e : Reason) → 1 ≤ length words → length words ≤ 2 → Err e ≡ policy_named (shown words) → Err e ≡ reads begin (shown words)
 begins_unnamed [] e some few h = absurd (omega arith)
 begins_unnamed (w ∷ []) e some few h = same_fault (first_fault policy_forms (shown (w ∷ []))) e (named (shown (w ∷ []))) (begin.event (shown (w ∷ []))) h

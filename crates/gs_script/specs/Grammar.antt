@@ -36,7 +36,7 @@ fault_of (Number low high) = BadNumber
 fault_of (Multiple step low high) = BadNumber
 fault_of Name = BadName
 
--- what is left of a form where it takes the word
+-- what is left of a form if it takes the word
 abbrev pub after_word : List ℕ → Form → List Form
 after_word word [] = []
 after_word word (kind ∷ form) = if is_of_kind kind word then form ∷ [] else []
@@ -51,7 +51,7 @@ abbrev pub is_empty : {A : Type 0} → List A → Bool
 is_empty [] = true
 is_empty (x ∷ xs) = false
 
--- the first fault of the words, from the left, where these forms are still open
+-- the first fault of the words, from the left, if these forms are still open
 abbrev pub first_fault : List Form → List (List ℕ) → Option Reason
 first_fault forms [] = if list_any is_empty forms then None else Some BadCount
 first_fault forms (word ∷ words) =

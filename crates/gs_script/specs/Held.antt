@@ -15,7 +15,7 @@ use Rattle.gs_script.specs.Rows.{event_of}
 use Rattle.gs_script.specs.Plain.{FirstLine}
 use Rattle.gs_script.specs.Script.{Script, says, fault}
 
--- a word that `parse` reads as a number is one, where this holds: a plus in front is no digit, though `parse` takes it
+-- a word that `parse` reads as a number is one, if this holds: a plus in front is no digit, though `parse` takes it
 abbrev pub begins_plainly : List ℕ → Bool
 begins_plainly word = not (slice_index word 0 == 43) && is_shortest word
 

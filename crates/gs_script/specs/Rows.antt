@@ -101,7 +101,7 @@ activate = to_cpu (codes "activate") commands.Activate
 abbrev pub policy_forms : List Form
 policy_forms = (literal (codes "first") ∷ []) ∷ (literal (codes "two") ∷ Number LEAST_SLICE MOST_SLICE ∷ []) ∷ []
 
--- the policy that words name: first come, where nothing says another
+-- the policy that words name: first come, if nothing says another
 abbrev pub named : List (List ℕ) → AnyPolicy
 named [] = FirstCome (record {})
 named (v ∷ ws) = if is v (codes "two") then TwoClass (record { slice = number (at 0 ws) }) else FirstCome (record {})

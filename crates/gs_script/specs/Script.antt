@@ -51,7 +51,7 @@ abbrev pub with_config : Config AnyPolicy → Result (List (Event AnyPolicy)) Sc
 with_config c (Ok es) = Ok (record { config = c; events = es })
 with_config c (Err f) = Err f
 
--- what a line in the header's place makes of the script: later is what it is where the header stands in a later line
+-- what a line in the header's place makes of the script: later is what it is if the header stands in a later line
 abbrev pub headed : ℕ → Result (Option (Config AnyPolicy)) Reason → Result Script ScriptFault → Result (List (Event AnyPolicy)) ScriptFault → Result Script ScriptFault
 headed n (Err reason) later events = Err (fault n reason)
 headed n (Ok None) later events = later

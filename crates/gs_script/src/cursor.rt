@@ -1,13 +1,10 @@
-//! What stands first in a text. Each answer is what was read and what is left behind it, and `None` says nothing of
-//! the text.
+//! Reading what stands first in a text. Each call returns what was read and what is left behind it, and
+//! `None` says nothing of the text.
 
 ghost use Rattle.std.specs.Prelude.{◌≡◌, ◌≤◌, ◌++◌, ◌∷◌, [], codes, IfSome, Ok, true, if◌then◌else◌};
 ghost use Rattle.gs_script.specs.Words.{is_word, lines_of};
 ghost use Rattle.gs_script.specs.Rows.{number_between};
 ghost use Rattle.gs_script.specs.Plain.{FirstLine, StartsWith, lines_left};
-
-/// The most digits of a number that is read here: 64 bits hold each number of so many.
-const MOST_DIGITS: usize = 19;
 
 /// The first line of a text, and what stands behind its newline.
 #[inline(always)]
@@ -24,7 +21,7 @@ pub(crate) fn first_line(text: &[u8]) -> (&[u8], Option<&[u8]>)
     (&text[..end], Some(&text[end + 1..]))
 }
 
-/// What stands behind these bytes, where a text begins with them.
+/// Returns what stands behind these bytes, if a text begins with them.
 #[inline(always)]
 pub(crate) fn behind<'a>(text: &'a [u8], front: &[u8]) -> Option<&'a [u8]>
     ensures { IfSome result (λ rest. text.now ≡ front.now ++ rest.now) }
@@ -44,7 +41,8 @@ pub(crate) fn line_end(text: &[u8]) -> Option<Option<&[u8]>>
     }
 }
 
-/// The number of 1 to 19 digits that a text begins with, without a needless zero.
+/// Returns the number of 64 bits that a text begins with, and what stands behind its digits. It returns `None` if the
+/// text begins with no digit or a needless zero, or the number has more bits.
 #[inline(always)]
 fn digits_first(text: &[u8]) -> Option<(u64, &[u8])>
     ensures { IfSome result (λ p. StartsWith (λ digits. number_between 0 u64.MAX digits ≡ Ok p.0) text.now p.1.now) }
@@ -52,10 +50,8 @@ fn digits_first(text: &[u8]) -> Option<(u64, &[u8])>
     let mut value: u64 = 0;
     let mut count = 0;
     while count < text.len() && text[count].is_ascii_digit() {
-        if count >= MOST_DIGITS {
-            return None;
-        }
-        value = value * 10 + (text[count] - b'0') as u64;
+        let digit = (text[count] - b'0') as u64;
+        value = value.checked_mul(10)?.checked_add(digit)?;
         count += 1;
     }
     if count == 0 {

@@ -1,11 +1,16 @@
 use crate::script::MOST_BYTES;
 use thiserror::Error;
 
-/// Why a script can't be read. Its length is tested first; then the earliest line that has a fault
-/// counts. In a line the first of these counts: a bad byte, in a comment too; where the header is to
-/// stand, a first word that isn't `cpus`; a first word that no event has; a count of words that no
-/// form of the line has, for a header only one under four; then the words, from left to right. A line
-/// that ends inside a part of it, and words behind all that may stand there, are `BadCount`.
+/// Why a script can't be read. Its length is tested first. Then the earliest line that has a fault counts,
+/// and in it the first of these faults:
+///
+/// - a bad byte, in a comment too;
+/// - if the header is to stand there, a first word that isn't `cpus`;
+/// - a first word that no event has;
+/// - a count of words that no form of the line has, for a header only one under four;
+/// - the words, from left to right.
+///
+/// A line that ends inside a part of it, and words behind all that may stand there, are `BadCount`.
 #[derive(Clone, Copy, PartialEq, Eq, Debug, Error)]
 pub enum Reason {
     #[error("the script has over {} bytes", MOST_BYTES)]
@@ -24,8 +29,8 @@ pub enum Reason {
     BadName,
 }
 
-/// A fault of a script, and the line that has it. Lines are counted from 1; line 0 is the script
-/// itself, where it is too long or has no header.
+/// A fault of a script, and the line that has it. Lines are counted from 1. Line 0 is the script itself, if
+/// it is too long or has no header.
 #[derive(Clone, Copy, PartialEq, Eq, Debug, Error)]
 #[error("line {line}: {reason}")]
 pub struct ScriptFault {

@@ -43,7 +43,7 @@ fn capacity(word: &str) -> Result<u32, Reason>
     Ok(capacity)
 }
 
-/// The number behind the word `name`, where the words begin with that, and the words that are left.
+/// Returns the number behind the word `name`, if the words begin with that, and the words that are left.
 fn part<'a, 'w>(
     words: &'a [&'w str],
     name: &str,
@@ -98,7 +98,7 @@ pub(crate) fn named_policy(words: &[&str]) -> Result<AnyPolicy, Reason>
     }
 }
 
-/// The policy, where the words begin with `policy`; first come, where there are none.
+/// Returns the policy, if the words begin with `policy`, or first come, if there are none.
 fn policy(words: &[&str]) -> Result<AnyPolicy, Reason>
     ensures { result ≡ policy_in (shown words.now) }
 {
@@ -111,9 +111,9 @@ fn policy(words: &[&str]) -> Result<AnyPolicy, Reason>
     }
 }
 
-/// What the words behind the sizes say: each part once or not at all, in this order. Where they say nothing
-/// of a part, sequence numbers begin above 0, the generation is the least, the journal is made for the most
-/// entries, and the policy is first come.
+/// Returns what the words behind the sizes say: each part once or not at all, in this order. If they say
+/// nothing of a part, sequence numbers begin above 0, and the generation is the least. Then the journal is
+/// made for the most entries, and the policy is first come.
 #[tactic(auto, using(crate::proofs::Firsts::tseq_failed, crate::proofs::Firsts::generation_failed, crate::proofs::Firsts::history_failed, crate::proofs::Firsts::policy_failed))]
 fn optional(words: &[&str]) -> Result<Firsts, Reason>
     ensures exact { result ≡ firsts_in (shown words.now) }

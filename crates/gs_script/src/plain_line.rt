@@ -178,7 +178,7 @@ fn late(text: &[u8]) -> Found<'_>
     Some((Event::Late { number }, left))
 }
 
-/// The event of a text's first line, where that is a frequent one in its plainest form.
+/// Returns the event of a text's first line, if that is a frequent one in its plainest form.
 pub(crate) fn plain_event(text: &[u8]) -> Found<'_>
     ensures { IfSome result (λ p. FirstLine (λ line. says event_of line ≡ Ok (Some p.0)) text.now p.1) }
 {

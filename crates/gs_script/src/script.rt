@@ -1,6 +1,7 @@
 ghost use Rattle.std.specs.Prelude.{◌≡◌, ◌+◌, ◌<◌, ◌^◌, IfOk, IfErr, IfSome, length, None, Some, Ok, if◌then◌else◌};
 ghost use Rattle.std.specs.Result.{result_map_both};
 ghost use Rattle.gs_core.specs.Config.{config_fault};
+ghost use Rattle.gs_script.specs.declared.script.ScriptError.TheVariants.{OutOfMemory};
 ghost use Rattle.gs_script.specs.Words.{lines_of};
 ghost use Rattle.gs_script.specs.Rows.{event_of, shown};
 ghost use Rattle.gs_script.specs.Header.{header_of};
@@ -16,7 +17,7 @@ use crate::plain_line::plain_event;
 use crate::word::{split, text};
 use gs_core::{Config, Event};
 use gs_policy::AnyPolicy;
-use std::alloc::Global;
+use std::alloc::{AllocError, Global};
 use thiserror::Error;
 
 /// The most bytes that a script may have, so that the memory that it is read into has a bound. A longer one
@@ -37,6 +38,14 @@ pub enum ScriptError {
     Fault(ScriptFault),
     #[error("out of memory")]
     OutOfMemory,
+}
+
+impl From<AllocError> for ScriptError {
+    ghost from_gives = { λ _ error. error ≡ OutOfMemory };
+
+    fn from(_failed: AllocError) -> ScriptError {
+        ScriptError::OutOfMemory
+    }
 }
 
 /// Why a line wasn't read.
@@ -79,7 +88,7 @@ fn words_said<'a>(line: &'a [u8], words: &mut Vec<&'a str>) -> Result<bool, Line
     Ok(!is_comment(words))
 }
 
-/// What an event line says, or `None` where it says nothing. Its words are left in the place of those that are
+/// What an event line says, or `None` if it says nothing. Its words are left in the place of those that are
 /// there.
 #[tactic(auto, using(crate::proofs::Said::value_said, crate::proofs::Said::reason_said, crate::proofs::Said::nothing_said, crate::proofs::Said::error_said))]
 fn event_line<'a>(
@@ -97,7 +106,7 @@ fn event_line<'a>(
     }
 }
 
-/// What a line in the header's place says, or `None` where it says nothing.
+/// What a line in the header's place says, or `None` if it says nothing.
 #[tactic(auto, using(crate::proofs::Said::value_said, crate::proofs::Said::reason_said, crate::proofs::Said::nothing_said, crate::proofs::Said::error_said))]
 fn header_line(alloc: Global, line: &[u8]) -> Result<Option<Config<AnyPolicy>>, LineError>
     ensures exact { Gives result (says header_of line.now) }
@@ -113,8 +122,8 @@ fn header_line(alloc: Global, line: &[u8]) -> Result<Option<Config<AnyPolicy>>, 
     }
 }
 
-/// Adds the event that the first line of a text says, if it says one, and answers what is left behind the line.
-/// A plain line is read in one pass, and any other by its words.
+/// Adds the event that the first line of a text says, if it says one, and returns what is left behind the
+/// line. A plain line is read in one pass, and any other by its words.
 fn add_event<'a>(
     text: &'a [u8],
     words: &mut Vec<&'a str>,
@@ -193,8 +202,12 @@ fn from_text(alloc: Global, text: &[u8]) -> Result<Script, ScriptError>
     Err(ScriptError::Fault(fault))
 }
 
-/// The script that these bytes say, or its first fault, or want of memory. A config that is read is
-/// one that an enclave can be opened with.
+/// Reads the script that these bytes say. A configuration that is read is one that an enclave can be opened
+/// with.
+///
+/// # Errors
+///
+/// The first fault of the script, or out of memory.
 #[tactic(auto, using(crate::proofs::HeaderLines::few_lines))]
 pub fn read_script(alloc: Global, bytes: &[u8]) -> Result<Script, ScriptError>
     ensures exact { GivesBy seen result (script_of bytes.now) }

@@ -14,7 +14,7 @@ fn is_printed(line: &[u8]) -> bool
     line.iter().all(|byte| 32 <= *byte && *byte <= 126)
 }
 
-/// A line as text, where each of its bytes may stand in one.
+/// Returns a line as text, if each of its bytes may stand in one.
 #[tactic(auto, using(crate::proofs::Texts::text_is_utf8))]
 pub(crate) fn text(line: &[u8]) -> Option<&str>
     ensures { MatchOption result (is_text line.now ≡ false) (λ t. (t.now ≡ line.now) × (is_text line.now ≡ true)) }
@@ -28,8 +28,8 @@ pub(crate) fn text(line: &[u8]) -> Option<&str>
     }
 }
 
-/// Puts the words of a line in the place of those that are there. Where it fails, some of the line's words
-/// may be there.
+/// Puts the words of a line in the place of those that are there. If it fails, some of the line's words may
+/// be there.
 pub(crate) fn split<'a>(line: &'a str, words: &mut Vec<&'a str>) -> Result<(), AllocError>
     ensures { OnOk result (map (λ w. w.now) words.new.items ≡ words_of line.now) }
 {

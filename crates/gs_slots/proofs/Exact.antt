@@ -1,4 +1,4 @@
--- Bytes are read as a state of a slot exactly where they are its spelling.
+-- Bytes are read as a state of a slot exactly if they are its spelling.
 use Rattle.std.proofs.Common.{◌≡◌, Bool, true, false, ℕ, zero, suc, ◌+◌, ◌^◌, ◌<◌, ◌≤◌, inl, inr, Option, None, Some, Ok, Err, IfOk, List, [], ◌∷◌, ◌++◌, length, drop, replicate, refl, ap, sym, subst, ◌∙◌, arith}
 use Rattle.std.specs.Prelude.{◌==◌, ◌&&◌, nat_lt, if◌then◌else◌, slice_index, unwrap_or}
 use Rattle.std.specs.Cmp.Lexicographic.{bytes_decides}
@@ -24,7 +24,7 @@ use Rattle.gs_slots.proofs.ReadBack.{read_back, reads}
 
 -- ---- numbers in a place
 
--- eight zeros, where the number there is zero
+-- eight zeros, if the number there is zero
 zeros_at : (p : ℕ) (xs : List ℕ) → p + 8 ≤ length xs → IsBytes xs → is_zero_at p xs ≡ true → replicate 8 0 ++ drop (p + 8) xs ≡ drop p xs
 zeros_at p xs long fits e = ap (λ (n : ℕ). little_bytes 8 n ++ drop (p + 8) xs) (sym (eqb-true (number_at p 8 xs) 0 e)) ∙ at_8 p xs long fits
 
@@ -71,7 +71,7 @@ end_of xs size = drop_all 32 xs (omega (arith, size))
 last_zeros : (xs : List ℕ) → IsBytes xs → length xs ≡ 32 → is_zero_at 24 xs ≡ true → replicate 8 0 ≡ drop 24 xs
 last_zeros xs fits size e = ap (λ (r : List ℕ). replicate 8 0 ++ r) (sym (end_of xs size)) ∙ zeros_at 24 xs (omega (arith, size)) fits e
 
-idle_sound : (xs : List ℕ) → IsBytes xs → length xs ≡ 32 → is_idle xs ≡ true → replicate 32 0 ≡ xs
+pub idle_sound : (xs : List ℕ) → IsBytes xs → length xs ≡ 32 → is_idle xs ≡ true → replicate 32 0 ≡ xs
 idle_sound xs fits size e =
     let a = and_parts (is_zero_at 0 xs && is_zero_at 8 xs && is_zero_at 16 xs) (is_zero_at 24 xs) e in
     let b = and_parts (is_zero_at 0 xs && is_zero_at 8 xs) (is_zero_at 16 xs) a.0 in
@@ -138,7 +138,7 @@ spelling_passes k (Done s o at seen) lt = λ i. flag_below s.preempt i && names_
 
 -- ---- the test by fields is the test for the spelling
 
-same_tests : (a b : Bool) → (a ≡ true → b ≡ true) → (b ≡ true → a ≡ true) → a ≡ b
+pub same_tests : (a b : Bool) → (a ≡ true → b ≡ true) → (b ≡ true → a ≡ true) → a ≡ b
 same_tests true b f g = sym (f refl)
 same_tests false b f g = sym (false_from_ne_true b (λ e. let no : false ≡ true = g e in cc))
 
@@ -207,7 +207,7 @@ spelt_read k xs z fits e =
     let held : can_hold (fields_in xs) ≡ true = ap can_hold same ∙ fits.0 in
     state_is k xs ∙ (λ i. read_by (spelt i) (held i) (same i))
 
--- ---- what the tests answer is what is read
+-- ---- what the tests return is what is read
 
 pub read_by_tests : (k : ℕ) (xs : List ℕ) (z : SlotState) (a b : Bool) → IsBytes xs → length xs ≡ 32 → k < 2 ^ 16 → a ≡ passes k xs → z ≡ fields_in xs → b ≡ can_hold z → read_by a b z ≡ state_in k xs
 read_by_tests k xs z a b fits size low passed fields held =

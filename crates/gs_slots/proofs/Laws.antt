@@ -1,4 +1,5 @@
 -- What the proofs of the crates above cite of this crate.
+pub use Rattle.gs_slots.proofs.Busy.{ahead, goes_up, none_before, none_left, quiet_read}
 pub use Rattle.gs_slots.proofs.Exact.{read_spelt}
 pub use Rattle.gs_slots.proofs.Filled.{all_left}
 pub use Rattle.gs_slots.proofs.Lent.{by_cpu_count, by_cpu_more, by_cpu_stays, changed_more, set_as_it_was}

@@ -2,6 +2,7 @@ mod Lent
 mod ReadBack
 mod Exact
 mod States
+mod Busy
 mod Filled
 mod Rows
 pub mod Laws

@@ -58,7 +58,7 @@ stamp_back kind cpu s rest fits = λ i. record {
   preempt = flag_back s.preempt i;
 }
 
--- where a slot can hold a result, its CPU is one or none
+-- if a slot can hold a result, its CPU is one or none
 some_is_set : (a b c p d : Bool) → (a && b && c && not p && false && d) ≡ true → ⊥
 some_is_set a b c p d e =
     let left = (and_parts (a && b && c && not p && false) d e).0 in

@@ -65,8 +65,8 @@ refused_read : state_in 1 refused_bytes ≡ Ok refused
 unfolding state_in is_spelt
 refused_read = refl
 
--- malformed: another CPU's; all ones; a second flag; an outcome 14; a place 64; a byte behind the fields; an idle slot with a byte set;
--- a malformed landing of a thread
+-- malformed: another CPU's; all ones; a second flag; an outcome 14; a place 64; a byte behind the fields. Malformed too: an idle slot with a byte
+-- set; a malformed landing of a thread
 abbrev malformed : Held
 malformed = Err (record {})
 
@@ -121,6 +121,6 @@ stamped_outcome = refl
 done_outcome : outcome_of (Done first HistoryFull None 1) ≡ Some HistoryFull
 done_outcome = refl
 
--- a region of three is the slots as they were left, in order
+-- a region of three is the slots as they are left, in order
 three_left : left_as (replicate 32 0 ∷ stamped_bytes ∷ placed_bytes ∷ []) (full_bytes ∷ replicate 32 0 ∷ stamped_bytes ∷ []) ≡ full_bytes ∷ replicate 32 0 ∷ stamped_bytes ∷ []
 three_left = refl

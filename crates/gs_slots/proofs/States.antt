@@ -1,13 +1,13 @@
 -- What is read of slots by their CPUs.
-use Rattle.std.proofs.Common.{◌≡◌, Bool, true, false, cond, None, Err, ℕ, zero, suc, ◌+◌, Some, Ok, List, [], ◌∷◌, length, map, replicate, slice_get, slice_set, refl, ap, ◌∙◌, arith}
+use Rattle.std.proofs.Common.{◌≡◌, ℕ, zero, suc, ◌+◌, Some, Ok, List, [], ◌∷◌, length, map, replicate, slice_get, slice_set, refl, ap, ◌∙◌, arith}
 use Rattle.std.specs.List.{list_any}
-use Rattle.std.specs.Prelude.{◌||◌, ◌&&◌, ◌==◌, slice_index}
+use Rattle.std.specs.Prelude.{◌||◌}
 use Rattle.gs_slots.specs.declared.state.SlotState.{SlotState}
 use Rattle.gs_slots.specs.declared.state.SlotState.TheVariants.{Idle, Stamped, Done}
-use Rattle.gs_slots.specs.Reading.{all_collected, collected_in, done_in, fields_in, idle_if_done, is_spelt, stamp_in, state_in, state_or_idle, states_in, told_by}
-use Rattle.gs_slots.specs.Spelling.{can_hold, idle_bytes}
+use Rattle.gs_slots.specs.Reading.{all_collected, collected_in, idle_if_done, state_in, state_or_idle, states_in, told_by}
+use Rattle.gs_slots.specs.Spelling.{idle_bytes}
 use Rattle.gs_slots.proofs.Exact.{spelt_read}
-use Rattle.gs_slots.specs.State.{Held, collected, has_stamp, is_stamped, told_in}
+use Rattle.gs_slots.specs.State.{Held, collected, has_stamp, is_stamped}
 
 same_bytes : (x y : List ℕ) → Some x ≡ Some y → x ≡ y
 same_bytes x y e = cc
@@ -100,14 +100,3 @@ stamps_read xs zs e = ap (list_any has_stamp) e ∙ all_stamps zs
     all_stamps : (zs : List SlotState) → list_any has_stamp (map Ok zs) ≡ list_any is_stamped zs
     all_stamps [] = refl
     all_stamps (z ∷ zs) = ap (λ b. is_stamped z || b) (all_stamps zs)
-
--- a slot whose first byte is not that of a done one tells of no outcome
-pub untold : (k : ℕ) (bytes : List ℕ) → (slice_index bytes 0 == 2) ≡ false → told_in (state_in k bytes) ≡ None
-unfolding state_in
-untold k bytes other = by_tests (is_spelt k bytes && can_hold (fields_in bytes)) (slice_index bytes 0 == 1) (slice_index bytes 0 == 2) other
-  where
-    by_tests : (a b d : Bool) → d ≡ false → told_in (cond a (Ok (cond b (Stamped (stamp_in bytes)) (cond d (done_in bytes) Idle))) (Err (record {}))) ≡ None
-    by_tests false b d e = refl
-    by_tests true true d e = refl
-    by_tests true false true e = absurd cc
-    by_tests true false false e = refl

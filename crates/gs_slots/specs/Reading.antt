@@ -30,8 +30,8 @@ abbrev pub fields_in : List ℕ → SlotState
 fields_in bytes =
     if slice_index bytes 0 == 1 then Stamped (stamp_in bytes) else if slice_index bytes 0 == 2 then done_in bytes else Idle
 
--- whether these bytes are what the slot of CPU k is with the fields that they have: its CPU is k, no other flag and no byte between the fields
--- or behind them is set, and its outcome is one
+-- whether these bytes are what the slot of CPU k is with the fields that they have. Its CPU is k, and its outcome is one. No other flag is set, and
+-- no byte between the fields or behind them
 unfoldable pub is_spelt : ℕ → List ℕ → Bool
 is_spelt k bytes = pointwise nat_eq bytes (slot_spelling k (fields_in bytes))
 

@@ -14,7 +14,7 @@ use Rattle.gs_slots.specs.State.{is_malformed}
 abbrev pub flags_of : Stamp → ℕ
 flags_of s = if s.preempt then 1 else 0
 
--- the first 16 bytes of a slot that is not idle: 1 where it is stamped and 2 where it is done, and the transaction
+-- the first 16 bytes of a slot that is not idle: 1 if it is stamped and 2 if it is done, and the transaction
 abbrev pub stamp_bytes : ℕ → ℕ → Stamp → List ℕ
 stamp_bytes kind cpu s =
     (kind ∷ flags_of s ∷ []) ++ little_bytes 2 cpu ++ little_bytes 4 s.generation ++ little_bytes 4 s.tid ++ little_bytes 4 s.tseq

@@ -20,7 +20,7 @@ abbrev pub has_stamp : Held → Bool
 has_stamp (Ok z) = is_stamped z
 has_stamp (Err e) = false
 
--- what became of the transaction in a slot, where it landed
+-- what became of the transaction in a slot, if it landed
 abbrev pub outcome_of : SlotState → Option Outcome
 outcome_of (Done s outcome at seen) = Some outcome
 outcome_of _ = None

@@ -6,6 +6,7 @@ ghost use Rattle.gs_slots.specs.declared.state.SlotState.{SlotState};
 ghost use Rattle.gs_slots.specs.declared.state.Stamp.{Stamp};
 ghost use Rattle.gs_slots.specs.Spelling.{can_hold, done_bytes, is_blank, is_result, result_bytes, slot_spelling, stamp_bytes};
 ghost use Rattle.gs_slots.specs.Reading.{fields_in, outcome_in, stamp_in, state_in};
+ghost use Rattle.gs_slots.specs.Busy.{is_busy};
 ghost use Rattle.gs_slots.specs.State.{has_stamp, is_malformed, refused};
 ghost use Rattle.gs_slots.specs.Tests.{is_done, is_idle, is_of, is_stamp, is_zero_at, passes};
 
@@ -22,7 +23,7 @@ const STAMPED: u8 = 1;
 
 const DONE: u8 = 2;
 
-/// Where what became of a transaction stands.
+/// The byte at which what became of a transaction begins.
 const RESULT: usize = 16;
 
 /// How many outcomes there are: their numbers are below it.
@@ -47,7 +48,7 @@ fn outcome_at(bytes: &[u8]) -> Outcome
     Outcome::numbered(u16_at(bytes, 16)).unwrap_or(Outcome::Malformed)
 }
 
-/// What the fields of a slot say, whatever its other bytes are.
+/// Returns what the fields of a slot say, whatever its other bytes are.
 fn fields_at(bytes: &[u8]) -> SlotState
     requires { length bytes.now ≡ 32 }
     ensures { result ≡ fields_in bytes.now }
@@ -66,15 +67,7 @@ fn fields_at(bytes: &[u8]) -> SlotState
     }
 }
 
-/// Whether the first byte is that of a done slot, whatever the others are.
-pub(crate) fn begins_as_done(bytes: &[u8]) -> bool
-    requires { length bytes.now ≡ 32 }
-    ensures { result ≡ (slice_index bytes.now 0 == 2) }
-{
-    bytes[0] == DONE
-}
-
-/// Whether the eight bytes from a place on are zero.
+/// Returns whether the eight bytes from a place on are zero.
 fn is_zero_at(place: usize, bytes: &[u8]) -> bool
     requires { place + 8 ≤ length bytes.now }
     ensures { result ≡ is_zero_at place bytes.now }
@@ -82,7 +75,7 @@ fn is_zero_at(place: usize, bytes: &[u8]) -> bool
     u64_at(bytes, place) == 0
 }
 
-/// Whether no flag but the first is set, and the CPU is this one.
+/// Returns whether no flag but the first is set, and the CPU is this one.
 fn is_of(cpu: u16, bytes: &[u8]) -> bool
     requires { length bytes.now ≡ 32 }
     ensures { result ≡ is_of cpu bytes.now }
@@ -95,6 +88,15 @@ fn is_idle(bytes: &[u8]) -> bool
     ensures { result ≡ is_idle bytes.now }
 {
     is_zero_at(0, bytes) && is_zero_at(8, bytes) && is_zero_at(16, bytes) && is_zero_at(24, bytes)
+}
+
+/// Returns whether these are other bytes than those of an idle slot.
+#[tactic(auto, using(crate::proofs::Busy::busy_by_test))]
+pub(crate) fn is_busy(bytes: &[u8]) -> bool
+    requires { length bytes.now ≡ 32 }
+    ensures { result ≡ is_busy bytes.now }
+{
+    !is_idle(bytes)
 }
 
 fn is_stamp(cpu: u16, bytes: &[u8]) -> bool
@@ -111,7 +113,7 @@ fn is_done(cpu: u16, bytes: &[u8]) -> bool
     is_of(cpu, bytes) && u16_at(bytes, 16) < OUTCOMES && is_zero_at(24, bytes)
 }
 
-/// Whether the fields of the slot of a CPU are right, and all other bytes zero.
+/// Returns whether the fields of the slot of a CPU are right, and all other bytes zero.
 fn passes(cpu: u16, bytes: &[u8]) -> bool
     requires { length bytes.now ≡ 32 }
     ensures { result ≡ passes cpu bytes.now }
@@ -123,7 +125,7 @@ fn passes(cpu: u16, bytes: &[u8]) -> bool
     }
 }
 
-/// Whether this can be left of a transaction: a CPU or none; of a malformed slot nothing but that.
+/// Returns whether this can be left of a transaction: a CPU or none; of a malformed slot nothing but that.
 fn is_result(stamp: &Stamp, outcome: Outcome, at: Option<u16>, seen: u32) -> bool
     ensures { result ≡ is_result stamp.now outcome at seen }
 {
@@ -136,7 +138,7 @@ fn is_result(stamp: &Stamp, outcome: Outcome, at: Option<u16>, seen: u32) -> boo
     }
 }
 
-/// Whether the numbers of a transaction, and of what became of it, are all zero, and no CPU is named.
+/// Returns whether the numbers of a transaction, and of what became of it, are all zero, and no CPU is named.
 fn is_blank(stamp: &Stamp, at: Option<u16>, seen: u32) -> bool
     ensures { result ≡ is_blank stamp.now at seen }
 {
@@ -148,7 +150,7 @@ fn is_blank(stamp: &Stamp, at: Option<u16>, seen: u32) -> bool
         && seen == 0
 }
 
-/// Whether a slot can hold this.
+/// Returns whether a slot can hold this.
 fn can_hold(state: &SlotState) -> bool
     ensures { result ≡ can_hold state.now }
 {
@@ -163,17 +165,20 @@ fn can_hold(state: &SlotState) -> bool
     }
 }
 
-/// What is read of the slot of a CPU.
+/// Returns what is read of the slot of a CPU.
 ///
 /// # Errors
 ///
-/// Where its bytes spell no state of a slot of this CPU.
+/// `Malformed` if its bytes spell no state of a slot of this CPU.
 pub(crate) fn state_at(cpu: u16, bytes: &[u8]) -> Result<SlotState, Malformed>
     requires { length bytes.now ≡ 32 }
     ensures { result ≡ state_in cpu bytes.now }
 {
+    if !passes(cpu, bytes) {
+        return Err(Malformed);
+    }
     let fields = fields_at(bytes);
-    if passes(cpu, bytes) && can_hold(&fields) {
+    if can_hold(&fields) {
         Ok(fields)
     } else {
         Err(Malformed)
@@ -211,7 +216,7 @@ pub(crate) fn write_stamped(cpu: u16, stamp: &Stamp, out: &mut [u8])
     write_stamp(STAMPED, cpu, stamp, out);
 }
 
-/// Makes a slot done that is stamped: its transaction stays where it is.
+/// Makes a slot done that is stamped, and leaves its transaction in it.
 fn write_done(outcome: Outcome, at: Option<u16>, seen: u32, out: &mut [u8])
     requires { length out.old ≡ 32 }
     ensures { out.new ≡ done_bytes outcome at seen out.old }
@@ -229,8 +234,8 @@ fn write_refused(cpu: u16, out: &mut [u8])
     write_done(Outcome::Malformed, None, 0, out);
 }
 
-/// Leaves in the slot of a CPU what became of the transaction that is stamped in it; or, with the outcome
-/// `Malformed`, nothing but that, whatever was in it.
+/// Leaves in the slot of a CPU what became of the transaction that is stamped in it. With the outcome
+/// `Malformed` it leaves nothing but that, whatever was in the slot.
 pub(crate) fn finish(cpu: u16, outcome: Outcome, at: Option<u16>, seen: u32, out: &mut [u8])
     requires size { length out.old ≡ 32 }
     requires stamped { is_malformed outcome ≡ false → has_stamp (state_in cpu out.old) ≡ true }

@@ -32,14 +32,15 @@ pub enum FillFault {
     SlotBusy(u16),
 }
 
-/// Stamps transactions into slots of a region, in two threads where they can be had: those for the CPUs
-/// below one in the first, and those from there on in the second. It leaves what stamping them in order
-/// leaves: each slot that is named and idle is stamped, also where another was not idle, and every other
-/// slot is as before. The CPUs of the transactions rise, and are the region's.
+/// Stamps transactions into slots of a region, in two threads if these can be had. The first thread stamps
+/// those for the CPUs below `at`, and the second those from there on. The call leaves what stamping them in
+/// order leaves. It stamps each slot that is named and idle, also if another was not idle, and changes no
+/// other slot. The transactions come in increasing order of CPU, at most one for each, and their CPUs are the
+/// region's.
 ///
 /// # Errors
 ///
-/// `SlotBusy` exactly where a slot that is named was not idle: the least CPU of these.
+/// `SlotBusy` exactly if a slot that is named was not idle: the least CPU of these.
 pub fn fill_halves(
     rt: &impl Threads,
     region: &mut Region,
@@ -59,7 +60,7 @@ pub fn fill_halves(
     answer_of(busy.or(later))
 }
 
-/// What is answered, where a slot was not idle or none.
+/// Returns the fault for a slot that was not idle, or `Ok` if there is none.
 fn answer_of(busy: Option<u16>) -> Result<(), FillFault>
     ensures { result ≡ fault_of busy }
 {
@@ -69,8 +70,8 @@ fn answer_of(busy: Option<u16>) -> Result<(), FillFault>
     }
 }
 
-/// Stamps transactions into two parts of slots, each in a thread of its own where it can be had. Answers
-/// of each part the first CPU whose slot was not idle.
+/// Stamps transactions into two parts of slots, each in a thread of its own if it can be had. Returns of each
+/// part the first CPU whose slot was not idle.
 fn fill_both(
     rt: &impl Threads,
     first: u16,
@@ -94,7 +95,7 @@ fn fill_both(
     )
 }
 
-/// Transactions from the first one on that is for no CPU below one.
+/// Returns the transactions from the first one on that is for no CPU below one.
 fn from_cpu(cpu: u16, fills: &[Fill]) -> &[Fill]
     ensures { result.now ≡ drop (count_below cpu fills.now) fills.now }
 {
@@ -104,8 +105,8 @@ fn from_cpu(cpu: u16, fills: &[Fill]) -> &[Fill]
     }
 }
 
-/// Stamps transactions into slots, the first of which is that of a CPU. Answers the first CPU whose slot
-/// was not idle.
+/// Stamps transactions into slots, the first of which is that of a CPU. Returns the first CPU whose slot was
+/// not idle.
 #[tactic(auto, using(crate::proofs::Filled::rest_within, crate::proofs::Filled::rest_busy))]
 fn fill_part(first: u16, slots: &mut [[u8; 32]], fills: &[Fill]) -> Option<u16>
     requires { AreWithin first (first + length slots.old) fills.now }
@@ -118,7 +119,7 @@ fn fill_part(first: u16, slots: &mut [[u8; 32]], fills: &[Fill]) -> Option<u16>
     busy.or(behind)
 }
 
-/// Stamps a transaction into its slot. Answers its CPU, where the slot was not idle.
+/// Stamps a transaction into its slot. Returns its CPU if the slot was not idle.
 #[tactic(auto, using(crate::proofs::Filled::one_filled))]
 fn fill_one(fill: &Fill, bytes: &mut [u8; 32]) -> Option<u16>
     ensures slot { bytes.new ≡ filled_slot fill.now bytes.old }

@@ -1,10 +1,10 @@
 //! The commit region: one slot for each CPU, lent out one by one or in two parts.
 //!
-//! An agent stamps a transaction into the slot of the CPU on which a thread is to run; the kernel
-//! leaves in it what became of the transaction. Slots that are lent together are disjoint, and the
-//! region is afterwards the slots as they were left, in order.
+//! An agent stamps a transaction into the slot of the CPU on which a thread is to run. The kernel leaves in
+//! it what became of the transaction. Slots that are lent together are disjoint, and what is written to them
+//! is written to the region, in order.
 //!
-//! No call but [`Region::new`] takes memory.
+//! No call but [`Region::new`] allocates.
 #![tactic(auto)]
 
 mod bytes;

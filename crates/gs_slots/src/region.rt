@@ -1,43 +1,49 @@
-ghost use Rattle.std.specs.Prelude.{◌≡◌, ◌+◌, ◌<◌, ◌≤◌, ◌^◌, length, replicate, slice_get, IfOk, Some};
+ghost use Rattle.std.specs.Prelude.{◌≡◌, ◌+◌, ◌<◌, ◌≤◌, ◌^◌, ◌||◌, ◌==◌, ℕ, length, replicate, slice_get, IfOk, Some};
 ghost use Rattle.std.specs.Borrow.{sem};
 ghost use Rattle.std.specs.List.{list_any};
+ghost use Rattle.gs_status.specs.Masks.{has};
+ghost use Rattle.gs_slots.specs.Busy.{CoversBusy, is_busy_at};
 ghost use Rattle.gs_slots.specs.Lending.{LendsAll, LendsOne};
 ghost use Rattle.gs_slots.specs.Reading.{states_in};
 ghost use Rattle.gs_slots.specs.SlotMut.{bytes_of, cpu_of};
 ghost use Rattle.gs_slots.specs.Spelling.{idle_bytes};
 ghost use Rattle.gs_slots.specs.State.{has_stamp};
 
-use crate::bytes::{SIZE, state_at};
+use crate::bytes::{SIZE, is_busy, state_at};
 use crate::slot::SlotMut;
 use crate::slots::Slots;
 use crate::state::{Malformed, SlotState};
+use gs_status::{MOST_CPUS, Mask};
 use std::alloc::{AllocError, Global};
 use std::marker::Model;
 
 /// The slots of all CPUs: one block of 32 bytes for each, that of CPU 0 first.
+///
+/// Which slots are not idle is found without a look at each: a slot that was idle and was not lent since still is.
 #[derive(Drop)]
 pub struct Region {
     blocks: Vec<[u8; 32]>,
+    /// The CPUs below [`MOST_CPUS`] whose slots were lent since they were last seen to be idle.
+    lent: Mask,
 }
 
 impl Model for Region {
-    ghost use Rattle.std.specs.Prelude.{List, ℕ, ◌<◌, ◌^◌};
+    ghost use Rattle.std.specs.Prelude.{List, ℕ};
+    ghost use Rattle.gs_slots.specs.Busy.{IsRegion};
 
     ghost Value = { List (List ℕ) };
 
-    ghost use Rattle.std.specs.Prelude.{vec_len};
-
     ghost view = { λ region. region.blocks.items };
 
-    ghost invariant = { λ region. vec_len region.blocks < 2 ^ 16 };
+    ghost invariant = { λ region. IsRegion region.blocks.items region.lent };
 }
 
 impl Region {
-    /// A region of so many slots, all idle.
+    /// Makes a region of so many slots, all idle.
     ///
     /// # Errors
     ///
-    /// Where memory runs out.
+    /// `AllocError` if out of memory.
     pub fn new(alloc: Global, cpus: u16) -> Result<Region, AllocError>
         ensures { IfOk result (λ region. region ≡ replicate cpus idle_bytes) }
     {
@@ -45,17 +51,20 @@ impl Region {
         for _ in 0..cpus {
             blocks.push_reserved([0; SIZE]);
         }
-        Ok(Region { blocks })
+        Ok(Region {
+            blocks,
+            lent: Mask::none(),
+        })
     }
 
-    /// How many slots there are, one for each CPU.
+    /// Returns how many slots there are, one for each CPU.
     pub fn cpus(&self) -> u16
         ensures { result ≡ length self.now }
     {
         self.blocks.len() as u16
     }
 
-    /// The bytes of the slot of a CPU.
+    /// Lends the bytes of the slot of a CPU.
     pub fn bytes(&self, cpu: u16) -> &[u8; 32]
         requires { cpu < length self.now }
         ensures { slice_get self.now cpu ≡ Some result.now }
@@ -63,11 +72,11 @@ impl Region {
         &self.blocks[cpu as usize]
     }
 
-    /// What is in the slot of a CPU.
+    /// Returns what is in the slot of a CPU.
     ///
     /// # Errors
     ///
-    /// `Malformed` exactly where its bytes spell no state of a slot of that CPU.
+    /// `Malformed` exactly if its bytes spell no state of a slot of that CPU.
     pub fn state(&self, cpu: u16) -> Result<SlotState, Malformed>
         requires { cpu < length self.now }
         ensures { slice_get (states_in 0 self.now) cpu ≡ Some result }
@@ -75,18 +84,29 @@ impl Region {
         state_at(cpu, self.bytes(cpu))
     }
 
-    /// Lends the slot of a CPU. Afterwards the region has it as it was left, and every other slot as
-    /// before.
+    /// Lends the slot of a CPU. What is written to it is written to the region, and every other slot stays as
+    /// it is.
     pub fn slot(&mut self, cpu: u16) -> SlotMut<'_>
         requires { cpu < length self.old }
         ensures* writes_back { sem 𝓛 (LendsOne self.entry cpu result) }
         ensures bytes { slice_get self.old cpu ≡ Some (bytes_of result) }
         ensures cpu { cpu_of result ≡ cpu }
     {
+        self.lent = with_lent(self.lent, cpu);
         SlotMut::over(cpu, &mut self.blocks[cpu as usize])
     }
 
-    /// Whether a transaction is stamped into a slot, that did not land yet.
+    /// Returns the CPUs below [`MOST_CPUS`] whose slots are not idle: stamped, done or malformed. It looks at those
+    /// alone that were lent since they were last seen to be idle.
+    pub fn busy(&mut self) -> Mask
+        ensures busy { (c : ℕ) → c < MOST_CPUS → has result c ≡ is_busy_at self.old c }
+        ensures same { self.new ≡ self.old }
+    {
+        self.lent = busy_of(self.lent, &self.blocks);
+        self.lent
+    }
+
+    /// Returns whether a slot has a transaction that did not land yet.
     pub fn has_stamped(&self) -> bool
         ensures { result ≡ list_any has_stamp (states_in 0 self.now) }
     {
@@ -98,14 +118,16 @@ impl Region {
         ensures { self.new ≡ replicate (length self.old) idle_bytes }
     {
         clear_all(&mut self.blocks);
+        self.lent = Mask::none();
     }
 
-    /// Lends all slots. Afterwards the region is the slots as they were left.
+    /// Lends all slots. What is written to them is written to the region.
     pub fn lend(&mut self) -> Slots<'_>
         ensures* writes_back { sem 𝓛 (LendsAll self.entry result) }
         ensures slots { result.rest.now ≡ self.old }
         ensures first { result.first ≡ 0 }
     {
+        self.lent = Mask::new(!0);
         Slots {
             rest: &mut self.blocks,
             first: 0,
@@ -113,7 +135,45 @@ impl Region {
     }
 }
 
-/// Whether a transaction is stamped into one of these slots, the first of which is that of a CPU.
+/// Returns the CPUs whose slots were lent, and one more. A CPU from [`MOST_CPUS`] on is not noted.
+fn with_lent(lent: Mask, cpu: u16) -> Mask
+    ensures { (c : ℕ) → c < MOST_CPUS → has result c ≡ (has lent c || (c == cpu)) }
+{
+    if cpu < MOST_CPUS {
+        lent.with(cpu)
+    } else {
+        lent
+    }
+}
+
+/// Returns whether there is a slot of a CPU, and it is not idle.
+fn is_busy_at(blocks: &[[u8; 32]], cpu: u16) -> bool
+    ensures { result ≡ is_busy_at blocks.now cpu }
+{
+    match blocks.get(cpu as usize) {
+        Some(bytes) => is_busy(bytes),
+        None => false,
+    }
+}
+
+/// Returns the CPUs below [`MOST_CPUS`] whose slots are not idle. All of these are among those that were lent.
+fn busy_of(lent: Mask, blocks: &[[u8; 32]]) -> Mask
+    requires { CoversBusy blocks.now lent }
+    ensures { (c : ℕ) → c < MOST_CPUS → has result c ≡ is_busy_at blocks.now c }
+{
+    let mut busy = lent;
+    let mut left = lent;
+    'looking: while let Some(cpu) = left.lowest() {
+        if !is_busy_at(blocks, cpu) {
+            busy = busy.without(cpu);
+        }
+        left = left.without(cpu);
+    }
+    busy
+}
+
+/// Returns whether one of these slots has a transaction that did not land yet. The first of them is that of a
+/// CPU.
 fn any_stamped(first: u16, blocks: &[[u8; 32]]) -> bool
     requires { first + length blocks.now < 2 ^ 16 }
     ensures { result ≡ list_any has_stamp (states_in first blocks.now) }

@@ -9,7 +9,7 @@ ghost use Rattle.gs_slots.specs.Spelling.{idle_bytes, slot_spelling};
 ghost use Rattle.gs_slots.specs.State.{has_stamp, is_malformed, refused, told_in};
 ghost use Rattle.gs_slots.specs.SlotMut.{bytes_of, cpu_of, left_in, reference_of, state_of};
 
-use crate::bytes::{SIZE, begins_as_done, finish, state_at, write_stamped};
+use crate::bytes::{SIZE, finish, is_busy, state_at, write_stamped};
 use crate::state::{Malformed, SlotBusy, SlotState, Stamp};
 use gs_layout::Outcome;
 
@@ -21,8 +21,8 @@ pub struct SlotMut<'a> {
 }
 
 impl<'a> SlotMut<'a> {
-    /// The slot of a CPU whose bytes these are. They may be any: what they are not as this CPU's slot
-    /// is malformed.
+    /// Makes the slot of a CPU from its bytes. They may be any: bytes that spell no state of this CPU's slot
+    /// are malformed.
     pub fn over(cpu: u16, bytes: &'a mut [u8; 32]) -> SlotMut<'a>
         ensures same_reference { reference_of result ≡ bytes.entry.ghost_name }
         ensures bytes { bytes_of result ≡ bytes.old }
@@ -31,14 +31,14 @@ impl<'a> SlotMut<'a> {
         SlotMut { bytes, cpu }
     }
 
-    /// The CPU whose slot it is.
+    /// Returns the CPU whose slot it is.
     pub fn cpu(&self) -> u16
         ensures { result ≡ cpu_of self.now }
     {
         self.cpu
     }
 
-    /// Its bytes, to read or to write any into it.
+    /// Lends its bytes, to read or to write any into it.
     pub fn bytes(&mut self) -> &mut [u8; 32]
         ensures* writes_back { sem 𝓛 (LendsBytes self.entry result) }
         ensures bytes { result.now ≡ bytes_of self.old }
@@ -46,12 +46,12 @@ impl<'a> SlotMut<'a> {
         &mut *self.bytes
     }
 
-    /// What is in the slot.
+    /// Returns what is in the slot.
     ///
     /// # Errors
     ///
-    /// `Malformed` exactly where its bytes spell no state of a slot of its CPU: another CPU stands there,
-    /// a flag that there is not, a number that is no outcome's, or a byte that no field has is not zero.
+    /// `Malformed` exactly if its bytes spell no state of a slot of its CPU. Another CPU stands there, a flag
+    /// that there is not, a number that is no outcome's, or a byte that no field has is not zero.
     pub fn state(&self) -> Result<SlotState, Malformed>
         ensures state { result ≡ state_of self.now }
         ensures spelt { IfOk result (λ z. bytes_of self.now ≡ slot_spelling (cpu_of self.now) z) }
@@ -59,14 +59,10 @@ impl<'a> SlotMut<'a> {
         state_at(self.cpu, self.bytes)
     }
 
-    /// What became of the transaction, where it landed. Of most other slots one byte says that none did.
-    #[tactic(auto, using(crate::proofs::States::untold))]
+    /// Returns what became of the transaction, or `None` if none landed.
     pub fn outcome(&self) -> Option<Outcome>
         ensures { result ≡ told_in (state_of self.now) }
     {
-        if !begins_as_done(self.bytes) {
-            return None;
-        }
         match self.state() {
             Ok(SlotState::Done { outcome, .. }) => Some(outcome),
             _ => None,
@@ -77,16 +73,16 @@ impl<'a> SlotMut<'a> {
     ///
     /// # Errors
     ///
-    /// `SlotBusy` exactly where the slot is not idle. It stays as it was.
+    /// `SlotBusy` exactly if the slot is not idle. It stays as it is.
     pub fn stamp(self, generation: u32, tid: u32, tseq: u32, preempt: bool) -> Result<(), SlotBusy>
         ensures exact { IsOk result ↔ (state_of self.entry ≡ Ok SlotState.Idle) }
         ensures stamped { OnOk result (state_in (cpu_of self.entry) (left_in self.exit) ≡ Ok (SlotState.Stamped (record { generation = generation; tid = tid; tseq = tseq; preempt = preempt }))) }
         ensures busy { OnErr result (left_in self.exit ≡ bytes_of self.entry) }
     {
         let SlotMut { bytes, cpu } = self;
-        let Ok(SlotState::Idle) = state_at(cpu, bytes) else {
+        if is_busy(bytes) {
             return Err(SlotBusy);
-        };
+        }
         let stamp = Stamp {
             generation,
             tid,
@@ -97,8 +93,8 @@ impl<'a> SlotMut<'a> {
         Ok(())
     }
 
-    /// Leaves in the slot what became of the transaction that is stamped in it: its outcome, the CPU that
-    /// the thread is on, and the thread's sequence number before the landing. With the outcome
+    /// Leaves in the slot what became of the transaction that is stamped in it. That is its outcome, the CPU
+    /// that the thread is on, and the thread's sequence number before the landing. With the outcome
     /// [`Malformed`](Outcome::Malformed) any slot may be given, and nothing but that is left in it.
     pub fn finish(self, outcome: Outcome, at: Option<u16>, seen: u32)
         requires stamped { is_malformed outcome ≡ false → has_stamp (state_of self) ≡ true }

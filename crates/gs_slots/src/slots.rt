@@ -2,7 +2,7 @@ ghost use Rattle.std.specs.Prelude.{◌≡◌, ◌≤◌, ◌+◌, [], ◌∷◌
 ghost use Rattle.std.specs.Borrow.{sem};
 ghost use Rattle.gs_slots.specs.Lending.{LendsNext, LendsParts};
 
-/// Slots of a region that are lent, by rising CPU.
+/// Slots of a region that are lent, in increasing order of CPU.
 ///
 /// Take it apart to go on with `rest`: a slot's bytes and the rest behind it, or two parts, are lent
 /// together.
@@ -15,7 +15,7 @@ pub struct Slots<'a> {
 }
 
 impl<'a> Slots<'a> {
-    /// Slots whose first is that of a CPU.
+    /// Makes slots whose first is that of a CPU.
     pub fn over(rest: &'a mut [[u8; 32]], first: u16) -> Slots<'a>
         ensures same_reference { result.rest.ghost_name ≡ rest.entry.ghost_name }
         ensures slots { result.rest.now ≡ rest.old }
@@ -24,8 +24,8 @@ impl<'a> Slots<'a> {
         Slots { rest, first }
     }
 
-    /// The bytes of the first slot, and the rest behind it, whose first CPU is one above; or `None`
-    /// where none is left. The slots that were taken before stay lent.
+    /// Lends the bytes of the first slot, and the rest behind it, whose first CPU is one above. Returns
+    /// `None` if none is left. The slots that were lent before stay lent.
     pub fn next(rest: &mut [[u8; 32]]) -> Option<(&mut [u8; 32], &mut [[u8; 32]])>
         ensures* writes_back { sem 𝓛 (LendsNext rest.entry result) }
         ensures parts { MatchOption result (rest.old ≡ []) (λ p. rest.old ≡ p.0.now ∷ p.1.now) }
@@ -33,7 +33,7 @@ impl<'a> Slots<'a> {
         rest.split_first_mut()
     }
 
-    /// The slots of the CPUs below one, and those from there on, where the first is that of CPU
+    /// Lends the slots of the CPUs below `cpu`, and those from there on. The first of `rest` is that of CPU
     /// `first`.
     pub fn split(rest: &mut [[u8; 32]], first: u16, cpu: u16) -> (&mut [[u8; 32]], &mut [[u8; 32]])
         requires low { first ≤ cpu }

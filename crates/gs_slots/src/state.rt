@@ -33,8 +33,8 @@ pub enum SlotState {
     Stamped {
         stamp: Stamp,
     },
-    /// A transaction that landed, and what became of it; or, with the outcome
-    /// [`Malformed`](Outcome::Malformed), that the slot was malformed when it landed, and nothing else.
+    /// A transaction that landed, and what became of it. With the outcome [`Malformed`](Outcome::Malformed),
+    /// that the slot was malformed when it landed, and nothing else.
     Done {
         stamp: Stamp,
         outcome: Outcome,

@@ -33,12 +33,12 @@ marked_more test mask mask' n is here others =
     at (inl e) lt = subst (λ k. has mask' k ≡ test k) (sym e) tested
     at {c = c} (inr other) lt = kept c other ∙ before.below c (omega arith)
 
--- one CPU more is put into the mask where it passes
+-- one CPU more is put into the mask if it passes
 pub marked_if : (test : ℕ → Bool) (mask mask' n : ℕ) (b : Bool) → IsMarked test mask n → has mask' n ≡ (has mask n || b) → b ≡ test n → ((c : ℕ) → c ≢ n → has mask' c ≡ has mask c) → IsMarked test mask' (n + 1)
 marked_if test mask mask' n b is here passes others =
     marked_more test mask mask' n is (here ∙ (ap (λ a. a || b) (is.above n (omega arith)) ∙ passes)) others
 
--- where no later CPU passes, all are marked
+-- if no later CPU passes, all are marked
 pub marked_all : (test : ℕ → Bool) (mask n : ℕ) → IsMarked test mask n → ((c : ℕ) → n ≤ c → test c ≡ false) → (c : ℕ) → has mask c ≡ test c
 marked_all test mask n is none c = by_place (cases_lt c n)
   where

@@ -8,7 +8,7 @@ use Rattle.std.proofs.lemmas.Nat.{pow_pos}
 use Rattle.std.proofs.lemmas.Nat.Bits.{shr_and_one, bit_at-zero, bit_at_above, bit_at_and, bit_at_set_same, bit_at_set_other, bit_at_clear_same, bit_at_clear_other, bit_at-lt, bit_at-trailing_zeros}
 use Rattle.std.proofs.Math.Nat.{div-eq_of_lt, lt-div-mul-add}
 use Rattle.std.proofs.Math.Pow.{pow_mono}
-use Rattle.gs_status.specs.Masks.{has, has_past, least, with_bit}
+use Rattle.gs_status.specs.Masks.{has, has_none, has_past, least, with_bit}
 use Rattle.gs_status.proofs.Least.{least_none, least_found}
 
 shifted_by : (n b : ℕ) → 0 < b → (n < b) ⊎ (b ≤ n) → not (n / b == 0) ≡ nat_le b n
@@ -45,13 +45,17 @@ past_all n c small past =
 pub has_none_past : (n c : ℕ) → n < 2 ^ 64 → 64 ≤ c → has n c ≡ false
 has_none_past n c small past = ap (λ k. bit_and k 1 == 1) (div-eq_of_lt (below_past n c small past))
 
--- a CPU is in a mask where its bit is one
+-- a CPU is in a mask if its bit is one
 pub has_by_bit : (n c : ℕ) → has n c ≡ (bit_at n c == 1)
 has_by_bit n c = ap (λ (k : ℕ). k == 1) (shr_and_one n c)
 
 -- two masks with the same bit
 has_same : (n m c : ℕ) → bit_at n c ≡ bit_at m c → has n c ≡ has m c
 has_same n m c e = has_by_bit n c ∙ (ap (λ (k : ℕ). k == 1) e ∙ sym (has_by_bit m c))
+
+-- a mask that has no CPU is zero
+pub is_zero : (m : ℕ) → has_none m ≡ true → m ≡ 0
+is_zero m none = grind (arith, nat_tests)
 
 pub nobody : (c : ℕ) → has 0 c ≡ false
 nobody c = has_by_bit 0 c ∙ ap (λ (k : ℕ). k == 1) (bit_at-zero c)
@@ -90,7 +94,7 @@ without_others n c small within i other = has_same (without_bit n c) n i (by_pla
         bit_at_and n (bit_not w64 (1 * 2 ^ c % 2 ^ 64)) i in
         omega (arith, before, after)
 
--- both masks have a CPU where its bit is one in both
+-- both masks have a CPU if its bit is one in both
 both_bits : (x y : ℕ) → x < 2 → y < 2 → (min x y == 1) ≡ ((x == 1) && (y == 1))
 both_bits zero zero p q = refl
 both_bits zero (suc zero) p q = refl

@@ -1,4 +1,4 @@
--- A mask is a set of CPUs: CPU c is in it where bit c is set.
+-- A mask is a set of CPUs: CPU c is in it if bit c is set.
 use Rattle.std.specs.Prelude.{Bool, true, false, ℕ, zero, suc, ◌^◌, ◌*◌, ◌/◌, ◌%◌, ◌==◌, nat_le, bit_and, bit_or, Option, None, Some}
 use Rattle.gs_status.specs.declared.mask.TheConstants.{MOST_CPUS}
 

@@ -10,7 +10,7 @@ pub record Status : Type 0 where
   pub runnable : Bool
   pub alive : Bool
 
--- a sequence number has 32 bits, and a CPU is below the most that there may be; a thread on a CPU may run, and one that may run lives
+-- a sequence number has 32 bits, and a CPU is below the most that there may be. A thread on a CPU may run, and one that may run lives
 pub record IsStatus (s : Status) : Type 0 where
   pub of_32_bits : s.tseq < 2 ^ 32
   pub within : (c : ℕ) → s.cpu ≡ Some c → c < MOST_CPUS

@@ -24,14 +24,14 @@ impl Model for Mask {
 }
 
 impl Mask {
-    /// The set of these bits.
+    /// Returns the set of these bits.
     pub const fn new(bits: u64) -> Mask
         ensures { result ≡ bits }
     {
         Mask { bits }
     }
 
-    /// The set of no CPU.
+    /// Returns the set of no CPU.
     #[tactic(auto, using(crate::proofs::Masks::nobody))]
     pub const fn none() -> Mask
         ensures bits { result ≡ 0 }
@@ -40,21 +40,21 @@ impl Mask {
         Mask { bits: 0 }
     }
 
-    /// The bits of the set: bit c is set where CPU c is in it.
+    /// Returns the bits of the set: bit c is set if CPU c is in it.
     pub const fn bits(self) -> u64
         ensures { result ≡ self }
     {
         self.bits
     }
 
-    /// Whether no CPU is in the set.
+    /// Returns whether no CPU is in the set.
     pub fn is_empty(self) -> bool
         ensures { result ≡ has_none self }
     {
         self.bits == 0
     }
 
-    /// Whether a CPU is in the set. No CPU from [`MOST_CPUS`] on is in any.
+    /// Returns whether a CPU is in the set. No CPU from [`MOST_CPUS`] on is in any.
     #[tactic(auto, using(crate::proofs::Masks::has_none_past))]
     pub fn has(self, cpu: u16) -> bool
         ensures { result ≡ has self cpu }
@@ -63,7 +63,7 @@ impl Mask {
         cpu < MOST_CPUS && (bits >> cpu) & 1 == 1
     }
 
-    /// Whether a CPU that is not below the count is in the set.
+    /// Returns whether a CPU that is not below the count is in the set.
     #[tactic(auto, using(crate::proofs::Masks::shifted_out, crate::proofs::Masks::past_all))]
     pub fn has_past(self, cpus: u16) -> bool
         ensures { result ≡ has_past self cpus }
@@ -72,8 +72,7 @@ impl Mask {
         cpus < MOST_CPUS && bits >> cpus != 0
     }
 
-    /// The set with one CPU more, or the same set if it has that CPU. The CPU is below
-    /// [`MOST_CPUS`].
+    /// Returns the set with one CPU more, or the same set if it has that CPU. The CPU is below [`MOST_CPUS`].
     #[tactic(auto, using(crate::proofs::Masks::with_here, crate::proofs::Masks::with_others))]
     pub fn with(self, cpu: u16) -> Mask
         requires { cpu < MOST_CPUS }
@@ -85,7 +84,8 @@ impl Mask {
         }
     }
 
-    /// The set with one CPU more if a test holds, and else the same set. The CPU is below [`MOST_CPUS`].
+    /// Returns the set with one CPU more if a test holds, and else the same set. The CPU is below
+    /// [`MOST_CPUS`].
     pub fn with_if(self, cpu: u16, test: bool) -> Mask
         requires { cpu < MOST_CPUS }
         ensures here { has result cpu ≡ (has self cpu || test) }
@@ -94,7 +94,7 @@ impl Mask {
         if test { self.with(cpu) } else { self }
     }
 
-    /// The set without a CPU, or the same set if it lacks that CPU. The CPU is below [`MOST_CPUS`].
+    /// Returns the set without a CPU, or the same set if it lacks that CPU. The CPU is below [`MOST_CPUS`].
     #[tactic(auto, using(crate::proofs::Masks::without_here, crate::proofs::Masks::without_others))]
     pub fn without(self, cpu: u16) -> Mask
         requires { cpu < MOST_CPUS }
@@ -106,7 +106,7 @@ impl Mask {
         }
     }
 
-    /// The set of the CPUs that are in both sets.
+    /// Returns the set of the CPUs that are in both sets.
     #[tactic(auto, using(crate::proofs::Masks::has_both))]
     pub fn both(self, other: Mask) -> Mask
         ensures { (c : ℕ) → has result c ≡ (has self c && has other c) }
@@ -116,7 +116,7 @@ impl Mask {
         }
     }
 
-    /// The least CPU of the set, or `None` if no CPU is in it.
+    /// Returns the least CPU of the set, or `None` if no CPU is in it.
     #[tactic(auto, using(crate::proofs::Masks::least_of_none, crate::proofs::Masks::least_of_some, crate::proofs::Masks::lowest_within, crate::proofs::Masks::lowest_has))]
     pub fn lowest(self) -> Option<u16>
         ensures least { result ≡ least (has self) MOST_CPUS }

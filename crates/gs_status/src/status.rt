@@ -8,9 +8,9 @@ use std::marker::Model;
 /// CPU's.
 pub const NO_CPU_BYTE: u8 = 255;
 
-/// Where the CPU's byte begins.
+/// The bit at which the CPU's byte begins.
 const CPU: u32 = 32;
-/// Where the flags begin: runnable, alive, on a CPU, and zeros from there on.
+/// The bit at which the flags begin: runnable, alive, on a CPU, and zeros from there on.
 const FLAGS: u32 = 40;
 
 /// The flags of a dead thread.
@@ -51,8 +51,8 @@ impl Model for StatusWord {
 }
 
 impl StatusWord {
-    /// The word that shows this, in 64 bits: from bit 0 the sequence number, from bit 32 the CPU
-    /// or [`NO_CPU_BYTE`], bit 40 runnable, bit 41 alive, bit 42 on a CPU, the rest zero.
+    /// Returns the word that shows this status, in 64 bits. The sequence number begins at bit 0, the CPU or
+    /// [`NO_CPU_BYTE`] at bit 32. Bit 40 says runnable, bit 41 alive, bit 42 on a CPU, and the rest is zero.
     pub fn pack(&self) -> u64
         ensures { Spells self.now result }
     {
@@ -64,7 +64,7 @@ impl StatusWord {
         self.tseq as u64 | cpu << CPU | flags << FLAGS
     }
 
-    /// What a word shows, or `None` if no status has that word.
+    /// Returns the status that a word shows, or `None` if no status has that word.
     pub fn unpack(word: u64) -> Option<StatusWord>
         ensures read { IfSome result (λ status. Spells status word) }
         ensures all { (status : Status) → Spells status word → result ≡ Some status }

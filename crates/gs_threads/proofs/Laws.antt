@@ -1,5 +1,4 @@
 -- What the proofs of the crates above cite of this crate.
-pub use Rattle.gs_threads.proofs.BitWords.{is_zero, least_before}
 pub use Rattle.gs_threads.proofs.Clearing.{cleared_nobody, cleared_one, mirrors_torn}
 pub use Rattle.gs_threads.proofs.Entries.{eqb_same, messages_about, messages_other, on_kept, on_off, on_still, record_by, record_more, same_eqb, seq_by}
 pub use Rattle.gs_threads.proofs.Lookups.{after_tick, row_never}

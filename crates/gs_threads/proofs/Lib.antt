@@ -7,7 +7,5 @@ mod Mirroring
 mod Placing
 mod Clearing
 mod Mirrored
-mod BitWords
-mod Summed
 mod Rows
 pub mod Laws

@@ -2,12 +2,12 @@
 use Rattle.std.proofs.Common.{◌≡◌, ◌≢◌, refl, ap, sym, ◌∙◌, ℕ, zero, suc, ◌+◌, ◌-◌, ◌*◌, ◌<◌, ◌≤◌, ◌⊎◌, inl, inr, true, false, Some, slice_get, List, [], ◌∷◌, ◌++◌, length, get_or, set, arith, length-append, length-set, get_or-set_same, get_or-set_other}
 use Rattle.std.proofs.lemmas.Bool.{cases_lt}
 use Rattle.std.proofs.lemmas.Option.{slice_get-get_or, slice_get_past}
-use Rattle.gs_threads.specs.Bits.{is_in}
+use Rattle.gs_sets.specs.Bits.{is_in}
 use Rattle.gs_threads.specs.declared.row.ThreadRow.{ThreadRow}
 use Rattle.gs_threads.specs.Live.{lives, row_lives, IsOfRows}
 use Rattle.gs_threads.specs.Rows.{is_live}
 use Rattle.gs_threads.specs.Table.{row_of}
-use Rattle.gs_threads.proofs.BitWords.{past_end}
+use Rattle.gs_sets.proofs.Laws.{past_end}
 use Rattle.gs_threads.proofs.Lookups.{row_there}
 
 lives_at : (rows : List ThreadRow) (t : ℕ) (d : ThreadRow) → 0 < t → t ≤ length rows → lives rows t ≡ is_live (get_or rows (t - 1) d).record
@@ -32,7 +32,7 @@ row_other rows t (suc n) row pos other = at_place (cases_lt n (length rows))
         let past' : length (set rows (t - 1) row) ≤ n = omega (arith, past, length-set rows (t - 1) row) in
         slice_get_past (set rows (t - 1) row) n past' ∙ sym (slice_get_past rows n past)
 
--- the set follows where a row was changed
+-- the set follows if a row was changed
 pub changed : (words words' : List ℕ) (rows : List ThreadRow) (t : ℕ) (row : ThreadRow) → IsOfRows words rows → 0 < t → t ≤ length rows
     → is_in words' t ≡ is_live row.record → ((u : ℕ) → u ≢ t → is_in words' u ≡ is_in words u) → length words' ≡ length words
     → IsOfRows words' (set rows (t - 1) row)
@@ -88,7 +88,7 @@ row_last : (rows : List ThreadRow) (row : ThreadRow) → slice_get (rows ++ row 
 row_last [] row = refl
 row_last (row' ∷ rows) row = row_last rows row
 
--- the set follows where a row of a live thread was added
+-- the set follows if a row of a live thread was added
 pub created : (words words' : List ℕ) (rows : List ThreadRow) (row : ThreadRow) → IsOfRows words rows → is_live row.record ≡ true
     → length rows + 1 < 64 * length words → is_in words' (length rows + 1) ≡ true
     → ((u : ℕ) → u ≢ length rows + 1 → is_in words' u ≡ is_in words u) → length words' ≡ length words
@@ -128,7 +128,7 @@ created words words' rows row kept alive free here others room =
     by_tid zero = same 0 (λ e. omega (arith, e)) ∙ before.live 0
     by_tid (suc n) = by_place n (cases_lt n (length rows)) (cases_lt (length rows) n)
 
--- nobody lives where there are no rows
+-- nobody lives if there are no rows
 pub of_no_rows : (words : List ℕ) (rows : List ThreadRow) → words ≡ [] → rows ≡ [] → IsOfRows words rows
 unfolding lives row_of
 of_no_rows words rows no_words no_rows =

@@ -61,7 +61,7 @@ mirrored_number first h rows t row was is = sym (number_row rows t row is) ∙ (
     by_messages [] none = absurd (let gone : row_of rows t ≡ None = (was.absent t).1 none in let x : None ≡ Some row = sym gone ∙ is in cc)
     by_messages (m ∷ ms) some = refl
 
--- and it is on a CPU just where the history says so
+-- and it is on a CPU exactly if the history says so
 pub mirrored_place : (first : ℕ) (h : History) (rows : List ThreadRow) (t c : ℕ) (row : ThreadRow) → Mirrors first h rows → row_of rows t ≡ Some row → (row.cpu ≡ Some c) ↔ (on h c ≡ Some t)
 mirrored_place first h rows t c row was is =
     let there : place_at rows t ≡ row.cpu = place_row rows t (Some row) is in

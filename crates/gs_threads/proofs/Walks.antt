@@ -9,13 +9,13 @@ use Rattle.std.proofs.lemmas.Bool.Decides.{nat_tests}
 use Rattle.gs_threads.specs.declared.row.ThreadRow.{ThreadRow}
 use Rattle.gs_threads.specs.Rows.{is_live}
 use Rattle.gs_threads.specs.Live.{live_one, is_live_row, live_from, lives, row_lives, IsLiveSet}
-use Rattle.gs_threads.specs.Bits.{is_in, IsFirst, IsNone}
+use Rattle.gs_sets.specs.Bits.{is_in, IsFirst, IsNone}
 
 -- the live rows from a tid on, of rows whose first is of the thread n
 abbrev rows_from : ℕ → ℕ → List ThreadRow → List (ℕ × ThreadRow)
 rows_from t n rows = filter (λ p. nat_le t p.0 && is_live_row p) (enumerate_from n rows)
 
--- a list behind a row that is shown where a test holds
+-- a list behind a row that is shown if a test holds
 abbrev shown_if : Bool → ℕ × ThreadRow → List (ℕ × ThreadRow) → List (ℕ × ThreadRow)
 shown_if b p w = cond b (p ∷ w) w
 
@@ -38,7 +38,7 @@ not_shown from n row dead = by_place (cases_lt n from)
     by_place (inl lt) = let not_yet : nat_le from n ≡ false = grind (arith, nat_tests) in ap (λ b. b && is_live row.record) not_yet
     by_place (inr le) = let reached : nat_le from n ≡ true = grind (arith, nat_tests) in ap (λ b. b && is_live row.record) reached ∙ is_dead le
 
--- where none of the rows from a tid on lives, there is nothing to show
+-- if none of the rows from a tid on lives, there is nothing to show
 none_from : (g : ℕ → Option ThreadRow) (from n : ℕ) (rows : List ThreadRow) → ((k : ℕ) → slice_get rows k ≡ g (n + k))
     → ((t : ℕ) → from ≤ t → row_lives (g t) ≡ false) → rows_from from n rows ≡ []
 none_from g from n [] same none = refl
@@ -113,7 +113,7 @@ lives_within rows (suc n) live = by_place (cases_lt n (length rows))
         let here = alive in
         absurd cc
 
--- a walk from a tid on shows nothing where no thread from there on lives
+-- a walk from a tid on shows nothing if no thread from there on lives
 pub walk_none : (rows : List ThreadRow) (t : ℕ) → IsNone (lives rows) t → live_from rows t ≡ []
 unfolding lives live_from
 walk_none rows t none = none_from (row_of rows) t 1 rows (λ k. sym (row_suc rows k)) none
@@ -128,7 +128,7 @@ walk_first rows t r d first =
     let alive = sym (ap row_lives there) ∙ first.passes in
     first_from (row_of rows) t r (get_or rows (r - 1) d) 1 rows (λ k. sym (row_suc rows k)) within.0 first.after first.none_before there alive
 
--- the live from a tid on are, of all tids by rising number, those whose rows live
+-- the live from a tid on are, of all tids in increasing order, those whose rows live
 live_tids : (g : ℕ → Option ThreadRow) (from n : ℕ) (rows : List ThreadRow) → ((k : ℕ) → slice_get rows k ≡ g (n + k))
     → rows_from from n rows ≡ filter_map (λ t. live_one from t (g t)) (range_with_len n (length rows))
 live_tids g from n [] same = refl
@@ -155,7 +155,7 @@ live_from-tids rows from = live_tids (row_of rows) from 1 rows (λ k. at_place k
 pub in_within : (set : List ℕ) (rows : List ThreadRow) (t : ℕ) → IsLiveSet set rows → is_in set t ≡ true → (0 < t) × (t ≤ length rows)
 in_within set rows t same there = lives_within rows t (sym (same t) ∙ there)
 
--- the same of a walk, where the set says who lives
+-- the same of a walk, if the set says who lives
 pub walk_none_in : (set : List ℕ) (rows : List ThreadRow) (t : ℕ) → IsLiveSet set rows → IsNone (is_in set) t → live_from rows t ≡ []
 walk_none_in set rows t same none = walk_none rows t (λ k ge. sym (same k) ∙ none k ge)
 

@@ -2,5 +2,4 @@ pub mod Rows
 pub mod Table
 pub mod Live
 pub mod Mirrors
-pub mod Bits
 pub mod Cleared

@@ -1,12 +1,12 @@
--- The live threads of a table, by rising tid.
+-- The live threads of a table, in increasing order of tid.
 use Rattle.std.specs.Prelude.{Bool, false, ◌&&◌, ℕ, ◌≡◌, ◌-◌, ◌*◌, ◌≤◌, length, nat_le, Option, None, Some, List, if◌then◌else◌}
 use Rattle.std.specs.List.{filter, enumerate_from}
 use denote.Ref.{Bor}
 use Rattle.gs_threads.specs.declared.row.ThreadRow.{ThreadRow}
 use Rattle.gs_threads.specs.Rows.{is_live}
 use Rattle.gs_threads.specs.Table.{row_of}
-use Rattle.gs_threads.specs.Bits.{is_in}
-use Rattle.gs_threads.specs.declared.bits.TheConstants.{WORD}
+use Rattle.gs_sets.specs.Bits.{is_in}
+use Rattle.gs_sets.specs.declared.bits.TheConstants.{WORD}
 
 abbrev pub is_live_row : ℕ × ThreadRow → Bool
 is_live_row p = is_live p.1.record
@@ -15,7 +15,7 @@ is_live_row p = is_live p.1.record
 unfoldable pub live_from : List ThreadRow → ℕ → List (ℕ × ThreadRow)
 live_from rows t = filter (λ p. nat_le t p.0 && is_live_row p) (enumerate_from 1 rows)
 
--- a thread with its row, where it lives and is not before a tid
+-- a thread with its row, if it lives and is not before a tid
 abbrev pub live_one : ℕ → ℕ → Option ThreadRow → Option (ℕ × ThreadRow)
 live_one from t None = None
 live_one from t (Some row) = if nat_le from t && is_live row.record then Some (t, row) else None

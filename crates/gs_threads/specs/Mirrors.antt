@@ -9,8 +9,8 @@ use Rattle.gs_journal.specs.History.{History, messages, created, seq, record_in,
 use Rattle.gs_threads.specs.declared.row.ThreadRow.{ThreadRow}
 use Rattle.gs_threads.specs.Table.{row_of, record_at, number_at, place_at}
 
--- there are as many rows as creations, and a row exactly for each thread that has messages; a thread's record and sequence number are
--- the history's, and it is on a CPU exactly where the history says so
+-- there are as many rows as creations, and a row exactly for each thread that has messages. A thread's record and sequence number are the history's,
+-- and it is on a CPU exactly if the history says so
 pub record Mirrors (first : ℕ) (h : History) (rows : List ThreadRow) : Type 0 where
   pub count : length rows ≡ length (created h)
   pub absent : (t : ℕ) → (row_of rows t ≡ None) ↔ (messages h t ≡ [])

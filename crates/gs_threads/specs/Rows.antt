@@ -17,7 +17,7 @@ is_live _ = false
 abbrev pub new_row : ℕ → Facts → ThreadRow
 new_row first f = record { «record» = Live f; tseq = first + 1; cpu = None }
 
--- the row after a message about the thread: its record, the message's number, and no CPU where the message takes the thread off
+-- the row after a message about the thread: its record, the message's number, and no CPU if the message takes the thread off
 abbrev pub row_after : ThreadRow → Message → ThreadRow
 row_after row (TimerTick c) = row
 row_after row (Thread t s c) =

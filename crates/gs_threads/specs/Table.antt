@@ -8,7 +8,7 @@ use Rattle.gs_layout.specs.declared.record.Record.TheVariants.{Absent}
 use Rattle.gs_threads.specs.declared.row.ThreadRow.{ThreadRow}
 use Rattle.gs_threads.specs.Rows.{row_after, row_placed}
 
--- the rows of the threads 1, 2 and so on, the number that sequence numbers begin above, and how many more rows may be added without more memory
+-- the rows of the threads 1, 2 and so on, the number that sequence numbers begin above, and how many more rows may be added with no more memory
 pub record TableState : Type 0 where
   pub rows : List ThreadRow
   pub first_tseq : ℕ
@@ -25,7 +25,7 @@ with_changed [] n f = []
 with_changed (row ∷ rows) zero f = f row ∷ rows
 with_changed (row ∷ rows) (suc n) f = row ∷ with_changed rows n f
 
--- the rows with that of a thread changed, and no other; all as they are where the thread never was
+-- the rows with that of a thread changed, and no other; all as they are if the thread never was
 unfoldable pub change_row : List ThreadRow → ℕ → (ThreadRow → ThreadRow) → List ThreadRow
 change_row rows zero f = rows
 change_row rows (suc n) f = with_changed rows n f

@@ -14,9 +14,9 @@ ghost use Rattle.gs_threads.specs.Mirrors.{IsNext, Mirrors, is_quiet};
 ghost use Rattle.gs_threads.specs.Rows.{new_row, row_placed};
 ghost use Rattle.gs_threads.specs.Table.{place_at, row_of, rows_after, rows_placed};
 
-/// Of a table that mirrors a history a thread's row is what the history says of the thread: its record
-/// is the fold of what each message about it makes of the record before, its sequence number the first
-/// one and one more for each of them, and its CPU the one that it is on. It does nothing when it runs.
+/// States that of a table that mirrors a history a thread's row is what the history says of the thread. Its
+/// record is the fold of what each message about it makes of the record before. Its sequence number is the
+/// first one and one more for each of them. Its CPU is the one that it is on. It does nothing when it runs.
 pub fn row_is_fold()
     ensures facts { (first : ℕ) (h : History) (rows : List ThreadRow) (t : ℕ) (row : ThreadRow) → Mirrors first h rows → row_of rows t ≡ Some row
         → row.record ≡ fold after Record.Absent (messages h t) }
@@ -26,11 +26,16 @@ pub fn row_is_fold()
         → (row.cpu ≡ Some c) ↔ (on h c ≡ Some t) }
 {}
 
-/// A table of no threads mirrors a history in which nothing has happened. One that mirrors a history
-/// goes on to do so: where a thread's creation is posted and its row appended, where a message is posted
-/// and taken in, where a thread is placed that is nowhere, on a CPU where nobody is, where something
-/// happens that concerns no thread, and where the enclave is torn down and everybody is taken off. It does
-/// nothing when it runs.
+/// States that a table of no threads mirrors a history in which nothing has happened, and that one that
+/// mirrors a history goes on to do so. It does nothing when it runs.
+///
+/// It goes on through each of these:
+///
+/// - A thread's creation is posted and its row appended.
+/// - A message is posted and taken in.
+/// - A thread that is nowhere is placed on a CPU on which nobody is.
+/// - Something happens that concerns no thread.
+/// - The enclave is torn down and everybody is taken off.
 pub fn tables_mirror()
     ensures none { (first : ℕ) → Mirrors first [] [] }
     ensures created { (first : ℕ) (h : History) (rows : List ThreadRow) (f : Facts) → Mirrors first h rows

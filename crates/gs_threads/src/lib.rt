@@ -1,12 +1,10 @@
-//! The table of threads: one row for each thread that ever was, answered in constant time.
+//! The table of threads: one row for each thread that ever was, found in constant time.
 //!
 //! A row is what the thread's messages make of it, its sequence number, and the CPU that it is on.
 #![tactic(auto)]
 
-mod bits;
 mod law;
 mod live;
-mod live_set;
 mod row;
 mod table;
 

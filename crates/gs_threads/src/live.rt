@@ -2,18 +2,18 @@ ghost use Rattle.std.specs.Prelude.{◌≡◌, ◌^◌, ◌<◌, length};
 ghost use Rattle.std.specs.Iterator.{YieldsFirstBy, item_count};
 ghost use Rattle.gs_threads.specs.Live.{IsLiveSet, live_from, shown};
 
-use crate::live_set::LiveSet;
 use crate::row::ThreadRow;
+use gs_sets::NumberSet;
 use std::marker::Model;
 
-/// The live threads that a walk has still to show, by rising tid, each with its row. It goes from one to
-/// the next, whatever dead ones stand between.
+/// The live threads that a walk has still to show, in increasing order of tid, each with its row. It goes
+/// from one to the next, whatever dead ones stand between.
 #[derive(Drop)]
 pub struct LiveRows<'a> {
     /// The rows of all threads.
     rows: &'a [ThreadRow],
     /// The threads that live.
-    live: &'a LiveSet,
+    live: &'a NumberSet,
     /// The least tid that the walk may still show.
     from: usize,
 }
@@ -31,8 +31,8 @@ impl<'a> Model for LiveRows<'a> {
 }
 
 impl<'a> LiveRows<'a> {
-    /// The live threads of these rows, from a tid on.
-    pub(crate) fn new(rows: &'a [ThreadRow], live: &'a LiveSet, tid: u32) -> LiveRows<'a>
+    /// Walks the live threads of these rows, from a tid on.
+    pub(crate) fn new(rows: &'a [ThreadRow], live: &'a NumberSet, tid: u32) -> LiveRows<'a>
         requires rows { length rows.now < 2 ^ 32 }
         requires live { IsLiveSet live.now rows.now }
         ensures { result ≡ live_from rows.now tid }

@@ -16,7 +16,7 @@ pub struct ThreadRow {
 }
 
 impl ThreadRow {
-    /// The row of a thread that was just created, on no CPU. Its sequence number is one above
+    /// Makes the row of a thread that was just created, on no CPU. Its sequence number is one above
     /// `first_tseq`.
     pub fn new(first_tseq: u32, facts: &Facts) -> ThreadRow
         requires { first_tseq < u32.MAX }
@@ -44,7 +44,7 @@ impl ThreadRow {
         }
     }
 
-    /// Whether the thread lives.
+    /// Returns whether the thread lives.
     pub fn is_live(&self) -> bool
         ensures { result ≡ is_live self.now.record }
     {
@@ -52,8 +52,8 @@ impl ThreadRow {
     }
 }
 
-/// Makes of a thread's record what a message about the thread makes of it. The facts of a thread that lives on
-/// change where they stand.
+/// Changes a thread's record as a message about the thread says. The facts of a thread that lives on change
+/// where they stand.
 #[inline(always)]
 fn follow(found: &mut Record, message: &Message)
     ensures { found.new ≡ after found.old message.now }

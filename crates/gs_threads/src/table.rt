@@ -5,29 +5,29 @@ ghost use Rattle.gs_threads.specs.Table.{row_of, rows_after, rows_placed};
 ghost use Rattle.gs_threads.specs.Live.{live_from};
 
 use crate::live::LiveRows;
-use crate::live_set::LiveSet;
 use crate::row::ThreadRow;
 use gs_layout::{Facts, Message};
+use gs_sets::NumberSet;
 use std::alloc::{AllocError, Global};
 use std::marker::Model;
 
 /// One row for each thread that ever was, the dead too: thread 1 first.
 ///
-/// Each call takes the same time for any number of threads, but for `reserve` where it grows the
-/// table (twofold), and for the walk of `live_from`. A step of that walk looks at two words of the live
-/// tids, and in between at one word for each 4,096 tids at most: 17 for [`MOST_TIDS`](gs_layout::MOST_TIDS)
-/// threads. It passes over no row of a dead thread.
+/// Each call takes the same time for any number of threads, but for `reserve` when it grows the table
+/// (twofold), and for the walk of `live_from`. A step of that walk looks at two words of the live tids, and
+/// in between at one word for each 4,096 tids at most: 17 for [`MOST_TIDS`](gs_layout::MOST_TIDS) threads. It
+/// passes over no row of a dead thread.
 #[derive(Drop)]
 pub struct ThreadTable {
     rows: Vec<ThreadRow>,
     /// The tids whose rows are of live threads.
-    live: LiveSet,
+    live: NumberSet,
     first_tseq: u32,
 }
 
 impl Model for ThreadTable {
     ghost use Rattle.std.specs.Prelude.{◌-◌, ◌*◌, ◌<◌, ◌^◌, length, min, vec_len, vec_capacity};
-    ghost use Rattle.gs_threads.specs.declared.bits.TheConstants.{WORD};
+    ghost use Rattle.gs_sets.specs.declared.bits.TheConstants.{WORD};
     ghost use Rattle.gs_threads.specs.Live.{IsOfRows};
     ghost use Rattle.gs_threads.specs.Table.{TableState};
 
@@ -43,8 +43,8 @@ impl Model for ThreadTable {
 }
 
 impl ThreadTable {
-    /// A table of no threads. The sequence number of a new thread is one above `first_tseq`. It
-    /// takes no memory.
+    /// Makes a table of no threads. The sequence number of a new thread is one above `first_tseq`. It does
+    /// not allocate.
     pub fn new(alloc: Global, first_tseq: u32) -> ThreadTable
         requires { first_tseq < u32.MAX }
         ensures rows { result.rows ≡ [] }
@@ -53,12 +53,12 @@ impl ThreadTable {
     {
         ThreadTable {
             rows: Vec::new(alloc),
-            live: LiveSet::new(alloc),
+            live: NumberSet::new(alloc),
             first_tseq,
         }
     }
 
-    /// How many threads there ever were. The next one is one above that.
+    /// Returns how many threads there ever were. The next one is one above that.
     pub fn len(&self) -> usize
         ensures value { result ≡ length self.now.rows }
         ensures within { result < 2 ^ 32 }
@@ -66,7 +66,7 @@ impl ThreadTable {
         self.rows.len()
     }
 
-    /// Whether there never was a thread.
+    /// Returns whether there never was a thread.
     pub fn is_empty(&self) -> bool
         ensures { result ≡ (length self.now.rows == 0) }
     {
@@ -77,7 +77,7 @@ impl ThreadTable {
     ///
     /// # Errors
     ///
-    /// `AllocError` where memory runs out. All is then as before.
+    /// `AllocError` if out of memory. Nothing changes then.
     pub fn reserve(&mut self) -> Result<(), AllocError>
         requires { length self.old.rows < u32.MAX }
         ensures room { OnOk result (0 < self.new.room) }
@@ -99,12 +99,12 @@ impl ThreadTable {
         ensures room { self.old.room ≤ self.new.room + 1 }
     {
         let row = ThreadRow::new(self.first_tseq, facts);
-        // There is room, so it takes no memory and cannot fail.
+        // There is room, so it does not allocate and cannot fail.
         self.rows.extend_from_slice(&[row]).unwrap();
         self.live.set(self.rows.len(), true);
     }
 
-    /// The row of a thread, or `None` for one that never was.
+    /// Lends the row of a thread, or returns `None` for one that never was.
     #[tactic(auto, using(crate::proofs::Lookups::row_there, crate::proofs::Lookups::row_never))]
     pub fn get(&self, tid: u32) -> Option<&ThreadRow>
         ensures { option_copied result ≡ row_of self.now.rows tid }
@@ -115,8 +115,8 @@ impl ThreadTable {
         Some(&self.rows[tid as usize - 1])
     }
 
-    /// Takes in a message: the row of its thread becomes what the message makes of it. A timer
-    /// tick changes nothing, nor does a message about a thread that never was.
+    /// Takes in a message: the row of its thread becomes what the message makes of it. A timer tick changes
+    /// nothing, nor does a message about a thread that never was.
     #[tactic(auto, using(crate::proofs::Lookups::after_is, crate::proofs::Lookups::after_none, crate::proofs::Lookups::after_tick))]
     pub fn apply(&mut self, message: &Message)
         ensures { self.new ≡ record self.old { rows = rows_after self.old.rows message.now } }
@@ -131,7 +131,7 @@ impl ThreadTable {
         }
     }
 
-    /// Puts a thread on a CPU, or takes it off with `None`. A thread that never was stays away.
+    /// Puts a thread on a CPU, or takes it off with `None`. Of a thread that never was it changes nothing.
     #[tactic(auto, using(crate::proofs::Lookups::placed_is, crate::proofs::Lookups::placed_none))]
     pub fn place(&mut self, tid: u32, cpu: Option<u16>)
         ensures { self.new ≡ record self.old { rows = rows_placed self.old.rows tid cpu } }
@@ -141,14 +141,14 @@ impl ThreadTable {
         }
     }
 
-    /// The live threads from `tid` on, by rising tid, each with its row.
+    /// Walks the live threads from `tid` on, in increasing order of tid, each with its row.
     pub fn live_from(&self, tid: u32) -> LiveRows<'_>
         ensures { result ≡ live_from self.now.rows tid }
     {
         LiveRows::new(&self.rows, &self.live, tid)
     }
 
-    /// Whether a thread ever was.
+    /// Returns whether a thread ever was.
     fn has(&self, tid: u32) -> bool
         ensures { MatchBool result (0 < tid × tid ≤ length self.now.rows) ((tid ≡ 0) ⊎ (length self.now.rows < tid)) }
     {

@@ -33,7 +33,7 @@ before_more n [] h = tt
 before_more n (x ∷ []) h = omega (arith, h)
 before_more n (x ∷ y ∷ xs) h = before_more n (y ∷ xs) h
 
--- a thread that comes where nobody was begins a stay
+-- a thread that comes to a CPU on which nobody was begins a stay
 grown_new : (c t n : ℕ) (xs : List Stay) → AreBefore n xs → grown c t n xs ≡ xs ++ stay c t n (n + 1) ∷ []
 grown_new c t n [] h = refl
 grown_new c t n (s ∷ []) h = ap (λ (b : Bool). cond b (record s { to = n + 1 } ∷ []) (s ∷ stay c t n (n + 1) ∷ [])) (apart (s.tid == t) (s.to == n) (other s.to h))

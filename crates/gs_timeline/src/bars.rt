@@ -1,14 +1,24 @@
 use crate::layout::{BAR, row_of};
 use crate::lives::Life;
 use crate::part::Part;
+use crate::rect::{Rect, write_from_to};
 use crate::stay::Stay;
-use crate::threads::{class_name, label_width, write_colour, write_label, write_name_behind};
+use crate::text::push_number;
+use crate::threads::{write_colour, write_label, write_thread};
 use gs_journal::Entry;
-use gs_layout::{Change, Message};
+use gs_layout::{Change, Class, Message};
 use std::alloc::AllocError;
-use std::fmt::Write;
 
-/// Why a stay ended, by the entry that ended it.
+/// How much lower the bar of a thread of class 1 is than that of one of class 0.
+const LOWER: u64 = 8;
+
+/// The least width of a bar that has a border: a narrower one would be no more than that.
+const BORDERED: u64 = 6;
+
+/// The least width of a bar with a letter below its end.
+const LETTERED: u64 = 8;
+
+/// Returns why a stay ended, by the entry that ended it.
 pub(crate) fn reason_of(entry: Option<&Entry>) -> &'static str {
     match entry {
         Some(
@@ -29,42 +39,33 @@ pub(crate) fn reason_of(entry: Option<&Entry>) -> &'static str {
     }
 }
 
-/// Adds the text of a bar, if it fits.
-fn write_stay_label(
-    out: &mut String,
-    x: u64,
-    y: u64,
-    width: u64,
-    stay: &Stay,
-    life: Option<&Life>,
-) -> Result<(), AllocError> {
-    if label_width(stay.tid, life) > width {
-        return Ok(());
+/// Returns the bar of a stay. That of a thread of class 1 is lower.
+fn bar_of(part: &Part, stay: &Stay, life: Option<&Life>) -> Rect {
+    let lower = match life.map(|life| life.class) {
+        Some(Class::One) => LOWER,
+        _ => 0,
+    };
+    Rect {
+        x: part.x(stay.from),
+        y: row_of(stay.cpu) + lower,
+        width: part.width(stay.from, stay.to),
+        height: BAR - lower,
     }
-    let middle = x.saturating_add(width / 2);
-    let base = y.saturating_add(17);
-    write!(
-        out,
-        "<text x=\"{middle}\" y=\"{base}\" text-anchor=\"middle\">"
-    )?;
-    write_label(out, stay.tid, life)?;
-    out.push_str("</text>\n")
 }
 
-/// Adds a letter below the end of a bar, where there is room: the first of why the stay ended.
+/// Adds the first letter of why a stay ended, below the end of its bar. It adds nothing if that end is not shown.
 fn write_end(out: &mut String, part: &Part, stay: &Stay, reason: &str) -> Result<(), AllocError> {
-    if !part.has(stay.to) || part.width(stay.from, stay.to) < 8 {
+    if !part.has(stay.to) {
         return Ok(());
     }
     let Some(letter) = reason.chars().next() else {
         return Ok(());
     };
-    let x = part.x(stay.to);
-    let y = row_of(stay.cpu) + BAR + 7;
-    write!(
-        out,
-        "<text x=\"{x}\" y=\"{y}\" font-size=\"8\" text-anchor=\"end\">{letter}</text>\n"
-    )
+    push_number(out, "<text x=\"", part.x(stay.to))?;
+    push_number(out, "\" y=\"", row_of(stay.cpu) + BAR + 9)?;
+    out.push_str("\" class=\"end\">")?;
+    out.push(letter.to_ascii_uppercase())?;
+    out.push_str("</text>\n")
 }
 
 /// Adds what the title of a bar says.
@@ -74,19 +75,16 @@ fn write_stay_title(
     life: Option<&Life>,
     reason: &str,
 ) -> Result<(), AllocError> {
-    let tid = stay.tid;
-    let from = stay.from;
-    let to = stay.to;
-    let class = class_name(life);
-    write!(out, "<title>thread {tid}")?;
-    write_name_behind(out, life)?;
-    write!(
-        out,
-        ", class {class}, from entry {from} to {to}: {reason}</title>"
-    )
+    out.push_str("<title>")?;
+    write_thread(out, stay.tid, life)?;
+    push_number(out, ", on CPU ", u64::from(stay.cpu))?;
+    write_from_to(out, stay.from, stay.to)?;
+    out.push_str(": ")?;
+    out.push_str(reason)?;
+    out.push_str("</title>")
 }
 
-/// Adds the bar of a stay.
+/// Adds the bar of a stay that is at least a pixel wide.
 pub(crate) fn write_stay(
     out: &mut String,
     part: &Part,
@@ -94,20 +92,19 @@ pub(crate) fn write_stay(
     life: Option<&Life>,
     reason: &str,
 ) -> Result<(), AllocError> {
-    let x = part.x(stay.from);
-    let y = row_of(stay.cpu);
-    let width = part.width(stay.from, stay.to);
-    if width == 0 {
-        return Ok(());
+    let bar = bar_of(part, stay, life);
+    bar.write(out)?;
+    if bar.width >= BORDERED {
+        out.push_str("\" rx=\"3\" class=\"wide")?;
     }
-    write!(
-        out,
-        "<rect x=\"{x}\" y=\"{y}\" width=\"{width}\" height=\"{BAR}\" rx=\"3\" stroke=\"#444\" stroke-width=\"0.5\" fill=\""
-    )?;
+    out.push_str("\" fill=\"")?;
     write_colour(out, stay.tid)?;
     out.push_str("\">")?;
     write_stay_title(out, stay, life, reason)?;
     out.push_str("</rect>\n")?;
-    write_stay_label(out, x, y, width, stay, life)?;
-    write_end(out, part, stay, reason)
+    write_label(out, &bar, stay.tid, life)?;
+    if bar.width >= LETTERED {
+        write_end(out, part, stay, reason)?;
+    }
+    Ok(())
 }

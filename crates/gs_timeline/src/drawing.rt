@@ -1,26 +1,35 @@
 use crate::bars::{reason_of, write_stay};
-use crate::foot::{MOST_LISTED, write_foot};
-use crate::layout::{BAR, LINE, TOP, foot_of, row_of};
-use crate::lives::{Life, count_stays, life_of, lives};
+use crate::blur::Blur;
+use crate::foot::{end_of_foot, write_foot};
+use crate::layout::{BAR, TOP, row_of};
+use crate::legend::{STYLE, write_legend};
+use crate::lives::{Life, add_stays, end_strips, life_of, lives};
 use crate::marks::{write_axis, write_hold, write_marks, write_reign};
 use crate::part::{LEFT, Part};
+use crate::rect::Rect;
 use crate::spans::{Hold, holds, reigns};
 use crate::stay::Stay;
+use crate::text::push_number;
 use crate::walk::stays;
 use gs_journal::Entry;
 use std::alloc::{AllocError, Global};
-use std::fmt::Write;
+
+/// The least width of a picture: that of the line that says what the marks mean.
+const LEAST_WIDTH: u64 = 720;
 
 /// Adds the row of a CPU: its name, and when the other class held it.
 fn write_row(out: &mut String, part: &Part, cpu: u16, holds: &[Hold]) -> Result<(), AllocError> {
-    let y = row_of(cpu);
-    let base = y.saturating_add(17);
-    let width = part.width(part.first(), part.behind());
-    write!(out, "<text x=\"10\" y=\"{base}\">CPU {cpu}</text>\n")?;
-    write!(
-        out,
-        "<rect x=\"{LEFT}\" y=\"{y}\" width=\"{width}\" height=\"{BAR}\" fill=\"#f1f5f9\"/>\n"
-    )?;
+    let row = Rect {
+        x: LEFT,
+        y: row_of(cpu),
+        width: part.width(part.first(), part.behind()),
+        height: BAR,
+    };
+    push_number(out, "<text x=\"10\" y=\"", row.y.saturating_add(17))?;
+    push_number(out, "\">CPU ", u64::from(cpu))?;
+    out.push_str("</text>\n")?;
+    row.write(out)?;
+    out.push_str("\" class=\"row\"/>\n")?;
     for hold in holds {
         write_hold(out, part, hold)?;
     }
@@ -31,18 +40,25 @@ fn write_row(out: &mut String, part: &Part, cpu: u16, holds: &[Hold]) -> Result<
 fn write_stays(
     out: &mut String,
     part: &Part,
+    cpu: u16,
     entries: &[Entry],
     lives: &[Life],
     stays: &[Stay],
 ) -> Result<(), AllocError> {
+    let mut blur = Blur::new(cpu);
     for stay in stays {
-        let life = life_of(lives, stay.tid);
-        write_stay(out, part, stay, life, reason_of(entries.get(stay.to)))?;
+        if part.width(stay.from, stay.to) > 0 {
+            blur.write(out, part)?;
+            let life = life_of(lives, stay.tid);
+            write_stay(out, part, stay, life, reason_of(entries.get(stay.to)))?;
+        } else if part.shown(stay.from, stay.to) > 0 {
+            blur.add(out, part, stay)?;
+        }
     }
-    Ok(())
+    blur.write(out, part)
 }
 
-/// Adds the rows of the CPUs, and counts how long each thread was on one.
+/// Adds the rows of the CPUs, and notes in each life when its thread was on one.
 fn write_rows(
     out: &mut String,
     alloc: Global,
@@ -58,53 +74,60 @@ fn write_rows(
             break;
         };
         write_row(out, part, cpu, held.ended())?;
-        write_stays(out, part, entries, lives, lane.stays())?;
-        count_stays(lives, part, lane.stays());
+        write_stays(out, part, cpu, entries, lives, lane.stays())?;
+        add_stays(lives, part, lane.stays())?;
     }
     Ok(())
 }
 
-/// Adds the begin of the picture: its size, its heading and what its bars are filled with.
+/// Adds a width and a height.
+fn write_size(out: &mut String, width: u64, height: u64) -> Result<(), AllocError> {
+    push_number(out, " width=\"", width)?;
+    push_number(out, "\" height=\"", height)?;
+    out.push_str("\"")
+}
+
+/// Adds the heading: which entries are shown, of how many.
+fn write_heading(out: &mut String, part: &Part, entries: usize) -> Result<(), AllocError> {
+    out.push_str("<text x=\"10\" y=\"22\" font-size=\"14\" font-weight=\"bold\">Who ran where: ")?;
+    push_number(out, "", part.count() as u64)?;
+    push_number(out, " of ", entries as u64)?;
+    push_number(out, " entries, from entry ", part.first() as u64)?;
+    if part.sharing() > 1 {
+        push_number(out, ", entries a pixel: ", part.sharing() as u64)?;
+        out.push_str("; grey: several stays")?;
+    }
+    out.push_str("</text>\n")
+}
+
+/// Adds the beginning of the picture: its size, how its parts look, its heading and what its marks mean.
 fn write_head(
     out: &mut String,
     part: &Part,
-    cpus: u16,
-    threads: usize,
+    height: u64,
     entries: usize,
 ) -> Result<(), AllocError> {
-    let lines = threads.min(MOST_LISTED) as u64 + 3;
-    let width = part.x(part.behind()).max(640).saturating_add(30);
-    let height = foot_of(cpus) + lines * LINE;
-    let first = part.first();
-    let count = part.count();
-    write!(
-        out,
-        "<svg xmlns=\"http://www.w3.org/2000/svg\" width=\"{width}\" height=\"{height}\" viewBox=\"0 0 {width} {height}\" font-family=\"sans-serif\" font-size=\"12\">\n"
-    )?;
-    out.push_str("<title>Who ran where</title>\n")?;
-    out.push_str(
-        "<style>.active{fill:#334155;stroke:#0f172a}.active text{fill:#fff}.attaching{fill:#fff;stroke:#334155;stroke-dasharray:4 3}.attaching text{fill:#334155}</style>\n",
-    )?;
-    out.push_str(
-        "<defs><pattern id=\"held\" width=\"8\" height=\"8\" patternUnits=\"userSpaceOnUse\"><path d=\"M-2 2L2 -2M0 8L8 0M6 10L10 6\" stroke=\"#64748b\" stroke-width=\"1.5\"/></pattern></defs>\n",
-    )?;
-    write!(
-        out,
-        "<rect width=\"{width}\" height=\"{height}\" fill=\"#fff\"/>\n"
-    )?;
-    write!(
-        out,
-        "<text x=\"10\" y=\"22\" font-size=\"14\" font-weight=\"bold\">Who ran where: {count} of {entries} entries, from entry {first}</text>\n"
-    )?;
-    out.push_str(
-        "<g fill=\"#64748b\" font-size=\"10\"><text x=\"10\" y=\"38\">bar: a thread on a CPU; the letter below its end says why: preempted, blocked, yielded, died, affinity, torn</text>\n<text x=\"10\" y=\"51\">dark: the agent; dashed: an agent that attaches; hatched: the other class has the CPU; orange: a tick; red: torn down</text></g>\n",
-    )
+    let width = part.x(part.behind()).max(LEAST_WIDTH).saturating_add(30);
+    out.push_str("<svg xmlns=\"http://www.w3.org/2000/svg\"")?;
+    write_size(out, width, height)?;
+    push_number(out, " viewBox=\"0 0 ", width)?;
+    push_number(out, " ", height)?;
+    out.push_str(STYLE)?;
+    out.push_str("<rect")?;
+    write_size(out, width, height)?;
+    out.push_str(" fill=\"#fff\"/>\n")?;
+    write_heading(out, part, entries)?;
+    write_legend(out)
 }
 
-/// A picture of a history as SVG: a row for each of so many CPUs, and in it a bar for each stay of a thread. The
-/// entries from one place on to another are shown, [`MOST_SHOWN`] of them at most.
+/// Returns a picture of a history as SVG: a row for each of so many CPUs, and in it a bar for each stay of a thread.
+/// It shows the entries from place `from` to place `to`, that one too. Of more than
+/// [`MOST_SINGLE`](crate::MOST_SINGLE) several share a pixel, and stays that are narrower are drawn together if they
+/// touch.
 ///
-/// It fails only for want of memory.
+/// # Errors
+///
+/// `AllocError` if out of memory.
 pub fn picture(
     alloc: Global,
     cpus: u16,
@@ -115,15 +138,17 @@ pub fn picture(
     let part = Part::new(entries.len(), from, to);
     let mut lives = lives(alloc, entries, &part)?;
     let mut out = String::new(alloc);
-    write_head(&mut out, &part, cpus, lives.len(), entries.len())?;
-    write_axis(&mut out, &part, cpus)?;
-    let base = TOP + 17;
-    write!(out, "<text x=\"10\" y=\"{base}\">agent</text>\n")?;
+    let end = end_of_foot(cpus, lives.len());
+    write_head(&mut out, &part, end, entries.len())?;
+    write_axis(&mut out, &part, cpus, end)?;
+    push_number(&mut out, "<text x=\"10\" y=\"", TOP + 17)?;
+    out.push_str("\">agent</text>\n")?;
     write_rows(&mut out, alloc, &part, entries, &mut lives, cpus)?;
     for reign in &reigns(alloc, entries)? {
         write_reign(&mut out, &part, cpus, reign)?;
     }
     write_marks(&mut out, &part, cpus, entries)?;
+    end_strips(&mut lives)?;
     write_foot(&mut out, cpus, &lives)?;
     out.push_str("</svg>\n")?;
     Ok(out)

@@ -6,7 +6,8 @@ use gs_journal::{Entry, thread_then};
 use std::alloc::{AllocError, Global};
 use std::marker::Model;
 
-/// What was on a CPU so far: the stays that ended, and who is there, with the place of the entry since which that is so.
+/// What was on a CPU so far: the stays that ended, and who is there, with the place of the entry since which
+/// that is so.
 #[derive(Drop)]
 pub struct Lane {
     ended: Vec<Stay>,
@@ -22,7 +23,7 @@ impl Model for Lane {
 }
 
 impl Lane {
-    /// A CPU on which nobody was yet. It takes no memory.
+    /// Makes the lane of a CPU on which nobody was yet. It does not allocate.
     pub(crate) fn new(alloc: Global) -> Lane
         ensures { result ≡ vacant }
     {
@@ -32,14 +33,15 @@ impl Lane {
         }
     }
 
-    /// The stays that ended, in order.
+    /// Lends the stays that ended, in order.
     pub fn stays(&self) -> &[Stay]
         ensures { result.now ≡ self.now.ended }
     {
         self.ended.as_slice()
     }
 
-    /// Whoever is there leaves by the entry of this place. After an error that stay may be missing.
+    /// Ends the stay of whoever is there, by the entry of this place. After an error that stay may be
+    /// missing.
     pub(crate) fn end(&mut self, cpu: u16, place: usize) -> Result<(), AllocError>
         ensures { OnOk result (self.new ≡ left cpu place self.old) }
     {
@@ -54,7 +56,7 @@ impl Lane {
         Ok(())
     }
 
-    /// What the entry of this place makes of the CPU. After an error a stay may be missing.
+    /// Changes who is on the CPU as the entry of this place says. After an error a stay may be missing.
     pub(crate) fn hear(&mut self, cpu: u16, place: usize, entry: &Entry) -> Result<(), AllocError>
         ensures { OnOk result (self.new ≡ lane_then place entry.now cpu self.old) }
     {

@@ -1,93 +1,132 @@
 use crate::part::Part;
 use crate::stay::Stay;
+use crate::strip::Strip;
 use gs_journal::Entry;
-use gs_layout::{Change, Class, Message, Name};
+use gs_layout::{Change, Class, Facts, Message, Name};
 use std::alloc::{AllocError, Global};
 
 /// What a history tells of a thread.
-#[derive(Clone, Copy)]
+#[derive(Drop)]
 pub(crate) struct Life {
     pub tid: u32,
     pub name: Name,
     pub class: Class,
     /// Since which entry it lives and may run, if it does.
     ready_since: Option<usize>,
-    /// Behind how many of the shown entries that ended it lived and could run.
-    ready: usize,
-    /// Behind how many of the shown entries it was on a CPU.
-    ran: usize,
+    /// When it lived and could run.
+    ready: Strip,
+    /// When it was on a CPU.
+    ran: Strip,
 }
 
 impl Life {
-    /// It may run no more.
-    fn end(&mut self, part: &Part, place: usize) {
-        if let Some(since) = self.ready_since.take() {
-            self.ready = self.ready.saturating_add(part.shown(since, place));
+    /// Makes the life of a thread that the entry of this place creates.
+    fn new(alloc: Global, tid: u32, facts: &Facts, place: usize) -> Life {
+        Life {
+            tid,
+            name: facts.name,
+            class: facts.class,
+            ready_since: facts.runnable.then_some(place),
+            ready: Strip::new(alloc),
+            ran: Strip::new(alloc),
         }
     }
 
-    /// It may run again.
+    /// Ends the time that it may run, by the entry of this place, if it may.
+    fn end(&mut self, part: &Part, place: usize) -> Result<(), AllocError> {
+        match self.ready_since.take() {
+            Some(since) => self.ready.add(part, since, place),
+            None => Ok(()),
+        }
+    }
+
+    /// Begins a time that it may run, by the entry of this place, if it may not.
     fn begin(&mut self, place: usize) {
         if self.ready_since.is_none() {
             self.ready_since = Some(place);
         }
     }
 
-    /// Behind how many of the shown entries it was on a CPU.
-    pub(crate) fn ran(&self) -> usize {
-        self.ran
+    /// Lends when it lived and could run.
+    pub(crate) fn ready(&self) -> &Strip {
+        &self.ready
     }
 
-    /// Behind how many of the shown entries it could run, and was on no CPU.
+    /// Lends when it was on a CPU.
+    pub(crate) fn ran(&self) -> &Strip {
+        &self.ran
+    }
+
+    /// Returns behind how many of the shown entries it could run, and was on no CPU.
     pub(crate) fn waited(&self) -> usize {
-        self.ready.saturating_sub(self.ran)
+        self.ready.entries().saturating_sub(self.ran.entries())
     }
 }
 
-/// The place of a thread in a list by tid, whose first is 1.
+/// Returns the place of a thread in a list by tid, whose first is 1.
 fn index_of(tid: u32) -> usize {
     (tid as usize).saturating_sub(1)
 }
 
-/// The life of a thread, if it was created.
+/// Lends the life of a thread, or returns `None` if it was not created.
 pub(crate) fn life_of(lives: &[Life], tid: u32) -> Option<&Life> {
     lives.get(index_of(tid)).filter(|life| life.tid == tid)
 }
 
-/// What a message about a thread makes of its life.
-fn tell(lives: &mut [Life], part: &Part, place: usize, tid: u32, change: &Change) {
+/// Changes a thread's life as a message about it says.
+fn tell(
+    lives: &mut [Life],
+    part: &Part,
+    place: usize,
+    tid: u32,
+    change: &Change,
+) -> Result<(), AllocError> {
     let Some(life) = lives.get_mut(index_of(tid)) else {
-        return;
+        return Ok(());
     };
     match change {
-        Change::Blocked { .. } | Change::Dead { .. } => life.end(part, place),
+        Change::Blocked { .. } | Change::Dead { .. } => life.end(part, place)?,
         Change::Wakeup => life.begin(place),
         Change::Created { .. }
         | Change::Preempted { .. }
         | Change::Yield { .. }
         | Change::Affinity { .. } => {}
     }
+    Ok(())
 }
 
-/// None may run any more.
-fn end_all(lives: &mut [Life], part: &Part, place: usize) {
+/// Ends the time that each thread may run, by the entry of this place.
+fn end_all(lives: &mut [Life], part: &Part, place: usize) -> Result<(), AllocError> {
     for life in lives.iter_mut() {
-        life.end(part, place);
+        life.end(part, place)?;
     }
+    Ok(())
 }
 
-/// Counts the stays of threads on a CPU.
-pub(crate) fn count_stays(lives: &mut [Life], part: &Part, stays: &[Stay]) {
+/// Adds the stays of threads on a CPU.
+pub(crate) fn add_stays(lives: &mut [Life], part: &Part, stays: &[Stay]) -> Result<(), AllocError> {
     for stay in stays {
         if let Some(life) = lives.get_mut(index_of(stay.tid)) {
-            life.ran = life.ran.saturating_add(part.shown(stay.from, stay.to));
+            life.ran.add(part, stay.from, stay.to)?;
         }
     }
+    Ok(())
 }
 
-/// What is told of each thread that was created, by rising tid.
+/// Draws the last times of each thread.
+pub(crate) fn end_strips(lives: &mut [Life]) -> Result<(), AllocError> {
+    for life in lives.iter_mut() {
+        life.ready.end()?;
+        life.ran.end()?;
+    }
+    Ok(())
+}
+
+/// Returns the life of each thread that was created, in increasing order of tid.
 ///
-/// It fails only for want of memory.
+/// # Errors
+///
+/// `AllocError` if out of memory.
 pub(crate) fn lives(
     alloc: Global,
     entries: &[Entry],
@@ -102,21 +141,14 @@ pub(crate) fn lives(
                     change: Change::Created { facts },
                     ..
                 },
-            } => lives.push(Life {
-                tid: *tid,
-                name: facts.name,
-                class: facts.class,
-                ready_since: facts.runnable.then_some(place),
-                ready: 0,
-                ran: 0,
-            })?,
+            } => lives.push(Life::new(alloc, *tid, facts, place))?,
             Entry::Posted {
                 message: Message::Thread { tid, change, .. },
-            } => tell(&mut lives, part, place, *tid, change),
-            Entry::Torn => end_all(&mut lives, part, place),
+            } => tell(&mut lives, part, place, *tid, change)?,
+            Entry::Torn => end_all(&mut lives, part, place)?,
             _ => {}
         }
     }
-    end_all(&mut lives, part, entries.len());
+    end_all(&mut lives, part, entries.len())?;
     Ok(lives)
 }

@@ -1,10 +1,11 @@
 ghost use Rattle.std.specs.Prelude.{◌<◌, ◌≤◌};
-ghost use Rattle.gs_timeline.specs.declared.part.TheConstants.{MOST_SHOWN, WIDEST};
+ghost use Rattle.gs_timeline.specs.declared.part.TheConstants.{WIDEST};
 
-/// The most entries that a picture shows: a browser still opens one of this size.
-pub const MOST_SHOWN: usize = 100_000;
+/// The most entries of which each has a pixel of its own: a browser still opens a picture of this size. If there are
+/// more, several share a pixel.
+pub const MOST_SINGLE: usize = 100_000;
 
-/// How wide the entries of a part are together, where they are few, in units of the picture.
+/// How wide the entries of a part are together if they are few, in units of the picture.
 const ROOM: usize = 1_600;
 
 /// The most that an entry is wide.
@@ -19,60 +20,74 @@ pub(crate) struct Part {
     first: usize,
     count: usize,
     unit: usize,
-    ghost count_bound: { count ≤ MOST_SHOWN },
+    sharing: usize,
     ghost unit_bound: { unit ≤ WIDEST },
+    ghost sharing_bound: { 0 < sharing },
 }
 
 impl Part {
-    /// The entries from one on to another one, of so many: at most [`MOST_SHOWN`] of them.
+    /// Makes the part from entry `from` to entry `to`, that one too, of so many entries.
     pub(crate) fn new(entries: usize, from: usize, to: usize) -> Part {
         let behind = entries.min(to.saturating_add(1));
-        let count = behind.saturating_sub(from).min(MOST_SHOWN);
+        let count = behind.saturating_sub(from);
         let unit = (ROOM / count.max(1)).clamp(1, WIDEST);
+        let sharing = count.saturating_sub(1) / MOST_SINGLE + 1;
         Part {
             first: from,
             count,
             unit,
+            sharing,
         }
     }
 
-    /// The place of the first entry.
+    /// Returns the place of the first entry.
     pub(crate) fn first(&self) -> usize {
         self.first
     }
 
-    /// The place behind the last entry.
+    /// Returns the place behind the last entry.
     pub(crate) fn behind(&self) -> usize {
         self.first.saturating_add(self.count)
     }
 
-    /// How many entries it has.
+    /// Returns how many entries it has.
     pub(crate) fn count(&self) -> usize {
         self.count
     }
 
-    /// Whether an entry is shown.
+    /// Returns how wide an entry is, or 1 if several share a pixel.
+    pub(crate) fn unit(&self) -> usize {
+        self.unit
+    }
+
+    /// Returns how many entries share a pixel, or 1 if each has one.
+    pub(crate) fn sharing(&self) -> usize {
+        self.sharing
+    }
+
+    /// Returns whether an entry is shown.
     pub(crate) fn has(&self, place: usize) -> bool {
         place >= self.first && place < self.behind()
     }
 
-    /// How many of the entries from one on and before another are shown.
+    /// Returns how many of the entries from one on and before another are shown.
     pub(crate) fn shown(&self, from: usize, to: usize) -> usize {
         to.min(self.behind()).saturating_sub(from.max(self.first))
     }
 
-    /// Where an entry begins: those before the part begin where it does, and those behind where it ends.
+    /// Returns where an entry begins. Those before the part begin where it does, and those behind where it ends.
     pub(crate) fn x(&self, place: usize) -> u64 {
         let before = place.saturating_sub(self.first).min(self.count);
-        LEFT + (before * self.unit) as u64
+        let units = (before / self.sharing).saturating_mul(self.unit);
+        LEFT.saturating_add(units as u64)
     }
 
-    /// How wide the entries from one on and before another are.
+    /// Returns how wide the entries from one on and before another are.
     pub(crate) fn width(&self, from: usize, to: usize) -> u64 {
         self.x(to).saturating_sub(self.x(from))
     }
 
-    /// How many entries are between two numbers of the axis, so that these do not touch.
+    /// Returns how many entries are between two numbers of the axis, so that these do not touch.
     pub(crate) fn step(&self) -> usize
         ensures { 0 < result }
     {
@@ -80,7 +95,7 @@ impl Part {
             12.. => 5,
             6..12 => 10,
             2..6 => 50,
-            _ => 100,
+            _ => self.sharing.saturating_mul(100),
         }
     }
 }

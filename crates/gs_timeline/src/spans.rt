@@ -19,7 +19,7 @@ pub(crate) struct Hold {
     pub to: usize,
 }
 
-/// The agents, in order.
+/// Returns the agents, in order.
 pub(crate) fn reigns(alloc: Global, entries: &[Entry]) -> Result<Vec<Reign>, AllocError> {
     let mut reigns = Vec::new(alloc);
     let mut now: Option<Reign> = None;
@@ -58,12 +58,12 @@ pub(crate) struct HeldTimes {
 }
 
 impl HeldTimes {
-    /// The times that ended, in order.
+    /// Lends the times that ended, in order.
     pub(crate) fn ended(&self) -> &[Hold] {
         self.ended.as_slice()
     }
 
-    /// The other class gives the CPU back by the entry of this place, if it holds it.
+    /// Ends the time that the other class holds the CPU, by the entry of this place, if it holds it.
     fn end(&mut self, cpu: u16, place: usize) -> Result<(), AllocError> {
         if let Some(from) = self.since.take() {
             self.ended.push(Hold {
@@ -76,7 +76,7 @@ impl HeldTimes {
     }
 }
 
-/// So many CPUs that the other class never held.
+/// Makes the times of so many CPUs that the other class never held.
 fn never_held(alloc: Global, cpus: u16) -> Result<Vec<HeldTimes>, AllocError> {
     let mut all = Vec::with_capacity(alloc, cpus as usize)?;
     for _ in 0..cpus {
@@ -88,7 +88,7 @@ fn never_held(alloc: Global, cpus: u16) -> Result<Vec<HeldTimes>, AllocError> {
     Ok(all)
 }
 
-/// When the other class held each of so many CPUs. It walks the entries once.
+/// Returns when the other class held each of so many CPUs. It walks the entries once.
 pub(crate) fn holds(
     alloc: Global,
     entries: &[Entry],

@@ -1,8 +1,18 @@
-ghost use Rattle.std.specs.Prelude.{◌≡◌, ◌++◌, OnOk, string_bytes};
+ghost use Rattle.std.specs.Prelude.{◌≡◌, ◌++◌, OnOk, decimal, string_bytes};
 ghost use Rattle.gs_timeline.specs.Escapes.{escaped, shown};
 
 use gs_layout::Name;
+use itoa::Buffer;
 use std::alloc::AllocError;
+
+/// Adds words and a number behind them.
+pub(crate) fn push_number(out: &mut String, words: &str, number: u64) -> Result<(), AllocError>
+    ensures { OnOk result (string_bytes out.new ≡ string_bytes out.old ++ words.now ++ decimal number) }
+{
+    let mut buffer = Buffer::new();
+    out.push_str(words)?;
+    out.push_str(buffer.format(number))
+}
 
 /// Adds a byte of a name: a mark of the language by what stands for it.
 fn write_byte(out: &mut String, byte: u8) -> Result<(), AllocError>

@@ -1,42 +1,70 @@
 use crate::lives::Life;
-use crate::text::write_escaped;
-use gs_layout::Class;
+use crate::rect::Rect;
+use crate::text::{push_number, write_escaped};
+use gs_layout::{Class, Name};
 use std::alloc::AllocError;
-use std::fmt::Write;
 
-/// Adds what a thread is called in a bar: its name, or its tid if it has none.
-pub(crate) fn write_label(
-    out: &mut String,
-    tid: u32,
-    life: Option<&Life>,
-) -> Result<(), AllocError> {
-    match life {
-        Some(life) if !life.name.as_bytes().is_empty() => write_escaped(out, &life.name),
-        _ => write!(out, "{tid}"),
+/// How wide a letter in a bar is: each is as wide as any other.
+const LETTER: u64 = 7;
+
+/// Returns how wide a bar with so many letters is at least.
+pub(crate) fn room_for(letters: u64) -> u64 {
+    letters.saturating_mul(LETTER).saturating_add(4)
+}
+
+/// Returns how many digits a tid or a generation has: exactly up to five, and 10 for more.
+pub(crate) fn digits(number: u64) -> u64 {
+    match number {
+        0..10 => 1,
+        10..100 => 2,
+        100..1_000 => 3,
+        1_000..10_000 => 4,
+        10_000..100_000 => 5,
+        _ => 10,
     }
 }
 
-/// How wide what a thread is called is.
-pub(crate) fn label_width(tid: u32, life: Option<&Life>) -> u64 {
-    let letters = match life {
-        Some(life) if !life.name.as_bytes().is_empty() => life.name.as_bytes().len(),
-        _ => match tid {
-            0..10 => 1,
-            10..100 => 2,
-            100..1_000 => 3,
-            _ => 5,
-        },
-    };
-    (letters as u64).saturating_mul(7).saturating_add(4)
+/// Lends the name of a thread, or returns `None` if it has none.
+fn name_of(life: Option<&Life>) -> Option<&Name> {
+    life.map(|life| &life.name)
+        .filter(|name| !name.as_bytes().is_empty())
 }
 
-/// Adds the colour of a thread: neighbours differ much.
+/// Adds what a thread is called to its bar: its name, or its tid if it has no name or that does not fit. It adds nothing
+/// if the tid does not fit either.
+pub(crate) fn write_label(
+    out: &mut String,
+    bar: &Rect,
+    tid: u32,
+    life: Option<&Life>,
+) -> Result<(), AllocError> {
+    let room = bar.width;
+    let name = name_of(life).filter(|name| room_for(name.as_bytes().len() as u64) <= room);
+    let number = u64::from(tid);
+    if name.is_none() && room_for(digits(number)) > room {
+        return Ok(());
+    }
+    bar.write_text(out)?;
+    out.push_str("\" class=\"name\">")?;
+    match name {
+        Some(name) => write_escaped(out, name)?,
+        None => push_number(out, "", number)?,
+    }
+    out.push_str("</text>\n")
+}
+
+/// Adds the colour of a thread: those of neighbours differ much, and every eighth one is lighter or darker.
 pub(crate) fn write_colour(out: &mut String, tid: u32) -> Result<(), AllocError> {
     let hue = u64::from(tid) * 137 % 360;
-    write!(out, "hsl({hue},70%,72%)")
+    push_number(out, "hsl(", hue)?;
+    out.push_str(match tid / 8 % 3 {
+        0 => ",70%,72%)",
+        1 => ",85%,83%)",
+        _ => ",45%,66%)",
+    })
 }
 
-/// The number of a class.
+/// Returns the number of a thread's class, or `?` if nothing is known of the thread.
 pub(crate) fn class_name(life: Option<&Life>) -> &'static str {
     match life.map(|life| life.class) {
         Some(Class::Zero) => "0",
@@ -45,13 +73,17 @@ pub(crate) fn class_name(life: Option<&Life>) -> &'static str {
     }
 }
 
-/// Adds the name of a thread behind a space, if it has one.
-pub(crate) fn write_name_behind(out: &mut String, life: Option<&Life>) -> Result<(), AllocError> {
-    match life {
-        Some(life) if !life.name.as_bytes().is_empty() => {
-            out.push(' ')?;
-            write_escaped(out, &life.name)
-        }
-        _ => Ok(()),
+/// Adds which thread it is: its tid, its name if it has one, and its class.
+pub(crate) fn write_thread(
+    out: &mut String,
+    tid: u32,
+    life: Option<&Life>,
+) -> Result<(), AllocError> {
+    push_number(out, "thread ", u64::from(tid))?;
+    if let Some(name) = name_of(life) {
+        out.push(' ')?;
+        write_escaped(out, name)?;
     }
+    out.push_str(", class ")?;
+    out.push_str(class_name(life))
 }

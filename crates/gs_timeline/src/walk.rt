@@ -8,7 +8,7 @@ use gs_journal::Entry;
 use gs_layout::Message;
 use std::alloc::{AllocError, Global};
 
-/// What an entry makes of each CPU from one on.
+/// Changes each CPU from one on as an entry says.
 fn hear_each(lanes: &mut [Lane], cpu: u16, place: usize, entry: &Entry) -> Result<(), AllocError>
     requires { cpu + length lanes.old ≤ u16.MAX }
     ensures { OnOk result (lanes.new ≡ each_then (lane_then place entry.now) cpu lanes.old) }
@@ -20,7 +20,7 @@ fn hear_each(lanes: &mut [Lane], cpu: u16, place: usize, entry: &Entry) -> Resul
     Ok(())
 }
 
-/// Whoever is on a CPU, from one on, leaves by the entry of this place.
+/// Ends the stay of whoever is on a CPU, from one on, by the entry of this place.
 fn end_each(lanes: &mut [Lane], cpu: u16, place: usize) -> Result<(), AllocError>
     requires { cpu + length lanes.old ≤ u16.MAX }
     ensures { OnOk result (lanes.new ≡ each_then (λ c. left c place) cpu lanes.old) }
@@ -32,7 +32,7 @@ fn end_each(lanes: &mut [Lane], cpu: u16, place: usize) -> Result<(), AllocError
     Ok(())
 }
 
-/// Whether an entry takes a thread off its CPU, or all.
+/// Returns whether an entry takes a thread off its CPU, or all.
 fn empties_a_seat(entry: &Entry) -> bool
     ensures { result ≡ empties entry.now }
 {
@@ -44,7 +44,7 @@ fn empties_a_seat(entry: &Entry) -> bool
     }
 }
 
-/// The CPU that an entry places a thread on, if it places one.
+/// Returns the CPU that an entry places a thread on, if it places one.
 fn placing_cpu(entry: &Entry) -> Option<u16>
     ensures { result ≡ placing_cpu entry.now }
 {
@@ -54,7 +54,7 @@ fn placing_cpu(entry: &Entry) -> Option<u16>
     }
 }
 
-/// What an entry makes of the CPUs. Only those are looked at which it may change.
+/// Changes the CPUs as an entry says. It looks only at those that the entry may change.
 fn hear(lanes: &mut [Lane], place: usize, entry: &Entry) -> Result<(), AllocError>
     requires { length lanes.old ≤ u16.MAX }
     ensures { OnOk result (lanes.new ≡ each_then (lane_then place entry.now) 0 lanes.old) }
@@ -71,7 +71,7 @@ fn hear(lanes: &mut [Lane], place: usize, entry: &Entry) -> Result<(), AllocErro
     lanes[cpu as usize].hear(cpu, place, entry)
 }
 
-/// So many CPUs on which nobody was yet.
+/// Makes the lanes of so many CPUs on which nobody was yet.
 fn vacant_lanes(alloc: Global, cpus: u16) -> Result<Vec<Lane>, AllocError>
     ensures { IfOk result (λ lanes. lanes.items ≡ replicate cpus vacant) }
 {
@@ -82,11 +82,14 @@ fn vacant_lanes(alloc: Global, cpus: u16) -> Result<Vec<Lane>, AllocError>
     Ok(lanes)
 }
 
-/// The stays on each of so many CPUs, in order: each is as long as can be, of one thread. A
-/// thread that is there still stays to the last entry.
+/// Returns the stays on each of so many CPUs, in order. Each is as long as can be, of one thread. A thread
+/// that is there still stays to the last entry.
 ///
-/// It walks the entries once, and looks at a CPU only where an entry may change who is on it. It fails only for want of
-/// memory.
+/// It walks the entries once, and looks at a CPU only if an entry may change who is on it.
+///
+/// # Errors
+///
+/// `AllocError` if out of memory.
 pub fn stays(alloc: Global, entries: &[Entry], cpus: u16) -> Result<Vec<Lane>, AllocError>
     ensures count { IfOk result (λ lanes. length lanes.items ≡ cpus) }
     ensures stays { IfOk result (λ lanes. (c : ℕ) → c < cpus → option_map (λ (lane : LaneOf). lane.ended) (slice_get lanes.items c) ≡ Some (stays entries.now c)) }

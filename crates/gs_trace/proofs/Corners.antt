@@ -34,7 +34,7 @@ late_line : fault_line (fault 1048577 BadName) ≡ line (codes "fault line 10485
 unfolding digits
 late_line = refl
 
--- want of memory
+-- out of memory
 wants_refused : wants_memory (replies.Refused refusals.OutOfMemory) ≡ true
 wants_refused = refl
 

@@ -1,4 +1,4 @@
--- Lists by rising tid that say the same of each thread are the same.
+-- Lists in increasing order of tid that say the same of each thread are the same.
 use Rattle.std.proofs.Common.{◌≡◌, refl, ap, sym, subst, ◌∙◌, ℕ, suc, ◌+◌, ◌<◌, ◌≤◌, ◌⊎◌, inl, inr, true, false, cond, None, Some, List, [], ◌∷◌, arith, nat_cmp}
 use Rattle.std.specs.declared.cmp.Ordering.TheVariants.{Less, Equal, Greater}
 use Rattle.std.specs.Ordering.{is_eq}
@@ -27,7 +27,7 @@ first t k xs = ap (λ b. cond b (Some k) (look_up xs t)) (here t)
 passed : (t u : ℕ) (k : Known) (xs : List (ℕ × Known)) → is_at (nat_cmp t) u ≡ false → look_up ((u, k) ∷ xs) t ≡ look_up xs t
 passed t u k xs e = ap (λ b. cond b (Some k) (look_up xs t)) e
 
--- the others rise too, from above the first
+-- the others are in increasing order too, from above the first
 others_rise : (x : ℕ) (xs : List ℕ) → IsStrictlyIncreasing (x ∷ xs) → IsStrictlyIncreasing xs
 others_rise x xs r k lt =
     let e : suc k + 1 ≡ suc (k + 1) = omega arith in

@@ -1,4 +1,4 @@
--- An input has one output: where memory suffices, each event of a run has one reply.
+-- An input has one output: if memory suffices, each event of a run has one reply.
 use Rattle.std.proofs.Common.{◌≡◌, refl, ap, sym, ◌∙◌, subst, ℕ, ◌+◌, ◌⊎◌, inl, inr, ◌||◌, Bool, true, false, not, nat_le, unwrap_or, map, Option, None, Some, List, [], ◌∷◌, length, take, drop, Result, Ok, Err, slice_get}
 use Rattle.std.specs.List.{list_any, count_by}
 use Rattle.std.specs.Option.{is_none, is_some, option_map}
@@ -175,7 +175,7 @@ stamps_reply m a c t p None k = refl
 stamps_reply m a c t p (Some b) None = refl
 stamps_reply m a c t p (Some b) (Some k) = refl
 
--- the agent after a stamp, where one is active and the view knows the thread
+-- the agent after a stamp, if one is active and the view knows the thread
 stamped_agent : ℕ → ℕ → Option (ℕ × ℕ) → Option Known → Option Agent → Option Agent
 stamped_agent c t (Some b) (Some k) a = option_map (thinking (after_stamp c t)) a
 stamped_agent c t (Some b) None a = a

@@ -70,8 +70,8 @@ abbrev pub history_shown : Notation → History → List ℕ
 history_shown notations.Lines h = journal_lines h
 history_shown notations.Json h = json_lines h
 
--- which texts show what came of a script: the lines of its replies, a report with so many of the last of these, the journal; of a picture
--- nothing is said here
+-- which texts show what came of a script: the lines of its replies, a report with so many of the last of these, or the journal. Of a
+-- picture nothing is said here
 abbrev pub shown_as : Form → List Reply → ℕ → History → List ℕ → Type 0
 shown_as Lines replies cpus h out = out ≡ lines replies
 shown_as (Report last) replies cpus h out = out ≡ report_of last replies

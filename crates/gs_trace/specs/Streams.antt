@@ -1,4 +1,4 @@
--- What a run does to the bytes that its reader has and its writer holds, where these are known.
+-- What a run does to the bytes that its reader has and its writer holds, if these are known.
 use Rattle.std.specs.Prelude.{ℕ, ◌<◌, ◌≤◌, List, Option, IfSome, length, take}
 use Rattle.std.specs.Io.KnownBytes.{Appends, Consumes, IsAtEnd}
 use Rattle.gs_script.specs.declared.script.TheConstants.{MOST_BYTES}
@@ -15,7 +15,8 @@ pub record IsRead (had left : Option (List ℕ)) (bytes : List ℕ) : Type 0 whe
 abbrev pub ConsumesAtMost : ℕ → Option (List ℕ) → Option (List ℕ) → Type 0
 ConsumesAtMost most had left = (bytes : List ℕ) × Consumes had left bytes × (length bytes ≤ most)
 
--- what is to be written for all that the reader had was written; `IsAnswer input ended out` says what is to be written for an input, and how that ends
+-- what is to be written for all that the reader had was written. `IsAnswer input ended out` says what is to be written for an input,
+-- and how that ends
 abbrev pub AnswersAll : (List ℕ → Ended → List ℕ → Type 0) → Ended → Option (List ℕ) → Option (List ℕ) → Option (List ℕ) → Type 0
 AnswersAll IsAnswer ended had before after = IfSome had (λ input. (out : List ℕ) × IsAnswer input ended out × Appends before after out)
 

@@ -1,20 +1,29 @@
 -- What has taken in the replies of a run.
-use Rattle.std.specs.Prelude.{◌≡◌, ℕ, List, ◌++◌, false}
+use Rattle.std.specs.Prelude.{◌≡◌, ℕ, List, ◌++◌, ◌∷◌, [], false}
 use Rattle.std.specs.List.{list_any}
 use Rattle.gs_core.specs.declared.event.Event.{Event}
 use Rattle.gs_core.specs.declared.reply.Reply.{Reply}
-use Rattle.gs_core.specs.Machine.{Plan, State}
-use Rattle.gs_core.specs.Safe.{Run}
+use Rattle.gs_core.specs.Machine.{Plan, State, Step}
+use Rattle.gs_core.specs.Safe.{Safe, IsFaithful, Run}
 use Rattle.gs_core.specs.Short.{wants_memory}
 use Rattle.gs_journal.specs.History.{History}
 
--- of a run of these events, from one machine on to another with some events left, the replies so far were taken in, and memory sufficed: the
--- replies to what is left follow them
+-- of a run of these events, from one machine on to another with some events left, the replies so far were taken in. Memory sufficed,
+-- and the replies to what is left follow them
 pub record TakenSoFar {T : Type 0} (Has : T → List Reply → Type 0) (m : State) (es left : List (Event Plan)) (now : State) (taken : T) : Type 0 where
   pub replies : List Reply
   pub leads : (more : List Reply) (end : State) → Run now left more end → Run m es (replies ++ more) end
   pub sufficed : list_any wants_memory replies ≡ false
   pub has : Has taken replies
+
+-- one event, from one machine to the next: its reply does not tell that memory ran out, and was taken in behind those before
+pub record TakesOne {T : Type 0} (Has : T → List Reply → Type 0) (m : State) (e : Event Plan) (next : State) (old new : T) : Type 0 where
+  pub reply : Reply
+  pub step : Step m e reply next
+  pub safe : Safe next
+  pub faithful : IsFaithful next
+  pub sufficed : list_any wants_memory (reply ∷ []) ≡ false
+  pub grows : (rs : List Reply) → Has old rs → Has new (rs ++ reply ∷ [])
 
 -- these bytes show a run of these events, from one machine to another, in which memory sufficed
 pub record ShowsRun (Shows : List Reply → ℕ → History → List ℕ → Type 0) (m : State) (es : List (Event Plan)) (end : State) (out : List ℕ) : Type 0 where

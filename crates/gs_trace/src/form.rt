@@ -30,7 +30,7 @@ pub enum Form {
     /// A report: one line of JSON with the counts of the script's events, refusals and landings, whether
     /// the enclave was torn down, and the last of the lines.
     Report {
-        /// So many of the last lines, or all where there are fewer.
+        /// So many of the last lines, or all if there are fewer.
         last: usize,
     },
     /// The journal of all that happened.
@@ -44,7 +44,7 @@ pub enum Form {
     },
 }
 
-/// The journal in this notation.
+/// Returns the journal in this notation.
 fn show_journal(alloc: Global, notation: Notation, entries: &[Entry]) -> Result<Vec<u8>, AllocError>
     ensures { IfOk result (λ bytes. bytes.items ≡ history_shown notation entries.now) }
 {
@@ -54,7 +54,7 @@ fn show_journal(alloc: Global, notation: Notation, entries: &[Entry]) -> Result<
     }
 }
 
-/// Runs events, and gives the lines of their replies.
+/// Runs events, and returns the lines of their replies.
 fn show_lines(
     alloc: Global,
     machine: &mut Machine<AnyPolicy>,
@@ -66,7 +66,7 @@ fn show_lines(
     Ok(text.into_bytes())
 }
 
-/// Runs events, and gives a report of their replies, with so many of the last lines.
+/// Runs events, and returns a report of their replies, with so many of the last lines.
 fn show_report(
     alloc: Global,
     last: usize,
@@ -79,7 +79,7 @@ fn show_report(
     Ok(report.to_line(alloc, last)?.into_bytes())
 }
 
-/// Runs events, and gives the journal of all that happened, in this notation.
+/// Runs events, and returns the journal of all that happened, in this notation.
 fn show_history(
     alloc: Global,
     notation: Notation,
@@ -92,7 +92,7 @@ fn show_history(
     show_journal(alloc, notation, machine.kernel().journal().entries())
 }
 
-/// Runs events, and gives a picture of the entries from one place in the journal on to another.
+/// Runs events, and returns a picture of the entries from one place in the journal on to another.
 fn show_picture(
     alloc: Global,
     from: usize,
@@ -110,7 +110,7 @@ fn show_picture(
 }
 
 /// Runs events, and shows what came of them in this form: their replies, and the machine that they leave. It fails only
-/// for want of memory, also where a reply tells of that.
+/// if out of memory, or if a reply tells of that.
 pub(crate) fn show(
     alloc: Global,
     form: Form,

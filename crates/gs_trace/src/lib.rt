@@ -1,4 +1,4 @@
-//! A script in; the lines of its replies, a report or the journal out.
+//! From a script to the lines of its replies, a report, the journal or a picture.
 #![tactic(auto)]
 
 mod form;

@@ -26,7 +26,7 @@ pub(crate) enum InputError {
 #[derive(Clone, Copy, PartialEq, Eq, Debug)]
 pub(crate) struct WriteFailed;
 
-/// All bytes that a reader has, or more than a script may have, but then at most `MOST_READ_BYTES`.
+/// Reads all bytes that a reader has, or more than a script may have, but then at most `MOST_READ_BYTES`.
 pub(crate) fn read_all<R: Read>(alloc: Global, reader: &mut R) -> Result<Vec<u8>, InputError>
     ensures read { IfOk result (λ bytes. IsRead (R.remaining reader.old) (R.remaining reader.new) bytes.items) }
     ensures bounded { ConsumesAtMost MOST_READ_BYTES (R.remaining reader.old) (R.remaining reader.new) }
@@ -50,7 +50,7 @@ pub(crate) fn read_all<R: Read>(alloc: Global, reader: &mut R) -> Result<Vec<u8>
     Ok(bytes)
 }
 
-/// Writes the bytes, or, where it fails, a beginning of them that is short of the whole.
+/// Writes the bytes, or, if it fails, a beginning of them that is short of the whole.
 pub(crate) fn write_out<W: Write>(writer: &mut W, bytes: &[u8]) -> Result<(), WriteFailed>
     ensures ok { OnOk result (Appends (W.contents writer.old) (W.contents writer.new) bytes.now) }
     ensures err { OnErr result ((n : ℕ) × (n < length bytes.now) × Appends (W.contents writer.old) (W.contents writer.new) (take n bytes.now)) }

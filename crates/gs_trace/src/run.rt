@@ -1,5 +1,6 @@
 ghost use Rattle.std.specs.Prelude.{◌≡◌, ◌≢◌, IfOk, IfErr, IsErrOf, string_bytes};
 ghost use Rattle.std.specs.Io.KnownBytes.{Keeps};
+ghost use Rattle.gs_trace.specs.declared.run.TraceFault.TheVariants.{OutOfMemory};
 ghost use Rattle.gs_trace.specs.Output.{IsJournal, IsOutput, IsReport, IsShown, fault_line, reason_text, shown_as};
 ghost use Rattle.gs_trace.specs.Streams.{AnswersAll, AnswersRead, BeginsAnswer, ConsumesAtMost};
 
@@ -14,7 +15,7 @@ use thiserror::Error;
 /// How a script ended.
 #[derive(Clone, Copy, PartialEq, Eq, Debug)]
 pub enum Ended {
-    /// Its events were run, and each was answered.
+    /// Its events were run, and each had its reply.
     Ran,
     /// It has a fault, and no event was run.
     Faulted,
@@ -26,12 +27,20 @@ pub enum TraceFault {
     /// A read failed. Nothing was written.
     #[error("the script could not be read")]
     ReadFailed,
-    /// Memory ran out, also where it did at an event. Nothing was written.
+    /// Out of memory, at an event too. Nothing was written.
     #[error("out of memory")]
     OutOfMemory,
     /// A write failed, or took no byte. A beginning of the output was written, short of the whole.
     #[error("the output could not be written")]
     WriteFailed,
+}
+
+impl From<AllocError> for TraceFault {
+    ghost from_gives = { λ _ fault. fault ≡ OutOfMemory };
+
+    fn from(_failed: AllocError) -> TraceFault {
+        TraceFault::OutOfMemory
+    }
 }
 
 /// What is to be written.
@@ -67,7 +76,7 @@ fn fault_text(alloc: Global, fault: ScriptFault) -> Result<String, AllocError>
     Ok(text)
 }
 
-/// What is to be written for an input, in this form. It fails only for want of memory.
+/// Returns what is to be written for an input, in this form. It fails only if out of memory.
 fn answer_to(alloc: Global, input: &[u8], form: Form) -> Result<Answer, AllocError>
     ensures { IfOk result (λ answer. IsShown (shown_as form) input.now answer.ended answer.bytes.items) }
 {
@@ -115,8 +124,8 @@ pub fn run_script<R: Read, W: Write>(
     run_as(alloc, reader, writer, Form::Lines)
 }
 
-/// Reads and runs a script as [`run_script`] does, and writes a report in place of the lines, with so many of
-/// the last lines. As [`run_as`] with [`Form::Report`].
+/// Reads and runs a script as [`run_script`] does, and writes a report in place of the lines, with the last
+/// `last` of these. As [`run_as`] with [`Form::Report`].
 ///
 /// # Errors
 ///
@@ -165,10 +174,10 @@ pub fn run_journal<R: Read, W: Write>(
 ///
 /// # Errors
 ///
-/// `ReadFailed` where a read fails, `OutOfMemory` where memory runs out, also where it does at an event:
-/// nothing was written. No clause tells these two apart, since a reader's contract does not say when it
-/// fails. `WriteFailed` where a write fails or takes no byte: a beginning of the output was
-/// written, short of the whole.
+/// `ReadFailed` if a read fails. `OutOfMemory` if out of memory, at an event too. In both cases nothing was
+/// written. No clause tells these two apart, since a reader's contract does not say when it fails.
+/// `WriteFailed` if a write fails or takes no byte: a beginning of the output was written, short of the
+/// whole.
 pub fn run_as<R: Read, W: Write>(
     alloc: Global,
     reader: &mut R,
@@ -186,9 +195,7 @@ pub fn run_as<R: Read, W: Write>(
         Err(InputError::Failed) => return Err(TraceFault::ReadFailed),
         Err(InputError::OutOfMemory) => return Err(TraceFault::OutOfMemory),
     };
-    let Ok(Answer { ended, bytes }) = answer_to(alloc, &input, form) else {
-        return Err(TraceFault::OutOfMemory);
-    };
+    let Answer { ended, bytes } = answer_to(alloc, &input, form)?;
     match write_out(writer, &bytes) {
         Ok(()) => Ok(ended),
         Err(_) => Err(TraceFault::WriteFailed),

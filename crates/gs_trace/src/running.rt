@@ -1,15 +1,19 @@
 //! A run whose replies are taken in one by one, none of which is kept.
 
 ghost use Rattle.std.specs.Prelude.{◌≡◌, List, [], ◌∷◌, ◌++◌, IfOk, OnOk, map};
+ghost use Rattle.gs_kernel.specs.Fate.{answer_by};
+ghost use Rattle.gs_core.specs.Answers.{reply_of};
 ghost use Rattle.gs_core.specs.Machine.{planned, planning};
 ghost use Rattle.gs_core.specs.declared.reply.Reply as replies;
 ghost use Rattle.gs_lines.specs.Lines.{lines};
 ghost use Rattle.gs_report.specs.Report.{ReportsOn};
 ghost use Rattle.gs_trace.specs.Output.{any_plans};
-ghost use Rattle.gs_trace.specs.Taking.{TakenSoFar};
+ghost use Rattle.gs_trace.specs.Taking.{TakenSoFar, TakesOne};
 
-use gs_core::{Event, Machine, Reply, is_short};
-use gs_lines::{Text, write_reply};
+use gs_core::{Event, Machine, Reply, is_short, is_short_fate};
+use gs_journal::Entry;
+use gs_kernel::Fate;
+use gs_lines::{Text, write_fate, write_reply};
 use gs_policy::AnyPolicy;
 use gs_report::Report;
 use std::alloc::AllocError;
@@ -20,9 +24,13 @@ pub(crate) trait Taker: Drop {
     /// It has taken in these replies, and no others.
     ghost has: { Self → List replies.Reply → Type 0 };
 
-    /// Takes in one more reply. It fails only for want of memory.
+    /// Takes in one more reply. It fails only if out of memory.
     fn take(&mut self, reply: &Reply) -> Result<(), AllocError>
         ensures { OnOk result ((rs : List replies.Reply) → has self.old rs → has self.new (rs ++ reply.now ∷ [])) };
+
+    /// Takes in the reply to a command by its fate and the kernel's last entry. It fails only if out of memory.
+    fn take_fate(&mut self, fate: Fate, last: &Entry) -> Result<(), AllocError>
+        ensures { OnOk result ((rs : List replies.Reply) → has self.old rs → has self.new (rs ++ reply_of (answer_by fate last.now) ∷ [])) };
 }
 
 /// The lines of the replies.
@@ -33,6 +41,11 @@ impl Taker for Text {
     fn take(&mut self, reply: &Reply) -> Result<(), AllocError> {
         write_reply(self, reply)
     }
+
+    #[tactic(auto, using(crate::proofs::Taking::text_more))]
+    fn take_fate(&mut self, fate: Fate, last: &Entry) -> Result<(), AllocError> {
+        write_fate(self, fate, last)
+    }
 }
 
 impl Taker for Report {
@@ -40,6 +53,10 @@ impl Taker for Report {
 
     fn take(&mut self, reply: &Reply) -> Result<(), AllocError> {
         self.add(reply)
+    }
+
+    fn take_fate(&mut self, fate: Fate, last: &Entry) -> Result<(), AllocError> {
+        self.add(&Reply::by(fate, last))
     }
 }
 
@@ -53,9 +70,35 @@ impl Taker for Nothing {
     fn take(&mut self, _reply: &Reply) -> Result<(), AllocError> {
         Ok(())
     }
+
+    fn take_fate(&mut self, _fate: Fate, _last: &Entry) -> Result<(), AllocError> {
+        Ok(())
+    }
 }
 
-/// Runs events, and has each reply taken in. It fails only for want of memory, also where a reply tells of that.
+/// Runs an event, and has its reply taken in. It fails only if out of memory, or if the reply tells of that.
+fn run_one<T: Taker>(
+    machine: &mut Machine<AnyPolicy>,
+    event: &Event<AnyPolicy>,
+    taker: &mut T,
+) -> Result<(), AllocError>
+    ensures { OnOk result (TakesOne T.has (planning any_plans machine.old) (planned any_plans event.now) (planning any_plans machine.new) taker.old taker.new) }
+{
+    if let Event::Kernel { command } = event {
+        let fate = machine.command(command);
+        if is_short_fate(fate) {
+            return Err(AllocError);
+        }
+        return taker.take_fate(fate, machine.kernel().last());
+    }
+    let reply = machine.step(event);
+    if is_short(slice::from_ref(&reply)) {
+        return Err(AllocError);
+    }
+    taker.take(&reply)
+}
+
+/// Runs events, and has each reply taken in. It fails only if out of memory, or if a reply tells of that.
 pub(crate) fn run_into<T: Taker>(
     machine: &mut Machine<AnyPolicy>,
     events: &[Event<AnyPolicy>],
@@ -66,11 +109,7 @@ pub(crate) fn run_into<T: Taker>(
 {
     let mut taken = taker;
     for event in events {
-        let reply = machine.step(event);
-        if is_short(slice::from_ref(&reply)) {
-            return Err(AllocError);
-        }
-        taken.take(&reply)?;
+        run_one(machine, event, &mut taken)?;
     }
     Ok(taken)
 }

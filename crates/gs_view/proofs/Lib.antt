@@ -5,4 +5,3 @@ mod Loading
 mod Rows
 mod Showing
 mod Steps
-mod Walked

@@ -1,4 +1,4 @@
--- What is known of threads, as a list: what it has of each thread, that it rises, and what a change of one thread makes of it.
+-- What is known of threads, as a list: what it has of each thread, that its tids increase, and what a change of one thread makes of it.
 use Rattle.std.proofs.Common.{◌≡◌, ◌≢◌, refl, ap, sym, ◌∙◌, ℕ, zero, suc, ◌+◌, ◌-◌, ◌<◌, ◌≤◌, ◌⊎◌, inl, inr, true, false, Option, None, Some, [], arith, All}
 use Rattle.std.specs.BTreeMap.{is_at}
 use Rattle.std.specs.Ordering.{nat_cmp}
@@ -127,7 +127,7 @@ sorted_listed v t (suc n) = by_known (v t) (all_above v t (t + 1) n (omega arith
     by_known None above later = later
     by_known (Some k) above later = (above, later)
 
--- the tids of a list rise
+-- the tids of a list increase
 pub rising_listed : (v : Look) (t n : ℕ) → IsStrictlyIncreasing (tids (listed v t n))
 rising_listed v t n = IsStrictlyIncreasing-from_sorted _ (sorted_listed v t n)
 

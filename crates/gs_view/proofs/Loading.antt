@@ -10,7 +10,7 @@ use Rattle.gs_dump.specs.Page.{rises}
 use Rattle.gs_view.specs.Loaded.{known_in, loaded, or_known, told_of}
 use Rattle.gs_view.specs.Records.{with_known}
 
--- no record before the one at a place is of its thread, and each is above the number that the tids rise from
+-- no record before the one at a place is of its thread, and each is above the number that the tids begin above
 above_earlier : (last : ℕ) (rs : List DumpRecord) (next : Option ℕ) → rises last rs next ≡ true → (i : ℕ) (r : DumpRecord) → slice_get rs i ≡ Some r
     → (told_of (take i rs) r.tid ≡ None) × (last < r.tid)
 above_earlier last [] next up i r e = absurd cc

@@ -1,82 +1,81 @@
 -- What a walk has still to show, as it goes on.
-use Rattle.std.proofs.Common.{◌≡◌, ◌≢◌, ◌⊎◌, inl, inr, refl, ap, sym, ◌∙◌, ℕ, ◌≤◌, ◌^◌, true, cond, Option, None, Some, is_some, [], ◌∷◌, arith}
-use Rattle.std.proofs.lemmas.Bool.{cases_eq}
+use Rattle.std.proofs.Common.{◌≡◌, ◌≢◌, ◌⊎◌, inl, inr, refl, ap, sym, ◌∙◌, ℕ, ◌+◌, ◌<◌, ◌≤◌, nat_le, true, false, cond, Option, None, Some, is_some, [], ◌∷◌, arith}
+use Rattle.std.proofs.lemmas.Bool.{cases_lt}
+use Rattle.std.proofs.lemmas.Bool.Decides.{nat_tests}
 use Rattle.slab.specs.Slab.{Slab}
 use Rattle.gs_layout.specs.declared.known.Known.{Known}
 use Rattle.gs_layout.specs.View.{look_up}
-use Rattle.gs_view.specs.Index.{IndexState, key_of, places}
-use Rattle.gs_view.specs.LiveTids.{GivesLeast, IsSpent, LeftTids, is_left}
+use Rattle.gs_sets.specs.Bits.{IsFirst, IsNone}
+use Rattle.gs_view.specs.Index.{IndexState, has_key, key_of, places}
 use Rattle.gs_view.specs.Records.{Agree, RecordsState, known_by, record_under, state_of}
-use Rattle.gs_view.specs.Shown.{AreShown, still_known, still_shown}
+use Rattle.gs_view.specs.Shown.{is_known, known_from, shown_from}
 use Rattle.gs_view.proofs.Agreed.{known_past, look_known}
-use Rattle.gs_view.proofs.Indexed.{key_within}
 use Rattle.gs_view.proofs.Listed.{listed_alike, none_listed}
 use Rattle.gs_view.proofs.Steps.{first_listed}
 
-module _ (i : IndexState) (s : Slab Known) (left : LeftTids) (each : (t : ℕ) → is_left left t ≡ is_some (key_of i t)) where
-  -- a walk over all tids that have a key has all records to show
-  pub whole_shown : still_shown left (state_of i s) ≡ (state_of i s).entries
-  whole_shown = sym (listed_alike (known_by i s) (still_known left (state_of i s)) (places i) (places i) (omega arith) (λ t. same t (key_of i t) refl) (known_past i s))
-    where
-      same : (t : ℕ) (o : Option ℕ) → key_of i t ≡ o → known_by i s t ≡ still_known left (state_of i s) t
-      same t None e = ap (record_under s) e ∙ sym (ap (λ b. cond b (look_up (state_of i s).entries t) None) (each t ∙ ap is_some e))
-      same t (Some key) e = sym (look_known i s t) ∙ sym (ap (λ b. cond b (look_up (state_of i s).entries t) None) (each t ∙ ap is_some e))
+-- a walk from tid 0 has all records to show
+pub whole_shown : (i : IndexState) (s : Slab Known) → shown_from 0 (state_of i s) ≡ (state_of i s).entries
+whole_shown i s =
+    sym (listed_alike (known_by i s) (known_from 0 (state_of i s)) (places i) (places i) (omega arith) (λ t. sym (look_known i s t) ∙ here t) (known_past i s))
+  where
+    here : (t : ℕ) → look_up (state_of i s).entries t ≡ known_from 0 (state_of i s) t
+    here t =
+        let reached : nat_le 0 t ≡ true = grind (arith, nat_tests) in
+        sym (ap (λ b. cond b (look_up (state_of i s).entries t) None) reached)
 
-  -- each of its tids is of a record
-  pub all_shown : Agree i s → places i ≤ 2 ^ 32 → AreShown left (state_of i s)
-  all_shown agree fits =
-      record {
-        known = λ t there. look_known' t there;
-        within = λ t there. key_within i t (sym (each t) ∙ there);
-        fits = fits;
-      }
-    where
-      it : Agree i s
-      it = agree
+-- something is known of a thread if it has a key, and only then
+pub known_key : (i : IndexState) (s : Slab Known) → Agree i s → (t : ℕ) → is_known (state_of i s) t ≡ has_key i t
+known_key i s agree t = ap is_some (look_known i s t) ∙ by_key (key_of i t) refl
+  where
+    it : Agree i s
+    it = agree
 
-      by_key : (t : ℕ) (o : Option ℕ) → key_of i t ≡ o → is_some o ≡ true → is_some (record_under s (key_of i t)) ≡ true
-      by_key t None e some = absurd cc
-      by_key t (Some key) e some = ap (λ o. is_some (record_under s o)) e ∙ it.present t key e
+    by_key : (o : Option ℕ) → key_of i t ≡ o → is_some (record_under s (key_of i t)) ≡ is_some (key_of i t)
+    by_key None e = ap (λ (o : Option ℕ). is_some (record_under s o)) e ∙ sym (ap is_some e)
+    by_key (Some key) e = ap (λ (o : Option ℕ). is_some (record_under s o)) e ∙ (it.present t key e ∙ sym (ap is_some e))
 
-      look_known' : (t : ℕ) → is_left left t ≡ true → is_some (look_up (state_of i s).entries t) ≡ true
-      look_known' t there = ap is_some (look_known i s t) ∙ by_key t (key_of i t) refl (sym (each t) ∙ there)
+-- of a tid that a walk has not reached, or of which nothing is known, it has nothing to show
+nothing_at : (r : RecordsState) (from t : ℕ) → (from ≤ t → is_known r t ≡ false) → known_from from r t ≡ None
+nothing_at r from t none = by_place (cases_lt t from)
+  where
+    nothing : from ≤ t → is_known r t ≡ false
+    nothing = none
 
-module _ (left left' : LeftTids) (r : RecordsState) where
-  -- nothing is shown any more if no tid is left
-  pub spent_shown : IsSpent left → still_shown left r ≡ []
-  spent_shown spent = none_listed (still_known left r) 0 r.tids (λ t _. ap (λ b. cond b (look_up r.entries t) None) (spent t))
+    by_known : (o : Option Known) → is_some o ≡ false → o ≡ None
+    by_known None e = refl
+    by_known (Some k) e = absurd cc
 
-  module _ (shown : AreShown left r) (t : ℕ) (gives : GivesLeast left t left') where
-    -- the record of the least tid is shown first
-    pub first_shown : (k : Known) → look_up r.entries t ≡ Some k → still_shown left r ≡ (t, k) ∷ still_shown left' r
-    first_shown k known =
-        first_listed (still_known left r) (still_known left' r) k 0 r.tids t (omega arith) (omega (arith, shown.within t gives.passes))
-        (ap (λ b. cond b (look_up r.entries t) None) gives.passes ∙ known)
-        (λ u lt. ap (λ b. cond b (look_up r.entries u) None) (gives.none_below u lt))
-        (ap (λ b. cond b (look_up r.entries t) None) gives.given)
-        (λ u differs. ap (λ b. cond b (look_up r.entries u) None) (gives.others u differs))
+    by_place : (t < from) ⊎ (from ≤ t) → known_from from r t ≡ None
+    by_place (inl lt) =
+        let before : nat_le from t ≡ false = grind (arith, nat_tests) in
+        ap (λ b. cond b (look_up r.entries t) None) before
+    by_place (inr le) =
+        let reached : nat_le from t ≡ true = grind (arith, nat_tests) in
+        ap (λ b. cond b (look_up r.entries t) None) reached ∙ by_known (look_up r.entries t) (nothing le)
 
-    still : (u : ℕ) → is_left left' u ≡ true → is_left left u ≡ true
-    still u there = by_tid (cases_eq u t)
-      where
-        by_tid : (u ≡ t) ⊎ (u ≢ t) → is_left left u ≡ true
-        by_tid (inl same) = ap (is_left left) same ∙ gives.passes
-        by_tid (inr differs) = sym (gives.others u differs) ∙ there
+-- nothing is shown any more if nothing is known from there on
+pub spent_shown : (r : RecordsState) (from : ℕ) → IsNone (is_known r) from → shown_from from r ≡ []
+spent_shown r from none = none_listed (known_from from r) 0 r.tids (λ t _. nothing_at r from t (none t))
 
-    -- and the others are of records as before
-    pub others_shown : AreShown left' r
-    others_shown =
-        record {
-          known = λ u there. shown.known u (still u there);
-          within = λ u there. shown.within u (still u there);
-          fits = shown.fits;
-        }
+-- the first thread of which something is known is shown first, and then those from the tid behind it on
+pub first_shown : (r : RecordsState) (from t : ℕ) (k : Known) → IsFirst (is_known r) from t → t < r.tids → look_up r.entries t ≡ Some k
+    → shown_from from r ≡ (t, k) ∷ shown_from (t + 1) r
+first_shown r from t k first within known =
+    first_listed (known_from from r) (known_from (t + 1) r) k 0 r.tids t (omega arith) (omega (arith, within))
+    (there from t (omega (arith, first.after)) ∙ known)
+    (λ u lt. nothing_at r from u (λ le. first.none_before u le lt))
+    (nothing_at r (t + 1) t (λ le. absurd (omega (arith, le))))
+    (λ u differs. by_place u differs (cases_lt u t))
+  where
+    it : IsFirst (is_known r) from t
+    it = first
 
-  -- each tid that is left is of a record, if none is left
-  pub none_shown : AreShown left r → IsSpent left' → AreShown left' r
-  none_shown shown spent =
-      record {
-        known = λ u there. absurd (let away = spent u in let here = there in cc);
-        within = λ u there. absurd (let away = spent u in let here = there in cc);
-        fits = shown.fits;
-      }
+    there : (from u : ℕ) → from ≤ u → known_from from r u ≡ look_up r.entries u
+    there from u le =
+        let reached : nat_le from u ≡ true = grind (arith, nat_tests) in
+        ap (λ b. cond b (look_up r.entries u) None) reached
+
+    by_place : (u : ℕ) → u ≢ t → (u < t) ⊎ (t ≤ u) → known_from (t + 1) r u ≡ known_from from r u
+    by_place u differs (inl lt) =
+        nothing_at r (t + 1) u (λ le. absurd (omega (arith, le, lt))) ∙ sym (nothing_at r from u (λ le. it.none_before u le lt))
+    by_place u differs (inr ge) = there (t + 1) u (omega (arith, ge, differs)) ∙ sym (there from u (omega (arith, ge, it.after)))

@@ -1,7 +1,6 @@
 pub mod Begins
 pub mod Index
 pub mod Listed
-pub mod LiveTids
 pub mod Loaded
 pub mod Records
 pub mod Shown

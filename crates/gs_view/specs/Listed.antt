@@ -8,7 +8,7 @@ abbrev pub listed_one : ℕ → Option Known → List (ℕ × Known) → List (�
 listed_one t None rest = rest
 listed_one t (Some k) rest = (t, k) ∷ rest
 
--- of so many tids, from one on, those of which something is known, each with that, by rising tid
+-- of so many tids, from one on, those of which something is known, each with that, in increasing order of tid
 unfoldable pub listed : Look → ℕ → ℕ → List (ℕ × Known)
 listed v t zero = []
 listed v t (suc n) = listed_one t (v t) (listed v (t + 1) n)

@@ -8,12 +8,12 @@ use Rattle.gs_dump.specs.declared.record.DumpRecord.{DumpRecord}
 abbrev pub known_in : DumpRecord → Known
 known_in r = record { facts = r.facts; tseq = r.tseq }
 
--- what records say of a thread: nothing, where none is of it
+-- what records say of a thread: nothing, if none is of it
 abbrev pub told_of : List DumpRecord → ℕ → Option Known
 told_of [] t = None
 told_of (r ∷ rs) t = if r.tid == t then Some (known_in r) else told_of rs t
 
--- one of two, the first where there is one
+-- one of two, the first if there is one
 abbrev pub or_known : Option Known → Option Known → Option Known
 or_known None o = o
 or_known (Some k) o = Some k

@@ -6,7 +6,7 @@ use Rattle.gs_layout.specs.View.{Look}
 use Rattle.gs_view.specs.Index.{IndexState, key_of, places}
 use Rattle.gs_view.specs.Listed.{listed}
 
--- all that is known, by rising tid; how many tids have a place, from tid 0 on; and how many more records fit with no memory
+-- all that is known, in increasing order of tid; how many tids have a place, from tid 0 on; and how many more records fit without allocating
 pub record RecordsState : Type 0 where
   pub entries : List (ℕ × Known)
   pub tids : ℕ

@@ -1,14 +1,10 @@
-ghost use Rattle.std.specs.Prelude.{◌≡◌, ◌≢◌, ◌^◌, ◌<◌, ◌≤◌, ℕ, None, Some, is_some, slice_index, OnOk};
-ghost use Rattle.gs_view.specs.Index.{is_in, key_of, places};
-ghost use Rattle.gs_view.specs.LiveTids.{is_left};
+ghost use Rattle.std.specs.Prelude.{◌≡◌, ◌≢◌, ◌^◌, ◌<◌, ◌≤◌, ℕ, None, Some, IfSome, MatchOption, OnOk, slice_index, vec_len};
+ghost use Rattle.gs_sets.specs.Bits.{IsFirst, IsNone};
+ghost use Rattle.gs_view.specs.Index.{has_key, key_of, places};
 
-use crate::live_tids::LiveTids;
-use gs_status::Mask;
+use gs_sets::{NumberSet, WORD};
 use std::alloc::{AllocError, Global};
 use std::marker::Model;
-
-/// How many tids a word of the set has, a bit for each.
-pub(crate) const WORD: usize = 64;
 
 /// Which tids have a key, and which one: a table of keys by tid, and the set of the tids that have one.
 ///
@@ -17,82 +13,75 @@ pub(crate) const WORD: usize = 64;
 #[derive(Drop)]
 pub(crate) struct KeyIndex {
     /// The tids that have a key.
-    live: Vec<Mask>,
+    live: NumberSet,
     /// The key of each tid that has one, and any number for the others.
     keys: Vec<usize>,
 }
 
 impl Model for KeyIndex {
-    ghost use Rattle.std.specs.Prelude.{◌≤◌, ◌^◌, ◌*◌, vec_len};
+    ghost use Rattle.std.specs.Prelude.{◌≤◌, ◌*◌, length, vec_len};
+    ghost use Rattle.gs_sets.specs.declared.bits.TheConstants.{WORD};
     ghost use Rattle.gs_view.specs.Index.{IndexState};
-    ghost use Rattle.gs_view.specs.declared.index.TheConstants.{WORD};
 
     ghost Value = { IndexState };
 
-    ghost view = { λ i. record { live = i.live.items; keys = i.keys.items } };
+    ghost view = { λ i. record { live = i.live; keys = i.keys.items } };
 
-    ghost invariant = { λ i. (WORD * vec_len i.live ≤ vec_len i.keys) × (WORD * vec_len i.live ≤ 2 ^ 32) };
+    ghost invariant = { λ i. WORD * length i.live ≤ vec_len i.keys };
 }
 
-/// The word at a place, or an empty one if there is none.
-pub(crate) fn word_at(words: &[Mask], place: usize) -> Mask
-    ensures { result ≡ slice_index words.now place }
+/// Makes a table at least so long.
+///
+/// # Errors
+///
+/// `AllocError` if out of memory. All that the table had stays in it.
+fn lengthen(keys: &mut Vec<usize>, len: usize) -> Result<(), AllocError>
+    ensures len { OnOk result (len ≤ vec_len keys.new) }
+    ensures longer { vec_len keys.old ≤ vec_len keys.new }
+    ensures kept { (k : ℕ) → k < vec_len keys.old → slice_index keys.new.items k ≡ slice_index keys.old.items k }
 {
-    if place < words.len() {
-        words[place]
-    } else {
-        Mask::none()
+    if keys.len() < len {
+        keys.resize(len, 0)?;
     }
+    Ok(())
 }
 
 impl KeyIndex {
-    /// An index in which no tid has a key or a place. It takes no memory.
+    /// Makes an index in which no tid has a key or a place. It does not allocate.
     pub(crate) fn new(alloc: Global) -> KeyIndex
         ensures none { (t : ℕ) → key_of result t ≡ None }
         ensures places { places result ≡ 0 }
     {
         KeyIndex {
-            live: Vec::new(alloc),
+            live: NumberSet::new(alloc),
             keys: Vec::new(alloc),
         }
     }
 
-    /// The key of a tid, if it has one.
+    /// Returns the key of a tid, if it has one.
     pub(crate) fn get(&self, tid: usize) -> Option<usize>
         ensures { result ≡ key_of self.now tid }
     {
-        if self.has(tid) {
+        if self.live.has(tid) {
             Some(self.keys[tid])
         } else {
             None
         }
     }
 
-    /// Whether a tid has a key.
-    #[tactic(auto, unfolding(crate::specs::Index::is_in))]
-    fn has(&self, tid: usize) -> bool
-        ensures { result ≡ is_in self.now.live tid }
-    {
-        word_at(&self.live, tid / WORD).has((tid % WORD) as u16)
-    }
-
     /// Makes a place for a tid.
     ///
     /// # Errors
     ///
-    /// `AllocError` if memory runs out. Each tid has the key that it had, either way.
+    /// `AllocError` if out of memory. Each tid has the key that it had, either way.
     pub(crate) fn reserve(&mut self, tid: usize) -> Result<(), AllocError>
         requires { tid < 2 ^ 32 }
         ensures room { OnOk result (tid < places self.new) }
         ensures same { (t : ℕ) → key_of self.new t ≡ key_of self.old t }
         ensures kept { places self.old ≤ places self.new }
     {
-        let words = tid / WORD + 1;
-        if self.live.len() < words {
-            self.keys.resize(words * WORD, 0)?;
-            self.live.resize(words, Mask::none())?;
-        }
-        Ok(())
+        lengthen(&mut self.keys, (tid / WORD + 1) * WORD)?;
+        self.live.reserve(tid)
     }
 
     /// Gives a tid a key, whatever key it had. It has a place.
@@ -103,8 +92,7 @@ impl KeyIndex {
         ensures places { places self.new ≡ places self.old }
     {
         self.keys[tid] = key;
-        let word = &mut self.live[tid / WORD];
-        *word = word.with((tid % WORD) as u16);
+        self.live.set(tid, true);
     }
 
     /// Takes the key of a tid away. It has a place.
@@ -114,15 +102,14 @@ impl KeyIndex {
         ensures others { (t : ℕ) → t ≢ tid → key_of self.new t ≡ key_of self.old t }
         ensures places { places self.new ≡ places self.old }
     {
-        let word = &mut self.live[tid / WORD];
-        *word = word.without((tid % WORD) as u16);
+        self.live.set(tid, false);
     }
 
-    /// The tids that have a key, by rising number.
-    pub(crate) fn tids(&self) -> LiveTids<'_>
-        ensures left { (t : ℕ) → is_left result t ≡ is_some (key_of self.now t) }
-        ensures within { places self.now ≤ 2 ^ 32 }
+    /// Returns the first tid that has a key and is not below `from`.
+    pub(crate) fn next_from(&self, from: usize) -> Option<usize>
+        ensures first { MatchOption result (IsNone (has_key self.now) from) (IsFirst (has_key self.now) from) }
+        ensures within { IfSome result (λ t. (t < places self.now) × (t < 2 ^ 32)) }
     {
-        LiveTids::new(&self.live)
+        self.live.next_from(from)
     }
 }

@@ -4,7 +4,6 @@
 
 mod fault;
 mod index;
-mod live_tids;
 mod load;
 mod records;
 mod taken;

@@ -9,11 +9,11 @@ use gs_dump::{DumpRecord, Page};
 use gs_layout::Known;
 use std::alloc::AllocError;
 
-/// Loads a page's records by rising tid. Room is made for all of them first.
+/// Loads a page's records in increasing order of tid. Room is made for all of them first.
 ///
 /// # Errors
 ///
-/// `AllocError` if there is no memory for them. Then nothing changes.
+/// `AllocError` if out of memory for them. Then nothing changes.
 pub(crate) fn load_page(records: &mut Records, page: &Page) -> Result<(), AllocError>
     ensures known { OnOk result ((t : ℕ) → look_up records.new.entries t ≡ loaded page.now.records (look_up records.old.entries) t) }
     ensures unchanged { OnErr result (records.new.entries ≡ records.old.entries) }
@@ -28,7 +28,7 @@ pub(crate) fn load_page(records: &mut Records, page: &Page) -> Result<(), AllocE
     Ok(())
 }
 
-/// What a page's record says of its thread.
+/// Returns what a page's record says of its thread.
 fn known_in(thread: &DumpRecord) -> Known
     ensures { result ≡ known_in thread.now }
 {

@@ -1,19 +1,21 @@
-ghost use Rattle.std.specs.Prelude.{◌≡◌, ◌+◌, ◌==◌, ◌<◌, ◌≤◌, ℕ, [], true, false, None, Some, All, OnOk, is_some, length, option_copied};
+ghost use Rattle.std.specs.Prelude.{◌≡◌, ◌+◌, ◌==◌, ◌<◌, ◌≤◌, ◌^◌, ℕ, [], true, false, None, Some, All, IfSome, MatchOption, OnOk, is_some, length, option_copied};
 ghost use Rattle.std.specs.List.Sorted.{IsStrictlyIncreasing};
 ghost use Rattle.gs_layout.specs.Message.{is_death};
 ghost use Rattle.gs_layout.specs.View.{learnt, look_up};
 ghost use Rattle.gs_view.specs.Records.{with_known};
-ghost use Rattle.gs_view.specs.Shown.{tids};
+ghost use Rattle.gs_sets.specs.Bits.{IsFirst, IsNone};
+ghost use Rattle.gs_view.specs.Shown.{is_known, tids};
 
 use crate::index::KeyIndex;
 use crate::walk::Walk;
-use gs_layout::{Known, Message};
+use gs_layout::{Change, Kind, Known, Message};
+use gs_reader::MessageRef;
 use slab::Slab;
 use std::alloc::{AllocError, Global};
 use std::marker::Model;
 
 /// What is known of each thread, in a slab: an index has the key of each tid of which something is known.
-/// Clauses see the records by rising tid.
+/// Clauses see the records in increasing order of tid.
 ///
 /// A look-up and a change take the same time for any number of threads.
 #[derive(Drop)]
@@ -33,7 +35,7 @@ impl Model for Records {
 }
 
 impl Records {
-    /// Nothing is known. It takes no memory.
+    /// Makes the records of which nothing is known. It does not allocate.
     pub(crate) fn new(alloc: Global) -> Records
         ensures { result.entries ≡ [] }
     {
@@ -43,14 +45,14 @@ impl Records {
         }
     }
 
-    /// Of how many threads something is known.
+    /// Returns of how many threads something is known.
     pub(crate) fn len(&self) -> usize
         ensures { result ≡ length self.now.entries }
     {
         self.slab.len()
     }
 
-    /// What is known of a thread.
+    /// Lends what is known of a thread.
     pub(crate) fn get(&self, tid: u32) -> Option<&Known>
         ensures { option_copied result ≡ look_up self.now.entries tid }
     {
@@ -58,20 +60,30 @@ impl Records {
         self.slab.get(key)
     }
 
-    /// All that is known, by rising tid.
+    /// Walks all that is known, in increasing order of tid.
     pub(crate) fn walk(&self) -> Walk<'_>
         ensures whole { result ≡ self.now.entries }
         ensures rising { IsStrictlyIncreasing (tids self.now.entries) }
         ensures found { All (λ entry. look_up self.now.entries entry.0 ≡ Some entry.1) self.now.entries }
     {
-        Walk::over(self, self.index.tids())
+        // A look at a field, by which the proof has what the records keep.
+        let _index = &self.index;
+        Walk::over(self)
+    }
+
+    /// Returns the first tid, not below `from`, of a thread of which something is known.
+    pub(crate) fn next_from(&self, from: usize) -> Option<usize>
+        ensures first { MatchOption result (IsNone (is_known self.now) from) (IsFirst (is_known self.now) from) }
+        ensures within { IfSome result (λ t. (t < self.now.tids) × (t < 2 ^ 32)) }
+    {
+        self.index.next_from(from)
     }
 
     /// Makes room for so many records, of threads up to a tid.
     ///
     /// # Errors
     ///
-    /// `AllocError` if memory runs out. Either way the records stay as they are.
+    /// `AllocError` if out of memory. Either way the records stay as they are.
     pub(crate) fn reserve(&mut self, tid: u32, records: usize) -> Result<(), AllocError>
         ensures place { OnOk result (tid < self.new.tids) }
         ensures room { OnOk result (records ≤ self.new.room) }
@@ -98,8 +110,8 @@ impl Records {
         }
     }
 
-    /// Makes of what is known of a thread, in its place, what a message says that comes next and is no death.
-    pub(crate) fn renew(&mut self, tid: u32, message: &Message)
+    /// Changes what is known of a thread, in its place, as a message says that comes next and is no death.
+    pub(crate) fn renew(&mut self, tid: u32, message: &MessageRef<'_>)
         requires known { is_some (look_up self.old.entries tid) ≡ true }
         requires lives { is_death message.now ≡ false }
         ensures { (t : ℕ) → look_up self.new.entries t ≡ with_known tid (learnt (look_up self.old.entries tid) message.now) (look_up self.old.entries) t }
@@ -109,7 +121,7 @@ impl Records {
         }
     }
 
-    /// Makes nothing known of a thread. Its key is free then.
+    /// Takes away what is known of a thread. Its key is free then.
     pub(crate) fn remove(&mut self, tid: u32)
         ensures { (t : ℕ) → look_up self.new.entries t ≡ with_known tid None (look_up self.old.entries) t }
     {
@@ -121,15 +133,33 @@ impl Records {
     }
 }
 
-/// Makes of a live thread's record what a message says that comes next and is no death. A timer
-/// tick leaves it.
-fn renew(known: &mut Known, message: &Message)
+/// Changes a live thread's record as a message says that comes next and is no death. A timer tick leaves it.
+fn renew(known: &mut Known, message: &MessageRef<'_>)
     requires { is_death message.now ≡ false }
     ensures { Some known.new ≡ learnt (Some known.old) message.now }
 {
-    let Message::Thread { tseq, change, .. } = message else {
+    let kind = message.kind();
+    if kind == Kind::TimerTick {
         return;
-    };
-    known.facts.change(change);
-    known.tseq = *tseq;
+    }
+    known.tseq = message.tseq();
+    match kind {
+        Kind::Created => {
+            if let Message::Thread {
+                change: Change::Created { facts },
+                ..
+            } = message.message()
+            {
+                known.facts = facts;
+            }
+        }
+        Kind::Blocked => known.facts.runnable = false,
+        Kind::Wakeup => known.facts.runnable = true,
+        Kind::Affinity => {
+            if let Some(mask) = message.mask() {
+                known.facts.mask = mask;
+            }
+        }
+        _ => {}
+    }
 }

@@ -18,11 +18,11 @@ use gs_reader::MessageRef;
 use std::alloc::{AllocError, Global};
 use std::marker::Model;
 
-/// What the agent knows of each thread: its facts, at a sequence number. Clauses see the records by
-/// rising tid.
+/// What the agent knows of each thread: its facts, at a sequence number. Clauses see the records in
+/// increasing order of tid.
 ///
-/// A look-up, and the taking in of a message, take the same time for any number of records. Memory is
-/// taken for the records, and for a place for each tid up to the greatest that was seen.
+/// A look-up, and the taking in of a message, take the same time for any number of records. It allocates the
+/// records, and a place for each tid up to the greatest that was seen.
 #[derive(Drop)]
 pub struct AgentView {
     records: Records,
@@ -38,7 +38,7 @@ impl Model for AgentView {
 }
 
 impl AgentView {
-    /// A view that knows nothing. It takes no memory.
+    /// Makes a view that knows nothing. It does not allocate.
     pub fn new(alloc: Global) -> AgentView
         ensures { result ≡ [] }
     {
@@ -47,30 +47,30 @@ impl AgentView {
         }
     }
 
-    /// Of how many threads something is known.
+    /// Returns of how many threads something is known.
     pub fn len(&self) -> usize
         ensures { result ≡ length self.now }
     {
         self.records.len()
     }
 
-    /// Whether nothing is known of any thread.
+    /// Returns whether nothing is known of any thread.
     pub fn is_empty(&self) -> bool
         ensures { result ≡ (length self.now == 0) }
     {
         self.records.len() == 0
     }
 
-    /// What is known of a thread: its facts, and the sequence number at which they were so. `None`
-    /// where nothing is known. It takes no memory.
+    /// Lends what is known of a thread, its facts and the sequence number at which they were so, or returns
+    /// `None` if nothing is known. It does not allocate.
     pub fn get(&self, tid: u32) -> Option<&Known>
         ensures { option_copied result ≡ look_up self.now tid }
     {
         self.records.get(tid)
     }
 
-    /// All that is known, by rising tid: of each thread its tid and what is known of it.
-    /// It takes no memory.
+    /// Walks all that is known, in increasing order of tid: of each thread its tid and what is known of it.
+    /// It does not allocate.
     pub fn walk(&self) -> Walk<'_>
         ensures whole { result ≡ self.now }
         ensures rising { IsStrictlyIncreasing (tids self.now) }
@@ -79,15 +79,14 @@ impl AgentView {
         self.records.walk()
     }
 
-    /// Takes in a message, and answers what it was to the view. Only news changes the view, at the
-    /// message's own thread, and only the creation of a thread takes memory.
+    /// Takes in a message, and returns what it was to the view. Only news changes the view, at the message's
+    /// own thread, and only the creation of a thread allocates.
     ///
     /// # Errors
     ///
-    /// `Gap` where the message's number is more than one above the one that is known of its thread:
-    /// messages between are missing. `OutOfMemory` where the message is the creation of a thread of
-    /// which nothing is known, and there is no memory for its record. Then nothing changes, and the
-    /// message can be taken in later.
+    /// `Gap` if the message's number is more than one above the one that is known of its thread: messages
+    /// between are missing. `OutOfMemory` if out of memory for the record of a thread that the message
+    /// creates and of which nothing is known. Then nothing changes, and the message can be taken in later.
     pub fn apply(&mut self, message: MessageRef<'_>) -> Result<Taken, ApplyFault>
         ensures word { IfOk result (λ taken. word (look_up self.old) message.entry ≡ word_of taken) }
         ensures known { OnOk result ((t : ℕ) → look_up self.new t ≡ apply (look_up self.old) message.entry t) }
@@ -113,17 +112,17 @@ impl AgentView {
         if kind == Kind::Dead {
             self.records.remove(tid);
         } else {
-            self.records.renew(tid, &message.message());
+            self.records.renew(tid, &message);
         }
         Ok(Taken::Applied)
     }
 
-    /// Loads a page: what it tells of its threads is known then, whatever was known of them before; of
-    /// all other threads nothing changes. It takes as many look-ups as the page has records.
+    /// Loads a page: what it tells of its threads is known then, whatever was known of them before. Of all
+    /// other threads nothing changes. It takes as many look-ups as the page has records.
     ///
     /// # Errors
     ///
-    /// Where there is no memory for its records. Then nothing changes.
+    /// `AllocError` if out of memory for its records. Then nothing changes.
     pub fn load(&mut self, page: &Page) -> Result<(), AllocError>
         ensures known { OnOk result ((t : ℕ) → look_up self.new t ≡ loaded page.now.records (look_up self.old) t) }
         ensures unchanged { OnErr result (self.new ≡ self.old) }

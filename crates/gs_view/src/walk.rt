@@ -1,42 +1,36 @@
-ghost use Rattle.std.specs.Prelude.{◌≡◌, ◌≤◌, ◌<◌, ◌^◌, ℕ, true, is_some};
+ghost use Rattle.std.specs.Prelude.{◌≡◌};
 ghost use Rattle.std.specs.Iterator.{YieldsFirstBy, item_count};
-ghost use Rattle.gs_layout.specs.View.{look_up};
-ghost use Rattle.gs_view.specs.LiveTids.{is_left};
-ghost use Rattle.gs_view.specs.Shown.{AreShown, record_shown, still_shown};
+ghost use Rattle.gs_view.specs.Shown.{record_shown, shown_from};
 
-use crate::live_tids::LiveTids;
 use crate::records::Records;
 use gs_layout::Known;
 use std::marker::Model;
 
-/// The records of a view that a walk has still to show, by rising tid: of each thread its tid and
-/// what is known of it.
+/// The records of a view that a walk has still to show, in increasing order of tid: of each thread its tid
+/// and what is known of it.
 #[derive(Drop)]
 pub struct Walk<'a> {
     records: &'a Records,
-    /// The tids of the records that the walk has still to show.
-    tids: LiveTids<'a>,
+    /// The least tid that the walk may still show.
+    from: usize,
 }
 
 impl<'a> Model for Walk<'a> {
     ghost use Rattle.std.specs.Prelude.{List, ℕ};
     ghost use Rattle.gs_layout.specs.declared.known.Known.{Known};
-    ghost use Rattle.gs_view.specs.Shown.{AreShown, still_shown};
+    ghost use Rattle.gs_view.specs.Shown.{shown_from};
 
     ghost Value = { List (ℕ × Known) };
 
-    ghost view = { λ w. still_shown w.tids w.records.now };
-
-    ghost invariant = { λ w. AreShown w.tids w.records.now };
+    ghost view = { λ w. shown_from w.from w.records.now };
 }
 
 impl<'a> Walk<'a> {
-    /// A walk over the records of these tids.
-    pub(crate) fn over(records: &'a Records, tids: LiveTids<'a>) -> Walk<'a>
-        requires { AreShown tids records.now }
-        ensures { result ≡ still_shown tids.entry records.now }
+    /// Makes the walk over all records.
+    pub(crate) fn over(records: &'a Records) -> Walk<'a>
+        ensures { result ≡ shown_from 0 records.now }
     {
-        Walk { records, tids }
+        Walk { records, from: 0 }
     }
 }
 
@@ -48,8 +42,9 @@ impl<'a> Iterator for Walk<'a> {
     ghost remaining = { item_count (λ walk. walk) };
 
     fn next(&mut self) -> Option<(u32, &'a Known)> {
-        let tid = self.tids.next_tid()? as u32;
-        let known = self.records.get(tid)?;
-        Some((tid, known))
+        let tid = self.records.next_from(self.from)?;
+        self.from = tid + 1;
+        let known = self.records.get(tid as u32)?;
+        Some((tid as u32, known))
     }
 }

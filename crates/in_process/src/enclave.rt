@@ -19,7 +19,7 @@ const RING: usize = 1_048_576;
 /// So many creations wait at most until they are drained: their messages take half of the ring.
 const CREATIONS: u32 = 16_384;
 
-/// The most messages that are drained where only those of a round wait.
+/// The most messages that are drained if only those of a round wait.
 const MANY: u32 = 65_536;
 
 /// The threads of a page.
@@ -149,7 +149,8 @@ impl Enclave {
         landed
     }
 
-    /// A new agent takes the place of the one before: how many threads it was told of. `None` where memory runs out.
+    /// A new agent takes the place of the one before: how many threads it was told of. `None` if out of
+    /// memory.
     pub(crate) fn attach(&mut self, threads: u32) -> Option<usize> {
         self.kernel.leave();
         self.kernel.begin();

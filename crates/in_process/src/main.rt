@@ -17,7 +17,7 @@ use std::process::ExitCode;
 enum Failure {
     /// The words ask for nothing that there is.
     BadWords,
-    /// No memory is left, or nothing can be written.
+    /// Out of memory, or nothing can be written.
     Ended,
 }
 

@@ -46,7 +46,8 @@ pub(crate) struct Size {
 }
 
 impl Size {
-    /// The numbers of rounds, of 1 to 65,536 threads and of 2 to 64 CPUs, `None` where that is not what the words tell.
+    /// The numbers of rounds, of 1 to 65,536 threads and of 2 to 64 CPUs, `None` if that is not what the
+    /// words tell.
     pub(crate) fn told(rounds: &str, threads: &str, cpus: &str) -> Option<Size>
         ensures threads { IfSome result (λ size. 0 < size.threads) }
         ensures few { IfSome result (λ size. LEAST_CPUS ≤ size.cpus) }
@@ -77,7 +78,7 @@ impl Size {
     }
 
     /// Runs the rounds in a new enclave. How much came of them: messages drained, slots landed or threads told of.
-    /// `None` where memory runs out before the first.
+    /// `None` if out of memory before the first.
     pub(crate) fn run(self, alloc: Global, kind: Kind) -> Option<u64>
         requires threads { 0 < self.threads }
         requires few { LEAST_CPUS ≤ self.cpus }

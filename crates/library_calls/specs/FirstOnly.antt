@@ -44,7 +44,7 @@ placed_on-safe s t (Some k) waits known (Some c) e =
     let parts = and_parts (is_free s.cpus s.taken c) (has k.facts.mask c) (least_passes (suits s k) MOST_CPUS c e) in
     safe_more s [] (record { cpu = c; tid = t; preempt = false }) (safe_none s) (free_safe s t c k waits known parts.1 parts.0) refl refl
 
--- and so is that of the first, where all of these wait
+-- and so is that of the first, if all of these wait
 first_of-safe : (s : Shown) (ts : List ℕ) → ((t : ℕ) → is_in t ts ≡ true → is_in t s.queue ≡ true) → IsSafePlan s (first_of s ts)
 first_of-safe s [] waits = safe_none s
 first_of-safe s (t ∷ ts) waits = placed_on-safe s t (s.view t) (waits t (or_left (t == t) (is_in t ts) (eq-eqb t t refl))) refl (free_for s (s.view t)) refl

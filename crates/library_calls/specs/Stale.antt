@@ -1,4 +1,4 @@
--- What is left where stamped transactions are refused as stale.
+-- What is left if stamped transactions are refused as stale.
 use Rattle.std.specs.Prelude.{ℕ, List, None, Ok, Err}
 use Rattle.gs_layout.specs.declared.outcome.Outcome.TheVariants.{Stale}
 use Rattle.gs_slots.specs.declared.state.SlotState.TheVariants.{Idle, Stamped, Done}

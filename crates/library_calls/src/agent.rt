@@ -25,14 +25,14 @@ use std::test::Fail;
 #[derive(Clone, Copy, PartialEq, Eq, Debug)]
 struct Idler;
 
-/// A drain of at most so many messages, what it takes in, and then: of how many threads something is known, the
-/// number of thread 7, and how many messages still wait.
+/// A drain of at most so many messages, what it takes in, and what is so then. That is of how many threads
+/// something is known, the number of thread 7, and how many messages still wait.
 type DrainRow = (u32, Drained, usize, Option<u32>, usize);
 
 /// What is done to a role and to the slots.
 #[derive(Clone, Copy)]
 enum Deed {
-    /// A thread that is to preempt is stamped into the slot of a CPU: the answer.
+    /// A thread that is to preempt is stamped into the slot of a CPU, which returns this.
     Stamped(u16, u32, Result<u32, Refusal>),
     /// The transaction in the slot of a CPU is placed on CPU 0.
     Land(u16),
@@ -179,7 +179,7 @@ const STAMPS: [SlotRow; 2] = [
     ),
 ];
 
-/// Nothing is known of thread 8. That is said first, also where the slot is not idle.
+/// Nothing is known of thread 8. That is said first, even if the slot is not idle.
 const UNKNOWN: [SlotRow; 3] = [
     (
         Stamped(0, 8, Err(Refusal::NoThread)),
@@ -289,7 +289,7 @@ fn seventh(role: &Role<Idler>) -> Option<u32> {
     Some(role.view().get(7)?.tseq)
 }
 
-/// The first drain of a ring that a role does not answer as a row says, or after which it knows something else.
+/// The first drain of a ring that a role does not take as a row says, or after which it knows something else.
 fn first_wrong_drain(
     role: &mut Role<Idler>,
     ring: &mut ByteRing,
@@ -326,7 +326,7 @@ fn stamp_one(
     role.stamp(region.slot(cpu), tid, true)
 }
 
-/// The number of what a stamp answers.
+/// The number of what a stamp returns.
 fn number_of(answer: Result<Known, Refusal>) -> Result<u32, Refusal> {
     Ok(answer?.tseq)
 }
@@ -340,7 +340,7 @@ fn place(slot: SlotMut<'_>) -> bool {
     true
 }
 
-/// Does what a row says: whether it is answered so. The region has to have the slot.
+/// Does what a row says, and returns whether it came out so. The region has to have the slot.
 fn is_answered(role: &mut Role<Idler>, region: &mut Region, deed: &Deed) -> bool {
     match deed {
         Deed::Stamped(cpu, tid, answer) => {
@@ -368,8 +368,8 @@ fn runner(role: &Role<Idler>, cpu: u16) -> Option<(u32, u32, u16)> {
     Some((running.tid, running.tseq, running.ticks))
 }
 
-/// The first row that a role which knows threads 7 and 9 does not answer as it says, or after which the slots or
-/// its beliefs are not as it says.
+/// The first row that a role which knows threads 7 and 9 does not take as it says. Also one after which the
+/// slots or its beliefs are not as it says.
 fn first_wrong_slot(
     role: &mut Role<Idler>,
     region: &mut Region,
@@ -413,7 +413,7 @@ fn is_blank(role: &Role<Idler>) -> bool {
         && is_order(role.waiting(), &[])
 }
 
-/// Tries drains on a new role, where these wait in the ring.
+/// Tries drains on a new role, if these wait in the ring.
 fn tried_drains(alloc: Global, told: &[Told], rows: &[DrainRow]) -> Tried
     requires { length told.now < 1000 }
 {
@@ -440,7 +440,7 @@ fn tried_slots(alloc: Global, rows: &[SlotRow]) -> Tried {
     Tried::with(first_wrong_slot(&mut role, &mut region, rows))
 }
 
-// A function for each table: a proof is cheaper where it sees one table alone.
+// A function for each table: a proof is cheaper if it sees one table alone.
 fn try_no_message(alloc: Global) -> Tried {
     tried_drains(alloc, &[], &NO_MESSAGE)
 }

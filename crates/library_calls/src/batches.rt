@@ -104,8 +104,8 @@ fn is_posted(ring: &mut ByteRing, told: &Told) -> bool
     ring.post(&message).is_ok()
 }
 
-/// A ring of 128 bytes in which the creation of thread 2 stands before a PAD of 32 bytes, and this message
-/// of 48 bytes at the start of the block.
+/// A ring of 128 bytes in which the creation of thread 2 stands before a PAD of 32 bytes. Behind it this
+/// message of 48 bytes stands at the start of the block.
 fn round_the_end(alloc: Global, last: &Told) -> Option<ByteRing> {
     let mut ring = ByteRing::new(alloc, 128).ok()?;
     let ready = is_posted(&mut ring, &FIRST)

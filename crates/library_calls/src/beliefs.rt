@@ -42,11 +42,11 @@ type Runner = Option<(u32, u32, u16)>;
 /// What is done, who is then believed to run on CPU 1 and on CPU 2, and whether thread 7 is believed to run.
 type BeliefRow = (Deed, Runner, Runner, bool);
 
-/// What is done, the mask of the CPUs that the other class holds, and then the masks of the usable and of the free
-/// CPUs, the thread that a stamp on CPU 2 names, and the agent's CPU.
+/// What is done, the mask of the CPUs that the other class holds, and what is so then. That is the masks of
+/// the usable and of the free CPUs, the thread that a stamp on CPU 2 names, and the agent's CPU.
 type MaskRow = (Deed, u64, u64, u64, Option<u32>, Option<u16>);
 
-/// A thread is on one CPU, and its ticks begin anew where it is placed.
+/// A thread is on one CPU, and its ticks begin anew when it is placed.
 const MOVES: [BeliefRow; 3] = [
     (Place(1, 7, 4), Some((7, 4, 0)), None, true),
     (Ticks(1, 1), Some((7, 4, 1)), None, true),
@@ -143,7 +143,7 @@ fn hear(beliefs: &mut CpuBeliefs, message: &Message)
     beliefs.hear(&MessageRef::in_parcel(&parcel));
 }
 
-/// Does what a row says. It answers whether that could be done: what is heard has to be a message.
+/// Does what a row says. It returns whether that could be done: what is heard has to be a message.
 fn is_done(beliefs: &mut CpuBeliefs, deed: &Deed) -> bool {
     match deed {
         Deed::Place(cpu, tid, tseq) => beliefs.place(*cpu, *tid, *tseq),
@@ -189,8 +189,8 @@ fn first_wrong_belief(beliefs: &mut CpuBeliefs, rows: &[BeliefRow]) -> Option<us
     None
 }
 
-/// Whether just these of the three CPUs are usable, and just these are free, where the other class holds those of a
-/// mask, by each call that says so.
+/// Whether just these of the three CPUs are usable, and just these are free, by each call that says so. The
+/// other class holds those of a mask.
 fn has_masks(beliefs: &CpuBeliefs, taken: Mask, usable: u64, free: u64) -> bool {
     beliefs.usable(taken).bits() == usable
         && beliefs.free(taken).bits() == free
@@ -231,7 +231,7 @@ fn tried_masks(alloc: Global, rows: &[MaskRow]) -> Tried {
     }
 }
 
-// A function for each table: a proof is cheaper where it sees one table alone.
+// A function for each table: a proof is cheaper if it sees one table alone.
 fn try_moves(alloc: Global) -> Tried {
     tried_beliefs(alloc, &MOVES)
 }

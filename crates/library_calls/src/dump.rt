@@ -3,7 +3,7 @@ ghost use Rattle.std.specs.Prelude.{◌≤◌, IfSome};
 
 use crate::messages::Tried;
 use gs_dump::{DumpRecord, Page, PageFault, read_page, write_page};
-use gs_layout::{Class, MOST_TIDS};
+use gs_layout::{Class, Facts, MOST_TIDS, Name};
 use gs_status::Mask;
 use std::alloc::{AllocError, Global};
 use std::test::Fail;
@@ -17,8 +17,8 @@ pub(crate) const WEB: [u8; 48] = [
 ];
 
 /// Threads 2 and 5, and the next page from thread 6 on. Thread 2 is blocked, of class 1, at number
-/// 4,294,967,294, and has a name of 16 bytes; thread 5 is on CPU 63, has CPUs 1 and 63 in its mask,
-/// and no name.
+/// 4,294,967,294, and has a name of 16 bytes. Thread 5 is on CPU 63, has CPUs 1 and 63 in its mask, and no
+/// name.
 pub(crate) const TWO: [u8; 88] = [
     0x02, 0x00, 0x00, 0x00, 0x06, 0x00, 0x00, 0x00, 0x01, 0x00, 0x01, 0x10, 0x02, 0x00, 0x00, 0x00,
     0xfe, 0xff, 0xff, 0xff, 0xff, 0xff, 0x00, 0x00, 0x00, 0x00, 0x00, 0x00, 0x00, 0x00, 0x00, 0x80,
@@ -28,8 +28,8 @@ pub(crate) const TWO: [u8; 88] = [
     0x00, 0x00, 0x00, 0x00, 0x00, 0x00, 0x00, 0x00,
 ];
 
-/// The last page, of thread 65,536: its number is the greatest, it is on CPU 0, all CPUs are in its mask,
-/// and its name has the least byte and the greatest.
+/// The last page, of thread 65,536. Its number is the greatest, it is on CPU 0, all CPUs are in its mask, and
+/// its name has the least byte and the greatest.
 pub(crate) const GREATEST: [u8; 48] = [
     0x01, 0x00, 0x01, 0x00, 0x00, 0x00, 0x00, 0x00, 0x01, 0x00, 0x01, 0x02, 0x00, 0x00, 0x01, 0x00,
     0xff, 0xff, 0xff, 0xff, 0x00, 0x00, 0x01, 0x00, 0xff, 0xff, 0xff, 0xff, 0xff, 0xff, 0xff, 0xff,
@@ -46,8 +46,8 @@ pub(crate) const NONE_YET: [u8; 8] = [0, 0, 0, 0, 1, 0, 0, 0];
 /// `BadVersion`, `BadField`, `BadOrder`, and how many are another page.
 type Changes = [usize; 6];
 
-/// The bytes of a page, and what becomes of them where one byte is another, counted by a program of its
-/// own over the layout.
+/// The bytes of a page, and what becomes of them if one byte is another, counted by a program of its own over
+/// the layout.
 const PAGES: [(&[u8], Changes); 5] = [
     (&WEB, [509, 1, 510, 7372, 0, 3848]),
     (&TWO, [508, 2, 1020, 11901, 1018, 7991]),
@@ -56,8 +56,8 @@ const PAGES: [(&[u8], Changes); 5] = [
     (&NONE_YET, [510, 0, 0, 1021, 0, 509]),
 ];
 
-/// What bytes are read as: where a page, that place of `Changes` which counts pages; else its fault's.
-/// `None` where the page's bytes are others, or memory runs out.
+/// What bytes are read as. If that is a page, it is that place of `Changes` which counts pages, and else that
+/// of its fault. `None` if the page's bytes are others, or if out of memory.
 fn place_of(alloc: Global, bytes: &[u8]) -> Option<usize> {
     match read_page(alloc, bytes) {
         Ok(page) => match write_page(alloc, &page) {
@@ -86,7 +86,7 @@ fn is_page(alloc: Global, bytes: &[u8]) -> Result<bool, AllocError> {
     Ok(place_of(alloc, bytes) == Some(5) && place_of(alloc, &longer) == Some(1))
 }
 
-/// Adds what becomes of bytes at each other value of one byte. `None` where a page's bytes are others.
+/// Adds what becomes of bytes at each other value of one byte. `None` if a page's bytes are others.
 fn count_changes(
     alloc: Global,
     bytes: &mut [u8],
@@ -105,7 +105,7 @@ fn count_changes(
     Some(changes)
 }
 
-/// What becomes of a page's bytes where one of them is another.
+/// What becomes of a page's bytes if one of them is another.
 fn all_changes(alloc: Global, bytes: &[u8]) -> Option<Changes> {
     let mut copy = Vec::from_slice(alloc, bytes).ok()?;
     let mut changes = [0; 6];
@@ -133,7 +133,7 @@ fn reads_pages(rt: HostRuntime) {
 const FAULTS: [(&[(usize, u8)], PageFault); 12] = [
     // a version, and the first record's tid is 0
     (&[(48, 2), (12, 0)], PageFault::BadVersion),
-    // the same where the first record's version is the one, and the second's tid is 0
+    // the same if the first record's version is the one, and the second's tid is 0
     (&[(8, 0), (52, 0)], PageFault::BadVersion),
     // tids that fall, and a CPU that is not in the mask
     (&[(12, 9), (60, 62)], PageFault::BadField),
@@ -185,35 +185,39 @@ fn names_the_first_fault(rt: HostRuntime) {
     assert_eq!(rt; Tried::with(first_other_fault(rt.alloc())), Tried::Well);
 }
 
-/// Whether this is the second thread of `TWO`.
-fn is_fifth(record: &DumpRecord) -> bool {
-    let facts = &record.facts;
-    record.tid == 5
-        && record.tseq == 7
-        && record.cpu == Some(63)
-        && facts.runnable
-        && facts.mask == Mask::new(0x8000_0000_0000_0002)
-        && facts.class == Class::Zero
-        && facts.name.as_bytes() == b"".as_slice()
-}
-
-/// Whether this is the first thread of `TWO`.
-fn is_second(record: &DumpRecord) -> bool {
-    let facts = &record.facts;
-    record.tid == 2
-        && record.tseq == 4_294_967_294
-        && record.cpu.is_none()
-        && !facts.runnable
-        && facts.mask == Mask::new(0x8000_0000_0000_0000)
-        && facts.class == Class::One
-        && facts.name.as_bytes() == b"sixteenbyteslong".as_slice()
+/// Returns the threads of `TWO`.
+fn threads_of_two() -> Option<[DumpRecord; 2]> {
+    Some([
+        DumpRecord {
+            tid: 2,
+            tseq: 4_294_967_294,
+            facts: Facts {
+                mask: Mask::new(0x8000_0000_0000_0000),
+                runnable: false,
+                class: Class::One,
+                name: Name::new(b"sixteenbyteslong".as_slice())?,
+            },
+            cpu: None,
+        },
+        DumpRecord {
+            tid: 5,
+            tseq: 7,
+            facts: Facts {
+                mask: Mask::new(0x8000_0000_0000_0002),
+                runnable: true,
+                class: Class::Zero,
+                name: Name::new(b"".as_slice())?,
+            },
+            cpu: Some(63),
+        },
+    ])
 }
 
 /// Whether a page is what `TWO` tells.
 fn is_two(page: &Page) -> bool {
-    match page.records.as_slice() {
-        [first, second] => page.next == Some(6) && is_second(first) && is_fifth(second),
-        _ => false,
+    match threads_of_two() {
+        Some(threads) => page.next == Some(6) && page.records.as_slice() == threads.as_slice(),
+        None => false,
     }
 }
 

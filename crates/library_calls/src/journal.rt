@@ -18,7 +18,7 @@ const FIRST_ROLE: Entry = Entry::Role {
     cpu: 0,
 };
 
-/// A step with a journal of at most two entries, its answer, and how many entries there are then.
+/// A step with a journal of at most two entries, what it returns, and how many entries there are then.
 const STEPS: [(Step, Result<(), Refusal>, usize); 7] = [
     (Step::Reserve(3), Err(Refusal::HistoryFull), 0),
     (Step::Reserve(2), Ok(()), 0),
@@ -50,7 +50,7 @@ fn take(journal: &mut Journal, step: Step) -> Result<(), Refusal> {
     }
 }
 
-/// The first step that is answered otherwise, or after which there are more entries or fewer.
+/// The first step that comes out otherwise, or after which there are more entries or fewer.
 fn first_wrong_step(journal: &mut Journal) -> Option<usize> {
     for (index, (step, answer, len)) in STEPS.iter().enumerate() {
         let answered = take(journal, *step) == *answer;

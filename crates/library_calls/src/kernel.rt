@@ -47,7 +47,7 @@ use Deed::{Activate, Create, Dump, LastButOne, Run, Serve, Thread};
 enum Came {
     /// A message was posted about a thread: its tid and its number.
     Posted(u32, u32),
-    /// The same, where the thread was taken off this CPU.
+    /// The same, if the thread was taken off this CPU.
     TakenOff(u32, u32, u16),
     /// A thread was placed.
     Placed,
@@ -336,7 +336,7 @@ fn is_page(page: &Page, threads: &[Shown], next: Option<u32>) -> bool {
     records.next().is_none() && page.next == next
 }
 
-/// What a page came to: nothing where it is another one.
+/// What a page came to: nothing if it is another one.
 fn told(page: Result<Page, Refusal>, threads: &[Shown], next: Option<u32>) -> Option<Came> {
     match page {
         Ok(page) => {
@@ -357,7 +357,7 @@ fn last_but_one(entries: &[Entry]) -> Option<Came> {
     Some(entry_of(entry))
 }
 
-/// What a deed came to, where it could be done.
+/// What a deed came to, if it could be done.
 fn came_to(alloc: Global, kernel: &mut Kernel<ByteRing>, deed: &Deed) -> Option<Came> {
     match deed {
         Deed::Create(mask) => create(kernel, *mask),
@@ -397,7 +397,7 @@ fn tried(alloc: Global, ring: usize, rows: &[Row]) -> Tried {
     }
 }
 
-// A function for each table: a proof is cheaper where it sees one table alone.
+// A function for each table: a proof is cheaper if it sees one table alone.
 fn try_six(alloc: Global, kernel: &mut Kernel<ByteRing>) -> Option<usize> {
     first_wrong(alloc, kernel, &SIX)
 }
@@ -430,7 +430,7 @@ fn try_full(alloc: Global) -> Tried {
     tried(alloc, 128, &FULL)
 }
 
-/// The first row of each table that is answered otherwise, of a kernel that goes through them in order.
+/// The first row of each table that comes out otherwise, of a kernel that goes through them in order.
 fn first_wrongs(alloc: Global, kernel: &mut Kernel<ByteRing>) -> [Option<usize>; 5] {
     [
         try_six(alloc, kernel),
@@ -473,8 +473,8 @@ fn break_slot(slot: SlotMut<'_>) {
     *slot.bytes() = [255; 32];
 }
 
-/// What landed where the slots of CPUs 0 and 1 are broken and that of CPU 1 is committed, and how many
-/// entries came of it. `None` where the kernel has fewer than two CPUs, or memory runs out.
+/// What landed if the slots of CPUs 0 and 1 are broken and that of CPU 1 is committed, and how many entries
+/// came of it. `None` if the kernel has fewer than two CPUs, or if out of memory.
 fn commit_broken(
     alloc: Global,
     kernel: &mut Kernel<ByteRing>,

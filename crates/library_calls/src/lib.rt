@@ -1,4 +1,4 @@
-//! What the public calls of each library answer, in tables of cases.
+//! What the public calls of each library return, in tables of cases.
 #![tactic(auto)]
 
 #[cfg(test)]

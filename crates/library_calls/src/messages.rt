@@ -1,4 +1,4 @@
-//! The messages that tables tell. Each is made as a test runs, where its fields are in their ranges, so that
+//! The messages that tables tell. Each is made as a test runs, if its fields are in their ranges, so that
 //! rows may be sent in a loop whatever they hold.
 
 ghost use Rattle.std.specs.Prelude.{◌≡◌, IfSome, true};
@@ -10,7 +10,7 @@ use gs_status::{MOST_CPUS, Mask};
 /// What came of a table.
 #[derive(Clone, Copy, PartialEq, Eq, Debug)]
 pub(crate) enum Tried {
-    /// Each row was answered as it says.
+    /// Each row came out as it says.
     Well,
     /// This row was the first that was not.
     WrongRow(usize),
@@ -19,7 +19,7 @@ pub(crate) enum Tried {
 }
 
 impl Tried {
-    /// What came of a table, by its first row that was not answered as it says.
+    /// What came of a table, by its first row that did not come out as it says.
     pub(crate) fn with(first_wrong: Option<usize>) -> Tried {
         match first_wrong {
             Some(row) => Tried::WrongRow(row),
@@ -40,7 +40,7 @@ pub(crate) enum Told {
 }
 
 impl Told {
-    /// The message, or `None` where a field of it is out of its range.
+    /// The message, or `None` if a field of it is out of its range.
     pub(crate) fn message(&self) -> Option<Message>
         ensures { IfSome result IsSpellable }
     {
@@ -65,7 +65,7 @@ pub(crate) fn creation(class: Class, mask: u64, name: &str) -> Option<Change> {
     Some(Change::Created { facts })
 }
 
-/// What happened to a thread, or `None` where a field of it is out of its range.
+/// What happened to a thread, or `None` if a field of it is out of its range.
 pub(crate) fn about(tid: u32, tseq: u32, change: Change) -> Option<Message>
     ensures { IfSome result IsSpellable }
 {
@@ -75,7 +75,7 @@ pub(crate) fn about(tid: u32, tseq: u32, change: Change) -> Option<Message>
     Some(Message::Thread { tid, tseq, change })
 }
 
-/// A tick of a CPU's timer, or `None` where there can be no such CPU.
+/// A tick of a CPU's timer, or `None` if there can be no such CPU.
 pub(crate) fn tick(cpu: u16) -> Option<Message>
     ensures { IfSome result IsSpellable }
 {

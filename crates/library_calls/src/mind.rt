@@ -18,7 +18,7 @@ use std::test::Fail;
 /// What is done to a mind.
 #[derive(Clone, Copy)]
 enum Deed {
-    /// It is told a message: the answer.
+    /// It is told a message, and returns this.
     Tell(Told, Result<Taken, ApplyFault>),
     /// A thread is stamped for a CPU: the CPU, the thread.
     Stamped(u16, u32),
@@ -174,7 +174,7 @@ const TWO_CLASS: [PlanRow; 1] = [(0b100, &[(1, 7, true)])];
 
 const FIRST_COME_WAITS: [PlanRow; 1] = [(0b100, &[])];
 
-/// What a mind answers to a message.
+/// What a mind returns for a message.
 fn send(mind: &mut Mind, message: &Message) -> Result<Taken, ApplyFault>
     requires { IsSpellable message.now }
 {
@@ -197,7 +197,7 @@ fn landed(tid: u32, outcome: Outcome, at: Option<u16>) -> SlotState {
     }
 }
 
-/// Does what a row says: whether it is answered so.
+/// Does what a row says, and returns whether it came out so.
 fn is_answered(mind: &mut Mind, deed: &Deed) -> bool {
     match deed {
         Deed::Tell(told, answer) => {
@@ -219,7 +219,7 @@ fn runner(mind: &Mind, cpu: u16) -> Runner {
     Some((running.tid, running.tseq, running.ticks))
 }
 
-/// The first row that a mind does not answer as it says, or after which it has something else in mind.
+/// The first row that a mind does not take as it says, or after which it has something else in mind.
 fn first_wrong(mind: &mut Mind, rows: &[Row]) -> Option<usize> {
     for (index, row) in rows.iter().enumerate() {
         let (deed, waits, runs, stamp) = row;
@@ -286,7 +286,7 @@ fn tried(alloc: Global, rows: &[Row]) -> Tried {
     Tried::with(wrong)
 }
 
-// A function for each table: a proof is cheaper where it sees one table alone.
+// A function for each table: a proof is cheaper if it sees one table alone.
 fn try_not_applied(alloc: Global) -> Tried {
     tried(alloc, &NOT_APPLIED)
 }

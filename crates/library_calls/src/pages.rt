@@ -21,8 +21,9 @@ use std::alloc::Global;
 /// Those who are believed to run on CPUs 0 and 63, by their tids, their numbers and their ticks.
 type Runners = [Option<(u32, u32, u16)>; 2];
 
-/// The bytes of a page, and what is so once it is taken in: where the next one begins, the threads that are known,
-/// by rising tid (whether each may run, and its number), who waits, in order, and who runs.
+/// The bytes of a page, and what is so once it is taken in. That is where the next one begins, and the
+/// threads that are known, in increasing order of tid (whether each may run, and its number). It is also who
+/// waits, in order, and who runs.
 type Row = (
     &'static [u8],
     Option<u32>,
@@ -122,7 +123,7 @@ fn page_of(alloc: Global, bytes: &[u8]) -> Option<Page> {
     read_page(alloc, &written).ok()
 }
 
-/// What a mind answers to a message.
+/// What a mind returns for a message.
 fn tell(mind: &mut Mind, message: &Message) -> Result<Taken, ApplyFault>
     requires { IsSpellable message.now }
 {

@@ -30,7 +30,7 @@ struct Row {
     /// Who waits, and in which class of the queue.
     waits: &'static [(u32, Class)],
     cpus: u16,
-    /// How many ticks thread 1 has had on CPU 1, where it is believed to run there.
+    /// How many ticks thread 1 has had on CPU 1, if it is believed to run there.
     ticks: Option<u16>,
     /// The thread that a stamp on CPU 1 names.
     stamped: Option<u32>,
@@ -41,7 +41,7 @@ struct Row {
     two_class: Plan,
     /// The plan for the thread alone that waits first.
     first_only: Plan,
-    /// The plan where only threads of class 0 preempt.
+    /// The plan if only threads of class 0 preempt.
     zero_preempts: Plan,
 }
 
@@ -74,7 +74,7 @@ const ROWS: [Row; 11] = [
         first_only: &[],
         zero_preempts: &[],
     },
-    // A thread of class 0 preempts one of class 1, and nobody where the first come first.
+    // A thread of class 0 preempts one of class 1, and nobody if the first come first.
     Row {
         classes: (Class::One, Class::Zero),
         mask: 3,

@@ -108,7 +108,7 @@ fn refused(bytes: &[u8]) -> Option<ReadFault> {
     read_one(bytes).err()
 }
 
-/// The bits of a mask, where there is one.
+/// The bits of a mask, if there is one.
 fn bits_of(mask: Option<Mask>) -> Option<u64> {
     Some(mask?.bits())
 }
@@ -123,8 +123,8 @@ fn has_fields(found: &MessageRef<'_>, wanted: &Fields<'_>) -> bool {
         && found.takes_off_cpu() == wanted.takes_off_cpu
 }
 
-/// Whether all of these bytes are a message of these fields, also where it is borrowed again, and
-/// where it is held in a parcel.
+/// Whether all of these bytes are a message of these fields, also if it is borrowed again, and if it is held
+/// in a parcel.
 fn is_read(bytes: &[u8], wanted: &Fields<'_>) -> bool {
     let Some(found) = only(bytes) else {
         return false;
@@ -163,7 +163,7 @@ const DAMAGED: [(&[u8], &[(usize, u8)], ReadFault); 10] = [
     (&PAD, &[(7, 1)], ReadFault::BadField),
 ];
 
-/// Why bytes are refused, of which some are changed. `None` also where there is no such byte.
+/// Why bytes are refused, of which some are changed. `None` also if there is no such byte.
 fn refused_with(bytes: &[u8], changes: &[(usize, u8)]) -> Option<ReadFault> {
     let mut buffer = [0; 32];
     let damaged = buffer.get_mut(..bytes.len())?;
@@ -215,7 +215,7 @@ fn is_respelt(bytes: &[u8]) -> bool {
 }
 
 /// The first place of a message, and what its byte was changed by, after which the bytes are neither
-/// refused nor the spelling of what is read. The end where the message is too long to be tried.
+/// refused nor the spelling of what is read. The end if the message is too long to be tried.
 fn first_misspelt(bytes: &[u8]) -> Option<(usize, u8)> {
     let mut buffer = [0; 32];
     let Some(text) = buffer.get_mut(..bytes.len()) else {
@@ -286,7 +286,7 @@ fn goes_over_two_segments(rt: HostRuntime) {
     assert!(rt; yields(&PAD, &BLOCKED, &[blocked]));
 }
 
-/// A parcel with a message, or `None` where a field of it is out of its range.
+/// A parcel with a message, or `None` if a field of it is out of its range.
 fn parcel_of(tid: u32, tseq: u32, change: Change) -> Option<Parcel> {
     let message = about(tid, tseq, change)?;
     Some(Parcel::new(&message))

@@ -20,7 +20,7 @@ enum Deed {
     Post(Told, bool),
     /// At most so many messages are taken: how many there are.
     Take(usize, usize),
-    /// It is asked how many bytes a record of so many needs: the answer.
+    /// It is asked how many bytes a record of so many needs, and returns this.
     Need(u16, usize),
 }
 
@@ -103,7 +103,7 @@ fn take_some<T: Taker>(taker: &mut T, max: usize) -> usize
     count
 }
 
-/// Whether a ring answers to what is done as a row says.
+/// Whether a ring returns for what is done what a row says.
 fn is_answered(ring: &mut ByteRing, deed: &Deed) -> bool
     requires { posts ring.old < 1000 }
     ensures { posts ring.new ≤ posts ring.old + 1 }
@@ -126,7 +126,7 @@ fn first(ring: &ByteRing) -> Option<(u32, Option<u16>)> {
     Some((message.tid(), message.cpu()))
 }
 
-/// The first row that a ring does not answer as it says, or after which it is not as it says.
+/// The first row that a ring does not take as it says, or after which it is not as it says.
 fn first_wrong(ring: &mut ByteRing, rows: &[Row]) -> Option<usize>
     requires { posts ring.old + length rows.now < 1000 }
 {
@@ -266,7 +266,7 @@ fn refuses_bad_capacities(rt: HostRuntime) {
     }
 }
 
-// A function for each table: a proof is cheaper where it sees one table alone.
+// A function for each table: a proof is cheaper if it sees one table alone.
 fn try_to_the_last_byte(alloc: Global) -> Tried {
     match ByteRing::new(alloc, 128) {
         Ok(mut ring) => Tried::with(first_wrong(&mut ring, &TO_THE_LAST_BYTE)),

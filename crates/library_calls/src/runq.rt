@@ -11,7 +11,7 @@ enum Step {
     Remove(u32),
 }
 
-/// A step, who waits afterwards, in order, and for how many of each class there is room.
+/// A step, who waits then, in order, and for how many of each class there is room.
 type StepRow<'a> = (Step, &'a [u32], u32);
 
 /// How many threads there can be.
@@ -66,7 +66,7 @@ const LEAVING: [StepRow<'_>; 8] = [
 /// Threads that wait or do not, and numbers that no thread has.
 const ASKED: [u32; 10] = [0, 1, 2, 3, 5, 7, 65_535, 65_536, 65_537, u32::MAX];
 
-/// Takes a step. Answers whether it could be taken.
+/// Takes a step. Returns whether it could be taken.
 fn is_taken(queue: &mut RunQueue, step: Step) -> bool {
     match step {
         Step::Reserve(n) => n <= MOST && queue.reserve(n).is_ok(),
@@ -117,8 +117,8 @@ fn first_wrong_step(queue: &mut RunQueue, rows: &[StepRow<'_>]) -> Option<usize>
     None
 }
 
-/// The first table with such a step, by its place and that of the step. No step where somebody waits in
-/// the new queue, or there is room.
+/// The first table with such a step, by its place and that of the step. No step if somebody waits in the new
+/// queue, or there is room.
 fn first_wrong_table(alloc: Global, tables: &[&[StepRow<'_>]]) -> Option<(usize, Option<usize>)> {
     for (index, rows) in tables.iter().enumerate() {
         let mut queue = RunQueue::new(alloc);

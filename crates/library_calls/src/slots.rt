@@ -35,7 +35,7 @@ fn stamp_in(cpu: u16, bytes: &mut [u8; 32], tid: u32)
     let _ = SlotMut::over(cpu, bytes).stamp(1, tid, 2, true);
 }
 
-/// Two slots are lent together, and written the second before the first.
+/// Lends two slots together, and writes the second before the first.
 #[tactic(auto, using(crate::proofs::Stamps::two_read))]
 fn stamp_two(region: &mut Region)
     ensures { (a b : List ℕ) (rest : List (List ℕ)) → state_in 0 a ≡ Ok SlotState.Idle → state_in 1 b ≡ Ok SlotState.Idle → region.old ≡ a ∷ b ∷ rest → states_in 0 region.new ≡ Ok (SlotState.Stamped (record { generation = 1; tid = 8; tseq = 2; preempt = true })) ∷ Ok (SlotState.Stamped (record { generation = 1; tid = 9; tseq = 2; preempt = true })) ∷ states_in 2 rest }
@@ -49,7 +49,7 @@ fn stamp_two(region: &mut Region)
     }
 }
 
-/// A stamped transaction is refused as stale. Answers its thread.
+/// Refuses a stamped transaction as stale. Returns its thread.
 fn refuse(count: &mut u64, slot: SlotMut<'_>) -> Option<u32>
     requires { count.old < 2 ^ 63 }
     ensures stale { (s : Stamp) → state_of slot.entry ≡ Ok (SlotState.Stamped s) → state_in (cpu_of slot.entry) (left_in slot.exit) ≡ Ok (SlotState.Done s Outcome.Stale None 7) }
@@ -65,7 +65,7 @@ fn refuse(count: &mut u64, slot: SlotMut<'_>) -> Option<u32>
     Some(stamp.tid)
 }
 
-/// All stamped transactions are refused, by rising CPU.
+/// All stamped transactions are refused, in increasing order of CPU.
 fn refuse_all(region: &mut Region)
     ensures { region.new ≡ by_cpu stale_in 0 region.old }
 {
@@ -186,7 +186,7 @@ fn holds(region: &Region, wanted: &[SlotState]) -> bool {
     region.cpus() as usize == wanted.len() && region.has_stamped() == wanted.iter().any(is_stamped)
 }
 
-/// What became of the transaction in a slot, where it landed.
+/// What became of the transaction in a slot, if it landed.
 fn outcome_of(state: &SlotState) -> Option<Outcome> {
     match state {
         SlotState::Done { outcome, .. } => Some(*outcome),
@@ -213,7 +213,7 @@ enum Step {
     Clear,
 }
 
-/// Takes a step. One for a CPU that the region lacks is answered as if a slot were busy.
+/// Takes a step. One for a CPU that the region lacks returns that a slot is busy.
 fn take(region: &mut Region, step: Step) -> Result<(), SlotBusy> {
     match step {
         Step::StampOne { cpu, tid } if cpu < region.cpus() => stamp_one(region, cpu, tid),
@@ -237,10 +237,10 @@ fn take(region: &mut Region, step: Step) -> Result<(), SlotBusy> {
     }
 }
 
-/// A step, its answer, and what is in the slots of three CPUs afterwards.
+/// A step, what it returns, and what is in the slots of three CPUs then.
 type StepRow = (Step, Result<(), SlotBusy>, [SlotState; 3]);
 
-/// The first step that is answered otherwise, or leaves other slots.
+/// The first step that comes out otherwise, or leaves other slots.
 fn first_wrong_step(region: &mut Region, rows: &[StepRow]) -> Option<usize> {
     for (index, (step, answer, slots)) in rows.iter().enumerate() {
         let answered = take(region, *step) == *answer;
@@ -374,7 +374,7 @@ const UNLIKE_STAMPED: [u8; 32] = [
     1, 1, 1, 0, 3, 0, 0, 0, 2, 1, 0, 0, 5, 0, 0, 0, 0, 0, 0, 0, 0, 0, 0, 0, 0, 0, 0, 0, 0, 0, 0, 0,
 ];
 
-/// The same after it was refused as stale, where the thread's number was 259.
+/// The same after it was refused as stale, when the thread's number was 259.
 const UNLIKE_STALE: [u8; 32] = [
     2, 1, 1, 0, 3, 0, 0, 0, 2, 1, 0, 0, 5, 0, 0, 0, 4, 0, 255, 255, 3, 1, 0, 0, 0, 0, 0, 0, 0, 0,
     0, 0,
@@ -392,7 +392,7 @@ enum Call {
     Clear,
 }
 
-/// Finishes a slot that is stamped, or any with the outcome `Malformed`. Answers whether it could be called.
+/// Finishes a slot that is stamped, or any with the outcome `Malformed`. Returns whether it could be called.
 fn finish(slot: SlotMut<'_>, outcome: Outcome, at: Option<u16>, seen: u32) -> bool {
     let is_stamped = matches!(slot.state(), Ok(SlotState::Stamped { .. }));
     let is_cpu_or_none = match at {
@@ -406,7 +406,7 @@ fn finish(slot: SlotMut<'_>, outcome: Outcome, at: Option<u16>, seen: u32) -> bo
     true
 }
 
-/// Makes a call. Answers whether it could be made, and was not refused.
+/// Makes a call. Returns whether it could be made, and was not refused.
 fn is_called(slot: SlotMut<'_>, call: &Call) -> bool {
     match call {
         Call::Stamp(it) => slot
@@ -420,7 +420,7 @@ fn is_called(slot: SlotMut<'_>, call: &Call) -> bool {
     }
 }
 
-/// A call on the slot of CPU 1, what is in the slot afterwards, and its bytes.
+/// A call on the slot of CPU 1, what is in the slot then, and its bytes.
 const CALLS: [(Call, SlotState, [u8; 32]); 7] = [
     (
         Call::Stamp(FIRST),
@@ -492,8 +492,8 @@ fn with_cpu(mut bytes: [u8; 32], low: u8, high: u8) -> [u8; 32] {
     bytes
 }
 
-/// Whether the CPU of a slot stands in its bytes as these two, once it is stamped and once it is done.
-/// The slot is idle before and afterwards.
+/// Whether the CPU of a slot stands in its bytes as these two, once it is stamped and once it is done. The
+/// slot is idle before and after it.
 fn names_its_cpu(bytes: &mut [u8; 32], cpu: u16, low: u8, high: u8) -> bool {
     let was_idle = *bytes == [0; 32];
     let stamped = is_called(SlotMut::over(cpu, bytes), &Call::Stamp(UNLIKE))
@@ -555,7 +555,7 @@ const SPELT: [[u8; 32]; 6] = [
     REFUSED,
 ];
 
-/// The first byte of a slot that can have another value, where the slot is still read as the same.
+/// The first byte of a slot that can have another value, if the slot is still read as the same.
 fn first_unread(bytes: &mut [u8; 32]) -> Option<(usize, u8)> {
     let state = read(bytes);
     for place in 0..32 {
@@ -653,8 +653,8 @@ fn fill_of(cpu: u16) -> Fill
     }
 }
 
-/// The answer where transactions for the CPUs 0, 1 and 3 of four are stamped, those from a CPU on in a
-/// thread of their own. `None` where there are not four.
+/// What is returned if transactions for the CPUs 0, 1 and 3 of four are stamped, those from a CPU on in a
+/// thread of their own. `None` if there are not four.
 fn fill_three(rt: &impl Threads, region: &mut Region, at: u16) -> Option<Result<(), FillFault>> {
     if region.cpus() != 4 {
         return None;
@@ -688,7 +688,7 @@ fn is_broken_behind(region: &Region, first: SlotState, second: SlotState) -> boo
         && *region.bytes(3) == [255; 32]
 }
 
-/// Whether three slots are stamped in two threads where they are idle, the second from this CPU on.
+/// Whether three slots are stamped in two threads if they are idle, the second from this CPU on.
 fn fills_apart(rt: &impl Threads, region: &mut Region, at: u16) -> bool {
     let it = stamped(stamp_of(7, true));
     region.clear();

@@ -1,4 +1,4 @@
-//! What masks and status words answer.
+//! What masks and status words return.
 use gs_status::{MOST_CPUS, Mask, StatusWord};
 
 /// A thread that runs on CPU 1.
@@ -24,9 +24,10 @@ const DEAD: StatusWord = StatusWord {
     alive: false,
 };
 
-/// What is shown of a thread, the word that shows it, and how many words differ from that one in one
-/// bit: by each bit of the sequence number, and by the six of the CPU of a thread that runs, or the one
-/// by which a thread that waits, or a dead one, differs from a blocked one.
+/// What is shown of a thread, the word that shows it, and how many words that show something differ from that
+/// one in one bit. Some differ by a bit of the sequence number. Of a thread that runs, others differ by one
+/// of the six bits of its CPU. Of one that waits, or is dead, another differs by the bit that tells it from a
+/// blocked one.
 const WORDS: [(StatusWord, u64, usize); 3] = [
     (RUNNING, 0x0000070100000001, 32 + 6),
     (WAITING, 0x000003ff00000001, 32 + 1),
@@ -52,8 +53,8 @@ const NO_WORDS: [u64; 9] = [
     0,
 ];
 
-/// How many words differ from this one in one bit. `None` where one of them shows the same, or is not
-/// the word of what it shows.
+/// How many words that show something differ from this one in one bit. `None` if one of them shows the same,
+/// or is not the word of what it shows.
 fn count_neighbours(word: u64) -> Option<usize> {
     let shown = StatusWord::unpack(word);
     let mut count: usize = 0;
@@ -133,8 +134,8 @@ const BOTH: [(u64, u64, u64, Option<u16>); 6] = [
     (1 << 63, u64::MAX, 1 << 63, Some(63)),
 ];
 
-/// The bits of a mask with a CPU, without it, with it where a test holds, and where none does. `None`
-/// for a CPU that no mask has.
+/// The bits of a mask with a CPU, without it, with it if a test holds, and if none does. `None` for a CPU
+/// that no mask has.
 fn changed(bits: u64, cpu: u16) -> Option<[u64; 4]> {
     if cpu >= MOST_CPUS {
         return None;

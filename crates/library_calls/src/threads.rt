@@ -27,7 +27,7 @@ fn told(tid: u32, tseq: u32, change: Change) -> Step {
     Step::Apply(thread_message(tid, tseq, change))
 }
 
-/// What is done with a table of three threads, and what it has of thread 2 afterwards.
+/// What is done with a table of three threads, and what it has of thread 2 then.
 fn life_steps() -> [(Step, Seen); 16] {
     let stays = Change::Affinity {
         cpu: Some(0),
@@ -76,8 +76,8 @@ fn life_steps() -> [(Step, Seen); 16] {
     ]
 }
 
-/// Creates a thread. Answers how many threads there are then, or `None` where these bytes are no name,
-/// there are threads enough, or memory runs out.
+/// Creates a thread. Returns how many threads there are then, or `None` if these bytes are no name, there are
+/// threads enough, or if out of memory.
 fn create(table: &mut ThreadTable, name: &[u8]) -> Option<usize> {
     let facts = facts(name)?;
     if table.len() >= MOST_TIDS as usize {
@@ -157,8 +157,7 @@ fn walks(table: &ThreadTable, from: u32, wanted: &[u32]) -> bool {
     left.is_empty()
 }
 
-/// The thread that dies first, where one does, the thread that a walk then begins with, and those that it
-/// shows.
+/// The thread that dies first, if one does, the thread that a walk then begins with, and those that it shows.
 type WalkRow<'a> = (Option<u32>, u32, &'a [u32]);
 
 /// Walks over a table of three threads.

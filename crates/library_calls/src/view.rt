@@ -1,4 +1,4 @@
-//! A view through messages: what it answers, and what it knows then.
+//! A view through messages: what it returns, and what it knows then.
 
 ghost use Rattle.gs_layout.specs.Spelling.{IsSpellable};
 
@@ -12,7 +12,7 @@ use std::test::Fail;
 /// What a thread is known to be: whether it may run, its mask, and the number at which it was so.
 type Seen = Option<(bool, u64, u32)>;
 
-/// A message, what the view answers to it, a thread and what is then known of it, and of how many threads
+/// A message, what the view returns for it, a thread and what is then known of it, and of how many threads
 /// something is known.
 type Row = (Told, Result<Taken, ApplyFault>, u32, Seen, usize);
 
@@ -176,10 +176,11 @@ const SEVERAL: [Row; 7] = [
     ),
 ];
 
-/// What a walk over them shows, by rising tid: the tid, whether the thread may run, and its number.
+/// What a walk over them shows, in increasing order of tid: the tid, whether the thread may run, and its
+/// number.
 const SHOWN: [(u32, bool, u32); 4] = [(1, true, 2), (7, true, 5), (9, false, 3), (65_536, true, 2)];
 
-/// What the view answers to a message.
+/// What the view returns for a message.
 pub(crate) fn send(view: &mut AgentView, message: &Message) -> Result<Taken, ApplyFault>
     requires { IsSpellable message.now }
 {
@@ -194,7 +195,7 @@ fn seen(view: &AgentView, tid: u32) -> Seen {
     Some((facts.runnable, facts.mask.bits(), known.tseq))
 }
 
-/// Whether the view answers as a row says, and knows then what it says.
+/// Whether the view returns what a row says, and knows then what it says.
 fn is_answered(view: &mut AgentView, row: &Row) -> bool {
     let (told, answer, tid, known, count) = row;
     let Some(message) = told.message() else {
@@ -206,7 +207,7 @@ fn is_answered(view: &mut AgentView, row: &Row) -> bool {
         && view.is_empty() == (*count == 0)
 }
 
-/// The first row that the view does not answer as it says.
+/// The first row that the view does not take as it says.
 fn first_wrong(view: &mut AgentView, rows: &[Row]) -> Option<usize> {
     for (index, row) in rows.iter().enumerate() {
         if !is_answered(view, row) {
@@ -252,7 +253,7 @@ fn is_blank(view: &AgentView) -> bool {
     view.is_empty() && view.get(7).is_none() && shows(view, &[])
 }
 
-// A function for each table: a proof is cheaper where it sees one table alone.
+// A function for each table: a proof is cheaper if it sees one table alone.
 fn try_life(view: &mut AgentView) -> Option<usize> {
     first_wrong(view, &life())
 }

@@ -19,8 +19,8 @@ known mask class = record { facts = record { runnable = true; mask = mask; class
 running : ℕ → ℕ → Option Running
 running t ticks = Some (record { tid = t; tseq = 1; ticks = ticks })
 
--- four CPUs with these beliefs of the last three and no stamp, the agent on the first, a mask of taken CPUs; threads 1 and 2 are of class
--- 0, threads 3, 4 and 5 of class 1; threads 1 to 4 may run on every CPU, thread 5 on CPU 2 alone
+-- four CPUs with these beliefs of the last three and no stamp, the agent on the first, a mask of taken CPUs. Threads 1 and 2 are of
+-- class 0, threads 3, 4 and 5 of class 1. Threads 1 to 4 may run on every CPU, thread 5 on CPU 2 alone
 seen : Option Running → Option Running → Option Running → ℕ → List ℕ → Shown
 seen one two three mask queue =
     record {

@@ -14,8 +14,8 @@ use Rattle.gs_lines.specs.Lines.{lines}
 use Rattle.round_robin.specs.declared.policy.RoundRobin.{RoundRobin}
 use Rattle.round_robin.specs.RoundRobin.{round_robin}
 
--- these bytes answer the script: they are the lines of the replies of a run of it by this policy, from the machine of its numbers on, in
--- which memory sufficed; an agent that begins plans by this policy, whatever the script names
+-- these bytes answer the script: they are the lines of the replies of a run of it by this policy, from the machine of its numbers on.
+-- Memory sufficed in it, and an agent that begins plans by this policy, whatever the script names
 pub record Answers (p : RoundRobin) (s : Script) (out : List ℕ) : Type 0 where
   pub replies : List Reply
   pub left : State
@@ -27,7 +27,7 @@ pub record Answers (p : RoundRobin) (s : Script) (out : List ℕ) : Type 0 where
 abbrev pub IsOutput : RoundRobin → List ℕ → List ℕ → Type 0
 IsOutput p input out = IsOkAnd (script_of input) (λ s. Answers p s out)
 
--- why there is none, by what was read: the script's first fault, or want of memory
+-- why there is none, by what was read: the script's first fault, or out of memory
 abbrev pub IsError : Result Script ScriptFault → ScriptError → Type 0
 IsError read (errors.Fault f) = read ≡ Err f
 IsError read errors.OutOfMemory = Unit {0}

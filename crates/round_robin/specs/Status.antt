@@ -4,7 +4,7 @@ use Rattle.gs_script.specs.declared.script.ScriptError.TheVariants.{Fault, OutOf
 use Rattle.round_robin.specs.declared.Failure.{Failure}
 use Rattle.round_robin.specs.declared.Failure.TheVariants.{ReadFailed, Script, WriteFailed}
 
--- 2 where the script has a fault, 4 where a read or a write failed, 5 for want of memory
+-- 2 if the script has a fault, 4 if a read or a write failed, 5 if out of memory
 abbrev pub failure_status : Failure → ℕ
 failure_status ReadFailed = 4
 failure_status WriteFailed = 4

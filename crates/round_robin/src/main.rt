@@ -32,7 +32,7 @@ enum Failure {
     WriteFailed,
 }
 
-/// The exit status of a failure.
+/// Returns the exit status of a failure.
 fn status(failure: Failure) -> u8
     ensures { result ≡ failure_status failure }
 {
@@ -43,7 +43,7 @@ fn status(failure: Failure) -> u8
     }
 }
 
-/// All bytes of standard input, or one more than a script may have.
+/// Reads all bytes of standard input, or one more than a script may have.
 fn read_input(rt: &HostRuntime) -> Result<Vec<u8>, Failure> {
     let mut bytes = Vec::new(rt.alloc());
     let most = MOST_BYTES as u64 + 1;
@@ -56,7 +56,7 @@ fn read_input(rt: &HostRuntime) -> Result<Vec<u8>, Failure> {
     }
 }
 
-/// Answers the script of standard input on standard output.
+/// Writes the replies to the script of standard input to standard output.
 fn write_replies(rt: &HostRuntime) -> Result<(), Failure> {
     let text = answer(rt.alloc(), &read_input(rt)?, POLICY).map_err(Failure::Script)?;
     let written = rt.stdout().write_all(text.as_bytes());

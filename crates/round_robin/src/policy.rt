@@ -10,8 +10,8 @@ use gs_policy::{Candidates, Choice, Counted, Policy, Shown, count_among, plan_am
 use gs_status::Mask;
 use std::alloc::{AllocError, Global};
 
-/// Weighted round robin. The waiting threads, in order, take the least free CPUs of their masks. Where
-/// none is left for a thread, it takes the least other CPU of its mask whose thread has had its slice.
+/// Weighted round robin. The waiting threads, in order, take the least free CPUs of their masks. If none is
+/// left for a thread, it takes the least other CPU of its mask whose thread has had its slice.
 ///
 /// One queue with a slice is the Shinjuku policy of the ghOSt paper (SOSP 2021). Here each class has a
 /// slice of its own, counted in ticks of a CPU's timer. With a slice of 0 a thread makes way at once.
@@ -24,7 +24,7 @@ pub struct RoundRobin {
 }
 
 impl RoundRobin {
-    /// The slice of a class, in ticks.
+    /// Returns the slice of a class, in ticks.
     fn slice_of(&self, class: Class) -> u16
         ensures { result ≡ slice_of self.now class }
     {
@@ -34,7 +34,7 @@ impl RoundRobin {
         }
     }
 
-    /// Whether a CPU is usable and believed to run a known thread that has had its slice.
+    /// Tells whether a CPU is usable and believed to run a known thread that has had its slice.
     fn turn_is_over(&self, shown: &Shown<'_>, cpu: u16) -> bool
         ensures { result ≡ turn_is_over self.now (shows shown.now) cpu }
     {
@@ -50,7 +50,7 @@ impl RoundRobin {
         self.slice_of(known.facts.class) <= running.ticks
     }
 
-    /// The CPUs whose threads have had their slices.
+    /// Returns the CPUs whose threads have had their slices.
     #[tactic(auto, using(gs_status::proofs::Laws::marked_if))]
     fn spent_cpus(&self, shown: &Shown<'_>) -> Mask
         ensures { (c : ℕ) → has result c ≡ turn_is_over self.now (shows shown.now) c }
@@ -62,7 +62,8 @@ impl RoundRobin {
         mask
     }
 
-    /// The free CPUs, and those that a thread of either class may take: the plan among them is this policy's.
+    /// Returns the free CPUs, and those that a thread of either class may take: the plan among them is this
+    /// policy's.
     fn candidates(&self, shown: &Shown<'_>) -> Candidates
         ensures { plan_among result (shows shown.now) ≡ plan (turn_takes self.now) (shows shown.now) }
     {

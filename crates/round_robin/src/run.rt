@@ -11,7 +11,7 @@ use gs_policy::AnyPolicy;
 use gs_script::{ScriptError, read_script};
 use std::alloc::{AllocError, Global};
 
-/// The same events, with this policy in place of each that they name.
+/// Returns the same events, with this policy in place of each that they name.
 fn own_events(
     alloc: Global,
     events: &[Event<AnyPolicy>],
@@ -25,11 +25,12 @@ fn own_events(
         .collect(alloc)
 }
 
-/// The lines of the replies of a script whose agents plan by this policy, whatever policies the script names.
+/// Returns the lines of the replies of a script whose agents plan by this policy, whatever policies the
+/// script names.
 ///
 /// # Errors
 ///
-/// The script's first fault; else `OutOfMemory` where memory runs out, also at an event.
+/// The script's first fault, else `OutOfMemory` if out of memory, at an event too.
 pub fn answer(alloc: Global, input: &[u8], policy: RoundRobin) -> Result<Text, ScriptError>
     ensures output { IfOk result (λ text. IsOutput policy input.now text) }
     ensures error { IfErr result (IsError (script_of input.now)) }
@@ -40,17 +41,10 @@ pub fn answer(alloc: Global, input: &[u8], policy: RoundRobin) -> Result<Text, S
         Err(ConfigFault::OutOfMemory) => return Err(ScriptError::OutOfMemory),
         Err(_) => unreachable!(),
     };
-    let Ok(events) = own_events(alloc, &script.events, policy) else {
-        return Err(ScriptError::OutOfMemory);
-    };
-    let Ok(replies) = machine.run(&events) else {
-        return Err(ScriptError::OutOfMemory);
-    };
+    let events = own_events(alloc, &script.events, policy)?;
+    let replies = machine.run(&events)?;
     if is_short(&replies) {
         return Err(ScriptError::OutOfMemory);
     }
-    match text_of(alloc, &replies) {
-        Ok(text) => Ok(text),
-        Err(_) => Err(ScriptError::OutOfMemory),
-    }
+    Ok(text_of(alloc, &replies)?)
 }

@@ -12,8 +12,8 @@ use gs_policy::{
 use gs_status::Mask;
 use std::alloc::{AllocError, Global};
 
-/// The waiting threads, in order, take the least free CPUs of their masks. Where none is left for a
-/// thread of class 0, it takes one from a thread of class 1 at once. A thread of class 1 preempts nobody.
+/// The waiting threads, in order, take the least free CPUs of their masks. If none is left for a thread of
+/// class 0, it takes one from a thread of class 1 at once. A thread of class 1 preempts nobody.
 pub(super) struct ZeroPreempts;
 
 /// The free CPUs, and those that a thread of class 0 may take: the plan among them is this policy's.

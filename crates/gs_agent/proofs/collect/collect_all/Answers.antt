@@ -1,33 +1,54 @@
-use Rattle.std.proofs.Common.{◌≡◌, ◌∙◌, ℕ, List, Some, take, drop, length, length-append, length-take, length-drop, slice_get, ap, sym, arith}
-use Rattle.gs_slots.specs.declared.state.SlotState.{SlotState}
-use Rattle.gs_slots.specs.Reading.{by_cpu, collected_in, state_in, state_or_idle, told_by}
-use Rattle.gs_slots.specs.SlotMut.{bytes_of}
-use Rattle.gs_slots.proofs.Laws.{by_cpu_count, by_cpu_more, by_cpu_stays, told_at}
+use Rattle.std.proofs.Common.{◌≡◌, ◌∙◌, ◌<◌, ◌≤◌, List, ℕ, Some, ap, slice_get, length, min, subst, sym}
+use Rattle.std.proofs.lemmas.Option.{slice_get_within}
 use Rattle.gs_mind.specs.Mind.{picture_of, thinks}
-use Rattle.gs_mind.specs.Picture.{after_slot, after_slots}
-use Rattle.gs_agent.proofs.Collecting.{all_told, collected_more}
+use Rattle.gs_mind.specs.Picture.{after_slot}
+use Rattle.gs_slots.specs.Reading.{collected_in, state_in, state_or_idle}
+use Rattle.gs_slots.specs.SlotMut.{bytes_of}
+use Rattle.gs_agent.specs.Collected.{IsCollected}
+use Rattle.gs_agent.proofs.Collecting.{all_collected_is, collected_length, collected_one, min_within, next_stays, next_within}
 use Rattle.gs_agent.proofs.collect.collect_all.Goals as goal
+
+pub loop-cpu-init : goal.loop-cpu-init
+loop-cpu-init c =
+    let old : List (List ℕ) = c.args.region.now in
+    let few : ℕ = min (length old) 64 in
+    let within : few ≤ length old = min_within (length old) 64 in
+    let size : length c.collect_busy.new.region ≡ length old = collected_length old c.args.mind.now few c.collect_busy.new.region c.collect_busy.new.mind c.collect_busy.ensures within in
+    let is : c.min-cpu.result ≡ few = c.min-cpu.ensures ∙ ap (λ (n : ℕ). min n 64) (c.cpus-cpus.ensures ∙ size) in
+    record {
+      done = subst (λ (n : ℕ). IsCollected old c.args.mind.now n c.collect_busy.new.region c.collect_busy.new.mind) (sym is) c.collect_busy.ensures;
+      within = subst (λ (n : ℕ). n ≤ length old) (sym is) within;
+    }
 
 pub slot-requires : goal.slot-requires
 slot-requires c =
-    let old = c.args.region.now in
-    let k = c.loop-cpu.cpu in
-    omega (arith, c.loop-cpu-test.true, c.cpus-cpu-end.ensures, ap length c.loop-cpu.invariant.region, length-append (by_cpu collected_in 0 (take k old)) (drop k old), by_cpu_count collected_in 0 (take k old), length-take k old, length-drop k old)
+    let old : List (List ℕ) = c.args.region.now in
+    let before : length c.collect_busy.new.region ≡ length old = collected_length old c.args.mind.now (min (length old) 64) c.collect_busy.new.region c.collect_busy.new.mind c.collect_busy.ensures (min_within (length old) 64) in
+    let now : length c.loop-cpu.region ≡ length old = collected_length old c.args.mind.now c.loop-cpu.cpu c.loop-cpu.region c.loop-cpu.mind c.loop-cpu.invariant.done c.loop-cpu.invariant.within in
+    subst (λ (n : ℕ). c.loop-cpu.cpu < n) (c.cpus-cpus.ensures ∙ (before ∙ sym now)) c.loop-cpu-test.true
 
 pub loop-cpu-preserved : goal.loop-cpu-preserved
 loop-cpu-preserved c =
-    let old = c.args.region.now in
-    let k = c.loop-cpu.cpu in
+    let old : List (List ℕ) = c.args.region.now in
+    let k : ℕ = c.loop-cpu.cpu in
     let bytes : List ℕ = bytes_of c.slot.result in
-    let found : slice_get c.loop-cpu.region k ≡ Some bytes = c.slot.ensures.bytes in
-    let was : slice_get old k ≡ Some bytes = sym (by_cpu_stays collected_in 0 old k) ∙ (ap (λ (xs : List (List ℕ)). slice_get xs k) (sym c.loop-cpu.invariant.region) ∙ found) in
+    let was : slice_get old k ≡ Some bytes = next_stays old c.args.mind.now k c.loop-cpu.region c.loop-cpu.mind bytes c.loop-cpu.invariant.done c.slot.ensures.bytes in
+    let within : k < length old = slice_get_within old k bytes was in
     record {
-      region = by_cpu_more collected_in old c.loop-cpu.region k bytes c.collect_slot.new.slot.0 c.loop-cpu.invariant.region found (c.collect_slot.ensures.slot ∙ ap (λ (n : ℕ). collected_in n bytes) c.slot.ensures.cpu);
-      mind = collected_more c.args.mind.now c.loop-cpu.mind c.collect_slot.new.mind (told_by 0 old) k (state_or_idle (state_in k bytes)) (told_at k old bytes was) c.loop-cpu.invariant.mind
+      done = collected_one old c.args.mind.now k c.loop-cpu.region c.loop-cpu.mind c.collect_slot.new.mind bytes c.collect_slot.new.slot.0 c.loop-cpu.invariant.done c.slot.ensures.bytes
+          (c.collect_slot.ensures.slot ∙ ap (λ (n : ℕ). collected_in n bytes) c.slot.ensures.cpu)
           (c.collect_slot.ensures.mind ∙ ap (λ (n : ℕ). thinks c.loop-cpu.mind (after_slot n (state_or_idle (state_in n bytes)) (picture_of c.loop-cpu.mind))) c.slot.ensures.cpu);
+      within = next_within k (length old) within;
     }
+
+pub returns-clause-region : goal.returns-clause-region
+returns-clause-region c =
+    let old : List (List ℕ) = c.args.region.now in
+    let before : length c.collect_busy.new.region ≡ length old = collected_length old c.args.mind.now (min (length old) 64) c.collect_busy.new.region c.collect_busy.new.mind c.collect_busy.ensures (min_within (length old) 64) in
+    (all_collected_is old c.args.mind.now c.loop-cpu.cpu c.loop-cpu.region c.loop-cpu.mind c.loop-cpu.invariant.done (subst (λ (n : ℕ). n ≤ c.loop-cpu.cpu) (c.cpus-cpus.ensures ∙ before) c.loop-cpu-test.false)).0
 
 pub returns-clause-mind : goal.returns-clause-mind
 returns-clause-mind c =
-    c.loop-cpu.invariant.mind
-    ∙ ap (λ (zs : List SlotState). thinks c.args.mind.now (after_slots 0 zs (picture_of c.args.mind.now))) (all_told c.loop-cpu.cpu c.args.region.now (omega (arith, c.loop-cpu-test.false, c.cpus-cpu-end.ensures)))
+    let old : List (List ℕ) = c.args.region.now in
+    let before : length c.collect_busy.new.region ≡ length old = collected_length old c.args.mind.now (min (length old) 64) c.collect_busy.new.region c.collect_busy.new.mind c.collect_busy.ensures (min_within (length old) 64) in
+    (all_collected_is old c.args.mind.now c.loop-cpu.cpu c.loop-cpu.region c.loop-cpu.mind c.loop-cpu.invariant.done (subst (λ (n : ℕ). n ≤ c.loop-cpu.cpu) (c.cpus-cpus.ensures ∙ before) c.loop-cpu-test.false)).1

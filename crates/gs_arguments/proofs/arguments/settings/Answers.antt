@@ -79,7 +79,7 @@ returns-clause-report g c name h =
     let given : None ≡ Some (Report 10) = c.in-None.ensures ∙ ap command_from met ∙ report_is_ten name in
     absurd (cc)
 
--- words that have no fault fail for want of memory alone
+-- words that have no fault fail only if out of memory
 only_memory : (kinds : Kinds) (e : Error) → kinds ≡ [] → HasKind kinds e → kind_of e ≡ OutOfMemory
 only_memory kinds e none (inl h) = h
 only_memory [] e none (inr h) = absurd h

@@ -1,13 +1,14 @@
-use Rattle.std.proofs.Common.{refl}
-use Rattle.gs_journal.specs.declared.entry.Entry.TheVariants.{Begin}
-use Rattle.gs_history.specs.Json.{entry_data}
-use Rattle.gs_history.proofs.Added.{first_token, last_of_value, then_tokens}
+use Rattle.std.proofs.Common.{◌++◌, codes, decimal}
+use Rattle.gs_history.proofs.Pieces.{before_number}
 use Rattle.gs_history.proofs.entry_json.write_begin.Goals as goal
 
 pub returns : goal.returns
 returns c =
-    let tokens = first_token c.in_ok-begin_object.ensures in
-    let tokens = then_tokens tokens c.in_ok-write_count.ensures in
-    let tokens = then_tokens tokens c.in_ok-write_count-2.ensures in
-    let tokens = then_tokens tokens c.in_ok-write_text.ensures in
-    last_of_value c.end_object.result (entry_data c.args.place (Begin c.args.generation)) tokens c.end_object.ensures refl
+    let r = c.push_str.result in
+    let new = c.push_str.new.self in
+    let w0 = codes "{\"entry\":" in
+    let d0 = decimal c.args.place in
+    let w1 = codes ",\"generation\":" in
+    let d1 = decimal c.args.generation in
+    let p2 = codes ",\"kind\":\"begin\"}" in
+    before_number r c.args.out.now w0 d0 new (w1 ++ (d1 ++ p2)) c.in_ok-write_first_place.ensures (before_number r c.write_first_place.new.out w1 d1 new p2 c.in_ok-push_number.ensures c.push_str.ensures)

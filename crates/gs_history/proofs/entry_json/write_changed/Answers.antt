@@ -1,4 +1,4 @@
 use Rattle.gs_history.proofs.entry_json.write_changed.Goals as goal
 
-pub returns-in-Affinity : goal.returns-in-Affinity
-returns-in-Affinity c = rw c.in-Affinity.is (rw c.bits.ensures at c.write_mask.ensures)
+pub returns-in-Dead : goal.returns-in-Dead
+returns-in-Dead c = rw c.in-Dead.is c.write_left-in-Dead.ensures

@@ -1,11 +1,13 @@
-use Rattle.std.proofs.Common.{refl}
-use Rattle.gs_history.specs.Json.{held_data}
-use Rattle.gs_history.proofs.Added.{first_token, last_of_value, then_tokens}
+use Rattle.std.proofs.Common.{◌++◌, Some}
+use Rattle.gs_history.specs.Pieces.{cpu_piece, place_piece}
+use Rattle.gs_history.proofs.Pieces.{before}
 use Rattle.gs_history.proofs.entry_json.write_held.Goals as goal
 
 pub returns : goal.returns
 returns c =
-    let tokens = first_token c.in_ok-begin_object.ensures in
-    let tokens = then_tokens tokens c.in_ok-write_cpu.ensures in
-    let tokens = then_tokens tokens c.in_ok-write_entry_kind.ensures in
-    last_of_value c.end_object.result (held_data c.args.place c.args.cpu c.args.kind.now) tokens c.end_object.ensures refl
+    let r = c.push_str.result in
+    let new = c.push_str.new.self in
+    let p0 = cpu_piece (Some c.args.cpu) in
+    let p1 = place_piece c.args.place in
+    let p2 = c.args.words.now in
+    before r c.args.out.now p0 new (p1 ++ p2) c.in_ok-write_cpu.ensures (before r c.write_cpu.new.out p1 new p2 c.in_ok-write_place.ensures c.push_str.ensures)

@@ -1,13 +1,14 @@
-use Rattle.std.proofs.Common.{append_assoc}
-use Rattle.gs_history.specs.Json.{left_data}
-use Rattle.gs_history.proofs.Added.{first_token, last_of_value, then_tokens}
+use Rattle.std.proofs.Common.{◌++◌}
+use Rattle.gs_history.specs.Pieces.{cpu_piece, place_piece, thread_piece}
+use Rattle.gs_history.proofs.Pieces.{before}
 use Rattle.gs_history.proofs.entry_json.write_left.Goals as goal
 
 pub returns : goal.returns
 returns c =
-    let tokens = first_token c.in_ok-begin_object.ensures in
-    let tokens = then_tokens tokens c.in_ok-write_cpu.ensures in
-    let tokens = then_tokens tokens c.in_ok-write_entry_kind.ensures in
-    let tokens = then_tokens tokens c.in_ok-write_text.ensures in
-    let tokens = then_tokens tokens c.in_ok-write_thread.ensures in
-    last_of_value c.end_object.result (left_data c.args.place c.args.tid c.args.tseq c.args.cpu c.args.name.now) tokens c.end_object.ensures (simp append_assoc)
+    let r = c.write_thread.result in
+    let new = c.write_thread.new.out in
+    let p0 = cpu_piece c.args.cpu in
+    let p1 = place_piece c.args.place in
+    let p2 = c.args.words.now in
+    let p3 = thread_piece c.args.tid c.args.tseq in
+    before r c.args.out.now p0 new (p1 ++ (p2 ++ p3)) c.in_ok-write_cpu.ensures (before r c.write_cpu.new.out p1 new (p2 ++ p3) c.in_ok-write_place.ensures (before r c.write_place.new.out p2 new p3 c.in_ok-push_str.ensures c.write_thread.ensures))

@@ -1,15 +1,19 @@
-use Rattle.std.proofs.Common.{append_assoc}
-use Rattle.gs_history.specs.Json.{mask_data}
-use Rattle.gs_history.proofs.Added.{first_token, last_of_value, then_tokens}
+use Rattle.serde_json.specs.Data.{boolean}
+use Rattle.serde_json.specs.Written.{compact_text}
+use Rattle.std.proofs.Common.{◌++◌, codes, decimal}
+use Rattle.gs_history.specs.Pieces.{cpu_piece, place_piece, thread_piece}
+use Rattle.gs_history.proofs.Pieces.{before, before_number}
 use Rattle.gs_history.proofs.entry_json.write_mask.Goals as goal
 
 pub returns : goal.returns
 returns c =
-    let tokens = first_token c.in_ok-begin_object.ensures in
-    let tokens = then_tokens tokens c.in_ok-write_cpu.ensures in
-    let tokens = then_tokens tokens c.in_ok-write_entry_kind.ensures in
-    let tokens = then_tokens tokens c.in_ok-write_count.ensures in
-    let tokens = then_tokens tokens c.in_ok-write_text.ensures in
-    let tokens = then_tokens tokens c.in_ok-write_flag.ensures in
-    let tokens = then_tokens tokens c.in_ok-write_thread.ensures in
-    last_of_value c.end_object.result (mask_data c.args.place c.args.tid c.args.tseq c.args.cpu c.args.off c.args.mask) tokens c.end_object.ensures (simp append_assoc)
+    let r = c.write_thread.result in
+    let new = c.write_thread.new.out in
+    let p0 = cpu_piece c.args.cpu in
+    let p1 = place_piece c.args.place in
+    let w2 = codes ",\"kind\":\"posted\",\"mask\":" in
+    let d2 = decimal c.args.mask in
+    let p3 = codes ",\"message\":\"affinity\",\"off\":" in
+    let p4 = compact_text (boolean c.args.off) in
+    let p5 = thread_piece c.args.tid c.args.tseq in
+    before r c.args.out.now p0 new (p1 ++ (w2 ++ (d2 ++ (p3 ++ (p4 ++ p5))))) c.in_ok-write_cpu.ensures (before r c.write_cpu.new.out p1 new (w2 ++ (d2 ++ (p3 ++ (p4 ++ p5)))) c.in_ok-write_place.ensures (before_number r c.write_place.new.out w2 d2 new (p3 ++ (p4 ++ p5)) c.in_ok-push_number.ensures (before r c.push_number.new.self p3 new (p4 ++ p5) c.in_ok-push_str.ensures (before r c.push_str.new.self p4 new p5 c.in_ok-write_flag.ensures c.write_thread.ensures))))

@@ -1,14 +1,15 @@
-use Rattle.std.proofs.Common.{refl}
-use Rattle.gs_journal.specs.declared.entry.Entry.TheVariants.{Role}
-use Rattle.gs_history.specs.Json.{entry_data}
-use Rattle.gs_history.proofs.Added.{first_token, last_of_value, then_tokens}
+use Rattle.std.proofs.Common.{◌++◌, Some, codes, decimal}
+use Rattle.gs_history.specs.Pieces.{cpu_piece, place_piece}
+use Rattle.gs_history.proofs.Pieces.{before, before_number}
 use Rattle.gs_history.proofs.entry_json.write_role.Goals as goal
 
 pub returns : goal.returns
 returns c =
-    let tokens = first_token c.in_ok-begin_object.ensures in
-    let tokens = then_tokens tokens c.in_ok-write_cpu.ensures in
-    let tokens = then_tokens tokens c.in_ok-write_count.ensures in
-    let tokens = then_tokens tokens c.in_ok-write_count-2.ensures in
-    let tokens = then_tokens tokens c.in_ok-write_text.ensures in
-    last_of_value c.end_object.result (entry_data c.args.place (Role c.args.generation c.args.cpu)) tokens c.end_object.ensures refl
+    let r = c.push_str.result in
+    let new = c.push_str.new.self in
+    let p0 = cpu_piece (Some c.args.cpu) in
+    let p1 = place_piece c.args.place in
+    let w2 = codes ",\"generation\":" in
+    let d2 = decimal c.args.generation in
+    let p3 = codes ",\"kind\":\"role\"}" in
+    before r c.args.out.now p0 new (p1 ++ (w2 ++ (d2 ++ p3))) c.in_ok-write_cpu.ensures (before r c.write_cpu.new.out p1 new (w2 ++ (d2 ++ p3)) c.in_ok-write_place.ensures (before_number r c.write_place.new.out w2 d2 new p3 c.in_ok-push_number.ensures c.push_str.ensures))

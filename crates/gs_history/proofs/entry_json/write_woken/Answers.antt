@@ -1,12 +1,14 @@
-use Rattle.std.proofs.Common.{refl}
-use Rattle.gs_history.specs.Json.{woken_data}
-use Rattle.gs_history.proofs.Added.{first_token, last_of_value, then_tokens}
+use Rattle.std.proofs.Common.{◌++◌, codes, decimal}
+use Rattle.gs_history.specs.Pieces.{thread_piece}
+use Rattle.gs_history.proofs.Pieces.{before, before_number}
 use Rattle.gs_history.proofs.entry_json.write_woken.Goals as goal
 
 pub returns : goal.returns
 returns c =
-    let tokens = first_token c.in_ok-begin_object.ensures in
-    let tokens = then_tokens tokens c.in_ok-write_entry_kind.ensures in
-    let tokens = then_tokens tokens c.in_ok-write_text.ensures in
-    let tokens = then_tokens tokens c.in_ok-write_thread.ensures in
-    last_of_value c.end_object.result (woken_data c.args.place c.args.tid c.args.tseq) tokens c.end_object.ensures refl
+    let r = c.write_thread.result in
+    let new = c.write_thread.new.out in
+    let w0 = codes "{\"entry\":" in
+    let d0 = decimal c.args.place in
+    let p1 = codes ",\"kind\":\"posted\",\"message\":\"woken\"" in
+    let p2 = thread_piece c.args.tid c.args.tseq in
+    before_number r c.args.out.now w0 d0 new (p1 ++ p2) c.in_ok-write_first_place.ensures (before r c.write_first_place.new.out p1 new p2 c.in_ok-push_str.ensures c.write_thread.ensures)

@@ -2,29 +2,20 @@ use Rattle.std.proofs.Common.{rules, arith, sym, ◌≡◌, ◌<◌, length, tak
 use Rattle.std.proofs.lemmas.Grind.{common_steps}
 use Rattle.std.proofs.lemmas.Int.Digits.{digits_value_more}
 use Rattle.std.proofs.lemmas.List.{take-append-drop, take_rest}
-use Rattle.gs_script.proofs.Digits.{all_more, read_number, short, worth}
+use Rattle.gs_script.proofs.Digits.{all_more, read_number, worth}
 use Rattle.gs_script.proofs.cursor.digits_first.Goals.{else-count-gt1-via-then-count-gt1+else-text-eq48, else-count-gt1-via-else-count-gt1}
 use Rattle.gs_script.proofs.cursor.digits_first.Goals as goal
-
-pub overflow_mul-value : goal.overflow_mul-value
-overflow_mul-value c =
-    let i = c.loop-count.invariant in
-    omega (arith, i.3, short c.args.text.now c.loop-count.count i.0 (omega arith) i.2)
-
-pub overflow_add-value : goal.overflow_add-value
-overflow_add-value c =
-    let i = c.loop-count.invariant in
-    let d = worth (slice_index_or c.args.text.now c.loop-count.count 0) (search rules) in
-    omega (arith, i.3, short c.args.text.now c.loop-count.count i.0 (omega arith) i.2)
 
 pub loop-count-preserved : goal.loop-count-preserved
 loop-count-preserved c =
     let i = c.loop-count.invariant in
-    let lt : c.loop-count.count < length c.args.text.now = omega arith in (
+    let lt : c.loop-count.count < length c.args.text.now = omega arith in
+    let ten = c.in_ok-checked_mul.ensures in
+    let sum = c.in_ok-value.ensures in (
       omega arith,
-      omega arith,
+      omega (arith, sum.0, sum.1),
       all_more c.args.text.now c.loop-count.count lt i.2 (search rules),
-      omega (arith, i.3, digits_value_more 10 c.args.text.now c.loop-count.count lt, (worth (slice_index_or c.args.text.now c.loop-count.count 0) (search rules)).2),
+      omega (arith, ten.1, sum.1, i.3, digits_value_more 10 c.args.text.now c.loop-count.count lt, (worth (slice_index_or c.args.text.now c.loop-count.count 0) (search rules)).2),
     )
 
 pub returns : goal.returns

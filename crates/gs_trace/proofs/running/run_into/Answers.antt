@@ -18,9 +18,8 @@ loop-event-preserved g c =
     let rest : List (Event Plan) = map (planned any_plans) (drop (i + 1) c.args.events.now) in
     let next : map (planned any_plans) (drop i c.args.events.now) ≡ planned any_plans event ∷ rest =
     one_left (planned any_plans) c.args.events.now i event c.loop-event-test.true ∙ ap (λ (e : Event _). planned any_plans e ∷ rest) (sym c.event-item.is) in
-    let fine : list_any wants_memory (c.step-reply.result ∷ []) ≡ false =
-    sym (ap (list_any wants_memory) c.from_ref.ensures.value) ∙ (sym c.is_short.ensures ∙ c.if-is_short.false) in
-    taken_more g.T.Taker.has (planning any_plans c.args.machine.now) (map (planned any_plans) c.args.events.now) (map (planned any_plans) (drop i c.args.events.now)) rest (planning any_plans c.loop-event.machine) (planning any_plans c.step-reply.new.self) (planned any_plans event) c.step-reply.result c.loop-event.taken c.take.new.self c.loop-event.invariant next c.step-reply.ensures.step c.step-reply.ensures.safe c.step-reply.ensures.faithful fine c.in_ok-take.ensures
+    let one = c.in_ok-run_one.ensures in
+    taken_more g.T.Taker.has (planning any_plans c.args.machine.now) (map (planned any_plans) c.args.events.now) (map (planned any_plans) (drop i c.args.events.now)) rest (planning any_plans c.loop-event.machine) (planning any_plans c.run_one.new.machine) (planned any_plans event) one.reply c.loop-event.taken c.run_one.new.taker c.loop-event.invariant next one.step one.safe one.faithful one.sufficed one.grows
 
 pub returns : goal.returns
 returns g c =

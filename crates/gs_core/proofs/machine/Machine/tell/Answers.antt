@@ -4,6 +4,7 @@ use Rattle.gs_kernel.specs.declared.command.Command.{Command}
 use Rattle.gs_kernel.specs.declared.command.Command.TheVariants.{Begin}
 use Rattle.gs_core.specs.declared.event.Event.TheVariants as events
 use Rattle.gs_core.specs.declared.reply.Reply.{Reply}
+use Rattle.gs_core.specs.Fates.{reply_by}
 use Rattle.gs_core.specs.Machine.{Plan, Serves, State, Step, StateOf, planning, refusal}
 use Rattle.gs_core.proofs.machine.Machine.tell.Goals as goal
 
@@ -18,5 +19,5 @@ begins_as m p is r m' s = served_as (refusal m (events.Begin m.policy)) m r m' (
 pub returns-in-Begin-clause-step : goal.returns-in-Begin-clause-step
 returns-in-Begin-clause-step g c =
     let m = planning g.P.Policy.chosen c.args.self.now in
-    subst (λ (x : Command). Step m (events.Kernel x) c.begin-in-Begin.result (planning g.P.Policy.chosen c.begin-in-Begin.new.self)) (sym c.in-Begin.is)
-    (begins_as m (g.P.Policy.chosen c.begin.inside.policy) (ap (λ (x : StateOf _). g.P.Policy.chosen x.policy) c.begin.view_is) c.begin-in-Begin.result (planning g.P.Policy.chosen c.begin-in-Begin.new.self) c.begin-in-Begin.ensures.step)
+    subst (λ (x : Command). Step m (events.Kernel x) (reply_by c.begin-in-Begin.result c.begin-in-Begin.new.self.history) (planning g.P.Policy.chosen c.begin-in-Begin.new.self)) (sym c.in-Begin.is)
+    (begins_as m (g.P.Policy.chosen c.begin.inside.policy) (ap (λ (x : StateOf _). g.P.Policy.chosen x.policy) c.begin.view_is) (reply_by c.begin-in-Begin.result c.begin-in-Begin.new.self.history) (planning g.P.Policy.chosen c.begin-in-Begin.new.self) c.begin-in-Begin.ensures.step)

@@ -5,6 +5,7 @@ use Rattle.gs_journal.specs.declared.entry.Entry.{Entry}
 use Rattle.gs_journal.specs.declared.entry.Entry.TheVariants.{Begin}
 use Rattle.gs_kernel.specs.declared.command.Command.TheVariants as commands
 use Rattle.gs_kernel.specs.Kernel.{is_last_generation, next_generation}
+use Rattle.gs_kernel.specs.Fate.{last_entry}
 use Rattle.gs_kernel.specs.Legal.{paged_by}
 use Rattle.gs_kernel.specs.declared.answer.Answer.TheVariants as answers
 use Rattle.gs_kernel.proofs.Laws.{begins_when, free_when}
@@ -32,20 +33,20 @@ invariant_of-self g c =
     let m = machine_now g.P.Policy.chosen c.self.inside in
     let i = c.self.invariant in
     let e = c.in-Done.ensures in
-    let k = c.begin.new.self in
+    let k = c.obey.new.self in
     let good : Good m = i.kept.good in
     let history : k.history ≡ m.history ++ Begin (next_generation m.history) ∷ [] = e.legal.1.tells.1 in
     let cpus : c.settings-cpus.result.cpus ≡ m.settings.cpus = ap (λ (x : _). x.cpus) c.settings-cpus.ensures.value in
-    let agent : agent_of c.in-Ok.role ≡ newcomer m.settings.cpus = ap agent_of c.in-Ok.ensures ∙ ap newcomer cpus in
+    let agent : agent_of c.in_ok-role.role ≡ newcomer m.settings.cpus = ap agent_of c.in_ok-role.ensures ∙ ap newcomer cpus in
     let slots : c.clear.new.self ≡ replicate m.settings.cpus Idle = c.clear.ensures ∙ ap (λ n. replicate n Idle) good.count in
     let left : record m { history = m.history ++ Begin (next_generation m.history) ∷ []; agent = Some (newcomer m.settings.cpus); policy = g.P.Policy.chosen c.args.policy; slots = replicate m.settings.cpus Idle }
-    ≡ record (with_kernel m k.settings k.poster k.history) { agent = Some (agent_of c.in-Ok.role); policy = g.P.Policy.chosen c.args.policy; slots = c.clear.new.self } =
+    ≡ record (with_kernel m k.settings k.poster k.history) { agent = Some (agent_of c.in_ok-role.role); policy = g.P.Policy.chosen c.args.policy; slots = c.clear.new.self } =
     λ j. record m { settings = sym e.frame.settings j; ring = sym e.frame.ring j; history = sym history j; consumed = sym e.frame.stays j; agent = Some (sym agent j); policy = g.P.Policy.chosen c.args.policy; slots = sym slots j } in
     let none : k.paged ≡ false = e.frame.pages ∙ ap (λ (x : Entry). paged_by (answers.Done x) c.self.inside.kernel.paged) e.legal.0 in
     record {
       kept = subst Kept left (kept_begun m (next_generation m.history) (g.P.Policy.chosen c.args.policy) i.kept);
       told = e.frame.told;
-      suits = suits_begun c.args.policy m.history k.history (next_generation m.history) k.paged c.in-Ok.role history none (ap (λ (r : RoleOf _). r.policy) c.in-Ok.ensures) (ap (λ (r : RoleOf _). r.next) c.in-Ok.ensures);
+      suits = suits_begun c.args.policy m.history k.history (next_generation m.history) k.paged c.in_ok-role.role history none (ap (λ (r : RoleOf _). r.policy) c.in_ok-role.ensures) (ap (λ (r : RoleOf _). r.next) c.in_ok-role.ensures);
     }
 
 pub returns-in-Done-clause-begun : goal.returns-in-Done-clause-begun
@@ -53,16 +54,16 @@ returns-in-Done-clause-begun g c =
     let m : State = machine_now g.P.Policy.chosen c.self.inside in
     let p = g.P.Policy.chosen c.args.policy in
     let e = c.in-Done.ensures in
-    let k = c.begin.new.self in
+    let k = c.obey.new.self in
     let good : Good m = c.self.invariant.kept.good in
     let cpus : c.settings-cpus.result.cpus ≡ m.settings.cpus = ap (λ (x : _). x.cpus) c.settings-cpus.ensures.value in
-    let agent : agent_of c.in-Ok.role ≡ newcomer m.settings.cpus = ap agent_of c.in-Ok.ensures ∙ ap newcomer cpus in
+    let agent : agent_of c.in_ok-role.role ≡ newcomer m.settings.cpus = ap agent_of c.in_ok-role.ensures ∙ ap newcomer cpus in
     let slots : c.clear.new.self ≡ replicate m.settings.cpus Idle = c.clear.ensures ∙ ap (λ n. replicate n Idle) good.count in
-    let made : State = record (with_kernel m k.settings k.poster k.history) { agent = Some (agent_of c.in-Ok.role); policy = p; slots = c.clear.new.self } in
-    let carries : Carries (planned_by p m) commands.Begin (replies.Done c.in-Done.entry) made = record {
+    let made : State = record (with_kernel m k.settings k.poster k.history) { agent = Some (agent_of c.in_ok-role.role); policy = p; slots = c.clear.new.self } in
+    let carries : Carries (planned_by p m) commands.Begin (replies.Done (last_entry k.history)) made = record {
       fit = true;
       reply = ap replies.Done e.legal.0;
       tells = (tt, e.legal.1.tells.1);
       others = λ j. record m { settings = e.frame.settings j; ring = e.frame.ring j; history = k.history; consumed = e.frame.stays j; agent = Some (agent j); policy = p; slots = slots j };
     } in
-    subst (λ (x : StateOf _). Carries (planned_by p (planning g.P.Policy.chosen x)) commands.Begin (replies.Done c.in-Done.entry) made) c.self.view_is carries
+    subst (λ (x : StateOf _). Carries (planned_by p (planning g.P.Policy.chosen x)) commands.Begin (replies.Done (last_entry k.history)) made) c.self.view_is carries

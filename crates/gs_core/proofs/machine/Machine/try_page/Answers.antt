@@ -46,8 +46,8 @@ invariant_of-self-2 g c =
     let next : r.next ≡ Some from = sym (ap page_of there) ∙ need.1.1 in
     let dump : page ≡ next_dump m c.args.max = c.in_ok-bytes.ensures.page ∙ (c.in_ok-page.ensures.page ∙ ap (λ (x : StateOf _). next_dump (planning g.P.Policy.chosen x) c.args.max) (sym c.self.view_is)) in
     let at : page ≡ dumped m.settings m.history from c.args.max = dump ∙ ap (λ o. dumped m.settings m.history (unwrap_or o 0) c.args.max) need.1.1 in
-    let known : picture_of r'.mind ≡ after_page (dumped m.settings m.history from c.args.max).records (picture_of r.mind) = c.in-Ok.ensures.picture ∙ ap (λ (x : Contents). after_page x.records (picture_of r.mind)) at in
-    let goes : r'.next ≡ page.next = c.in-Ok.ensures.next in
+    let known : picture_of r'.mind ≡ after_page (dumped m.settings m.history from c.args.max).records (picture_of r.mind) = c.in_ok-rebuild.ensures.picture ∙ ap (λ (x : Contents). after_page x.records (picture_of r.mind)) at in
+    let goes : r'.next ≡ page.next = c.in_ok-rebuild.ensures.next in
     let old = c.self.inside.kernel in
     let noted : k ≡ record old { paged = paged_after page old.paged } = c.note_page.ensures in
     let left : record m { agent = Some (record { mind = r'.mind; next = (dumped m.settings m.history from c.args.max).next }) } ≡ record (with_kernel m k.settings k.poster k.history) { agent = Some (agent_of r') } =

@@ -3,22 +3,17 @@ use Rattle.std.specs.List.Sorted.{IsStrictlyIncreasing}
 use Rattle.gs_layout.specs.View.{look_up}
 use Rattle.gs_view.specs.Index.{places}
 use Rattle.gs_view.specs.Records.{known_by}
-use Rattle.gs_view.specs.Shown.{AreShown, still_shown, tids}
+use Rattle.gs_view.specs.Shown.{shown_from, tids}
 use Rattle.gs_view.proofs.Agreed.{known_past}
 use Rattle.gs_view.proofs.Listed.{found_listed, rising_listed}
-use Rattle.gs_view.proofs.Showing.{all_shown, whole_shown}
+use Rattle.gs_view.proofs.Showing.{whole_shown}
 use Rattle.gs_view.proofs.records.Records.walk.Goals as goal
-
-pub over-requires : goal.over-requires
-over-requires c =
-    subst (AreShown c.tids.result) c.self.view_is
-    (all_shown c.self.inside.index c.self.inside.slab c.tids.result c.tids.ensures.left c.self.invariant c.tids.ensures.within)
 
 pub returns-clause-whole : goal.returns-clause-whole
 returns-clause-whole c =
     c.over.ensures
-    ∙ (ap (still_shown c.tids.result) (sym c.self.view_is)
-    ∙ (whole_shown c.self.inside.index c.self.inside.slab c.tids.result c.tids.ensures.left ∙ ap (λ r. r.entries) c.self.view_is))
+    ∙ (ap (shown_from 0) (sym c.self.view_is)
+    ∙ (whole_shown c.self.inside.index c.self.inside.slab ∙ ap (λ r. r.entries) c.self.view_is))
 
 pub returns-clause-rising : goal.returns-clause-rising
 returns-clause-rising c =

@@ -1,0 +1,5 @@
+mod Alike
+mod BitWords
+mod Rows
+mod Summed
+pub mod Laws

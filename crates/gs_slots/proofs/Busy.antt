@@ -1,0 +1,176 @@
+-- Slots that are other than idle.
+use Rattle.std.proofs.Common.{◌≡◌, ◌≢◌, Bool, true, false, not, ℕ, zero, suc, ◌+◌, ◌-◌, ◌^◌, ◌<◌, ◌≤◌, ◌⊎◌, inl, inr, Option, None, Some, Ok, List, [], ◌∷◌, ◌++◌, length, replicate, take, drop, slice_get, slice_set, refl, ap, sym, subst, ◌∙◌, arith, w64}
+use Rattle.std.specs.Prelude.{◌==◌, nat_eq, unwrap_or}
+use Rattle.std.specs.Cmp.Lexicographic.{bytes_decides, pointwise}
+use Rattle.std.specs.Int.{bit_at, bit_not}
+use Rattle.std.proofs.lemmas.Bool.{cases_eq, cases_lt, eqb-true}
+use Rattle.std.proofs.lemmas.List.{length-replicate}
+use Rattle.std.proofs.lemmas.Nat.Bits.{bit_at-lt, bit_at_not, shr_and_one}
+use Rattle.gs_layout.proofs.Laws.{IsBytes}
+use Rattle.gs_status.proofs.Laws.{least_is_all, least_passes, nobody}
+use Rattle.gs_status.specs.Masks.{found_or, has, least}
+use Rattle.gs_slots.specs.Busy.{CoversBusy, IsRegion, is_busy, is_busy_at, is_busy_if_any}
+use Rattle.gs_slots.specs.declared.state.SlotState.TheVariants.{Idle}
+use Rattle.gs_slots.specs.Reading.{state_in}
+use Rattle.gs_slots.specs.Spelling.{idle_bytes}
+use Rattle.gs_slots.specs.Tests.{is_idle}
+use Rattle.gs_slots.proofs.Exact.{idle_sound, read_spelt, same_tests}
+use Rattle.gs_slots.proofs.Filled.{all_left}
+use Rattle.gs_slots.proofs.States.{idle_read}
+
+-- the numbers of the bytes tell
+pub busy_by_test : (xs : List ℕ) → IsBytes xs → length xs ≡ 32 → not (is_idle xs) ≡ is_busy xs
+unfolding is_busy
+busy_by_test xs fits size =
+    ap not (same_tests (is_idle xs) (pointwise nat_eq xs idle_bytes) (λ e. (bytes_decides xs idle_bytes).1 (sym (idle_sound xs fits size e))) (λ e. ap is_idle ((bytes_decides xs idle_bytes).0 e)))
+
+-- a slot that is not busy is idle
+pub quiet_bytes : (xs : List ℕ) → is_busy xs ≡ false → xs ≡ idle_bytes
+unfolding is_busy
+quiet_bytes xs e = (bytes_decides xs idle_bytes).0 (flip (pointwise nat_eq xs idle_bytes) e)
+  where
+    flip : (b : Bool) → not b ≡ false → b ≡ true
+    flip true e = refl
+    flip false e = absurd cc
+
+pub quiet_read : (k : ℕ) (xs : List ℕ) → is_busy xs ≡ false → state_in k xs ≡ Ok Idle
+quiet_read k xs e = ap (state_in k) (quiet_bytes xs e) ∙ idle_read k
+
+idle_quiet : is_busy idle_bytes ≡ false
+unfolding is_busy
+idle_quiet = refl
+
+-- a slot that is read as idle is not busy
+pub read_quiet : (k : ℕ) (xs : List ℕ) → state_in k xs ≡ Ok Idle → is_busy xs ≡ false
+read_quiet k xs e = ap is_busy (read_spelt k xs Idle e).0 ∙ idle_quiet
+
+-- slots of a new region are not busy
+pub none_busy : (n c : ℕ) → is_busy_at (replicate n idle_bytes) c ≡ false
+none_busy zero zero = refl
+none_busy zero (suc c) = refl
+none_busy (suc n) zero = idle_quiet
+none_busy (suc n) (suc c) = none_busy n c
+
+set_other : (xs : List (List ℕ)) (k c : ℕ) (x : List ℕ) → c ≢ k → slice_get (slice_set xs k x) c ≡ slice_get xs c
+set_other [] k c x other = refl
+set_other (y ∷ ys) zero zero x other = absurd (other refl)
+set_other (y ∷ ys) zero (suc c) x other = refl
+set_other (y ∷ ys) (suc k) zero x other = refl
+set_other (y ∷ ys) (suc k) (suc c) x other = set_other ys k c x (λ e. other (ap suc e))
+
+-- of the mask of all ones, each CPU is in it
+pub all_ones : (c : ℕ) → c < 64 → has (bit_not w64 0) c ≡ true
+all_ones c lt = ap (λ (k : ℕ). k == 1) (shr_and_one (bit_not w64 0) c) ∙ ap (λ (k : ℕ). k == 1) (bit_at_not w64 0 c (omega arith) lt ∙ flipped (bit_at 0 c) (bit_at-lt 0 c) none)
+  where
+    none : (bit_at 0 c == 1) ≡ false
+    none = ap (λ (k : ℕ). k == 1) (sym (shr_and_one 0 c)) ∙ nobody c
+
+    flipped : (x : ℕ) → x < 2 → (x == 1) ≡ false → 1 - x ≡ 1
+    flipped zero lt e = refl
+    flipped (suc zero) lt e = absurd cc
+    flipped (suc (suc x)) lt e = absurd (omega arith)
+
+-- a mask that has all is a region's, whatever is in its slots
+pub all_covered : (xs : List (List ℕ)) → CoversBusy xs (bit_not w64 0)
+all_covered xs c lt e = absurd (not_both (all_ones c lt) e)
+  where
+    not_both : has (bit_not w64 0) c ≡ true → has (bit_not w64 0) c ≡ false → ⊥
+    not_both p q = cc
+
+-- ---- a walk through the CPUs that may be busy
+
+-- below the least number that passes none does
+pub none_before : (test : ℕ → Bool) (n c : ℕ) → least test n ≡ Some c → (k : ℕ) → k < c → test k ≡ false
+unfolding least
+none_before test zero c found k lt = absurd cc
+none_before test (suc n) c found k lt = by_place (none_before test n c) (least test n) refl (test n) refl found
+  where
+    is_below : k < c
+    is_below = lt
+
+    by_place : (least test n ≡ Some c → (k : ℕ) → k < c → test k ≡ false) → (o : Option ℕ) → least test n ≡ o → (b : Bool) → test n ≡ b
+        → found_or o b n ≡ Some c → test k ≡ false
+    by_place more (Some d) is b here e = more (is ∙ e) k is_below
+    by_place more None is true here e = let same : n ≡ c = cc in least_is_all test n is k (omega (arith, same, is_below))
+    by_place more None is false here e = absurd cc
+
+-- how far a walk has to go that has come to the least CPU of these
+abbrev pub ahead : ℕ → ℕ
+ahead left = 64 - unwrap_or (least (has left) 64) 64
+
+-- the walk goes up, from the least CPU that is left to the next
+pub goes_up : (left left' k : ℕ) → least (has left) 64 ≡ Some k → k < 64 → has left' k ≡ false → ((c : ℕ) → c ≢ k → has left' c ≡ has left c) → ahead left' < ahead left
+goes_up left left' k found lt gone rest = subst (λ (o : Option ℕ). ahead left' < 64 - unwrap_or o 64) (sym found) (by_next (least (has left') 64) refl)
+  where
+    found' : least (has left) 64 ≡ Some k
+    found' = found
+
+    below : k < 64
+    below = lt
+
+    gone' : has left' k ≡ false
+    gone' = gone
+
+    rest' : (c : ℕ) → c ≢ k → has left' c ≡ has left c
+    rest' = rest
+
+    never : (c : ℕ) → has left' c ≡ true → has left' c ≡ false → ⊥
+    never c p q = cc
+
+    later : (j : ℕ) → has left' j ≡ true → (j < k + 1) ⊎ (k + 1 ≤ j) → k + 1 ≤ j
+    later j there (inr past) = past
+    later j there (inl early) = by_place (cases_eq j k)
+      where
+        by_place : (j ≡ k) ⊎ (j ≢ k) → k + 1 ≤ j
+        by_place (inl e) = absurd (never j there (ap (has left') e ∙ gone'))
+        by_place (inr other) = let before : j < k = omega arith in absurd (never j there (rest' j other ∙ none_before (has left) 64 k found' j before))
+
+    by_next : (o : Option ℕ) → least (has left') 64 ≡ o → 64 - unwrap_or o 64 < 64 - k
+    by_next None e = omega (arith, below)
+    by_next (Some j) e = let past : k + 1 ≤ j = later j (least_passes (has left') 64 j e) (cases_lt j (k + 1)) in omega (arith, below, past)
+
+-- those of the CPUs that the walk passed that are found are the busy ones; those that are left are all there
+pub record IsFound (slots : List (List ℕ)) (busy left : ℕ) : Type 0 where
+  pub right : (c : ℕ) → c < 64 → has left c ≡ false → has busy c ≡ is_busy_at slots c
+  pub kept : (c : ℕ) → has left c ≡ true → has busy c ≡ true
+
+pub found_first : (slots : List (List ℕ)) (lent : ℕ) → CoversBusy slots lent → IsFound slots lent lent
+found_first slots lent covers = record { right = λ c lt free. free ∙ sym (covers c lt free); kept = λ c there. there }
+
+-- one CPU more was looked at
+pub found_more : (slots : List (List ℕ)) (busy busy' left left' k : ℕ) → IsFound slots busy left
+    → has busy' k ≡ is_busy_at slots k → ((c : ℕ) → c ≢ k → has busy' c ≡ has busy c) → has left' k ≡ false → ((c : ℕ) → c ≢ k → has left' c ≡ has left c) → IsFound slots busy' left'
+found_more slots busy busy' left left' k i here others gone rest = record { right = right'; kept = kept' }
+  where
+    others' : (c : ℕ) → c ≢ k → has busy' c ≡ has busy c
+    others' = others
+
+    rest' : (c : ℕ) → c ≢ k → has left' c ≡ has left c
+    rest' = rest
+
+    right' : (c : ℕ) → c < 64 → has left' c ≡ false → has busy' c ≡ is_busy_at slots c
+    right' c below passed = at (cases_eq c k)
+      where
+        at : (c ≡ k) ⊎ (c ≢ k) → has busy' c ≡ is_busy_at slots c
+        at (inl e) = ap (has busy') e ∙ (here ∙ ap (is_busy_at slots) (sym e))
+        at (inr other) = others' c other ∙ i.right c below (sym (rest' c other) ∙ passed)
+
+    never : (c : ℕ) → has left' c ≡ true → has left' c ≡ false → ⊥
+    never c p q = cc
+
+    kept' : (c : ℕ) → has left' c ≡ true → has busy' c ≡ true
+    kept' c there = at (cases_eq c k)
+      where
+        at : (c ≡ k) ⊎ (c ≢ k) → has busy' c ≡ true
+        at (inl e) = absurd (never c there (ap (has left') e ∙ gone))
+        at (inr other) = others' c other ∙ i.kept c (sym (rest' c other) ∙ there)
+
+-- the mask of no CPU has none
+pub none_left : (left : ℕ) → (left == 0) ≡ true → (c : ℕ) → has left c ≡ false
+none_left left e c = ap (λ (m : ℕ). has m c) (eqb-true left 0 e) ∙ nobody c
+
+-- slots that were all made idle
+pub all_cleared : (xs ys : List (List ℕ)) (n : ℕ) → length xs ≡ n → ys ≡ replicate n idle_bytes → take n (ys ++ drop (length ys) xs) ≡ replicate n idle_bytes
+all_cleared xs ys n size e =
+    let same : length ys ≡ length xs = ap length e ∙ (length-replicate n idle_bytes ∙ sym size) in
+    ap (λ (m : ℕ). take m (ys ++ drop (length ys) xs)) (sym size) ∙ (all_left xs ys same ∙ e)
