@@ -1,4 +1,4 @@
-ghost use Rattle.std.specs.Prelude.{◌≡◌, ◌↔◌, ◌⊎◌, ◌+◌, ◌^◌, ◌<◌, ◌≤◌, ◌==◌, [], ◌∷◌, ◌++◌, length, take, OnOk, OnErr, IfErr, IsErrOf, IsOk};
+ghost use Rattle.std.specs.Prelude.{◌≡◌, ◌↔◌, ◌⊎◌, ◌+◌, ◌^◌, ◌<◌, ◌≤◌, ◌==◌, [], ◌∷◌, ◌++◌, length, take, vec_len, vec_capacity, OnOk, OnErr, IfErr, IsErrOf, IsOk};
 ghost use Rattle.gs_journal.specs.History.{active, at, on, record_in, seq, taken, torn};
 
 use crate::entry::Entry;
@@ -6,7 +6,6 @@ use crate::query;
 use gs_layout::{Record, Refusal};
 use std::alloc::Global;
 use std::marker::Model;
-use std::slice;
 
 /// All that ever happened in an enclave, the oldest first.
 ///
@@ -82,10 +81,7 @@ impl Journal {
         ensures first_tseq { self.new.first_tseq ≡ self.old.first_tseq }
         ensures room { self.old.room ≤ self.new.room + 1 }
     {
-        // There is room, so it does not allocate and cannot fail.
-        self.entries
-            .extend_from_slice(slice::from_ref(&entry))
-            .unwrap();
+        push_copy(&mut self.entries, &entry);
     }
 
     /// Lends all entries, the oldest first.
@@ -187,4 +183,15 @@ impl Journal {
     {
         query::was_torn(self.first(n))
     }
+}
+
+/// Appends a copy of an item, for which there is room.
+#[inline(always)]
+fn push_copy<T: Copy>(items: &mut Vec<T>, item: &T)
+    requires { vec_len items.old < vec_capacity items.old }
+    ensures items { items.new.items ≡ items.old.items ++ item.now ∷ [] }
+    ensures len { vec_len items.new ≡ vec_len items.old + 1 }
+    ensures capacity { vec_capacity items.new ≡ vec_capacity items.old }
+{
+    items.push_reserved(*item);
 }

@@ -1,6 +1,6 @@
 -- What is written is UTF-8.
-use Rattle.std.proofs.Common.{◌≡◌, ℕ, ◌<◌, ◌^◌, ◌-◌, List, ◌++◌, Bool, true, false, if◌then◌else◌, decimal, drop, take, length, ap, sym, subst, ◌∙◌}
-use Rattle.std.specs.Str.{IsUtf8, is_utf8}
+use Rattle.std.proofs.Common.{◌≡◌, ℕ, zero, suc, arith, [], ◌∷◌, ◌<◌, ◌^◌, ◌-◌, List, ◌++◌, Bool, true, false, if◌then◌else◌, decimal, drop, take, length, ap, sym, subst, ◌∙◌}
+use Rattle.std.specs.Str.{IsAscii, IsUtf8, is_utf8}
 use Rattle.std.proofs.lemmas.Fmt.{IsAscii-decimal}
 use Rattle.std.proofs.lemmas.List.{take_rest}
 use Rattle.std.proofs.lemmas.Str.{IsUtf8-append, IsUtf8-from_ascii, IsUtf8-from_is_utf8, is_utf8-from_IsUtf8}
@@ -17,3 +17,10 @@ number_utf8 n h = IsUtf8-from_ascii (decimal n) (IsAscii-decimal n h)
 
 pub rest_utf8 : (array : List ℕ) (size at : ℕ) → length array ≡ size → IsUtf8 (drop at array) → IsUtf8 (take (size - at) (drop at array))
 rest_utf8 array size at e h = subst (λ (n : ℕ). IsUtf8 (take (n - at) (drop at array))) e (subst IsUtf8 (sym (take_rest array at)) h)
+
+byte_ascii : (b : ℕ) → b < 128 → IsAscii (b ∷ [])
+byte_ascii b h zero = h
+byte_ascii b h (suc i) = omega arith
+
+pub byte_utf8 : (b : ℕ) → b < 128 → IsUtf8 (b ∷ [])
+byte_utf8 b h = IsUtf8-from_ascii (b ∷ []) (byte_ascii b h)

@@ -77,7 +77,7 @@ fn write_landing(out: &mut Text, landing: &Landing) -> Result<(), AllocError>
     ensures { OnOk result (out.new ≡ out.old ++ line (landing_text landing.now)) }
 {
     out.push_number("cpu ", landing.cpu as u64)?;
-    out.push_str(" ")?;
+    out.push_space()?;
     write_landed(out, landing)
 }
 
@@ -96,7 +96,7 @@ fn write_late(out: &mut Text, number: u32, landing: &Landing) -> Result<(), Allo
     ensures { OnOk result (out.new ≡ out.old ++ line (late_text number landing.now)) }
 {
     out.push_number("late ", number as u64)?;
-    out.push_str(" ")?;
+    out.push_space()?;
     write_landed(out, landing)
 }
 

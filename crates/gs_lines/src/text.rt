@@ -1,4 +1,4 @@
-ghost use Rattle.std.specs.Prelude.{◌≡◌, ◌≤◌, ◌++◌, ◌∷◌, [], codes, decimal, length, OnOk};
+ghost use Rattle.std.specs.Prelude.{◌≡◌, ◌<◌, ◌≤◌, ◌++◌, ◌∷◌, [], codes, decimal, length, OnOk};
 ghost use Rattle.std.specs.Str.{IsUtf8};
 
 use crate::backwards::{put, put_number};
@@ -71,6 +71,18 @@ impl Text {
         self.bytes.extend_from_slice(bytes)
     }
 
+    /// Adds a character of ASCII.
+    #[inline(always)]
+    fn push_byte(&mut self, byte: u8) -> Result<(), AllocError>
+        requires { byte < 128 }
+        ensures { OnOk result (self.new ≡ self.old ++ byte ∷ []) }
+    {
+        match self.bytes.push(byte) {
+            Ok(()) => Ok(()),
+            Err(_) => Err(AllocError),
+        }
+    }
+
     /// Adds words.
     pub fn push_str(&mut self, words: &str) -> Result<(), AllocError>
         ensures { OnOk result (self.new ≡ self.old ++ words.now) }
@@ -78,11 +90,20 @@ impl Text {
         self.append(words.as_bytes())
     }
 
+    /// Adds a space.
+    #[inline(always)]
+    pub(crate) fn push_space(&mut self) -> Result<(), AllocError>
+        ensures { OnOk result (self.new ≡ self.old ++ 32 ∷ []) }
+    {
+        self.push_byte(b' ')
+    }
+
     /// Ends a line.
+    #[inline(always)]
     pub fn end_line(&mut self) -> Result<(), AllocError>
         ensures { OnOk result (self.new ≡ self.old ++ 10 ∷ []) }
     {
-        self.push_str("\n")
+        self.push_byte(b'\n')
     }
 
     /// Adds a word of at most [`MOST_WORD_LEN`] bytes and a number behind it.

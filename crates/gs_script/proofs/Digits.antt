@@ -2,6 +2,7 @@
 use Rattle.std.proofs.Common.{◌≡◌, refl, ap, sym, subst, ℕ, zero, suc, ◌+◌, ◌<◌, ◌≤◌, length, true, false, List, [], ◌∷◌, take, get_or, arith, nat_le, nat_eq, ◌&&◌, Ok}
 use Rattle.std.proofs.lemmas.Bool.{and_parts, and_from}
 use Rattle.std.proofs.Math.Bool.{or-true}
+use Rattle.std.proofs.lemmas.Str.Parse.{IsNumeralModel, numerals_by_value, tells_all_ascii_digits, digits_value_short}
 use Rattle.std.proofs.lemmas.Bool.Decides.{nat_tests}
 use Rattle.std.proofs.lemmas.List.{length-take-le}
 use Rattle.std.proofs.lemmas.Str.{digit_value_digit}
@@ -15,6 +16,13 @@ use Rattle.gs_script.specs.Grammar.{is_of_kind, Number}
 use Rattle.gs_script.specs.Rows.{number_between}
 use Rattle.gs_script.specs.Plain.{StartsWith}
 use Rattle.gs_script.proofs.Taken.{went}
+
+own : IsNumeralModel (λ ds. all_ascii_digits ds ≡ true) (digits_value 10)
+own = numerals_by_value _ tells_all_ascii_digits
+
+-- 18 digits write less than this
+pub short : (ds : List ℕ) (i : ℕ) → i ≤ length ds → i ≤ 18 → all_ascii_digits (take i ds) ≡ true → digits_value 10 (take i ds) < 1000000000000000000
+short ds i within few all = digits_value_short own (take i ds) 18 all (omega (arith, length-take-le i ds within))
 
 pub all_more : (ds : List ℕ) (i : ℕ) → i < length ds → all_ascii_digits (take i ds) ≡ true → is_ascii_digit (get_or ds i 0) ≡ true → all_ascii_digits (take (i + 1) ds) ≡ true
 all_more [] i lt h d = absurd (omega arith)

@@ -1,7 +1,9 @@
 //! Reading what stands first in a text. Each call returns what was read and what is left behind it, and
 //! `None` says nothing of the text.
 
-ghost use Rattle.std.specs.Prelude.{◌≡◌, ◌≤◌, ◌++◌, ◌∷◌, [], codes, IfSome, Ok, true, if◌then◌else◌};
+ghost use Rattle.std.specs.Prelude.{◌≡◌, ◌≤◌, ◌++◌, ◌∷◌, [], codes, length, take, IfSome, Ok, true, if◌then◌else◌};
+ghost use Rattle.std.specs.Str.{all_ascii_digits};
+ghost use Rattle.std.specs.Str.Parse.{digits_value};
 ghost use Rattle.gs_script.specs.Words.{is_word, lines_of};
 ghost use Rattle.gs_script.specs.Rows.{number_between};
 ghost use Rattle.gs_script.specs.Plain.{FirstLine, StartsWith, lines_left};
@@ -41,14 +43,33 @@ pub(crate) fn line_end(text: &[u8]) -> Option<Option<&[u8]>>
     }
 }
 
+/// Any number of so many digits has 64 bits.
+const SURE_DIGITS: usize = 19;
+
+/// Returns the number that the first digits of a text write, of at most [`SURE_DIGITS`], and how many these are.
+#[inline(always)]
+fn sure_digits(text: &[u8]) -> (u64, usize)
+    ensures within { result.1 ≤ length text.now }
+    ensures digits { all_ascii_digits (take result.1 text.now) ≡ true }
+    ensures value { result.0 ≡ digits_value 10 (take result.1 text.now) }
+{
+    let most = text.len().min(SURE_DIGITS);
+    let mut value: u64 = 0;
+    let mut count = 0;
+    while count < most && text[count].is_ascii_digit() {
+        value = value * 10 + (text[count] - b'0') as u64;
+        count += 1;
+    }
+    (value, count)
+}
+
 /// Returns the number of 64 bits that a text begins with, and what stands behind its digits. It returns `None` if the
 /// text begins with no digit or a needless zero, or the number has more bits.
 #[inline(always)]
 fn digits_first(text: &[u8]) -> Option<(u64, &[u8])>
     ensures { IfSome result (λ p. StartsWith (λ digits. number_between 0 u64.MAX digits ≡ Ok p.0) text.now p.1.now) }
 {
-    let mut value: u64 = 0;
-    let mut count = 0;
+    let (mut value, mut count) = sure_digits(text);
     while count < text.len() && text[count].is_ascii_digit() {
         let digit = (text[count] - b'0') as u64;
         value = value.checked_mul(10)?.checked_add(digit)?;

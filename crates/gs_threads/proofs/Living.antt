@@ -72,11 +72,16 @@ changed words words' rows t row kept pos le here others room =
         ∙ (ap row_lives (sym (row_there (set rows (t - 1) row) t row positive (omega (arith, within, length-set rows (t - 1) row))))
         ∙ ap (λ v. row_lives (row_of (set rows (t - 1) row) v)) (sym e))))
 
+-- the set stays if the thread of a row that was changed lives on, or is dead still
+pub unchanged : (words : List ℕ) (rows : List ThreadRow) (t : ℕ) (row d : ThreadRow) → IsOfRows words rows → 0 < t → t ≤ length rows
+    → is_live row.record ≡ is_live (get_or rows (t - 1) d).record → IsOfRows words (set rows (t - 1) row)
+unchanged words rows t row d kept pos le same =
+    changed words words rows t row kept pos le (kept.live t ∙ (lives_at rows t d pos le ∙ sym same)) (λ u other. refl) refl
+
 -- a thread that was placed lives on
 pub placed : (words : List ℕ) (rows : List ThreadRow) (t : ℕ) (row d : ThreadRow) → IsOfRows words rows → 0 < t → t ≤ length rows
     → row.record ≡ (get_or rows (t - 1) d).record → IsOfRows words (set rows (t - 1) row)
-placed words rows t row d kept pos le same =
-    changed words words rows t row kept pos le (kept.live t ∙ (lives_at rows t d pos le ∙ ap is_live (sym same))) (λ u other. refl) refl
+placed words rows t row d kept pos le same = unchanged words rows t row d kept pos le (ap is_live same)
 
 row_before : (rows : List ThreadRow) (row : ThreadRow) (n : ℕ) → n ≢ length rows → slice_get (rows ++ row ∷ []) n ≡ slice_get rows n
 row_before [] row zero other = absurd (other refl)

@@ -126,8 +126,12 @@ impl ThreadTable {
         };
         if self.has(*tid) {
             let row = &mut self.rows[*tid as usize - 1];
+            let was_live = row.is_live();
             row.take_in(message);
-            self.live.set(*tid as usize, row.is_live());
+            let is_live = row.is_live();
+            if is_live != was_live {
+                self.live.set(*tid as usize, is_live);
+            }
         }
     }
 
