@@ -1,4 +1,4 @@
-ghost use Rattle.std.specs.Prelude.{◌≡◌, ◌<◌, ◌≤◌, ◌++◌, ◌∷◌, [], codes, decimal, length, OnOk};
+ghost use Rattle.std.specs.Prelude.{◌≡◌, ◌+◌, ◌<◌, ◌≤◌, ◌++◌, ◌∷◌, [], codes, decimal, length, OnOk};
 ghost use Rattle.std.specs.Str.{IsUtf8};
 
 use crate::backwards::{put, put_number};
@@ -64,7 +64,7 @@ impl Text {
 
     /// Adds bytes.
     #[inline(always)]
-    fn append(&mut self, bytes: &[u8]) -> Result<(), AllocError>
+    pub(crate) fn append(&mut self, bytes: &[u8]) -> Result<(), AllocError>
         requires { IsUtf8 bytes.now }
         ensures { OnOk result (self.new ≡ self.old ++ bytes.now) }
     {
@@ -112,8 +112,23 @@ impl Text {
         requires { length word.now ≤ MOST_WORD_LEN }
         ensures { OnOk result (self.new ≡ self.old ++ word.now ++ decimal number) }
     {
+        self.push_between(word, number, "")
+    }
+
+    /// Adds a number between two words, which have at most [`MOST_WORD_LEN`] bytes together.
+    #[inline(always)]
+    pub(crate) fn push_between(
+        &mut self,
+        word: &str,
+        number: u64,
+        behind: &str,
+    ) -> Result<(), AllocError>
+        requires { length word.now + length behind.now ≤ MOST_WORD_LEN }
+        ensures { OnOk result (self.new ≡ self.old ++ word.now ++ decimal number ++ behind.now) }
+    {
         let mut array = [0; SIZE];
-        let at = put_number(&mut array, SIZE, number);
+        let at = put(&mut array, SIZE, behind);
+        let at = put_number(&mut array, at, number);
         let at = put(&mut array, at, word);
         self.append(&array[at..])
     }

@@ -7,19 +7,22 @@ use gs_kernel::LiveThread;
 use gs_layout::{Class, Facts, Known, Name};
 use std::alloc::AllocError;
 
-/// Whether a thread may run.
-fn runnable_name(runnable: bool) -> &'static str
-    ensures { result.now ≡ runnable_text runnable }
+/// Whether a thread may run, and the word before its mask.
+fn runnable_word(runnable: bool) -> &'static str
+    ensures word { result.now ≡ runnable_text runnable ++ codes " mask " }
+    ensures short { length result.now ≤ 7 }
 {
-    if runnable { "r" } else { "b" }
+    if runnable { "r mask " } else { "b mask " }
 }
 
-fn class_name(class: Class) -> &'static str
-    ensures { result.now ≡ class_text class }
+/// A class, between the words before it and behind it.
+fn class_words(class: Class) -> &'static str
+    ensures words { result.now ≡ codes " class " ++ class_text class ++ codes " name " }
+    ensures short { length result.now ≤ 14 }
 {
     match class {
-        Class::Zero => "0",
-        Class::One => "1",
+        Class::Zero => " class 0 name ",
+        Class::One => " class 1 name ",
     }
 }
 
@@ -32,15 +35,15 @@ pub fn name_str(name: &Name) -> &str
 }
 
 /// Adds a name, or `-` for the empty one.
-#[tactic(auto, using(crate::proofs::Names::name_text_some))]
+#[tactic(auto, using(crate::proofs::Names::name_text_some, crate::proofs::Names::name_is_utf8))]
 fn write_name(out: &mut Text, name: &Name) -> Result<(), AllocError>
     ensures { OnOk result (out.new ≡ out.old ++ name_text name.now) }
 {
-    let text = name_str(name);
-    if text.is_empty() {
+    let bytes = name.as_bytes();
+    if bytes.is_empty() {
         return out.push_str("-");
     }
-    out.push_str(text)
+    out.append(bytes)
 }
 
 /// Adds a thread's facts: whether it may run, its mask, its class and its name. It fails only if out of
@@ -48,11 +51,11 @@ fn write_name(out: &mut Text, name: &Name) -> Result<(), AllocError>
 pub fn write_facts(out: &mut Text, facts: &Facts) -> Result<(), AllocError>
     ensures { OnOk result (out.new ≡ out.old ++ facts_text facts.now) }
 {
-    out.push_str(runnable_name(facts.runnable))?;
-    out.push_number(" mask ", facts.mask.bits())?;
-    out.push_str(" class ")?;
-    out.push_str(class_name(facts.class))?;
-    out.push_str(" name ")?;
+    out.push_between(
+        runnable_word(facts.runnable),
+        facts.mask.bits(),
+        class_words(facts.class),
+    )?;
     write_name(out, &facts.name)
 }
 
@@ -62,7 +65,7 @@ fn write_known(out: &mut Text, word: &str, tid: u32, known: &Known) -> Result<()
     ensures { OnOk result (out.new ≡ out.old ++ word.now ++ codes " " ++ known_text tid known.now) }
 {
     out.push_thread(word, tid, known.tseq)?;
-    out.push_str(" ")?;
+    out.push_space()?;
     write_facts(out, &known.facts)
 }
 
