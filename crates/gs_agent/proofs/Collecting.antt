@@ -1,5 +1,5 @@
 -- Slots are collected one after another.
-use Rattle.std.proofs.Common.{◌≡◌, ◌≢◌, refl, ap, sym, subst, ◌∙◌, ℕ, zero, suc, ◌+◌, ◌-◌, ◌<◌, ◌≤◌, ◌⊎◌, inl, inr, min, length, length-append, append-nil, true, false, Option, None, Some, Ok, Err, List, [], ◌∷◌, ◌++◌, map, take, drop, get_or, slice_get, slice_set, arith}
+use Rattle.std.proofs.Common.{◌≡◌, ◌≢◌, refl, ap, sym, subst, ◌∙◌, ℕ, zero, suc, ◌+◌, ◌-◌, ◌<◌, ◌≤◌, ◌⊎◌, inl, inr, min, length, length-append, append-nil, true, false, Option, None, Some, Ok, Err, List, [], ◌∷◌, ◌++◌, take, drop, get_or, slice_get, slice_set, arith}
 use Rattle.std.specs.Prelude.{◌==◌}
 use Rattle.std.proofs.lemmas.Bool.{cases_eq, cases_lt}
 use Rattle.std.proofs.lemmas.Option.{slice_get-get_or, slice_get_within}

@@ -1,5 +1,5 @@
 -- Why a stamp is refused, if an agent is active and the CPU is the enclave's.
-use Rattle.std.proofs.Common.{◌≡◌, refl, Bool, true, false, ℕ, Option, None, Some, Ok, List, [], ◌∷◌, length, slice_get, get_or, ap, sym, subst, ◌∙◌}
+use Rattle.std.proofs.Common.{◌≡◌, refl, Bool, true, false, ℕ, Option, None, Some, Ok, [], ◌∷◌, length, slice_get, ap, sym, subst, ◌∙◌}
 use Rattle.std.specs.Prelude.{nat_le, not, is_some, unwrap_or}
 use Rattle.gs_layout.specs.declared.known.Known.{Known}
 use Rattle.gs_layout.specs.declared.refusal.Refusal.{Refusal}

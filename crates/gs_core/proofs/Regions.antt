@@ -18,7 +18,7 @@ use Rattle.gs_journal.specs.History.{History}
 use Rattle.gs_kernel.specs.declared.settings.Settings.{Settings}
 use Rattle.gs_kernel.specs.declared.landing.Landing.{Landing}
 use Rattle.gs_kernel.specs.Legal.{Room}
-use Rattle.gs_kernel.specs.Lands.{Adds, Landings, LandingsOf, LandsAll, LandsAllBy, LandsBytes, LandsHeld, LandsIf, LandsIfBy, LandsIn, LandsRegion, then_others}
+use Rattle.gs_kernel.specs.Lands.{Adds, Landings, LandingsOf, LandsAll, LandsBytes, LandsHeld, LandsIf, LandsIfBy, LandsIn, LandsRegion, then_others}
 
 -- each slot of a region has a state, in increasing order of CPU
 abbrev pub AreRead : List (List ℕ) → List SlotState → Type 0

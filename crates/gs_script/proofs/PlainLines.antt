@@ -1,8 +1,8 @@
 -- Lines in their plainest form, and the events that they say.
-use Rattle.std.proofs.Common.{◌≡◌, refl, ap, sym, ◌∙◌, subst, ℕ, true, false, List, [], ◌∷◌, ◌++◌, append-nil, Bor, IfSome, Bool, cond, codes, Option, Some, None, Result, Ok, ◌==◌, get_or, ◌&&◌, nat_le, length, bytes_eq}
+use Rattle.std.proofs.Common.{◌≡◌, refl, ap, sym, ◌∙◌, subst, ℕ, true, false, List, [], ◌∷◌, ◌++◌, Bor, IfSome, Bool, cond, codes, Option, Some, None, Result, Ok, nat_le, length}
 use Rattle.std.specs.List.{list_all, onto_first}
-use Rattle.std.proofs.lemmas.Bool.{and_parts, and_from}
-use Rattle.gs_layout.specs.Name.{is_name, is_name_byte}
+use Rattle.std.proofs.lemmas.Bool.{and_parts}
+use Rattle.gs_layout.specs.Name.{is_name_byte}
 use Rattle.gs_layout.specs.declared.facts.Class.{Class}
 use Rattle.gs_layout.specs.declared.name.Name.{Name as TheName}
 use Rattle.gs_kernel.specs.declared.command.Command.TheVariants as commands
@@ -11,9 +11,9 @@ use Rattle.gs_policy.specs.declared.any.AnyPolicy.{AnyPolicy}
 use Rattle.gs_core.specs.declared.event.Event.{Event}
 use Rattle.gs_core.specs.declared.event.Event.TheVariants as events
 use Rattle.gs_script.specs.declared.fault.Reason.{Reason}
-use Rattle.gs_script.specs.declared.fault.Reason.TheVariants.{BadWord, BadNumber, BadName}
-use Rattle.gs_script.specs.Words.{is_text, is_word, lines_of, words_of, number}
-use Rattle.gs_script.specs.Grammar.{Kind, Number, Name, OneOf, is_of_kind, line_fault, or_fault}
+use Rattle.gs_script.specs.declared.fault.Reason.TheVariants.{BadNumber, BadName}
+use Rattle.gs_script.specs.Words.{is_word, lines_of, words_of, number}
+use Rattle.gs_script.specs.Grammar.{Number, Name, is_of_kind, line_fault, or_fault}
 use Rattle.gs_script.specs.Rows as rows
 use Rattle.gs_script.specs.Rows.{event_of, reads, number_between, class_in, class_of, runnable_in, name_in, name_of, at, is}
 use Rattle.gs_script.specs.Plain.{FirstLine, IsRead, StartsWith, lines_left}

@@ -1,5 +1,5 @@
 -- Words that name a policy: in a header, and when an agent begins.
-use Rattle.std.proofs.Common.{◌≡◌, ℕ, ◌≤◌, List, [], ◌∷◌, refl, ap, ◌∙◌, sym, Ok, Err, codes, length, arith, suc, false, Bor}
+use Rattle.std.proofs.Common.{◌≡◌, ℕ, ◌≤◌, List, [], ◌∷◌, refl, ap, ◌∙◌, Ok, Err, codes, length, arith, suc, false, Bor}
 use Rattle.std.proofs.lemmas.Bool.Decides.{nat_tests}
 use Rattle.gs_policy.specs.declared.any.AnyPolicy.{AnyPolicy}
 use Rattle.gs_kernel.specs.declared.command.Command.TheVariants as commands

@@ -1,6 +1,6 @@
 -- What stands first in a text.
 use denote.Ref.{Bor}
-use Rattle.std.specs.Prelude.{ℕ, ◌≡◌, List, [], ◌∷◌, ◌++◌, Bool, true, Option, None, Some, Result, Ok}
+use Rattle.std.specs.Prelude.{ℕ, ◌≡◌, List, [], ◌∷◌, ◌++◌, true, Option, None, Some, Result, Ok}
 use Rattle.gs_script.specs.declared.fault.Reason.{Reason}
 use Rattle.gs_script.specs.Words.{is_text, lines_of, words_of}
 

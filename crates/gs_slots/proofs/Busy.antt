@@ -1,5 +1,5 @@
 -- Slots that are other than idle.
-use Rattle.std.proofs.Common.{◌≡◌, ◌≢◌, Bool, true, false, not, ℕ, zero, suc, ◌+◌, ◌-◌, ◌^◌, ◌<◌, ◌≤◌, ◌⊎◌, inl, inr, Option, None, Some, Ok, List, [], ◌∷◌, ◌++◌, length, replicate, take, drop, slice_get, slice_set, refl, ap, sym, subst, ◌∙◌, arith, w64}
+use Rattle.std.proofs.Common.{◌≡◌, ◌≢◌, Bool, true, false, not, ℕ, zero, suc, ◌+◌, ◌-◌, ◌<◌, ◌≤◌, ◌⊎◌, inl, inr, Option, None, Some, Ok, List, [], ◌∷◌, ◌++◌, length, replicate, take, drop, slice_get, slice_set, refl, ap, sym, subst, ◌∙◌, arith, w64}
 use Rattle.std.specs.Prelude.{◌==◌, nat_eq, unwrap_or}
 use Rattle.std.specs.Cmp.Lexicographic.{bytes_decides, pointwise}
 use Rattle.std.specs.Int.{bit_at, bit_not}
@@ -9,7 +9,7 @@ use Rattle.std.proofs.lemmas.Nat.Bits.{bit_at-lt, bit_at_not, shr_and_one}
 use Rattle.gs_layout.proofs.Laws.{IsBytes}
 use Rattle.gs_status.proofs.Laws.{least_is_all, least_passes, nobody}
 use Rattle.gs_status.specs.Masks.{found_or, has, least}
-use Rattle.gs_slots.specs.Busy.{CoversBusy, IsRegion, is_busy, is_busy_at, is_busy_if_any}
+use Rattle.gs_slots.specs.Busy.{CoversBusy, is_busy, is_busy_at}
 use Rattle.gs_slots.specs.declared.state.SlotState.TheVariants.{Idle}
 use Rattle.gs_slots.specs.Reading.{state_in}
 use Rattle.gs_slots.specs.Spelling.{idle_bytes}

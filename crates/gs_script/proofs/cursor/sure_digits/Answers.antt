@@ -1,4 +1,4 @@
-use Rattle.std.proofs.Common.{rules, arith, ◌≡◌, ◌<◌, length, take, slice_index_or}
+use Rattle.std.proofs.Common.{rules, arith, ◌<◌, length, slice_index_or}
 use Rattle.std.proofs.lemmas.Int.Digits.{digits_value_more}
 use Rattle.gs_script.proofs.Digits.{all_more, short, worth}
 use Rattle.gs_script.proofs.cursor.sure_digits.Goals as goal

@@ -1,4 +1,4 @@
-use Rattle.std.proofs.Common.{◌∙◌, ap, arith, sym, subst, length, ◌≡◌, ◌+◌}
+use Rattle.std.proofs.Common.{arith, subst, length, ◌≡◌, ◌+◌}
 use Rattle.gs_script.specs.Plain.{lines_left}
 use Rattle.gs_script.specs.Script.{events_of}
 use Rattle.gs_script.specs.Words.{lines_of}

@@ -1,4 +1,4 @@
-use Rattle.std.proofs.Common.{ap, sym, not, ◌∙◌, arith}
+use Rattle.std.proofs.Common.{ap, not, ◌∙◌, arith}
 use Rattle.gs_slots.proofs.Busy.{busy_by_test}
 use Rattle.gs_slots.proofs.bytes.is_busy.Goals as goal
 

@@ -1,4 +1,4 @@
-use Rattle.std.proofs.Common.{◌≡◌, ◌<◌, ℕ, Ok, IfOk, map, slice_set, ap, subst, ◌∙◌, arith}
+use Rattle.std.proofs.Common.{◌≡◌, ℕ, Ok, IfOk, map, slice_set, ap, subst, ◌∙◌, arith}
 use Rattle.gs_layout.specs.declared.known.Known.{Known}
 use Rattle.gs_layout.specs.View.{look_up}
 use Rattle.gs_slots.specs.declared.state.SlotState.TheVariants.{Stamped}
