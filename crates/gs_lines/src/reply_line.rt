@@ -76,8 +76,7 @@ fn write_landed(out: &mut Text, landing: &Landing) -> Result<(), AllocError>
 fn write_landing(out: &mut Text, landing: &Landing) -> Result<(), AllocError>
     ensures { OnOk result (out.new ≡ out.old ++ line (landing_text landing.now)) }
 {
-    out.push_number("cpu ", landing.cpu as u64)?;
-    out.push_space()?;
+    out.push_between("cpu ", landing.cpu as u64, " ")?;
     write_landed(out, landing)
 }
 
@@ -95,8 +94,7 @@ fn write_landings(out: &mut Text, landings: &[Landing]) -> Result<(), AllocError
 fn write_late(out: &mut Text, number: u32, landing: &Landing) -> Result<(), AllocError>
     ensures { OnOk result (out.new ≡ out.old ++ line (late_text number landing.now)) }
 {
-    out.push_number("late ", number as u64)?;
-    out.push_space()?;
+    out.push_between("late ", number as u64, " ")?;
     write_landed(out, landing)
 }
 

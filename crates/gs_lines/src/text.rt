@@ -5,7 +5,7 @@ use crate::backwards::{put, put_number};
 use std::alloc::{AllocError, Global};
 use std::marker::Model;
 
-/// The most bytes of a word that stands before a number.
+/// The most bytes of a word that stands before a number, or of the two words around it.
 pub const MOST_WORD_LEN: usize = 32;
 
 /// Room for a word and two numbers.

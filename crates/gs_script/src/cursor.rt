@@ -8,6 +8,9 @@ ghost use Rattle.gs_script.specs.Words.{is_word, lines_of};
 ghost use Rattle.gs_script.specs.Rows.{number_between};
 ghost use Rattle.gs_script.specs.Plain.{FirstLine, StartsWith, lines_left};
 
+/// Any number of so many digits has 64 bits.
+const SURE_DIGITS: usize = 19;
+
 /// The first line of a text, and what stands behind its newline.
 #[inline(always)]
 pub(crate) fn first_line(text: &[u8]) -> (&[u8], Option<&[u8]>)
@@ -43,12 +46,10 @@ pub(crate) fn line_end(text: &[u8]) -> Option<Option<&[u8]>>
     }
 }
 
-/// Any number of so many digits has 64 bits.
-const SURE_DIGITS: usize = 19;
-
-/// Returns the number that the first digits of a text write, of at most [`SURE_DIGITS`], and how many these are.
+/// Reads digits that a text begins with, [`SURE_DIGITS`] at most: the number that they write, and how many were read.
 #[inline(always)]
 fn sure_digits(text: &[u8]) -> (u64, usize)
+    ensures few { result.1 ≤ SURE_DIGITS }
     ensures within { result.1 ≤ length text.now }
     ensures digits { all_ascii_digits (take result.1 text.now) ≡ true }
     ensures value { result.0 ≡ digits_value 10 (take result.1 text.now) }
