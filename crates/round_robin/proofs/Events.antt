@@ -1,8 +1,16 @@
--- Events whose policies are replaced twice.
-use Rattle.std.proofs.Common.{◌≡◌, List, [], ◌∷◌, map, refl}
+-- Events whose policies are replaced twice, and what that says of a script's replies.
+use Rattle.std.proofs.Common.{◌≡◌, ◌∙◌, ap, List, [], ◌∷◌, map, refl}
+use Rattle.gs_policy.specs.declared.any.AnyPolicy.{AnyPolicy}
+use Rattle.gs_core.specs.declared.config.Config.{Config}
 use Rattle.gs_core.specs.declared.event.Event.{Event}
 use Rattle.gs_core.specs.declared.event.Event.TheVariants as events
-use Rattle.gs_core.specs.Machine.{planned}
+use Rattle.gs_core.specs.declared.reply.Reply.{Reply}
+use Rattle.gs_core.specs.Config.{with_policy}
+use Rattle.gs_core.specs.Machine.{StateOf, planned, planning, start}
+use Rattle.gs_script.specs.Script.{Script}
+use Rattle.round_robin.specs.declared.policy.RoundRobin.{RoundRobin}
+use Rattle.round_robin.specs.Output.{Answers, Replies}
+use Rattle.round_robin.specs.RoundRobin.{round_robin}
 
 -- one replacement after another is one by both
 planned_again : {P Q R : Type 0} (g : Q → R) (f : P → Q) (e : Event P) → planned g (planned f e) ≡ planned (λ x. g (f x)) e
@@ -19,6 +27,17 @@ planned_again g f events.View = refl
 planned_again g f events.State = refl
 planned_again g f events.Unread = refl
 
-pub all_planned_again : {P Q R : Type 0} (g : Q → R) (f : P → Q) (es : List (Event P)) → map (planned g) (map (planned f) es) ≡ map (planned (λ x. g (f x))) es
+all_planned_again : {P Q R : Type 0} (g : Q → R) (f : P → Q) (es : List (Event P)) → map (planned g) (map (planned f) es) ≡ map (planned (λ x. g (f x))) es
 all_planned_again g f [] = refl
 all_planned_again g f (e ∷ es) = λ i. planned_again g f e i ∷ all_planned_again g f es i
+
+-- replies to a script's events with this policy in place of each that they name, from the machine of its numbers on, are those to the script
+pub answers_so : (p : RoundRobin) (s : Script) {config : Config RoundRobin} {m : StateOf RoundRobin} {own : List (Event RoundRobin)} (replies : List Reply)
+    → config ≡ with_policy p s.config
+    → m ≡ start config
+    → own ≡ map (planned (λ (_ : AnyPolicy). p)) s.events
+    → Replies (planning round_robin m) (map (planned round_robin) own) replies
+    → Answers p s replies
+answers_so p s replies with_p starts own_so ran =
+    let planned_so = ap (map (planned round_robin)) own_so ∙ all_planned_again round_robin (λ (_ : AnyPolicy). p) s.events in
+    rw (planned_so, starts ∙ ap start with_p) at ran

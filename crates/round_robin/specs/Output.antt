@@ -1,9 +1,10 @@
 -- What is to be written for the bytes of a script.
 use Rattle.std.specs.Prelude.{◌≡◌, ℕ, List, map, false, Result, Err, IsOkAnd}
 use Rattle.std.specs.List.{list_any}
+use Rattle.gs_core.specs.declared.event.Event.{Event}
 use Rattle.gs_core.specs.declared.reply.Reply.{Reply}
 use Rattle.gs_core.specs.Config.{with_policy}
-use Rattle.gs_core.specs.Machine.{State, planned, planning, start}
+use Rattle.gs_core.specs.Machine.{Plan, State, planned, planning, start}
 use Rattle.gs_core.specs.Safe.{Run}
 use Rattle.gs_core.specs.Short.{wants_memory}
 use Rattle.gs_script.specs.declared.fault.ScriptFault.{ScriptFault}
@@ -14,18 +15,26 @@ use Rattle.gs_lines.specs.Lines.{lines}
 use Rattle.round_robin.specs.declared.policy.RoundRobin.{RoundRobin}
 use Rattle.round_robin.specs.RoundRobin.{round_robin}
 
--- these bytes answer the script: they are the lines of the replies of a run of it by this policy, from the machine of its numbers on.
--- Memory sufficed in it, and an agent that begins plans by this policy, whatever the script names
-pub record Answers (p : RoundRobin) (s : Script) (out : List ℕ) : Type 0 where
-  pub replies : List Reply
+-- these are the replies of a run from a machine on, in which memory sufficed
+pub record Replies (m : State) (events : List (Event Plan)) (replies : List Reply) : Type 0 where
   pub left : State
-  pub run : Run (planning round_robin (start (with_policy p s.config))) (map (planned (λ _. round_robin p)) s.events) replies left
+  pub run : Run m events replies left
   pub sufficed : list_any wants_memory replies ≡ false
+
+-- these are the replies to a script by this policy, from the machine of its numbers on: an agent that begins plans by this policy, whatever
+-- the script names
+abbrev pub Answers : RoundRobin → Script → List Reply → Type 0
+Answers p s = Replies (planning round_robin (start (with_policy p s.config))) (map (planned (λ _. round_robin p)) s.events)
+
+-- these bytes are the lines of such replies
+pub record Shows (p : RoundRobin) (s : Script) (out : List ℕ) : Type 0 where
+  pub replies : List Reply
+  pub answer : Answers p s replies
   pub shown : out ≡ lines replies
 
 -- what is to be written for an input, which has to be a script
 abbrev pub IsOutput : RoundRobin → List ℕ → List ℕ → Type 0
-IsOutput p input out = IsOkAnd (script_of input) (λ s. Answers p s out)
+IsOutput p input out = IsOkAnd (script_of input) (λ s. Shows p s out)
 
 -- why there is none, by what was read: the script's first fault, or out of memory
 abbrev pub IsError : Result Script ScriptFault → ScriptError → Type 0
