@@ -35,21 +35,13 @@ pub(crate) struct Enclave {
     mask: Mask,
 }
 
-/// So many CPUs.
-fn first(cpus: u16) -> Mask
-    requires few { LEAST_CPUS ≤ cpus }
-    requires most { cpus ≤ MOST_CPUS }
-{
-    Mask::new(u64::MAX >> (MOST_CPUS - cpus))
-}
-
 /// The CPUs but the first, of so many.
 fn others(cpus: u16) -> Mask
     requires few { LEAST_CPUS ≤ cpus }
     requires most { cpus ≤ MOST_CPUS }
     ensures { has result 0 ≡ false }
 {
-    first(cpus).without(0)
+    Mask::new(u64::MAX >> (MOST_CPUS - cpus)).without(0)
 }
 
 impl Enclave {

@@ -11,6 +11,7 @@ ghost use Rattle.gs_slots.specs.Spelling.{slot_spelling};
 
 use crate::messages::Told::{self, Creation, Thread, Tick};
 use crate::messages::Tried;
+use crate::owned::let_go;
 use crate::plans::{Plan, is_order, is_plan};
 use gs_agent::{Drained, Role, Stop};
 use gs_layout::{Change, Class, Known, Outcome, Refusal};
@@ -19,7 +20,6 @@ use gs_ring::{ByteRing, Poster};
 use gs_slots::{Region, SlotMut, SlotState, Stamp};
 use gs_status::Mask;
 use std::alloc::{AllocError, Global};
-use std::test::Fail;
 
 /// A policy that plans nothing.
 #[derive(Clone, Copy, PartialEq, Eq, Debug)]
@@ -253,21 +253,17 @@ fn new_role(alloc: Global) -> Option<Role<Idler>> {
     Role::new(alloc, Idler, 4, 3, 3).ok()
 }
 
-/// A role hears of thread 7, with number 5, and of thread 9, with number 6: whether it took both in.
-fn hears_of_two<P>(alloc: Global, role: &mut Role<P>) -> bool {
-    let Some(mut ring) = ring_with(alloc, 1024, &[SEVENTH, NINTH]) else {
-        return false;
-    };
-    role.drain(&mut ring, 9).stop.is_none() && role.view().len() == 2
+/// Drains a ring: whether a role takes all in, and knows two threads then.
+fn takes_two_in<P>(role: &mut Role<P>, ring: &mut ByteRing) -> bool {
+    role.drain(ring, 9).stop.is_none() && role.view().len() == 2
 }
 
-/// A role on CPU 0 of two that plans by this policy, and knows both: they wait for CPU 1.
-fn planner<P: Drop>(alloc: Global, policy: P) -> Option<Role<P>> {
-    let mut role = Role::new(alloc, policy, 2, 3, 0).ok()?;
-    if !hears_of_two(alloc, &mut role) {
-        return None;
+/// A role hears of thread 7, with number 5, and of thread 9, with number 6: whether it took both in.
+fn hears_of_two<P>(alloc: Global, role: &mut Role<P>) -> bool {
+    match ring_with(alloc, 1024, &[SEVENTH, NINTH]) {
+        Some(mut ring) => takes_two_in(role, &mut ring),
+        None => false,
     }
-    Some(role)
 }
 
 /// What a role decides, by the bound alone.
@@ -389,19 +385,29 @@ fn first_wrong_slot(
     None
 }
 
+/// Whether a role decides this.
+fn is_decided<P: Policy>(alloc: Global, role: &Role<P>, taken: Mask, expected: Plan) -> bool {
+    match decided(alloc, role, taken) {
+        Ok(choices) => is_plan(&choices, expected),
+        Err(_) => false,
+    }
+}
+
 /// The first row that a role does not decide, or counts otherwise.
 fn first_undecided<P: Counted>(
     alloc: Global,
     role: &Role<P>,
     rows: &[DecisionRow],
-) -> Result<Option<usize>, AllocError> {
+) -> Option<usize> {
     for (index, (taken, expected)) in rows.iter().enumerate() {
-        let choices = decided(alloc, role, Mask::new(*taken))?;
-        if !is_plan(&choices, expected) || counted(role, Mask::new(*taken)) != expected.len() {
-            return Ok(Some(index));
+        let taken = Mask::new(*taken);
+        let well = is_decided(alloc, role, taken, expected)
+            && counted(role, taken) == expected.len();
+        if !well {
+            return Some(index);
         }
     }
-    Ok(None)
+    None
 }
 
 /// Whether a role is of generation 3, by the policy that it was given, and knows and believes nothing yet.
@@ -413,31 +419,74 @@ fn is_blank(role: &Role<Idler>) -> bool {
         && is_order(role.waiting(), &[])
 }
 
-/// Tries drains on a new role, if these wait in the ring.
-fn tried_drains(alloc: Global, told: &[Told], rows: &[DrainRow]) -> Tried
-    requires { length told.now < 1000 }
-{
-    let Some(mut ring) = ring_with(alloc, 1024, told) else {
-        return Tried::NotMade;
-    };
+// What owns a role, a ring or slots has one way out once they are made, and whatever it calls borrows them: a
+// proof goes through all that they drop at each way out.
+
+/// Whether a new role is blank.
+fn begins_blank(alloc: Global) -> bool {
     match new_role(alloc) {
-        Some(mut role) => Tried::with(first_wrong_drain(&mut role, &mut ring, rows)),
+        Some(role) => {
+            let blank = is_blank(&role);
+            let_go(role);
+            blank
+        }
+        None => false,
+    }
+}
+
+/// Tries drains of a ring on a new role.
+fn tried_on_ring(alloc: Global, ring: &mut ByteRing, rows: &[DrainRow]) -> Tried {
+    match new_role(alloc) {
+        Some(mut role) => {
+            let wrong = first_wrong_drain(&mut role, ring, rows);
+            let_go(role);
+            Tried::with(wrong)
+        }
         None => Tried::NotMade,
     }
 }
 
-/// Tries rows on a role that knows threads 7 and 9, with three idle slots.
-fn tried_slots(alloc: Global, rows: &[SlotRow]) -> Tried {
-    let Some(mut role) = new_role(alloc) else {
-        return Tried::NotMade;
-    };
-    let Ok(mut region) = Region::new(alloc, 3) else {
-        return Tried::NotMade;
-    };
-    if !hears_of_two(alloc, &mut role) {
+/// The same, if these wait in the ring.
+fn tried_drains(alloc: Global, told: &[Told], rows: &[DrainRow]) -> Tried
+    requires { length told.now < 1000 }
+{
+    match ring_with(alloc, 1024, told) {
+        Some(mut ring) => tried_on_ring(alloc, &mut ring, rows),
+        None => Tried::NotMade,
+    }
+}
+
+/// Tries rows on a role that hears of threads 7 and 9 first, with these slots.
+fn tried_on_region(
+    alloc: Global,
+    role: &mut Role<Idler>,
+    region: &mut Region,
+    rows: &[SlotRow],
+) -> Tried {
+    if !hears_of_two(alloc, role) {
         return Tried::NotMade;
     }
-    Tried::with(first_wrong_slot(&mut role, &mut region, rows))
+    Tried::with(first_wrong_slot(role, region, rows))
+}
+
+/// The same, with three idle slots.
+fn tried_on_role(alloc: Global, role: &mut Role<Idler>, rows: &[SlotRow]) -> Tried {
+    match Region::new(alloc, 3) {
+        Ok(mut region) => tried_on_region(alloc, role, &mut region, rows),
+        Err(_) => Tried::NotMade,
+    }
+}
+
+/// The same, on a new role.
+fn tried_slots(alloc: Global, rows: &[SlotRow]) -> Tried {
+    match new_role(alloc) {
+        Some(mut role) => {
+            let tried = tried_on_role(alloc, &mut role, rows);
+            let_go(role);
+            tried
+        }
+        None => Tried::NotMade,
+    }
 }
 
 // A function for each table: a proof is cheaper if it sees one table alone.
@@ -474,41 +523,72 @@ fn try_runs(alloc: Global) -> Tried {
 }
 
 #[test]
-fn drains(rt: HostRuntime) -> Result<(), Fail> {
-    let blank = is_blank(&new_role(rt.alloc()).ok_or("a role")?);
-    assert!(rt; blank);
-    assert_eq!(rt; try_no_message(rt.alloc()), Tried::Well);
-    assert_eq!(rt; try_five(rt.alloc()), Tried::Well);
-    assert_eq!(rt; try_gap(rt.alloc()), Tried::Well);
-    Ok(())
+fn drains(rt: HostRuntime) {
+    let blank = begins_blank(rt.alloc());
+    let tried = [
+        try_no_message(rt.alloc()),
+        try_five(rt.alloc()),
+        try_gap(rt.alloc()),
+    ];
+    assert_eq!(rt; (blank, tried), (true, [Tried::Well; 3]));
 }
 
 #[test]
 fn stamps_and_collects(rt: HostRuntime) {
-    assert_eq!(rt; try_stamps(rt.alloc()), Tried::Well);
-    assert_eq!(rt; try_unknown(rt.alloc()), Tried::Well);
-    assert_eq!(rt; try_open(rt.alloc()), Tried::Well);
-    assert_eq!(rt; try_collected(rt.alloc()), Tried::Well);
-    assert_eq!(rt; try_runs(rt.alloc()), Tried::Well);
+    let tried = [
+        try_stamps(rt.alloc()),
+        try_unknown(rt.alloc()),
+        try_open(rt.alloc()),
+        try_collected(rt.alloc()),
+        try_runs(rt.alloc()),
+    ];
+    assert_eq!(rt; tried, [Tried::Well; 5]);
 }
 
-/// Whether a role that runs thread 7 on CPU 0 believes that no more once it hears that it is blocked.
+/// What a role drains of a ring in which it waits that thread 7 is blocked on CPU 0.
+fn drains_a_block(alloc: Global, role: &mut Role<Idler>) -> Option<Drained> {
+    match ring_with(alloc, 128, &[Thread(7, 6, Change::Blocked { cpu: 0 })]) {
+        Some(mut ring) => Some(role.drain(&mut ring, 9)),
+        None => None,
+    }
+}
+
+/// Whether this role runs thread 7 on CPU 0, and believes that no more once it hears that it is blocked.
+fn runs_until_a_block(alloc: Global, role: &mut Role<Idler>) -> bool {
+    tried_on_role(alloc, role, &RUNS) == Tried::Well
+        && drains_a_block(alloc, role) == Some(ONE)
+        && role.believed(0).is_none()
+}
+
+/// The same of a new role.
 fn hears_of_a_block(alloc: Global) -> Option<bool> {
-    let mut role = new_role(alloc)?;
-    let mut region = Region::new(alloc, 3).ok()?;
-    let mut ring = ring_with(alloc, 128, &[Thread(7, 6, Change::Blocked { cpu: 0 })])?;
-    let runs = hears_of_two(alloc, &mut role)
-        && first_wrong_slot(&mut role, &mut region, &RUNS).is_none();
-    let drained = role.drain(&mut ring, 9);
-    Some(runs && drained == ONE && role.believed(0).is_none())
+    match new_role(alloc) {
+        Some(mut role) => {
+            let runs = runs_until_a_block(alloc, &mut role);
+            let_go(role);
+            Some(runs)
+        }
+        None => None,
+    }
 }
 
-/// Whether a role decides as the rows say, by this policy, when threads 7 and 9 wait.
+/// Whether a role decides as the rows say once it hears of threads 7 and 9, and both wait.
+fn decides_of_two<P: Counted>(alloc: Global, role: &mut Role<P>) -> bool {
+    hears_of_two(alloc, role)
+        && is_order(role.waiting(), &[7, 9])
+        && first_undecided(alloc, role, &DECISIONS).is_none()
+}
+
+/// The same of a role on CPU 0 of two that plans by this policy: they wait for CPU 1.
 fn decides<P: Counted + Drop>(alloc: Global, policy: P) -> Option<bool> {
-    let role = planner(alloc, policy)?;
-    let order = is_order(role.waiting(), &[7, 9]);
-    let wrong = first_undecided(alloc, &role, &DECISIONS).ok()?;
-    Some(order && wrong.is_none())
+    match Role::new(alloc, policy, 2, 3, 0) {
+        Ok(mut role) => {
+            let well = decides_of_two(alloc, &mut role);
+            let_go(role);
+            Some(well)
+        }
+        Err(_) => None,
+    }
 }
 
 #[test]

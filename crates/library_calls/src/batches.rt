@@ -6,6 +6,7 @@ ghost use Rattle.gs_ring.specs.RingState.{posts};
 
 use crate::messages::Told::{self, Creation};
 use crate::messages::Tried;
+use crate::owned::let_go;
 use gs_agent::{Drained, Role, Stop};
 use gs_layout::Class;
 use gs_policy::FirstCome;
@@ -132,10 +133,23 @@ fn tids(ring: &mut ByteRing) -> Option<(u32, u32)> {
 /// What a drain of at most so many takes in of that ring, and then: of how many threads something is known,
 /// and how many messages wait.
 fn drained(alloc: Global, last: &Told, max: u32) -> Option<(Drained, usize, usize)> {
-    let mut ring = round_the_end(alloc, last)?;
-    let mut role = Role::new(alloc, FirstCome, 4, 3, 3).ok()?;
-    let drained = role.drain(&mut ring, max);
-    Some((drained, role.view().len(), ring.waiting().len()))
+    match round_the_end(alloc, last) {
+        Some(mut ring) => drained_of(alloc, &mut ring, max),
+        None => None,
+    }
+}
+
+/// The same of this ring.
+fn drained_of(alloc: Global, ring: &mut ByteRing, max: u32) -> Option<(Drained, usize, usize)> {
+    match Role::new(alloc, FirstCome, 4, 3, 3) {
+        Ok(mut role) => {
+            let drained = role.drain(ring, max);
+            let known = role.view().len();
+            let_go(role);
+            Some((drained, known, ring.waiting().len()))
+        }
+        Err(_) => None,
+    }
 }
 
 /// The first row that is drained otherwise than it says.

@@ -441,13 +441,17 @@ fn first_wrongs(alloc: Global, kernel: &mut Kernel<ByteRing>) -> [Option<usize>;
     ]
 }
 
+/// The same of a new kernel.
+fn first_wrongs_of_new(alloc: Global) -> Option<[Option<usize>; 5]> {
+    match kernel_with(alloc, 1024) {
+        Some(mut kernel) => Some(first_wrongs(alloc, &mut kernel)),
+        None => None,
+    }
+}
+
 #[test]
 fn tells_the_next_agent(rt: HostRuntime) {
-    let wrongs = match kernel_with(rt.alloc(), 1024) {
-        Some(mut kernel) => Some(first_wrongs(rt.alloc(), &mut kernel)),
-        None => None,
-    };
-    assert_eq!(rt; wrongs, Some([None; 5]));
+    assert_eq!(rt; first_wrongs_of_new(rt.alloc()), Some([None; 5]));
 }
 
 #[test]
@@ -492,11 +496,8 @@ fn commit_broken(
     Some((landings, entries.saturating_sub(before)))
 }
 
-/// Whether a malformed slot lands as that, leaves its own bytes, and nothing else comes of it.
-fn lands_malformed(alloc: Global) -> Option<bool> {
-    let mut kernel = kernel_with(alloc, 128)?;
-    let mut region = Region::new(alloc, kernel.settings().cpus).ok()?;
-    let (landings, entries) = commit_broken(alloc, &mut kernel, &mut region)?;
+/// Whether just a malformed slot of CPU 1 landed.
+fn are_malformed(landings: &[Landing]) -> bool {
     let wanted = Landing {
         cpu: 1,
         tid: 0,
@@ -504,8 +505,31 @@ fn lands_malformed(alloc: Global) -> Option<bool> {
         seen: 0,
         at: None,
     };
-    let told = landings.len() == 1 && landings.first() == Some(&wanted) && entries == 0;
-    Some(told && is_left(&region))
+    landings.len() == 1 && landings.first() == Some(&wanted)
+}
+
+/// Whether a malformed slot lands in this kernel as that, and nothing else comes of it.
+fn commits_malformed(alloc: Global, kernel: &mut Kernel<ByteRing>, region: &mut Region) -> bool {
+    match commit_broken(alloc, kernel, region) {
+        Some((landings, entries)) => are_malformed(&landings) && entries == 0,
+        None => false,
+    }
+}
+
+/// The same with slots that are idle at first, and whether it leaves its own bytes in them.
+fn leaves_malformed(alloc: Global, kernel: &mut Kernel<ByteRing>) -> bool {
+    match Region::new(alloc, kernel.settings().cpus) {
+        Ok(mut region) => commits_malformed(alloc, kernel, &mut region) && is_left(&region),
+        Err(_) => false,
+    }
+}
+
+/// Whether a malformed slot lands as that in a new kernel, leaves its own bytes, and nothing else comes of it.
+fn lands_malformed(alloc: Global) -> Option<bool> {
+    match kernel_with(alloc, 128) {
+        Some(mut kernel) => Some(leaves_malformed(alloc, &mut kernel)),
+        None => None,
+    }
 }
 
 /// Whether the slot of CPU 0 is broken, and that of CPU 1 says that it was.

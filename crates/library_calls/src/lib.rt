@@ -20,6 +20,8 @@ mod messages;
 #[cfg(test)]
 mod mind;
 #[cfg(test)]
+mod owned;
+#[cfg(test)]
 mod pages;
 #[cfg(test)]
 mod plans;

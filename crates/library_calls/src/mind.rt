@@ -4,6 +4,7 @@ ghost use Rattle.gs_layout.specs.Spelling.{IsSpellable};
 
 use crate::messages::Told::{self, Creation, Thread, Tick};
 use crate::messages::Tried;
+use crate::owned::let_go;
 use crate::plans::{Plan, is_order, is_plan};
 use gs_layout::{Change, Class, Message, Outcome, Parcel};
 use gs_mind::Mind;
@@ -13,7 +14,6 @@ use gs_slots::{SlotState, Stamp};
 use gs_status::Mask;
 use gs_view::{ApplyFault, Taken};
 use std::alloc::{AllocError, Global};
-use std::test::Fail;
 
 /// What is done to a mind.
 #[derive(Clone, Copy)]
@@ -273,17 +273,32 @@ fn three(alloc: Global) -> Result<Mind, AllocError> {
     Mind::new(alloc, 3, Some(0))
 }
 
+/// Lets threads 7, 8 and 9 wait: whether all went as it should.
+fn three_wait(mind: &mut Mind) -> bool {
+    first_wrong(mind, &THREE_WAIT).is_none()
+}
+
 /// Tries rows on a mind in which three threads wait at first, and are known at last.
-fn tried(alloc: Global, rows: &[Row]) -> Tried {
-    let Ok(mut mind) = three(alloc) else {
-        return Tried::NotMade;
-    };
-    let before = first_wrong(&mut mind, &THREE_WAIT);
-    let wrong = first_wrong(&mut mind, rows);
-    if before.is_some() || mind.view().len() != 3 {
+fn tried_on(mind: &mut Mind, rows: &[Row]) -> Tried {
+    let before = three_wait(mind);
+    let wrong = first_wrong(mind, rows);
+    if !before || mind.view().len() != 3 {
         return Tried::NotMade;
     }
     Tried::with(wrong)
+}
+
+/// The same on a new mind. What owns a mind has one way out once it is made: a proof goes through all that it
+/// drops at each way out.
+fn tried(alloc: Global, rows: &[Row]) -> Tried {
+    match three(alloc) {
+        Ok(mut mind) => {
+            let tried = tried_on(&mut mind, rows);
+            let_go(mind);
+            tried
+        }
+        Err(_) => Tried::NotMade,
+    }
 }
 
 // A function for each table: a proof is cheaper if it sees one table alone.
@@ -311,21 +326,14 @@ fn try_displaced(alloc: Global) -> Tried {
 fn keeps_who_waits(rt: HostRuntime) {
     let active = begins_blank(rt.alloc(), Some(0), 0b110);
     let attaching = begins_blank(rt.alloc(), None, 0b111);
-    assert_eq!(rt; (active, attaching), (true, true));
-    assert_eq!(rt; try_not_applied(rt.alloc()), Tried::Well);
-    assert_eq!(rt; try_goes_last(rt.alloc()), Tried::Well);
-    assert_eq!(rt; try_runs(rt.alloc()), Tried::Well);
-    assert_eq!(rt; try_not_placed(rt.alloc()), Tried::Well);
-    assert_eq!(rt; try_displaced(rt.alloc()), Tried::Well);
-}
-
-/// A mind in which threads 7, 8 and 9 wait.
-fn three_wait(alloc: Global) -> Option<Mind> {
-    let mut mind = three(alloc).ok()?;
-    if first_wrong(&mut mind, &THREE_WAIT).is_some() {
-        return None;
-    }
-    Some(mind)
+    let tried = [
+        try_not_applied(rt.alloc()),
+        try_goes_last(rt.alloc()),
+        try_runs(rt.alloc()),
+        try_not_placed(rt.alloc()),
+        try_displaced(rt.alloc()),
+    ];
+    assert_eq!(rt; (active, attaching, tried), (true, true, [Tried::Well; 5]));
 }
 
 /// Thread 9 begins to run: whether all went as it should.
@@ -353,14 +361,36 @@ fn try_first_come_waits(alloc: Global, mind: &Mind) -> Tried {
     tried_plans(alloc, mind, &FirstCome, &FIRST_COME_WAITS)
 }
 
+/// What comes of plans while three threads wait, whether thread 9 then runs, and what comes of plans of two
+/// classes and of the first come then.
+type Planned = (Tried, bool, Tried, Tried);
+
+/// What comes of plans of this mind, or `None` if the three do not wait.
+fn planned(alloc: Global, mind: &mut Mind) -> Option<Planned> {
+    if !three_wait(mind) {
+        return None;
+    }
+    let first_come = try_first_come(alloc, mind);
+    let runs = runs_ninth(mind);
+    let two_class = try_two_class(alloc, mind);
+    let waits = try_first_come_waits(alloc, mind);
+    Some((first_come, runs, two_class, waits))
+}
+
+/// The same of a new mind.
+fn try_plans(alloc: Global) -> Option<Planned> {
+    match three(alloc) {
+        Ok(mut mind) => {
+            let came = planned(alloc, &mut mind);
+            let_go(mind);
+            came
+        }
+        Err(_) => None,
+    }
+}
+
 #[test]
-fn plans(rt: HostRuntime) -> Result<(), Fail> {
-    let mut mind = three_wait(rt.alloc()).ok_or("three threads")?;
-    let first_come = try_first_come(rt.alloc(), &mind);
-    let runs = runs_ninth(&mut mind);
-    let two_class = try_two_class(rt.alloc(), &mind);
-    let waits = try_first_come_waits(rt.alloc(), &mind);
-    let tried = (first_come, runs, two_class, waits);
-    assert_eq!(rt; tried, (Tried::Well, true, Tried::Well, Tried::Well));
-    Ok(())
+fn plans(rt: HostRuntime) {
+    let wanted = (Tried::Well, true, Tried::Well, Tried::Well);
+    assert_eq!(rt; try_plans(rt.alloc()), Some(wanted));
 }

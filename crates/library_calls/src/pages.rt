@@ -247,22 +247,30 @@ fn first_wrong_in_role(alloc: Global, role: &mut Role<TwoClass>) -> Option<usize
     None
 }
 
-fn try_view(alloc: Global) -> Tried {
-    let mut view = AgentView::new(alloc);
-    if !view_hears(&mut view) {
+fn tried_view(alloc: Global, view: &mut AgentView) -> Tried {
+    if !view_hears(view) {
         return Tried::NotMade;
     }
-    Tried::with(first_not_loaded(alloc, &mut view))
+    Tried::with(first_not_loaded(alloc, view))
+}
+
+fn try_view(alloc: Global) -> Tried {
+    let mut view = AgentView::new(alloc);
+    tried_view(alloc, &mut view)
+}
+
+fn tried_mind(alloc: Global, mind: &mut Mind) -> Tried {
+    if !mind_hears(mind) {
+        return Tried::NotMade;
+    }
+    Tried::with(first_wrong_in_mind(alloc, mind))
 }
 
 fn try_mind(alloc: Global) -> Tried {
-    let Ok(mut mind) = Mind::new(alloc, 64, None) else {
-        return Tried::NotMade;
-    };
-    if !mind_hears(&mut mind) {
-        return Tried::NotMade;
+    match Mind::new(alloc, 64, None) {
+        Ok(mut mind) => tried_mind(alloc, &mut mind),
+        Err(_) => Tried::NotMade,
     }
-    Tried::with(first_wrong_in_mind(alloc, &mut mind))
 }
 
 /// Whether the role of an agent that attaches needs its first page, and is of this generation.
@@ -270,18 +278,22 @@ fn begins_attaching(role: &Role<TwoClass>) -> bool {
     role.next_page() == Some(1) && role.generation() == 8 && role.view().is_empty()
 }
 
+fn tried_role(alloc: Global, role: &mut Role<TwoClass>) -> Tried {
+    if !begins_attaching(role) || !role_hears(alloc, role) {
+        return Tried::NotMade;
+    }
+    Tried::with(first_wrong_in_role(alloc, role))
+}
+
 /// What comes of the table, and the policy that the role gives back.
 fn try_role(alloc: Global) -> (Tried, Option<TwoClass>) {
-    let Ok(mut role) = Role::attach(alloc, TwoClass { slice: 7 }, 64, 8) else {
-        return (Tried::NotMade, None);
-    };
-    let made = begins_attaching(&role) && role_hears(alloc, &mut role);
-    let wrong = first_wrong_in_role(alloc, &mut role);
-    let policy = role.retire();
-    if !made {
-        return (Tried::NotMade, Some(policy));
+    match Role::attach(alloc, TwoClass { slice: 7 }, 64, 8) {
+        Ok(mut role) => {
+            let tried = tried_role(alloc, &mut role);
+            (tried, Some(role.retire()))
+        }
+        Err(_) => (Tried::NotMade, None),
     }
-    (Tried::with(wrong), Some(policy))
 }
 
 #[test]

@@ -11,7 +11,6 @@ use gs_layout::{Change, Class, Message};
 use gs_ring::{ByteRing, Poster, RingFault, Taker};
 use gs_status::Mask;
 use std::alloc::{AllocError, Global};
-use std::test::Fail;
 
 /// What is done to a ring.
 #[derive(Clone, Copy)]
@@ -294,28 +293,65 @@ fn consumes_padded_third(ring: &mut ByteRing) -> bool {
     padded && ring.free() == 128 && first(ring).is_none()
 }
 
-#[test]
-fn posts_and_takes(rt: HostRuntime) -> Result<(), Fail> {
-    assert_eq!(rt; try_to_the_last_byte(rt.alloc()), Tried::Well);
-    assert_eq!(rt; try_several_laps(rt.alloc()), None);
-    let mut ring = ByteRing::new(rt.alloc(), 128)?;
-    let tried = try_round_the_end(&mut ring);
-    let consumed = consumes_padded_third(&mut ring);
-    assert_eq!(rt; (tried, consumed), (Tried::Well, true));
-    Ok(())
+/// What comes of the table, and whether a PAD and the third creation are then consumed as they should.
+fn round_the_end(alloc: Global) -> Option<(Tried, bool)> {
+    match ByteRing::new(alloc, 128) {
+        Ok(mut ring) => {
+            let tried = try_round_the_end(&mut ring);
+            Some((tried, consumes_padded_third(&mut ring)))
+        }
+        Err(_) => None,
+    }
 }
 
 #[test]
-fn shows_what_waits(rt: HostRuntime) -> Result<(), Fail> {
-    let mut ring = ByteRing::new(rt.alloc(), 128)?;
-    let before = all_of(rt.alloc(), &ring)?;
-    assert_eq!(rt; first_wrong(&mut ring, &TWO_WAIT), None);
-    let both = all_of(rt.alloc(), &ring)?;
-    let shown = before.is_empty() && are_two_created(&both) && shows_two(&ring);
-    // None was taken by that.
+fn posts_and_takes(rt: HostRuntime) {
+    let last_byte = try_to_the_last_byte(rt.alloc());
+    let stuck = try_several_laps(rt.alloc());
+    let round = round_the_end(rt.alloc());
+    assert_eq!(rt;
+        (last_byte, stuck, round),
+        (Tried::Well, None, Some((Tried::Well, true)))
+    );
+}
+
+/// Whether the messages that wait are none.
+fn has_none(alloc: Global, ring: &ByteRing) -> bool {
+    match all_of(alloc, ring) {
+        Ok(messages) => messages.is_empty(),
+        Err(_) => false,
+    }
+}
+
+/// Whether they are the creations of threads 2 and 3.
+fn has_two_created(alloc: Global, ring: &ByteRing) -> bool {
+    match all_of(alloc, ring) {
+        Ok(messages) => are_two_created(&messages),
+        Err(_) => false,
+    }
+}
+
+/// Whether nothing waits in a ring at first, and then two messages, of which none is taken before both are.
+fn shows_then_takes(alloc: Global, ring: &mut ByteRing) -> bool
+    requires { posts ring.old ≡ 0 }
+{
+    let before = has_none(alloc, ring);
+    let wrong = first_wrong(ring, &TWO_WAIT);
+    let shown = has_two_created(alloc, ring) && shows_two(ring);
     let left = ring.free();
-    let taken = take_some(&mut ring, 9);
-    let well = shown && (left, taken) == (0, 2) && ring.waiting().next().is_none();
-    assert!(rt; well);
-    Ok(())
+    let taken = take_some(ring, 9);
+    before && wrong.is_none() && shown && (left, taken) == (0, 2) && ring.waiting().next().is_none()
+}
+
+/// The same of a new ring.
+fn shows_of_new(alloc: Global) -> Option<bool> {
+    match ByteRing::new(alloc, 128) {
+        Ok(mut ring) => Some(shows_then_takes(alloc, &mut ring)),
+        Err(_) => None,
+    }
+}
+
+#[test]
+fn shows_what_waits(rt: HostRuntime) {
+    assert_eq!(rt; shows_of_new(rt.alloc()), Some(true));
 }

@@ -7,6 +7,7 @@ use gs_layout::{Change, Class, Facts, Message, Parcel};
 use gs_reader::MessageRef;
 use gs_status::Mask;
 use gs_view::{AgentView, ApplyFault, Taken};
+use std::alloc::Global;
 use std::test::Fail;
 
 /// What a thread is known to be: whether it may run, its mask, and the number at which it was so.
@@ -267,18 +268,28 @@ fn try_several(view: &mut AgentView) -> Option<usize> {
     first_wrong(view, &SEVERAL)
 }
 
-#[test]
-fn takes_messages_in(rt: HostRuntime) {
-    let mut view = AgentView::new(rt.alloc());
+/// Whether a new view is blank, the first row of a life and of a birth that it does not take as it says, and
+/// whether it knows thread 7 alone then.
+fn lives(alloc: Global) -> (bool, Option<usize>, Option<usize>, bool) {
+    let mut view = AgentView::new(alloc);
     let blank = is_blank(&view);
     let life = try_life(&mut view);
     let birth = try_birth(&mut view);
-    let known = knows_seventh_alone(&view);
-    assert_eq!(rt; (blank, life, birth, known), (true, None, None, true));
-    let mut view = AgentView::new(rt.alloc());
+    (blank, life, birth, knows_seventh_alone(&view))
+}
+
+/// The first row of several threads that a new view does not take as it says, and whether a walk shows them then.
+fn walks(alloc: Global) -> (Option<usize>, bool) {
+    let mut view = AgentView::new(alloc);
     let several = try_several(&mut view);
-    let shown = shows(&view, &SHOWN);
-    assert_eq!(rt; (several, shown), (None, true));
+    (several, shows(&view, &SHOWN))
+}
+
+#[test]
+fn takes_messages_in(rt: HostRuntime) {
+    let lives = lives(rt.alloc());
+    let walks = walks(rt.alloc());
+    assert_eq!(rt; (lives, walks), ((true, None, None, true), (None, true)));
 }
 
 #[test]
