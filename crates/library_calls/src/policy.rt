@@ -9,12 +9,12 @@ use crate::messages::Told::Creation;
 use crate::plans::{Plan, is_plan};
 use crate::policy::first_only::FirstOnly;
 use crate::policy::zero_preempts::ZeroPreempts;
-use crate::view::send;
 use gs_beliefs::CpuBeliefs;
-use gs_layout::{Class, MOST_TIDS};
+use gs_layout::{Class, MOST_TIDS, Parcel};
 use gs_policy::{
     AnyPolicy, Choice, Counted, FirstCome, Policy, Shown, TwoClass, leaves_none, plans_in_order,
 };
+use gs_reader::MessageRef;
 use gs_runq::RunQueue;
 use gs_status::{MOST_CPUS, Mask};
 use gs_view::AgentView;
@@ -200,18 +200,39 @@ const ROWS: [Row; 11] = [
     },
 ];
 
-/// Tells a view of threads 1 and 2 of a row: whether it took them in.
-fn hears_of_two(view: &mut AgentView, row: &Row) -> bool {
-    let (first, second) = row.classes;
-    for (tid, class) in [(1, first), (2, second)] {
-        let Some(created) = Creation(tid, 1, class, row.mask, "web").message() else {
-            return false;
-        };
-        if send(view, &created).is_err() {
-            return false;
+/// What an agent has in mind.
+#[derive(Drop)]
+struct Situation {
+    view: AgentView,
+    cpus: CpuBeliefs,
+    taken: Mask,
+    queue: RunQueue,
+}
+
+impl Situation {
+    /// What a policy is shown of it.
+    fn shown(&self) -> Shown<'_> {
+        Shown {
+            view: &self.view,
+            cpus: &self.cpus,
+            taken: self.taken,
+            queue: &self.queue,
         }
     }
-    true
+}
+
+/// A view that knows threads 1 and 2 of a row.
+fn known(alloc: Global, row: &Row) -> Option<AgentView> {
+    let (first, second) = row.classes;
+    let mut view = AgentView::new(alloc);
+    for (tid, class) in [(1, first), (2, second)] {
+        let Some(created) = Creation(tid, 1, class, row.mask, "web").message() else {
+            return None;
+        };
+        let parcel = Parcel::new(&created);
+        let _ = view.apply(MessageRef::in_parcel(&parcel)).ok()?;
+    }
+    Some(view)
 }
 
 /// A queue in which nobody waits, with room for every thread that there can be.
@@ -253,89 +274,56 @@ fn believed(alloc: Global, row: &Row) -> Option<CpuBeliefs> {
     Some(cpus)
 }
 
+/// The situation of a row.
+fn situation_of(alloc: Global, row: &Row) -> Option<Situation> {
+    Some(Situation {
+        view: known(alloc, row)?,
+        cpus: believed(alloc, row)?,
+        taken: Mask::new(row.taken),
+        queue: waiting(alloc, row)?,
+    })
+}
+
 /// What a policy plans, by its trait alone.
 fn planned<P: Policy>(
     alloc: Global,
     policy: &P,
-    shown: &Shown<'_>,
+    situation: &Situation,
 ) -> Result<Vec<Choice>, AllocError> {
-    policy.plan(alloc, shown)
+    policy.plan(alloc, &situation.shown())
 }
 
 /// How many choices a policy counts, by its trait alone.
-fn counted<P: Counted>(policy: &P, shown: &Shown<'_>) -> usize {
-    policy.count(shown)
+fn counted<P: Counted>(policy: &P, situation: &Situation) -> usize {
+    policy.count(&situation.shown())
 }
 
 /// Whether a policy plans this.
-fn plans<P: Policy>(alloc: Global, policy: &P, shown: &Shown<'_>, expected: Plan) -> bool {
-    match planned(alloc, policy, shown) {
+fn plans<P: Policy>(alloc: Global, policy: &P, situation: &Situation, expected: Plan) -> bool {
+    match planned(alloc, policy, situation) {
         Ok(choices) => is_plan(&choices, expected),
         Err(_) => false,
     }
 }
 
 /// Whether a policy plans this, and counts as many choices.
-fn counts<P: Counted>(alloc: Global, policy: &P, shown: &Shown<'_>, expected: Plan) -> bool {
-    plans(alloc, policy, shown, expected) && counted(policy, shown) == expected.len()
+fn counts<P: Counted>(alloc: Global, policy: &P, situation: &Situation, expected: Plan) -> bool {
+    plans(alloc, policy, situation, expected) && counted(policy, situation) == expected.len()
 }
 
-/// Whether each policy plans as a row says of what is shown.
-fn is_planned(alloc: Global, shown: &Shown<'_>, row: &Row) -> bool {
+/// Whether each policy plans as a row says.
+fn is_planned(alloc: Global, row: &Row) -> bool {
+    let Some(situation) = situation_of(alloc, row) else {
+        return false;
+    };
     let either_first = AnyPolicy::FirstCome(FirstCome);
     let either_two = AnyPolicy::TwoClass(TWO_TICKS);
-    counts(alloc, &FirstCome, shown, row.first_come)
-        && counts(alloc, &either_first, shown, row.first_come)
-        && counts(alloc, &TWO_TICKS, shown, row.two_class)
-        && counts(alloc, &either_two, shown, row.two_class)
-        && plans(alloc, &FirstOnly, shown, row.first_only)
-        && counts(alloc, &ZeroPreempts, shown, row.zero_preempts)
-}
-
-// Each of these owns one thing that a policy is shown, and has one way out once it is made: a proof goes through
-// all that is dropped at each way out.
-
-/// The same for this view and these beliefs.
-fn is_planned_of(alloc: Global, view: &AgentView, cpus: &CpuBeliefs, row: &Row) -> bool {
-    match waiting(alloc, row) {
-        Some(queue) => {
-            let shown = Shown {
-                view,
-                cpus,
-                taken: Mask::new(row.taken),
-                queue: &queue,
-            };
-            is_planned(alloc, &shown, row)
-        }
-        None => false,
-    }
-}
-
-/// The same for a view that is told of the threads of the row first.
-fn is_planned_by(alloc: Global, view: &mut AgentView, row: &Row) -> bool {
-    if !hears_of_two(view, row) {
-        return false;
-    }
-    match believed(alloc, row) {
-        Some(cpus) => is_planned_of(alloc, view, &cpus, row),
-        None => false,
-    }
-}
-
-/// The same for a new view.
-fn is_planned_anew(alloc: Global, row: &Row) -> bool {
-    let mut view = AgentView::new(alloc);
-    is_planned_by(alloc, &mut view, row)
-}
-
-/// The first row that is planned otherwise than it says.
-fn first_unplanned(alloc: Global) -> Option<usize> {
-    for (index, row) in ROWS.iter().enumerate() {
-        if !is_planned_anew(alloc, row) {
-            return Some(index);
-        }
-    }
-    None
+    counts(alloc, &FirstCome, &situation, row.first_come)
+        && counts(alloc, &either_first, &situation, row.first_come)
+        && counts(alloc, &TWO_TICKS, &situation, row.two_class)
+        && counts(alloc, &either_two, &situation, row.two_class)
+        && plans(alloc, &FirstOnly, &situation, row.first_only)
+        && counts(alloc, &ZeroPreempts, &situation, row.zero_preempts)
 }
 
 fn choice(cpu: u16, tid: u32, preempt: bool) -> Choice {
@@ -344,7 +332,10 @@ fn choice(cpu: u16, tid: u32, preempt: bool) -> Choice {
 
 #[test]
 fn plans_each_row(rt: HostRuntime) {
-    assert_eq!(rt; first_unplanned(rt.alloc()), None);
+    for (index, row) in ROWS.iter().enumerate() {
+        let well = is_planned(rt.alloc(), row);
+        assert!(rt; well, "row {index}");
+    }
 }
 
 #[test]
