@@ -1,8 +1,6 @@
-use Rattle.std.proofs.Common.{◌≡◌, ◌+◌, ◌∙◌, ap, sym, subst, false, List, [], ◌∷◌, drop, map}
-use Rattle.std.specs.List.{list_any}
+use Rattle.std.proofs.Common.{◌≡◌, ◌+◌, ◌∙◌, ap, sym, subst, List, ◌∷◌, drop, map}
 use Rattle.gs_core.specs.declared.event.Event.{Event}
 use Rattle.gs_core.specs.Machine.{Plan, planned, planning}
-use Rattle.gs_core.specs.Short.{wants_memory}
 use Rattle.gs_trace.specs.Output.{any_plans}
 use Rattle.gs_trace.specs.Taking.{TakenSoFar}
 use Rattle.gs_trace.proofs.Taking.{none_left, none_taken, one_left, taken_more}

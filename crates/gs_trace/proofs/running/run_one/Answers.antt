@@ -1,4 +1,4 @@
-use Rattle.std.proofs.Common.{◌≡◌, ◌∙◌, ◌||◌, ap, subst, sym, false, List, ◌++◌, ◌∷◌, [], Bool, Result, Ok, Err, OnOk}
+use Rattle.std.proofs.Common.{◌≡◌, ◌∙◌, ◌||◌, ap, subst, sym, false, ◌++◌, ◌∷◌, [], Bool, Result, Ok, Err, OnOk}
 use Rattle.gs_journal.specs.declared.entry.Entry.{Entry}
 use Rattle.gs_kernel.specs.Fate.{answer_by, last_entry}
 use Rattle.gs_core.specs.declared.event.Event.{Event}
