@@ -1,8 +1,7 @@
 -- What the CPUs that are left say of a plan from both ends.
 use Rattle.std.proofs.Common.{◌≡◌, ◌≢◌, refl, ap, sym, ◌∙◌, subst, ℕ, zero, suc, ◌+◌, ◌*◌, ◌/◌, ◌^◌, ◌-◌, ◌<◌, ◌≤◌, ◌⊎◌, inl, inr, Bool, true, false, ◌&&◌, ◌||◌, Option, None, Some, List, [], ◌∷◌, ◌++◌, arith, append-nil}
 use Rattle.std.specs.Prelude.{not, ◌==◌, bit_and}
-use Rattle.std.specs.Int.{leading_zeros}
-use Rattle.std.proofs.Common.{w64}
+use Rattle.std.specs.Int.{leading_zeros, w128}
 use Rattle.std.proofs.Math.Bool.{and-true}
 use Rattle.std.proofs.Math.Nat.{div-eq_of_lt, div-lt_iff_lt-mul, pow-succ', zero-div}
 use Rattle.std.proofs.Math.Pow.{pow_mono}
@@ -77,20 +76,20 @@ none_above n j i high above =
     let lt : n < 2 ^ i = omega (arith, grows, high) in
     ap (λ k. bit_and k 1 == 1) (div-eq_of_lt lt)
 
-pub highest_within : (n : ℕ) → 0 < n → n < 2 ^ 64 → leading_zeros w64 n < 64
-highest_within n pos fits = let top = leading_top 64 n pos fits in omega (arith, top.1)
+pub highest_within : (n : ℕ) → 0 < n → n < 2 ^ 128 → leading_zeros w128 n < 128
+highest_within n pos fits = let top = leading_top 128 n pos fits in omega (arith, top.1)
 
-pub greatest_of_some : (n : ℕ) → 0 < n → n < 2 ^ 64 → Some (63 - leading_zeros w64 n) ≡ greatest (has n) 64
+pub greatest_of_some : (n : ℕ) → 0 < n → n < 2 ^ 128 → Some (127 - leading_zeros w128 n) ≡ greatest (has n) 128
 greatest_of_some n pos fits =
-    let top = leading_top 64 n pos fits in
+    let top = leading_top 128 n pos fits in
     let j : ℕ = top.0 in
-    let here : 63 - leading_zeros w64 n ≡ j = omega (arith, top.1) in
-    let all : suc j + leading_zeros w64 n ≡ 64 = omega (arith, top.1) in
+    let here : 127 - leading_zeros w128 n ≡ j = omega (arith, top.1) in
+    let all : suc j + leading_zeros w128 n ≡ 128 = omega (arith, top.1) in
     ap Some here
-    ∙ sym (ap (greatest (has n)) (sym all) ∙ greatest_found (has n) j (leading_zeros w64 n) (top_here n j top.2 top.3) (λ i above. none_above n j i top.3 above))
+    ∙ sym (ap (greatest (has n)) (sym all) ∙ greatest_found (has n) j (leading_zeros w128 n) (top_here n j top.2 top.3) (λ i above. none_above n j i top.3 above))
 
-pub greatest_of_none : (n : ℕ) → n ≡ 0 → None ≡ greatest (has n) 64
-greatest_of_none n none = sym (greatest_none (has n) 64 (λ c within. ap (λ k. has k c) none ∙ nobody c))
+pub greatest_of_none : (n : ℕ) → n ≡ 0 → None ≡ greatest (has n) 128
+greatest_of_none n none = sym (greatest_none (has n) 128 (λ c within. ap (λ k. has k c) none ∙ nobody c))
 
 -- the CPUs that are left, which no choice so far uses, and the threads that come next complete the plan of all
 pub record IsPlanning (s : Shown) (left : ℕ) (xs : List Choice) (next queue : List ℕ) : Type 0 where
@@ -109,8 +108,8 @@ pub planning_end : (s : Shown) (left : ℕ) (xs : List Choice) (next queue : Lis
 planning_end s left xs next queue p none = ap (planned s xs) (sym none) ∙ p.rest
 
 end_same : (class : Class) (f g : ℕ → Bool) → ((c : ℕ) → f c ≡ g c) → end_for class f ≡ end_for class g
-end_same Zero f g same = least_same f g 64 (λ c below. same c)
-end_same One f g same = greatest_same f g 64 (λ c below. same c)
+end_same Zero f g same = least_same f g 128 (λ c below. same c)
+end_same One f g same = greatest_same f g 128 (λ c below. same c)
 
 cpu_same : (f g : ℕ → Bool) (o : Option Known) → ((c : ℕ) → f c ≡ g c) → cpu_for f o ≡ cpu_for g o
 cpu_same f g None same = refl

@@ -73,7 +73,7 @@ fn stamp<P>(role: &mut Role<P>, region: &mut Region, plan: &[Choice]) -> bool {
             return false;
         }
         let slot = region.slot(choice.cpu);
-        if role.stamp(slot, choice.tid, choice.preempt).is_err() {
+        if role.stamp(slot, choice.tid, choice.preempt, false).is_err() {
             return false;
         }
     }
@@ -86,7 +86,7 @@ struct Turn {
     /// The threads that are created before it, by their classes. They are numbered from 1.
     created: &'static [Class],
     /// The CPUs that the other class holds.
-    taken: u64,
+    taken: u128,
     /// The choices, of which none preempts.
     plan: &'static [(u16, u32)],
     /// The threads that are stamped on the four CPUs behind it.
@@ -137,6 +137,7 @@ fn holds(region: &Region, stamped: &[Option<u32>]) -> bool {
                     tid,
                     tseq: 1,
                     preempt: false,
+                    group: false,
                 },
             },
             None => SlotState::Idle,

@@ -29,7 +29,7 @@ const THREE_CPUS: Config<AnyPolicy> = Config {
 const FAULTS: [(Config<AnyPolicy>, ConfigFault); 4] = [
     (
         Config {
-            cpus: 65,
+            cpus: 129,
             ring: 0,
             ..TWO_CPUS
         },
@@ -174,7 +174,7 @@ fn tell(command: Command) -> Event<AnyPolicy> {
 }
 
 /// A runnable thread that may run on these CPUs is created.
-fn creation(mask: u64) -> Option<Event<AnyPolicy>> {
+fn creation(mask: u128) -> Option<Event<AnyPolicy>> {
     let facts = Facts {
         runnable: true,
         mask: Mask::new(mask),
@@ -189,10 +189,11 @@ fn stamp(cpu: u16, tid: u32) -> Event<AnyPolicy> {
         cpu,
         tid,
         preempt: false,
+        group: false,
     }
 }
 
-fn commit(mask: u64) -> Event<AnyPolicy> {
+fn commit(mask: u128) -> Event<AnyPolicy> {
     Event::Commit {
         mask: Mask::new(mask),
     }
@@ -379,6 +380,7 @@ fn lands(kernel: &mut Kernel<ByteRing>, outcome: Outcome) -> bool {
         tid: 1,
         tseq: 1,
         preempt: false,
+        group: false,
     };
     let landing = Landing {
         cpu: 1,

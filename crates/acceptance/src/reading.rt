@@ -50,9 +50,9 @@ const ROWS: [(&str, Config<AnyPolicy>, usize, bool); 6] = [
     ),
     // Each number and the policy are given, and each is another than the default.
     (
-        "cpus 64 ring 136 first-tseq 7 first-gen 8 history 9 policy two 10\n",
+        "cpus 128 ring 136 first-tseq 7 first-gen 8 history 9 policy two 10\n",
         Config {
-            cpus: 64,
+            cpus: 128,
             ring: 136,
             first_tseq: 7,
             first_generation: 8,

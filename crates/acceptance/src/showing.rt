@@ -29,8 +29,8 @@ fn changes() -> [(u32, u32, Change, &'static str); 7] {
         (
             1,
             2,
-            Change::Yield { cpu: 63 },
-            "unread yield 1 seq 2 cpu 63\n",
+            Change::Yield { cpu: 127 },
+            "unread yield 1 seq 2 cpu 127\n",
         ),
         (
             1,
@@ -80,13 +80,13 @@ const DECISIONS: [(u32, &[Choice], &str, &str); 3] = [
                 preempt: false,
             },
             Choice {
-                cpu: 63,
+                cpu: 127,
                 tid: 65_536,
                 preempt: true,
             },
         ],
-        "decided 2\nstamped 9 cpu 1 thread 1\nstamped 10 cpu 63 thread 65536 preempt\n",
-        "{\"events\":1,\"last\":[\"stamped 9 cpu 1 thread 1\",\"stamped 10 cpu 63 thread 65536 preempt\"],\"placed\":0,\"refused\":0,\"torn\":false,\"unplaced\":0}\n",
+        "decided 2\nstamped 9 cpu 1 thread 1\nstamped 10 cpu 127 thread 65536 preempt\n",
+        "{\"events\":1,\"last\":[\"stamped 9 cpu 1 thread 1\",\"stamped 10 cpu 127 thread 65536 preempt\"],\"placed\":0,\"refused\":0,\"torn\":false,\"unplaced\":0}\n",
     ),
     (
         11,
@@ -159,11 +159,12 @@ const LANDINGS: [(&[Outcome], bool, bool, &str, &str); 3] = [
             Outcome::Gone,
             Outcome::Placed,
             Outcome::Malformed,
+            Outcome::GroupFailed,
         ],
         false,
         true,
-        "cpu 1 placed 1 seq 1\ncpu 1 stale 1 seq 1\ncpu 1 gone 1 seq 1\ncpu 1 placed 1 seq 1\ncpu 1 malformed 1 seq 1\ntorn\n",
-        "{\"events\":1,\"last\":[],\"placed\":2,\"refused\":0,\"torn\":true,\"unplaced\":3}\n",
+        "cpu 1 placed 1 seq 1\ncpu 1 stale 1 seq 1\ncpu 1 gone 1 seq 1\ncpu 1 placed 1 seq 1\ncpu 1 malformed 1 seq 1\ncpu 1 groupfailed 1 seq 1\ntorn\n",
+        "{\"events\":1,\"last\":[],\"placed\":2,\"refused\":0,\"torn\":true,\"unplaced\":4}\n",
     ),
     (
         &[Outcome::Placed],

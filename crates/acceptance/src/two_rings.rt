@@ -23,7 +23,7 @@ const SETTINGS: Settings = Settings {
     history: 100,
 };
 
-/// A thread whose creation has 48 bytes, so that a ring of 128 has room for two.
+/// A thread whose creation has 56 bytes, so that a ring of 128 has room for two.
 fn web() -> Option<Facts> {
     Some(Facts {
         runnable: true,

@@ -97,13 +97,13 @@ const ROWS: [Row; 16] = [
     ),
     // That message does not fit, and then the enclave was torn down before.
     (
-        "cpus 2 ring 128\ncreate 3 0 r a\nhandoff 1\ndrain 1\nstamp 0 1\ncommit 1\ncreate 3 0 r b\ncreate 3 0 r c\ncreate 3 0 r d\ncreate 3 0 r e\ncreate 3 0 r f\n",
+        "cpus 2 ring 128\ncreate 3 0 r a\nhandoff 1\ndrain 1\nstamp 0 1\ncommit 1\ncreate 3 0 r b\ncreate 3 0 r c\ncreate 3 0 r d\ncreate 3 0 r e\n",
         1,
-        &[(9, End::Torn), (10, End::Refused(Refusal::Gone))],
+        &[(8, End::Torn), (9, End::Refused(Refusal::Gone))],
     ),
     // The journal has no room for all that a replacement adds.
     (
-        "cpus 2 ring 128 history 5\ncreate 3 0 r a\ncreate 3 0 r b\ncreate 3 0 r c\ncreate 3 0 r d\n",
+        "cpus 2 ring 256 history 5\ncreate 3 0 r a\ncreate 3 0 r b\ncreate 3 0 r c\ncreate 3 0 r d\n",
         1,
         &[(1, End::Refused(Refusal::HistoryFull))],
     ),

@@ -1,37 +1,88 @@
 //! Collecting the slots of transactions that landed.
 
-ghost use Rattle.std.specs.Prelude.{◌≡◌, length, min};
+ghost use Rattle.std.specs.Prelude.{◌≡◌, ◌<◌, ℕ, List, Some, length, min, slice_get, slice_set, true};
+ghost use Rattle.gs_status.specs.Masks.{has};
+ghost use Rattle.gs_slots.specs.Busy.{CoversBusy};
 ghost use Rattle.gs_slots.specs.SlotMut.{bytes_of, cpu_of, left_in, state_of};
-ghost use Rattle.gs_slots.specs.Reading.{all_collected, collected_in, state_or_idle, told_by};
+ghost use Rattle.gs_slots.specs.Reading.{all_collected, by_cpu, collected_in, state_or_idle, told_by};
 ghost use Rattle.gs_mind.specs.Mind.{picture_of, thinks};
-ghost use Rattle.gs_mind.specs.Picture.{after_slot, after_slots};
-ghost use Rattle.gs_agent.specs.Collected.{IsCollected};
+ghost use Rattle.gs_mind.specs.Picture.{after_all, after_slot, after_slots};
+ghost use Rattle.gs_agent.specs.Collected.{IsCollected, is_wanted, left_if, told_if};
 
 use gs_mind::Mind;
 use gs_slots::{Region, SlotMut, SlotState};
-use gs_status::MOST_CPUS;
+use gs_status::{MOST_CPUS, Mask};
 
-/// Takes in what became of each done slot of a region, in increasing order of CPU, and makes it idle again.
+/// Takes in what became of each done slot of a region, and makes it idle again: the slots of a group first, and
+/// then the others, each in increasing order of CPU.
 pub(crate) fn collect_all(mind: &mut Mind, region: &mut Region)
     ensures region { region.new ≡ all_collected 0 region.old }
-    ensures mind { mind.new ≡ thinks mind.old (after_slots 0 (told_by 0 region.old) (picture_of mind.old)) }
+    ensures mind { mind.new ≡ thinks mind.old (after_all (told_by 0 region.old) (picture_of mind.old)) }
 {
-    collect_busy(mind, region);
+    let busy = region.busy();
+    collect_group(mind, region, busy);
+    collect_those(mind, region, busy, false);
+}
+
+/// Collects the slots that have the flag of a group. If there is none, that is known without a look at them.
+#[tactic(auto, using(crate::proofs::Collecting::none_left_first, crate::proofs::Collecting::none_told_first))]
+fn collect_group(mind: &mut Mind, region: &mut Region, busy: Mask)
+    requires covers { CoversBusy region.old busy }
+    requires within { (c : ℕ) → c < MOST_CPUS → has busy c ≡ true → c < length region.old }
+    ensures region { region.new ≡ by_cpu (left_if true) 0 region.old }
+    ensures mind { mind.new ≡ thinks mind.old (after_slots 0 (by_cpu (told_if true) 0 region.old) (picture_of mind.old)) }
+{
+    if region.cpus() <= MOST_CPUS && !region.may_be_grouped() {
+        return;
+    }
+    collect_those(mind, region, busy, true);
+}
+
+/// Collects the slots that have the flag of a group, or all. Of the CPUs below [`MOST_CPUS`] those of a mask alone
+/// are looked at.
+fn collect_those(mind: &mut Mind, region: &mut Region, busy: Mask, group: bool)
+    requires covers { CoversBusy region.old busy }
+    requires within { (c : ℕ) → c < MOST_CPUS → has busy c ≡ true → c < length region.old }
+    ensures region { region.new ≡ by_cpu (left_if group) 0 region.old }
+    ensures mind { mind.new ≡ thinks mind.old (after_slots 0 (by_cpu (told_if group) 0 region.old) (picture_of mind.old)) }
+{
+    collect_busy(mind, region, busy, group);
     let cpus = region.cpus();
     for cpu in cpus.min(MOST_CPUS)..cpus {
+        collect_one(mind, region, cpu, group);
+    }
+}
+
+/// Does so for the CPUs below [`MOST_CPUS`], all of whose slots outside the mask are idle.
+fn collect_busy(mind: &mut Mind, region: &mut Region, busy: Mask, group: bool)
+    requires covers { CoversBusy region.old busy }
+    requires within { (c : ℕ) → c < MOST_CPUS → has busy c ≡ true → c < length region.old }
+    ensures { IsCollected group region.old mind.old (min (length region.old) MOST_CPUS) region.new mind.new }
+{
+    let mut left = busy;
+    'walk: while let Some(cpu) = left.lowest() {
+        collect_one(mind, region, cpu, group);
+        left = left.without(cpu);
+    }
+}
+
+/// Collects the slot of a CPU if it is one of those that are wanted.
+fn collect_one(mind: &mut Mind, region: &mut Region, cpu: u16, group: bool)
+    requires { cpu < length region.old }
+    ensures region { (bytes : List ℕ) → slice_get region.old cpu ≡ Some bytes → region.new ≡ slice_set region.old cpu (left_if group cpu bytes) }
+    ensures mind { (bytes : List ℕ) → slice_get region.old cpu ≡ Some bytes → mind.new ≡ thinks mind.old (after_slot cpu (told_if group cpu bytes) (picture_of mind.old)) }
+{
+    if is_wanted(region, cpu, group) {
         collect_slot(mind, region.slot(cpu));
     }
 }
 
-/// Collects the slots of the CPUs below [`MOST_CPUS`]. It looks at those alone that are not idle.
-fn collect_busy(mind: &mut Mind, region: &mut Region)
-    ensures { IsCollected region.old mind.old (min (length region.old) MOST_CPUS) region.new mind.new }
+/// Returns whether the slot of a CPU is one of those that are wanted: those with the flag of a group, or all.
+fn is_wanted(region: &Region, cpu: u16, group: bool) -> bool
+    requires { cpu < length region.now }
+    ensures { (bytes : List ℕ) → slice_get region.now cpu ≡ Some bytes → result ≡ is_wanted group bytes }
 {
-    let mut left = region.busy();
-    'walk: while let Some(cpu) = left.lowest() {
-        collect_slot(mind, region.slot(cpu));
-        left = left.without(cpu);
-    }
+    !group || region.is_flagged(cpu)
 }
 
 /// Takes in what became of a done slot, and makes it idle again. Any other slot, a malformed one too,

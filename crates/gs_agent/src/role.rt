@@ -10,7 +10,7 @@ ghost use Rattle.gs_agent.specs.declared.drained.Stop.{Stop};
 ghost use Rattle.gs_agent.specs.Drains.{Took};
 ghost use Rattle.gs_mind.specs.Mind.{moved, nothing, picture_of, shown_in, thinks};
 ghost use Rattle.gs_mind.specs.Pages.{after_page};
-ghost use Rattle.gs_mind.specs.Picture.{HoldsWaiting, after_slots, after_stamp};
+ghost use Rattle.gs_mind.specs.Picture.{HoldsWaiting, after_all, after_stamp};
 ghost use Rattle.gs_policy.specs.Safe.{IsSafePlan};
 ghost use Rattle.gs_runq.specs.Queue.{Apart, order};
 ghost use Rattle.gs_status.specs.Masks.{has};
@@ -223,7 +223,8 @@ impl<P> Role<P> {
 
     /// Stamps a transaction into an idle slot: the thread is to run on the slot's CPU, if its sequence
     /// number is then still the one that the view has. `preempt` says that a thread that is on the CPU
-    /// is to give way. Returns what the view has of the thread. It does not allocate.
+    /// is to give way, and `group` that it is placed only if all others of a commit that say so are. Returns
+    /// what the view has of the thread. It does not allocate.
     ///
     /// The role remembers the stamp until the slot is collected: until then the thread does not wait,
     /// and the CPU is not one to use. If it still remembered another stamp on that CPU, the thread which that
@@ -233,10 +234,16 @@ impl<P> Role<P> {
     ///
     /// The first that applies: `NoThread` if the view does not know the thread, `SlotOpen` if the slot is not
     /// idle, malformed too. Slot and role stay as they were.
-    pub fn stamp(&mut self, slot: SlotMut<'_>, tid: u32, preempt: bool) -> Result<Known, Refusal>
+    pub fn stamp(
+        &mut self,
+        slot: SlotMut<'_>,
+        tid: u32,
+        preempt: bool,
+        group: bool,
+    ) -> Result<Known, Refusal>
         ensures ok { IfOk result (λ _. stamp_refusal (look_up self.old.mind.records tid) (state_of slot.entry) ≡ None) }
         ensures known { IfOk result (λ known. look_up self.old.mind.records tid ≡ Some known) }
-        ensures stamped { IfOk result (λ known. state_in (cpu_of slot.entry) (left_in slot.exit) ≡ Ok (SlotState.Stamped (record { generation = self.old.generation; tid = tid; tseq = known.tseq; preempt = preempt }))) }
+        ensures stamped { IfOk result (λ known. state_in (cpu_of slot.entry) (left_in slot.exit) ≡ Ok (SlotState.Stamped (record { generation = self.old.generation; tid = tid; tseq = known.tseq; preempt = preempt; group = group }))) }
         ensures role { OnOk result (self.new ≡ record self.old { mind = thinks self.old.mind (after_stamp (cpu_of slot.entry) tid (picture_of self.old.mind)) }) }
         ensures refused { IfErr result (λ refusal. stamp_refusal (look_up self.old.mind.records tid) (state_of slot.entry) ≡ Some refusal) }
         ensures unchanged { OnErr result (left_in slot.exit ≡ bytes_of slot.entry) }
@@ -244,7 +251,7 @@ impl<P> Role<P> {
     {
         let known = *self.mind.view().get(tid).ok_or(Refusal::NoThread)?;
         let cpu = slot.cpu();
-        match slot.stamp(self.generation, tid, known.tseq, preempt) {
+        match slot.stamp(self.generation, tid, known.tseq, preempt, group) {
             Ok(()) => {
                 self.mind.stamp(cpu, tid);
                 Ok(known)
@@ -253,12 +260,13 @@ impl<P> Role<P> {
         }
     }
 
-    /// Takes in what became of each done slot of a region, in increasing order of CPU, and makes it idle
-    /// again. A thread that was placed, or found placed already, is believed to run there, and who waits
-    /// follows. Other slots, malformed ones too, stay as they are. It does not allocate.
+    /// Takes in what became of each done slot of a region, and makes it idle again: the slots of a group first,
+    /// and then the others, each in increasing order of CPU. A thread that was placed, or found placed already, is
+    /// believed to run there, and who waits follows. Other slots, malformed ones too, stay as they are. It does not
+    /// allocate.
     pub fn collect(&mut self, region: &mut Region)
         ensures region { region.new ≡ all_collected 0 region.old }
-        ensures role { self.new ≡ record self.old { mind = thinks self.old.mind (after_slots 0 (told_by 0 region.old) (picture_of self.old.mind)) } }
+        ensures role { self.new ≡ record self.old { mind = thinks self.old.mind (after_all (told_by 0 region.old) (picture_of self.old.mind)) } }
     {
         collect_all(&mut self.mind, region);
     }

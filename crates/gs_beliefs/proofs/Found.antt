@@ -43,7 +43,7 @@ stands_of xs c = listn.get_or-map thread_of xs c None
 pub cpus_kept : (xs : List (Option Running)) (ts ss : List (Option ℕ)) (c : ℕ) (o : Option Running) → IsCpus xs ts ss → thread_of o ≡ thread_of (get_or xs c None) → IsCpus (set xs c o) ts ss
 cpus_kept xs ts ss c o is same =
     record {
-      most = subst (λ k. k ≤ 64) (sym (length-set xs c o)) is.most;
+      most = subst (λ k. k ≤ 128) (sym (length-set xs c o)) is.most;
       even = is.even ∙ sym (length-set xs c o);
       found = is.found ∙ sym (map-set_same thread_of xs c o None same);
       apart = is.apart;
@@ -188,7 +188,7 @@ cpus_set : (xs : List (Option Running)) (ts ss us : List (Option ℕ)) (c : ℕ)
     → ((d t : ℕ) → d ≢ c → thread_of o ≡ Some t → stands ts d ≡ Some t → ⊥) → IsCpus (set xs c o) us ss
 cpus_set xs ts ss us c o is e alone =
     record {
-      most = subst (λ k. k ≤ 64) (sym (length-set xs c o)) is.most;
+      most = subst (λ k. k ≤ 128) (sym (length-set xs c o)) is.most;
       even = is.even ∙ sym (length-set xs c o);
       found = e ∙ (ap (λ (vs : List (Option ℕ)). set vs c (thread_of o)) is.found ∙ sym (map-set thread_of xs c o));
       apart = subst StandApart (sym e) (apart_set ts c (thread_of o) is.apart alone);
@@ -235,10 +235,10 @@ found_none : (n : ℕ) → replicate n None ≡ map thread_of (replicate n None)
 found_none zero = refl
 found_none (suc n) = ap (λ (os : List (Option ℕ)). None ∷ os) (found_none n)
 
-pub cpus_unknown : (n : ℕ) (xs : List (Option Running)) (ts ss : List (Option ℕ)) → n ≤ 64 → xs ≡ replicate n None → ts ≡ replicate n None → ss ≡ replicate n None → IsCpus xs ts ss
+pub cpus_unknown : (n : ℕ) (xs : List (Option Running)) (ts ss : List (Option ℕ)) → n ≤ 128 → xs ≡ replicate n None → ts ≡ replicate n None → ss ≡ replicate n None → IsCpus xs ts ss
 cpus_unknown n xs ts ss most x t s =
     record {
-      most = subst (λ k. k ≤ 64) (sym count) most;
+      most = subst (λ k. k ≤ 128) (sym count) most;
       even = ap length s ∙ (length-replicate n None ∙ sym count);
       found = t ∙ (found_none n ∙ sym (ap (map thread_of) x));
       apart = λ c d u one two. nowhere c u one;

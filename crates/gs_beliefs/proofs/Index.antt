@@ -57,10 +57,10 @@ and_alone true = refl
 and_alone false = refl
 
 -- nobody stands on any of so many CPUs
-pub indexed_none : (n : ℕ) (xs : List (Option ℕ)) (buckets : List ℕ) (vacant : ℕ) → n ≤ 64 → xs ≡ replicate n None → buckets ≡ zeros 256 → ((c : ℕ) → has vacant c ≡ nat_lt c n) → IsIndexed xs buckets vacant
+pub indexed_none : (n : ℕ) (xs : List (Option ℕ)) (buckets : List ℕ) (vacant : ℕ) → n ≤ 128 → xs ≡ replicate n None → buckets ≡ zeros 256 → ((c : ℕ) → has vacant c ≡ nat_lt c n) → IsIndexed xs buckets vacant
 indexed_none n xs buckets vacant most begun is below =
     subst (λ (ys : List (Option ℕ)). IsIndexed ys buckets vacant) (sym begun) (record {
-      most = subst (λ k. k ≤ 64) (sym count) most;
+      most = subst (λ k. k ≤ 128) (sym count) most;
       count = ap length is ∙ length-replicate {A = ℕ} 256 0;
       in_buckets = λ bucket c.
           ap (λ (ms : List ℕ). has (get_or ms bucket 0) c) is
@@ -95,7 +95,7 @@ pub indexed_set : (xs : List (Option ℕ)) (buckets left entered : List ℕ) (va
     → IsIndexed (set xs c o) entered vacant'
 indexed_set xs buckets left entered vacant vacant' c o m =
     record {
-      most = subst (λ k. k ≤ 64) (sym count) moved.indexed.most;
+      most = subst (λ k. k ≤ 128) (sym count) moved.indexed.most;
       count = moved.count;
       in_buckets = λ bucket d. in_bucket bucket d (cases_eq d c);
       on_vacant = λ d. on_vacant d (cases_eq d c);

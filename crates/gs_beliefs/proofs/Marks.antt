@@ -1,40 +1,36 @@
 -- Sets of CPUs: those that are not in a mask, those below a number, and how many are left of a mask.
-use Rattle.std.proofs.Common.{Bool, true, false, not, ◌≡◌, ◌≢◌, ℕ, zero, suc, ◌+◌, ◌-◌, ◌^◌, ◌<◌, ◌≤◌, ◌⊎◌, inl, inr, ◌&&◌, ap, sym, ◌∙◌, refl, arith, w64}
+use Rattle.std.proofs.Common.{Bool, true, false, not, ◌≡◌, ◌≢◌, ℕ, zero, suc, ◌+◌, ◌-◌, ◌^◌, ◌<◌, ◌≤◌, ◌⊎◌, inl, inr, ◌&&◌, ap, sym, ◌∙◌, refl, arith}
 use Rattle.std.specs.Prelude.{nat_lt, ◌==◌}
-use Rattle.std.specs.Int.{bit_at, bit_not}
+use Rattle.std.specs.Int.{bit_at, bit_not, w128}
 use Rattle.std.proofs.lemmas.Bool.{cases_lt, cases_eq}
 use Rattle.std.proofs.lemmas.Bool.Decides.{nat_tests}
-use Rattle.std.proofs.lemmas.Nat.Bits.{shr_and_one, bit_at-lt, bit_at_not}
+use Rattle.std.proofs.lemmas.Nat.Bits.{bit_at-lt, bit_at_not}
 use Rattle.gs_status.specs.Masks.{has}
-use Rattle.gs_status.proofs.Laws.{has_none_past}
+use Rattle.gs_status.proofs.Laws.{has_by_bit, has_none_past}
 
 flipped : (x : ℕ) → x < 2 → (1 - x == 1) ≡ not (x == 1)
 flipped zero lt = refl
 flipped (suc zero) lt = refl
 flipped (suc (suc x)) lt = absurd (omega arith)
 
--- a CPU is in a mask if its bit is one
-has_by_bit : (n c : ℕ) → has n c ≡ (bit_at n c == 1)
-has_by_bit n c = ap (λ (k : ℕ). k == 1) (shr_and_one n c)
-
 -- the CPUs that are not in a mask
-pub has_others : (n c : ℕ) → n < 2 ^ 64 → has (bit_not w64 n) c ≡ (nat_lt c 64 && not (has n c))
-has_others n c fits = by_place (cases_lt c 64)
+pub has_others : (n c : ℕ) → n < 2 ^ 128 → has (bit_not w128 n) c ≡ (nat_lt c 128 && not (has n c))
+has_others n c fits = by_place (cases_lt c 128)
   where
-    small : n < 2 ^ 64
+    small : n < 2 ^ 128
     small = fits
 
-    by_place : (c < 64) ⊎ (64 ≤ c) → has (bit_not w64 n) c ≡ (nat_lt c 64 && not (has n c))
+    by_place : (c < 128) ⊎ (128 ≤ c) → has (bit_not w128 n) c ≡ (nat_lt c 128 && not (has n c))
     by_place (inl lt) =
-        let below : nat_lt c 64 ≡ true = grind (arith, nat_tests) in
-        has_by_bit (bit_not w64 n) c
-        ∙ (ap (λ (k : ℕ). k == 1) (bit_at_not w64 n c small lt)
+        let below : nat_lt c 128 ≡ true = grind (arith, nat_tests) in
+        has_by_bit (bit_not w128 n) c
+        ∙ (ap (λ (k : ℕ). k == 1) (bit_at_not w128 n c small lt)
         ∙ (flipped (bit_at n c) (bit_at-lt n c)
         ∙ (ap not (sym (has_by_bit n c)) ∙ sym (ap (λ (b : Bool). b && not (has n c)) below))))
     by_place (inr past) =
-        let above : nat_lt c 64 ≡ false = grind (arith, nat_tests) in
-        let within : bit_not w64 n < 2 ^ 64 = omega arith in
-        has_none_past (bit_not w64 n) c within past ∙ sym (ap (λ (b : Bool). b && not (has n c)) above)
+        let above : nat_lt c 128 ≡ false = grind (arith, nat_tests) in
+        let within : bit_not w128 n < 2 ^ 128 = omega arith in
+        has_none_past (bit_not w128 n) c within past ∙ sym (ap (λ (b : Bool). b && not (has n c)) above)
 
 -- the CPUs below a number, and one more
 pub below_more : (m m' n : ℕ) → ((c : ℕ) → has m c ≡ nat_lt c n) → has m' n ≡ true → ((c : ℕ) → c ≢ n → has m' c ≡ has m c) → (c : ℕ) → has m' c ≡ nat_lt c (n + 1)
@@ -90,21 +86,21 @@ one_less f g (suc n) c lt passes gone others = by_place f g n c lt passes gone o
 
 -- how many CPUs a mask has
 unfoldable pub remaining : ℕ → ℕ
-remaining m = how_many (has m) 64
+remaining m = how_many (has m) 128
 
 -- a mask without one of its CPUs has fewer
-pub fewer_left : (m m' c : ℕ) → c < 64 → has m c ≡ true → has m' c ≡ false → ((d : ℕ) → d ≢ c → has m' d ≡ has m d) → remaining m' < remaining m
+pub fewer_left : (m m' c : ℕ) → c < 128 → has m c ≡ true → has m' c ≡ false → ((d : ℕ) → d ≢ c → has m' d ≡ has m d) → remaining m' < remaining m
 unfolding remaining
-fewer_left m m' c lt is_in gone others = one_less (has m) (has m') 64 c lt is_in gone others
+fewer_left m m' c lt is_in gone others = one_less (has m) (has m') 128 c lt is_in gone others
 
 -- a CPU that no mask has is not missed
-pub without_past : (m a c : ℕ) → m < 2 ^ 64 → 64 ≤ a → has m c ≡ (has m c && not (a == c))
+pub without_past : (m a c : ℕ) → m < 2 ^ 128 → 128 ≤ a → has m c ≡ (has m c && not (a == c))
 without_past m a c fits past = by_place (cases_eq a c)
   where
-    fits' : m < 2 ^ 64
+    fits' : m < 2 ^ 128
     fits' = fits
 
-    past' : 64 ≤ a
+    past' : 128 ≤ a
     past' = past
 
     both : (x : Bool) → x ≡ (x && true)

@@ -1,5 +1,5 @@
 -- What an agent believes goes with the slots and with the active agent, event by event.
-use Rattle.std.proofs.Common.{◌≡◌, refl, ap, sym, ◌∙◌, subst, ℕ, Bool, true, Option, None, Some, List, [], ◌∷◌, map, take, slice_set}
+use Rattle.std.proofs.Common.{◌≡◌, refl, ap, sym, ◌∙◌, subst, ℕ, Bool, true, false, Option, None, Some, List, [], ◌∷◌, map, take, slice_set}
 use Rattle.std.specs.Option.{is_some, option_map}
 use Rattle.gs_layout.specs.declared.known.Known.{Known}
 use Rattle.gs_layout.specs.declared.message.Message.{Message}
@@ -12,7 +12,7 @@ use Rattle.gs_journal.specs.Standing.{standing, last_of}
 use Rattle.gs_journal.specs.History.{active, attaching}
 use Rattle.gs_kernel.specs.Lands.{Landings}
 use Rattle.gs_mind.specs.Mind.{picture_of}
-use Rattle.gs_mind.specs.Picture.{Picture, after_slots, after_stamp}
+use Rattle.gs_mind.specs.Picture.{Picture, after_all, after_stamp}
 use Rattle.gs_policy.specs.declared.choice.Choice.{Choice}
 use Rattle.gs_agent.specs.declared.drained.Drained.{Drained}
 use Rattle.gs_core.specs.declared.config.Config.{Config}
@@ -23,7 +23,7 @@ use Rattle.gs_core.proofs.Left.{AreAfter}
 use Rattle.gs_core.proofs.OneAgent.{not_both}
 use Rattle.gs_core.proofs.Roles.{NoNewRole}
 use Rattle.gs_core.proofs.Steps.{all_idle, was_role}
-use Rattle.gs_core.proofs.Thinking.{own_messages, own_slots, thinks_collected, thinks_first, thinks_messages, thinks_stamp}
+use Rattle.gs_core.proofs.Thinking.{own_messages, own_all, thinks_collected, thinks_first, thinks_messages, thinks_stamp}
 
 -- what a change of its picture makes of what an agent thinks, and of its own CPU
 thinks_then : (f : Picture → Picture) (o : Option Agent) (slots left : List SlotState) → ((p : Picture) → Thinks p.cpus slots → Thinks (f p).cpus left) → (is_some o ≡ true → Thinks (mind_of o).cpus slots)
@@ -36,23 +36,23 @@ own_then f None same = refl
 own_then f (Some a) same = same (picture_of a.mind)
 
 -- a stamp, and several of them
-stamp_with : (m : State) (c t : ℕ) (p : Bool) (a : Option (ℕ × ℕ)) (k : Option Known) → active m.history ≡ a → Knows m → Knows (stamps_with m c t p a k).1
-stamp_with m c t p None k is n = n
-stamp_with m c t p (Some a) None is n = n
-stamp_with m c t p (Some a) (Some k) is n =
-    let b : Stamp = stamp_of t p a k in
+stamp_with : (m : State) (c t : ℕ) (p w : Bool) (a : Option (ℕ × ℕ)) (k : Option Known) → active m.history ≡ a → Knows m → Knows (stamps_with m c t p w a k).1
+stamp_with m c t p w None k is n = n
+stamp_with m c t p w (Some a) None is n = n
+stamp_with m c t p w (Some a) (Some k) is n =
+    let b : Stamp = stamp_of t p w a k in
     record {
       thinks = thinks_then (after_stamp c t) m.agent m.slots (slice_set m.slots c (Stamped b)) (λ q t. thinks_stamp q.cpus m.slots c b t) n.thinks;
       own_cpu = λ x e. own_then (after_stamp c t) m.agent (λ q. refl) ∙ n.own_cpu x e;
       idle = λ q. absurd (not_both m.history (ap (λ o. is_some o) is) q);
     }
 
-pub knows_stamp : (m : State) (c t : ℕ) (p : Bool) → Knows m → Knows (stamps m c t p).1
-knows_stamp m c t p n = stamp_with m c t p (active m.history) (view m t) refl n
+pub knows_stamp : (m : State) (c t : ℕ) (p w : Bool) → Knows m → Knows (stamps m c t p w).1
+knows_stamp m c t p w n = stamp_with m c t p w (active m.history) (view m t) refl n
 
 pub knows_choices : (m : State) (xs : List Choice) → Knows m → Knows (stamps_all m xs)
 knows_choices m [] n = n
-knows_choices m (x ∷ xs) n = knows_choices (stamps m x.cpu x.tid x.preempt).1 xs (knows_stamp m x.cpu x.tid x.preempt n)
+knows_choices m (x ∷ xs) n = knows_choices (stamps m x.cpu x.tid x.preempt false).1 xs (knows_stamp m x.cpu x.tid x.preempt false n)
 
 -- a drain
 drained : (m : State) (max c : ℕ) (d : Drained) (a : Option Agent) → Drains m max d (record m { consumed = c; agent = a }) → Knows m → Knows (record m { consumed = c; agent = a })
@@ -72,8 +72,8 @@ knows_drain m max d m' r n = subst Knows (sym r.others) (drained m max m'.consum
 pub committed_knows : (m : State) (made : Landings) → AreAfter m.slots made.slots → NoNewRole m.history made.history → is_some (active m.history) ≡ true → NoneDone m.slots → Knows m → Knows (committed m made)
 committed_knows m made after roles acts none n =
     record {
-      thinks = thinks_then (after_slots 0 made.slots) m.agent m.slots (map collected made.slots) (λ q t. thinks_collected q m.slots made.slots after none t) n.thinks;
-      own_cpu = λ x e. own_then (after_slots 0 made.slots) m.agent (own_slots 0 made.slots) ∙ n.own_cpu x (roles.active x e);
+      thinks = thinks_then (after_all made.slots) m.agent m.slots (map collected made.slots) (λ q t. thinks_collected q m.slots made.slots after none t) n.thinks;
+      own_cpu = λ x e. own_then (after_all made.slots) m.agent (own_all made.slots) ∙ n.own_cpu x (roles.active x e);
       idle = λ q. absurd (not_both m.history acts (was_role (attaching m.history) (attaching made.history) roles.attaching q));
     }
 

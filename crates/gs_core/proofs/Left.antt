@@ -49,6 +49,32 @@ lands_after room s mask k (z ∷ slots) h r t =
     let one = one_after room s (has mask k) k z h t.0 t.2 in
     subst (AreAfter (z ∷ slots)) (sym (ap (λ (q : Landings). q.slots) t.4 ∙ ap (λ (xs : List SlotState). xs ++ t.1.slots) one.1)) (one.2, lands_after room s mask (suc k) slots t.0.history t.1 t.3)
 
+-- and so it is after more landings
+one_then : (y x w : SlotState) → IsAfter y x → IsAfter x w → IsAfter y w
+one_then y x w first (inr done) = inr done
+one_then y x w (inl same) (inl still) = inl (still ∙ same)
+one_then y x w (inr done) (inl still) = inr (ap is_done still ∙ done)
+
+pub after_then : (ys xs ws : List SlotState) → AreAfter ys xs → AreAfter xs ws → AreAfter ys ws
+after_then [] [] [] first then = tt
+after_then [] [] (w ∷ ws) first then = absurd then
+after_then [] (x ∷ xs) ws first then = absurd first
+after_then (y ∷ ys) [] ws first then = absurd first
+after_then (y ∷ ys) (x ∷ xs) [] first then = absurd then
+after_then (y ∷ ys) (x ∷ xs) (w ∷ ws) first then = (one_then y x w first.0 then.0, after_then ys xs ws first.1 then.1)
+
+-- what is stamped then was stamped before
+one_stamped : (y x : SlotState) (b : Stamp) → IsAfter y x → x ≡ Stamped b → y ≡ Stamped b
+one_stamped y x b (inl same) e = sym same ∙ e
+one_stamped y x b (inr done) e = absurd (false≢true (ap is_done (sym e) ∙ done))
+
+pub after_stamped : (ys xs : List SlotState) (i : ℕ) (b : Stamp) → AreAfter ys xs → slice_get xs i ≡ Some (Stamped b) → slice_get ys i ≡ Some (Stamped b)
+after_stamped [] [] i b after e = e
+after_stamped [] (x ∷ xs) i b after e = absurd after
+after_stamped (y ∷ ys) [] i b after e = absurd after
+after_stamped (y ∷ ys) (x ∷ xs) zero b after e = let q : x ≡ Stamped b = cc in ap Some (one_stamped y x b after.0 q)
+after_stamped (y ∷ ys) (x ∷ xs) (suc i) b after e = after_stamped ys xs i b after.1 e
+
 pub after_count : (ys xs : List SlotState) → AreAfter ys xs → length xs ≡ length ys
 after_count [] [] after = refl
 after_count [] (x ∷ xs) after = absurd after

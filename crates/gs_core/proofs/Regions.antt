@@ -13,12 +13,13 @@ use Rattle.gs_slots.specs.declared.state.Stamp.{Stamp}
 use Rattle.gs_slots.specs.Reading.{all_collected, state_in, state_or_idle, states_in, told_by}
 use Rattle.gs_slots.specs.State.{Held, collected}
 use Rattle.gs_slots.proofs.Laws.{all_idle_read, collected_read, get_held, held_get, set_as_it_was, set_held, state_at, states_count, states_set, told_is}
-use Rattle.gs_status.specs.Masks.{has}
 use Rattle.gs_journal.specs.History.{History}
 use Rattle.gs_kernel.specs.declared.settings.Settings.{Settings}
 use Rattle.gs_kernel.specs.declared.landing.Landing.{Landing}
 use Rattle.gs_kernel.specs.Legal.{Room}
-use Rattle.gs_kernel.specs.Lands.{Adds, Landings, LandingsOf, LandsAll, LandsBytes, LandsHeld, LandsIf, LandsIfBy, LandsIn, LandsRegion, then_others}
+use Rattle.gs_kernel.specs.Lands.{Adds}
+use Rattle.gs_kernel.specs.Group.{CommitsRegion, LandsCommit}
+use Rattle.gs_kernel.proofs.Laws.{commit_read}
 
 -- each slot of a region has a state, in increasing order of CPU
 abbrev pub AreRead : List (List ℕ) → List SlotState → Type 0
@@ -48,65 +49,24 @@ slot_set bs zs k b z e is = states_set 0 k bs b ∙ ((λ i. slice_set (e i) k ((
 pub slot_state : (bs : List (List ℕ)) (zs : List SlotState) (k : ℕ) (h : Held) → AreRead bs zs → slice_get (states_in 0 bs) k ≡ Some h → slice_get zs k ≡ Some (state_or_idle h)
 slot_state bs zs k h e is = get_held zs k h (ap (λ (xs : List Held). slice_get xs k) (sym e) ∙ is)
 
--- ---- landings
-
--- landings that leave states leave the bytes of a region, of which these are read from CPU k on
-pub record Same (k : ℕ) (r : LandingsOf (List ℕ)) (q : Landings) : Type 0 where
-  pub answers : r.answers ≡ q.answers
-  pub history : r.history ≡ q.history
-  pub slots : states_in k r.slots ≡ map Ok q.slots
-
-first_held : (x y : Held) (xs ys : List Held) → x ∷ xs ≡ y ∷ ys → (x ≡ y) × (xs ≡ ys)
-first_held x y xs ys e = (cc, cc)
-
-held_if : (room : Room) (s : Settings) (h : History) (k : ℕ) (x : Held) (z : SlotState) (o : Option Landing) (x' : Held) (h' : History) → x ≡ Ok z → LandsHeld room s h k x o x' h' → (z' : SlotState) × LandsIn room s h k z o z' h' × (x' ≡ Ok z')
-held_if room s h k x z o x' h' e t = subst (λ (y : Held). LandsHeld room s h k y o x' h') e t
-
-one_if : (room : Room) (s : Settings) (wanted : Bool) (k : ℕ) (b : List ℕ) (z : SlotState) (h : History) (r : LandingsOf (List ℕ)) → state_in k b ≡ Ok z → LandsIfBy (LandsBytes room s) wanted k b h r
-    → (q : Landings) × LandsIf room s wanted k z h q × (c : List ℕ) × (y : SlotState) × (r.answers ≡ q.answers) × (r.history ≡ q.history) × (r.slots ≡ c ∷ []) × (q.slots ≡ y ∷ []) × (state_in k c ≡ Ok y)
-one_if room s false k b z h r e t = (record { answers = []; history = h; slots = z ∷ [] }, refl, b, z, ap (λ (p : LandingsOf (List ℕ)). p.answers) t, ap (λ (p : LandingsOf (List ℕ)). p.history) t, ap (λ (p : LandingsOf (List ℕ)). p.slots) t, refl, e)
-one_if room s true k b z h r e t =
-    let u = held_if room s h k (state_in k b) z t.0 (state_in k t.1) r.history e t.2 in
-    (record { answers = r.answers; history = r.history; slots = u.0 ∷ [] }, (t.0, u.0, u.1, t.3, refl), t.1, u.0, refl, refl, t.4, refl, u.2)
-
-pub all_if : (room : Room) (s : Settings) (mask k : ℕ) (bs : List (List ℕ)) (zs : List SlotState) (h : History) (r : LandingsOf (List ℕ)) → states_in k bs ≡ map Ok zs → LandsRegion room s mask k bs h r → (q : Landings) × LandsAll room s mask k zs h q × Same k r q
-all_if room s mask k [] [] h r e t = (record { answers = []; history = h; slots = [] }, refl, record { answers = ap (λ (p : LandingsOf (List ℕ)). p.answers) t; history = ap (λ (p : LandingsOf (List ℕ)). p.history) t; slots = ap (λ (p : LandingsOf (List ℕ)). states_in k p.slots) t })
-all_if room s mask k [] (z ∷ zs) h r e t = absurd cc
-all_if room s mask k (b ∷ bs) [] h r e t = absurd cc
-all_if room s mask k (b ∷ bs) (z ∷ zs) h r e t =
-    let p = first_held (state_in k b) (Ok z) (states_in (suc k) bs) (map Ok zs) e in
-    let one = one_if room s (has mask k) k b z h t.0 p.0 t.2 in
-    let rest = all_if room s mask (suc k) bs zs t.0.history t.1 p.1 t.3 in
-    let q : Landings = one.0 in
-    let u : Landings = rest.0 in
-    let lands : LandsAll room s mask (suc k) zs q.history u = subst (λ (g : History). LandsAll room s mask (suc k) zs g u) one.5 rest.1 in
-    let slots : states_in k (t.0.slots ++ t.1.slots) ≡ map Ok (q.slots ++ u.slots) =
-    ap (λ (xs : List (List ℕ)). states_in k (xs ++ t.1.slots)) one.6 ∙ ((λ i. one.8 i ∷ rest.2.slots i) ∙ ap (λ (ys : List SlotState). map Ok (ys ++ u.slots)) (sym one.7)) in (
-      then_others q u,
-      (q, u, one.1, lands, refl),
-      record {
-        answers = ap (λ (w : LandingsOf (List ℕ)). w.answers) t.4 ∙ (λ i. one.4 i ++ rest.2.answers i);
-        history = ap (λ (w : LandingsOf (List ℕ)). w.history) t.4 ∙ rest.2.history;
-        slots = ap (λ (w : LandingsOf (List ℕ)). states_in k w.slots) t.4 ∙ slots;
-      },
-    )
+-- ---- commits
 
 -- a commit of a region lands its states, and leaves states
-pub commit_read : (room : Room) (s : Settings) (mask : ℕ) (bs left : List (List ℕ)) (zs : List SlotState) (h h' : History) (answers : List Landing) → AreRead bs zs → Adds (LandsRegion room s mask 0 bs h) [] answers left h'
-    → Adds (LandsAll room s mask 0 zs h) [] answers (told_by 0 left) h' × AreRead left (told_by 0 left)
-commit_read room s mask bs left zs h h' answers e a =
-    let all = all_if room s mask 0 bs zs h a.made e a.lands in
+commit_told : (room : Room) (s : Settings) (mask : ℕ) (bs left : List (List ℕ)) (zs : List SlotState) (h h' : History) (answers : List Landing) → AreRead bs zs → Adds (CommitsRegion room s mask bs h) [] answers left h'
+    → Adds (LandsCommit room s mask zs h) [] answers (told_by 0 left) h' × AreRead left (told_by 0 left)
+commit_told room s mask bs left zs h h' answers e a =
+    let all = commit_read room s mask bs zs h a.made e a.lands in
     let read : AreRead left all.0.slots = ap (states_in 0) a.slots ∙ all.2.slots in
     (record { made = all.0; lands = all.1; answers = a.answers ∙ all.2.answers; slots = told_is 0 left all.0.slots read; history = a.history ∙ all.2.history }, read_told left all.0.slots read)
 
-pub commit_lands : (room : Room) (s : Settings) (mask : ℕ) (bs left : List (List ℕ)) (zs : List SlotState) (h h' : History) (r : Result (Vec Landing) Refusal) → AreRead bs zs → IfOk r (λ l. Adds (LandsRegion room s mask 0 bs h) [] l.items left h')
-    → IfOk r (λ l. Adds (LandsAll room s mask 0 zs h) [] l.items (told_by 0 left) h')
-commit_lands room s mask bs left zs h h' (Ok l) e a = (commit_read room s mask bs left zs h h' l.items e a).0
+pub commit_lands : (room : Room) (s : Settings) (mask : ℕ) (bs left : List (List ℕ)) (zs : List SlotState) (h h' : History) (r : Result (Vec Landing) Refusal) → AreRead bs zs → IfOk r (λ l. Adds (CommitsRegion room s mask bs h) [] l.items left h')
+    → IfOk r (λ l. Adds (LandsCommit room s mask zs h) [] l.items (told_by 0 left) h')
+commit_lands room s mask bs left zs h h' (Ok l) e a = (commit_told room s mask bs left zs h h' l.items e a).0
 commit_lands room s mask bs left zs h h' (Err f) e a = tt
 
-pub commit_left : (room : Room) (s : Settings) (mask : ℕ) (bs left : List (List ℕ)) (zs : List SlotState) (h h' : History) (r : Result (Vec Landing) Refusal) (same : Type 0) → AreRead bs zs → IfOk r (λ l. Adds (LandsRegion room s mask 0 bs h) [] l.items left h')
+pub commit_left : (room : Room) (s : Settings) (mask : ℕ) (bs left : List (List ℕ)) (zs : List SlotState) (h h' : History) (r : Result (Vec Landing) Refusal) (same : Type 0) → AreRead bs zs → IfOk r (λ l. Adds (CommitsRegion room s mask bs h) [] l.items left h')
     → OnErr r (same × (left ≡ bs)) → AreRead left (told_by 0 left)
-commit_left room s mask bs left zs h h' (Ok l) same e a u = (commit_read room s mask bs left zs h h' l.items e a).1
+commit_left room s mask bs left zs h h' (Ok l) same e a u = (commit_told room s mask bs left zs h h' l.items e a).1
 commit_left room s mask bs left zs h h' (Err f) same e a u = read_told left zs (ap (states_in 0) u.1 ∙ e)
 
 -- ---- idle, collected and stamped slots

@@ -44,6 +44,9 @@ roles_torn h =
       attaching = λ g p. let z : None ≡ Some g = sym (attaching_none h) ∙ p in absurd cc;
     }
 
+pub roles_placed : (h : History) (k : ℕ) (b : Stamp) → NoNewRole h (h ++ placing k b ∷ [])
+roles_placed h k b = beside_roles h _ (beside_placed h b.tid b.tseq k b.generation)
+
 pub roles_taken : (h : History) (c : ℕ) → NoNewRole h (h ++ Taken c ∷ [])
 roles_taken h c = let b = beside_quiet h (Taken c) (λ x. refl) (λ x. refl) refl refl refl in same_roles h _ b.0 b.1
 
@@ -63,7 +66,7 @@ entry_roles h (Some k) e then = subst (NoNewRole h) (append_assoc h (Posted k �
 -- landings place threads, or tear the enclave down
 pub landing_roles : (room : Room) (s : Settings) (h : History) (k : ℕ) (b : Stamp) (o : Outcome) (h' : History) → Settles room s h k b (verdict s h k b) o h' → NoNewRole h h'
 landing_roles room s h k b o h' t =
-    landing_keeps (NoNewRole h) room s h k b o h' t (λ e. entry_roles h (preemption s h k) (placing k b) (λ g. beside_roles g _ (beside_placed g b.tid b.tseq k b.generation))) (roles_torn h) (same_history h h refl)
+    landing_keeps (NoNewRole h) room s h k b o h' t (λ e. entry_roles h (preemption s h k) (placing k b) (λ g. roles_placed g k b)) (roles_torn h) (same_history h h refl)
 
 pub lands_roles : (room : Room) (s : Settings) (mask k : ℕ) (slots : List SlotState) (h : History) (r : Landings) → LandsAll room s mask k slots h r → NoNewRole h r.history
 lands_roles room s mask k slots h r lands =

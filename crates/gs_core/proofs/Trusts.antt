@@ -16,7 +16,7 @@ use Rattle.gs_journal.proofs.Laws.{same_view}
 use Rattle.gs_kernel.specs.Lands.{Landings}
 use Rattle.gs_beliefs.proofs.Laws.{believed_on_unknown}
 use Rattle.gs_mind.specs.Mind.{picture_of}
-use Rattle.gs_mind.specs.Picture.{Picture, after_slots, after_stamp}
+use Rattle.gs_mind.specs.Picture.{Picture, after_all, after_stamp}
 use Rattle.gs_policy.specs.declared.choice.Choice.{Choice}
 use Rattle.gs_agent.specs.declared.drained.Drained.{Drained}
 use Rattle.gs_core.specs.declared.config.Config.{Config}
@@ -29,7 +29,7 @@ use Rattle.gs_core.proofs.Steps.{idle, some_thinks}
 use Rattle.gs_core.proofs.Believing.{trusted_taken}
 use Rattle.gs_core.proofs.Left.{AreAfter, none_collected}
 use Rattle.gs_core.proofs.Seeing.{seen_left, seen_taken}
-use Rattle.gs_core.proofs.Collecting.{AreLanded, trusted_slots}
+use Rattle.gs_core.proofs.Collecting.{AreLanded, trusted_all}
 
 -- what an agent thinks changes nothing of what it knows, nor of its pages
 thought : (h : History) (n : ℕ) (f : Picture → Picture) (o : Option Agent)
@@ -43,10 +43,10 @@ seen_thought h f None slots seen = seen
 seen_thought h f (Some a) slots seen = seen
 
 -- a stamp, of what is known now
-stamp_with : (m : State) (c t : ℕ) (p : Bool) (a : Option (ℕ × ℕ)) (k : Option Known) → view m t ≡ k → Trusts m → Trusts (stamps_with m c t p a k).1
-stamp_with m c t p None k is trusts = trusts
-stamp_with m c t p (Some a) None is trusts = trusts
-stamp_with m c t p (Some a) (Some k) is trusts =
+stamp_with : (m : State) (c t : ℕ) (p w : Bool) (a : Option (ℕ × ℕ)) (k : Option Known) → view m t ≡ k → Trusts m → Trusts (stamps_with m c t p w a k).1
+stamp_with m c t p w None k is trusts = trusts
+stamp_with m c t p w (Some a) None is trusts = trusts
+stamp_with m c t p w (Some a) (Some k) is trusts =
     let f : Picture → Picture = after_stamp c t in
     record {
       trusted = λ up. thought m.history m.consumed f m.agent (λ q trust. trust) (trusts.trusted up);
@@ -55,7 +55,7 @@ stamp_with m c t p (Some a) (Some k) is trusts =
     }
   where
     b : Stamp
-    b = stamp_of t p a k
+    b = stamp_of t p w a k
 
     by_slot : (i : ℕ) (z : Stamp) → AreSeen m.history (view m) m.slots → (slice_get m.slots i ≡ Some (Stamped z)) ⊎ ((i ≡ c) × (Stamped z ≡ Stamped b)) → IsSeen m.history (view m) z
     by_slot i z seen (inl e) = seen i z e
@@ -68,13 +68,13 @@ stamp_with m c t p (Some a) (Some k) is trusts =
     none i z o there q (inl e) = trusts.none_done i z o there q e
     none i z o there q (inr e) = let no_way : Done z o there q ≡ Stamped b = e.1 in cc
 
-pub trusts_stamp : (m : State) (c t : ℕ) (p : Bool) → Trusts m → Trusts (stamps m c t p).1
-trusts_stamp m c t p trusts = stamp_with m c t p (active m.history) (view m t) refl trusts
+pub trusts_stamp : (m : State) (c t : ℕ) (p w : Bool) → Trusts m → Trusts (stamps m c t p w).1
+trusts_stamp m c t p w trusts = stamp_with m c t p w (active m.history) (view m t) refl trusts
 
 -- and several of them
 pub trusts_choices : (m : State) (xs : List Choice) → Trusts m → Trusts (stamps_all m xs)
 trusts_choices m [] t = t
-trusts_choices m (x ∷ xs) t = trusts_choices (stamps m x.cpu x.tid x.preempt).1 xs (trusts_stamp m x.cpu x.tid x.preempt t)
+trusts_choices m (x ∷ xs) t = trusts_choices (stamps m x.cpu x.tid x.preempt false).1 xs (trusts_stamp m x.cpu x.tid x.preempt false t)
 
 -- landings, collected
 pub committed_trusts : (m : State) (made : Landings) → AreAfter m.slots made.slots → AreLanded m.settings m.transactions m.consumed (view m) (page_of m.agent) m.history made → Trusts m → Trusts (committed m made)
@@ -82,8 +82,8 @@ committed_trusts m made after l t =
     let h : History = made.history in
     let slots : List SlotState = made.slots in
     record {
-      trusted = λ up. thought h m.consumed (after_slots 0 slots) m.agent (λ p. trusted_slots h m.consumed (view m) (page_of m.agent) 0 slots p (l.shows up)) (λ c x is. l.keeps up c x (t.trusted (l.stood up) c x is));
-      seen = λ some. seen_thought h (after_slots 0 slots) m.agent (map collected slots) (seen_left h (view m) m.slots slots after (λ i b e. l.seen b (t.seen (sym (some_thinks (after_slots 0 slots) m.agent) ∙ some) i b e)));
+      trusted = λ up. thought h m.consumed (after_all slots) m.agent (λ p. trusted_all h m.consumed (view m) (page_of m.agent) slots p (l.shows up)) (λ c x is. l.keeps up c x (t.trusted (l.stood up) c x is));
+      seen = λ some. seen_thought h (after_all slots) m.agent (map collected slots) (seen_left h (view m) m.slots slots after (λ i b e. l.seen b (t.seen (sym (some_thinks (after_all slots) m.agent) ∙ some) i b e)));
       none_done = none_collected slots;
     }
 

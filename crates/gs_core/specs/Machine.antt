@@ -20,7 +20,8 @@ use Rattle.gs_kernel.specs.declared.landing.Landing.{Landing}
 use Rattle.gs_kernel.specs.declared.command.Command.{Command}
 use Rattle.gs_kernel.specs.declared.command.Command.TheVariants as commands
 use Rattle.gs_kernel.specs.Legal.{Room, Tells, effect, last_in, standing_refusal as command_refusal}
-use Rattle.gs_kernel.specs.Lands.{Landings, Lands, LandsAll}
+use Rattle.gs_kernel.specs.Lands.{Landings, Lands}
+use Rattle.gs_kernel.specs.Group.{LandsCommit}
 use Rattle.gs_kernel.specs.First.{first_that}
 use Rattle.gs_kernel.specs.Kernel.{has_agent, unless_torn}
 use Rattle.gs_kernel.specs.Shown.{live_threads}
@@ -32,7 +33,7 @@ use Rattle.gs_policy.specs.Shown.{Shown}
 use Rattle.gs_policy.specs.declared.choice.Choice.{Choice}
 use Rattle.gs_view.specs.Begins.{begins}
 use Rattle.gs_mind.specs.Mind.{MindState, moved, nothing, picture_of, shown_in, thinks}
-use Rattle.gs_mind.specs.Picture.{Picture, after_slots, after_stamp, takes_in_all}
+use Rattle.gs_mind.specs.Picture.{Picture, after_all, after_stamp, takes_in_all}
 use Rattle.gs_mind.specs.Pages.{after_page}
 use Rattle.gs_view.specs.Shown.{tids}
 use Rattle.std.specs.List.Sorted.{IsStrictlyIncreasing}
@@ -92,7 +93,7 @@ planned f events.Crash = events.Crash
 planned f (events.Begin p) = events.Begin (f p)
 planned f (events.Page max) = events.Page max
 planned f (events.Drain max) = events.Drain max
-planned f (events.Stamp c t p) = events.Stamp c t p
+planned f (events.Stamp c t p g) = events.Stamp c t p g
 planned f events.Decide = events.Decide
 planned f (events.Commit mask) = events.Commit mask
 planned f (events.Late n) = events.Late n
@@ -199,7 +200,7 @@ standing_refusal m events.Crash = kernel_refusal m commands.Leave
 standing_refusal m (events.Begin p) = kernel_refusal m commands.Begin
 standing_refusal m (events.Page max) = page_refusal m.history (is_given_all m)
 standing_refusal m (events.Drain max) = first_that ((not (has_agent m.history), Some refusals.NotActive) ∷ []) None
-standing_refusal m (events.Stamp c t p) =
+standing_refusal m (events.Stamp c t p g) =
     without_agent m (
     first_that (
     (nat_le m.settings.cpus c, Some refusals.BadCpu)
@@ -250,30 +251,31 @@ pub record Carries (m : State) (c : Command) (r : Reply) (m' : State) : Type 0 w
     slots = freed_by m.settings.cpus (last_in (effect m.settings m.history c)) fit m.slots;
   }
 
--- what is stamped: the active generation, the record's sequence number, and whether a thread on the CPU is to be taken off
-abbrev pub stamp_of : ℕ → Bool → (ℕ × ℕ) → Known → Stamp
-stamp_of t p a k = record { generation = a.0; tid = t; tseq = k.tseq; preempt = p }
+-- what is stamped: the active generation, the record's sequence number, whether a thread on the CPU is to be taken off, and whether it is
+-- one of a group
+abbrev pub stamp_of : ℕ → Bool → Bool → (ℕ × ℕ) → Known → Stamp
+stamp_of t p g a k = record { generation = a.0; tid = t; tseq = k.tseq; preempt = p; group = g }
 
 -- the record that the view has is stamped into the slot, and kept with the transaction, and the agent remembers the stamp
-abbrev pub stamps_with : State → ℕ → ℕ → Bool → Option (ℕ × ℕ) → Option Known → Reply × State
-stamps_with m c t p (Some a) (Some k) = (
+abbrev pub stamps_with : State → ℕ → ℕ → Bool → Bool → Option (ℕ × ℕ) → Option Known → Reply × State
+stamps_with m c t p g (Some a) (Some k) = (
   replies.Stamped (length m.transactions + 1),
   record m {
     agent = option_map (thinking (after_stamp c t)) m.agent;
-    slots = slice_set m.slots c (Stamped (stamp_of t p a k));
-    transactions = m.transactions ++ record { cpu = c; slot = stamp_of t p a k; facts = k.facts } ∷ [];
+    slots = slice_set m.slots c (Stamped (stamp_of t p g a k));
+    transactions = m.transactions ++ record { cpu = c; slot = stamp_of t p g a k; facts = k.facts } ∷ [];
   },
 )
-stamps_with m c t p None k = (replies.Refused refusals.NotActive, m)
-stamps_with m c t p (Some a) None = (replies.Refused refusals.NoThread, m)
+stamps_with m c t p g None k = (replies.Refused refusals.NotActive, m)
+stamps_with m c t p g (Some a) None = (replies.Refused refusals.NoThread, m)
 
-abbrev pub stamps : State → ℕ → ℕ → Bool → Reply × State
-stamps m c t p = stamps_with m c t p (active m.history) (view m t)
+abbrev pub stamps : State → ℕ → ℕ → Bool → Bool → Reply × State
+stamps m c t p g = stamps_with m c t p g (active m.history) (view m t)
 
--- choices are stamped one after another
+-- choices are stamped one after another, each by itself
 abbrev pub stamps_all : State → List Choice → State
 stamps_all m [] = m
-stamps_all m (x ∷ xs) = stamps_all (stamps m x.cpu x.tid x.preempt).1 xs
+stamps_all m (x ∷ xs) = stamps_all (stamps m x.cpu x.tid x.preempt false).1 xs
 
 -- what the policy plans is stamped, in the plan's order
 abbrev pub decides : State → Reply × State
@@ -282,12 +284,12 @@ decides m = (replies.Decided (length m.transactions + 1) (plan_of m), stamps_all
 -- after landings: the agent takes in what became of the slots, and what is done is idle then
 abbrev pub committed : State → Landings → State
 committed m made =
-    record m { history = made.history; agent = option_map (thinking (after_slots 0 made.slots)) m.agent; slots = map collected made.slots }
+    record m { history = made.history; agent = option_map (thinking (after_all made.slots)) m.agent; slots = map collected made.slots }
 
--- a commit: the stamped slots of a mask land and are collected, and the reply says whether that tore the enclave down
+-- a commit: the stamped slots of a mask land, those of a group first and together, and are collected. The reply says whether that tore the enclave down
 pub record Commits (m : State) (mask : ℕ) (r : Reply) (m' : State) : Type 0 where
   pub made : Landings
-  pub lands : LandsAll (fits m) m.settings mask 0 m.slots m.history made
+  pub lands : LandsCommit (fits m) m.settings mask m.slots m.history made
   pub reply : r ≡ replies.Landed made.answers (torn made.history)
   pub left : m' ≡ committed m made
 
@@ -368,7 +370,7 @@ Does m events.Crash r m' = (r ≡ replies.Crashed) × (m' ≡ crashed m)
 Does m (events.Begin p) r m' = Carries (planned_by p m) commands.Begin r m'
 Does m (events.Page max) r m' = Attaches m max r m'
 Does m (events.Drain max) r m' = (d : Drained) × (r ≡ replies.Drained d) × Drains m max d m'
-Does m (events.Stamp c t p) r m' = (r ≡ (stamps m c t p).0) × (m' ≡ (stamps m c t p).1)
+Does m (events.Stamp c t p g) r m' = (r ≡ (stamps m c t p g).0) × (m' ≡ (stamps m c t p g).1)
 Does m events.Decide r m' = (r ≡ (decides m).0) × (m' ≡ (decides m).1)
 Does m (events.Commit mask) r m' = Commits m mask r m'
 Does m (events.Late n) r m' = LandsLate m n r m'

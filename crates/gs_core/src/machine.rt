@@ -220,23 +220,23 @@ impl<P: Counted + Copy> Machine<P> {
         Ok(())
     }
 
-    fn stamp(&mut self, cpu: u16, tid: u32, preempt: bool) -> Reply
+    fn stamp(&mut self, cpu: u16, tid: u32, preempt: bool, group: bool) -> Reply
         requires { torn self.old.history ≡ false }
-        ensures step { Step (planning P.chosen self.old) (Event.Stamp cpu tid preempt) result (planning P.chosen self.new) }
+        ensures step { Step (planning P.chosen self.old) (Event.Stamp cpu tid preempt group) result (planning P.chosen self.new) }
         ensures policy { self.new.policy ≡ self.old.policy }
     {
-        match self.try_stamp(cpu, tid, preempt) {
+        match self.try_stamp(cpu, tid, preempt, group) {
             Ok(number) => Reply::Stamped { number },
             Err(refusal) => Reply::Refused(refusal),
         }
     }
 
     /// Stamps what the view has of a thread into the slot of a CPU. Returns the transaction's number.
-    fn try_stamp(&mut self, cpu: u16, tid: u32, preempt: bool) -> Result<u32, Refusal>
-        ensures fits { IfOk result (λ _. standing_refusal (planning P.chosen self.old) (Event.Stamp cpu tid preempt) ≡ None) }
-        ensures number { IfOk result (λ n. Reply.Stamped n ≡ (stamps (planning P.chosen self.old) cpu tid preempt).0) }
-        ensures ok { OnOk result (planning P.chosen self.new ≡ (stamps (planning P.chosen self.old) cpu tid preempt).1) }
-        ensures refused { IfErr result (IsRefusal (standing_refusal (planning P.chosen self.old) (Event.Stamp cpu tid preempt))) }
+    fn try_stamp(&mut self, cpu: u16, tid: u32, preempt: bool, group: bool) -> Result<u32, Refusal>
+        ensures fits { IfOk result (λ _. standing_refusal (planning P.chosen self.old) (Event.Stamp cpu tid preempt group) ≡ None) }
+        ensures number { IfOk result (λ n. Reply.Stamped n ≡ (stamps (planning P.chosen self.old) cpu tid preempt group).0) }
+        ensures ok { OnOk result (planning P.chosen self.new ≡ (stamps (planning P.chosen self.old) cpu tid preempt group).1) }
+        ensures refused { IfErr result (IsRefusal (standing_refusal (planning P.chosen self.old) (Event.Stamp cpu tid preempt group))) }
         ensures policy { self.new.policy ≡ self.old.policy }
         ensures unchanged { OnErr result (self.new ≡ self.old) }
     {
@@ -252,7 +252,13 @@ impl<P: Counted + Copy> Machine<P> {
             return Err(stamp_refusal(role, &self.region, cpu, tid).unwrap_or(refusal));
         }
         let choice = Choice { cpu, tid, preempt };
-        stamp_choice(role, &mut self.region, &mut self.transactions, choice)?;
+        stamp_choice(
+            role,
+            &mut self.region,
+            &mut self.transactions,
+            choice,
+            group,
+        )?;
         Ok(self.transactions.len())
     }
 
@@ -416,7 +422,12 @@ impl<P: Counted + Copy> Machine<P> {
             }
             Event::Page { max } => self.page(*max),
             Event::Drain { max } => self.drain(*max),
-            Event::Stamp { cpu, tid, preempt } => self.stamp(*cpu, *tid, *preempt),
+            Event::Stamp {
+                cpu,
+                tid,
+                preempt,
+                group,
+            } => self.stamp(*cpu, *tid, *preempt, *group),
             Event::Decide => self.decide(),
             Event::Commit { mask } => self.commit(*mask),
             Event::Late { number } => self.late(*number),

@@ -8,11 +8,12 @@ ghost use Rattle.gs_slots.specs.Reading.{states_in};
 ghost use Rattle.gs_slots.specs.State.{collected, is_stamped};
 ghost use Rattle.gs_agent.specs.Role.{stamp_refusal};
 ghost use Rattle.gs_mind.specs.Mind.{picture_of, thinks};
-ghost use Rattle.gs_mind.specs.Picture.{after_slots, after_stamp};
+ghost use Rattle.gs_mind.specs.Picture.{after_all, after_stamp};
 ghost use Rattle.gs_kernel.specs.Commit.{commit_refusal};
 ghost use Rattle.gs_kernel.specs.Kernel.{IsRefusal};
 ghost use Rattle.gs_kernel.specs.Legal.{Frame, RoomOf};
-ghost use Rattle.gs_kernel.specs.Lands.{Adds, LandsAll};
+ghost use Rattle.gs_kernel.specs.Lands.{Adds};
+ghost use Rattle.gs_kernel.specs.Group.{LandsCommit};
 ghost use Rattle.gs_core.specs.Machine.{stamp_of};
 
 use gs_agent::Role;
@@ -101,17 +102,18 @@ impl MachineSlots {
         cpu: u16,
         tid: u32,
         preempt: bool,
+        group: bool,
     ) -> Result<Known, Refusal>
         requires { cpu < length self.old }
         ensures known { IfOk result (λ known. look_up role.old.mind.records tid ≡ Some known) }
         ensures idle { OnOk result (slice_get self.old cpu ≡ Some SlotState.Idle) }
-        ensures slots { IfOk result (λ known. self.new ≡ slice_set self.old cpu (SlotState.Stamped (stamp_of tid preempt (role.old.generation, cpu) known))) }
+        ensures slots { IfOk result (λ known. self.new ≡ slice_set self.old cpu (SlotState.Stamped (stamp_of tid preempt group (role.old.generation, cpu) known))) }
         ensures role { OnOk result (role.new ≡ record role.old { mind = thinks role.old.mind (after_stamp cpu tid (picture_of role.old.mind)) }) }
         ensures refused { IfErr result (λ refusal. (state : SlotState) → slice_get self.old cpu ≡ Some state → stamp_refusal (look_up role.old.mind.records tid) (Ok state) ≡ Some refusal) }
         ensures slots_stay { OnErr result (self.new ≡ self.old) }
         ensures role_stays { OnErr result (role.new ≡ role.old) }
     {
-        role.stamp(self.region.slot(cpu), tid, preempt)
+        role.stamp(self.region.slot(cpu), tid, preempt, group)
     }
 
     /// Lets the kernel land the slots of a mask, as `Kernel::txns_commit` says.
@@ -123,7 +125,7 @@ impl MachineSlots {
     ) -> Result<Vec<Landing>, Refusal>
         requires cpus { length self.old ≡ kernel.old.settings.cpus }
         ensures accepted { IfOk result (λ _. commit_refusal kernel.old.settings kernel.old.history mask ≡ None) }
-        ensures lands { IfOk result (λ l. Adds (LandsAll (RoomOf P.same P.taken P.posted P.tight kernel.old.poster) kernel.old.settings mask 0 self.old kernel.old.history) [] l.items self.new kernel.new.history) }
+        ensures lands { IfOk result (λ l. Adds (LandsCommit (RoomOf P.same P.taken P.posted P.tight kernel.old.poster) kernel.old.settings mask self.old kernel.old.history) [] l.items self.new kernel.new.history) }
         ensures refused { IfErr result (IsRefusal (commit_refusal kernel.old.settings kernel.old.history mask)) }
         ensures unchanged { OnErr result ((kernel.new ≡ kernel.old) × (self.new ≡ self.old)) }
         ensures frame { Frame P.same P.taken P.posted kernel.old kernel.new }
@@ -134,7 +136,7 @@ impl MachineSlots {
     /// Lets a role take in what became of the slots that are done, and makes these idle.
     pub(crate) fn collect<P>(&mut self, role: &mut Role<P>)
         ensures slots { self.new ≡ map collected self.old }
-        ensures role { role.new ≡ record role.old { mind = thinks role.old.mind (after_slots 0 self.old (picture_of role.old.mind)) } }
+        ensures role { role.new ≡ record role.old { mind = thinks role.old.mind (after_all self.old (picture_of role.old.mind)) } }
     {
         role.collect(&mut self.region);
     }

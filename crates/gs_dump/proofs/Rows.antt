@@ -1,9 +1,10 @@
 -- Worked pages, spelled and read by the definitions.
-use Rattle.std.proofs.Common.{◌≡◌, ℕ, true, false, Some, None, List, [], ◌∷◌, ◌++◌, replicate, refl}
+use Rattle.std.proofs.Common.{◌≡◌, ◌^◌, ℕ, true, false, Some, None, List, [], ◌∷◌, ◌++◌, replicate, refl}
 use Rattle.gs_layout.specs.declared.facts.Class.TheVariants.{Zero, One}
 use Rattle.gs_dump.specs.declared.fault.PageFault.TheVariants as faults
 use Rattle.gs_dump.specs.declared.record.DumpRecord.{DumpRecord}
-use Rattle.gs_dump.specs.Page.{Contents, page_spelling}
+use Rattle.gs_dump.specs.declared.version.Version.TheVariants as versions
+use Rattle.gs_dump.specs.Page.{Contents, page_spelling, spelling_in}
 use Rattle.gs_dump.specs.Record.{record_spelling}
 use Rattle.gs_dump.specs.Reading.{page_fault, page_in, record_fits, texts}
 
@@ -13,7 +14,7 @@ web = record { tid = 1; tseq = 1; facts = record { runnable = true; mask = 3; cl
 
 abbrev web_bytes : List ℕ
 web_bytes =
-    (0x01 ∷ 0x00 ∷ 0x00 ∷ 0x03 ∷ 0x01 ∷ 0x00 ∷ 0x00 ∷ 0x00 ∷ 0x01 ∷ 0x00 ∷ 0x00 ∷ 0x00 ∷ 0xff ∷ 0xff ∷ 0x01 ∷ 0x00 ∷ 0x03 ∷ 0x00 ∷ 0x00 ∷ 0x00 ∷ 0x00 ∷ 0x00 ∷ 0x00 ∷ 0x00 ∷ 0x77 ∷ 0x65 ∷ 0x62 ∷ []) ++ replicate 13 0
+    (0x02 ∷ 0x00 ∷ 0x00 ∷ 0x03 ∷ 0x01 ∷ 0x00 ∷ 0x00 ∷ 0x00 ∷ 0x01 ∷ 0x00 ∷ 0x00 ∷ 0x00 ∷ 0xff ∷ 0xff ∷ 0x01 ∷ 0x00 ∷ 0x03 ∷ []) ++ replicate 15 0 ++ (0x77 ∷ 0x65 ∷ 0x62 ∷ []) ++ replicate 13 0
 
 -- a page of this thread alone, which is the last
 abbrev last : Contents
@@ -25,7 +26,7 @@ last_bytes = (0x01 ∷ 0x00 ∷ 0x01 ∷ 0x00 ∷ 0x00 ∷ 0x00 ∷ 0x00 ∷ 0x0
 last_spelled : page_spelling last ≡ last_bytes
 last_spelled = refl
 
-last_read : page_in last_bytes ≡ last
+last_read : page_in versions.Two last_bytes ≡ last
 unfolding texts
 last_read = refl
 
@@ -35,14 +36,14 @@ last_right = refl
 
 -- the last thread, on the last CPU, of class 1
 abbrev high : DumpRecord
-high = record { tid = 65535; tseq = 4294967295; facts = record { runnable = true; mask = 9223372036854775808; class = One; name = [] }; cpu = Some 63 }
+high = record { tid = 65535; tseq = 4294967295; facts = record { runnable = true; mask = 2 ^ 127; class = One; name = [] }; cpu = Some 127 }
 
-high_spelled : record_spelling high
-    ≡ (0x01 ∷ 0x00 ∷ 0x01 ∷ 0x00 ∷ 0xff ∷ 0xff ∷ 0x00 ∷ 0x00 ∷ 0xff ∷ 0xff ∷ 0xff ∷ 0xff ∷ 0x3f ∷ 0x00 ∷ 0x01 ∷ 0x00 ∷ 0x00 ∷ 0x00 ∷ 0x00 ∷ 0x00 ∷ 0x00 ∷ 0x00 ∷ 0x00 ∷ 0x80 ∷ []) ++ replicate 16 0
+high_spelled : record_spelling versions.Two high
+    ≡ (0x02 ∷ 0x00 ∷ 0x01 ∷ 0x00 ∷ 0xff ∷ 0xff ∷ 0x00 ∷ 0x00 ∷ 0xff ∷ 0xff ∷ 0xff ∷ 0xff ∷ 0x7f ∷ 0x00 ∷ 0x01 ∷ 0x00 ∷ []) ++ replicate 15 0 ++ 0x80 ∷ replicate 16 0
 high_spelled = refl
 
 -- two threads, and a next page
-two_back : page_in (page_spelling (record { records = web ∷ high ∷ []; next = Some 65536 })) ≡ record { records = web ∷ high ∷ []; next = Some 65536 }
+two_back : page_in versions.Two (page_spelling (record { records = web ∷ high ∷ []; next = Some 65536 })) ≡ record { records = web ∷ high ∷ []; next = Some 65536 }
 unfolding texts
 two_back = refl
 
@@ -89,8 +90,38 @@ unfolding texts
 trailing = refl
 
 -- a thread on a CPU is runnable, and the CPU is in its mask
-blocked_on_a_cpu : record_fits (record_spelling (record high { facts = record high.facts { runnable = false } })) ≡ false
+blocked_on_a_cpu : record_fits versions.Two (record_spelling versions.Two (record high { facts = record high.facts { runnable = false } })) ≡ false
 blocked_on_a_cpu = refl
 
-off_its_mask : record_fits (record_spelling (record high { cpu = Some 62 })) ≡ false
+off_its_mask : record_fits versions.Two (record_spelling versions.Two (record high { cpu = Some 126 })) ≡ false
 off_its_mask = refl
+
+-- the same page in the first version reads as the same, and written anew has the second
+abbrev old_bytes : List ℕ
+old_bytes =
+    (0x01 ∷ 0x00 ∷ 0x01 ∷ 0x00 ∷ 0x00 ∷ 0x00 ∷ 0x00 ∷ 0x00 ∷ []) ++ (0x01 ∷ 0x00 ∷ 0x00 ∷ 0x03 ∷ 0x01 ∷ 0x00 ∷ 0x00 ∷ 0x00 ∷ 0x01 ∷ 0x00 ∷ 0x00 ∷ 0x00 ∷ 0xff ∷ 0xff ∷ 0x01 ∷ 0x00 ∷ 0x03 ∷ 0x00 ∷ 0x00 ∷ 0x00 ∷ 0x00 ∷ 0x00 ∷ 0x00 ∷ 0x00 ∷ 0x77 ∷ 0x65 ∷ 0x62 ∷ []) ++ replicate 13 0
+
+old_spelled : spelling_in versions.One last ≡ old_bytes
+old_spelled = refl
+
+old_read : page_in versions.One old_bytes ≡ last
+unfolding texts
+old_read = refl
+
+old_right : page_fault old_bytes ≡ None
+unfolding texts
+old_right = refl
+
+-- a record of another version than the first one's
+mixed : page_fault ((0x02 ∷ 0x00 ∷ 0x01 ∷ 0x00 ∷ 0x00 ∷ 0x00 ∷ 0x00 ∷ 0x00 ∷ []) ++ web_bytes ++ (0x01 ∷ 0x00 ∷ []) ++ replicate 46 0) ≡ Some faults.BadVersion
+unfolding texts
+mixed = refl
+
+-- nine bytes that name a record have no version, and ten name one that there is not
+cut_version : page_fault (0x01 ∷ 0x00 ∷ 0x01 ∷ 0x00 ∷ 0x00 ∷ 0x00 ∷ 0x00 ∷ 0x00 ∷ 0x03 ∷ []) ≡ Some faults.Short
+unfolding texts
+cut_version = refl
+
+third_version : page_fault (0x01 ∷ 0x00 ∷ 0x01 ∷ 0x00 ∷ 0x00 ∷ 0x00 ∷ 0x00 ∷ 0x00 ∷ 0x03 ∷ 0x00 ∷ []) ≡ Some faults.BadVersion
+unfolding texts
+third_version = refl

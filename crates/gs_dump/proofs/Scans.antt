@@ -1,11 +1,14 @@
 -- The pass over the records, one after another.
-use Rattle.std.proofs.Common.{◌≡◌, Bool, true, false, ℕ, suc, ◌+◌, ◌-◌, ◌<◌, ◌≤◌, Option, None, Some, Result, Ok, Err, List, [], ◌∷◌, ◌++◌, take, drop, map, refl, ap, sym, ◌∙◌, append_assoc, arith}
+use Rattle.std.proofs.Common.{◌≡◌, Bool, true, false, ℕ, suc, ◌+◌, ◌-◌, ◌*◌, ◌<◌, ◌≤◌, Option, None, Some, Result, Ok, Err, List, [], ◌∷◌, ◌++◌, take, drop, map, refl, ap, sym, ◌∙◌, append_assoc, arith}
 use Rattle.std.specs.Prelude.{◌&&◌, ◌||◌, not, nat_lt, if◌then◌else◌}
 use Rattle.std.specs.List.{list_any}
 use Rattle.std.proofs.lemmas.List.{append-nil}
 use Rattle.gs_dump.specs.declared.fault.PageFault.{PageFault}
 use Rattle.gs_dump.specs.declared.fault.PageFault.TheVariants as faults
 use Rattle.gs_dump.specs.declared.record.DumpRecord.{DumpRecord}
+use Rattle.gs_dump.specs.declared.version.Version.{Version}
+use Rattle.gs_dump.specs.declared.version.Version.TheVariants as versions
+use Rattle.gs_dump.specs.Version.{record_len}
 use Rattle.gs_dump.specs.Page.{rises}
 use Rattle.gs_dump.specs.Reading.{field_fault, is_bad, is_other_version, record_in, record_read, texts}
 
@@ -39,76 +42,76 @@ and_from_left : (a b c : Bool) → (a && (b && c)) ≡ ((a && b) && c)
 and_from_left true b c = refl
 and_from_left false b c = refl
 
-step_ok : (fit rise : Bool) (last : ℕ) (next : Option ℕ) (t : List ℕ) (ts : List (List ℕ)) (r : DumpRecord) → record_read t ≡ Ok r
-    → field_fault fit rise last next (t ∷ ts) ≡ field_fault fit (rise && nat_lt last r.tid) r.tid next ts
-step_ok fit rise last next t ts r e =
-    let h = ok_is (is_other_version t) (is_bad t) (record_in t) r e in
-    (λ i. faulted (h.0 i || list_any is_other_version ts) (not fit || (h.1 i || list_any is_bad ts)) (rise && (nat_lt last (h.2 i).tid && rises (h.2 i).tid (map record_in ts) next)))
-    ∙ ap (faulted (list_any is_other_version ts) (not fit || list_any is_bad ts)) (and_from_left rise (nat_lt last r.tid) (rises r.tid (map record_in ts) next))
+step_ok : (v : Version) (fit rise : Bool) (last : ℕ) (next : Option ℕ) (t : List ℕ) (ts : List (List ℕ)) (r : DumpRecord) → record_read v t ≡ Ok r
+    → field_fault v fit rise last next (t ∷ ts) ≡ field_fault v fit (rise && nat_lt last r.tid) r.tid next ts
+step_ok v fit rise last next t ts r e =
+    let h = ok_is (is_other_version v t) (is_bad v t) (record_in v t) r e in
+    (λ i. faulted (h.0 i || list_any (is_other_version v) ts) (not fit || (h.1 i || list_any (is_bad v) ts)) (rise && (nat_lt last (h.2 i).tid && rises (h.2 i).tid (map (record_in v) ts) next)))
+    ∙ ap (faulted (list_any (is_other_version v) ts) (not fit || list_any (is_bad v) ts)) (and_from_left rise (nat_lt last r.tid) (rises r.tid (map (record_in v) ts) next))
 
-step_version : (fit rise : Bool) (last : ℕ) (next : Option ℕ) (t : List ℕ) (ts : List (List ℕ)) → record_read t ≡ Err faults.BadVersion
-    → field_fault fit rise last next (t ∷ ts) ≡ Some faults.BadVersion
-step_version fit rise last next t ts e =
-    let h = version_is (is_other_version t) (is_bad t) (record_in t) e in
-    λ i. faulted (h i || list_any is_other_version ts) (not fit || (is_bad t || list_any is_bad ts)) (rise && rises last (map record_in (t ∷ ts)) next)
+step_version : (v : Version) (fit rise : Bool) (last : ℕ) (next : Option ℕ) (t : List ℕ) (ts : List (List ℕ)) → record_read v t ≡ Err faults.BadVersion
+    → field_fault v fit rise last next (t ∷ ts) ≡ Some faults.BadVersion
+step_version v fit rise last next t ts e =
+    let h = version_is (is_other_version v t) (is_bad v t) (record_in v t) e in
+    λ i. faulted (h i || list_any (is_other_version v) ts) (not fit || (is_bad v t || list_any (is_bad v) ts)) (rise && rises last (map (record_in v) (t ∷ ts)) next)
 
 bad_stays : (v fit bad o p : Bool) → faulted v (not fit || (true || bad)) o ≡ faulted v (not false || bad) p
 bad_stays true fit bad o p = refl
 bad_stays false true bad o p = refl
 bad_stays false false bad o p = refl
 
-step_bad : (fit rise : Bool) (last : ℕ) (next : Option ℕ) (t : List ℕ) (ts : List (List ℕ)) (f : PageFault) → record_read t ≡ Err f → (f ≡ faults.BadVersion → ⊥)
-    → field_fault fit rise last next (t ∷ ts) ≡ field_fault false rise last next ts
-step_bad fit rise last next t ts f e other =
-    let h = bad_is (is_other_version t) (is_bad t) (record_in t) f e other in
-    (λ i. faulted (h.0 i || list_any is_other_version ts) (not fit || (h.1 i || list_any is_bad ts)) (rise && rises last (map record_in (t ∷ ts)) next))
-    ∙ bad_stays (list_any is_other_version ts) fit (list_any is_bad ts) (rise && rises last (map record_in (t ∷ ts)) next) (rise && rises last (map record_in ts) next)
+step_bad : (v : Version) (fit rise : Bool) (last : ℕ) (next : Option ℕ) (t : List ℕ) (ts : List (List ℕ)) (f : PageFault) → record_read v t ≡ Err f → (f ≡ faults.BadVersion → ⊥)
+    → field_fault v fit rise last next (t ∷ ts) ≡ field_fault v false rise last next ts
+step_bad v fit rise last next t ts f e other =
+    let h = bad_is (is_other_version v t) (is_bad v t) (record_in v t) f e other in
+    (λ i. faulted (h.0 i || list_any (is_other_version v) ts) (not fit || (h.1 i || list_any (is_bad v) ts)) (rise && rises last (map (record_in v) (t ∷ ts)) next))
+    ∙ bad_stays (list_any (is_other_version v) ts) fit (list_any (is_bad v) ts) (rise && rises last (map (record_in v) (t ∷ ts)) next) (rise && rises last (map (record_in v) ts) next)
 
 -- ---- the loop: so many records are left, in these bytes
 
-next_text : (count i : ℕ) (bytes : List ℕ) → i < count → texts (count - i) bytes ≡ take 40 bytes ∷ texts (count - (i + 1)) (drop 40 bytes)
+next_text : (v : Version) (count i : ℕ) (bytes : List ℕ) → i < count → texts v (count - i) bytes ≡ take (record_len v) bytes ∷ texts v (count - (i + 1)) (drop (record_len v) bytes)
 unfolding texts
-next_text count i bytes lt =
+next_text v count i bytes lt =
     let k : count - i ≡ suc (count - (i + 1)) = omega arith in
-    ap (λ (n : ℕ). texts n bytes) k
+    ap (λ (n : ℕ). texts v n bytes) k
 
-pub goes_on : (count i : ℕ) (bytes : List ℕ) (fit rise : Bool) (last : ℕ) (next : Option ℕ) (r : DumpRecord) (total : Option PageFault) → i < count → record_read (take 40 bytes) ≡ Ok r
-    → field_fault fit rise last next (texts (count - i) bytes) ≡ total → field_fault fit (rise && nat_lt last r.tid) r.tid next (texts (count - (i + 1)) (drop 40 bytes)) ≡ total
-goes_on count i bytes fit rise last next r total lt e so_far =
-    sym (step_ok fit rise last next (take 40 bytes) (texts (count - (i + 1)) (drop 40 bytes)) r e) ∙ ap (field_fault fit rise last next) (sym (next_text count i bytes lt)) ∙ so_far
+pub goes_on : (v : Version) (count i : ℕ) (bytes : List ℕ) (fit rise : Bool) (last : ℕ) (next : Option ℕ) (r : DumpRecord) (total : Option PageFault) → i < count → record_read v (take (record_len v) bytes) ≡ Ok r
+    → field_fault v fit rise last next (texts v (count - i) bytes) ≡ total → field_fault v fit (rise && nat_lt last r.tid) r.tid next (texts v (count - (i + 1)) (drop (record_len v) bytes)) ≡ total
+goes_on v count i bytes fit rise last next r total lt e so_far =
+    sym (step_ok v fit rise last next (take (record_len v) bytes) (texts v (count - (i + 1)) (drop (record_len v) bytes)) r e) ∙ ap (field_fault v fit rise last next) (sym (next_text v count i bytes lt)) ∙ so_far
 
-pub goes_bad : (count i : ℕ) (bytes : List ℕ) (fit rise : Bool) (last : ℕ) (next : Option ℕ) (f : PageFault) (total : Option PageFault) → i < count → record_read (take 40 bytes) ≡ Err f → (f ≡ faults.BadVersion → ⊥)
-    → field_fault fit rise last next (texts (count - i) bytes) ≡ total → field_fault false rise last next (texts (count - (i + 1)) (drop 40 bytes)) ≡ total
-goes_bad count i bytes fit rise last next f total lt e other so_far =
-    sym (step_bad fit rise last next (take 40 bytes) (texts (count - (i + 1)) (drop 40 bytes)) f e other) ∙ ap (field_fault fit rise last next) (sym (next_text count i bytes lt)) ∙ so_far
+pub goes_bad : (v : Version) (count i : ℕ) (bytes : List ℕ) (fit rise : Bool) (last : ℕ) (next : Option ℕ) (f : PageFault) (total : Option PageFault) → i < count → record_read v (take (record_len v) bytes) ≡ Err f → (f ≡ faults.BadVersion → ⊥)
+    → field_fault v fit rise last next (texts v (count - i) bytes) ≡ total → field_fault v false rise last next (texts v (count - (i + 1)) (drop (record_len v) bytes)) ≡ total
+goes_bad v count i bytes fit rise last next f total lt e other so_far =
+    sym (step_bad v fit rise last next (take (record_len v) bytes) (texts v (count - (i + 1)) (drop (record_len v) bytes)) f e other) ∙ ap (field_fault v fit rise last next) (sym (next_text v count i bytes lt)) ∙ so_far
 
-pub ends_at_version : (count i : ℕ) (bytes : List ℕ) (fit rise : Bool) (last : ℕ) (next : Option ℕ) (total : Option PageFault) → i < count → record_read (take 40 bytes) ≡ Err faults.BadVersion
-    → field_fault fit rise last next (texts (count - i) bytes) ≡ total → total ≡ Some faults.BadVersion
-ends_at_version count i bytes fit rise last next total lt e so_far =
-    sym so_far ∙ ap (field_fault fit rise last next) (next_text count i bytes lt) ∙ step_version fit rise last next (take 40 bytes) (texts (count - (i + 1)) (drop 40 bytes)) e
+pub ends_at_version : (v : Version) (count i : ℕ) (bytes : List ℕ) (fit rise : Bool) (last : ℕ) (next : Option ℕ) (total : Option PageFault) → i < count → record_read v (take (record_len v) bytes) ≡ Err faults.BadVersion
+    → field_fault v fit rise last next (texts v (count - i) bytes) ≡ total → total ≡ Some faults.BadVersion
+ends_at_version v count i bytes fit rise last next total lt e so_far =
+    sym so_far ∙ ap (field_fault v fit rise last next) (next_text v count i bytes lt) ∙ step_version v fit rise last next (take (record_len v) bytes) (texts v (count - (i + 1)) (drop (record_len v) bytes)) e
 
-pub found_on : (count i : ℕ) (bytes : List ℕ) (found : List DumpRecord) (r : DumpRecord) (all : List DumpRecord) → i < count → record_read (take 40 bytes) ≡ Ok r
-    → found ++ map record_in (texts (count - i) bytes) ≡ all → (found ++ r ∷ []) ++ map record_in (texts (count - (i + 1)) (drop 40 bytes)) ≡ all
-found_on count i bytes found r all lt e so_far =
-    let rest = map record_in (texts (count - (i + 1)) (drop 40 bytes)) in
-    let h = ok_is (is_other_version (take 40 bytes)) (is_bad (take 40 bytes)) (record_in (take 40 bytes)) r e in
-    append_assoc found (r ∷ []) rest ∙ ap (λ (x : DumpRecord). found ++ (x ∷ rest)) (sym h.2) ∙ ap (λ (ts : List (List ℕ)). found ++ map record_in ts) (sym (next_text count i bytes lt)) ∙ so_far
+pub found_on : (v : Version) (count i : ℕ) (bytes : List ℕ) (found : List DumpRecord) (r : DumpRecord) (all : List DumpRecord) → i < count → record_read v (take (record_len v) bytes) ≡ Ok r
+    → found ++ map (record_in v) (texts v (count - i) bytes) ≡ all → (found ++ r ∷ []) ++ map (record_in v) (texts v (count - (i + 1)) (drop (record_len v) bytes)) ≡ all
+found_on v count i bytes found r all lt e so_far =
+    let rest = map (record_in v) (texts v (count - (i + 1)) (drop (record_len v) bytes)) in
+    let h = ok_is (is_other_version v (take (record_len v) bytes)) (is_bad v (take (record_len v) bytes)) (record_in v (take (record_len v) bytes)) r e in
+    append_assoc found (r ∷ []) rest ∙ ap (λ (x : DumpRecord). found ++ (x ∷ rest)) (sym h.2) ∙ ap (λ (ts : List (List ℕ)). found ++ map (record_in v) ts) (sym (next_text v count i bytes lt)) ∙ so_far
 
-none_left : (count i : ℕ) (bytes : List ℕ) → count ≤ i → texts (count - i) bytes ≡ []
+none_left : (v : Version) (count i : ℕ) (bytes : List ℕ) → count ≤ i → texts v (count - i) bytes ≡ []
 unfolding texts
-none_left count i bytes le =
+none_left v count i bytes le =
     let k : count - i ≡ 0 = omega arith in
-    ap (λ (n : ℕ). texts n bytes) k
+    ap (λ (n : ℕ). texts v n bytes) k
 
 -- what is returned once no record is left
-pub at_end : (count i : ℕ) (bytes : List ℕ) (fit rise : Bool) (last : ℕ) (next : Option ℕ) (total : Option PageFault) → count ≤ i → field_fault fit rise last next (texts (count - i) bytes) ≡ total
+pub at_end : (v : Version) (count i : ℕ) (bytes : List ℕ) (fit rise : Bool) (last : ℕ) (next : Option ℕ) (total : Option PageFault) → count ≤ i → field_fault v fit rise last next (texts v (count - i) bytes) ≡ total
     → total ≡ faulted false (not fit) (rise && rises last [] next)
-at_end count i bytes true rise last next total le so_far = sym so_far ∙ ap (field_fault true rise last next) (none_left count i bytes le)
-at_end count i bytes false rise last next total le so_far = sym so_far ∙ ap (field_fault false rise last next) (none_left count i bytes le)
+at_end v count i bytes true rise last next total le so_far = sym so_far ∙ ap (field_fault v true rise last next) (none_left v count i bytes le)
+at_end v count i bytes false rise last next total le so_far = sym so_far ∙ ap (field_fault v false rise last next) (none_left v count i bytes le)
 
-pub all_found : (count i : ℕ) (bytes : List ℕ) (found all : List DumpRecord) → count ≤ i → found ++ map record_in (texts (count - i) bytes) ≡ all → found ≡ all
-all_found count i bytes found all le so_far =
-    sym (append-nil found) ∙ ap (λ (ts : List (List ℕ)). found ++ map record_in ts) (sym (none_left count i bytes le)) ∙ so_far
+pub all_found : (v : Version) (count i : ℕ) (bytes : List ℕ) (found all : List DumpRecord) → count ≤ i → found ++ map (record_in v) (texts v (count - i) bytes) ≡ all → found ≡ all
+all_found v count i bytes found all le so_far =
+    sym (append-nil found) ∙ ap (λ (ts : List (List ℕ)). found ++ map (record_in v) ts) (sym (none_left v count i bytes le)) ∙ so_far
 
 pub field_is_bad : (fit order : Bool) → fit ≡ false → faulted false (not fit) order ≡ Some faults.BadField
 field_is_bad true order e = absurd cc
@@ -123,3 +126,13 @@ pub none_is_bad : (fit order : Bool) → fit ≡ true → order ≡ true → fau
 none_is_bad true true e h = refl
 none_is_bad true false e h = absurd cc
 none_is_bad false order e h = absurd cc
+
+-- how many bytes are left behind the next record
+pub left_size : (v : Version) (count i len rest : ℕ) → i < count → len ≡ record_len v * (count - i) → rest ≡ len - record_len v → rest ≡ record_len v * (count - (i + 1))
+left_size versions.One count i len rest lt e d = omega (arith, lt, e, d)
+left_size versions.Two count i len rest lt e d = omega (arith, lt, e, d)
+
+-- and that there are enough for it
+pub enough_left : (v : Version) (count i len : ℕ) → i < count → len ≡ record_len v * (count - i) → record_len v ≤ len
+enough_left versions.One count i len lt e = omega (arith, lt, e)
+enough_left versions.Two count i len lt e = omega (arith, lt, e)

@@ -4,6 +4,8 @@ use Rattle.std.specs.List.{flat_map, AllByRecursion}
 use Rattle.byteorder.specs.Endian.{little_bytes}
 use Rattle.gs_layout.specs.declared.message.TheConstants.{MOST_TIDS}
 use Rattle.gs_dump.specs.declared.record.DumpRecord.{DumpRecord}
+use Rattle.gs_dump.specs.declared.version.Version.{Version}
+use Rattle.gs_dump.specs.declared.version.Version.TheVariants.{Two}
 use Rattle.gs_dump.specs.Record.{IsLive, record_spelling}
 
 -- what a page tells: its threads, and the first live thread that it does not tell of (none on the last page)
@@ -33,6 +35,10 @@ end_number (Some next) = 0
 abbrev pub header_bytes : Contents → List ℕ
 header_bytes p = little_bytes 2 (length p.records) ++ little_bytes 2 (end_number p.next) ++ little_bytes 4 (unwrap_or p.next 0)
 
--- the one list of bytes that the layout gives a page
+-- the list of bytes that a version of the layout gives a page
+abbrev pub spelling_in : Version → Contents → List ℕ
+spelling_in v p = header_bytes p ++ flat_map (record_spelling v) p.records
+
+-- the one that is written
 abbrev pub page_spelling : Contents → List ℕ
-page_spelling p = header_bytes p ++ flat_map record_spelling p.records
+page_spelling p = spelling_in Two p

@@ -1,5 +1,5 @@
 -- What the kernel knows of a live thread, and the bytes that tell it. All numbers are little-endian, and every byte that no field names is zero.
-use Rattle.std.specs.Prelude.{◌≡◌, true, ℕ, ◌-◌, List, [], ◌∷◌, ◌++◌, length, replicate, IfSome, if◌then◌else◌}
+use Rattle.std.specs.Prelude.{◌≡◌, true, ℕ, ◌-◌, ◌^◌, ◌<◌, List, [], ◌∷◌, ◌++◌, length, replicate, IfSome, if◌then◌else◌}
 use Rattle.byteorder.specs.Endian.{little_bytes}
 use Rattle.gs_layout.specs.declared.name.TheConstants.{MOST_NAME_LEN}
 use Rattle.gs_status.specs.Masks.{has}
@@ -7,6 +7,8 @@ use Rattle.gs_layout.specs.Class.{class_number}
 use Rattle.gs_layout.specs.Name.{is_name}
 use Rattle.gs_layout.specs.Spelling.{AreNumbers, IsCpuOrNone, IsMask, cpu_number}
 use Rattle.gs_dump.specs.declared.record.DumpRecord.{DumpRecord}
+use Rattle.gs_dump.specs.declared.version.Version.{Version}
+use Rattle.gs_dump.specs.Version.{mask_len, version_number}
 
 -- the ranges of a record: a thread on a CPU is runnable, and the CPU is in its mask
 pub record IsLive (r : DumpRecord) : Type 0 where
@@ -16,15 +18,19 @@ pub record IsLive (r : DumpRecord) : Type 0 where
   pub cpu : IsCpuOrNone r.cpu
   pub runs : IfSome r.cpu (λ c. (r.facts.runnable ≡ true) × (has r.facts.mask c ≡ true))
 
--- version 1, class, the name's length, tid, sequence number, CPU, and the flags. Bit 0 of these says that the thread is runnable
-abbrev pub front_bytes : DumpRecord → List ℕ
-front_bytes r =
-    little_bytes 2 1 ++ (class_number r.facts.class ∷ length r.facts.name ∷ []) ++ little_bytes 4 r.tid ++ little_bytes 4 r.tseq ++ little_bytes 2 (cpu_number r.cpu) ++ little_bytes 2 (if r.facts.runnable then 1 else 0)
+-- the version, class, the name's length, tid, sequence number, CPU, and the flags. Bit 0 of these says that the thread is runnable
+abbrev pub front_bytes : Version → DumpRecord → List ℕ
+front_bytes v r =
+    little_bytes 2 (version_number v) ++ (class_number r.facts.class ∷ length r.facts.name ∷ []) ++ little_bytes 4 r.tid ++ little_bytes 4 r.tseq ++ little_bytes 2 (cpu_number r.cpu) ++ little_bytes 2 (if r.facts.runnable then 1 else 0)
+
+-- whether a version can spell a record: its mask has no more bytes than the version gives it
+abbrev pub FitsIn : Version → DumpRecord → Type 0
+FitsIn v r = r.facts.mask < 256 ^ mask_len v
 
 -- a name in 16 bytes: behind it are zeros
 abbrev pub name_field : List ℕ → List ℕ
 name_field name = name ++ replicate (MOST_NAME_LEN - length name) 0
 
--- the 40 bytes of a record
-abbrev pub record_spelling : DumpRecord → List ℕ
-record_spelling r = front_bytes r ++ little_bytes 8 r.facts.mask ++ name_field r.facts.name
+-- the bytes of a record in a version
+abbrev pub record_spelling : Version → DumpRecord → List ℕ
+record_spelling v r = front_bytes v r ++ little_bytes (mask_len v) r.facts.mask ++ name_field r.facts.name

@@ -11,7 +11,7 @@ pub enum PageFault {
     Short,
     #[error("more bytes than the count of records says")]
     Trailing,
-    #[error("the version of a record is not 1")]
+    #[error("the version of a record is neither 1 nor 2, or not that of the first")]
     BadVersion,
     #[error("a field is out of its range, or a byte that no field names is not zero")]
     BadField,

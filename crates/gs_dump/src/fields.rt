@@ -3,37 +3,42 @@
 ghost use Rattle.std.specs.Prelude.{◌≡◌, ◌==◌, ◌≤◌, ◌&&◌, length, slice_index, true};
 ghost use Rattle.std.specs.List.{list_all};
 ghost use Rattle.gs_layout.specs.Name.{is_name};
-ghost use Rattle.gs_dump.specs.Reading.{cpu_fits, end_fits, facts_fit, name_fits, name_in, next_in, numbers_fit, record_fits, record_in, record_read};
+ghost use Rattle.gs_dump.specs.Version.{record_len};
+ghost use Rattle.gs_dump.specs.Reading.{cpu_fits, end_fits, facts_fit, mask_in, name_fits, name_in, next_in, numbers_fit, record_fits, record_in, record_read};
 
 use crate::fault::PageFault;
 use crate::record::DumpRecord;
+use crate::version::{MASK_AT, Version};
 use gs_layout::{
     Class, Facts, MOST_NAME_LEN, MOST_TIDS, NO_CPU, Name, cpu_numbered, u16_at, u32_at, u64_at,
+    u128_at,
 };
 use gs_status::{MOST_CPUS, Mask};
 
-/// How many bytes a record has.
-pub(crate) const RECORD: usize = 40;
-
-/// The version that a record names.
-pub(crate) const VERSION: u16 = 1;
-
-/// Where the name stands in a record.
-pub(crate) const NAME: usize = 24;
+/// Returns the mask of a record. A mask of the first version has no CPU from 64 on.
+fn mask_at(version: Version, text: &[u8]) -> Mask
+    requires { length text.now ≡ record_len version }
+    ensures { result ≡ mask_in version text.now }
+{
+    match version {
+        Version::One => Mask::new(u64_at(text, MASK_AT) as u128),
+        Version::Two => Mask::new(u128_at(text, MASK_AT)),
+    }
+}
 
 fn numbers_fit(text: &[u8]) -> bool
-    requires { length text.now ≡ 40 }
+    requires { 16 ≤ length text.now }
     ensures { result ≡ numbers_fit text.now }
 {
     let tid = u32_at(text, 4);
     1 <= tid && tid <= MOST_TIDS && 1 <= u32_at(text, 8)
 }
 
-fn facts_fit(text: &[u8]) -> bool
-    requires { length text.now ≡ 40 }
-    ensures { result ≡ facts_fit text.now }
+fn facts_fit(version: Version, text: &[u8]) -> bool
+    requires { length text.now ≡ record_len version }
+    ensures { result ≡ facts_fit version text.now }
 {
-    text[2] < 2 && u16_at(text, 14) < 2 && u64_at(text, 16) != 0
+    text[2] < 2 && u16_at(text, 14) < 2 && !mask_at(version, text).is_empty()
 }
 
 fn are_zeros(bytes: &[u8]) -> bool
@@ -42,72 +47,78 @@ fn are_zeros(bytes: &[u8]) -> bool
     bytes.iter().all(|byte| *byte == 0)
 }
 
-fn name_at(text: &[u8]) -> &[u8]
-    requires size { length text.now ≡ 40 }
+fn name_at(version: Version, text: &[u8]) -> &[u8]
+    requires size { length text.now ≡ record_len version }
     requires len { slice_index text.now 3 ≤ MOST_NAME_LEN }
-    ensures { result.now ≡ name_in text.now }
+    ensures { result.now ≡ name_in version text.now }
 {
-    &text[NAME..NAME + text[3] as usize]
+    let start = version.name_at();
+    &text[start..start + text[3] as usize]
 }
 
-fn name_fits(text: &[u8]) -> bool
-    requires { length text.now ≡ 40 }
-    ensures { result ≡ name_fits text.now }
+fn name_fits(version: Version, text: &[u8]) -> bool
+    requires { length text.now ≡ record_len version }
+    ensures { result ≡ name_fits version text.now }
 {
     let len = text[3] as usize;
-    len <= MOST_NAME_LEN && Name::is_name(name_at(text)) && are_zeros(&text[NAME + len..])
+    len <= MOST_NAME_LEN
+        && Name::is_name(name_at(version, text))
+        && are_zeros(&text[version.name_at() + len..])
 }
 
-fn cpu_fits(text: &[u8]) -> bool
-    requires { length text.now ≡ 40 }
-    ensures { result ≡ cpu_fits text.now }
+fn cpu_fits(version: Version, text: &[u8]) -> bool
+    requires { length text.now ≡ record_len version }
+    ensures { result ≡ cpu_fits version text.now }
 {
     let cpu = u16_at(text, 12);
-    let mask = Mask::new(u64_at(text, 16));
+    let mask = mask_at(version, text);
     cpu == NO_CPU || (cpu < MOST_CPUS && u16_at(text, 14) == 1 && mask.has(cpu))
 }
 
 /// Returns whether each field of a record is in its range.
-fn record_fits(text: &[u8]) -> bool
-    requires { length text.now ≡ 40 }
-    ensures { result ≡ record_fits text.now }
+fn record_fits(version: Version, text: &[u8]) -> bool
+    requires { length text.now ≡ record_len version }
+    ensures { result ≡ record_fits version text.now }
 {
-    numbers_fit(text) && facts_fit(text) && name_fits(text) && cpu_fits(text)
+    numbers_fit(text)
+        && facts_fit(version, text)
+        && name_fits(version, text)
+        && cpu_fits(version, text)
 }
 
-fn facts_at(text: &[u8]) -> Facts
-    requires size { length text.now ≡ 40 }
+fn facts_at(version: Version, text: &[u8]) -> Facts
+    requires size { length text.now ≡ record_len version }
     requires len { slice_index text.now 3 ≤ MOST_NAME_LEN }
-    requires name { is_name (name_in text.now) ≡ true }
-    ensures { result ≡ (record_in text.now).facts }
+    requires name { is_name (name_in version text.now) ≡ true }
+    ensures { result ≡ (record_in version text.now).facts }
 {
     Facts {
         runnable: u16_at(text, 14) == 1,
-        mask: Mask::new(u64_at(text, 16)),
+        mask: mask_at(version, text),
         class: if text[2] == 0 {
             Class::Zero
         } else {
             Class::One
         },
-        name: Name::new(name_at(text)).unwrap(),
+        name: Name::new(name_at(version, text)).unwrap(),
     }
 }
 
-/// Returns the record that these 40 bytes tell, or what is wrong with them.
-pub(crate) fn read_record(text: &[u8]) -> Result<DumpRecord, PageFault>
-    requires { length text.now ≡ 40 }
-    ensures { result ≡ record_read text.now }
+/// Returns the record that these bytes tell, or what is wrong with them.
+pub(crate) fn read_record(version: Version, text: &[u8]) -> Result<DumpRecord, PageFault>
+    requires { length text.now ≡ record_len version }
+    ensures { result ≡ record_read version text.now }
 {
-    if u16_at(text, 0) != VERSION {
+    if u16_at(text, 0) != version.number() {
         return Err(PageFault::BadVersion);
     }
-    if !record_fits(text) {
+    if !record_fits(version, text) {
         return Err(PageFault::BadField);
     }
     Ok(DumpRecord {
         tid: u32_at(text, 4),
         tseq: u32_at(text, 8),
-        facts: facts_at(text),
+        facts: facts_at(version, text),
         cpu: cpu_numbered(u16_at(text, 12)),
     })
 }

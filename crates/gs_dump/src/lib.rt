@@ -6,10 +6,12 @@ mod fields;
 mod page;
 mod read;
 mod record;
+mod version;
 mod write;
 
 pub use fault::PageFault;
 pub use page::Page;
 pub use read::read_page;
 pub use record::DumpRecord;
+pub use version::Version;
 pub use write::write_page;

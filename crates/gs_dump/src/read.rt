@@ -1,15 +1,17 @@
 //! Reading a page.
 
-ghost use Rattle.std.specs.Prelude.{◌≡◌, ◌*◌, [], IfOk, IfErr, Some, length, true};
+ghost use Rattle.std.specs.Prelude.{◌≡◌, ◌≤◌, ◌*◌, [], IfOk, IfErr, Some, length, true, false};
 ghost use Rattle.gs_dump.specs.declared.fault.PageFault.{PageFault};
 ghost use Rattle.gs_dump.specs.Page.{Contents, rises};
-ghost use Rattle.gs_dump.specs.Reading.{IsFault, IsSpelled, ReadsAs, field_fault, page_fault, texts};
-ghost use Rattle.gs_dump.specs.Scan.{Scanned};
+ghost use Rattle.gs_dump.specs.Reading.{IsFault, IsSpelled, ReadsAs, count_in, field_fault, is_headless, page_fault, texts, version_of};
+ghost use Rattle.gs_dump.specs.Scan.{Faults, Scanned};
+ghost use Rattle.gs_dump.specs.Version.{record_len};
 
 use crate::fault::PageFault;
-use crate::fields::{RECORD, end_fits, next_at, read_record};
+use crate::fields::{end_fits, next_at, read_record};
 use crate::page::Page;
 use crate::record::DumpRecord;
+use crate::version::Version;
 use gs_layout::u16_at;
 use std::alloc::Global;
 
@@ -26,17 +28,18 @@ fn begins_above(last: u32, next: Option<u32>) -> bool
     }
 }
 
-/// Reads the records of a page, 40 bytes each, in one pass. `fit` says whether the header's fields are
+/// Reads the records of a page, all of one version, in one pass. `fit` says whether the header's fields are
 /// in their ranges.
 fn read_records(
     alloc: Global,
+    version: Version,
     count: u16,
     fit: bool,
     next: Option<u32>,
     bytes: &[u8],
 ) -> Result<Vec<DumpRecord>, PageFault>
-    requires { length bytes.now ≡ 40 * count }
-    ensures { Scanned result (field_fault fit true 0 next (texts count bytes.now)) (texts count bytes.now) }
+    requires { length bytes.now ≡ record_len version * count }
+    ensures { Scanned version result (field_fault version fit true 0 next (texts version count bytes.now)) (texts version count bytes.now) }
 {
     let (mut records, roomy) = match Vec::with_capacity(alloc, count as usize) {
         Ok(records) => (records, true),
@@ -47,9 +50,9 @@ fn read_records(
     let mut last = 0;
     let mut rest = bytes;
     for _ in 0..count {
-        let (text, after) = rest.split_at(RECORD);
+        let (text, after) = rest.split_at(version.record_len());
         rest = after;
-        match read_record(text) {
+        match read_record(version, text) {
             Ok(record) => {
                 rise &= last < record.tid;
                 last = record.tid;
@@ -76,13 +79,36 @@ fn read_records(
     Ok(records)
 }
 
-/// Reads a page if the bytes are its one spelling, and else returns what is wrong with them.
+/// Returns the version of a page: that of its first record, and the second if it has none.
+#[tactic(auto, using(crate::proofs::Pages::few_for_version, crate::proofs::Pages::headless_page, crate::proofs::Pages::has_head, crate::proofs::Pages::no_version))]
+fn version_at(count: u16, bytes: &[u8]) -> Result<Version, PageFault>
+    requires count { count ≡ count_in bytes.now }
+    requires long { 8 ≤ length bytes.now }
+    ensures head { IfOk result (λ _. is_headless bytes.now ≡ false) }
+    ensures version { IfOk result (λ v. version_of bytes.now ≡ Some v) }
+    ensures fault { IfErr result (λ f. Faults f (page_fault bytes.now)) }
+{
+    if count == 0 {
+        return Ok(Version::Two);
+    }
+    if bytes.len() < HEADER + 2 {
+        return Err(PageFault::Short);
+    }
+    match Version::numbered(u16_at(bytes, HEADER)) {
+        Some(version) => Ok(version),
+        None => Err(PageFault::BadVersion),
+    }
+}
+
+/// Reads a page if the bytes are its spelling in a version, the first or the second, and else returns what is
+/// wrong with them. All records have the version of the first one.
 ///
 /// # Errors
 ///
-/// The first that applies to the whole of the bytes: `Short`, `Trailing`, `BadVersion` of any record,
-/// `BadField` of the header or any record, `BadOrder`. `OutOfMemory` if out of memory, only for bytes that
-/// are a page.
+/// The first that applies to the whole of the bytes: `Short` if they end before the header does, or before the
+/// first record's version. `BadVersion` of the first record. `Short` or `Trailing` by the size that the page has
+/// in its version. `BadVersion` of a later record, `BadField` of the header or any record, `BadOrder`.
+/// `OutOfMemory` if out of memory, only for bytes that are a page.
 pub fn read_page(alloc: Global, bytes: &[u8]) -> Result<Page, PageFault>
     // What is read is spelled so, and what is spelled so is read, unless it is out of memory.
     ensures ok { IfOk result (IsSpelled bytes.now) }
@@ -96,7 +122,11 @@ pub fn read_page(alloc: Global, bytes: &[u8]) -> Result<Page, PageFault>
         return Err(PageFault::Short);
     }
     let count = u16_at(bytes, 0);
-    let size = HEADER + RECORD * count as usize;
+    let version = match version_at(count, bytes) {
+        Ok(version) => version,
+        Err(fault) => return Err(fault),
+    };
+    let size = HEADER + version.record_len() * count as usize;
     if bytes.len() < size {
         return Err(PageFault::Short);
     }
@@ -104,6 +134,13 @@ pub fn read_page(alloc: Global, bytes: &[u8]) -> Result<Page, PageFault>
         return Err(PageFault::Trailing);
     }
     let next = next_at(bytes);
-    let records = read_records(alloc, count, end_fits(bytes), next, &bytes[HEADER..])?;
+    let records = read_records(
+        alloc,
+        version,
+        count,
+        end_fits(bytes),
+        next,
+        &bytes[HEADER..],
+    )?;
     Ok(Page { records, next })
 }

@@ -9,6 +9,6 @@ pub struct DumpRecord {
     pub tseq: u32,
     /// Whether it may run, its mask, its class and its name.
     pub facts: Facts,
-    /// The CPU that it is on, from 0 to 63, or `None` if it is on none.
+    /// The CPU that it is on, from 0 to 127, or `None` if it is on none.
     pub cpu: Option<u16>,
 }

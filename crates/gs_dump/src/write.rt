@@ -4,20 +4,26 @@ ghost use Rattle.std.specs.Prelude.{◌≡◌, ◌+◌, ◌≤◌, ◌++◌, IfO
 ghost use Rattle.gs_dump.specs.Page.{header_bytes, page_spelling};
 ghost use Rattle.gs_dump.specs.Record.{front_bytes, name_field, record_spelling};
 
-use crate::fields::{NAME, RECORD, VERSION};
 use crate::page::Page;
 use crate::read::HEADER;
 use crate::record::DumpRecord;
+use crate::version::{MASK_AT, Version};
 use byteorder::{ByteOrder, LittleEndian};
 use gs_layout::{MOST_NAME_LEN, cpu_number};
 use std::alloc::{AllocError, Global};
 
-/// Writes the first 16 bytes of a record.
+/// Where the name begins in a record that is written.
+const NAME: usize = 32;
+
+/// How many bytes a record has that is written.
+const RECORD: usize = 48;
+
+/// Writes what stands before the mask of a record.
 fn write_front(thread: &DumpRecord, out: &mut [u8])
     requires { 16 ≤ length out.old }
-    ensures { out.new ≡ front_bytes thread.now ++ drop 16 out.old }
+    ensures { out.new ≡ front_bytes Version.Two thread.now ++ drop 16 out.old }
 {
-    LittleEndian::write_u16(out, VERSION);
+    LittleEndian::write_u16(out, Version::Two.number());
     out[2..4].copy_from_slice(&[
         thread.facts.class.number(),
         thread.facts.name.as_bytes().len() as u8,
@@ -38,12 +44,12 @@ fn write_name(name: &[u8], out: &mut [u8])
     out[name.len()..].fill(0);
 }
 
-fn record_bytes(thread: &DumpRecord) -> [u8; 40]
-    ensures { result ≡ record_spelling thread.now }
+fn record_bytes(thread: &DumpRecord) -> [u8; RECORD]
+    ensures { result ≡ record_spelling Version.Two thread.now }
 {
     let mut bytes = [0; RECORD];
     write_front(thread, &mut bytes);
-    LittleEndian::write_u64(&mut bytes[16..], thread.facts.mask.bits());
+    LittleEndian::write_u128(&mut bytes[MASK_AT..], thread.facts.mask.bits());
     write_name(thread.facts.name.as_bytes(), &mut bytes[NAME..]);
     bytes
 }
@@ -58,7 +64,7 @@ fn header(page: &Page) -> [u8; 8]
     bytes
 }
 
-/// Returns the bytes of a page: 8 of a header, and 40 for each record.
+/// Returns the bytes of a page in the second version: 8 of a header, and 48 for each record.
 ///
 /// # Errors
 ///

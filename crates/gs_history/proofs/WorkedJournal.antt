@@ -37,20 +37,20 @@ unfolding digits
 each_kind = refl
 
 each_message : journal_lines (
-    Posted (Thread 65536 4294967295 (changes.Created (record { runnable = false; mask = 18446744073709551615; class = One; name = [] })))
+    Posted (Thread 65536 4294967295 (changes.Created (record { runnable = false; mask = 340282366920938463463374607431768211455; class = One; name = [] })))
     ∷ Posted (Thread 7 4 changes.Wakeup)
     ∷ Posted (Thread 9 5 (changes.Preempted 0))
-    ∷ Posted (Thread 9 6 (changes.Yield 63))
+    ∷ Posted (Thread 9 6 (changes.Yield 127))
     ∷ Posted (Thread 9 7 (changes.Dead (Some 1)))
     ∷ Posted (Thread 2 2 (changes.Dead None))
     ∷ Posted (Thread 1 2 (changes.Affinity (Some 1) true 1))
     ∷ Posted (Thread 1 3 (changes.Affinity (Some 0) false 3))
     ∷ Posted (Thread 1 4 (changes.Affinity None false 2))
     ∷ []
-    ) ≡ line (codes "0 posted created 65536 seq 4294967295 b mask 18446744073709551615 class 1 name -")
+    ) ≡ line (codes "0 posted created 65536 seq 4294967295 b mask 340282366920938463463374607431768211455 class 1 name -")
     ++ line (codes "1 posted woken 7 seq 4")
     ++ line (codes "2 posted preempted 9 seq 5 cpu 0")
-    ++ line (codes "3 posted yielded 9 seq 6 cpu 63")
+    ++ line (codes "3 posted yielded 9 seq 6 cpu 127")
     ++ line (codes "4 posted dead 9 seq 7 cpu 1")
     ++ line (codes "5 posted dead 2 seq 2 cpu -")
     ++ line (codes "6 posted affinity 1 seq 2 mask 1 cpu 1 off")

@@ -1,5 +1,5 @@
 -- A journal as JSON Lines.
-use Rattle.std.specs.Prelude.{Bool, ℕ, List, Option, None, Some, codes}
+use Rattle.std.specs.Prelude.{Bool, ℕ, List, Option, None, Some, codes, decimal}
 use Rattle.serde_json.specs.Data.{Data, Members, boolean, number, unsigned, string, null, object, member, no_members}
 use Rattle.serde_json.specs.Written.{compact_text}
 use Rattle.gs_layout.specs.declared.facts.Facts.{Facts}
@@ -17,6 +17,10 @@ use Rattle.gs_history.specs.Journal.{each_from}
 abbrev pub count : ℕ → Data
 count n = number (unsigned n)
 
+-- a mask as a text, since many readers of JSON round a number above 2^53
+abbrev pub mask_data : ℕ → Data
+mask_data mask = string (decimal mask)
+
 -- a CPU, or null for none
 abbrev pub cpu_data : Option ℕ → Data
 cpu_data None = null
@@ -33,7 +37,7 @@ created_data n t s f =
     member (codes "class") (count (class_number f.class)) (
     member (codes "entry") (count n) (
     member (codes "kind") (string (codes "posted")) (
-    member (codes "mask") (count f.mask) (
+    member (codes "mask") (mask_data f.mask) (
     member (codes "message") (string (codes "created")) (
     member (codes "name") (string f.name) (
     member (codes "runnable") (boolean f.runnable) (
@@ -50,13 +54,13 @@ left_data n t s c name =
     thread_members t s)))))
 
 -- a new mask
-abbrev pub mask_data : ℕ → ℕ → ℕ → Option ℕ → Bool → ℕ → Data
-mask_data n t s c off mask =
+abbrev pub affinity_data : ℕ → ℕ → ℕ → Option ℕ → Bool → ℕ → Data
+affinity_data n t s c off mask =
     object (
     member (codes "cpu") (cpu_data c) (
     member (codes "entry") (count n) (
     member (codes "kind") (string (codes "posted")) (
-    member (codes "mask") (count mask) (
+    member (codes "mask") (mask_data mask) (
     member (codes "message") (string (codes "affinity")) (
     member (codes "off") (boolean off) (
     thread_members t s)))))))
@@ -78,7 +82,7 @@ changed_data n t s Wakeup = woken_data n t s
 changed_data n t s (Preempted c) = left_data n t s (Some c) (codes "preempted")
 changed_data n t s (Yield c) = left_data n t s (Some c) (codes "yielded")
 changed_data n t s (Dead c) = left_data n t s c (codes "dead")
-changed_data n t s (Affinity c off mask) = mask_data n t s c off mask
+changed_data n t s (Affinity c off mask) = affinity_data n t s c off mask
 
 -- a message
 abbrev pub posted_data : ℕ → Message → Data

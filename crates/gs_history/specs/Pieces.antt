@@ -27,15 +27,15 @@ thread_piece t s = codes ",\"seq\":" ++ (decimal s ++ (codes ",\"tid\":" ++ (dec
 
 -- a creation
 abbrev pub created_pieces : ℕ → ℕ → ℕ → Facts → List ℕ
-created_pieces n t s f = codes "{\"class\":" ++ (decimal (class_number f.class) ++ (place_piece n ++ (codes ",\"kind\":\"posted\",\"mask\":" ++ (decimal f.mask ++ (codes ",\"message\":\"created\",\"name\":" ++ (quoted f.name ++ (codes ",\"runnable\":" ++ (compact_text (boolean f.runnable) ++ thread_piece t s))))))))
+created_pieces n t s f = codes "{\"class\":" ++ (decimal (class_number f.class) ++ (place_piece n ++ (codes ",\"kind\":\"posted\",\"mask\":" ++ (quoted (decimal f.mask) ++ (codes ",\"message\":\"created\",\"name\":" ++ (quoted f.name ++ (codes ",\"runnable\":" ++ (compact_text (boolean f.runnable) ++ thread_piece t s))))))))
 
 -- a message about a thread that was on a CPU, or on none, with these words behind the place
 abbrev pub left_pieces : ℕ → ℕ → ℕ → Option ℕ → List ℕ → List ℕ
 left_pieces n t s c words = cpu_piece c ++ (place_piece n ++ (words ++ thread_piece t s))
 
 -- a new mask
-abbrev pub mask_pieces : ℕ → ℕ → ℕ → Option ℕ → Bool → ℕ → List ℕ
-mask_pieces n t s c off mask = cpu_piece c ++ (place_piece n ++ (codes ",\"kind\":\"posted\",\"mask\":" ++ (decimal mask ++ (codes ",\"message\":\"affinity\",\"off\":" ++ (compact_text (boolean off) ++ thread_piece t s)))))
+abbrev pub affinity_pieces : ℕ → ℕ → ℕ → Option ℕ → Bool → ℕ → List ℕ
+affinity_pieces n t s c off mask = cpu_piece c ++ (place_piece n ++ (codes ",\"kind\":\"posted\",\"mask\":" ++ (quoted (decimal mask) ++ (codes ",\"message\":\"affinity\",\"off\":" ++ (compact_text (boolean off) ++ thread_piece t s)))))
 
 -- a wake-up
 abbrev pub woken_pieces : ℕ → ℕ → ℕ → List ℕ
@@ -49,7 +49,7 @@ changed_pieces n t s Wakeup = woken_pieces n t s
 changed_pieces n t s (Preempted c) = left_pieces n t s (Some c) (codes ",\"kind\":\"posted\",\"message\":\"preempted\"")
 changed_pieces n t s (Yield c) = left_pieces n t s (Some c) (codes ",\"kind\":\"posted\",\"message\":\"yielded\"")
 changed_pieces n t s (Dead c) = left_pieces n t s c (codes ",\"kind\":\"posted\",\"message\":\"dead\"")
-changed_pieces n t s (Affinity c off mask) = mask_pieces n t s c off mask
+changed_pieces n t s (Affinity c off mask) = affinity_pieces n t s c off mask
 
 -- an entry that has a CPU and its place, and then these words
 abbrev pub held_pieces : ℕ → ℕ → List ℕ → List ℕ

@@ -5,11 +5,13 @@ ghost use Rattle.serde_json.specs.Data.{boolean};
 ghost use Rattle.serde_json.specs.Written.{compact_text};
 ghost use Rattle.gs_lines.specs.Lines.{line};
 ghost use Rattle.gs_history.specs.Json.{json_lines};
-ghost use Rattle.gs_history.specs.Pieces.{changed_pieces, cpu_piece, created_pieces, entry_pieces, held_pieces, left_pieces, mask_pieces, place_piece, placed_pieces, posted_pieces, thread_piece, woken_pieces};
+ghost use Rattle.gs_history.specs.Pieces.{changed_pieces, cpu_piece, created_pieces, entry_pieces, held_pieces, left_pieces, affinity_pieces, place_piece, placed_pieces, posted_pieces, thread_piece, woken_pieces};
 
 use gs_journal::Entry;
 use gs_layout::{Change, Facts, Message, Name};
 use gs_lines::{Text, name_str};
+use gs_status::Mask;
+use itoa::Buffer;
 use json::Writer;
 use std::alloc::{AllocError, Global};
 
@@ -22,16 +24,16 @@ const YIELDED: &str = ",\"kind\":\"posted\",\"message\":\"yielded\"";
 
 const DEAD: &str = ",\"kind\":\"posted\",\"message\":\"dead\"";
 
-/// Room for a name in quotation marks.
-const QUOTED_LEN: usize = 40;
+/// Room for a name or a mask in quotation marks.
+const QUOTED_LEN: usize = 42;
 
-/// Returns a name in quotation marks, as JSON has it.
-fn quoted_name(alloc: Global, name: &Name) -> Result<Vec<u8>, AllocError>
-    ensures is { IfOk result (λ bytes. bytes.items ≡ quoted name.now) }
+/// Returns a text in quotation marks, as JSON has it.
+fn quoted_text(alloc: Global, text: &str) -> Result<Vec<u8>, AllocError>
+    ensures is { IfOk result (λ bytes. bytes.items ≡ quoted text.now) }
     ensures utf8 { IfOk result (λ bytes. IsUtf8 bytes.items) }
 {
     let mut writer = Writer::new(Vec::with_capacity(alloc, QUOTED_LEN)?);
-    writer.string(name_str(name))?;
+    writer.string(text)?;
     Ok(writer.into_inner())
 }
 
@@ -43,12 +45,27 @@ fn as_text(bytes: &[u8]) -> &str
     str::from_utf8(bytes).unwrap()
 }
 
+/// Adds a text in quotation marks.
+fn write_quoted(alloc: Global, out: &mut Text, text: &str) -> Result<(), AllocError>
+    ensures { OnOk result (out.new ≡ out.old ++ quoted text.now) }
+{
+    let bytes = quoted_text(alloc, text)?;
+    out.push_str(as_text(&bytes))
+}
+
 /// Adds a name in quotation marks.
 fn write_name(alloc: Global, out: &mut Text, name: &Name) -> Result<(), AllocError>
     ensures { OnOk result (out.new ≡ out.old ++ quoted name.now) }
 {
-    let bytes = quoted_name(alloc, name)?;
-    out.push_str(as_text(&bytes))
+    write_quoted(alloc, out, name_str(name))
+}
+
+/// Adds a mask in quotation marks, since many readers of JSON round a number above 2^53.
+fn write_mask(alloc: Global, out: &mut Text, mask: Mask) -> Result<(), AllocError>
+    ensures { OnOk result (out.new ≡ out.old ++ quoted (decimal mask)) }
+{
+    let mut buffer = Buffer::new();
+    write_quoted(alloc, out, buffer.format(mask.bits()))
 }
 
 /// Adds a flag.
@@ -104,7 +121,8 @@ fn write_created(
 {
     out.push_number("{\"class\":", facts.class.number() as u64)?;
     write_place(out, place)?;
-    out.push_number(",\"kind\":\"posted\",\"mask\":", facts.mask.bits())?;
+    out.push_str(",\"kind\":\"posted\",\"mask\":")?;
+    write_mask(alloc, out, facts.mask)?;
     out.push_str(",\"message\":\"created\",\"name\":")?;
     write_name(alloc, out, &facts.name)?;
     out.push_str(",\"runnable\":")?;
@@ -129,21 +147,23 @@ fn write_left(
     write_thread(out, tid, tseq)
 }
 
-/// Adds a new mask.
-fn write_mask(
+/// Adds a change of a thread's mask.
+fn write_affinity(
+    alloc: Global,
     out: &mut Text,
     place: usize,
     tid: u32,
     tseq: u32,
     cpu: Option<u16>,
     off: bool,
-    mask: u64,
+    mask: Mask,
 ) -> Result<(), AllocError>
-    ensures { OnOk result (out.new ≡ out.old ++ mask_pieces place tid tseq cpu off mask) }
+    ensures { OnOk result (out.new ≡ out.old ++ affinity_pieces place tid tseq cpu off mask) }
 {
     write_cpu(out, cpu)?;
     write_place(out, place)?;
-    out.push_number(",\"kind\":\"posted\",\"mask\":", mask)?;
+    out.push_str(",\"kind\":\"posted\",\"mask\":")?;
+    write_mask(alloc, out, mask)?;
     out.push_str(",\"message\":\"affinity\",\"off\":")?;
     write_flag(out, off)?;
     write_thread(out, tid, tseq)
@@ -177,7 +197,7 @@ fn write_changed(
         Change::Yield { cpu } => write_left(out, place, tid, tseq, Some(*cpu), YIELDED),
         Change::Dead { cpu } => write_left(out, place, tid, tseq, *cpu, DEAD),
         Change::Affinity { cpu, off, mask } => {
-            write_mask(out, place, tid, tseq, *cpu, *off, mask.bits())
+            write_affinity(alloc, out, place, tid, tseq, *cpu, *off, *mask)
         }
     }
 }

@@ -15,10 +15,10 @@ fn off_name(off: bool) -> &'static str
 }
 
 /// Adds a new mask, the CPU that the thread was on, and whether it was taken off it.
-fn write_mask(out: &mut Text, cpu: Option<u16>, off: bool, mask: u64) -> Result<(), AllocError>
+fn write_mask(out: &mut Text, cpu: Option<u16>, off: bool, mask: u128) -> Result<(), AllocError>
     ensures { OnOk result (out.new ≡ out.old ++ mask_text cpu off mask) }
 {
-    out.push_number(" mask ", mask)?;
+    out.push_mask(" mask ", mask, "")?;
     out.push_str(" cpu ")?;
     write_cpu(out, cpu)?;
     out.push_str(off_name(off))

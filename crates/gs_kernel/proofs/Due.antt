@@ -36,7 +36,8 @@ use Rattle.gs_kernel.proofs.Seats.{length_set}
 use Rattle.gs_slots.specs.declared.state.Stamp.{Stamp}
 use Rattle.gs_kernel.specs.Landing.{placing, placing_entries}
 use Rattle.gs_kernel.specs.Lands.{ComesNext, placement}
-use Rattle.gs_kernel.proofs.Placings.{IsToPlace, placing_free, placing_then, placing_when}
+use Rattle.gs_kernel.specs.Landing.{IsToPlace}
+use Rattle.gs_kernel.proofs.Placings.{placing_free, placing_then}
 use Rattle.std.proofs.Common.{inl, inr}
 
 -- a kernel with the same rows, seats and CPUs held
@@ -230,9 +231,14 @@ kept_next s h t t' running running' held held' a a' down x next k rows first sea
         subst (λ (y : Effect). IsKept s (h ++ entries_in y) t' running' held' (agents_by (behind y) a) down) (sym due.effect_is)
         (kept_command s h t t' running running' held held' a down due.given due.command due.free k' (rows' ∙ ap (λ (y : Effect). rows_seated (rows_told t.first_tseq t.rows (message_in y)) (behind y)) due.effect_is) first'
         (seats' ∙ ap (λ (y : Effect). seats_seated (seats_told running (message_in y)) (behind y)) due.effect_is) (λ d. holds' d ∙ ap (λ (y : Effect). held_by (behind y) d (has held d)) due.effect_is))
-    by_next (inr due) =
+    by_next (inr (inr due)) =
         subst (λ (y : Effect). IsKept s (h ++ entries_in y) t' running' held' (agents_by (behind y) a) down) (sym due.effect_is)
-        (kept_placing s h t t' running running' held held' a down due.cpu due.stamp due.below (placing_when s h due.cpu due.stamp due.placed) k'
+        (kept_like s (h ++ Posted (next_about s h due.thread (Preempted due.cpu)) ∷ []) t' t' (slice_set running due.cpu None) running' held held' a down refl refl
+        (seats' ∙ ap (λ (y : Effect). seats_seated (seats_told running (message_in y)) (behind y)) due.effect_is) (λ d. holds' d ∙ ap (λ (y : Effect). held_by (behind y) d (has held d)) due.effect_is)
+        (kept_preempted s h t t' running held a down due.thread due.cpu k' due.there (rows' ∙ ap (λ (y : Effect). rows_seated (rows_told t.first_tseq t.rows (message_in y)) (behind y)) due.effect_is) first'))
+    by_next (inr (inl due)) =
+        subst (λ (y : Effect). IsKept s (h ++ entries_in y) t' running' held' (agents_by (behind y) a) down) (sym due.effect_is)
+        (kept_placing s h t t' running running' held held' a down due.cpu due.stamp due.below due.ready k'
         (rows' ∙ ap (λ (y : Effect). rows_seated (rows_told t.first_tseq t.rows (message_in y)) (behind y)) due.effect_is) first'
         (seats' ∙ ap (λ (y : Effect). seats_seated (seats_told running (message_in y)) (behind y)) due.effect_is) (λ d. holds' d ∙ ap (λ (y : Effect). held_by (behind y) d (has held d)) due.effect_is))
 
@@ -250,7 +256,8 @@ one_entry (commands.Activate c) = omega arith
 
 pub due_room : (s : Settings) (h : History) (x : Effect) → ComesNext s h x → length h < s.history
 due_room s h x (inl due) = omega (arith, (free_when s h due.given due.command due.free).room, one_entry due.command)
-due_room s h x (inr due) = omega (arith, (placing_when s h due.cpu due.stamp due.placed).fits, some_entry (on h due.cpu))
+due_room s h x (inr (inr due)) = due.room
+due_room s h x (inr (inl due)) = let w = due.ready in omega (arith, w.fits, some_entry (on h due.cpu))
   where
     some_entry : (o : Option ℕ) → 0 < placing_entries o
     some_entry None = omega arith
@@ -286,7 +293,8 @@ due_left s h t running now held a down x due k same = subst (λ n. LeavesBelow n
   where
     by_due : ComesNext s h x → LeavesBelow s.cpus (message_in x)
     by_due (inl due) = subst (λ (y : Effect). LeavesBelow s.cpus (message_in y)) (sym due.effect_is) (command_left s h t running held a down due.given due.command due.free k)
-    by_due (inr due) = subst (λ (y : Effect). LeavesBelow s.cpus (message_in y)) (sym due.effect_is) (preempted_left s h due.cpu due.below)
+    by_due (inr (inr due)) = subst (λ (y : Effect). LeavesBelow s.cpus (message_in y)) (sym due.effect_is) (λ d q. let z : due.cpu ≡ d = cc in let lt = due.below in omega (arith, z, lt))
+    by_due (inr (inl due)) = subst (λ (y : Effect). LeavesBelow s.cpus (message_in y)) (sym due.effect_is) (preempted_left s h due.cpu due.below)
 
 -- and a placing is on one
 command_seats : (s : Settings) (h : History) (n : ℕ) (c : Command) → IfSome (behind (effect s h c)) (SeatsBelow n)
@@ -302,10 +310,11 @@ command_seats s h n (commands.Activate c) = tt
 
 pub due_seats : (s : Settings) (h : History) (x : Effect) (n : ℕ) → ComesNext s h x → n ≡ s.cpus → IfSome (behind x) (SeatsBelow n)
 due_seats s h x n (inl due) is = subst (λ (y : Effect). IfSome (behind y) (SeatsBelow n)) (sym due.effect_is) (command_seats s h n due.command)
-due_seats s h x n (inr due) is = subst (λ (y : Effect). IfSome (behind y) (SeatsBelow n)) (sym due.effect_is) (omega (arith, due.below, is))
+due_seats s h x n (inr (inr due)) is = subst (λ (y : Effect). IfSome (behind y) (SeatsBelow n)) (sym due.effect_is) tt
+due_seats s h x n (inr (inl due)) is = subst (λ (y : Effect). IfSome (behind y) (SeatsBelow n)) (sym due.effect_is) (omega (arith, due.below, is))
 
--- a CPU that is taken or given back is below 64
-command_near : (s : Settings) (h : History) (given : Bool) (c : Command) → refusal s h given c ≡ None → s.cpus < 65 → IfSome (behind (effect s h c)) HoldsNear
+-- a CPU that is taken or given back is below 128
+command_near : (s : Settings) (h : History) (given : Bool) (c : Command) → refusal s h given c ≡ None → s.cpus < 129 → IfSome (behind (effect s h c)) HoldsNear
 command_near s h given (commands.Create f) none most = tt
 command_near s h given (commands.Thread u e) none most = tt
 command_near s h given (commands.Take c) none most = omega (arith, (takes_when s h c (free_when s h given (commands.Take c) none).own).cpu, most)
@@ -316,9 +325,10 @@ command_near s h given commands.Leave none most = tt
 command_near s h given commands.Begin none most = tt
 command_near s h given (commands.Activate c) none most = tt
 
-pub due_near : (s : Settings) (h : History) (x : Effect) → ComesNext s h x → s.cpus < 65 → IfSome (behind x) HoldsNear
+pub due_near : (s : Settings) (h : History) (x : Effect) → ComesNext s h x → s.cpus < 129 → IfSome (behind x) HoldsNear
 due_near s h x (inl due) most = subst (λ (y : Effect). IfSome (behind y) HoldsNear) (sym due.effect_is) (command_near s h due.given due.command due.free most)
-due_near s h x (inr due) most = subst (λ (y : Effect). IfSome (behind y) HoldsNear) (sym due.effect_is) tt
+due_near s h x (inr (inr due)) most = subst (λ (y : Effect). IfSome (behind y) HoldsNear) (sym due.effect_is) tt
+due_near s h x (inr (inl due)) most = subst (λ (y : Effect). IfSome (behind y) HoldsNear) (sym due.effect_is) tt
 
 -- a message, and the entry behind it
 pub told_both : (h : History) (x : Effect) → (h ++ listed_message (message_in x)) ++ listed_entry (behind x) ≡ h ++ entries_in x
@@ -340,7 +350,8 @@ command_quiet s h h' (commands.Activate c) = same_posted h' (Role (unwrap_or (at
 
 pub due_quiet : (s : Settings) (h h' : History) (x : Effect) → ComesNext s h x → posted (h' ++ listed_entry (behind x)) ≡ posted h'
 due_quiet s h h' x (inl due) = ap (λ (y : Effect). posted (h' ++ listed_entry (behind y))) due.effect_is ∙ command_quiet s h h' due.command
-due_quiet s h h' x (inr due) = ap (λ (y : Effect). posted (h' ++ listed_entry (behind y))) due.effect_is ∙ same_posted h' (placing due.cpu due.stamp) refl
+due_quiet s h h' x (inr (inr due)) = ap (λ (y : Effect). posted (h' ++ listed_entry (behind y))) due.effect_is ∙ ap posted (append-nil h')
+due_quiet s h h' x (inr (inl due)) = ap (λ (y : Effect). posted (h' ++ listed_entry (behind y))) due.effect_is ∙ same_posted h' (placing due.cpu due.stamp) refl
 
 -- an entry frees no seat and adds none
 pub seated_length : (running : List (Option ℕ)) (e : Option Entry) → length (seats_seated running e) ≡ length running

@@ -1,10 +1,9 @@
 -- What became of a command, and the last entry.
-use Rattle.std.proofs.Common.{◌≡◌, ◌++◌, ◌∷◌, [], ◌+◌, ◌-◌, ◌≤◌, Bool, true, false, ℕ, None, Some, List, refl, ap, sym, subst, ◌∙◌, arith, length}
+use Rattle.std.proofs.Common.{◌≡◌, ◌++◌, ◌∷◌, [], ◌-◌, Bool, true, false, ℕ, None, Some, refl, ap, sym, ◌∙◌, arith, length}
 use Rattle.std.proofs.lemmas.List.{append_assoc, length-append}
 use Rattle.std.proofs.lemmas.Option.{none-some, slice_get-get_or, unwrap_or-slice_get}
 use Rattle.std.proofs.Math.Seq.{get_or-append_seam}
-use Rattle.std.specs.Prelude.{get_or, slice_get, unwrap_or}
-use Rattle.gs_layout.specs.declared.message.Message.{Message}
+use Rattle.std.specs.Prelude.{slice_get, unwrap_or}
 use Rattle.gs_journal.specs.declared.entry.Entry.{Entry}
 use Rattle.gs_journal.specs.declared.entry.Entry.TheVariants.{Posted, Torn}
 use Rattle.gs_journal.specs.Standing.{last_of, latest, standing}

@@ -1,5 +1,5 @@
 -- A commit that passes over idle slots is one that looks at all: nothing comes of them.
-use Rattle.std.proofs.Common.{◌≡◌, ◌⊎◌, inl, inr, Bool, true, false, ◌&&◌, ℕ, zero, suc, ◌+◌, ◌<◌, None, Some, Ok, List, [], ◌∷◌, slice_get, refl, ap, sym, subst, ◌∙◌, arith}
+use Rattle.std.proofs.Common.{◌≡◌, ◌⊎◌, inl, inr, Bool, true, false, ◌&&◌, ℕ, suc, ◌+◌, ◌<◌, None, Some, Ok, List, [], ◌∷◌, slice_get, refl, ap, sym, subst, ◌∙◌, arith}
 use Rattle.gs_journal.specs.History.{History}
 use Rattle.gs_status.specs.Masks.{has}
 use Rattle.gs_slots.specs.declared.state.SlotState.TheVariants.{Idle}
@@ -9,15 +9,15 @@ use Rattle.gs_slots.specs.State.{Held}
 use Rattle.gs_slots.proofs.Laws.{quiet_read}
 use Rattle.gs_kernel.specs.declared.landing.Landing.{Landing}
 use Rattle.gs_kernel.specs.declared.settings.Settings.{Settings}
-use Rattle.gs_kernel.specs.Lands.{Adds, LandingsOf, LandsAllBy, LandsBytes, LandsHeld, LandsIfBy, LandsRegion}
+use Rattle.gs_kernel.specs.Lands.{Adds, LandingsOf, LandsBytes, LandsHeld, LandsIfBy, LandsRegion}
 use Rattle.gs_kernel.specs.Legal.{Room}
 
 -- a CPU is in both masks, or in neither, or its slot is idle and it is not in the first
-abbrev Alike : ℕ → ℕ → ℕ → List ℕ → Type 0
+abbrev pub Alike : ℕ → ℕ → ℕ → List ℕ → Type 0
 Alike busy mask k z = (has busy k ≡ has mask k) ⊎ ((has busy k ≡ false) × (state_in k z ≡ Ok Idle))
 
 -- the same of slots, the first of which is that of CPU k
-abbrev AllAlike : ℕ → ℕ → ℕ → List (List ℕ) → Type 0
+abbrev pub AllAlike : ℕ → ℕ → ℕ → List (List ℕ) → Type 0
 AllAlike busy mask k zs = (i : ℕ) (z : List ℕ) → slice_get zs i ≡ Some z → Alike busy mask (k + i) z
 
 -- an idle slot that is of the mask lands as nothing
@@ -47,35 +47,30 @@ all_land room s busy mask k (z ∷ zs) h r alike t =
       t.4,
     )
 
+with_true : (b : Bool) → (b && true) ≡ b
+with_true true = refl
+with_true false = refl
+
+with_false : (b : Bool) → (b && false) ≡ false
+with_false true = refl
+with_false false = refl
+
+one_alike : (busy mask i : ℕ) (z : List ℕ) (b : Bool) → is_busy z ≡ b → has busy i ≡ (has mask i && is_busy z) → Alike busy mask i z
+one_alike busy mask i z true is e = inl (e ∙ (ap (λ (b : Bool). has mask i && b) is ∙ with_true (has mask i)))
+one_alike busy mask i z false is e = inr (e ∙ (ap (λ (b : Bool). has mask i && b) is ∙ with_false (has mask i)), quiet_read i z is)
+
+-- the busy ones of a mask are so
+pub are_alike : (busy mask : ℕ) (zs : List (List ℕ)) → ((c : ℕ) → c < 128 → has busy c ≡ (has mask c && is_busy_at zs c)) → ((i : ℕ) (z : List ℕ) → slice_get zs i ≡ Some z → i < 128) → AllAlike busy mask 0 zs
+are_alike busy mask zs both few i z e =
+    let n : i ≡ 0 + i = omega arith in
+    subst (λ (m : ℕ). Alike busy mask m z) n (one_alike busy mask i z (is_busy z) refl (both i (few i z e) ∙ ap (λ (b : Bool). has mask i && b) (ap is_busy_if_any e)))
+
 -- slots that land if they are of the busy ones of a mask land if they are of the mask
 pub busy_land : (room : Room) (s : Settings) (busy mask : ℕ) (zs : List (List ℕ)) (h : History) (before after : List Landing) (left : List (List ℕ)) (now : History)
-    → ((c : ℕ) → c < 64 → has busy c ≡ (has mask c && is_busy_at zs c)) → ((i : ℕ) (z : List ℕ) → slice_get zs i ≡ Some z → i < 64)
+    → ((c : ℕ) → c < 128 → has busy c ≡ (has mask c && is_busy_at zs c)) → ((i : ℕ) (z : List ℕ) → slice_get zs i ≡ Some z → i < 128)
     → Adds (LandsRegion room s busy 0 zs h) before after left now → Adds (LandsRegion room s mask 0 zs h) before after left now
 busy_land room s busy mask zs h before after left now both few t =
-    record { made = t.made; lands = all_land room s busy mask 0 zs h t.made alike t.lands; answers = t.answers; slots = t.slots; history = t.history }
-  where
-    both' : (c : ℕ) → c < 64 → has busy c ≡ (has mask c && is_busy_at zs c)
-    both' = both
-
-    few' : (i : ℕ) (z : List ℕ) → slice_get zs i ≡ Some z → i < 64
-    few' = few
-
-    with_true : (b : Bool) → (b && true) ≡ b
-    with_true true = refl
-    with_true false = refl
-
-    with_false : (b : Bool) → (b && false) ≡ false
-    with_false true = refl
-    with_false false = refl
-
-    one : (i : ℕ) (z : List ℕ) (b : Bool) → is_busy z ≡ b → has busy i ≡ (has mask i && is_busy z) → Alike busy mask i z
-    one i z true is e = inl (e ∙ (ap (λ (b : Bool). has mask i && b) is ∙ with_true (has mask i)))
-    one i z false is e = inr (e ∙ (ap (λ (b : Bool). has mask i && b) is ∙ with_false (has mask i)), quiet_read i z is)
-
-    alike : AllAlike busy mask 0 zs
-    alike i z e =
-        let n : i ≡ 0 + i = omega arith in
-        subst (λ (m : ℕ). Alike busy mask m z) n (one i z (is_busy z) refl (both' i (few' i z e) ∙ ap (λ (b : Bool). has mask i && b) (ap is_busy_if_any e)))
+    record { made = t.made; lands = all_land room s busy mask 0 zs h t.made (are_alike busy mask zs both few) t.lands; answers = t.answers; slots = t.slots; history = t.history }
 
 -- a busy CPU of the mask is of the mask
 pub of_mask : (mask busy k : ℕ) (there : Bool) → has busy k ≡ (has mask k && there) → has busy k ≡ true → has mask k ≡ true

@@ -129,7 +129,7 @@ pub if_map : {Z : Type 0} (A B : LandsOn Z) (wanted : Bool) (k : ℕ) (z : Z) (h
 if_map A B false k z h r f t = t
 if_map A B true k z h r f t = (t.0, t.1, f h k z t.0 t.1 r.history t.2, t.3, t.4)
 
-all_map_by : {Z : Type 0} (A B : LandsOn Z) (mask k : ℕ) (zs : List Z) (h : History) (r : LandingsOf Z) → EntailsOn A B → LandsAllBy A mask k zs h r → LandsAllBy B mask k zs h r
+pub all_map_by : {Z : Type 0} (A B : LandsOn Z) (mask k : ℕ) (zs : List Z) (h : History) (r : LandingsOf Z) → EntailsOn A B → LandsAllBy A mask k zs h r → LandsAllBy B mask k zs h r
 all_map_by A B mask k [] h r f t = t
 all_map_by A B mask k (z ∷ zs) h r f t = (t.0, t.1, if_map A B (has mask k) k z h t.0 f t.2, all_map_by A B mask (suc k) zs t.0.history t.1 f t.3, t.4)
 

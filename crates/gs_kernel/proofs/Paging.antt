@@ -88,7 +88,7 @@ rising f a (suc n) max last told above = by_one (f a) refl max (λ m from up. ri
         both_true z (later m l.tid (λ u x le q. omega (arith, le, is)))
 
 -- all that live from a tid on are told
-pub live_told : (s : Settings) (h : History) (t : TableState) (running : List (Option ℕ)) (held : ℕ) (a : Agents) (down : Bool) (from : ℕ) → s.cpus ≤ 64 → IsKept s h t running held a down → AllByRecursion IsTold (live_from s h from)
+pub live_told : (s : Settings) (h : History) (t : TableState) (running : List (Option ℕ)) (held : ℕ) (a : Agents) (down : Bool) (from : ℕ) → s.cpus ≤ 128 → IsKept s h t running held a down → AllByRecursion IsTold (live_from s h from)
 unfolding live_from Tells
 live_told s h t running held a down from most k = all_told (live_thread s h) from (suc (length (created h)) - from) (λ u l is. told_at s h t running held a down most k u l is)
 
@@ -96,7 +96,7 @@ next_fits : (ls : List LiveThread) → AllByRecursion IsTold ls → IfSome (firs
 next_fits [] all = tt
 next_fits (l ∷ ls) all = (all.0.tid_low, all.0.tid_high)
 
-live_rises : (s : Settings) (h : History) (t : TableState) (running : List (Option ℕ)) (held : ℕ) (a : Agents) (down : Bool) (from max : ℕ) → s.cpus ≤ 64 → IsKept s h t running held a down
+live_rises : (s : Settings) (h : History) (t : TableState) (running : List (Option ℕ)) (held : ℕ) (a : Agents) (down : Bool) (from max : ℕ) → s.cpus ≤ 128 → IsKept s h t running held a down
     → rises 0 (map record_of (take max (live_from s h from))) (first_tid (drop max (live_from s h from))) ≡ true
 unfolding live_from Tells
 live_rises s h t running held a down from max most k =
@@ -104,7 +104,7 @@ live_rises s h t running held a down from max most k =
     (λ u l le is. let w = told_at s h t running held a down most k u l is in omega (arith, w.0.tid_low, w.1))
 
 -- a page of them can be spelled, if each of its records can
-pub page_fits : (s : Settings) (h : History) (t : TableState) (running : List (Option ℕ)) (held : ℕ) (a : Agents) (down : Bool) (from max : ℕ) → s.cpus ≤ 64 → IsKept s h t running held a down → max < 2 ^ 16
+pub page_fits : (s : Settings) (h : History) (t : TableState) (running : List (Option ℕ)) (held : ℕ) (a : Agents) (down : Bool) (from max : ℕ) → s.cpus ≤ 128 → IsKept s h t running held a down → max < 2 ^ 16
     → AllByRecursion IsLive (map record_of (take max (live_from s h from))) → IsPage (dumped s h from max)
 page_fits s h t running held a down from max most k few live =
     record {
@@ -131,7 +131,7 @@ pub page_end : (ls : List LiveThread) (items : List DumpRecord) (max : ℕ) → 
 page_end ls items max told few left =
     let r = no_more ls (length items) max (sym left) few in same_page _ _ _ _ (ap (map record_of) r.0 ∙ sym told) (ap first_tid r.1)
 
-pub page_made : (s : Settings) (h : History) (t : TableState) (running : List (Option ℕ)) (held : ℕ) (a : Agents) (down : Bool) (from max : ℕ) (items : List DumpRecord) (o : Option ℕ) → s.cpus ≤ 64 → IsKept s h t running held a down → max < 2 ^ 16
+pub page_made : (s : Settings) (h : History) (t : TableState) (running : List (Option ℕ)) (held : ℕ) (a : Agents) (down : Bool) (from max : ℕ) (items : List DumpRecord) (o : Option ℕ) → s.cpus ≤ 128 → IsKept s h t running held a down → max < 2 ^ 16
     → AllByRecursion IsLive items → dumped s h from max ≡ page_of items o → IsPage (page_of items o)
 page_made s h t running held a down from max items o most k few live is =
     subst IsPage is (page_fits s h t running held a down from max most k few (subst (AllByRecursion IsLive) (sym (ap (λ (p : Contents). p.records) is)) live))

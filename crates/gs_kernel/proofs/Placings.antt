@@ -16,7 +16,7 @@ use Rattle.gs_journal.proofs.Laws.{at_is, on-push}
 use Rattle.gs_threads.proofs.Laws.{messages_other, on_off, record_by, seq_by}
 use Rattle.gs_kernel.specs.declared.settings.Settings.{Settings}
 use Rattle.gs_kernel.specs.Kernel.{is_spent_there, next_about}
-use Rattle.gs_kernel.specs.Landing.{verdict, cpu_verdict, is_generation, placing_entries}
+use Rattle.gs_kernel.specs.Landing.{IsToPlace, verdict, cpu_verdict, is_generation, placing_entries}
 use Rattle.gs_kernel.specs.Lands.{is_to_place}
 use Rattle.gs_kernel.specs.Threads.{is_runnable, may_run_on}
 use Rattle.gs_kernel.proofs.Entries.{beside_posted}
@@ -43,17 +43,6 @@ cpu_placed s h k preempt e =
     let p5 = passed _ outcomes.HistoryFull _ refl p4.1 in
     let most : length h + placing_entries (on h k) < s.history + 1 = not_le (s.history + 1) (length h + placing_entries (on h k)) p5.0 in
     (p4.0, omega (arith, most))
-
--- what holds if a transaction is to be placed: of it and its thread, and of the CPU
-pub record IsToPlace (s : Settings) (h : History) (k : ℕ) (b : Stamp) : Type 0 where
-  pub up : torn h ≡ false
-  pub generation : is_generation b.generation (active h) ≡ true
-  pub current : (b.tseq == seq s.first_tseq h b.tid) ≡ true
-  pub runnable : is_runnable (record_in h b.tid) ≡ true
-  pub nowhere : at s.cpus h b.tid ≡ None
-  pub allowed : may_run_on k (record_in h b.tid) ≡ true
-  pub numbers : is_spent_there s h (on h k) ≡ false
-  pub fits : length h + placing_entries (on h k) ≤ s.history
 
 pub placing_when : (s : Settings) (h : History) (k : ℕ) (b : Stamp) → verdict s h k b ≡ outcomes.Placed → IsToPlace s h k b
 unfolding verdict
@@ -118,7 +107,7 @@ not_there (Some u) t other = by_test (u == t) refl
     by_test false q = q
     by_test true q = absurd (other (ap Some (let e : u ≡ t = grind (arith, nat_tests) in e)))
 
-still_none : (n : ℕ) (h h' : History) (t : ℕ) → ((c : ℕ) → on h' c ≡ Some t → on h c ≡ Some t) → at_below n h t ≡ None → at_below n h' t ≡ None
+pub still_none : (n : ℕ) (h h' : History) (t : ℕ) → ((c : ℕ) → on h' c ≡ Some t → on h c ≡ Some t) → at_below n h t ≡ None → at_below n h' t ≡ None
 still_none zero h h' t stood none = refl
 still_none (suc n) h h' t stood none =
     let P : Option ℕ → Type 0 = λ o. elim o as (λ _. Option ℕ) [ Some d ↦ Some d | None ↦ cond (is_thread t (on h' n)) (Some n) None ] ≡ None in
@@ -180,3 +169,4 @@ to_place outcomes.CpuBusy e = absurd cc
 to_place outcomes.SeqSpent e = absurd cc
 to_place outcomes.HistoryFull e = absurd cc
 to_place outcomes.Malformed e = absurd cc
+to_place outcomes.GroupFailed e = absurd cc

@@ -1,5 +1,6 @@
 -- How transactions land, as legal steps of the kernel.
-use Rattle.std.specs.Prelude.{Bool, true, false, ℕ, suc, ◌<◌, ◌≡◌, ◌⊎◌, Option, None, Some, Ok, Err, List, [], ◌∷◌, ◌++◌, if◌then◌else◌}
+use Rattle.std.specs.Prelude.{Bool, true, false, ℕ, suc, ◌<◌, ◌≡◌, ◌⊎◌, Option, None, Some, Ok, Err, List, [], ◌∷◌, ◌++◌, length, if◌then◌else◌}
+use Rattle.gs_layout.specs.declared.message.Change.TheVariants.{Preempted}
 use Rattle.gs_layout.specs.declared.outcome.Outcome.{Outcome}
 use Rattle.gs_layout.specs.declared.outcome.Outcome.TheVariants as outcomes
 use Rattle.gs_slots.specs.declared.state.SlotState.{SlotState}
@@ -8,14 +9,14 @@ use Rattle.gs_slots.specs.declared.state.Stamp.{Stamp}
 use Rattle.gs_slots.specs.Reading.{state_in}
 use Rattle.gs_slots.specs.State.{Held, refused}
 use Rattle.gs_status.specs.Masks.{has}
-use Rattle.gs_journal.specs.History.{History, seq, at}
+use Rattle.gs_journal.specs.History.{History, seq, on, at}
 use Rattle.gs_kernel.specs.declared.settings.Settings.{Settings}
 use Rattle.gs_kernel.specs.declared.landing.Landing.{Landing}
-use Rattle.gs_kernel.specs.Kernel.{preemption}
-use Rattle.gs_kernel.specs.Landing.{verdict, placing}
+use Rattle.gs_kernel.specs.Kernel.{next_about, preemption}
+use Rattle.gs_kernel.specs.Landing.{IsToPlace, verdict, placing}
 use Rattle.gs_kernel.specs.declared.command.Command.{Command}
 use Rattle.gs_kernel.specs.declared.effect.Effect.{Effect}
-use Rattle.gs_kernel.specs.declared.effect.Effect.TheVariants.{Append}
+use Rattle.gs_kernel.specs.declared.effect.Effect.TheVariants.{Append, Post}
 use Rattle.gs_kernel.specs.Legal.{Room, Tells, effect, refusal}
 
 -- what a placing adds: the message to the thread that makes way, if there is one, and the placing
@@ -124,9 +125,18 @@ pub record IsPlaced (s : Settings) (h : History) (x : Effect) : Type 0 where
   pub cpu : ℕ
   pub stamp : Stamp
   pub below : cpu < s.cpus
-  pub placed : verdict s h cpu stamp ≡ outcomes.Placed
+  pub ready : IsToPlace s h cpu stamp
   pub effect_is : x ≡ placement s h cpu stamp
 
--- this comes next: by a command that nothing refuses, or by a placing
+-- this is what the thread on a CPU is told that makes way
+pub record MakesWay (s : Settings) (h : History) (x : Effect) : Type 0 where
+  pub cpu : ℕ
+  pub thread : ℕ
+  pub below : cpu < s.cpus
+  pub there : on h cpu ≡ Some thread
+  pub room : length h < s.history
+  pub effect_is : x ≡ Post (next_about s h thread (Preempted cpu))
+
+-- this comes next: by a command that nothing refuses, by a placing, or by who makes way
 abbrev pub ComesNext : Settings → History → Effect → Type 0
-ComesNext s h x = IsDue s h x ⊎ IsPlaced s h x
+ComesNext s h x = IsDue s h x ⊎ IsPlaced s h x ⊎ MakesWay s h x

@@ -23,7 +23,7 @@ use std::alloc::AllocError;
 impl<P: Poster> Kernel<P> {
     /// Returns what becomes of what was stamped into the slot of a CPU.
     #[tactic(auto, unfolding(crate::specs::Landing::verdict))]
-    fn verdict(&self, cpu: u16, slot: &Stamp) -> Outcome
+    pub(crate) fn verdict(&self, cpu: u16, slot: &Stamp) -> Outcome
         requires { cpu < self.now.settings.cpus }
         ensures value { result ≡ verdict self.now.settings self.now.history cpu slot.now }
         ensures known { is_malformed result ≡ false }
@@ -78,7 +78,7 @@ impl<P: Poster> Kernel<P> {
     }
 
     /// Returns how many entries a placing on a CPU appends.
-    fn placing_entries(&self, cpu: u16) -> usize
+    pub(crate) fn placing_entries(&self, cpu: u16) -> usize
         requires { cpu < self.now.settings.cpus }
         ensures value { result ≡ placing_entries (on self.now.history cpu) }
         ensures most { result ≤ 2 }

@@ -5,6 +5,7 @@
 mod agents;
 mod answer;
 mod attach;
+mod beside;
 mod carry_out;
 mod command;
 mod commit;
@@ -12,6 +13,7 @@ mod create;
 mod effect;
 mod fate;
 mod generations;
+mod group;
 mod hand_off;
 mod happen;
 mod head;

@@ -62,7 +62,7 @@ impl<P: Poster> Kernel<P> {
 
     /// Returns why no page is given, apart from `OutOfMemory`.
     #[tactic(auto, unfolding(crate::specs::Attaching::page_refusal))]
-    fn page_refusal(&self) -> Option<Refusal>
+    pub fn page_refusal(&self) -> Option<Refusal>
         ensures { result ≡ unless_torn self.now.history (page_refusal self.now.history self.now.paged) }
     {
         if self.torn {

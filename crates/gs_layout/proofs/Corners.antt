@@ -94,7 +94,7 @@ no_cpu = refl
 no_kinds : (kind_numbered 0 ∷ kind_numbered 9 ∷ []) ≡ None ∷ None ∷ []
 no_kinds = refl
 
-no_outcome : outcome_numbered 14 ≡ None
+no_outcome : outcome_numbered 15 ≡ None
 no_outcome = refl
 
 longest_name : is_name (replicate 16 33) ≡ true

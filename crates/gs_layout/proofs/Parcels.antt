@@ -11,18 +11,18 @@ use Rattle.gs_layout.proofs.ReadBack.{read_back}
 pub spelled_begins : (bytes : List ℕ) (m : Message) → IsSpellable m → bytes ≡ spelling m → Begins bytes m
 spelled_begins bytes m fits e = record { spellable = fits; rest = []; whole = e ∙ sym (append-nil (spelling m)) }
 
-pub parcel_reads : (m : Message) (bytes : List ℕ) → IsSpellable m → bytes ≡ spelling m ++ drop (length (spelling m)) (replicate 48 0) → message_in bytes ≡ m
-parcel_reads m bytes fits e = ap message_in e ∙ read_back m (drop (length (spelling m)) (replicate 48 0)) fits
+pub parcel_reads : (m : Message) (bytes : List ℕ) → IsSpellable m → bytes ≡ spelling m ++ drop (length (spelling m)) (replicate 56 0) → message_in bytes ≡ m
+parcel_reads m bytes fits e = ap message_in e ∙ read_back m (drop (length (spelling m)) (replicate 56 0)) fits
 
-pub parcel_made : (m : Message) (bytes : List ℕ) (len : ℕ) → IsSpellable m → len ≡ length (spelling m) → bytes ≡ spelling m ++ drop (length (spelling m)) (replicate 48 0)
+pub parcel_made : (m : Message) (bytes : List ℕ) (len : ℕ) → IsSpellable m → len ≡ length (spelling m) → bytes ≡ spelling m ++ drop (length (spelling m)) (replicate 56 0)
     → IsParcel (record { bytes = bytes; len = len })
 parcel_made m bytes len fits count e =
     let back : message_in bytes ≡ m = parcel_reads m bytes fits e in
     record {
       spellable = subst IsSpellable (sym back) fits;
       size = ap (λ (n : Message). length (spelling n)) back ∙ sym count;
-      zeros = ap (λ (n : Message). spelling n ++ replicate (48 - len) 0) back
-          ∙ ap (λ (k : ℕ). spelling m ++ replicate (48 - k) 0) count
-          ∙ ap (λ (xs : List ℕ). spelling m ++ xs) (sym (drop-replicate (length (spelling m)) 48 0))
+      zeros = ap (λ (n : Message). spelling n ++ replicate (56 - len) 0) back
+          ∙ ap (λ (k : ℕ). spelling m ++ replicate (56 - k) 0) count
+          ∙ ap (λ (xs : List ℕ). spelling m ++ xs) (sym (drop-replicate (length (spelling m)) 56 0))
           ∙ sym e;
     }

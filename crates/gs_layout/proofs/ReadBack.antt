@@ -1,7 +1,8 @@
 -- What a spelling holds is read back from it.
-use Rattle.std.proofs.Common.{◌≡◌, Bool, true, false, cond, ℕ, ◌^◌, ◌<◌, Option, None, Some, List, [], ◌++◌, length, take, drop, refl, ap, sym, ◌∙◌, append_assoc, arith}
+use Rattle.std.proofs.Common.{◌≡◌, Bool, true, false, cond, ℕ, ◌^◌, ◌<◌, ◌⊎◌, inl, inr, Option, None, Some, List, [], ◌++◌, length, take, drop, refl, ap, sym, ◌∙◌, append_assoc, arith}
 use Rattle.std.specs.Prelude.{◌==◌, if◌then◌else◌, unwrap_or}
 use Rattle.std.proofs.lemmas.List.{drop_at, take_at}
+use Rattle.std.proofs.lemmas.Bool.{false≢true}
 use Rattle.std.proofs.lemmas.Bool.Decides.{nat_tests}
 use Rattle.byteorder.specs.Endian.{little_bytes, little_number}
 use Rattle.byteorder.specs.Numbers.{little_number-reads_back}
@@ -16,7 +17,7 @@ use Rattle.gs_layout.specs.declared.message.Message.{Message}
 use Rattle.gs_layout.specs.declared.message.Message.TheVariants.{Thread, TimerTick}
 use Rattle.gs_layout.specs.Class.{class_number}
 use Rattle.gs_layout.specs.Kind.{kind_number}
-use Rattle.gs_layout.specs.Spelling.{AreNumbers, IsSpellable, IsSpellableChange, kind_of, padding, spelling}
+use Rattle.gs_layout.specs.Spelling.{AreNumbers, IsSpellable, IsSpellableChange, kind_of, mask_of, padding, spelling}
 use Rattle.gs_layout.specs.Reading.{Begins, change_with, class_numbered, cpu_numbered, facts_in, kind_in, kind_numbered, message_in, message_with, number_at}
 
 -- a number is read from its bytes
@@ -31,12 +32,12 @@ class_back : (k : Class) → class_numbered (class_number k) ≡ k
 class_back Zero = refl
 class_back One = refl
 
-cpu_below : (c : ℕ) → c < 64 → cpu_numbered c ≡ Some c
+cpu_below : (c : ℕ) → c < 128 → cpu_numbered c ≡ Some c
 cpu_below c lt =
     let other : (c == 65535) ≡ false = grind (arith, nat_tests) in
     ap (λ (b : Bool). cond b None (Some c)) other
 
-cpu_back : (c : ℕ) → c < 64 → cpu_numbered (little_number 2 (little_bytes 2 c ++ [])) ≡ Some c
+cpu_back : (c : ℕ) → c < 128 → cpu_numbered (little_number 2 (little_bytes 2 c ++ [])) ≡ Some c
 cpu_back c lt = ap cpu_numbered (reads 2 c (omega arith)) ∙ cpu_below c lt
 
 name_back : (name rest : List ℕ) → take (length name) ((name ++ padding (length name)) ++ rest) ≡ name
@@ -46,7 +47,7 @@ name_back name rest =
 facts_back : (t s : ℕ) (f : Facts) (rest : List ℕ) → IsSpellableChange (Created f) → facts_in (spelling (Thread t s (Created f)) ++ rest) ≡ f
 facts_back t s f rest fits = λ i. record {
   runnable = flag_back f.runnable i;
-  mask = reads 8 f.mask fits.0.1 i;
+  mask = reads 16 f.mask fits.0.1 i;
   class = class_back f.class i;
   name = name_back f.name rest i;
 }
@@ -59,8 +60,8 @@ change_back t s (Preempted c) rest n fits = λ i. Thread (reads 4 t (omega (arit
 change_back t s (Yield c) rest n fits = λ i. Thread (reads 4 t (omega (arith, n.tid_high)) i) (reads 4 s n.tseq_high i) (Yield (reads 2 c (omega arith) i))
 change_back t s (Dead None) rest n fits = λ i. Thread (reads 4 t (omega (arith, n.tid_high)) i) (reads 4 s n.tseq_high i) (Dead None)
 change_back t s (Dead (Some c)) rest n fits = λ i. Thread (reads 4 t (omega (arith, n.tid_high)) i) (reads 4 s n.tseq_high i) (Dead (cpu_back c fits i))
-change_back t s (Affinity None off m) rest n fits = λ i. Thread (reads 4 t (omega (arith, n.tid_high)) i) (reads 4 s n.tseq_high i) (Affinity None (flag_back off i) (reads 8 m fits.0.1 i))
-change_back t s (Affinity (Some c) off m) rest n fits = λ i. Thread (reads 4 t (omega (arith, n.tid_high)) i) (reads 4 s n.tseq_high i) (Affinity (cpu_back c fits.1 i) (flag_back off i) (reads 8 m fits.0.1 i))
+change_back t s (Affinity None off m) rest n fits = λ i. Thread (reads 4 t (omega (arith, n.tid_high)) i) (reads 4 s n.tseq_high i) (Affinity None (flag_back off i) (reads 16 m fits.0.1 i))
+change_back t s (Affinity (Some c) off m) rest n fits = λ i. Thread (reads 4 t (omega (arith, n.tid_high)) i) (reads 4 s n.tseq_high i) (Affinity (cpu_back c fits.1 i) (flag_back off i) (reads 16 m fits.0.1 i))
 
 -- a message is read back from its spelling, whatever follows it
 pub read_back : (m : Message) (rest : List ℕ) → IsSpellable m → message_in (spelling m ++ rest) ≡ m
@@ -86,6 +87,28 @@ kind_begun bytes m h = ap (λ (bs : List ℕ). kind_numbered (number_at 2 2 bs))
 
 pub kind_in_begun : (bytes : List ℕ) (m : Message) → Begins bytes m → kind_in bytes ≡ kind_of m
 kind_in_begun bytes m h = ap (λ (o : Option Kind). unwrap_or o kinds.TimerTick) (kind_begun bytes m h)
+
+abbrev has_mask : Kind → Bool
+has_mask kinds.Created = true
+has_mask kinds.Affinity = true
+has_mask _ = false
+
+masked : (k : Kind) → (k ≡ kinds.Created) ⊎ (k ≡ kinds.Affinity) → has_mask k ≡ true
+masked k (inl e) = ap has_mask e
+masked k (inr e) = ap has_mask e
+
+-- the mask of a creation or of a new mask stands where the bytes name it
+pub mask_begun : (bytes : List ℕ) (m : Message) (k : Kind) → Begins bytes m → k ≡ kind_of m → (k ≡ kinds.Created) ⊎ (k ≡ kinds.Affinity)
+    → Some (number_at 16 16 bytes) ≡ mask_of m
+mask_begun bytes (Thread t s (Created f)) k h e kind = ap (λ (n : ℕ). Some n) (ap (number_at 16 16) h.whole ∙ reads 16 f.mask h.spellable.1.0.1)
+mask_begun bytes (Thread t s (Affinity None off m)) k h e kind = ap (λ (n : ℕ). Some n) (ap (number_at 16 16) h.whole ∙ reads 16 m h.spellable.1.0.1)
+mask_begun bytes (Thread t s (Affinity (Some c) off m)) k h e kind = ap (λ (n : ℕ). Some n) (ap (number_at 16 16) h.whole ∙ reads 16 m h.spellable.1.0.1)
+mask_begun bytes (Thread t s (Blocked c)) k h e kind = absurd (false≢true (sym (ap has_mask e) ∙ masked k kind))
+mask_begun bytes (Thread t s Wakeup) k h e kind = absurd (false≢true (sym (ap has_mask e) ∙ masked k kind))
+mask_begun bytes (Thread t s (Preempted c)) k h e kind = absurd (false≢true (sym (ap has_mask e) ∙ masked k kind))
+mask_begun bytes (Thread t s (Yield c)) k h e kind = absurd (false≢true (sym (ap has_mask e) ∙ masked k kind))
+mask_begun bytes (Thread t s (Dead c)) k h e kind = absurd (false≢true (sym (ap has_mask e) ∙ masked k kind))
+mask_begun bytes (TimerTick c) k h e kind = absurd (false≢true (sym (ap has_mask e) ∙ masked k kind))
 
 -- a message of a thread, by its fields
 pub thread_made : (k : Kind) (bytes : List ℕ) (t s : ℕ) (c : Change) → (k ≡ kinds.TimerTick → ⊥) → t ≡ number_at 4 4 bytes → s ≡ number_at 8 4 bytes → c ≡ change_with k bytes

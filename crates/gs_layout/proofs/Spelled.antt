@@ -10,9 +10,9 @@ use Rattle.gs_layout.specs.declared.message.Message.TheVariants.{Thread, TimerTi
 use Rattle.gs_layout.specs.Spelling.{facts_bytes, more_of, more_of_change, padding, round_up, size_of, size_of_change, spelling}
 
 -- a creation's bytes behind the header
-pub length-facts_bytes : (f : Facts) → length (facts_bytes f) + 16 ≡ round_up (26 + length f.name)
+pub length-facts_bytes : (f : Facts) → length (facts_bytes f) + 16 ≡ round_up (34 + length f.name)
 length-facts_bytes f =
-    omega (arith, length-append f.name (padding (length f.name)), length-replicate {A = ℕ} (round_up (26 + length f.name) - (26 + length f.name)) 0)
+    omega (arith, length-append f.name (padding (length f.name)), length-replicate {A = ℕ} (round_up (34 + length f.name) - (34 + length f.name)) 0)
 
 length-more_of_change : (c : Change) → length (more_of_change c) + 16 ≡ size_of_change c
 length-more_of_change (Created f) = length-facts_bytes f

@@ -19,8 +19,9 @@ outcome_number outcomes.CpuBusy = 10
 outcome_number outcomes.SeqSpent = 11
 outcome_number outcomes.HistoryFull = 12
 outcome_number outcomes.Malformed = 13
+outcome_number outcomes.GroupFailed = 14
 
 -- the outcome that a number stands for
 abbrev pub outcome_numbered : ℕ → Option Outcome
 outcome_numbered n =
-    if n == 0 then Some outcomes.Placed else if n == 1 then Some outcomes.Gone else if n == 2 then Some outcomes.Displaced else if n == 3 then Some outcomes.NoThread else if n == 4 then Some outcomes.Stale else if n == 5 then Some outcomes.NotRunnable else if n == 6 then Some outcomes.AlreadyPlaced else if n == 7 then Some outcomes.NotAllowed else if n == 8 then Some outcomes.CpuIsAgent else if n == 9 then Some outcomes.CpuTaken else if n == 10 then Some outcomes.CpuBusy else if n == 11 then Some outcomes.SeqSpent else if n == 12 then Some outcomes.HistoryFull else if n == 13 then Some outcomes.Malformed else None
+    if n == 0 then Some outcomes.Placed else if n == 1 then Some outcomes.Gone else if n == 2 then Some outcomes.Displaced else if n == 3 then Some outcomes.NoThread else if n == 4 then Some outcomes.Stale else if n == 5 then Some outcomes.NotRunnable else if n == 6 then Some outcomes.AlreadyPlaced else if n == 7 then Some outcomes.NotAllowed else if n == 8 then Some outcomes.CpuIsAgent else if n == 9 then Some outcomes.CpuTaken else if n == 10 then Some outcomes.CpuBusy else if n == 11 then Some outcomes.SeqSpent else if n == 12 then Some outcomes.HistoryFull else if n == 13 then Some outcomes.Malformed else if n == 14 then Some outcomes.GroupFailed else None

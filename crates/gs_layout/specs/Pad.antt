@@ -5,7 +5,7 @@ use Rattle.byteorder.specs.Endian.{little_bytes}
 -- how many bytes a PAD may have
 pub record IsPadSize (len : ℕ) : Type 0 where
   pub least : 8 ≤ len
-  pub most : len ≤ 40
+  pub most : len ≤ 48
   pub whole : len % 8 ≡ 0
 
 -- the bytes of a PAD: its length, its kind, which is 9, and zeros

@@ -9,14 +9,14 @@ use Rattle.gs_layout.specs.Spelling.{IsSpellable, spelling}
 pub record IsParcel (p : Inside) : Type 0 where
   pub spellable : IsSpellable (message_in p.bytes)
   pub size : length (spelling (message_in p.bytes)) ≡ p.len
-  pub zeros : spelling (message_in p.bytes) ++ replicate (48 - p.len) 0 ≡ p.bytes
+  pub zeros : spelling (message_in p.bytes) ++ replicate (56 - p.len) 0 ≡ p.bytes
 
 -- the fields of a parcel of this message
 abbrev pub parcel_of : Message → Inside
-parcel_of m = record { bytes = spelling m ++ replicate (48 - length (spelling m)) 0; len = length (spelling m) }
+parcel_of m = record { bytes = spelling m ++ replicate (56 - length (spelling m)) 0; len = length (spelling m) }
 
 pub parcel_of-message : (p : Inside) → IsParcel p → parcel_of (message_in p.bytes) ≡ p
 parcel_of-message p h = λ i. record { bytes = whole i; len = h.size i }
   where
-    whole : spelling (message_in p.bytes) ++ replicate (48 - length (spelling (message_in p.bytes))) 0 ≡ p.bytes
-    whole = ap (λ (k : ℕ). spelling (message_in p.bytes) ++ replicate (48 - k) 0) h.size ∙ h.zeros
+    whole : spelling (message_in p.bytes) ++ replicate (56 - length (spelling (message_in p.bytes))) 0 ≡ p.bytes
+    whole = ap (λ (k : ℕ). spelling (message_in p.bytes) ++ replicate (56 - k) 0) h.size ∙ h.zeros

@@ -46,13 +46,13 @@ abbrev pub flag_in : List ℕ → Bool
 flag_in bytes = number_at 14 2 bytes == 1
 
 abbrev pub name_in : List ℕ → List ℕ
-name_in bytes = take (slice_index bytes 25) (drop 26 bytes)
+name_in bytes = take (slice_index bytes 33) (drop 34 bytes)
 
 abbrev pub facts_in : List ℕ → Facts
 facts_in bytes = record {
   runnable = flag_in bytes;
-  mask = number_at 16 8 bytes;
-  class = class_numbered (slice_index bytes 24);
+  mask = number_at 16 16 bytes;
+  class = class_numbered (slice_index bytes 32);
   name = name_in bytes;
 }
 
@@ -64,7 +64,7 @@ change_with kinds.Wakeup bytes = Wakeup
 change_with kinds.Preempted bytes = Preempted (number_at 12 2 bytes)
 change_with kinds.Yield bytes = Yield (number_at 12 2 bytes)
 change_with kinds.Dead bytes = Dead (cpu_in bytes)
-change_with kinds.Affinity bytes = Affinity (cpu_in bytes) (flag_in bytes) (number_at 16 8 bytes)
+change_with kinds.Affinity bytes = Affinity (cpu_in bytes) (flag_in bytes) (number_at 16 16 bytes)
 change_with kinds.TimerTick bytes = Wakeup
 
 -- the message of a kind that the fields name
@@ -74,8 +74,8 @@ message_with k bytes = Thread (number_at 4 4 bytes) (number_at 8 4 bytes) (chang
 
 -- the fewest bytes that a message of a kind has
 abbrev pub least : Kind → ℕ
-least kinds.Created = 32
-least kinds.Affinity = 24
+least kinds.Created = 40
+least kinds.Affinity = 32
 least _ = 16
 
 -- the kind that the bytes name; they name one if they begin with a message

@@ -86,8 +86,8 @@ abbrev pub round_up : ℕ → ℕ
 round_up n = (n + 7) / 8 * 8
 
 abbrev pub size_of_change : Change → ℕ
-size_of_change (Created f) = round_up (26 + length f.name)
-size_of_change (Affinity c off m) = 24
+size_of_change (Created f) = round_up (34 + length f.name)
+size_of_change (Affinity c off m) = 32
 size_of_change _ = 16
 
 -- how many bytes a message has
@@ -102,7 +102,7 @@ header_bytes len kind tid tseq cpu flags =
 
 -- the zeros behind a name
 abbrev pub padding : ℕ → List ℕ
-padding name_len = replicate (round_up (26 + name_len) - (26 + name_len)) 0
+padding name_len = replicate (round_up (34 + name_len) - (34 + name_len)) 0
 
 -- a name, and the zeros behind it
 abbrev pub name_bytes : List ℕ → List ℕ
@@ -110,11 +110,11 @@ name_bytes name = name ++ padding (length name)
 
 -- of a creation: mask, class, the name's length, the name, zeros
 abbrev pub facts_bytes : Facts → List ℕ
-facts_bytes f = (little_bytes 8 f.mask ++ class_number f.class ∷ length f.name ∷ []) ++ name_bytes f.name
+facts_bytes f = (little_bytes 16 f.mask ++ class_number f.class ∷ length f.name ∷ []) ++ name_bytes f.name
 
 abbrev pub more_of_change : Change → List ℕ
 more_of_change (Created f) = facts_bytes f
-more_of_change (Affinity c off m) = little_bytes 8 m
+more_of_change (Affinity c off m) = little_bytes 16 m
 more_of_change _ = []
 
 -- the bytes behind the header

@@ -1,11 +1,12 @@
 //! A message as bytes.
 
-ghost use Rattle.std.specs.Prelude.{◌≡◌, ◌+◌, ◌≤◌, ◌++◌, length, drop};
+ghost use Rattle.std.specs.Prelude.{◌≡◌, ◌+◌, ◌≤◌, ◌++◌, ◌∷◌, length, drop};
+ghost use Rattle.gs_layout.specs.Class.{class_number};
 ghost use Rattle.gs_layout.specs.Header.{numbered};
 ghost use Rattle.gs_layout.specs.Spelling.{facts_bytes, flags_of, header_of, more_of, name_bytes, round_up, size_of, spelling};
 
 use crate::cpu::cpu_number;
-use crate::facts::Facts;
+use crate::facts::{Class, Facts};
 use crate::message::{Change, Message};
 use crate::name::MOST_NAME_LEN;
 use crate::wire::{AFFINITY_LEN, CPU_AT, FLAGS_AT, HEADER_LEN, KIND_AT, NAME_AT, TID_AT, TSEQ_AT};
@@ -22,10 +23,10 @@ struct Header {
     flags: u16,
 }
 
-/// Returns how many bytes a creation has whose name has this many: 32, 40 or 48.
+/// Returns how many bytes a creation has whose name has this many: 40, 48 or 56.
 pub fn creation_len(name_len: usize) -> usize
     requires { name_len ≤ MOST_NAME_LEN }
-    ensures { result ≡ round_up (26 + name_len) }
+    ensures { result ≡ round_up (NAME_AT + name_len) }
 {
     (NAME_AT + name_len + 7) / 8 * 8
 }
@@ -62,7 +63,7 @@ fn size(message: &Message) -> u16
     }
 }
 
-/// Returns how many bytes the message has: 16 to 48, a multiple of 8.
+/// Returns how many bytes the message has: 16 to 56, a multiple of 8.
 #[tactic(auto, using(crate::proofs::Spelled::spelled_length))]
 pub fn message_len(message: &Message) -> usize
     ensures { result ≡ length (spelling message.now) }
@@ -107,14 +108,22 @@ fn write_name(name: &[u8], out: &mut [u8])
     out[name.len()..end].fill(0);
 }
 
+/// Writes a class, the length of a name, the name and the zeros behind it.
+fn write_class(class: Class, name: &[u8], out: &mut [u8])
+    requires short { length name.now ≤ MOST_NAME_LEN }
+    requires room { 2 + length (name_bytes name.now) ≤ length out.old }
+    ensures { out.new ≡ (class_number class ∷ length name.now ∷ name_bytes name.now) ++ drop (length (class_number class ∷ length name.now ∷ name_bytes name.now)) out.old }
+{
+    out[..2].copy_from_slice(&[class.number(), name.len() as u8]);
+    write_name(name, &mut out[2..]);
+}
+
 fn write_facts(facts: &Facts, out: &mut [u8])
     requires { length (facts_bytes facts.now) ≤ length out.old }
     ensures { out.new ≡ facts_bytes facts.now ++ drop (length (facts_bytes facts.now)) out.old }
 {
-    let name = facts.name.as_bytes();
-    LittleEndian::write_u64(out, facts.mask.bits());
-    out[8..10].copy_from_slice(&[facts.class.number(), name.len() as u8]);
-    write_name(name, &mut out[10..]);
+    LittleEndian::write_u128(out, facts.mask.bits());
+    write_class(facts.class, facts.name.as_bytes(), &mut out[16..]);
 }
 
 /// Writes the bytes behind the header.
@@ -130,7 +139,7 @@ fn write_more(message: &Message, out: &mut [u8])
         Message::Thread {
             change: Change::Affinity { mask, .. },
             ..
-        } => LittleEndian::write_u64(out, mask.bits()),
+        } => LittleEndian::write_u128(out, mask.bits()),
         _ => {}
     }
 }

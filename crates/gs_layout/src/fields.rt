@@ -13,7 +13,7 @@ use crate::facts::{Class, Facts};
 use crate::kind::Kind;
 use crate::message::{Change, Message};
 use crate::name::Name;
-use crate::number::{u16_at, u32_at, u64_at};
+use crate::number::{u16_at, u32_at, u128_at};
 use crate::wire::{
     CLASS_AT, CPU_AT, FLAGS_AT, KIND_AT, MASK_AT, NAME_AT, NAME_LEN_AT, TID_AT, TSEQ_AT,
 };
@@ -66,7 +66,7 @@ pub fn mask_of(bytes: &[u8]) -> Option<Mask>
     ensures { (m : Message) → Begins bytes.now m → result ≡ mask_of m }
 {
     match kind_of(bytes) {
-        Kind::Created | Kind::Affinity => Some(Mask::new(u64_at(bytes, MASK_AT))),
+        Kind::Created | Kind::Affinity => Some(Mask::new(u128_at(bytes, MASK_AT))),
         _ => None,
     }
 }
@@ -94,8 +94,8 @@ pub fn name_of(bytes: &[u8]) -> Option<&[u8]>
 }
 
 fn class_at(bytes: &[u8]) -> Class
-    requires { 24 < length bytes.now }
-    ensures { result ≡ class_numbered (slice_index bytes.now 24) }
+    requires { CLASS_AT < length bytes.now }
+    ensures { result ≡ class_numbered (slice_index bytes.now CLASS_AT) }
 {
     if bytes[CLASS_AT] == 0 {
         Class::Zero
@@ -105,8 +105,8 @@ fn class_at(bytes: &[u8]) -> Class
 }
 
 fn name_at(bytes: &[u8]) -> &[u8]
-    requires start { 25 < length bytes.now }
-    requires end { 26 + slice_index bytes.now 25 ≤ length bytes.now }
+    requires start { NAME_LEN_AT < length bytes.now }
+    requires end { NAME_AT + slice_index bytes.now NAME_LEN_AT ≤ length bytes.now }
     ensures { result.now ≡ name_in bytes.now }
 {
     let len = bytes[NAME_LEN_AT] as usize;
@@ -114,14 +114,14 @@ fn name_at(bytes: &[u8]) -> &[u8]
 }
 
 fn facts_at(bytes: &[u8]) -> Facts
-    requires start { 26 ≤ length bytes.now }
-    requires end { 26 + slice_index bytes.now 25 ≤ length bytes.now }
+    requires start { NAME_AT ≤ length bytes.now }
+    requires end { NAME_AT + slice_index bytes.now NAME_LEN_AT ≤ length bytes.now }
     requires name { is_name (name_in bytes.now) ≡ true }
     ensures { result ≡ facts_in bytes.now }
 {
     Facts {
         runnable: u16_at(bytes, FLAGS_AT) == 1,
-        mask: Mask::new(u64_at(bytes, MASK_AT)),
+        mask: Mask::new(u128_at(bytes, MASK_AT)),
         class: class_at(bytes),
         name: Name::new(name_at(bytes)).unwrap(),
     }
@@ -129,7 +129,7 @@ fn facts_at(bytes: &[u8]) -> Facts
 
 fn change_at(kind: Kind, bytes: &[u8]) -> Change
     requires long { least kind ≤ length bytes.now }
-    requires end { kind ≡ kinds.Created → 26 + slice_index bytes.now 25 ≤ length bytes.now }
+    requires end { kind ≡ kinds.Created → NAME_AT + slice_index bytes.now NAME_LEN_AT ≤ length bytes.now }
     requires name { kind ≡ kinds.Created → is_name (name_in bytes.now) ≡ true }
     ensures { result ≡ change_with kind bytes.now }
 {
@@ -147,7 +147,7 @@ fn change_at(kind: Kind, bytes: &[u8]) -> Change
         Kind::Affinity => Change::Affinity {
             cpu: cpu_numbered(cpu),
             off: u16_at(bytes, FLAGS_AT) == 1,
-            mask: Mask::new(u64_at(bytes, MASK_AT)),
+            mask: Mask::new(u128_at(bytes, MASK_AT)),
         },
         Kind::Wakeup | Kind::TimerTick => Change::Wakeup,
     }

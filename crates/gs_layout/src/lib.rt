@@ -29,7 +29,7 @@ pub use known::{Known, Word};
 pub use law::one_spelling;
 pub use message::{Change, MOST_TIDS, Message};
 pub use name::{MOST_NAME_LEN, Name};
-pub use number::{u16_at, u32_at, u64_at};
+pub use number::{u16_at, u32_at, u64_at, u128_at};
 pub use outcome::Outcome;
 pub use parcel::Parcel;
 pub use record::Record;

@@ -28,3 +28,11 @@ pub fn u64_at(bytes: &[u8], place: usize) -> u64
 {
     LittleEndian::read_u64(&bytes[place..])
 }
+
+/// Returns the number of sixteen bytes that stands at a place.
+pub fn u128_at(bytes: &[u8], place: usize) -> u128
+    requires { place + 16 ≤ length bytes.now }
+    ensures { result ≡ number_at place 16 bytes.now }
+{
+    LittleEndian::read_u128(&bytes[place..])
+}

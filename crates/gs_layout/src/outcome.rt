@@ -2,7 +2,7 @@ ghost use Rattle.std.specs.Prelude.{◌≡◌};
 
 /// What becomes of a transaction when it lands: the first outcome that applies. `Malformed` is tested before
 /// all, then the others in the order in which they stand here. It is `Placed` if none applies. The layout
-/// numbers them from 0 to 13, in this order.
+/// numbers them from 0 to 14, in this order.
 #[derive(Clone, Copy, PartialEq, Eq, Debug)]
 pub enum Outcome {
     /// The thread is on the CPU now.
@@ -33,19 +33,21 @@ pub enum Outcome {
     HistoryFull,
     /// The bytes are no slot of this CPU.
     Malformed,
+    /// It would be placed, but its group is placed as a whole or not at all, and another of it would not be.
+    GroupFailed,
 }
 
 impl Outcome {
     ghost use Rattle.gs_layout.specs.Outcome.{outcome_number, outcome_numbered};
 
-    /// Returns the outcome's number in the layout, from 0 to 13.
+    /// Returns the outcome's number in the layout, from 0 to 14.
     pub fn number(self) -> u16
         ensures { result ≡ outcome_number self }
     {
         self as u16
     }
 
-    /// Returns the outcome of this number, or `None` if it is above 13.
+    /// Returns the outcome of this number, or `None` if it is above 14.
     pub fn numbered(number: u16) -> Option<Outcome>
         ensures { result ≡ outcome_numbered number }
     {
@@ -64,6 +66,7 @@ impl Outcome {
             11 => Some(Outcome::SeqSpent),
             12 => Some(Outcome::HistoryFull),
             13 => Some(Outcome::Malformed),
+            14 => Some(Outcome::GroupFailed),
             _ => None,
         }
     }

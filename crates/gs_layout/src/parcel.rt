@@ -45,7 +45,7 @@ impl Parcel {
         }
     }
 
-    /// Lends the bytes of the message: 16 to 48, a multiple of 8.
+    /// Lends the bytes of the message: 16 to 56, a multiple of 8.
     pub fn as_bytes(&self) -> &[u8]
         ensures value { result.now ≡ spelling self.now }
         ensures spellable { IsSpellable self.now }

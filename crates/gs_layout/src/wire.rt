@@ -20,22 +20,22 @@ pub const FLAGS_AT: usize = 14;
 pub const HEADER_LEN: usize = 16;
 
 /// How many bytes a new mask has.
-pub const AFFINITY_LEN: usize = 24;
+pub const AFFINITY_LEN: usize = 32;
 
 /// The most bytes that a message has: a creation whose name is as long as a name may be.
-pub const MOST_MESSAGE_LEN: usize = 48;
+pub const MOST_MESSAGE_LEN: usize = 56;
 
 /// Where the mask of a creation or of a new mask begins.
 pub const MASK_AT: usize = HEADER_LEN;
 
 /// Where the class of a creation stands.
-pub const CLASS_AT: usize = 24;
+pub const CLASS_AT: usize = 32;
 
 /// Where the length of a creation's name stands.
-pub const NAME_LEN_AT: usize = 25;
+pub const NAME_LEN_AT: usize = 33;
 
 /// Where the name of a creation begins.
-pub const NAME_AT: usize = 26;
+pub const NAME_AT: usize = 34;
 
 /// The kind of a PAD: bytes in a ring that are passed over.
 pub const PAD: u16 = 9;

@@ -70,6 +70,7 @@ outcome_text outcomes.CpuBusy = codes "cpubusy"
 outcome_text outcomes.SeqSpent = codes "seqspent"
 outcome_text outcomes.HistoryFull = codes "historyfull"
 outcome_text outcomes.Malformed = codes "malformed"
+outcome_text outcomes.GroupFailed = codes "groupfailed"
 
 -- what became of a transaction
 abbrev pub landed_text : Landing → List ℕ

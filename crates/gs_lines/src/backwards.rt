@@ -3,7 +3,7 @@
 ghost use Rattle.std.specs.Prelude.{◌≡◌, ◌≤◌, ◌+◌, ◌++◌, decimal, drop, length};
 ghost use Rattle.std.specs.Str.{IsUtf8};
 
-use itoa::write_digits;
+use itoa::{Buffer, write_digits};
 
 /// Writes bytes so that they end here, and returns where they begin.
 #[inline(always)]
@@ -41,4 +41,17 @@ pub(crate) fn put_number(array: &mut [u8], end: usize, number: u64) -> usize
     ensures size { length array.new ≡ length array.old }
 {
     write_digits(number, array, end)
+}
+
+/// Writes a mask so that it ends here, and returns where it begins.
+pub(crate) fn put_mask(array: &mut [u8], end: usize, mask: u128) -> usize
+    requires { (39 ≤ end) × (end ≤ length array.old) }
+    ensures start { result ≤ end }
+    ensures low { end ≤ result + 39 }
+    ensures written { drop result array.new ≡ decimal mask ++ drop end array.old }
+    ensures utf8 { IsUtf8 (drop end array.old) → IsUtf8 (drop result array.new) }
+    ensures size { length array.new ≡ length array.old }
+{
+    let mut buffer = Buffer::new();
+    put(array, end, buffer.format(mask))
 }

@@ -61,6 +61,7 @@ fn outcome_name(outcome: Outcome) -> &'static str
         Outcome::SeqSpent => "seqspent",
         Outcome::HistoryFull => "historyfull",
         Outcome::Malformed => "malformed",
+        Outcome::GroupFailed => "groupfailed",
     }
 }
 

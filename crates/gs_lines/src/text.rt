@@ -1,7 +1,7 @@
 ghost use Rattle.std.specs.Prelude.{◌≡◌, ◌+◌, ◌<◌, ◌≤◌, ◌++◌, ◌∷◌, [], codes, decimal, length, OnOk};
 ghost use Rattle.std.specs.Str.{IsUtf8};
 
-use crate::backwards::{put, put_number};
+use crate::backwards::{put, put_mask, put_number};
 use std::alloc::{AllocError, Global};
 use std::marker::Model;
 
@@ -129,6 +129,19 @@ impl Text {
         let mut array = [0; SIZE];
         let at = put(&mut array, SIZE, behind);
         let at = put_number(&mut array, at, number);
+        let at = put(&mut array, at, word);
+        self.append(&array[at..])
+    }
+
+    /// Adds a mask between two words, which have at most [`MOST_WORD_LEN`] bytes together.
+    #[inline(always)]
+    pub fn push_mask(&mut self, word: &str, mask: u128, behind: &str) -> Result<(), AllocError>
+        requires { length word.now + length behind.now ≤ MOST_WORD_LEN }
+        ensures { OnOk result (self.new ≡ self.old ++ word.now ++ decimal mask ++ behind.now) }
+    {
+        let mut array = [0; SIZE];
+        let at = put(&mut array, SIZE, behind);
+        let at = put_mask(&mut array, at, mask);
         let at = put(&mut array, at, word);
         self.append(&array[at..])
     }

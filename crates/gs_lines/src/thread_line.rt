@@ -51,7 +51,7 @@ fn write_name(out: &mut Text, name: &Name) -> Result<(), AllocError>
 pub fn write_facts(out: &mut Text, facts: &Facts) -> Result<(), AllocError>
     ensures { OnOk result (out.new ≡ out.old ++ facts_text facts.now) }
 {
-    out.push_between(
+    out.push_mask(
         runnable_word(facts.runnable),
         facts.mask.bits(),
         class_words(facts.class),

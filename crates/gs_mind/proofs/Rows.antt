@@ -57,7 +57,7 @@ stamped = knows (cpus None None (Some 7) None) (queue (8 ∷ []) (9 ∷ []))
 
 -- a transaction of a thread that landed
 abbrev landed : ℕ → Outcome → Option ℕ → SlotState
-landed t outcome at = Done (record { generation = 3; tid = t; tseq = 5; preempt = true }) outcome at 5
+landed t outcome at = Done (record { generation = 3; tid = t; tseq = 5; preempt = true; group = false }) outcome at 5
 
 -- who begins to wait goes last of its class
 created_row : (takes_in (created 7 Zero true) blank).queue ≡ queue (7 ∷ []) []
@@ -148,7 +148,7 @@ another_stamp_row = refl
 idle_row : after_slot 1 Idle stamped ≡ stamped
 idle_row = refl
 
-stamped_row : after_slot 1 (Stamped (record { generation = 3; tid = 7; tseq = 5; preempt = true })) stamped ≡ stamped
+stamped_row : after_slot 1 (Stamped (record { generation = 3; tid = 7; tseq = 5; preempt = true; group = false })) stamped ≡ stamped
 stamped_row = refl
 
 -- slots in increasing order of CPU

@@ -1,5 +1,5 @@
 -- An agent's picture of the machine, and what changes it.
-use Rattle.std.specs.Prelude.{Bool, true, false, not, ◌&&◌, ◌+◌, ◌==◌, ◌≡◌, ℕ, Option, None, Some, List, [], ◌∷◌, ◌++◌, if◌then◌else◌}
+use Rattle.std.specs.Prelude.{Bool, true, false, not, ◌&&◌, ◌+◌, ◌==◌, ◌≡◌, ℕ, Option, None, Some, List, [], ◌∷◌, ◌++◌, map, if◌then◌else◌}
 use Rattle.std.specs.Option.{option_to_list}
 use Rattle.gs_layout.specs.declared.message.Change.{Change}
 use Rattle.gs_layout.specs.declared.message.Change.TheVariants as changes
@@ -11,6 +11,7 @@ use Rattle.gs_layout.specs.declared.known.Word.TheVariants.{Applied, Orphan, Ski
 use Rattle.gs_layout.specs.View.{Look, apply, word}
 use Rattle.gs_slots.specs.declared.state.SlotState.{SlotState}
 use Rattle.gs_slots.specs.declared.state.SlotState.TheVariants.{Idle, Stamped, Done}
+use Rattle.gs_slots.specs.State.{is_grouped}
 use Rattle.gs_beliefs.specs.declared.running.Running.{Running}
 use Rattle.gs_beliefs.specs.Cpus.{Cpus, believed_on, is_believed, is_named, stamp_on, stamps, unstamps}
 use Rattle.gs_beliefs.specs.Belief.{after_outcome, hears}
@@ -121,6 +122,18 @@ after_slot c (Done b outcome at seen) p =
 abbrev pub after_slots : ℕ → List SlotState → Picture → Picture
 after_slots c [] p = p
 after_slots c (x ∷ xs) p = after_slots (c + 1) xs (after_slot c x p)
+
+-- a slot whose transaction is one of a group, and an idle one in place of any other
+abbrev pub if_grouped : SlotState → SlotState
+if_grouped z = if is_grouped z then z else Idle
+
+-- a slot whose transaction is of no group, and an idle one in place of any other
+abbrev pub if_single : SlotState → SlotState
+if_single z = if is_grouped z then Idle else z
+
+-- the picture after the slots of all CPUs were collected: those of a group first and then the others, each in increasing order of CPU
+abbrev pub after_all : List SlotState → Picture → Picture
+after_all zs p = after_slots 0 (map if_single zs) (after_slots 0 (map if_grouped zs) p)
 
 -- the queue holds just who waits
 abbrev pub HoldsWaiting : Look → Cpus → Queue → Type 0

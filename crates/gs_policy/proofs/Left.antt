@@ -62,7 +62,7 @@ planned_behind n f p v xs ys (t ∷ ts) =
 planned_next : (l l' : Candidates) (v : Look) (t : ℕ) (ts : List ℕ) → AreLeft l l' (picked l v t) → planned_of l v [] (t ∷ ts) ≡ picked l v t ++ planned_of l' v [] ts
 planned_next l l' v t ts left =
     ap (λ (zs : List Choice). planned_of l v zs ts) (sym (append-nil (picked l v t)))
-    ∙ (planned_behind 64 (has l.free) (takes_in l) v (picked l v t) [] ts ∙ sym (λ i. picked l v t ++ planned 64 (λ c. left.free c i) (λ class c. left.busy class c i) v [] ts))
+    ∙ (planned_behind 128 (has l.free) (takes_in l) v (picked l v t) [] ts ∙ sym (λ i. picked l v t ++ planned 128 (λ c. left.free c i) (λ class c. left.busy class c i) v [] ts))
 
 pub planned_some : (l l' : Candidates) (v : Look) (x : Choice) (t : ℕ) (ts later : List ℕ) → ts ≡ t ∷ later → (x ∷ []) ≡ picked l v t → AreLeft l l' (picked l v t)
     → planned_of l v [] ts ≡ x ∷ planned_of l' v [] later
@@ -91,13 +91,13 @@ spent_none l e =
     by_class zero one Zero c = in_none l.zero_class zero c
     by_class zero one One c = in_none l.one_class one c
 
-least_spent : (f : ℕ → Bool) (k : Known) → ((c : ℕ) → f c ≡ false) → least (is_open f k []) 64 ≡ None
-least_spent f k spent = least_none (is_open f k []) 64 (λ c l. ap (λ (z : Bool). (z && has k.facts.mask c) && not false) (spent c))
+least_spent : (f : ℕ → Bool) (k : Known) → ((c : ℕ) → f c ≡ false) → least (is_open f k []) 128 ≡ None
+least_spent f k spent = least_none (is_open f k []) 128 (λ c l. ap (λ (z : Bool). (z && has k.facts.mask c) && not false) (spent c))
 
-choice_spent : (l : Candidates) (t : ℕ) (o : Option Known) → IsNone l → choice 64 (has l.free) (takes_in l) [] t o ≡ []
+choice_spent : (l : Candidates) (t : ℕ) (o : Option Known) → IsNone l → choice 128 (has l.free) (takes_in l) [] t o ≡ []
 choice_spent l t None s = refl
 choice_spent l t (Some k) s =
-    ap (λ (z : Option ℕ). placed t z (least (is_open (takes_in l k.facts.class) k []) 64)) (least_spent (has l.free) k s.free)
+    ap (λ (z : Option ℕ). placed t z (least (is_open (takes_in l k.facts.class) k []) 128)) (least_spent (has l.free) k s.free)
     ∙ ap (λ (z : Option ℕ). placed t None z) (least_spent (takes_in l k.facts.class) k (s.busy k.facts.class))
 
 -- if none is left nothing is chosen
@@ -121,60 +121,60 @@ few_behind n f p v xs (t ∷ ts) =
 
 -- no thread has more than one choice
 pub planned_few : (l : Candidates) (v : Look) (ts : List ℕ) → length (planned_of l v [] ts) ≤ length ts
-planned_few l v ts = omega (arith, few_behind 64 (has l.free) (takes_in l) v [] ts)
+planned_few l v ts = omega (arith, few_behind 128 (has l.free) (takes_in l) v [] ts)
 
 -- the choice of a thread, by masks
-least_open : (f : ℕ → Bool) (k : Known) (o : Option ℕ) → o ≡ least (λ c. f c && has k.facts.mask c) 64 → least (is_open f k []) 64 ≡ o
-least_open f k o e = least_same (is_open f k []) (λ c. f c && has k.facts.mask c) 64 (λ c h. and-true (f c && has k.facts.mask c)) ∙ sym e
+least_open : (f : ℕ → Bool) (k : Known) (o : Option ℕ) → o ≡ least (λ c. f c && has k.facts.mask c) 128 → least (is_open f k []) 128 ≡ o
+least_open f k o e = least_same (is_open f k []) (λ c. f c && has k.facts.mask c) 128 (λ c h. and-true (f c && has k.facts.mask c)) ∙ sym e
 
-picked_known : (l : Candidates) (v : Look) (t : ℕ) (k : Known) → Some k ≡ v t → choice 64 (has l.free) (takes_in l) [] t (Some k) ≡ picked l v t
-picked_known l v t k known = ap (choice 64 (has l.free) (takes_in l) [] t) known
+picked_known : (l : Candidates) (v : Look) (t : ℕ) (k : Known) → Some k ≡ v t → choice 128 (has l.free) (takes_in l) [] t (Some k) ≡ picked l v t
+picked_known l v t k known = ap (choice 128 (has l.free) (takes_in l) [] t) known
 
 pub picked_unknown : (l : Candidates) (v : Look) (t : ℕ) → None ≡ v t → [] ≡ picked l v t
-picked_unknown l v t unknown = ap (choice 64 (has l.free) (takes_in l) [] t) unknown
+picked_unknown l v t unknown = ap (choice 128 (has l.free) (takes_in l) [] t) unknown
 
 -- a free CPU of its mask
-pub picked_free : (l : Candidates) (v : Look) (t : ℕ) (k : Known) (c : ℕ) → Some k ≡ v t → Some c ≡ least (λ i. has l.free i && has k.facts.mask i) 64
+pub picked_free : (l : Candidates) (v : Look) (t : ℕ) (k : Known) (c : ℕ) → Some k ≡ v t → Some c ≡ least (λ i. has l.free i && has k.facts.mask i) 128
     → (record { cpu = c; tid = t; preempt = false } ∷ []) ≡ picked l v t
 picked_free l v t k c known free =
-    sym (ap (λ (z : Option ℕ). placed t z (least (is_open (takes_in l k.facts.class) k []) 64)) (least_open (has l.free) k (Some c) free))
+    sym (ap (λ (z : Option ℕ). placed t z (least (is_open (takes_in l k.facts.class) k []) 128)) (least_open (has l.free) k (Some c) free))
     ∙ picked_known l v t k known
 
 -- if there is none, one that it may take from somebody, if there is one
 pub picked_busy : (l : Candidates) (v : Look) (t : ℕ) (k : Known) (busy : ℕ) (o : Option ℕ) → Some k ≡ v t
-    → None ≡ least (λ i. has l.free i && has k.facts.mask i) 64 → busy ≡ busy_for l k.facts.class → o ≡ least (λ i. has busy i && has k.facts.mask i) 64
+    → None ≡ least (λ i. has l.free i && has k.facts.mask i) 128 → busy ≡ busy_for l k.facts.class → o ≡ least (λ i. has busy i && has k.facts.mask i) 128
     → placed t None o ≡ picked l v t
 picked_busy l v t k busy o known none is taken =
-    sym (ap (λ (z : Option ℕ). placed t z (least (is_open (takes_in l k.facts.class) k []) 64)) (least_open (has l.free) k None none)
-    ∙ ap (placed t None) (least_open (takes_in l k.facts.class) k o (taken ∙ ap (λ (m : ℕ). least (λ i. has m i && has k.facts.mask i) 64) is)))
+    sym (ap (λ (z : Option ℕ). placed t z (least (is_open (takes_in l k.facts.class) k []) 128)) (least_open (has l.free) k None none)
+    ∙ ap (placed t None) (least_open (takes_in l k.facts.class) k o (taken ∙ ap (λ (m : ℕ). least (λ i. has m i && has k.facts.mask i) 128) is)))
     ∙ picked_known l v t k known
 
--- among 64 CPUs or among those that there are, if none passes past the last
+-- among 128 CPUs or among those that there are, if none passes past the last
 record AreSame (n : ℕ) (f g : ℕ → Bool) (p q : Class → ℕ → Bool) : Type 0 where
-  most : n ≤ 64
+  most : n ≤ 128
   free : (c : ℕ) → f c ≡ g c
   free_past : (c : ℕ) → n ≤ c → g c ≡ false
   busy : (class : Class) (c : ℕ) → p class c ≡ q class c
   busy_past : (class : Class) (c : ℕ) → n ≤ c → q class c ≡ false
 
-least_to : (f g : ℕ → Bool) (n : ℕ) (k : Known) (xs : List Choice) → n ≤ 64 → ((c : ℕ) → f c ≡ g c) → ((c : ℕ) → n ≤ c → g c ≡ false)
-    → least (is_open f k xs) 64 ≡ least (is_open g k xs) n
+least_to : (f g : ℕ → Bool) (n : ℕ) (k : Known) (xs : List Choice) → n ≤ 128 → ((c : ℕ) → f c ≡ g c) → ((c : ℕ) → n ≤ c → g c ≡ false)
+    → least (is_open f k xs) 128 ≡ least (is_open g k xs) n
 least_to f g n k xs most same past =
-    let to_end : n + (64 - n) ≡ 64 = omega arith in
-    least_same (is_open f k xs) (is_open g k xs) 64 (λ c l. ap (λ (z : Bool). (z && has k.facts.mask c) && not (uses xs c)) (same c))
+    let to_end : n + (128 - n) ≡ 128 = omega arith in
+    least_same (is_open f k xs) (is_open g k xs) 128 (λ c l. ap (λ (z : Bool). (z && has k.facts.mask c) && not (uses xs c)) (same c))
     ∙ (ap (least (is_open g k xs)) (sym to_end)
-    ∙ least_beyond (is_open g k xs) n (64 - n) (λ c l. ap (λ (z : Bool). (z && has k.facts.mask c) && not (uses xs c)) (past c l)))
+    ∙ least_beyond (is_open g k xs) n (128 - n) (λ c l. ap (λ (z : Bool). (z && has k.facts.mask c) && not (uses xs c)) (past c l)))
 
-choice_same : (n : ℕ) (f g : ℕ → Bool) (p q : Class → ℕ → Bool) (xs : List Choice) (t : ℕ) (o : Option Known) → AreSame n f g p q → choice 64 f p xs t o ≡ choice n g q xs t o
+choice_same : (n : ℕ) (f g : ℕ → Bool) (p q : Class → ℕ → Bool) (xs : List Choice) (t : ℕ) (o : Option Known) → AreSame n f g p q → choice 128 f p xs t o ≡ choice n g q xs t o
 choice_same n f g p q xs t None s = refl
 choice_same n f g p q xs t (Some k) s =
-    ap (λ (z : Option ℕ). placed t z (least (is_open (p k.facts.class) k xs) 64)) (least_to f g n k xs s.most s.free s.free_past)
+    ap (λ (z : Option ℕ). placed t z (least (is_open (p k.facts.class) k xs) 128)) (least_to f g n k xs s.most s.free s.free_past)
     ∙ ap (λ (z : Option ℕ). placed t (least (is_open g k xs) n) z) (least_to (p k.facts.class) (q k.facts.class) n k xs s.most (s.busy k.facts.class) (s.busy_past k.facts.class))
 
-planned_same : (n : ℕ) (f g : ℕ → Bool) (p q : Class → ℕ → Bool) (v : Look) (xs : List Choice) (ts : List ℕ) → AreSame n f g p q → planned 64 f p v xs ts ≡ planned n g q v xs ts
+planned_same : (n : ℕ) (f g : ℕ → Bool) (p q : Class → ℕ → Bool) (v : Look) (xs : List Choice) (ts : List ℕ) → AreSame n f g p q → planned 128 f p v xs ts ≡ planned n g q v xs ts
 planned_same n f g p q v xs [] s = refl
 planned_same n f g p q v xs (t ∷ ts) s =
-    ap (λ (ys : List Choice). planned 64 f p v (xs ++ ys) ts) (choice_same n f g p q xs t (v t) s) ∙ planned_same n f g p q v (xs ++ choice n g q xs t (v t)) ts s
+    ap (λ (ys : List Choice). planned 128 f p v (xs ++ ys) ts) (choice_same n f g p q xs t (v t) s) ∙ planned_same n f g p q v (xs ++ choice n g q xs t (v t)) ts s
 
 past_last : (c n : ℕ) (a : Bool) → n ≤ c → (nat_lt c n && a) ≡ false
 past_last c n a past = let e : nat_lt c n ≡ false = grind (arith, nat_tests) in ap (λ (x : Bool). x && a) e
@@ -194,7 +194,7 @@ none_past s p class c taking past = by_test (p class c) refl
     by_test false e = e
 
 -- what is planned among the free CPUs and those that may be taken is the plan
-pub plan_all : (may_take : Taking) (s : Shown) (l : Candidates) → length s.cpus.believed ≤ 64 → ((c : ℕ) → has l.free c ≡ is_free s.cpus s.taken c) → IsTaking s (may_take s)
+pub plan_all : (may_take : Taking) (s : Shown) (l : Candidates) → length s.cpus.believed ≤ 128 → ((c : ℕ) → has l.free c ≡ is_free s.cpus s.taken c) → IsTaking s (may_take s)
     → AreTakenBy (may_take s) l.zero_class l.one_class → plan_among l s ≡ plan may_take s
 plan_all may_take s l most free taking taken =
     planned_same (length s.cpus.believed) (has l.free) (is_free s.cpus s.taken) (takes_in l) (may_take s) s.view [] s.queue

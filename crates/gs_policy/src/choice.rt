@@ -1,4 +1,4 @@
-/// A waiting thread that is to be put on a CPU, from 0 to 63.
+/// A waiting thread that is to be put on a CPU, from 0 to 127.
 #[derive(Clone, Copy, PartialEq, Eq, Debug)]
 pub struct Choice {
     pub cpu: u16,

@@ -52,27 +52,27 @@ numbers_again t s c h =
     let b : number_at 8 4 (spelling (Thread t s c)) ≡ s = reads 4 s h.tseq_high in
     (λ i. nat_le 1 (a i) && nat_le (a i) 65536 && nat_le 1 (b i)) ∙ thread_numbers t s h
 
-cpu_again : (c : ℕ) → c < 64 → nat_lt (little_number 2 (little_bytes 2 c ++ [])) 64 ≡ true
-cpu_again c lt = ap (λ (n : ℕ). nat_lt n 64) (reads 2 c (omega arith)) ∙ lt-ltb c 64 lt
+cpu_again : (c : ℕ) → c < 128 → nat_lt (little_number 2 (little_bytes 2 c ++ [])) 128 ≡ true
+cpu_again c lt = ap (λ (n : ℕ). nat_lt n 128) (reads 2 c (omega arith)) ∙ lt-ltb c 128 lt
 
-cpu_or_again : (c : ℕ) → c < 64 → (nat_lt (little_number 2 (little_bytes 2 c ++ [])) 64 || little_number 2 (little_bytes 2 c ++ []) == 65535) ≡ true
-cpu_or_again c lt = or_left (nat_lt (little_number 2 (little_bytes 2 c ++ [])) 64) (little_number 2 (little_bytes 2 c ++ []) == 65535) (cpu_again c lt)
+cpu_or_again : (c : ℕ) → c < 128 → (nat_lt (little_number 2 (little_bytes 2 c ++ [])) 128 || little_number 2 (little_bytes 2 c ++ []) == 65535) ≡ true
+cpu_or_again c lt = or_left (nat_lt (little_number 2 (little_bytes 2 c ++ [])) 128) (little_number 2 (little_bytes 2 c ++ []) == 65535) (cpu_again c lt)
 
 flag_fits : (b : Bool) → nat_lt (little_number 2 (little_bytes 2 (if b then 1 else 0) ++ [])) 2 ≡ true
 flag_fits true = refl
 flag_fits false = refl
 
-mask_again : (m : ℕ) → IsMask m → not (little_number 8 (little_bytes 8 m ++ []) == 0) ≡ true
+mask_again : (m : ℕ) → IsMask m → not (little_number 16 (little_bytes 16 m ++ []) == 0) ≡ true
 mask_again m h =
     let low : 0 < m = h.0 in
     let is : not (m == 0) ≡ true = grind (arith, nat_tests) in
-    ap (λ (n : ℕ). not (n == 0)) (reads 8 m h.1) ∙ is
+    ap (λ (n : ℕ). not (n == 0)) (reads 16 m h.1) ∙ is
 
 class_fits : (k : Class) → nat_lt (class_number k) 2 ≡ true
 class_fits Zero = refl
 class_fits One = refl
 
-off_fits : (b : Bool) (c : ℕ) → c < 64
+off_fits : (b : Bool) (c : ℕ) → c < 128
     → (little_number 2 (little_bytes 2 (if b then 1 else 0) ++ []) == 0 || (little_number 2 (little_bytes 2 (if b then 1 else 0) ++ []) == 1 && not (little_number 2 (little_bytes 2 c ++ []) == 65535))) ≡ true
 off_fits true c lt =
     let is : not (c == 65535) ≡ true = grind (arith, nat_tests) in
@@ -87,21 +87,21 @@ off_none false e = refl
 sizes_again : (t s : ℕ) (f : Facts) → IsSpellableChange (Created f) → sizes_fit (spelling (Thread t s (Created f))) ≡ true
 sizes_again t s f fits =
     let text = spelling (Thread t s (Created f)) in
-    let a = not (number_at 16 8 text == 0) in
-    let b = nat_lt (slice_index text 24) 2 in
-    let c = nat_le (slice_index text 25) 16 in
-    let d = round_up (26 + slice_index text 25) == length text in
+    let a = not (number_at 16 16 text == 0) in
+    let b = nat_lt (slice_index text 32) 2 in
+    let c = nat_le (slice_index text 33) 16 in
+    let d = round_up (34 + slice_index text 33) == length text in
     let short = and_parts (nat_le (length f.name) 16) (list_all is_name_byte f.name) fits.1 in
-    let size : round_up (26 + slice_index text 25) ≡ length text = sym (spelled_length (Thread t s (Created f))) in
-    and_from (a && b && c) d (and_from (a && b) c (and_from a b (mask_again f.mask fits.0) (class_fits f.class)) short.0) (eq-eqb (round_up (26 + slice_index text 25)) (length text) size)
+    let size : round_up (34 + slice_index text 33) ≡ length text = sym (spelled_length (Thread t s (Created f))) in
+    and_from (a && b && c) d (and_from (a && b) c (and_from a b (mask_again f.mask fits.0) (class_fits f.class)) short.0) (eq-eqb (round_up (34 + slice_index text 33)) (length text) size)
 
 name_again : (t s : ℕ) (f : Facts) → IsSpellableChange (Created f) → name_fits (spelling (Thread t s (Created f))) ≡ true
 name_again t s f fits =
     let text = spelling (Thread t s (Created f)) in
     let n = length f.name in
     let name : name_in text ≡ f.name = take_at f.name (padding n) n refl in
-    let zeros : drop (26 + n) text ≡ padding n = sym (drop-drop n 26 text) ∙ drop_at f.name (padding n) n refl in
-    and_from (is_name (name_in text)) (list_all (λ b. b == 0) (drop (26 + n) text)) (ap is_name name ∙ fits.1) (ap (list_all (λ b. b == 0)) zeros ∙ zeros_pass (round_up (26 + n) - (26 + n)))
+    let zeros : drop (34 + n) text ≡ padding n = sym (drop-drop n 34 text) ∙ drop_at f.name (padding n) n refl in
+    and_from (is_name (name_in text)) (list_all (λ b. b == 0) (drop (34 + n) text)) (ap is_name name ∙ fits.1) (ap (list_all (λ b. b == 0)) zeros ∙ zeros_pass (round_up (34 + n) - (34 + n)))
 
 fit_change : (t s : ℕ) (c : Change) → AreNumbers t s → IsSpellableChange c → Fit (kind_of_change c) (spelling (Thread t s c))
 fit_change t s (Created f) h fits = record {
@@ -133,8 +133,8 @@ fit_message : (m : Message) → IsSpellable m → Fit (kind_of m) (spelling m)
 fit_message (Thread t s c) fits = fit_change t s c fits.0 fits.1
 fit_message (TimerTick c) fits = record { numbers = refl; cpu = cpu_again c fits; flags = refl; more = refl }
 
--- a creation has 32, 40 or 48 bytes
-created_length : (n : ℕ) → n ≤ 16 → has_length 1 (round_up (26 + n)) ≡ true
+-- a creation has 40, 48 or 56 bytes
+created_length : (n : ℕ) → n ≤ 16 → has_length 1 (round_up (34 + n)) ≡ true
 created_length n le = grind (arith, nat_tests)
 
 length_change : (c : Change) → IsSpellableChange c → has_length (kind_number (kind_of_change c)) (size_of_change c) ≡ true

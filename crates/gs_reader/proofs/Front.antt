@@ -63,18 +63,18 @@ pick false xs ys n e first second = second e
 low_16 : (n : ℕ) → ((16 == n) || false) ≡ true → 8 ≤ n
 low_16 n e = grind (arith, nat_tests)
 
-low_24 : (n : ℕ) → ((24 == n) || false) ≡ true → 8 ≤ n
-low_24 n e = grind (arith, nat_tests)
+low_new : (n : ℕ) → ((32 == n) || false) ≡ true → 8 ≤ n
+low_new n e = grind (arith, nat_tests)
 
-low_32 : (n : ℕ) → ((32 == n) || ((40 == n) || ((48 == n) || false))) ≡ true → 8 ≤ n
-low_32 n e = grind (arith, nat_tests)
+low_created : (n : ℕ) → ((40 == n) || ((48 == n) || ((56 == n) || false))) ≡ true → 8 ≤ n
+low_created n e = grind (arith, nat_tests)
 
-low_8 : (n : ℕ) → ((8 == n) || ((16 == n) || ((24 == n) || ((32 == n) || ((40 == n) || false))))) ≡ true → 8 ≤ n
+low_8 : (n : ℕ) → ((8 == n) || ((16 == n) || ((24 == n) || ((32 == n) || ((40 == n) || ((48 == n) || false)))))) ≡ true → 8 ≤ n
 low_8 n e = grind (arith, nat_tests)
 
 -- no kind has a length under 8
 pub least_length : (k n : ℕ) → has_length k n ≡ true → 8 ≤ n
-least_length k n e = pick (k == 1) _ _ n e (low_32 n) (λ e. pick (k == 7) _ _ n e (low_24 n) (λ e. pick (k == 9) _ _ n e (low_8 n) (low_16 n)))
+least_length k n e = pick (k == 1) _ _ n e (low_created n) (λ e. pick (k == 7) _ _ n e (low_new n) (λ e. pick (k == 9) _ _ n e (low_8 n) (low_16 n)))
 
 -- the front of a text says what the front of the bytes says
 pub front_0 : (n : ℕ) (bytes : List ℕ) → 4 ≤ n → number_at 0 2 (take n bytes) ≡ number_at 0 2 bytes

@@ -18,7 +18,7 @@ use Rattle.gs_reader.proofs.Again.{reads_as}
 use Rattle.gs_reader.proofs.Front.{front_none}
 use Rattle.gs_reader.proofs.Ranges.{zeros_are, zeros_pass}
 
--- the lengths of a PAD are the multiples of 8 from 8 to 40
+-- the lengths of a PAD are the multiples of 8 from 8 to 48
 pad_length : (n : ℕ) → IsPadSize n → has_length 9 n ≡ true
 pad_length n h = elim (cases_Bool (8 == n)) [
   | inl e ↦ or_left (8 == n) _ e
@@ -30,15 +30,18 @@ pad_length n h = elim (cases_Bool (8 == n)) [
         | inl e ↦ or_left (32 == n) _ e
         | inr d ↦ or_right (32 == n) _ (elim (cases_Bool (40 == n)) [
           | inl e ↦ or_left (40 == n) _ e
-          | inr e ↦ absurd (apart n h (eqb-false 8 n a) (eqb-false 16 n b) (eqb-false 24 n c) (eqb-false 32 n d) (eqb-false 40 n e))
+          | inr e ↦ or_right (40 == n) _ (elim (cases_Bool (48 == n)) [
+            | inl f ↦ or_left (48 == n) _ f
+            | inr f ↦ absurd (apart n h (eqb-false 8 n a) (eqb-false 16 n b) (eqb-false 24 n c) (eqb-false 32 n d) (eqb-false 40 n e) (eqb-false 48 n f))
+          ])
         ])
       ])
     ])
   ])
 ]
   where
-    apart : (n : ℕ) → IsPadSize n → (8 ≡ n → ⊥) → (16 ≡ n → ⊥) → (24 ≡ n → ⊥) → (32 ≡ n → ⊥) → (40 ≡ n → ⊥) → ⊥
-    apart n h a b c d e = omega (arith, h.least, h.most, h.whole)
+    apart : (n : ℕ) → IsPadSize n → (8 ≡ n → ⊥) → (16 ≡ n → ⊥) → (24 ≡ n → ⊥) → (32 ≡ n → ⊥) → (40 ≡ n → ⊥) → (48 ≡ n → ⊥) → ⊥
+    apart n h a b c d e f = omega (arith, h.least, h.most, h.whole)
 
 pad_is : (n : ℕ) → has_length 9 n ≡ true → IsPadSize n
 pad_is n e = elim (or_cases (8 == n) _ e) [
@@ -49,9 +52,12 @@ pad_is n e = elim (or_cases (8 == n) _ e) [
       | inl a ↦ let z = eqb-true 24 n a in record { least = omega (arith, z); most = omega (arith, z); whole = omega (arith, z) }
       | inr e ↦ elim (or_cases (32 == n) _ e) [
         | inl a ↦ let z = eqb-true 32 n a in record { least = omega (arith, z); most = omega (arith, z); whole = omega (arith, z) }
-        | inr e ↦ elim (or_cases (40 == n) false e) [
+        | inr e ↦ elim (or_cases (40 == n) _ e) [
           | inl a ↦ let z = eqb-true 40 n a in record { least = omega (arith, z); most = omega (arith, z); whole = omega (arith, z) }
-          | inr none ↦ absurd cc
+          | inr e ↦ elim (or_cases (48 == n) false e) [
+            | inl a ↦ let z = eqb-true 48 n a in record { least = omega (arith, z); most = omega (arith, z); whole = omega (arith, z) }
+            | inr none ↦ absurd cc
+          ]
         ]
       ]
     ]

@@ -52,13 +52,13 @@ pub numbered_is : (n : ℕ) (k : Kind) → kind_numbered n ≡ Some k → n ≡ 
 numbered_is n k e =
     chain n 1 kinds.Created k _ refl e (λ e. chain n 2 kinds.Blocked k _ refl e (λ e. chain n 3 kinds.Wakeup k _ refl e (λ e. chain n 4 kinds.Preempted k _ refl e (λ e. chain n 5 kinds.Yield k _ refl e (λ e. chain n 6 kinds.Dead k _ refl e (λ e. chain n 7 kinds.Affinity k _ refl e (λ e. chain n 8 kinds.TimerTick k _ refl e (λ e. absurd cc))))))))
 
-below : (n : ℕ) → (nat_lt n 64 || n == 65535) ≡ true → (n == 65535) ≡ false → n < 64
-below n e other = elim (or_cases (nat_lt n 64) (n == 65535) e) [
-  | inl lt ↦ ltb-true n 64 lt
+below : (n : ℕ) → (nat_lt n 128 || n == 65535) ≡ true → (n == 65535) ≡ false → n < 128
+below n e other = elim (or_cases (nat_lt n 128) (n == 65535) e) [
+  | inl lt ↦ ltb-true n 128 lt
   | inr same ↦ absurd cc
 ]
 
-pub cpu_or_none : (n : ℕ) → (nat_lt n 64 || n == 65535) ≡ true → IsCpuOrNone (cpu_numbered n)
+pub cpu_or_none : (n : ℕ) → (nat_lt n 128 || n == 65535) ≡ true → IsCpuOrNone (cpu_numbered n)
 cpu_or_none n e = elim (cases_Bool (n == 65535)) [
   | inl same ↦ subst IsCpuOrNone (sym (cond-true (n == 65535) None (Some n) same)) tt
   | inr other ↦ subst IsCpuOrNone (sym (cond-false (n == 65535) None (Some n) other)) (below n e other)
@@ -78,7 +78,7 @@ flag_none n f e same = elim (or_cases (f == 0) (f == 1 && not (n == 65535)) e) [
   | inr one ↦ let unset = (and_parts (f == 1) (not (n == 65535)) one).1 in absurd (let g : not true ≡ true = sym (ap not same) ∙ unset in cc)
 ]
 
-pub affinity_fits : (n f m : ℕ) → (nat_lt n 64 || n == 65535) ≡ true → (f == 0 || (f == 1 && not (n == 65535))) ≡ true → IsMask m → IsSpellableChange (Affinity (cpu_numbered n) (f == 1) m)
+pub affinity_fits : (n f m : ℕ) → (nat_lt n 128 || n == 65535) ≡ true → (f == 0 || (f == 1 && not (n == 65535))) ≡ true → IsMask m → IsSpellableChange (Affinity (cpu_numbered n) (f == 1) m)
 affinity_fits n f m cpu flags mask = elim (cases_Bool (n == 65535)) [
   | inl same ↦ subst (λ (c : Option ℕ). IsSpellableChange (Affinity c (f == 1) m)) (sym (cond-true (n == 65535) None (Some n) same)) (mask, flag_none n f flags same)
   | inr other ↦ subst (λ (c : Option ℕ). IsSpellableChange (Affinity c (f == 1) m)) (sym (cond-false (n == 65535) None (Some n) other)) (mask, below n cpu other)

@@ -17,7 +17,7 @@ use Rattle.gs_layout.specs.Message.{tseq_of}
 use Rattle.gs_layout.specs.Name.{is_name}
 use Rattle.gs_layout.specs.Reading.{class_numbered, facts_in, message_in, message_with, name_in, number_at}
 use Rattle.gs_layout.specs.Spelling.{IsMask, AreNumbers, IsSpellable, cpu_number, cpu_of, facts_bytes, flags_of, header_bytes, kind_of, more_of, name_bytes, padding, round_up, size_of, spelling, tid_of}
-use Rattle.gs_layout.proofs.Laws.{IsBytes, IsBytes-drop, at_2, at_4, at_8, cpu_again, flag_again}
+use Rattle.gs_layout.proofs.Laws.{IsBytes, IsBytes-drop, at_2, at_4, at_16, cpu_again, flag_again}
 use Rattle.gs_reader.specs.Fault.{has_length, kind_number_in}
 use Rattle.gs_reader.specs.Reading.{IsWhole, fields_fit, name_fits, sizes_fit}
 use Rattle.gs_reader.specs.RefHeld.{IsRef}
@@ -64,24 +64,24 @@ class_again zero lt = refl
 class_again (suc zero) lt = refl
 class_again (suc (suc b)) lt = absurd (omega arith)
 
-name_behind : (text : List ℕ) → 26 + slice_index text 25 ≤ length text → round_up (26 + slice_index text 25) ≡ length text → length (name_in text) ≡ slice_index text 25
-    → list_all (λ b. b == 0) (drop (26 + slice_index text 25) text) ≡ true → name_bytes (name_in text) ≡ drop 26 text
+name_behind : (text : List ℕ) → 34 + slice_index text 33 ≤ length text → round_up (34 + slice_index text 33) ≡ length text → length (name_in text) ≡ slice_index text 33
+    → list_all (λ b. b == 0) (drop (34 + slice_index text 33) text) ≡ true → name_bytes (name_in text) ≡ drop 34 text
 name_behind text room whole len zeros =
-    let n = slice_index text 25 in
-    let rest : drop (26 + n) text ≡ drop n (drop 26 text) = sym (drop-drop n 26 text) in
-    let count : length (drop (26 + n) text) ≡ round_up (26 + n) - (26 + n) = omega (arith, length-drop (26 + n) text, whole) in
-    let zero_bytes : padding n ≡ drop (26 + n) text = sym (zeros_are (drop (26 + n) text) zeros ∙ ap (λ (k : ℕ). replicate k 0) count) in
-    ap (λ (k : ℕ). name_in text ++ padding k) len ∙ ap (λ (ys : List ℕ). name_in text ++ ys) (zero_bytes ∙ rest) ∙ take-append-drop n (drop 26 text)
+    let n = slice_index text 33 in
+    let rest : drop (34 + n) text ≡ drop n (drop 34 text) = sym (drop-drop n 34 text) in
+    let count : length (drop (34 + n) text) ≡ round_up (34 + n) - (34 + n) = omega (arith, length-drop (34 + n) text, whole) in
+    let zero_bytes : padding n ≡ drop (34 + n) text = sym (zeros_are (drop (34 + n) text) zeros ∙ ap (λ (k : ℕ). replicate k 0) count) in
+    ap (λ (k : ℕ). name_in text ++ padding k) len ∙ ap (λ (ys : List ℕ). name_in text ++ ys) (zero_bytes ∙ rest) ∙ take-append-drop n (drop 34 text)
 
-facts_behind : (text : List ℕ) → IsBytes text → 26 ≤ length text → slice_index text 24 < 2 → length (name_in text) ≡ slice_index text 25 → name_bytes (name_in text) ≡ drop 26 text
+facts_behind : (text : List ℕ) → IsBytes text → 34 ≤ length text → slice_index text 32 < 2 → length (name_in text) ≡ slice_index text 33 → name_bytes (name_in text) ≡ drop 34 text
     → facts_bytes (facts_in text) ≡ drop 16 text
 facts_behind text fits long class len name =
-    let a = drop-cons text 24 0 (omega arith) in
-    let b = drop-cons text 25 0 (omega arith) in
-    (λ i. little_bytes 8 (number_at 16 8 text) ++ (class_again (slice_index text 24) class i ∷ (len i ∷ name i)))
-    ∙ ap (λ (ys : List ℕ). little_bytes 8 (number_at 16 8 text) ++ (slice_index text 24 ∷ ys)) (sym b)
-    ∙ ap (λ (ys : List ℕ). little_bytes 8 (number_at 16 8 text) ++ ys) (sym a)
-    ∙ at_8 16 text (omega arith) fits
+    let a = drop-cons text 32 0 (omega arith) in
+    let b = drop-cons text 33 0 (omega arith) in
+    (λ i. little_bytes 16 (number_at 16 16 text) ++ (class_again (slice_index text 32) class i ∷ (len i ∷ name i)))
+    ∙ ap (λ (ys : List ℕ). little_bytes 16 (number_at 16 16 text) ++ (slice_index text 32 ∷ ys)) (sym b)
+    ∙ ap (λ (ys : List ℕ). little_bytes 16 (number_at 16 16 text) ++ ys) (sym a)
+    ∙ at_16 16 text (omega arith) fits
 
 -- what is known before the fields are looked at
 record Named (k : Kind) (text : List ℕ) : Type 0 where
@@ -107,10 +107,10 @@ numbers : (text : List ℕ) → IsBytes text → (nat_le 1 (number_at 4 4 text) 
     → AreNumbers (number_at 4 4 text) (number_at 8 4 text)
 numbers text fits e = numbered_from (number_at 4 4 text) (number_at 8 4 text) e (tseq_high text fits)
 
-mask_is : (text : List ℕ) → IsBytes text → not (number_at 16 8 text == 0) ≡ true → IsMask (number_at 16 8 text)
+mask_is : (text : List ℕ) → IsBytes text → not (number_at 16 16 text == 0) ≡ true → IsMask (number_at 16 16 text)
 mask_is text fits e =
-    let high : number_at 16 8 text < 2 ^ 64 = little_from-lt 0 8 (drop 16 text) (IsBytes-drop 16 text fits) in
-    let low : 0 < number_at 16 8 text = grind (arith, nat_tests) in
+    let high : number_at 16 16 text < 2 ^ 128 = little_from-lt 0 16 (drop 16 text) (IsBytes-drop 16 text fits) in
+    let low : 0 < number_at 16 16 text = grind (arith, nat_tests) in
     (low, high)
 
 short_more : (text : List ℕ) → length text ≡ 16 → [] ≡ drop 16 text
@@ -120,21 +120,21 @@ sound_blocked : (text : List ℕ) → Named kinds.Blocked text → Fit kinds.Blo
 sound_blocked text w f =
     let n = sixteen (length text) w.one in (
       spelled_by (message_with kinds.Blocked text) text (omega (arith, n)) w.fits (record { len = sym (w.size ∙ n); kind = w.kind; tid = refl; tseq = refl; cpu = refl; flags = sym (eqb-true (number_at 14 2 text) 0 f.flags); more = short_more text n }),
-      (numbers text w.fits f.numbers, ltb-true (number_at 12 2 text) 64 f.cpu),
+      (numbers text w.fits f.numbers, ltb-true (number_at 12 2 text) 128 f.cpu),
     )
 
 sound_preempted : (text : List ℕ) → Named kinds.Preempted text → Fit kinds.Preempted text → IsSound kinds.Preempted text
 sound_preempted text w f =
     let n = sixteen (length text) w.one in (
       spelled_by (message_with kinds.Preempted text) text (omega (arith, n)) w.fits (record { len = sym (w.size ∙ n); kind = w.kind; tid = refl; tseq = refl; cpu = refl; flags = sym (eqb-true (number_at 14 2 text) 0 f.flags); more = short_more text n }),
-      (numbers text w.fits f.numbers, ltb-true (number_at 12 2 text) 64 f.cpu),
+      (numbers text w.fits f.numbers, ltb-true (number_at 12 2 text) 128 f.cpu),
     )
 
 sound_yield : (text : List ℕ) → Named kinds.Yield text → Fit kinds.Yield text → IsSound kinds.Yield text
 sound_yield text w f =
     let n = sixteen (length text) w.one in (
       spelled_by (message_with kinds.Yield text) text (omega (arith, n)) w.fits (record { len = sym (w.size ∙ n); kind = w.kind; tid = refl; tseq = refl; cpu = refl; flags = sym (eqb-true (number_at 14 2 text) 0 f.flags); more = short_more text n }),
-      (numbers text w.fits f.numbers, ltb-true (number_at 12 2 text) 64 f.cpu),
+      (numbers text w.fits f.numbers, ltb-true (number_at 12 2 text) 128 f.cpu),
     )
 
 sound_wakeup : (text : List ℕ) → Named kinds.Wakeup text → Fit kinds.Wakeup text → IsSound kinds.Wakeup text
@@ -156,45 +156,45 @@ sound_tick text w f =
     let n = sixteen (length text) w.one in
     let zeros = and_parts (number_at 4 4 text == 0) (number_at 8 4 text == 0) f.numbers in (
       spelled_by (message_with kinds.TimerTick text) text (omega (arith, n)) w.fits (record { len = sym (w.size ∙ n); kind = w.kind; tid = sym (eqb-true (number_at 4 4 text) 0 zeros.0); tseq = sym (eqb-true (number_at 8 4 text) 0 zeros.1); cpu = refl; flags = sym (eqb-true (number_at 14 2 text) 0 f.flags); more = short_more text n }),
-      ltb-true (number_at 12 2 text) 64 f.cpu,
+      ltb-true (number_at 12 2 text) 128 f.cpu,
     )
 
-twenty_four : (n : ℕ) → ((24 == n) || false) ≡ true → n ≡ 24
-twenty_four n e = grind (arith, nat_tests)
+thirty_two : (n : ℕ) → ((32 == n) || false) ≡ true → n ≡ 32
+thirty_two n e = grind (arith, nat_tests)
 
 sound_affinity : (text : List ℕ) → Named kinds.Affinity text → Fit kinds.Affinity text → IsSound kinds.Affinity text
 sound_affinity text w f =
-    let n = twenty_four (length text) w.one in
+    let n = thirty_two (length text) w.one in
     let flags : number_at 14 2 text < 2 = flag_low (number_at 12 2 text) (number_at 14 2 text) f.flags in
-    let more = at_8 16 text (omega (arith, n)) w.fits in
-    let none : drop 24 text ≡ [] = drop_all 24 text (omega (arith, n)) in
-    let mask : little_bytes 8 (number_at 16 8 text) ≡ drop 16 text = sym (ap (λ (ys : List ℕ). little_bytes 8 (number_at 16 8 text) ++ ys) none) ∙ more in (
+    let more = at_16 16 text (omega (arith, n)) w.fits in
+    let none : drop 32 text ≡ [] = drop_all 32 text (omega (arith, n)) in
+    let mask : little_bytes 16 (number_at 16 16 text) ≡ drop 16 text = sym (ap (λ (ys : List ℕ). little_bytes 16 (number_at 16 16 text) ++ ys) none) ∙ more in (
       spelled_by (message_with kinds.Affinity text) text (omega (arith, n)) w.fits (record { len = sym (w.size ∙ n); kind = w.kind; tid = refl; tseq = refl; cpu = cpu_again (number_at 12 2 text); flags = flag_again (number_at 14 2 text) flags; more = mask }),
-      (numbers text w.fits f.numbers, affinity_fits (number_at 12 2 text) (number_at 14 2 text) (number_at 16 8 text) f.cpu f.flags (mask_is text w.fits f.more)),
+      (numbers text w.fits f.numbers, affinity_fits (number_at 12 2 text) (number_at 14 2 text) (number_at 16 16 text) f.cpu f.flags (mask_is text w.fits f.more)),
     )
 
-creation_long : (n : ℕ) → ((32 == n) || ((40 == n) || ((48 == n) || false))) ≡ true → 32 ≤ n
+creation_long : (n : ℕ) → ((40 == n) || ((48 == n) || ((56 == n) || false))) ≡ true → 40 ≤ n
 creation_long n e = grind (arith, nat_tests)
 
 sound_created : (text : List ℕ) → Named kinds.Created text → Fit kinds.Created text → IsSound kinds.Created text
 sound_created text w f =
-    let len = slice_index text 25 in
+    let len = slice_index text 33 in
     let long = creation_long (length text) w.one in
-    let mask_test = not (number_at 16 8 text == 0) in
-    let class_test = nat_lt (slice_index text 24) 2 in
+    let mask_test = not (number_at 16 16 text == 0) in
+    let class_test = nat_lt (slice_index text 32) 2 in
     let len_test = nat_le len 16 in
-    let size_test = round_up (26 + len) == length text in
+    let size_test = round_up (34 + len) == length text in
     let more = and_parts (sizes_fit text) (name_fits text) f.more in
     let a = and_parts (mask_test && class_test && len_test) size_test more.0 in
     let b = and_parts (mask_test && class_test) len_test a.0 in
     let c = and_parts mask_test class_test b.0 in
-    let d = and_parts (is_name (name_in text)) (list_all (λ b. b == 0) (drop (26 + len) text)) more.1 in
-    let size : round_up (26 + len) ≡ length text = eqb-true (round_up (26 + len)) (length text) a.1 in
-    let room : 26 + len ≤ length text = omega (arith, size) in
-    let name_len : length (name_in text) ≡ len = omega (arith, length-take len (drop 26 text), length-drop 26 text, room) in
+    let d = and_parts (is_name (name_in text)) (list_all (λ b. b == 0) (drop (34 + len) text)) more.1 in
+    let size : round_up (34 + len) ≡ length text = eqb-true (round_up (34 + len)) (length text) a.1 in
+    let room : 34 + len ≤ length text = omega (arith, size) in
+    let name_len : length (name_in text) ≡ len = omega (arith, length-take len (drop 34 text), length-drop 34 text, room) in
     let name = name_behind text room size name_len d.1 in
-    let facts = facts_behind text w.fits (omega (arith, long)) (ltb-true (slice_index text 24) 2 c.1) name_len name in
-    let sized : round_up (26 + length (name_in text)) ≡ number_at 0 2 text = ap (λ (k : ℕ). round_up (26 + k)) name_len ∙ size ∙ sym w.size in (
+    let facts = facts_behind text w.fits (omega (arith, long)) (ltb-true (slice_index text 32) 2 c.1) name_len name in
+    let sized : round_up (34 + length (name_in text)) ≡ number_at 0 2 text = ap (λ (k : ℕ). round_up (34 + k)) name_len ∙ size ∙ sym w.size in (
       spelled_by (message_with kinds.Created text) text (omega (arith, long)) w.fits (record { len = sized; kind = w.kind; tid = refl; tseq = refl; cpu = sym (eqb-true (number_at 12 2 text) 65535 f.cpu); flags = flag_again (number_at 14 2 text) (ltb-true (number_at 14 2 text) 2 f.flags); more = facts }),
       (numbers text w.fits f.numbers, (mask_is text w.fits c.0, d.0)),
     )

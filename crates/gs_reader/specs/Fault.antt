@@ -17,9 +17,9 @@ kind_number_in bytes = number_at 2 2 bytes
 abbrev pub is_kind : ℕ → Bool
 is_kind k = nat_le 1 k && nat_le k 9
 
--- the lengths of a kind: a creation has 32, 40 or 48 bytes, a new mask 24, a PAD 8 to 40, each other 16
+-- the lengths of a kind: a creation has 40, 48 or 56 bytes, a new mask 32, a PAD 8 to 48, each other 16
 abbrev pub lengths_of : ℕ → List ℕ
-lengths_of k = if k == 1 then 32 ∷ 40 ∷ 48 ∷ [] else if k == 7 then 24 ∷ [] else if k == 9 then 8 ∷ 16 ∷ 24 ∷ 32 ∷ 40 ∷ [] else 16 ∷ []
+lengths_of k = if k == 1 then 40 ∷ 48 ∷ 56 ∷ [] else if k == 7 then 32 ∷ [] else if k == 9 then 8 ∷ 16 ∷ 24 ∷ 32 ∷ 40 ∷ 48 ∷ [] else 16 ∷ []
 
 abbrev pub has_length : ℕ → ℕ → Bool
 has_length k len = list_any (λ n. n == len) (lengths_of k)

@@ -50,15 +50,15 @@ flags_fit _ cpu flags = flags == 0
 -- the mask, the class and the lengths of a creation
 abbrev pub sizes_fit : List ℕ → Bool
 sizes_fit text =
-    not (number_at 16 8 text == 0) && nat_lt (slice_index text 24) 2 && nat_le (slice_index text 25) MOST_NAME_LEN && round_up (26 + slice_index text 25) == length text
+    not (number_at 16 16 text == 0) && nat_lt (slice_index text 32) 2 && nat_le (slice_index text 33) MOST_NAME_LEN && round_up (34 + slice_index text 33) == length text
 
 -- the name of a creation, and the zeros behind it
 abbrev pub name_fits : List ℕ → Bool
-name_fits text = is_name (name_in text) && list_all (λ b. b == 0) (drop (26 + slice_index text 25) text)
+name_fits text = is_name (name_in text) && list_all (λ b. b == 0) (drop (34 + slice_index text 33) text)
 
 abbrev pub more_fits : Kind → List ℕ → Bool
 more_fits kinds.Created text = sizes_fit text && name_fits text
-more_fits kinds.Affinity text = not (number_at 16 8 text == 0)
+more_fits kinds.Affinity text = not (number_at 16 16 text == 0)
 more_fits _ text = true
 
 -- whether each field of a message of this kind is in its range

@@ -8,7 +8,7 @@ ghost use Rattle.gs_reader.specs.Reading.{cpu_fits, fields_fit, flags_fit, more_
 
 use gs_layout::{
     CLASS_AT, CPU_AT, FLAGS_AT, Kind, MASK_AT, MOST_NAME_LEN, MOST_TIDS, NAME_AT, NAME_LEN_AT,
-    NO_CPU, Name, TID_AT, TSEQ_AT, creation_len, u16_at, u32_at, u64_at,
+    NO_CPU, Name, TID_AT, TSEQ_AT, creation_len, u16_at, u32_at, u128_at,
 };
 use gs_status::MOST_CPUS;
 
@@ -48,20 +48,20 @@ pub(crate) fn are_zeros(bytes: &[u8]) -> bool
 }
 
 fn sizes_fit(text: &[u8]) -> bool
-    requires { 26 ≤ length text.now }
+    requires { NAME_AT ≤ length text.now }
     ensures value { result ≡ sizes_fit text.now }
-    ensures room { OnTrue result (26 + slice_index text.now 25 ≤ length text.now) }
+    ensures room { OnTrue result (NAME_AT + slice_index text.now NAME_LEN_AT ≤ length text.now) }
 {
     let name_len = text[NAME_LEN_AT] as usize;
-    u64_at(text, MASK_AT) != 0
+    u128_at(text, MASK_AT) != 0
         && text[CLASS_AT] < 2
         && name_len <= MOST_NAME_LEN
         && creation_len(name_len) == text.len()
 }
 
 fn name_fits(text: &[u8]) -> bool
-    requires start { 26 ≤ length text.now }
-    requires room { 26 + slice_index text.now 25 ≤ length text.now }
+    requires start { NAME_AT ≤ length text.now }
+    requires room { NAME_AT + slice_index text.now NAME_LEN_AT ≤ length text.now }
     ensures { result ≡ name_fits text.now }
 {
     let end = NAME_AT + text[NAME_LEN_AT] as usize;
@@ -74,7 +74,7 @@ fn more_fits(kind: Kind, text: &[u8]) -> bool
 {
     match kind {
         Kind::Created => sizes_fit(text) && name_fits(text),
-        Kind::Affinity => u64_at(text, MASK_AT) != 0,
+        Kind::Affinity => u128_at(text, MASK_AT) != 0,
         _ => true,
     }
 }

@@ -18,9 +18,11 @@ fn has_length(kind: u16, len: u16) -> bool
     ensures { result ≡ has_length kind len }
 {
     match Kind::numbered(kind) {
-        Some(Kind::Created) => len == 32 || len == 40 || len == 48,
+        Some(Kind::Created) => len == 40 || len == 48 || len == 56,
         Some(Kind::Affinity) => len == AFFINITY_LEN as u16,
-        None if kind == PAD => len == 8 || len == 16 || len == 24 || len == 32 || len == 40,
+        None if kind == PAD => {
+            len == 8 || len == 16 || len == 24 || len == 32 || len == 40 || len == 48
+        }
         _ => len == HEADER_LEN as u16,
     }
 }

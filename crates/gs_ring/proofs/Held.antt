@@ -43,7 +43,7 @@ pub waiting_is : (b : List ℕ) (r w n : ℕ) (ms : List Message) → IsWide (le
 waiting_is b r w n ms wide s count =
     ap (λ t. messages_in n t) s.holds ∙ ap (λ k. messages_in k (bytes (length b) r ms)) count ∙ messages_again (length b) r ms wide s.whole s.spellable
 
-pub ring_from : (b : List ℕ) (r w t p : ℕ) (ms : List Message) → is_capacity (length b) ≡ true → t ≤ p → p ≤ 2 ^ 24 → w ≤ 88 * p → Shows b r w ms → p - t ≡ length ms → IsRing b r w t p
+pub ring_from : (b : List ℕ) (r w t p : ℕ) (ms : List Message) → is_capacity (length b) ≡ true → t ≤ p → p ≤ 2 ^ 24 → w ≤ 104 * p → Shows b r w ms → p - t ≡ length ms → IsRing b r w t p
 ring_from b r w t p ms size order few low s count =
     let e : ms ≡ waiting b r w (p - t) = sym (waiting_is b r w (p - t) ms (wide (length b) size) s count) in
     let f = subst (λ xs. Shows b r w xs) e s in
@@ -163,7 +163,7 @@ posts_in b r w t p v h view = ap posts (sym view) ∙ omega (arith, length-messa
 pub record Fitting (b : List ℕ) (w : ℕ) (m : Message) (k : ℕ) : Type 0 where
   pub fits : w % length b + k ≤ length b
   pub whole : k % 8 ≡ 0
-  pub low : k + record_len m ≤ 88
+  pub low : k + record_len m ≤ 104
   pub behind : (w + k) % length b + record_len m ≤ length b
 
 pub fitting : (b : List ℕ) (r w t p : ℕ) (m : Message) (k : ℕ) → IsRing b r w t p → IsSpellable m → k ≡ pad_len (length b) w (record_len m) → Fitting b w m k

@@ -18,7 +18,7 @@ use Rattle.gs_ring.proofs.Around.{mod_round, mod_whole}
 -- a size that a record may have
 pub record IsSize (n : ℕ) : Type 0 where
   pub least : 16 ≤ n
-  pub most : n ≤ 48
+  pub most : n ≤ 56
   pub whole : n % 8 ≡ 0
 
 -- a ring's capacity

@@ -10,9 +10,9 @@ use Rattle.gs_ring.specs.Block.{behind_front, behind_pad, front_message, message
 use Rattle.gs_ring.specs.Places.{bytes, is_capacity, need, pad_bytes, pad_len, written}
 use Rattle.gs_ring.specs.RingState.{RingState, end, free, need_of}
 
--- a creation with a name of 16 bytes, which has 48
+-- a creation with a name of 14 bytes, which has 48
 created : ℕ → Message
-created t = Thread t 1 (Created (record { runnable = true; mask = 3; class = Zero; name = replicate 16 0x61 }))
+created t = Thread t 1 (Created (record { runnable = true; mask = 3; class = Zero; name = replicate 14 0x61 }))
 
 -- two of them were posted to a ring of 128 bytes, and consumed
 consumed : RingState
@@ -35,7 +35,7 @@ unfolding created after need pad_len
 after_row = refl
 
 -- a record that ends where the block ends has no PAD
-fits_row : (need 128 80 48 ∷ need 128 88 48 ∷ need 128 112 16 ∷ need 128 120 16 ∷ []) ≡ 48 ∷ 88 ∷ 16 ∷ 24 ∷ []
+fits_row : (need 128 80 48 ∷ need 128 80 56 ∷ need 128 112 16 ∷ need 128 120 16 ∷ []) ≡ 48 ∷ 104 ∷ 16 ∷ 24 ∷ []
 unfolding need pad_len
 fits_row = refl
 

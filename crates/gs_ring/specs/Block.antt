@@ -57,7 +57,7 @@ pub record IsRing (block : List ℕ) (read written taken posts : ℕ) : Type 0 w
   pub order : taken ≤ posts
   pub few : posts ≤ MOST_POSTS
   pub whole : read % ALIGNMENT ≡ 0
-  pub low : written ≤ 88 * posts
+  pub low : written ≤ 104 * posts
   pub forward : read ≤ written
   pub room : written ≤ read + length block
   pub spellable : All IsSpellable (messages_in (posts - taken) (seen block read (written - read)))

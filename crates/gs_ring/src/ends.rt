@@ -129,3 +129,28 @@ pub trait Ring: Poster + Taker {
     /// If none was found, all was taken.
     ghost ends: { (p : Self) (xs : List Message) → Self.posted p xs → Self.idle p → Self.taken p ≡ length xs };
 }
+
+/// A poster whose taker may be in the same thread.
+pub trait Beside<T: Taker>: Poster {
+    ghost use Rattle.gs_layout.specs.declared.message.Message.{Message};
+
+    /// The two ends of one ring.
+    ghost pair: { Self → T → Type 0 };
+
+    /// These are the messages that the taker ever gave.
+    ghost gave: { T → List Message → Type 0 };
+
+    /// Lets the taker know of all that waits, and returns how many messages that are.
+    fn look_beside(&mut self, taker: &mut T) -> usize
+        requires { pair self.old taker.old }
+        ensures ring { Self.same self.old self.new × pair self.new taker.new }
+        ensures posted { (xs : List Message) → Self.posted self.old xs → Self.posted self.new xs }
+        ensures stays { Self.taken self.new ≡ Self.taken self.old }
+        ensures taken { T.passed taker.old [] taker.new }
+        ensures rest { (xs : List Message) → Self.posted self.new xs → (ms : List Message) × (rest : List Message) × gave taker.new ms × (xs ≡ ms ++ rest) × T.ahead taker.new rest × (result ≡ length rest) };
+
+    /// Laws. What passes was given.
+    ghost gives: { (t u : T) (xs ms : List Message) → gave t xs → T.passed t ms u → gave u (xs ++ ms) };
+
+    ghost stays_pair: { (p : Self) (t u : T) (ms : List Message) → pair p t → T.passed t ms u → pair p u };
+}

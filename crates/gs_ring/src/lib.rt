@@ -14,7 +14,7 @@ mod waiting;
 
 pub use batch::Batch;
 pub use block::{ALIGNMENT, LEAST_CAPACITY, MOST_CAPACITY};
-pub use ends::{MOST_POSTS, Poster, Ring, Taker};
+pub use ends::{Beside, MOST_POSTS, Poster, Ring, Taker};
 pub use fault::{Full, RingFault};
 pub use peeked::Peeked;
 pub use ring::ByteRing;

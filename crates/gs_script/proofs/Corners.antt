@@ -125,7 +125,7 @@ word_before_count = refl
 other_case : event (codes "Drain 1") ≡ Err BadWord
 other_case = refl
 
-stamp_most : event (codes "stamp 65535 4294967295") ≡ Ok (events.Stamp 65535 4294967295 false)
+stamp_most : event (codes "stamp 65535 4294967295") ≡ Ok (events.Stamp 65535 4294967295 false false)
 stamp_most = refl
 
 stamp_first : event (codes "stamp 65536 4294967296") ≡ Err BadNumber
@@ -158,7 +158,7 @@ create_most = refl
 create_hash : event (codes "create 1 0 r #") ≡ Ok (events.Kernel (commands.Create (record { runnable = true; mask = 1; class = Zero; name = codes "#" })))
 create_hash = refl
 
-create_past : event (codes "create 18446744073709551616 1 b a") ≡ Err BadNumber
+create_past : event (codes "create 340282366920938463463374607431768211456 1 b a") ≡ Err BadNumber
 create_past = refl
 
 create_zeros : event (codes "create 3 00 r a") ≡ Err BadNumber
@@ -271,7 +271,7 @@ header_zero = refl
 header_few : header (codes "cpus 1 ring 128") ≡ Err BadNumber
 header_few = refl
 
-header_many : header (codes "cpus 65 ring 128") ≡ Err BadNumber
+header_many : header (codes "cpus 129 ring 128") ≡ Err BadNumber
 header_many = refl
 
 header_ring_word : header (codes "cpus 2 Ring 100 x") ≡ Err BadWord

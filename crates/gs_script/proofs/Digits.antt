@@ -46,13 +46,13 @@ shortest (c ∷ cs) (suc (suc k)) some within plain =
     let unlike : nat_eq c 48 ≡ false = grind (arith, nat_tests) in
     rw unlike (or-true _)
 
-pub read_number : (text : List ℕ) (i n : ℕ) → i ≤ length text → n ≤ 18446744073709551615 → all_ascii_digits (take i text) ≡ true → n ≡ digits_value 10 (take i text) → 0 < i → (1 < i → get_or text 0 0 ≡ 48 → ⊥) → number_between 0 18446744073709551615 (take i text) ≡ Ok n
-read_number text i n within fits all is some plain =
+pub read_number : (top : ℕ) (text : List ℕ) (i n : ℕ) → i ≤ length text → n ≤ top → all_ascii_digits (take i text) ≡ true → n ≡ digits_value 10 (take i text) → 0 < i → (1 < i → get_or text 0 0 ≡ 48 → ⊥) → number_between 0 top (take i text) ≡ Ok n
+read_number top text i n within fits all is some plain =
     let size : length (take i text) ≡ i = length-take-le i text within in
-    let low : digits_value 10 (take i text) ≤ 18446744073709551615 = subst (λ m. m ≤ 18446744073709551615) is fits in
+    let low : digits_value 10 (take i text) ≤ top = subst (λ m. m ≤ top) is fits in
     let word : is_word (take i text) ≡ true = grind (arith, nat_tests) in
-    let t : is_of_kind (Number 0 18446744073709551615) (take i text) ≡ true =
-    and_from (is_number (take i text) && nat_le 0 (number (take i text))) (nat_le (number (take i text)) 18446744073709551615)
+    let t : is_of_kind (Number 0 top) (take i text) ≡ true =
+    and_from (is_number (take i text) && nat_le 0 (number (take i text))) (nat_le (number (take i text)) top)
     (and_from (is_number (take i text)) (nat_le 0 (number (take i text)))
     (and_from (is_word (take i text) && all_ascii_digits (take i text)) (is_shortest (take i text)) (and_from (is_word (take i text)) (all_ascii_digits (take i text)) word all) (shortest text i some within plain))
     (grind (arith, nat_tests)))

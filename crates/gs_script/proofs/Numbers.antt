@@ -62,16 +62,16 @@ record Parsed (n : ℕ) (word : List ℕ) : Type 0 where
   some : 0 < length word
   value : n ≡ number word
 
-parsed_parts : {E : Type 0} (n : ℕ) (word : List ℕ) (r : Result ℕ E) → ParsesUnsigned 64 10 word r → r ≡ Ok n → begins_plainly word ≡ true → Parsed n word
-parsed_parts n word r p is h = let k = rw is at (parse_plain own 64 word r p (no_sign word h)) in record { digits = k.0.0; some = k.0.1; value = k.1 }
+parsed_parts : {E : Type 0} (bits n : ℕ) (word : List ℕ) (r : Result ℕ E) → ParsesUnsigned bits 10 word r → r ≡ Ok n → begins_plainly word ≡ true → Parsed n word
+parsed_parts bits n word r p is h = let k = rw is at (parse_plain own bits word r p (no_sign word h)) in record { digits = k.0.0; some = k.0.1; value = k.1 }
 
-pub parsed : {E : Type 0} (low high n : ℕ) (word : List ℕ) (r : Result ℕ E) → ParsesUnsigned 64 10 word r → r ≡ Ok n → begins_plainly word ≡ true → low ≤ n → n ≤ high → number_between low high word ≡ Ok n
-parsed low high n word r p is h l u =
-    let k = parsed_parts n word r p is h in
+pub parsed : {E : Type 0} (bits low high n : ℕ) (word : List ℕ) (r : Result ℕ E) → ParsesUnsigned bits 10 word r → r ≡ Ok n → begins_plainly word ≡ true → low ≤ n → n ≤ high → number_between low high word ≡ Ok n
+parsed bits low high n word r p is h l u =
+    let k = parsed_parts bits n word r p is h in
     let t = takes_it low high word (record { some = k.some; digits = k.digits; plain = h; low = subst (λ m. low ≤ m) k.value l; high = subst (λ m. m ≤ high) k.value u }) in
     rw t (ap Ok (sym k.value))
 
-pub unparsed : {E : Type 0} (low high : ℕ) (e : E) (word : List ℕ) (r : Result ℕ E) → ParsesUnsigned 64 10 word r → r ≡ Err e → begins_plainly word ≡ true → high < 2 ^ 64 → number_between low high word ≡ Err BadNumber
-unparsed low high e word r p is h l =
-    let k = rw is at (parse_plain own 64 word r p (no_sign word h)) in
+pub unparsed : {E : Type 0} (bits low high : ℕ) (e : E) (word : List ℕ) (r : Result ℕ E) → ParsesUnsigned bits 10 word r → r ≡ Err e → begins_plainly word ≡ true → high < 2 ^ bits → number_between low high word ≡ Err BadNumber
+unparsed bits low high e word r p is h l =
+    let k = rw is at (parse_plain own bits word r p (no_sign word h)) in
     untaken _ _ _ (λ t. let all = taken low high word t in let high_is = all.high in k (all.digits, all.some, omega arith))

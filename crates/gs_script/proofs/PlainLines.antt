@@ -44,13 +44,13 @@ number_ends most n text rest left s end =
     let k = number_is most n s.front s.is in
     record { line = s.front; cut = ended_word s.front text rest left (plain_number most n s.front k) s.cut end; is = s.is }
 
-pub affinity_read : (text rest : List ℕ) (n m : ℕ) (left : Option (Bor (List ℕ))) → StartsWith (λ word. number_between 0 4294967295 word ≡ Ok n) text (32 ∷ rest) → FirstLine (λ word. number_between 0 18446744073709551615 word ≡ Ok m) rest left → FirstLine (IsRead (reads rows.affinity) (events.Kernel (commands.Thread n (happens.Affinity m)))) text left
+pub affinity_read : (text rest : List ℕ) (n m : ℕ) (left : Option (Bor (List ℕ))) → StartsWith (λ word. number_between 0 4294967295 word ≡ Ok n) text (32 ∷ rest) → FirstLine (λ word. number_between 0 340282366920938463463374607431768211455 word ≡ Ok m) rest left → FirstLine (IsRead (reads rows.affinity) (events.Kernel (commands.Thread n (happens.Affinity m)))) text left
 affinity_read text rest n m left s b =
     let k = number_is 4294967295 n s.front s.is in
-    let l = number_is 18446744073709551615 m b.line b.is in
+    let l = number_is 340282366920938463463374607431768211455 m b.line b.is in
     read_as (reads rows.affinity) _ (s.front ∷ b.line ∷ []) text left
     (rw (k.taken, l.taken) (ap (λ x. Ok (events.Kernel (commands.Thread x (happens.Affinity (number b.line))))) (sym k.value) ∙ ap (λ x. Ok (events.Kernel (commands.Thread n (happens.Affinity x)))) (sym l.value)))
-    (more_words s.front text rest (b.line ∷ []) left (plain_number 4294967295 n s.front k) s.cut (last_word b.line rest left (plain_number 18446744073709551615 m b.line l) b.cut))
+    (more_words s.front text rest (b.line ∷ []) left (plain_number 4294967295 n s.front k) s.cut (last_word b.line rest left (plain_number 340282366920938463463374607431768211455 m b.line l) b.cut))
 
 -- a stamp, with its flag or without it
 abbrev pub flag : Bool → List ℕ
@@ -71,11 +71,11 @@ stamp_words true m word text rest left l is b =
 stamp_words false m word text rest left l is b =
     last_word word text left (plain_number 4294967295 m word l) (ended_word word text rest left (plain_number 4294967295 m word l) is (b.cut ∙ ap (λ w. w ∷ lines_left left) b.is))
 
-stamp_of : (preempt : Bool) (n m : ℕ) (cpu tid : List ℕ) → IsNumber 65535 n cpu → IsNumber 4294967295 m tid → reads rows.stamp (cpu ∷ tid ∷ cond preempt (codes "p" ∷ []) []) ≡ Ok (events.Stamp n m preempt)
-stamp_of true n m cpu tid k l = rw (k.taken, l.taken) (λ i. Ok (events.Stamp (sym k.value i) (sym l.value i) true))
-stamp_of false n m cpu tid k l = rw (k.taken, l.taken) (λ i. Ok (events.Stamp (sym k.value i) (sym l.value i) false))
+stamp_of : (preempt : Bool) (n m : ℕ) (cpu tid : List ℕ) → IsNumber 65535 n cpu → IsNumber 4294967295 m tid → reads rows.stamp (cpu ∷ tid ∷ cond preempt (codes "p" ∷ []) []) ≡ Ok (events.Stamp n m preempt false)
+stamp_of true n m cpu tid k l = rw (k.taken, l.taken) (λ i. Ok (events.Stamp (sym k.value i) (sym l.value i) true false))
+stamp_of false n m cpu tid k l = rw (k.taken, l.taken) (λ i. Ok (events.Stamp (sym k.value i) (sym l.value i) false false))
 
-pub stamp_read : (preempt : Bool) (text behind_cpu rest : List ℕ) (n m : ℕ) (left : Option (Bor (List ℕ))) → StartsWith (λ word. number_between 0 65535 word ≡ Ok n) text (32 ∷ behind_cpu) → StartsWith (λ word. number_between 0 4294967295 word ≡ Ok m) behind_cpu rest → FirstLine (λ line. line ≡ flag preempt) rest left → FirstLine (IsRead (reads rows.stamp) (events.Stamp n m preempt)) text left
+pub stamp_read : (preempt : Bool) (text behind_cpu rest : List ℕ) (n m : ℕ) (left : Option (Bor (List ℕ))) → StartsWith (λ word. number_between 0 65535 word ≡ Ok n) text (32 ∷ behind_cpu) → StartsWith (λ word. number_between 0 4294967295 word ≡ Ok m) behind_cpu rest → FirstLine (λ line. line ≡ flag preempt) rest left → FirstLine (IsRead (reads rows.stamp) (events.Stamp n m preempt false)) text left
 stamp_read preempt text behind_cpu rest n m left s t b =
     let k = number_is 65535 n s.front s.is in
     let l = number_is 4294967295 m t.front t.is in
@@ -114,17 +114,17 @@ state_plain false word h = subst IsPlain (sym h) (record { some = refl; printed 
 abbrev pub created : Bool → ℕ → Class → TheName → Event AnyPolicy
 created runnable mask class name = events.Kernel (commands.Create (record { mask = mask; runnable = runnable; class = class; name = name }))
 
-create_of : (runnable : Bool) (n : ℕ) (class : Class) (name : TheName) (mask w v : List ℕ) → IsNumber 18446744073709551615 n mask → IsClass class w → IsNamed name v → reads rows.create (mask ∷ w ∷ state runnable ∷ v ∷ []) ≡ Ok (created runnable n class name)
+create_of : (runnable : Bool) (n : ℕ) (class : Class) (name : TheName) (mask w v : List ℕ) → IsNumber 340282366920938463463374607431768211455 n mask → IsClass class w → IsNamed name v → reads rows.create (mask ∷ w ∷ state runnable ∷ v ∷ []) ≡ Ok (created runnable n class name)
 create_of true n class name mask w v k c t = rw (k.taken, c.taken, t.taken) (λ i. Ok (created true (sym k.value i) (sym c.value i) (sym t.value i)))
 create_of false n class name mask w v k c t = rw (k.taken, c.taken, t.taken) (λ i. Ok (created false (sym k.value i) (sym c.value i) (sym t.value i)))
 
-pub create_read : (runnable : Bool) (n : ℕ) (class : Class) (name : TheName) (text behind_mask behind_class behind_state word : List ℕ) (left : Option (Bor (List ℕ))) → StartsWith (λ word. number_between 0 18446744073709551615 word ≡ Ok n) text (32 ∷ behind_mask) → StartsWith (λ word. class_in word ≡ Ok class) behind_mask (32 ∷ behind_class) → StartsWith (λ word. word ≡ state runnable) behind_class (32 ∷ behind_state) → FirstLine (λ line. (line ≡ word) × (is_word line ≡ true)) behind_state left → Ok name ≡ name_in word → FirstLine (IsRead (reads rows.create) (created runnable n class name)) text left
+pub create_read : (runnable : Bool) (n : ℕ) (class : Class) (name : TheName) (text behind_mask behind_class behind_state word : List ℕ) (left : Option (Bor (List ℕ))) → StartsWith (λ word. number_between 0 340282366920938463463374607431768211455 word ≡ Ok n) text (32 ∷ behind_mask) → StartsWith (λ word. class_in word ≡ Ok class) behind_mask (32 ∷ behind_class) → StartsWith (λ word. word ≡ state runnable) behind_class (32 ∷ behind_state) → FirstLine (λ line. (line ≡ word) × (is_word line ≡ true)) behind_state left → Ok name ≡ name_in word → FirstLine (IsRead (reads rows.create) (created runnable n class name)) text left
 create_read runnable n class name text behind_mask behind_class behind_state word left s c r b named =
-    let k = number_is 18446744073709551615 n s.front s.is in
+    let k = number_is 340282366920938463463374607431768211455 n s.front s.is in
     let l = class_is class c.front c.is in
     let t = named_is name b.line b.is.1 (ap name_in b.is.0 ∙ sym named) in
     let words : FirstLine (HasWords (s.front ∷ c.front ∷ r.front ∷ b.line ∷ [])) text left =
-    more_words s.front text behind_mask _ left (plain_number 18446744073709551615 n s.front k) s.cut
+    more_words s.front text behind_mask _ left (plain_number 340282366920938463463374607431768211455 n s.front k) s.cut
     (more_words c.front behind_mask behind_class _ left l.plain c.cut
     (more_words r.front behind_class behind_state _ left (state_plain runnable r.front r.is) r.cut
     (last_word b.line behind_state left t.plain b.cut))) in

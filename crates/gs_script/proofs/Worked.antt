@@ -76,11 +76,20 @@ created = refl
 created_nameless : event_of (words_of (codes "create 0 0 r -")) ≡ Ok (events.Kernel (commands.Create (record { runnable = true; mask = 0; class = Zero; name = [] })))
 created_nameless = refl
 
-stamp_flag : event_of (words_of (codes "stamp 1 1 p")) ≡ Ok (events.Stamp 1 1 true)
+stamp_flag : event_of (words_of (codes "stamp 1 1 p")) ≡ Ok (events.Stamp 1 1 true false)
 stamp_flag = refl
+
+stamp_group : event_of (words_of (codes "stamp 1 1 g")) ≡ Ok (events.Stamp 1 1 false true)
+stamp_group = refl
+
+stamp_both : event_of (words_of (codes "stamp 1 1 pg")) ≡ Ok (events.Stamp 1 1 true true)
+stamp_both = refl
 
 stamp_no_flag : event_of (words_of (codes "stamp 1 1 gp")) ≡ Err BadWord
 stamp_no_flag = refl
+
+stamp_twice : event_of (words_of (codes "stamp 1 1 p g")) ≡ Err BadCount
+stamp_twice = refl
 
 stamp_long : event_of (words_of (codes "stamp 1 1 p p")) ≡ Err BadCount
 stamp_long = refl
@@ -88,13 +97,13 @@ stamp_long = refl
 stamp_cpu : event_of (words_of (codes "stamp 65536 1")) ≡ Err BadNumber
 stamp_cpu = refl
 
-stamped : event_of (words_of (codes " stamp  1 12 ")) ≡ Ok (events.Stamp 1 12 false)
+stamped : event_of (words_of (codes " stamp  1 12 ")) ≡ Ok (events.Stamp 1 12 false false)
 stamped = refl
 
 committed : event_of (words_of (codes "commit 18446744073709551615")) ≡ Ok (events.Commit 18446744073709551615)
 committed = refl
 
-committed_past : event_of (words_of (codes "commit 18446744073709551616")) ≡ Err BadNumber
+committed_past : event_of (words_of (codes "commit 340282366920938463463374607431768211456")) ≡ Err BadNumber
 committed_past = refl
 
 ticked : event_of (words_of (codes "tick 1")) ≡ Ok (events.Kernel (commands.Tick 1))

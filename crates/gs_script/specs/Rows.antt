@@ -1,5 +1,5 @@
 -- The lines that say an event: one row of a table for each kind of event.
-use Rattle.std.specs.Prelude.{ℕ, ◌-◌, ◌^◌, List, [], ◌∷◌, map, Bool, bytes_eq, if◌then◌else◌, ◌==◌, codes, get_or, Result, Ok, Err}
+use Rattle.std.specs.Prelude.{ℕ, ◌-◌, ◌^◌, List, [], ◌∷◌, map, Bool, bytes_eq, if◌then◌else◌, ◌==◌, ◌||◌, codes, get_or, Result, Ok, Err}
 use denote.Ref.{Bor}
 use Rattle.gs_layout.specs.declared.facts.Class.{Class}
 use Rattle.gs_layout.specs.declared.facts.Class.TheVariants.{Zero, One}
@@ -14,6 +14,7 @@ use Rattle.gs_core.specs.declared.event.Event.{Event}
 use Rattle.gs_core.specs.declared.event.Event.TheVariants as events
 use Rattle.gs_script.specs.declared.fault.Reason.{Reason}
 use Rattle.gs_script.specs.declared.fault.Reason.TheVariants.{BadWord, BadNumber, BadName}
+use Rattle.gs_status.specs.declared.mask.TheConstants.{MOST_CPUS}
 use Rattle.gs_script.specs.declared.header.TheConstants.{LEAST_SLICE, MOST_SLICE}
 use Rattle.gs_script.specs.Words.{number}
 use Rattle.gs_script.specs.Grammar.{is_of_kind, OneOf, Number, Name, Kind, Form, line_fault, literal, or_fault}
@@ -25,8 +26,9 @@ u16s = Number 0 (2 ^ 16 - 1)
 abbrev pub u32s : Kind
 u32s = Number 0 (2 ^ 32 - 1)
 
-abbrev pub u64s : Kind
-u64s = Number 0 (2 ^ 64 - 1)
+-- a mask: a bit for each CPU that there may be
+abbrev pub masks : Kind
+masks = Number 0 (2 ^ MOST_CPUS - 1)
 
 -- the word at a place
 abbrev pub at : ℕ → List (List ℕ) → List ℕ
@@ -52,7 +54,7 @@ abbrev pub create : Row
 create =
     record {
       word = codes "create";
-      forms = (u64s ∷ Number 0 1 ∷ OneOf (codes "r" ∷ codes "b" ∷ []) ∷ Name ∷ []) ∷ [];
+      forms = (masks ∷ Number 0 1 ∷ OneOf (codes "r" ∷ codes "b" ∷ []) ∷ Name ∷ []) ∷ [];
       event = λ ws. events.Kernel (commands.Create (record { runnable = is (at 2 ws) (codes "r"); mask = number (at 0 ws); class = class_of (number (at 1 ws)); name = name_of (at 3 ws) }));
     }
 
@@ -73,7 +75,7 @@ abbrev pub die : Row
 die = to_thread (codes "die") happens.Die
 
 abbrev pub affinity : Row
-affinity = record { word = codes "affinity"; forms = (u32s ∷ u64s ∷ []) ∷ []; event = λ ws. events.Kernel (commands.Thread (number (at 0 ws)) (happens.Affinity (number (at 1 ws)))) }
+affinity = record { word = codes "affinity"; forms = (u32s ∷ masks ∷ []) ∷ []; event = λ ws. events.Kernel (commands.Thread (number (at 0 ws)) (happens.Affinity (number (at 1 ws)))) }
 
 -- a line that tells the kernel something of a CPU
 abbrev pub of_cpu : List Form
@@ -120,13 +122,22 @@ page = record { word = codes "page"; forms = (u16s ∷ []) ∷ []; event = λ ws
 abbrev pub drain : Row
 drain = record { word = codes "drain"; forms = (u32s ∷ []) ∷ []; event = λ ws. events.Drain (number (at 0 ws)) }
 
--- with a flag behind it, the transaction takes the thread off that is on the CPU
+-- the words that may stand behind a stamp: it takes the thread off that is on the CPU, it is one of a group, or both
+abbrev pub stamp_flag : Kind
+stamp_flag = OneOf (codes "p" ∷ codes "g" ∷ codes "pg" ∷ [])
+
+abbrev pub takes_off : List ℕ → Bool
+takes_off word = is word (codes "p") || is word (codes "pg")
+
+abbrev pub is_grouped : List ℕ → Bool
+is_grouped word = is word (codes "g") || is word (codes "pg")
+
 abbrev pub stamp : Row
 stamp =
     record {
       word = codes "stamp";
-      forms = (u16s ∷ u32s ∷ []) ∷ (u16s ∷ u32s ∷ literal (codes "p") ∷ []) ∷ [];
-      event = λ ws. events.Stamp (number (at 0 ws)) (number (at 1 ws)) (is (at 2 ws) (codes "p"));
+      forms = (u16s ∷ u32s ∷ []) ∷ (u16s ∷ u32s ∷ stamp_flag ∷ []) ∷ [];
+      event = λ ws. events.Stamp (number (at 0 ws)) (number (at 1 ws)) (takes_off (at 2 ws)) (is_grouped (at 2 ws));
     }
 
 -- a line whose first word says all: nothing stands behind it
@@ -143,7 +154,7 @@ abbrev pub leave : Row
 leave = alone (codes "leave") (events.Kernel commands.Leave)
 
 abbrev pub commit : Row
-commit = record { word = codes "commit"; forms = (u64s ∷ []) ∷ []; event = λ ws. events.Commit (number (at 0 ws)) }
+commit = record { word = codes "commit"; forms = (masks ∷ []) ∷ []; event = λ ws. events.Commit (number (at 0 ws)) }
 
 abbrev pub late : Row
 late = record { word = codes "late"; forms = (u32s ∷ []) ∷ []; event = λ ws. events.Late (number (at 0 ws)) }
@@ -193,6 +204,10 @@ name_in word = if is_of_kind Name word then Ok (name_of word) else Err BadName
 -- what a word says that is to be a class
 abbrev pub class_in : List ℕ → Result Class Reason
 class_in word = if is_of_kind (Number 0 1) word then Ok (class_of (number word)) else Err BadNumber
+
+-- what a word says that is to be a flag of a stamp: whether it takes a thread off, and whether it is one of a group
+abbrev pub flags_in : List ℕ → Result (Bool × Bool) Reason
+flags_in word = if is_of_kind stamp_flag word then Ok (takes_off word, is_grouped word) else Err BadWord
 
 -- what a word says that is to be `r` or `b`
 abbrev pub runnable_in : List ℕ → Result Bool Reason

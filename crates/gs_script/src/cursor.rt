@@ -85,6 +85,48 @@ fn digits_first(text: &[u8]) -> Option<(u64, &[u8])>
     Some((value, &text[count..]))
 }
 
+/// Returns the number of 128 bits that a text begins with, and what stands behind its digits. It returns `None` if the
+/// text begins with no digit or a needless zero, or the number has more bits.
+#[inline(always)]
+fn mask_first(text: &[u8]) -> Option<(u128, &[u8])>
+    ensures { IfSome result (λ p. StartsWith (λ digits. number_between 0 u128.MAX digits ≡ Ok p.0) text.now p.1.now) }
+{
+    let (sure, mut count) = sure_digits(text);
+    let mut value = sure as u128;
+    while count < text.len() && text[count].is_ascii_digit() {
+        let digit = (text[count] - b'0') as u128;
+        value = value.checked_mul(10)?.checked_add(digit)?;
+        count += 1;
+    }
+    if count == 0 {
+        return None;
+    }
+    if count > 1 && text[0] == b'0' {
+        return None;
+    }
+    Some((value, &text[count..]))
+}
+
+/// A mask, and the space behind it.
+#[inline(always)]
+pub(crate) fn mask_spaced(text: &[u8]) -> Option<(u128, &[u8])>
+    ensures number { IfSome result (λ p. StartsWith (λ digits. number_between 0 u128.MAX digits ≡ Ok p.0) text.now (32 ∷ p.1.now)) }
+{
+    let (number, rest) = mask_first(text)?;
+    let rest = behind(rest, b" ")?;
+    Some((number, rest))
+}
+
+/// A mask that is all of a line.
+#[inline(always)]
+pub(crate) fn mask_last(text: &[u8]) -> Option<(u128, Option<&[u8]>)>
+    ensures number { IfSome result (λ p. FirstLine (λ digits. number_between 0 u128.MAX digits ≡ Ok p.0) text.now p.1) }
+{
+    let (number, rest) = mask_first(text)?;
+    let left = line_end(rest)?;
+    Some((number, left))
+}
+
 /// A number up to `most`.
 #[inline(always)]
 pub(crate) fn number_first(text: &[u8], most: u64) -> Option<(u64, &[u8])>

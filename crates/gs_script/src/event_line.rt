@@ -4,7 +4,7 @@ ghost use Rattle.gs_script.specs.Rows.{shown, reads, event_of};
 
 use crate::fault::Reason;
 use crate::header::named_policy;
-use crate::word::{name, number};
+use crate::word::{mask as mask_number, name, number};
 use gs_core::Event;
 use gs_kernel::{Command, ThreadEvent};
 use gs_layout::{Class, Facts};
@@ -50,6 +50,16 @@ fn only_u32(words: &[&str]) -> Result<u32, Reason>
     Ok(only_number(words, u32::MAX as u64)? as u32)
 }
 
+/// A mask that is all that stands behind a line's first word.
+fn only_mask(words: &[&str]) -> Result<u128, Reason>
+    ensures { result ≡ rows.one_number u128.MAX (shown words.now) }
+{
+    let [word] = words else {
+        return Err(Reason::BadCount);
+    };
+    mask_number(word)
+}
+
 fn read_class(word: &str) -> Result<Class, Reason>
     ensures { result ≡ rows.class_in word.now }
 {
@@ -70,6 +80,19 @@ fn is_runnable(word: &str) -> Result<bool, Reason>
     }
 }
 
+/// What a flag behind a stamp says: whether it takes the thread off that is on the CPU, and whether it is one of a
+/// group.
+fn stamp_flags(word: &str) -> Result<(bool, bool), Reason>
+    ensures { result ≡ rows.flags_in word.now }
+{
+    match word {
+        "p" => Ok((true, false)),
+        "g" => Ok((false, true)),
+        "pg" => Ok((true, true)),
+        _ => Err(Reason::BadWord),
+    }
+}
+
 /// A line whose first word says all.
 fn alone(words: &[&str], event: Event<AnyPolicy>) -> Result<Event<AnyPolicy>, Reason>
     ensures { result ≡ reads (rows.alone [] event) (shown words.now) }
@@ -84,7 +107,7 @@ fn alone(words: &[&str], event: Event<AnyPolicy>) -> Result<Event<AnyPolicy>, Re
 fn create_of(mask: &str, class: &str, state: &str, text: &str) -> Result<Event<AnyPolicy>, Reason>
     ensures { result ≡ reads rows.create (mask.now ∷ class.now ∷ state.now ∷ text.now ∷ []) }
 {
-    let mask = Mask::new(number(mask, 0, u64::MAX)?);
+    let mask = Mask::new(mask_number(mask)?);
     let class = read_class(class)?;
     let runnable = is_runnable(state)?;
     let name = name(text.as_bytes())?;
@@ -127,7 +150,7 @@ fn affinity(words: &[&str]) -> Result<Event<AnyPolicy>, Reason>
         return Err(Reason::BadCount);
     };
     let tid = u32_number(tid)?;
-    let mask = Mask::new(number(mask, 0, u64::MAX)?);
+    let mask = Mask::new(mask_number(mask)?);
     Ok(Event::Kernel {
         command: Command::Thread {
             tid,
@@ -212,7 +235,7 @@ fn drain(words: &[&str]) -> Result<Event<AnyPolicy>, Reason>
     Ok(Event::Drain { max })
 }
 
-/// A stamp for a CPU that has to be free.
+/// A stamp by itself, for a CPU that has to be free.
 fn stamp_plain(cpu: &str, tid: &str) -> Result<Event<AnyPolicy>, Reason>
     ensures { result ≡ reads rows.stamp (cpu.now ∷ tid.now ∷ []) }
 {
@@ -222,6 +245,7 @@ fn stamp_plain(cpu: &str, tid: &str) -> Result<Event<AnyPolicy>, Reason>
         cpu,
         tid,
         preempt: false,
+        group: false,
     })
 }
 
@@ -231,13 +255,12 @@ fn stamp_flagged(cpu: &str, tid: &str, flag: &str) -> Result<Event<AnyPolicy>, R
 {
     let cpu = u16_number(cpu)?;
     let tid = u32_number(tid)?;
-    if flag != "p" {
-        return Err(Reason::BadWord);
-    }
+    let (preempt, group) = stamp_flags(flag)?;
     Ok(Event::Stamp {
         cpu,
         tid,
-        preempt: true,
+        preempt,
+        group,
     })
 }
 
@@ -255,7 +278,7 @@ fn stamp(words: &[&str]) -> Result<Event<AnyPolicy>, Reason>
 fn commit(words: &[&str]) -> Result<Event<AnyPolicy>, Reason>
     ensures { result ≡ reads rows.commit (shown words.now) }
 {
-    let mask = Mask::new(only_number(words, u64::MAX)?);
+    let mask = Mask::new(only_mask(words)?);
     Ok(Event::Commit { mask })
 }
 

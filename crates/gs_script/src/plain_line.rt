@@ -8,8 +8,8 @@ ghost use Rattle.gs_script.specs.Plain.{FirstLine, IsRead, StartsWith, lines_lef
 ghost use Rattle.gs_script.specs.Script.{says};
 
 use crate::cursor::{
-    behind, flag_last, line_end, number_first, number_last, number_spaced, rest_of_line, u16_last,
-    u32_last,
+    behind, flag_last, line_end, mask_last, mask_spaced, number_first, number_last, number_spaced,
+    rest_of_line, u16_last, u32_last,
 };
 use crate::word::name;
 use gs_core::Event;
@@ -56,7 +56,7 @@ fn runnable_spaced(text: &[u8]) -> Option<(bool, &[u8])>
 fn create(text: &[u8]) -> Found<'_>
     ensures { IfSome result (λ p. FirstLine (IsRead (reads rows.create) p.0) text.now p.1) }
 {
-    let (mask, rest) = number_spaced(text, u64::MAX)?;
+    let (mask, rest) = mask_spaced(text)?;
     let (class, rest) = class_spaced(rest)?;
     let (runnable, rest) = runnable_spaced(rest)?;
     let (word, left) = rest_of_line(rest)?;
@@ -88,7 +88,7 @@ fn affinity(text: &[u8]) -> Found<'_>
     ensures { IfSome result (λ p. FirstLine (IsRead (reads rows.affinity) p.0) text.now p.1) }
 {
     let (tid, rest) = number_spaced(text, u32::MAX as u64)?;
-    let (mask, left) = number_last(rest, u64::MAX)?;
+    let (mask, left) = mask_last(rest)?;
     let event = ThreadEvent::Affinity {
         mask: Mask::new(mask),
     };
@@ -149,6 +149,7 @@ fn drain(text: &[u8]) -> Found<'_>
     Some((Event::Drain { max }, left))
 }
 
+/// A stamp by itself. One of a group is no frequent line.
 #[inline(always)]
 fn stamp(text: &[u8]) -> Found<'_>
     ensures { IfSome result (λ p. FirstLine (IsRead (reads rows.stamp) p.0) text.now p.1) }
@@ -158,14 +159,20 @@ fn stamp(text: &[u8]) -> Found<'_>
     let (preempt, left) = flag_last(rest)?;
     let cpu = cpu as u16;
     let tid = tid as u32;
-    Some((Event::Stamp { cpu, tid, preempt }, left))
+    let event = Event::Stamp {
+        cpu,
+        tid,
+        preempt,
+        group: false,
+    };
+    Some((event, left))
 }
 
 #[inline(always)]
 fn commit(text: &[u8]) -> Found<'_>
     ensures { IfSome result (λ p. FirstLine (IsRead (reads rows.commit) p.0) text.now p.1) }
 {
-    let (mask, left) = number_last(text, u64::MAX)?;
+    let (mask, left) = mask_last(text)?;
     let mask = Mask::new(mask);
     Some((Event::Commit { mask }, left))
 }

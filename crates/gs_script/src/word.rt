@@ -65,6 +65,19 @@ pub(crate) fn number(word: &str, least: u64, most: u64) -> Result<u64, Reason>
     Ok(n)
 }
 
+/// A mask in decimal: any number of 128 bits.
+pub(crate) fn mask(word: &str) -> Result<u128, Reason>
+    ensures { result ≡ number_between 0 u128.MAX word.now }
+{
+    if !is_plain(word) {
+        return Err(Reason::BadNumber);
+    }
+    let Ok(n) = word.parse::<u128>() else {
+        return Err(Reason::BadNumber);
+    };
+    Ok(n)
+}
+
 /// A thread's name, of which `-` is the empty one.
 pub(crate) fn name(word: &[u8]) -> Result<Name, Reason>
     ensures { result ≡ name_in word.now }

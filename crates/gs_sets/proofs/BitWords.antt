@@ -1,12 +1,10 @@
 -- A word that was written, added or shifted, and the numbers that are in the set.
 use Rattle.std.proofs.Common.{◌≡◌, ◌≢◌, ap, sym, ◌∙◌, ℕ, ◌+◌, ◌-◌, ◌*◌, ◌/◌, ◌%◌, ◌^◌, ◌<◌, ◌≤◌, ◌⊎◌, inl, inr, Bool, true, false, List, length, get_or, set, arith, Some, get_or-set_same, get_or-set_other}
-use Rattle.std.specs.Prelude.{bit_and, ◌==◌}
-use Rattle.std.proofs.Math.Nat.{div-div-eq-div-mul, div-one, zero-div}
+use Rattle.std.proofs.Math.Nat.{div-one, zero-div}
 use Rattle.std.proofs.lemmas.Bool.{cases_lt}
 use Rattle.std.proofs.lemmas.List.{get_or_past}
-use Rattle.std.proofs.lemmas.Nat.{pow-add}
 use Rattle.gs_status.specs.Masks.{has, has_none, least}
-use Rattle.gs_status.proofs.Laws.{has_none_past, is_zero, least_before, nobody}
+use Rattle.gs_status.proofs.Laws.{has_shifted, is_zero, least_before, nobody, none_past_word}
 use Rattle.gs_sets.specs.Bits.{is_in, left_of_word, IsFirst, IsNone}
 
 -- a number is in if its bit is set in the word that was written
@@ -79,10 +77,6 @@ in_within words t there = by_place (cases_lt t (64 * length words))
     by_place (inl lt) = lt
     by_place (inr past) = let away = past_end words t (omega (arith, past)) in let here = there in absurd cc
 
--- a shift moves each bit
-has_shifted : (m j c : ℕ) → has (m / 2 ^ j) c ≡ has m (j + c)
-has_shifted m j c = ap (λ k. bit_and k 1 == 1) (div-div-eq-div-mul m (2 ^ j) (2 ^ c) ∙ ap (λ k. m / k) (sym (pow-add 2 j c)))
-
 -- what is left of a word has the numbers from the first one on
 in_word : (words : List ℕ) (n c : ℕ) → n % 64 + c < 64 → is_in words (n + c) ≡ has (left_of_word words n) c
 unfolding is_in left_of_word
@@ -107,7 +101,7 @@ left_within words n c fits there = by_place (cases_lt (n % 64 + c) 64)
     by_place (inl within) = within
     by_place (inr past) =
         let away : has (get_or words (n / 64) 0 / 2 ^ (n % 64)) c ≡ false =
-        has_shifted (get_or words (n / 64) 0) (n % 64) c ∙ has_none_past (get_or words (n / 64) 0) (n % 64 + c) fits past
+        has_shifted (get_or words (n / 64) 0) (n % 64) c ∙ none_past_word (get_or words (n / 64) 0) (n % 64 + c) fits past
         in
         absurd cc
 

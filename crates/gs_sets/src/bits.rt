@@ -2,17 +2,17 @@ ghost use Rattle.std.specs.Prelude.{◌≡◌, ◌≢◌, ◌^◌, ◌+◌, ◌*
 ghost use Rattle.gs_status.specs.Masks.{has_none};
 ghost use Rattle.gs_sets.specs.Bits.{IsFirst, IsNone, is_in, left_of_word};
 
-use gs_status::Mask;
+use gs_status::{BitWord, WORD_BITS};
 use std::alloc::{AllocError, Global};
 use std::marker::Model;
 
 /// How many numbers a word has.
-pub const WORD: usize = 64;
+pub const WORD: usize = WORD_BITS as usize;
 
 /// A set of numbers from 0 on, as bits: [`WORD`] of them in a word. Clauses see it as its words.
 #[derive(Drop)]
 pub(crate) struct Bits {
-    words: Vec<Mask>,
+    words: Vec<BitWord>,
 }
 
 impl Model for Bits {
@@ -53,7 +53,7 @@ impl Bits {
     {
         let words = number / WORD + 1;
         if self.words.len() < words {
-            self.words.resize(words, Mask::none())?;
+            self.words.resize(words, BitWord::none())?;
         }
         Ok(())
     }
@@ -97,14 +97,14 @@ impl Bits {
 
     /// Returns what the word of a number has from the number on, the number's bit first.
     #[tactic(auto, using(crate::proofs::BitWords::left_past), unfolding(crate::specs::Bits::left_of_word))]
-    fn left_of_word(&self, number: usize) -> Mask
+    fn left_of_word(&self, number: usize) -> BitWord
         ensures left { result ≡ left_of_word self.now number }
-        ensures fits { slice_index self.now (number / WORD) < 2 ^ 64 }
+        ensures fits { slice_index self.now (number / WORD) < 2 ^ WORD }
     {
         if number / WORD >= self.words.len() {
-            return Mask::none();
+            return BitWord::none();
         }
-        Mask::new(self.words[number / WORD].bits() >> (number % WORD))
+        BitWord::new(self.words[number / WORD].bits() >> (number % WORD))
     }
 
     /// Returns the first number of the set that is not below `from`, of the word of `from` alone.

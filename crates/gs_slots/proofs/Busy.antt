@@ -1,17 +1,17 @@
 -- Slots that are other than idle.
-use Rattle.std.proofs.Common.{◌≡◌, ◌≢◌, Bool, true, false, not, ℕ, zero, suc, ◌+◌, ◌-◌, ◌<◌, ◌≤◌, ◌⊎◌, inl, inr, Option, None, Some, Ok, List, [], ◌∷◌, ◌++◌, length, replicate, take, drop, slice_get, slice_set, refl, ap, sym, subst, ◌∙◌, arith, w64}
-use Rattle.std.specs.Prelude.{◌==◌, nat_eq, unwrap_or}
+use Rattle.std.proofs.Common.{◌≡◌, ◌≢◌, Bool, true, false, not, ℕ, zero, suc, ◌+◌, ◌-◌, ◌<◌, ◌≤◌, ◌⊎◌, inl, inr, Option, None, Some, Ok, List, [], ◌∷◌, ◌++◌, length, replicate, take, drop, slice_get, slice_set, refl, ap, sym, subst, ◌∙◌, arith}
+use Rattle.std.specs.Prelude.{◌==◌, ◌||◌, nat_eq, unwrap_or}
 use Rattle.std.specs.Cmp.Lexicographic.{bytes_decides, pointwise}
-use Rattle.std.specs.Int.{bit_at, bit_not}
-use Rattle.std.proofs.lemmas.Bool.{cases_eq, cases_lt, eqb-true}
+use Rattle.std.specs.Int.{bit_at, bit_not, w128}
+use Rattle.std.proofs.lemmas.Bool.{cases_eq, cases_lt, eqb-true, or_parts}
 use Rattle.std.proofs.lemmas.List.{length-replicate}
 use Rattle.std.proofs.lemmas.Nat.Bits.{bit_at-lt, bit_at_not, shr_and_one}
 use Rattle.gs_layout.proofs.Laws.{IsBytes}
 use Rattle.gs_status.proofs.Laws.{least_is_all, least_passes, nobody}
 use Rattle.gs_status.specs.Masks.{found_or, has, least}
-use Rattle.gs_slots.specs.Busy.{CoversBusy, is_busy, is_busy_at}
+use Rattle.gs_slots.specs.Busy.{CoversBusy, is_busy, is_busy_at, is_busy_if_any, is_flagged_at, is_flagged_if_any}
 use Rattle.gs_slots.specs.declared.state.SlotState.TheVariants.{Idle}
-use Rattle.gs_slots.specs.Reading.{state_in}
+use Rattle.gs_slots.specs.Reading.{is_flagged, state_in}
 use Rattle.gs_slots.specs.Spelling.{idle_bytes}
 use Rattle.gs_slots.specs.Tests.{is_idle}
 use Rattle.gs_slots.proofs.Exact.{idle_sound, read_spelt, same_tests}
@@ -59,8 +59,8 @@ set_other (y ∷ ys) (suc k) zero x other = refl
 set_other (y ∷ ys) (suc k) (suc c) x other = set_other ys k c x (λ e. other (ap suc e))
 
 -- of the mask of all ones, each CPU is in it
-pub all_ones : (c : ℕ) → c < 64 → has (bit_not w64 0) c ≡ true
-all_ones c lt = ap (λ (k : ℕ). k == 1) (shr_and_one (bit_not w64 0) c) ∙ ap (λ (k : ℕ). k == 1) (bit_at_not w64 0 c (omega arith) lt ∙ flipped (bit_at 0 c) (bit_at-lt 0 c) none)
+pub all_ones : (c : ℕ) → c < 128 → has (bit_not w128 0) c ≡ true
+all_ones c lt = ap (λ (k : ℕ). k == 1) (shr_and_one (bit_not w128 0) c) ∙ ap (λ (k : ℕ). k == 1) (bit_at_not w128 0 c (omega arith) lt ∙ flipped (bit_at 0 c) (bit_at-lt 0 c) none)
   where
     none : (bit_at 0 c == 1) ≡ false
     none = ap (λ (k : ℕ). k == 1) (sym (shr_and_one 0 c)) ∙ nobody c
@@ -71,10 +71,10 @@ all_ones c lt = ap (λ (k : ℕ). k == 1) (shr_and_one (bit_not w64 0) c) ∙ ap
     flipped (suc (suc x)) lt e = absurd (omega arith)
 
 -- a mask that has all is a region's, whatever is in its slots
-pub all_covered : (xs : List (List ℕ)) → CoversBusy xs (bit_not w64 0)
+pub all_covered : (xs : List (List ℕ)) → CoversBusy xs (bit_not w128 0)
 all_covered xs c lt e = absurd (not_both (all_ones c lt) e)
   where
-    not_both : has (bit_not w64 0) c ≡ true → has (bit_not w64 0) c ≡ false → ⊥
+    not_both : has (bit_not w128 0) c ≡ true → has (bit_not w128 0) c ≡ false → ⊥
     not_both p q = cc
 
 -- ---- a walk through the CPUs that may be busy
@@ -96,16 +96,16 @@ none_before test (suc n) c found k lt = by_place (none_before test n c) (least t
 
 -- how far a walk has to go that has come to the least CPU of these
 abbrev pub ahead : ℕ → ℕ
-ahead left = 64 - unwrap_or (least (has left) 64) 64
+ahead left = 128 - unwrap_or (least (has left) 128) 128
 
 -- the walk goes up, from the least CPU that is left to the next
-pub goes_up : (left left' k : ℕ) → least (has left) 64 ≡ Some k → k < 64 → has left' k ≡ false → ((c : ℕ) → c ≢ k → has left' c ≡ has left c) → ahead left' < ahead left
-goes_up left left' k found lt gone rest = subst (λ (o : Option ℕ). ahead left' < 64 - unwrap_or o 64) (sym found) (by_next (least (has left') 64) refl)
+pub goes_up : (left left' k : ℕ) → least (has left) 128 ≡ Some k → k < 128 → has left' k ≡ false → ((c : ℕ) → c ≢ k → has left' c ≡ has left c) → ahead left' < ahead left
+goes_up left left' k found lt gone rest = subst (λ (o : Option ℕ). ahead left' < 128 - unwrap_or o 128) (sym found) (by_next (least (has left') 128) refl)
   where
-    found' : least (has left) 64 ≡ Some k
+    found' : least (has left) 128 ≡ Some k
     found' = found
 
-    below : k < 64
+    below : k < 128
     below = lt
 
     gone' : has left' k ≡ false
@@ -123,15 +123,15 @@ goes_up left left' k found lt gone rest = subst (λ (o : Option ℕ). ahead left
       where
         by_place : (j ≡ k) ⊎ (j ≢ k) → k + 1 ≤ j
         by_place (inl e) = absurd (never j there (ap (has left') e ∙ gone'))
-        by_place (inr other) = let before : j < k = omega arith in absurd (never j there (rest' j other ∙ none_before (has left) 64 k found' j before))
+        by_place (inr other) = let before : j < k = omega arith in absurd (never j there (rest' j other ∙ none_before (has left) 128 k found' j before))
 
-    by_next : (o : Option ℕ) → least (has left') 64 ≡ o → 64 - unwrap_or o 64 < 64 - k
+    by_next : (o : Option ℕ) → least (has left') 128 ≡ o → 128 - unwrap_or o 128 < 128 - k
     by_next None e = omega (arith, below)
-    by_next (Some j) e = let past : k + 1 ≤ j = later j (least_passes (has left') 64 j e) (cases_lt j (k + 1)) in omega (arith, below, past)
+    by_next (Some j) e = let past : k + 1 ≤ j = later j (least_passes (has left') 128 j e) (cases_lt j (k + 1)) in omega (arith, below, past)
 
 -- those of the CPUs that the walk passed that are found are the busy ones; those that are left are all there
 pub record IsFound (slots : List (List ℕ)) (busy left : ℕ) : Type 0 where
-  pub right : (c : ℕ) → c < 64 → has left c ≡ false → has busy c ≡ is_busy_at slots c
+  pub right : (c : ℕ) → c < 128 → has left c ≡ false → has busy c ≡ is_busy_at slots c
   pub kept : (c : ℕ) → has left c ≡ true → has busy c ≡ true
 
 pub found_first : (slots : List (List ℕ)) (lent : ℕ) → CoversBusy slots lent → IsFound slots lent lent
@@ -148,7 +148,7 @@ found_more slots busy busy' left left' k i here others gone rest = record { righ
     rest' : (c : ℕ) → c ≢ k → has left' c ≡ has left c
     rest' = rest
 
-    right' : (c : ℕ) → c < 64 → has left' c ≡ false → has busy' c ≡ is_busy_at slots c
+    right' : (c : ℕ) → c < 128 → has left' c ≡ false → has busy' c ≡ is_busy_at slots c
     right' c below passed = at (cases_eq c k)
       where
         at : (c ≡ k) ⊎ (c ≢ k) → has busy' c ≡ is_busy_at slots c
@@ -164,6 +164,42 @@ found_more slots busy busy' left left' k i here others gone rest = record { righ
         at : (c ≡ k) ⊎ (c ≢ k) → has busy' c ≡ true
         at (inl e) = absurd (never c there (ap (has left') e ∙ gone))
         at (inr other) = others' c other ∙ i.kept c (sym (rest' c other) ∙ there)
+
+-- a slot that is not busy has no flag
+quiet_flag : (slots : List (List ℕ)) (c : ℕ) → is_busy_at slots c ≡ false → is_flagged_at slots c ≡ false
+quiet_flag slots c quiet = by_get (slice_get slots c) quiet
+  where
+    by_get : (o : Option (List ℕ)) → is_busy_if_any o ≡ false → is_flagged_if_any o ≡ false
+    by_get None e = refl
+    by_get (Some x) e = ap is_flagged (quiet_bytes x e)
+
+pub none_flagged : (n c : ℕ) → is_flagged_at (replicate n idle_bytes) c ≡ false
+none_flagged n c = quiet_flag (replicate n idle_bytes) c (none_busy n c)
+
+-- and of those that the walk passed none has the flag, unless one was seen
+pub record IsLooked (slots : List (List ℕ)) (busy : ℕ) (flagged : Bool) (left : ℕ) : Type 0 where
+  pub found : IsFound slots busy left
+  pub single : flagged ≡ false → (c : ℕ) → c < 128 → has left c ≡ false → is_flagged_at slots c ≡ false
+
+pub looked_first : (slots : List (List ℕ)) (lent : ℕ) → CoversBusy slots lent → IsLooked slots lent false lent
+looked_first slots lent covers = record { found = found_first slots lent covers; single = λ e c lt free. quiet_flag slots c (covers c lt free) }
+
+pub looked_more : (slots : List (List ℕ)) (busy busy' : ℕ) (flagged flagged' : Bool) (left left' k : ℕ) → IsLooked slots busy flagged left → IsFound slots busy' left' → flagged' ≡ (flagged || is_flagged_at slots k)
+    → ((c : ℕ) → c ≢ k → has left' c ≡ has left c) → IsLooked slots busy' flagged' left'
+looked_more slots busy busy' flagged flagged' left left' k i found is rest = record { found = found; single = single' }
+  where
+    rest' : (c : ℕ) → c ≢ k → has left' c ≡ has left c
+    rest' = rest
+
+    single' : flagged' ≡ false → (c : ℕ) → c < 128 → has left' c ≡ false → is_flagged_at slots c ≡ false
+    single' e c lt passed = by_place (cases_eq c k)
+      where
+        parts : (flagged ≡ false) × (is_flagged_at slots k ≡ false)
+        parts = or_parts flagged (is_flagged_at slots k) (sym is ∙ e)
+
+        by_place : (c ≡ k) ⊎ (c ≢ k) → is_flagged_at slots c ≡ false
+        by_place (inl same) = ap (is_flagged_at slots) same ∙ parts.1
+        by_place (inr other) = i.single parts.0 c lt (sym (rest' c other) ∙ passed)
 
 -- the mask of no CPU has none
 pub none_left : (left : ℕ) → (left == 0) ≡ true → (c : ℕ) → has left c ≡ false

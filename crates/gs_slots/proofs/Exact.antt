@@ -1,6 +1,6 @@
 -- Bytes are read as a state of a slot exactly if they are its spelling.
-use Rattle.std.proofs.Common.{◌≡◌, Bool, true, false, ℕ, zero, suc, ◌+◌, ◌^◌, ◌<◌, ◌≤◌, inl, inr, Option, None, Some, Ok, Err, IfOk, List, [], ◌∷◌, ◌++◌, length, drop, replicate, refl, ap, sym, subst, ◌∙◌, arith}
-use Rattle.std.specs.Prelude.{◌==◌, ◌&&◌, nat_lt, if◌then◌else◌, slice_index, unwrap_or}
+use Rattle.std.proofs.Common.{◌≡◌, Bool, true, false, ℕ, zero, suc, ◌+◌, ◌*◌, ◌%◌, ◌^◌, ◌<◌, ◌≤◌, inl, inr, Option, None, Some, Ok, Err, IfOk, List, [], ◌∷◌, ◌++◌, length, drop, replicate, refl, ap, sym, subst, ◌∙◌, arith}
+use Rattle.std.specs.Prelude.{◌==◌, ◌&&◌, nat_le, nat_lt, if◌then◌else◌, slice_index, unwrap_or}
 use Rattle.std.specs.Cmp.Lexicographic.{bytes_decides}
 use Rattle.std.proofs.Math.Seq.{drop-cons}
 use Rattle.std.proofs.lemmas.Bool.{and_parts, cases_Bool, cond-false, cond-true, eq-eqb, eqb-true, false_from_ne_true, lt-ltb, ltb-true}
@@ -12,7 +12,7 @@ use Rattle.gs_layout.specs.declared.outcome.Outcome.TheVariants as outcomes
 use Rattle.gs_layout.specs.Outcome.{outcome_number, outcome_numbered}
 use Rattle.gs_layout.specs.Reading.{cpu_numbered, number_at}
 use Rattle.gs_layout.specs.Spelling.{IsCpuOrNone, cpu_number}
-use Rattle.gs_layout.proofs.Laws.{IsBytes, at_2, at_4, at_8, cpu_again, flag_again}
+use Rattle.gs_layout.proofs.Laws.{IsBytes, at_2, at_4, at_8, cpu_again}
 use Rattle.gs_slots.specs.declared.state.SlotState.{SlotState}
 use Rattle.gs_slots.specs.declared.state.SlotState.TheVariants.{Idle, Stamped, Done}
 use Rattle.gs_slots.specs.declared.state.Stamp.{Stamp}
@@ -28,7 +28,7 @@ use Rattle.gs_slots.proofs.ReadBack.{read_back, reads}
 zeros_at : (p : ℕ) (xs : List ℕ) → p + 8 ≤ length xs → IsBytes xs → is_zero_at p xs ≡ true → replicate 8 0 ++ drop (p + 8) xs ≡ drop p xs
 zeros_at p xs long fits e = ap (λ (n : ℕ). little_bytes 8 n ++ drop (p + 8) xs) (sym (eqb-true (number_at p 8 xs) 0 e)) ∙ at_8 p xs long fits
 
-outcome_again : (n : ℕ) → n < 14 → outcome_number (unwrap_or (outcome_numbered n) outcomes.Malformed) ≡ n
+outcome_again : (n : ℕ) → n < 15 → outcome_number (unwrap_or (outcome_numbered n) outcomes.Malformed) ≡ n
 outcome_again zero lt = refl
 outcome_again (suc zero) lt = refl
 outcome_again (suc (suc zero)) lt = refl
@@ -43,21 +43,29 @@ outcome_again (suc (suc (suc (suc (suc (suc (suc (suc (suc (suc zero)))))))))) l
 outcome_again (suc (suc (suc (suc (suc (suc (suc (suc (suc (suc (suc zero))))))))))) lt = refl
 outcome_again (suc (suc (suc (suc (suc (suc (suc (suc (suc (suc (suc (suc zero)))))))))))) lt = refl
 outcome_again (suc (suc (suc (suc (suc (suc (suc (suc (suc (suc (suc (suc (suc zero))))))))))))) lt = refl
-outcome_again (suc (suc (suc (suc (suc (suc (suc (suc (suc (suc (suc (suc (suc (suc n)))))))))))))) lt = absurd (omega arith)
+outcome_again (suc (suc (suc (suc (suc (suc (suc (suc (suc (suc (suc (suc (suc (suc zero)))))))))))))) lt = refl
+outcome_again (suc (suc (suc (suc (suc (suc (suc (suc (suc (suc (suc (suc (suc (suc (suc n))))))))))))))) lt = absurd (omega arith)
+
+flags_again : (f : ℕ) → f < 4 → (if f % 2 == 1 then 1 else 0) + 2 * (if nat_le 2 f then 1 else 0) ≡ f
+flags_again zero lt = refl
+flags_again (suc zero) lt = refl
+flags_again (suc (suc zero)) lt = refl
+flags_again (suc (suc (suc zero))) lt = refl
+flags_again (suc (suc (suc (suc f)))) lt = absurd (omega arith)
 
 -- ---- bytes that pass are the spelling of what their fields say
 
 -- behind the first byte and the flags: CPU, generation, thread and sequence number
 stamped_front : (k : ℕ) (xs : List ℕ) → IsBytes xs → length xs ≡ 32 → is_of k xs ≡ true → stamp_bytes (slice_index xs 0) k (stamp_in xs) ++ drop 16 xs ≡ xs
 stamped_front k xs fits size e =
-    let p = and_parts (nat_lt (slice_index xs 1) 2) (number_at 2 2 xs == k) e in
+    let p = and_parts (nat_lt (slice_index xs 1) 4) (number_at 2 2 xs == k) e in
     let cpu : number_at 2 2 xs ≡ k = eqb-true (number_at 2 2 xs) k p.1 in
-    let flags : slice_index xs 1 < 2 = ltb-true (slice_index xs 1) 2 p.0 in
+    let flags : slice_index xs 1 < 4 = ltb-true (slice_index xs 1) 4 p.0 in
     let a = slice_index xs 0 in
     let b = slice_index xs 1 in
     let gen = little_bytes 4 (number_at 4 4 xs) in
     let tid = little_bytes 4 (number_at 8 4 xs) in
-    (λ i. a ∷ (flag_again b flags i ∷ (little_bytes 2 (sym cpu i) ++ (gen ++ (tid ++ (little_bytes 4 (number_at 12 4 xs) ++ drop 16 xs))))))
+    (λ i. a ∷ (flags_again b flags i ∷ (little_bytes 2 (sym cpu i) ++ (gen ++ (tid ++ (little_bytes 4 (number_at 12 4 xs) ++ drop 16 xs))))))
     ∙ ap (λ (r : List ℕ). a ∷ (b ∷ (little_bytes 2 (number_at 2 2 xs) ++ (gen ++ (tid ++ r))))) (at_4 12 xs (omega (arith, size)) fits)
     ∙ ap (λ (r : List ℕ). a ∷ (b ∷ (little_bytes 2 (number_at 2 2 xs) ++ (gen ++ r)))) (at_4 8 xs (omega (arith, size)) fits)
     ∙ ap (λ (r : List ℕ). a ∷ (b ∷ (little_bytes 2 (number_at 2 2 xs) ++ r))) (at_4 4 xs (omega (arith, size)) fits)
@@ -92,10 +100,10 @@ stamp_sound k xs fits size kind e =
 
 done_sound : (k : ℕ) (xs : List ℕ) → IsBytes xs → length xs ≡ 32 → slice_index xs 0 ≡ 2 → is_done k xs ≡ true → slot_spelling k (done_in xs) ≡ xs
 done_sound k xs fits size kind e =
-    let a = and_parts (is_of k xs && nat_lt (number_at 16 2 xs) 14) (is_zero_at 24 xs) e in
-    let b = and_parts (is_of k xs) (nat_lt (number_at 16 2 xs) 14) a.0 in
+    let a = and_parts (is_of k xs && nat_lt (number_at 16 2 xs) 15) (is_zero_at 24 xs) e in
+    let b = and_parts (is_of k xs) (nat_lt (number_at 16 2 xs) 15) a.0 in
     let s = stamp_in xs in
-    let known : number_at 16 2 xs < 14 = ltb-true (number_at 16 2 xs) 14 b.1 in
+    let known : number_at 16 2 xs < 15 = ltb-true (number_at 16 2 xs) 15 b.1 in
     let n = number_at 16 2 xs in
     let seen = little_bytes 4 (number_at 20 4 xs) in
     let back : little_bytes 2 (outcome_number (outcome_in xs)) ++ (little_bytes 2 (cpu_number (cpu_numbered (number_at 18 2 xs))) ++ (seen ++ replicate 8 0)) ≡ drop 16 xs =
@@ -108,11 +116,13 @@ done_sound k xs fits size kind e =
 
 -- ---- spellings pass
 
-flag_below : (b : Bool) → nat_lt (if b then 1 else 0) 2 ≡ true
-flag_below true = refl
-flag_below false = refl
+flags_below : (p g : Bool) → nat_lt ((if p then 1 else 0) + 2 * (if g then 1 else 0)) 4 ≡ true
+flags_below true true = refl
+flags_below true false = refl
+flags_below false true = refl
+flags_below false false = refl
 
-outcome_below : (o : Outcome) → nat_lt (little_number 2 (little_bytes 2 (outcome_number o) ++ [])) 14 ≡ true
+outcome_below : (o : Outcome) → nat_lt (little_number 2 (little_bytes 2 (outcome_number o) ++ [])) 15 ≡ true
 outcome_below outcomes.Placed = refl
 outcome_below outcomes.Gone = refl
 outcome_below outcomes.Displaced = refl
@@ -127,14 +137,15 @@ outcome_below outcomes.CpuBusy = refl
 outcome_below outcomes.SeqSpent = refl
 outcome_below outcomes.HistoryFull = refl
 outcome_below outcomes.Malformed = refl
+outcome_below outcomes.GroupFailed = refl
 
 names_cpu : (k : ℕ) → k < 2 ^ 16 → (little_number 2 (little_bytes 2 k ++ []) == k) ≡ true
 names_cpu k lt = eq-eqb (little_number 2 (little_bytes 2 k ++ [])) k (reads 2 k (omega arith))
 
 spelling_passes : (k : ℕ) (z : SlotState) → k < 2 ^ 16 → passes k (slot_spelling k z) ≡ true
 spelling_passes k Idle lt = refl
-spelling_passes k (Stamped s) lt = λ i. flag_below s.preempt i && names_cpu k lt i && true && true
-spelling_passes k (Done s o at seen) lt = λ i. flag_below s.preempt i && names_cpu k lt i && outcome_below o i && true
+spelling_passes k (Stamped s) lt = λ i. flags_below s.preempt s.group i && names_cpu k lt i && true && true
+spelling_passes k (Done s o at seen) lt = λ i. flags_below s.preempt s.group i && names_cpu k lt i && outcome_below o i && true
 
 -- ---- the test by fields is the test for the spelling
 
@@ -240,7 +251,7 @@ stamp_numbers k xs s e =
 
 is_cpu : (o : Option ℕ) → IsCpuOrNone o → is_cpu_or_none o ≡ true
 is_cpu None h = refl
-is_cpu (Some c) h = lt-ltb c 64 h
+is_cpu (Some c) h = lt-ltb c 128 h
 
 -- a stamped slot after its transaction landed
 pub done_read : (k : ℕ) (old new : List ℕ) (s : Stamp) (o : Outcome) (at : Option ℕ) (seen : ℕ) → is_malformed o ≡ false → IsCpuOrNone at → seen < 2 ^ 32 → new ≡ done_bytes o at seen old → state_in k old ≡ Ok (Stamped s)

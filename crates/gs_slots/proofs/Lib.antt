@@ -4,5 +4,6 @@ mod Exact
 mod States
 mod Busy
 mod Filled
+mod Flags
 mod Rows
 pub mod Laws

@@ -1,6 +1,6 @@
 -- What is spelt in the bytes of a slot is read back from them.
-use Rattle.std.proofs.Common.{◌≡◌, Bool, true, false, cond, ℕ, ◌^◌, ◌<◌, Option, None, Some, List, [], ◌++◌, replicate, refl, ap, ◌∙◌, arith}
-use Rattle.std.specs.Prelude.{◌==◌, ◌&&◌, not, if◌then◌else◌, unwrap_or}
+use Rattle.std.proofs.Common.{◌≡◌, Bool, true, false, cond, ℕ, ◌+◌, ◌*◌, ◌%◌, ◌^◌, ◌<◌, Option, None, Some, List, [], ◌++◌, replicate, refl, ap, ◌∙◌, arith}
+use Rattle.std.specs.Prelude.{◌==◌, ◌&&◌, not, nat_le, if◌then◌else◌, unwrap_or}
 use Rattle.std.proofs.lemmas.Bool.{and_parts, ltb-true}
 use Rattle.std.proofs.lemmas.Bool.Decides.{nat_tests}
 use Rattle.byteorder.specs.Endian.{little_bytes, little_number}
@@ -21,11 +21,13 @@ use Rattle.gs_slots.specs.Spelling.{IsSpellableState, IsSpellableStamp, is_blank
 pub reads : (n x : ℕ) → x < 256 ^ n → little_number n (little_bytes n x ++ []) ≡ x
 reads n x lt = little_number-reads_back n x [] lt
 
-flag_back : (b : Bool) → ((if b then 1 else 0) == 1) ≡ b
-flag_back true = refl
-flag_back false = refl
+flags_back : (p g : Bool) → ((((if p then 1 else 0) + 2 * (if g then 1 else 0)) % 2 == 1) ≡ p) × (nat_le 2 ((if p then 1 else 0) + 2 * (if g then 1 else 0)) ≡ g)
+flags_back true true = (refl, refl)
+flags_back true false = (refl, refl)
+flags_back false true = (refl, refl)
+flags_back false false = (refl, refl)
 
-cpu_below : (c : ℕ) → c < 64 → cpu_numbered c ≡ Some c
+cpu_below : (c : ℕ) → c < 128 → cpu_numbered c ≡ Some c
 cpu_below c lt =
     let other : (c == 65535) ≡ false = grind (arith, nat_tests) in
     ap (λ (b : Bool). cond b None (Some c)) other
@@ -49,32 +51,34 @@ outcome_back outcomes.CpuBusy = refl
 outcome_back outcomes.SeqSpent = refl
 outcome_back outcomes.HistoryFull = refl
 outcome_back outcomes.Malformed = refl
+outcome_back outcomes.GroupFailed = refl
 
 stamp_back : (kind cpu : ℕ) (s : Stamp) (rest : List ℕ) → IsSpellableStamp s → stamp_in (stamp_bytes kind cpu s ++ rest) ≡ s
 stamp_back kind cpu s rest fits = λ i. record {
   generation = reads 4 s.generation fits.generation i;
   tid = reads 4 s.tid fits.tid i;
   tseq = reads 4 s.tseq fits.tseq i;
-  preempt = flag_back s.preempt i;
+  preempt = (flags_back s.preempt s.group).0 i;
+  group = (flags_back s.preempt s.group).1 i;
 }
 
 -- if a slot can hold a result, its CPU is one or none
-some_is_set : (a b c p d : Bool) → (a && b && c && not p && false && d) ≡ true → ⊥
-some_is_set a b c p d e =
-    let left = (and_parts (a && b && c && not p && false) d e).0 in
-    let none = (and_parts (a && b && c && not p) false left).1 in
+some_is_set : (a b c p g d : Bool) → (a && b && c && not p && not g && false && d) ≡ true → ⊥
+some_is_set a b c p g d e =
+    let left = (and_parts (a && b && c && not p && not g && false) d e).0 in
+    let none = (and_parts (a && b && c && not p && not g) false left).1 in
     cc
 
 none_of_blank : (s : Stamp) (at : Option ℕ) (seen : ℕ) → is_blank s at seen ≡ true → IsCpuOrNone at
 none_of_blank s None seen e = tt
-none_of_blank s (Some c) seen e = absurd (some_is_set (s.generation == 0) (s.tid == 0) (s.tseq == 0) s.preempt (seen == 0) e)
+none_of_blank s (Some c) seen e = absurd (some_is_set (s.generation == 0) (s.tid == 0) (s.tseq == 0) s.preempt s.group (seen == 0) e)
 
 pub cpu_of_result : (s : Stamp) (o : Outcome) (at : Option ℕ) (seen : ℕ) → is_result s o at seen ≡ true → IsCpuOrNone at
 cpu_of_result s o at seen e = by_outcome (is_malformed o) e
   where
     of_cpu : (q : Option ℕ) → is_cpu_or_none q ≡ true → IsCpuOrNone q
     of_cpu None e = tt
-    of_cpu (Some c) e = ltb-true c 64 e
+    of_cpu (Some c) e = ltb-true c 128 e
 
     by_outcome : (b : Bool) → cond b (is_blank s at seen) (is_cpu_or_none at) ≡ true → IsCpuOrNone at
     by_outcome true e = none_of_blank s at seen e

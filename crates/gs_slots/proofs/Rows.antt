@@ -9,10 +9,10 @@ use Rattle.gs_slots.specs.Spelling.{slot_spelling}
 use Rattle.gs_slots.specs.State.{Held, collected, finished, outcome_of, refused}
 
 abbrev first : Stamp
-first = record { generation = 1; tid = 1; tseq = 1; preempt = false }
+first = record { generation = 1; tid = 1; tseq = 1; preempt = false; group = false }
 
 abbrev greatest : Stamp
-greatest = record { generation = 4294967295; tid = 65536; tseq = 4294967294; preempt = true }
+greatest = record { generation = 4294967295; tid = 65536; tseq = 4294967294; preempt = true; group = true }
 
 -- stamped for CPU 1
 abbrev stamped_bytes : List ℕ
@@ -22,9 +22,9 @@ stamped_bytes = (1 ∷ 0 ∷ 1 ∷ 0 ∷ 1 ∷ 0 ∷ 0 ∷ 0 ∷ 1 ∷ 0 ∷ 0 �
 abbrev placed_bytes : List ℕ
 placed_bytes = (2 ∷ 0 ∷ 1 ∷ 0 ∷ 1 ∷ 0 ∷ 0 ∷ 0 ∷ 1 ∷ 0 ∷ 0 ∷ 0 ∷ 1 ∷ 0 ∷ 0 ∷ 0 ∷ 0 ∷ 0 ∷ 1 ∷ 0 ∷ 1 ∷ 0 ∷ 0 ∷ 0 ∷ []) ++ replicate 8 0
 
--- a transaction that preempts, on CPU 63, for which the journal had no room
+-- a transaction of a group that preempts, on CPU 127, for which the journal had no room
 abbrev full_bytes : List ℕ
-full_bytes = (2 ∷ 1 ∷ 63 ∷ 0 ∷ 255 ∷ 255 ∷ 255 ∷ 255 ∷ 0 ∷ 0 ∷ 1 ∷ 0 ∷ 254 ∷ 255 ∷ 255 ∷ 255 ∷ 12 ∷ 0 ∷ 255 ∷ 255 ∷ 254 ∷ 255 ∷ 255 ∷ 255 ∷ []) ++ replicate 8 0
+full_bytes = (2 ∷ 3 ∷ 127 ∷ 0 ∷ 255 ∷ 255 ∷ 255 ∷ 255 ∷ 0 ∷ 0 ∷ 1 ∷ 0 ∷ 254 ∷ 255 ∷ 255 ∷ 255 ∷ 12 ∷ 0 ∷ 255 ∷ 255 ∷ 254 ∷ 255 ∷ 255 ∷ 255 ∷ []) ++ replicate 8 0
 
 idle_spelt : slot_spelling 5 Idle ≡ replicate 32 0
 idle_spelt = refl
@@ -35,7 +35,7 @@ stamped_spelt = refl
 placed_spelt : slot_spelling 1 (Done first Placed (Some 1) 1) ≡ placed_bytes
 placed_spelt = refl
 
-full_spelt : slot_spelling 63 (Done greatest HistoryFull None 4294967294) ≡ full_bytes
+full_spelt : slot_spelling 127 (Done greatest HistoryFull None 4294967294) ≡ full_bytes
 full_spelt = refl
 
 -- CPU 1's slot after it landed malformed
@@ -57,7 +57,7 @@ placed_read : state_in 1 placed_bytes ≡ Ok (Done first Placed (Some 1) 1)
 unfolding state_in is_spelt
 placed_read = refl
 
-full_read : state_in 63 full_bytes ≡ Ok (Done greatest HistoryFull None 4294967294)
+full_read : state_in 127 full_bytes ≡ Ok (Done greatest HistoryFull None 4294967294)
 unfolding state_in is_spelt
 full_read = refl
 
@@ -65,7 +65,7 @@ refused_read : state_in 1 refused_bytes ≡ Ok refused
 unfolding state_in is_spelt
 refused_read = refl
 
--- malformed: another CPU's; all ones; a second flag; an outcome 14; a place 64; a byte behind the fields. Malformed too: an idle slot with a byte
+-- malformed: another CPU's; all ones; a third flag; an outcome 15; a place 128; a byte behind the fields. Malformed too: an idle slot with a byte
 -- set; a malformed landing of a thread
 abbrev malformed : Held
 malformed = Err (record {})
@@ -78,15 +78,15 @@ all_ones : state_in 1 (replicate 32 255) ≡ malformed
 unfolding state_in is_spelt
 all_ones = refl
 
-other_flag : state_in 1 (slice_set stamped_bytes 1 2) ≡ malformed
+other_flag : state_in 1 (slice_set stamped_bytes 1 4) ≡ malformed
 unfolding state_in is_spelt
 other_flag = refl
 
-other_outcome : state_in 1 (slice_set placed_bytes 16 14) ≡ malformed
+other_outcome : state_in 1 (slice_set placed_bytes 16 15) ≡ malformed
 unfolding state_in is_spelt
 other_outcome = refl
 
-other_place : state_in 1 (slice_set placed_bytes 18 64) ≡ malformed
+other_place : state_in 1 (slice_set placed_bytes 18 128) ≡ malformed
 unfolding state_in is_spelt
 other_place = refl
 

@@ -1,5 +1,5 @@
 -- What stands in the bytes of a slot.
-use Rattle.std.specs.Prelude.{Bool, ◌&&◌, ℕ, suc, ◌==◌, nat_eq, Ok, Err, List, [], ◌∷◌, map, slice_index, unwrap_or, if◌then◌else◌}
+use Rattle.std.specs.Prelude.{Bool, ◌&&◌, ℕ, suc, ◌==◌, ◌%◌, nat_eq, nat_le, Ok, Err, List, [], ◌∷◌, map, slice_index, unwrap_or, if◌then◌else◌}
 use Rattle.std.specs.Cmp.Lexicographic.{pointwise}
 use Rattle.gs_layout.specs.declared.outcome.Outcome.{Outcome}
 use Rattle.gs_layout.specs.declared.outcome.Outcome.TheVariants.{Malformed}
@@ -11,12 +11,17 @@ use Rattle.gs_slots.specs.declared.state.Stamp.{Stamp}
 use Rattle.gs_slots.specs.State.{Held}
 use Rattle.gs_slots.specs.Spelling.{can_hold, idle_bytes, slot_spelling}
 
+-- whether these bytes have the flag of a group, if they are a slot's
+abbrev pub is_flagged : List ℕ → Bool
+is_flagged bytes = nat_le 2 (slice_index bytes 1)
+
 abbrev pub stamp_in : List ℕ → Stamp
 stamp_in bytes = record {
   generation = number_at 4 4 bytes;
   tid = number_at 8 4 bytes;
   tseq = number_at 12 4 bytes;
-  preempt = slice_index bytes 1 == 1;
+  preempt = slice_index bytes 1 % 2 == 1;
+  group = is_flagged bytes;
 }
 
 abbrev pub outcome_in : List ℕ → Outcome

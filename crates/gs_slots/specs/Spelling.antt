@@ -1,5 +1,5 @@
 -- The bytes of a slot. All numbers are little-endian, and every byte that no field names is zero.
-use Rattle.std.specs.Prelude.{◌≡◌, Bool, true, not, ◌&&◌, ◌==◌, ℕ, ◌^◌, ◌<◌, nat_lt, Option, None, Some, is_none, List, [], ◌∷◌, ◌++◌, replicate, take, drop, slice_set, if◌then◌else◌}
+use Rattle.std.specs.Prelude.{◌≡◌, Bool, true, not, ◌&&◌, ◌==◌, ℕ, ◌+◌, ◌*◌, ◌^◌, ◌<◌, nat_lt, Option, None, Some, is_none, List, [], ◌∷◌, ◌++◌, replicate, take, drop, slice_set, if◌then◌else◌}
 use Rattle.byteorder.specs.Endian.{little_bytes}
 use Rattle.gs_status.specs.declared.mask.TheConstants.{MOST_CPUS}
 use Rattle.gs_layout.specs.declared.outcome.Outcome.{Outcome}
@@ -10,9 +10,9 @@ use Rattle.gs_slots.specs.declared.state.SlotState.TheVariants.{Idle, Stamped, D
 use Rattle.gs_slots.specs.declared.state.Stamp.{Stamp}
 use Rattle.gs_slots.specs.State.{is_malformed}
 
--- bit 0: whether a thread on the CPU is to give way
+-- bit 0: whether a thread on the CPU is to give way; bit 1: whether it is of a group
 abbrev pub flags_of : Stamp → ℕ
-flags_of s = if s.preempt then 1 else 0
+flags_of s = (if s.preempt then 1 else 0) + 2 * (if s.group then 1 else 0)
 
 -- the first 16 bytes of a slot that is not idle: 1 if it is stamped and 2 if it is done, and the transaction
 abbrev pub stamp_bytes : ℕ → ℕ → Stamp → List ℕ
@@ -39,7 +39,7 @@ idle_bytes = replicate 32 0
 
 -- whether the numbers of a transaction, and of what became of it, are all zero, and no CPU is named
 abbrev pub is_blank : Stamp → Option ℕ → ℕ → Bool
-is_blank s at seen = s.generation == 0 && s.tid == 0 && s.tseq == 0 && not s.preempt && is_none at && seen == 0
+is_blank s at seen = s.generation == 0 && s.tid == 0 && s.tseq == 0 && not s.preempt && not s.group && is_none at && seen == 0
 
 abbrev pub is_cpu_or_none : Option ℕ → Bool
 is_cpu_or_none None = true

@@ -15,6 +15,12 @@ abbrev pub is_stamped : SlotState → Bool
 is_stamped (Stamped s) = true
 is_stamped _ = false
 
+-- whether the transaction in a slot, landed or not, is one of a group
+abbrev pub is_grouped : SlotState → Bool
+is_grouped Idle = false
+is_grouped (Stamped s) = s.group
+is_grouped (Done s outcome at seen) = s.group
+
 -- whether a transaction that has not landed is read of a slot
 abbrev pub has_stamp : Held → Bool
 has_stamp (Ok z) = is_stamped z
@@ -36,7 +42,7 @@ is_malformed _ = false
 
 -- a transaction of which nothing is known
 abbrev pub no_stamp : Stamp
-no_stamp = record { generation = 0; tid = 0; tseq = 0; preempt = false }
+no_stamp = record { generation = 0; tid = 0; tseq = 0; preempt = false; group = false }
 
 -- what is left of a malformed slot once it landed: no transaction, and that it was malformed
 abbrev pub refused : SlotState

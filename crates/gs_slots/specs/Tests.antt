@@ -6,9 +6,9 @@ use Rattle.gs_layout.specs.Reading.{number_at}
 abbrev pub is_zero_at : ℕ → List ℕ → Bool
 is_zero_at place bytes = number_at place 8 bytes == 0
 
--- whether no flag but the first is set, and the CPU is k
+-- whether no flag but the first two is set, and the CPU is k
 abbrev pub is_of : ℕ → List ℕ → Bool
-is_of k bytes = nat_lt (slice_index bytes 1) 2 && number_at 2 2 bytes == k
+is_of k bytes = nat_lt (slice_index bytes 1) 4 && number_at 2 2 bytes == k
 
 abbrev pub is_idle : List ℕ → Bool
 is_idle bytes = is_zero_at 0 bytes && is_zero_at 8 bytes && is_zero_at 16 bytes && is_zero_at 24 bytes
@@ -17,7 +17,7 @@ abbrev pub is_stamp : ℕ → List ℕ → Bool
 is_stamp k bytes = is_of k bytes && is_zero_at 16 bytes && is_zero_at 24 bytes
 
 abbrev pub is_done : ℕ → List ℕ → Bool
-is_done k bytes = is_of k bytes && nat_lt (number_at 16 2 bytes) 14 && is_zero_at 24 bytes
+is_done k bytes = is_of k bytes && nat_lt (number_at 16 2 bytes) 15 && is_zero_at 24 bytes
 
 -- whether the fields of the slot of CPU k are right, and all other bytes zero
 abbrev pub passes : ℕ → List ℕ → Bool

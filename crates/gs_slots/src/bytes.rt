@@ -5,7 +5,7 @@ ghost use Rattle.gs_layout.specs.Spelling.{IsCpuOrNone};
 ghost use Rattle.gs_slots.specs.declared.state.SlotState.{SlotState};
 ghost use Rattle.gs_slots.specs.declared.state.Stamp.{Stamp};
 ghost use Rattle.gs_slots.specs.Spelling.{can_hold, done_bytes, is_blank, is_result, result_bytes, slot_spelling, stamp_bytes};
-ghost use Rattle.gs_slots.specs.Reading.{fields_in, outcome_in, stamp_in, state_in};
+ghost use Rattle.gs_slots.specs.Reading.{fields_in, is_flagged, outcome_in, stamp_in, state_in};
 ghost use Rattle.gs_slots.specs.Busy.{is_busy};
 ghost use Rattle.gs_slots.specs.State.{has_stamp, is_malformed, refused};
 ghost use Rattle.gs_slots.specs.Tests.{is_done, is_idle, is_of, is_stamp, is_zero_at, passes};
@@ -27,7 +27,15 @@ const DONE: u8 = 2;
 const RESULT: usize = 16;
 
 /// How many outcomes there are: their numbers are below it.
-const OUTCOMES: u16 = 14;
+const OUTCOMES: u16 = 15;
+
+/// Returns whether these bytes have the flag of a group, if they are a slot's.
+pub(crate) fn is_flagged(bytes: &[u8]) -> bool
+    requires { length bytes.now ≡ 32 }
+    ensures { result ≡ is_flagged bytes.now }
+{
+    2 <= bytes[1]
+}
 
 fn stamp_at(bytes: &[u8]) -> Stamp
     requires { length bytes.now ≡ 32 }
@@ -37,7 +45,8 @@ fn stamp_at(bytes: &[u8]) -> Stamp
         generation: u32_at(bytes, 4),
         tid: u32_at(bytes, 8),
         tseq: u32_at(bytes, 12),
-        preempt: bytes[1] == 1,
+        preempt: bytes[1] % 2 == 1,
+        group: is_flagged(bytes),
     }
 }
 
@@ -75,12 +84,12 @@ fn is_zero_at(place: usize, bytes: &[u8]) -> bool
     u64_at(bytes, place) == 0
 }
 
-/// Returns whether no flag but the first is set, and the CPU is this one.
+/// Returns whether no flag but the first two is set, and the CPU is this one.
 fn is_of(cpu: u16, bytes: &[u8]) -> bool
     requires { length bytes.now ≡ 32 }
     ensures { result ≡ is_of cpu bytes.now }
 {
-    bytes[1] < 2 && u16_at(bytes, 2) == cpu
+    bytes[1] < 4 && u16_at(bytes, 2) == cpu
 }
 
 fn is_idle(bytes: &[u8]) -> bool
@@ -146,6 +155,7 @@ fn is_blank(stamp: &Stamp, at: Option<u16>, seen: u32) -> bool
         && stamp.tid == 0
         && stamp.tseq == 0
         && !stamp.preempt
+        && !stamp.group
         && at.is_none()
         && seen == 0
 }
@@ -190,7 +200,7 @@ fn write_stamp(kind: u8, cpu: u16, stamp: &Stamp, out: &mut [u8])
     requires { 16 ≤ length out.old }
     ensures { out.new ≡ stamp_bytes kind cpu stamp.now ++ drop 16 out.old }
 {
-    out[..2].copy_from_slice(&[kind, u8::from(stamp.preempt)]);
+    out[..2].copy_from_slice(&[kind, u8::from(stamp.preempt) + 2 * u8::from(stamp.group)]);
     LittleEndian::write_u16(&mut out[2..], cpu);
     LittleEndian::write_u32(&mut out[4..], stamp.generation);
     LittleEndian::write_u32(&mut out[8..], stamp.tid);

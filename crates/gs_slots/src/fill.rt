@@ -22,6 +22,8 @@ pub struct Fill {
     pub tseq: u32,
     /// Whether a thread that is on the CPU is to give way.
     pub preempt: bool,
+    /// Whether it is placed only if all others of a commit that say so are placed.
+    pub group: bool,
 }
 
 /// Why not all slots were stamped.
@@ -130,6 +132,7 @@ fn fill_one(fill: &Fill, bytes: &mut [u8; 32]) -> Option<u16>
         fill.tid,
         fill.tseq,
         fill.preempt,
+        fill.group,
     );
     stamped.is_err().then_some(fill.cpu)
 }

@@ -1,15 +1,15 @@
-ghost use Rattle.std.specs.Prelude.{◌≡◌, ◌+◌, ◌<◌, ◌≤◌, ◌^◌, ◌||◌, ◌==◌, ℕ, length, replicate, slice_get, IfOk, Some};
+ghost use Rattle.std.specs.Prelude.{◌≡◌, ◌+◌, ◌<◌, ◌≤◌, ◌^◌, ◌||◌, ◌==◌, ℕ, List, length, replicate, slice_get, IfOk, Some, false};
 ghost use Rattle.std.specs.Borrow.{sem};
 ghost use Rattle.std.specs.List.{list_any};
 ghost use Rattle.gs_status.specs.Masks.{has};
-ghost use Rattle.gs_slots.specs.Busy.{CoversBusy, is_busy_at};
+ghost use Rattle.gs_slots.specs.Busy.{CoversBusy, HasNoFlag, is_busy_at, is_flagged_at};
 ghost use Rattle.gs_slots.specs.Lending.{LendsAll, LendsOne};
-ghost use Rattle.gs_slots.specs.Reading.{states_in};
+ghost use Rattle.gs_slots.specs.Reading.{is_flagged, states_in};
 ghost use Rattle.gs_slots.specs.SlotMut.{bytes_of, cpu_of};
 ghost use Rattle.gs_slots.specs.Spelling.{idle_bytes};
 ghost use Rattle.gs_slots.specs.State.{has_stamp};
 
-use crate::bytes::{SIZE, is_busy, state_at};
+use crate::bytes::{SIZE, is_busy, is_flagged, state_at};
 use crate::slot::SlotMut;
 use crate::slots::Slots;
 use crate::state::{Malformed, SlotState};
@@ -25,6 +25,8 @@ pub struct Region {
     blocks: Vec<[u8; 32]>,
     /// The CPUs below [`MOST_CPUS`] whose slots were lent since they were last seen to be idle.
     lent: Mask,
+    /// Whether a slot of a CPU below [`MOST_CPUS`] may have the flag of a group, as far as is known without a look.
+    flagged: bool,
 }
 
 impl Model for Region {
@@ -35,7 +37,7 @@ impl Model for Region {
 
     ghost view = { λ region. region.blocks.items };
 
-    ghost invariant = { λ region. IsRegion region.blocks.items region.lent };
+    ghost invariant = { λ region. IsRegion region.blocks.items region.lent region.flagged };
 }
 
 impl Region {
@@ -54,6 +56,7 @@ impl Region {
         Ok(Region {
             blocks,
             lent: Mask::none(),
+            flagged: false,
         })
     }
 
@@ -84,6 +87,24 @@ impl Region {
         state_at(cpu, self.bytes(cpu))
     }
 
+    /// Returns whether a slot of a CPU below [`MOST_CPUS`] may have the flag of a group. If none has, as
+    /// [`Region::busy`] saw them last, and none was lent since, that is `false`.
+    pub fn may_be_grouped(&self) -> bool
+        ensures { result ≡ false → HasNoFlag self.now }
+    {
+        let _ = &self.blocks;
+        self.flagged
+    }
+
+    /// Returns whether the slot of a CPU has the flag of a group, in bytes that need not be those of a slot: what is
+    /// in a slot without it is of no group.
+    pub fn is_flagged(&self, cpu: u16) -> bool
+        requires { cpu < length self.now }
+        ensures { (bytes : List ℕ) → slice_get self.now cpu ≡ Some bytes → result ≡ is_flagged bytes }
+    {
+        is_flagged(self.bytes(cpu))
+    }
+
     /// Lends the slot of a CPU. What is written to it is written to the region, and every other slot stays as
     /// it is.
     pub fn slot(&mut self, cpu: u16) -> SlotMut<'_>
@@ -93,6 +114,7 @@ impl Region {
         ensures cpu { cpu_of result ≡ cpu }
     {
         self.lent = with_lent(self.lent, cpu);
+        self.flagged = true;
         SlotMut::over(cpu, &mut self.blocks[cpu as usize])
     }
 
@@ -102,8 +124,10 @@ impl Region {
         ensures busy { (c : ℕ) → c < MOST_CPUS → has result c ≡ is_busy_at self.old c }
         ensures same { self.new ≡ self.old }
     {
-        self.lent = busy_of(self.lent, &self.blocks);
-        self.lent
+        let (busy, flagged) = busy_of(self.lent, &self.blocks);
+        self.lent = busy;
+        self.flagged = flagged;
+        busy
     }
 
     /// Returns whether a slot has a transaction that did not land yet.
@@ -119,6 +143,7 @@ impl Region {
     {
         clear_all(&mut self.blocks);
         self.lent = Mask::none();
+        self.flagged = false;
     }
 
     /// Lends all slots. What is written to them is written to the region.
@@ -128,6 +153,7 @@ impl Region {
         ensures first { result.first ≡ 0 }
     {
         self.lent = Mask::new(!0);
+        self.flagged = true;
         Slots {
             rest: &mut self.blocks,
             first: 0,
@@ -156,20 +182,34 @@ fn is_busy_at(blocks: &[[u8; 32]], cpu: u16) -> bool
     }
 }
 
-/// Returns the CPUs below [`MOST_CPUS`] whose slots are not idle. All of these are among those that were lent.
-fn busy_of(lent: Mask, blocks: &[[u8; 32]]) -> Mask
+/// Returns whether this was so, or there is a slot of a CPU and it has the flag of a group.
+fn or_flagged(flagged: bool, blocks: &[[u8; 32]], cpu: u16) -> bool
+    ensures { result ≡ (flagged || is_flagged_at blocks.now cpu) }
+{
+    match blocks.get(cpu as usize) {
+        Some(bytes) => flagged || is_flagged(bytes),
+        None => flagged,
+    }
+}
+
+/// Returns the CPUs below [`MOST_CPUS`] whose slots are not idle, and whether one of them may have the flag of a
+/// group. All that are not idle are among those that were lent.
+fn busy_of(lent: Mask, blocks: &[[u8; 32]]) -> (Mask, bool)
     requires { CoversBusy blocks.now lent }
-    ensures { (c : ℕ) → c < MOST_CPUS → has result c ≡ is_busy_at blocks.now c }
+    ensures busy { (c : ℕ) → c < MOST_CPUS → has result.0 c ≡ is_busy_at blocks.now c }
+    ensures single { result.1 ≡ false → HasNoFlag blocks.now }
 {
     let mut busy = lent;
+    let mut flagged = false;
     let mut left = lent;
     'looking: while let Some(cpu) = left.lowest() {
         if !is_busy_at(blocks, cpu) {
             busy = busy.without(cpu);
         }
+        flagged = or_flagged(flagged, blocks, cpu);
         left = left.without(cpu);
     }
-    busy
+    (busy, flagged)
 }
 
 /// Returns whether one of these slots has a transaction that did not land yet. The first of them is that of a

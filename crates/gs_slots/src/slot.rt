@@ -74,9 +74,16 @@ impl<'a> SlotMut<'a> {
     /// # Errors
     ///
     /// `SlotBusy` exactly if the slot is not idle. It stays as it is.
-    pub fn stamp(self, generation: u32, tid: u32, tseq: u32, preempt: bool) -> Result<(), SlotBusy>
+    pub fn stamp(
+        self,
+        generation: u32,
+        tid: u32,
+        tseq: u32,
+        preempt: bool,
+        group: bool,
+    ) -> Result<(), SlotBusy>
         ensures exact { IsOk result ↔ (state_of self.entry ≡ Ok SlotState.Idle) }
-        ensures stamped { OnOk result (state_in (cpu_of self.entry) (left_in self.exit) ≡ Ok (SlotState.Stamped (record { generation = generation; tid = tid; tseq = tseq; preempt = preempt }))) }
+        ensures stamped { OnOk result (state_in (cpu_of self.entry) (left_in self.exit) ≡ Ok (SlotState.Stamped (record { generation = generation; tid = tid; tseq = tseq; preempt = preempt; group = group }))) }
         ensures busy { OnErr result (left_in self.exit ≡ bytes_of self.entry) }
     {
         let SlotMut { bytes, cpu } = self;
@@ -88,6 +95,7 @@ impl<'a> SlotMut<'a> {
             tid,
             tseq,
             preempt,
+            group,
         };
         write_stamped(cpu, &stamp, bytes);
         Ok(())

@@ -12,6 +12,8 @@ pub struct Stamp {
     pub tseq: u32,
     /// Whether a thread that is on the CPU is to give way.
     pub preempt: bool,
+    /// Whether it is placed only if all others of a commit that say so are placed.
+    pub group: bool,
 }
 
 impl Stamp {
@@ -21,6 +23,7 @@ impl Stamp {
         tid: 0,
         tseq: 0,
         preempt: false,
+        group: false,
     };
 }
 

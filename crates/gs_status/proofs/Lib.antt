@@ -1,3 +1,4 @@
+mod Halves
 mod Least
 mod Marking
 mod Masks

@@ -1,14 +1,14 @@
 -- A shift says which bits are left, and a bit that is set or cleared says which CPUs are in the mask.
 use Rattle.std.proofs.Common.{◌≡◌, ◌≢◌, ℕ, ◌+◌, ◌*◌, ◌^◌, ◌/◌, ◌%◌, ◌<◌, ◌≤◌, ◌⊎◌, inl, inr, Bool, true, false, zero, suc, ◌&&◌, None, Some, ap, ◌∙◌, sym, subst, refl, arith, min, w64}
-use Rattle.std.specs.Prelude.{nat_le, not, ◌==◌, bit_and}
+use Rattle.std.specs.Prelude.{nat_le, not, ◌==◌, bit_and, bit_or}
 use Rattle.std.specs.Int.{bit_at, bit_not, trailing_zeros}
 use Rattle.std.proofs.lemmas.Bool.{cases_lt}
 use Rattle.std.proofs.lemmas.Bool.Decides.{nat_tests}
-use Rattle.std.proofs.lemmas.Nat.{pow_pos}
+use Rattle.std.proofs.lemmas.Nat.{or_lt, pow_pos, pow-add}
 use Rattle.std.proofs.lemmas.Nat.Bits.{shr_and_one, bit_at-zero, bit_at_above, bit_at_and, bit_at_set_same, bit_at_set_other, bit_at_clear_same, bit_at_clear_other, bit_at-lt, bit_at-trailing_zeros}
-use Rattle.std.proofs.Math.Nat.{div-eq_of_lt, lt-div-mul-add}
+use Rattle.std.proofs.Math.Nat.{div-div-eq-div-mul, div-eq_of_lt, lt-div-mul-add, mod-lt}
 use Rattle.std.proofs.Math.Pow.{pow_mono}
-use Rattle.gs_status.specs.Masks.{has, has_none, has_past, least, with_bit}
+use Rattle.gs_status.specs.Masks.{has, has_none, has_past, least}
 use Rattle.gs_status.proofs.Least.{least_none, least_found}
 
 shifted_by : (n b : ℕ) → 0 < b → (n < b) ⊎ (b ≤ n) → not (n / b == 0) ≡ nat_le b n
@@ -31,26 +31,37 @@ shifted_by n b pos (inr l) =
 pub shifted_out : (n c : ℕ) → not (n / 2 ^ c == 0) ≡ has_past n c
 shifted_out n c = shifted_by n (2 ^ c) (pow_pos c) (cases_lt n (2 ^ c))
 
--- 64 bits are below each power from the 64th on
-below_past : (n c : ℕ) → n < 2 ^ 64 → 64 ≤ c → n < 2 ^ c
-below_past n c small past =
-    let p : 2 ^ 64 ≤ 2 ^ c = pow_mono past in
+-- a number of so many bits is below each power from there on
+below_past : (bits n c : ℕ) → n < 2 ^ bits → bits ≤ c → n < 2 ^ c
+below_past bits n c small past =
+    let p : 2 ^ bits ≤ 2 ^ c = pow_mono past in
     omega (arith, p, small)
 
-pub past_all : (n c : ℕ) → n < 2 ^ 64 → 64 ≤ c → has_past n c ≡ false
+pub past_all : (n c : ℕ) → n < 2 ^ 128 → 128 ≤ c → has_past n c ≡ false
 past_all n c small past =
-    let lt = below_past n c small past in
+    let lt = below_past 128 n c small past in
     grind (arith, nat_tests, lt)
 
-pub has_none_past : (n c : ℕ) → n < 2 ^ 64 → 64 ≤ c → has n c ≡ false
-has_none_past n c small past = ap (λ k. bit_and k 1 == 1) (div-eq_of_lt (below_past n c small past))
+-- a set of so many bits has nothing from there on
+none_past : (bits n c : ℕ) → n < 2 ^ bits → bits ≤ c → has n c ≡ false
+none_past bits n c small past = ap (λ k. bit_and k 1 == 1) (div-eq_of_lt (below_past bits n c small past))
+
+pub none_past_word : (n c : ℕ) → n < 2 ^ 64 → 64 ≤ c → has n c ≡ false
+none_past_word n c small past = none_past 64 n c small past
+
+pub has_none_past : (n c : ℕ) → n < 2 ^ 128 → 128 ≤ c → has n c ≡ false
+has_none_past n c small past = none_past 128 n c small past
+
+-- a shift moves each bit
+pub has_shifted : (n b c : ℕ) → has (n / 2 ^ b) c ≡ has n (b + c)
+has_shifted n b c = ap (λ k. bit_and k 1 == 1) (div-div-eq-div-mul n (2 ^ b) (2 ^ c) ∙ ap (λ k. n / k) (sym (pow-add 2 b c)))
 
 -- a CPU is in a mask if its bit is one
 pub has_by_bit : (n c : ℕ) → has n c ≡ (bit_at n c == 1)
 has_by_bit n c = ap (λ (k : ℕ). k == 1) (shr_and_one n c)
 
 -- two masks with the same bit
-has_same : (n m c : ℕ) → bit_at n c ≡ bit_at m c → has n c ≡ has m c
+pub has_same : (n m c : ℕ) → bit_at n c ≡ bit_at m c → has n c ≡ has m c
 has_same n m c e = has_by_bit n c ∙ (ap (λ (k : ℕ). k == 1) e ∙ sym (has_by_bit m c))
 
 -- a mask that has no CPU is zero
@@ -60,13 +71,20 @@ is_zero m none = grind (arith, nat_tests)
 pub nobody : (c : ℕ) → has 0 c ≡ false
 nobody c = has_by_bit 0 c ∙ ap (λ (k : ℕ). k == 1) (bit_at-zero c)
 
+-- a word with one bit more
+abbrev pub with_bit : ℕ → ℕ → ℕ
+with_bit n c = bit_or n (1 * 2 ^ c % 2 ^ 64)
+
+pub with_fits : (n c : ℕ) → n < 2 ^ 64 → with_bit n c < 2 ^ 64
+with_fits n c fits = or_lt 64 n (1 * 2 ^ c % 2 ^ 64) fits (mod-lt (1 * 2 ^ c) (pow_pos 64))
+
 pub with_here : (n c : ℕ) → c < 64 → has (with_bit n c) c ≡ true
 with_here n c within = has_by_bit (with_bit n c) c ∙ ap (λ (k : ℕ). k == 1) (bit_at_set_same w64 n c within)
 
 pub with_others : (n c : ℕ) → c < 64 → (i : ℕ) → i ≢ c → has (with_bit n c) i ≡ has n i
 with_others n c within i other = has_same (with_bit n c) n i (bit_at_set_other w64 n c within i other)
 
--- a mask with the bit of CPU c cleared
+-- a word with one bit cleared
 abbrev pub without_bit : ℕ → ℕ → ℕ
 without_bit n c = bit_and n (bit_not w64 (1 * 2 ^ c % 2 ^ 64))
 

@@ -19,7 +19,7 @@ blocked = refl
 on_the_first : packed (record { tseq = 0; cpu = Some 0; runnable = true; alive = true }) ≡ 0x0000070000000000
 on_the_first = refl
 
-on_the_last : packed (record { tseq = 3; cpu = Some 63; runnable = true; alive = true }) ≡ 0x0000073f00000003
+on_the_last : packed (record { tseq = 3; cpu = Some 127; runnable = true; alive = true }) ≡ 0x0000077f00000003
 on_the_last = refl
 
 -- the set of CPUs 0 and 2
@@ -32,10 +32,10 @@ has_not = refl
 has_upper : has 5 2 ≡ true
 has_upper = refl
 
-has_highest : has (2 ^ 63) 63 ≡ true
+has_highest : has (2 ^ 127) 127 ≡ true
 has_highest = refl
 
-has_beyond : has (2 ^ 63) 64 ≡ false
+has_beyond : has (2 ^ 127) 128 ≡ false
 has_beyond = refl
 
 past_two : has_past 4 2 ≡ true
@@ -44,21 +44,21 @@ past_two = refl
 below_two : has_past 3 2 ≡ false
 below_two = refl
 
-below_all : has_past (2 ^ 63) 64 ≡ false
+below_all : has_past (2 ^ 127) 128 ≡ false
 below_all = refl
 
 has_nobody : has_none 0 ≡ true
 has_nobody = refl
 
-has_somebody : has_none (2 ^ 63) ≡ false
+has_somebody : has_none (2 ^ 127) ≡ false
 has_somebody = refl
 
 -- the least CPU of a mask, and of those below 3
-least_of_six : least (has 6) 64 ≡ Some 1
+least_of_six : least (has 6) 128 ≡ Some 1
 unfolding least
 least_of_six = refl
 
-least_of_nobody : least (has 0) 64 ≡ None
+least_of_nobody : least (has 0) 128 ≡ None
 unfolding least
 least_of_nobody = refl
 
@@ -66,6 +66,6 @@ least_below_three : least (has 8) 3 ≡ None
 unfolding least
 least_below_three = refl
 
-least_highest : least (has (2 ^ 63)) 64 ≡ Some 63
+least_highest : least (has (2 ^ 127)) 128 ≡ Some 127
 unfolding least
 least_highest = refl

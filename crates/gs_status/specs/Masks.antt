@@ -1,6 +1,5 @@
 -- A mask is a set of CPUs: CPU c is in it if bit c is set.
-use Rattle.std.specs.Prelude.{Bool, true, false, ℕ, zero, suc, ◌^◌, ◌*◌, ◌/◌, ◌%◌, ◌==◌, nat_le, bit_and, bit_or, Option, None, Some}
-use Rattle.gs_status.specs.declared.mask.TheConstants.{MOST_CPUS}
+use Rattle.std.specs.Prelude.{Bool, true, false, ℕ, zero, suc, ◌^◌, ◌/◌, ◌==◌, nat_le, bit_and, Option, None, Some}
 
 -- whether a CPU is in a mask
 abbrev pub has : ℕ → ℕ → Bool
@@ -13,10 +12,6 @@ has_past mask cpus = nat_le (2 ^ cpus) mask
 -- whether a mask has no CPU
 abbrev pub has_none : ℕ → Bool
 has_none mask = mask == 0
-
--- a mask with the CPU c in it
-abbrev pub with_bit : ℕ → ℕ → ℕ
-with_bit mask c = bit_or mask (1 * 2 ^ c % 2 ^ MOST_CPUS)
 
 -- the number that was found, or else this one, if it passes
 abbrev pub found_or : Option ℕ → Bool → ℕ → Option ℕ

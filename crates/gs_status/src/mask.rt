@@ -1,34 +1,50 @@
 ghost use Rattle.std.specs.Prelude.{◌≡◌, ◌≢◌, ◌<◌, ◌≤◌, ◌&&◌, ◌||◌, ℕ, true, false, IfSome, IfNone};
 ghost use Rattle.gs_status.specs.Masks.{has, has_past, has_none, least};
 
+use crate::bit_word::{BitWord, WORD_BITS};
 use std::marker::Model;
 
-/// The most CPUs that there may be. They are numbered from 0, and a set of them is a word of 64 bits, one
-/// bit for each.
-pub const MOST_CPUS: u16 = 64;
+/// The most CPUs that there may be. They are numbered from 0, and a set of them is a number of 128 bits,
+/// one bit for each.
+pub const MOST_CPUS: u16 = 128;
 
 /// A set of CPUs: CPU c is in it if bit c is set. Clauses see it as its bits.
+///
+/// It is kept in two words, so that it is aligned to 8 bytes.
 #[derive(Clone, Copy, PartialEq, Eq, Debug)]
 pub struct Mask {
-    bits: u64,
+    /// The CPUs below [`WORD_BITS`].
+    low: BitWord,
+    /// Those from there on, each less [`WORD_BITS`].
+    high: BitWord,
 }
 
 impl Model for Mask {
-    ghost use Rattle.std.specs.Prelude.{ℕ};
+    ghost use Rattle.std.specs.Prelude.{ℕ, ◌+◌, ◌*◌, ◌/◌, ◌%◌, ◌^◌, ◌<◌};
+    ghost use Rattle.gs_status.specs.declared.bit_word.TheConstants.{WORD_BITS};
+    ghost use Rattle.std.proofs.lemmas.Nat.{div-mul-add, mod-mul-add};
 
     ghost Value = { ℕ };
 
-    ghost view = { λ m. m.bits };
+    ghost view = { λ m. m.high * 2 ^ WORD_BITS + m.low };
 
-    ghost inverse = { λ n. record { bits = n } };
+    ghost invariant = { λ m. m.low < 2 ^ WORD_BITS };
+
+    ghost inverse = { λ n. record { low = n % 2 ^ WORD_BITS; high = n / 2 ^ WORD_BITS } };
+
+    ghost inverse_ok = { λ m fits i. record { low = mod-mul-add m.high (2 ^ WORD_BITS) m.low fits i; high = div-mul-add m.high (2 ^ WORD_BITS) m.low fits i } };
 }
 
 impl Mask {
     /// Returns the set of these bits.
-    pub const fn new(bits: u64) -> Mask
+    #[tactic(auto, using(crate::proofs::Halves::halves_of))]
+    pub const fn new(bits: u128) -> Mask
         ensures { result ≡ bits }
     {
-        Mask { bits }
+        Mask {
+            low: BitWord::new((bits & u64::MAX as u128) as u64),
+            high: BitWord::new((bits >> WORD_BITS) as u64),
+        }
     }
 
     /// Returns the set of no CPU.
@@ -37,30 +53,36 @@ impl Mask {
         ensures bits { result ≡ 0 }
         ensures empty { (c : ℕ) → has result c ≡ false }
     {
-        Mask { bits: 0 }
+        Mask {
+            low: BitWord::none(),
+            high: BitWord::none(),
+        }
     }
 
     /// Returns the bits of the set: bit c is set if CPU c is in it.
-    pub const fn bits(self) -> u64
+    pub const fn bits(self) -> u128
         ensures { result ≡ self }
     {
-        self.bits
+        (self.high.bits() as u128) << WORD_BITS | self.low.bits() as u128
     }
 
     /// Returns whether no CPU is in the set.
+    #[tactic(auto, using(crate::proofs::Halves::empty_halves))]
     pub fn is_empty(self) -> bool
         ensures { result ≡ has_none self }
     {
-        self.bits == 0
+        self.low.is_empty() && self.high.is_empty()
     }
 
     /// Returns whether a CPU is in the set. No CPU from [`MOST_CPUS`] on is in any.
-    #[tactic(auto, using(crate::proofs::Masks::has_none_past))]
     pub fn has(self, cpu: u16) -> bool
         ensures { result ≡ has self cpu }
     {
-        let bits = self.bits;
-        cpu < MOST_CPUS && (bits >> cpu) & 1 == 1
+        if cpu < WORD_BITS {
+            self.low.has(cpu)
+        } else {
+            self.high.has(cpu - WORD_BITS)
+        }
     }
 
     /// Returns whether a CPU that is not below the count is in the set.
@@ -68,19 +90,26 @@ impl Mask {
     pub fn has_past(self, cpus: u16) -> bool
         ensures { result ≡ has_past self cpus }
     {
-        let bits = self.bits;
+        let bits = self.bits();
         cpus < MOST_CPUS && bits >> cpus != 0
     }
 
     /// Returns the set with one CPU more, or the same set if it has that CPU. The CPU is below [`MOST_CPUS`].
-    #[tactic(auto, using(crate::proofs::Masks::with_here, crate::proofs::Masks::with_others))]
     pub fn with(self, cpu: u16) -> Mask
         requires { cpu < MOST_CPUS }
         ensures here { has result cpu ≡ true }
         ensures others { (c : ℕ) → c ≢ cpu → has result c ≡ has self c }
     {
-        Mask {
-            bits: self.bits | 1 << cpu,
+        if cpu < WORD_BITS {
+            Mask {
+                low: self.low.with(cpu),
+                high: self.high,
+            }
+        } else {
+            Mask {
+                low: self.low,
+                high: self.high.with(cpu - WORD_BITS),
+            }
         }
     }
 
@@ -95,39 +124,46 @@ impl Mask {
     }
 
     /// Returns the set without a CPU, or the same set if it lacks that CPU. The CPU is below [`MOST_CPUS`].
-    #[tactic(auto, using(crate::proofs::Masks::without_here, crate::proofs::Masks::without_others))]
     pub fn without(self, cpu: u16) -> Mask
         requires { cpu < MOST_CPUS }
         ensures here { has result cpu ≡ false }
         ensures others { (c : ℕ) → c ≢ cpu → has result c ≡ has self c }
     {
-        Mask {
-            bits: self.bits & !(1 << cpu),
+        if cpu < WORD_BITS {
+            Mask {
+                low: self.low.without(cpu),
+                high: self.high,
+            }
+        } else {
+            Mask {
+                low: self.low,
+                high: self.high.without(cpu - WORD_BITS),
+            }
         }
     }
 
     /// Returns the set of the CPUs that are in both sets.
-    #[tactic(auto, using(crate::proofs::Masks::has_both))]
     pub fn both(self, other: Mask) -> Mask
         ensures { (c : ℕ) → has result c ≡ (has self c && has other c) }
     {
         Mask {
-            bits: self.bits & other.bits,
+            low: self.low.both(other.low),
+            high: self.high.both(other.high),
         }
     }
 
     /// Returns the least CPU of the set, or `None` if no CPU is in it.
-    #[tactic(auto, using(crate::proofs::Masks::least_of_none, crate::proofs::Masks::least_of_some, crate::proofs::Masks::lowest_within, crate::proofs::Masks::lowest_has))]
+    #[tactic(auto, using(crate::proofs::Halves::empty_halves))]
     pub fn lowest(self) -> Option<u16>
         ensures least { result ≡ least (has self) MOST_CPUS }
         ensures within { IfSome result (λ c. c < MOST_CPUS) }
         ensures is_in { IfSome result (λ c. has self c ≡ true) }
         ensures empty { IfNone result (has_none self ≡ true) }
     {
-        let bits = self.bits;
-        if bits == 0 {
-            return None;
+        if let Some(cpu) = self.low.lowest() {
+            return Some(cpu);
         }
-        Some(bits.trailing_zeros() as u16)
+        let cpu = self.high.lowest()?;
+        Some(cpu + WORD_BITS)
     }
 }

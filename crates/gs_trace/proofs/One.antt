@@ -26,7 +26,7 @@ use Rattle.gs_policy.specs.declared.choice.Choice.{Choice}
 use Rattle.gs_runq.specs.Queue.{order}
 use Rattle.gs_mind.specs.Mind.{picture_of}
 use Rattle.gs_mind.specs.Pages.{after_page}
-use Rattle.gs_mind.specs.Picture.{Picture, after_slots, after_stamp, takes_in_all}
+use Rattle.gs_mind.specs.Picture.{Picture, after_all, after_stamp, takes_in_all}
 use Rattle.gs_core.specs.Machine.{Attaches, Plan, State, Agent, crashed, freed_by, led, next_dump, page_of, page_reply, planned, planned_by, mind_of, picture, thinking, committed, fits, view, unread, is_idle, refusal, Serves, Step, Does, IsShort, Takes, Drains, carried, stamps, stamps_with, stamps_all, plan_of}
 use Rattle.gs_core.specs.declared.transaction.Transaction.{Transaction}
 use Rattle.gs_core.specs.Safe.{IsFaithful, Run}
@@ -36,7 +36,7 @@ use Rattle.gs_kernel.specs.declared.command.Command.{Command}
 use Rattle.gs_kernel.specs.declared.command.Command.TheVariants as commands
 use Rattle.gs_kernel.specs.Legal.{effect, last_in, refusal as kernel_refuses}
 use Rattle.gs_kernel.specs.Lands.{Lands}
-use Rattle.gs_core.proofs.Laws.{all_one, drop_drop, lands_one, tells_one}
+use Rattle.gs_core.proofs.Laws.{commit_one, drop_drop, lands_one, tells_one}
 use Rattle.gs_script.specs.declared.fault.ScriptFault.{ScriptFault}
 use Rattle.gs_trace.specs.declared.run.Ended.{Ended}
 use Rattle.gs_script.specs.Script.{Script, script_of}
@@ -102,7 +102,7 @@ one_refusal m a same events.Crash = refl
 one_refusal m a same (events.Begin p) = refl
 one_refusal m a same (events.Page max) = ap (λ o. unless_torn m.history (page_refusal m.history (is_none o))) same.page
 one_refusal m a same (Drain max) = refl
-one_refusal m a same (Stamp c t p) = ap (λ (x : Picture). stamp_refusal m c t x.view) same.pictured
+one_refusal m a same (Stamp c t p w) = ap (λ (x : Picture). stamp_refusal m c t x.view) same.pictured
 one_refusal m a same Decide = cc (one_plan m a same)
 one_refusal m a same (Commit mask) = refl
 one_refusal m a same (Late n) = refl
@@ -170,10 +170,10 @@ one_drain m a same max d e m' n' x y f g p q =
     }
 
 -- one stamp
-stamps_reply : (m : State) (a : Option Agent) (c t : ℕ) (p : Bool) (o : Option (ℕ × ℕ)) (k : Option Known) → (stamps_with (record m { agent = a }) c t p o k).0 ≡ (stamps_with m c t p o k).0
-stamps_reply m a c t p None k = refl
-stamps_reply m a c t p (Some b) None = refl
-stamps_reply m a c t p (Some b) (Some k) = refl
+stamps_reply : (m : State) (a : Option Agent) (c t : ℕ) (p w : Bool) (o : Option (ℕ × ℕ)) (k : Option Known) → (stamps_with (record m { agent = a }) c t p w o k).0 ≡ (stamps_with m c t p w o k).0
+stamps_reply m a c t p w None k = refl
+stamps_reply m a c t p w (Some b) None = refl
+stamps_reply m a c t p w (Some b) (Some k) = refl
 
 -- the agent after a stamp, if one is active and the view knows the thread
 stamped_agent : ℕ → ℕ → Option (ℕ × ℕ) → Option Known → Option Agent → Option Agent
@@ -181,26 +181,26 @@ stamped_agent c t (Some b) (Some k) a = option_map (thinking (after_stamp c t)) 
 stamped_agent c t (Some b) None a = a
 stamped_agent c t None k a = a
 
-stamps_left : (m : State) (a : Option Agent) (c t : ℕ) (p : Bool) (o : Option (ℕ × ℕ)) (k : Option Known)
-    → (stamps_with (record m { agent = a }) c t p o k).1 ≡ record ((stamps_with m c t p o k).1) { agent = stamped_agent c t o k a }
+stamps_left : (m : State) (a : Option Agent) (c t : ℕ) (p w : Bool) (o : Option (ℕ × ℕ)) (k : Option Known)
+    → (stamps_with (record m { agent = a }) c t p w o k).1 ≡ record ((stamps_with m c t p w o k).1) { agent = stamped_agent c t o k a }
 unfolding stamped_agent
-stamps_left m a c t p None k = refl
-stamps_left m a c t p (Some b) None = refl
-stamps_left m a c t p (Some b) (Some k) = refl
+stamps_left m a c t p w None k = refl
+stamps_left m a c t p w (Some b) None = refl
+stamps_left m a c t p w (Some b) (Some k) = refl
 
-stamps_same : (m : State) (a : Option Agent) (c t : ℕ) (p : Bool) (o : Option (ℕ × ℕ)) (k : Option Known) → Same a m.agent → Same (stamped_agent c t o k a) ((stamps_with m c t p o k).1).agent
+stamps_same : (m : State) (a : Option Agent) (c t : ℕ) (p w : Bool) (o : Option (ℕ × ℕ)) (k : Option Known) → Same a m.agent → Same (stamped_agent c t o k a) ((stamps_with m c t p w o k).1).agent
 unfolding stamped_agent
-stamps_same m a c t p None k same = same
-stamps_same m a c t p (Some b) None same = same
-stamps_same m a c t p (Some b) (Some k) same = same_thinks (after_stamp c t) a m.agent same
+stamps_same m a c t p w None k same = same
+stamps_same m a c t p w (Some b) None same = same
+stamps_same m a c t p w (Some b) (Some k) same = same_thinks (after_stamp c t) a m.agent same
 
-one_stamp : (m : State) (a : Option Agent) → Same a m.agent → (c t : ℕ) (p : Bool) (r r' : Reply) (m' n' : State) → Does m (Stamp c t p) r m' → Does (record m { agent = a }) (Stamp c t p) r' n' → One r r' m' n'
-one_stamp m a same c t p r r' m' n' x y =
+one_stamp : (m : State) (a : Option Agent) → Same a m.agent → (c t : ℕ) (p w : Bool) (r r' : Reply) (m' n' : State) → Does m (Stamp c t p w) r m' → Does (record m { agent = a }) (Stamp c t p w) r' n' → One r r' m' n'
+one_stamp m a same c t p w r r' m' n' x y =
     let o = active m.history in
-    let known : stamps (record m { agent = a }) c t p ≡ stamps_with (record m { agent = a }) c t p o (view m t) = ap (λ (z : Picture). stamps_with (record m { agent = a }) c t p o (z.view t)) same.pictured in
+    let known : stamps (record m { agent = a }) c t p w ≡ stamps_with (record m { agent = a }) c t p w o (view m t) = ap (λ (z : Picture). stamps_with (record m { agent = a }) c t p w o (z.view t)) same.pictured in
     record {
-      reply = x.0 ∙ sym (y.0 ∙ ap (λ z. z.0) known ∙ stamps_reply m a c t p o (view m t));
-      left = alike_at m' n' (stamps m c t p).1 (stamped_agent c t o (view m t) a) x.1 (y.1 ∙ ap (λ z. z.1) known ∙ stamps_left m a c t p o (view m t)) (stamps_same m a c t p o (view m t) same);
+      reply = x.0 ∙ sym (y.0 ∙ ap (λ z. z.0) known ∙ stamps_reply m a c t p w o (view m t));
+      left = alike_at m' n' (stamps m c t p w).1 (stamped_agent c t o (view m t) a) x.1 (y.1 ∙ ap (λ z. z.1) known ∙ stamps_left m a c t p w o (view m t)) (stamps_same m a c t p w o (view m t) same);
     }
 
 -- one decision: its stamps, one after another
@@ -208,11 +208,11 @@ stamps_alike : (m : State) (a : Option Agent) → Same a m.agent → (xs : List 
 stamps_alike m a same [] = (a, refl, same)
 stamps_alike m a same (x ∷ xs) =
     let o = active m.history in
-    let known : stamps (record m { agent = a }) x.cpu x.tid x.preempt ≡ stamps_with (record m { agent = a }) x.cpu x.tid x.preempt o (view m x.tid) =
-    ap (λ (z : Picture). stamps_with (record m { agent = a }) x.cpu x.tid x.preempt o (z.view x.tid)) same.pictured in
-    let left = ap (λ z. z.1) known ∙ stamps_left m a x.cpu x.tid x.preempt o (view m x.tid) in
+    let known : stamps (record m { agent = a }) x.cpu x.tid x.preempt false ≡ stamps_with (record m { agent = a }) x.cpu x.tid x.preempt false o (view m x.tid) =
+    ap (λ (z : Picture). stamps_with (record m { agent = a }) x.cpu x.tid x.preempt false o (z.view x.tid)) same.pictured in
+    let left = ap (λ z. z.1) known ∙ stamps_left m a x.cpu x.tid x.preempt false o (view m x.tid) in
     subst (λ (s : State). Alike (stamps_all m (x ∷ xs)) (stamps_all s xs)) (sym left)
-    (stamps_alike (stamps m x.cpu x.tid x.preempt).1 (stamped_agent x.cpu x.tid o (view m x.tid) a) (stamps_same m a x.cpu x.tid x.preempt o (view m x.tid) same) xs)
+    (stamps_alike (stamps m x.cpu x.tid x.preempt false).1 (stamped_agent x.cpu x.tid o (view m x.tid) a) (stamps_same m a x.cpu x.tid x.preempt false o (view m x.tid) same) xs)
 
 alike_ends : (m n x y : State) → m ≡ x → n ≡ y → Alike x y → Alike m n
 alike_ends m n x y e k alike = subst (λ (s : State). Alike s n) (sym e) (subst (λ (s : State). Alike x s) (sym k) alike)
@@ -240,8 +240,8 @@ one_late m a same n r r' m' n' x y =
 -- one commit
 one_commit : (m : State) (a : Option Agent) → Same a m.agent → (mask : ℕ) (r r' : Reply) (m' n' : State) → Does m (Commit mask) r m' → Does (record m { agent = a }) (Commit mask) r' n' → One r r' m' n'
 one_commit m a same mask r r' m' n' x y =
-    let made : x.made ≡ y.made = all_one m.ring m.consumed m.settings mask 0 m.slots m.history x.made y.made x.lands y.lands in
-    let think = after_slots 0 x.made.slots in
+    let made : x.made ≡ y.made = commit_one m.ring m.consumed m.settings mask m.slots m.history x.made y.made x.lands y.lands in
+    let think = after_all x.made.slots in
     record {
       reply = x.reply ∙ ((λ i. replies.Landed (made i).answers (torn (made i).history)) ∙ sym y.reply);
       left = alike_at m' n' (committed m x.made) (option_map (thinking think) a) x.left (y.left ∙ ap (committed (record m { agent = a })) (sym made)) (same_thinks think a m.agent same);
@@ -315,9 +315,9 @@ one_done m a same (Drain max) r r' m' n' (inl x) (inl y) g h p q =
     record { reply = x.1 ∙ o.reply ∙ sym y.1; left = o.left }
 one_done m a same (Drain max) r r' m' n' (inr x) y g h p q = absurd x.0
 one_done m a same (Drain max) r r' m' n' (inl x) (inr y) g h p q = absurd y.0
-one_done m a same (Stamp c t f) r r' m' n' (inl x) (inl y) g h p q = one_stamp m a same c t f r r' m' n' x y
-one_done m a same (Stamp c t f) r r' m' n' (inr x) y g h p q = absurd (refused_is r p x.0)
-one_done m a same (Stamp c t f) r r' m' n' (inl x) (inr y) g h p q = absurd (refused_is r' q y.0)
+one_done m a same (Stamp c t f w) r r' m' n' (inl x) (inl y) g h p q = one_stamp m a same c t f w r r' m' n' x y
+one_done m a same (Stamp c t f w) r r' m' n' (inr x) y g h p q = absurd (refused_is r p x.0)
+one_done m a same (Stamp c t f w) r r' m' n' (inl x) (inr y) g h p q = absurd (refused_is r' q y.0)
 one_done m a same Decide r r' m' n' (inl x) (inl y) g h p q = one_decide m a same r r' m' n' x y
 one_done m a same Decide r r' m' n' (inr x) y g h p q = absurd (refused_is r p x.0)
 one_done m a same Decide r r' m' n' (inl x) (inr y) g h p q = absurd (refused_is r' q y.0)

@@ -27,7 +27,7 @@ use Rattle.gs_lines.specs.Lines.{line}
 use Rattle.gs_trace.specs.Output.{IsOutput, any_plans}
 
 two : Config AnyPolicy
-two = record { cpus = 2; ring = 128; first_tseq = 0; first_generation = 1; history = 16777216; policy = policies.FirstCome (record {}) }
+two = record { cpus = 2; ring = 160; first_tseq = 0; first_generation = 1; history = 16777216; policy = policies.FirstCome (record {}) }
 
 -- a thread of both CPUs
 facts : List ℕ → Facts
@@ -60,11 +60,11 @@ seen_run =
     let g = kept_step _ (events.Kernel (commands.Tick 1)) (replies.Done (Posted (TimerTick 1))) _ (kept_start any_plans two) tt seen_tick in
     (after (TimerTick 1 ∷ []), seen_tick, kept_safe _ g, kept_faithful _ g, (after (TimerTick 1 ∷ []), seen_look, kept_safe _ g, kept_faithful _ g, refl))
 
-seen_written : IsOutput (codes "cpus 2 ring 128" ++ 10 ∷ codes "tick 1" ++ 10 ∷ codes "unread") Ran (line (codes "tick 1") ++ line (codes "unread tick 0 seq 0 cpu 1"))
+seen_written : IsOutput (codes "cpus 2 ring 160" ++ 10 ∷ codes "tick 1" ++ 10 ∷ codes "unread") Ran (line (codes "tick 1") ++ line (codes "unread tick 0 seq 0 cpu 1"))
 unfolding two digits
 seen_written = (refl, record { replies = seen; left = after (TimerTick 1 ∷ []); run = seen_run; sufficed = refl; shown = refl })
 
--- four creations of 32 bytes fill a ring of 128, the tick tears the enclave down, and what comes then is refused
+-- four creations of 40 bytes fill a ring of 160, the tick tears the enclave down, and what comes then is refused
 abbrev four : List Message
 four = made 1 (codes "a") ∷ made 2 (codes "b") ∷ made 3 (codes "c") ∷ made 4 (codes "d") ∷ []
 
@@ -110,7 +110,7 @@ torn_run =
 
 abbrev torn_script : List ℕ
 torn_script =
-    codes "cpus 2 ring 128"
+    codes "cpus 2 ring 160"
     ++ 10 ∷ codes "create 3 0 r a"
     ++ 10 ∷ codes "create 3 0 r b"
     ++ 10 ∷ codes "create 3 0 r c"

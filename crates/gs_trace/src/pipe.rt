@@ -17,17 +17,25 @@ const MOST_READS: usize = MOST_BYTES + 2;
 
 /// Why there is no input.
 #[derive(Clone, Copy, PartialEq, Eq, Debug)]
-pub(crate) enum InputError {
+pub enum InputError {
+    /// A read failed.
     Failed,
+    /// Out of memory.
     OutOfMemory,
 }
 
-/// A writer took no more.
+/// A writer took no more: a write failed, or took no byte.
 #[derive(Clone, Copy, PartialEq, Eq, Debug)]
-pub(crate) struct WriteFailed;
+pub struct WriteFailed;
 
-/// Reads all bytes that a reader has, or more than a script may have, but then at most `MOST_READ_BYTES`.
-pub(crate) fn read_all<R: Read>(alloc: Global, reader: &mut R) -> Result<Vec<u8>, InputError>
+/// Reads all bytes that a reader has, or more than a script may have, but then at most [`MOST_READ_BYTES`].
+///
+/// The reads end at the first that gives no byte, and are at most 1,048,578.
+///
+/// # Errors
+///
+/// `Failed` if a read fails, and `OutOfMemory` if out of memory. What was read until then is lost.
+pub fn read_all<R: Read>(alloc: Global, reader: &mut R) -> Result<Vec<u8>, InputError>
     ensures read { IfOk result (λ bytes. IsRead (R.remaining reader.old) (R.remaining reader.new) bytes.items) }
     ensures bounded { ConsumesAtMost MOST_READ_BYTES (R.remaining reader.old) (R.remaining reader.new) }
 {
@@ -50,8 +58,12 @@ pub(crate) fn read_all<R: Read>(alloc: Global, reader: &mut R) -> Result<Vec<u8>
     Ok(bytes)
 }
 
-/// Writes the bytes, or, if it fails, a beginning of them that is short of the whole.
-pub(crate) fn write_out<W: Write>(writer: &mut W, bytes: &[u8]) -> Result<(), WriteFailed>
+/// Writes the bytes.
+///
+/// # Errors
+///
+/// `WriteFailed` if a write fails or takes no byte: a beginning of the bytes was written, short of the whole.
+pub fn write_out<W: Write>(writer: &mut W, bytes: &[u8]) -> Result<(), WriteFailed>
     ensures ok { OnOk result (Appends (W.contents writer.old) (W.contents writer.new) bytes.now) }
     ensures err { OnErr result ((n : ℕ) × (n < length bytes.now) × Appends (W.contents writer.old) (W.contents writer.new) (take n bytes.now)) }
 {

@@ -16,7 +16,7 @@ use std::alloc::Global;
 /// The bytes of the ring, the most that one may have.
 const RING: usize = 1_048_576;
 
-/// So many creations wait at most until they are drained: their messages take half of the ring.
+/// So many creations wait at most until they are drained: their messages, of 40 bytes each, fit into the ring.
 const CREATIONS: u32 = 16_384;
 
 /// The most messages that are drained if only those of a round wait.
@@ -41,7 +41,7 @@ fn others(cpus: u16) -> Mask
     requires most { cpus ≤ MOST_CPUS }
     ensures { has result 0 ≡ false }
 {
-    Mask::new(u64::MAX >> (MOST_CPUS - cpus)).without(0)
+    Mask::new(u128::MAX >> (MOST_CPUS - cpus)).without(0)
 }
 
 impl Enclave {
@@ -97,7 +97,7 @@ impl Enclave {
     fn stamp(&mut self, choice: Choice) {
         if choice.cpu < self.region.cpus() {
             let slot = self.region.slot(choice.cpu);
-            let _ = self.role.stamp(slot, choice.tid, choice.preempt);
+            let _ = self.role.stamp(slot, choice.tid, choice.preempt, false);
         }
     }
 

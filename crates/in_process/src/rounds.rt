@@ -46,7 +46,7 @@ pub(crate) struct Size {
 }
 
 impl Size {
-    /// The numbers of rounds, of 1 to 65,536 threads and of 2 to 64 CPUs, `None` if that is not what the
+    /// The numbers of rounds, of 1 to 65,536 threads and of 2 to 128 CPUs, `None` if that is not what the
     /// words tell.
     pub(crate) fn told(rounds: &str, threads: &str, cpus: &str) -> Option<Size>
         ensures threads { IfSome result (λ size. 0 < size.threads) }

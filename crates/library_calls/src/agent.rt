@@ -1,6 +1,6 @@
 //! A role of an agent through drains, stamps, slots that land, and decisions.
 
-ghost use Rattle.std.specs.Prelude.{◌≡◌, ◌<◌, IfErr, IfOk, OnErr, OnOk, Some, length, slice_get, slice_set, true, ℕ, List};
+ghost use Rattle.std.specs.Prelude.{◌≡◌, ◌<◌, IfErr, IfOk, OnErr, OnOk, Some, length, slice_get, slice_set, true, false, ℕ, List};
 ghost use Rattle.gs_agent.specs.Role.{stamp_refusal};
 ghost use Rattle.gs_layout.specs.View.{look_up};
 ghost use Rattle.gs_mind.specs.Mind.{picture_of, thinks};
@@ -47,7 +47,7 @@ use Deed::{Collect, Land, Stamped};
 type SlotRow = (Deed, [SlotState; 3], Option<(u32, u32, u16)>);
 
 /// The mask of the CPUs that the other class holds, and what is decided then.
-type DecisionRow = (u64, Plan);
+type DecisionRow = (u128, Plan);
 
 const SEVENTH: Told = Creation(7, 5, Class::Zero, 3, "web");
 
@@ -145,6 +145,7 @@ const SEVENTH_STAMP: Stamp = Stamp {
     tid: 7,
     tseq: 5,
     preempt: true,
+    group: false,
 };
 
 const IDLE: SlotState = SlotState::Idle;
@@ -166,6 +167,7 @@ const NINTH_STAMPED: SlotState = SlotState::Stamped {
         tid: 9,
         tseq: 6,
         preempt: true,
+        group: false,
     },
 };
 
@@ -313,13 +315,13 @@ fn stamp_one(
     tid: u32,
 ) -> Result<Known, Refusal>
     requires { cpu < length region.old }
-    ensures ok { IfOk result (λ known. region.new ≡ slice_set region.old cpu (slot_spelling cpu (SlotState.Stamped (record { generation = role.old.generation; tid = tid; tseq = known.tseq; preempt = true })))) }
+    ensures ok { IfOk result (λ known. region.new ≡ slice_set region.old cpu (slot_spelling cpu (SlotState.Stamped (record { generation = role.old.generation; tid = tid; tseq = known.tseq; preempt = true; group = false })))) }
     ensures role { OnOk result (role.new ≡ record role.old { mind = thinks role.old.mind (after_stamp cpu tid (picture_of role.old.mind)) }) }
     ensures refused { IfErr result (λ refusal. (bytes : List ℕ) → slice_get region.old cpu ≡ Some bytes → stamp_refusal (look_up role.old.mind.records tid) (state_in cpu bytes) ≡ Some refusal) }
     ensures unchanged { OnErr result (region.new ≡ region.old) }
     ensures as_before { OnErr result (role.new ≡ role.old) }
 {
-    role.stamp(region.slot(cpu), tid, true)
+    role.stamp(region.slot(cpu), tid, true, false)
 }
 
 /// The number of what a stamp returns.

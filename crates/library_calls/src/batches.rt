@@ -14,7 +14,7 @@ use gs_ring::{ByteRing, Poster, Taker};
 use std::alloc::Global;
 
 /// A name with which a creation has 48 bytes.
-const LONG: &str = "abcdefghijklmnop";
+const LONG: &str = "abcdefghijklmn";
 
 const FIRST: Told = Creation(1, 1, Class::Zero, 3, LONG);
 

@@ -43,7 +43,7 @@ type BeliefRow = (Deed, Runner, Runner, bool);
 
 /// What is done, the mask of the CPUs that the other class holds, and what is so then. That is the masks of
 /// the usable and of the free CPUs, the thread that a stamp on CPU 2 names, and the agent's CPU.
-type MaskRow = (Deed, u64, u64, u64, Option<u32>, Option<u16>);
+type MaskRow = (Deed, u128, u128, u128, Option<u32>, Option<u16>);
 
 /// A thread is on one CPU, and its ticks begin anew when it is placed.
 const MOVES: [BeliefRow; 3] = [
@@ -190,7 +190,7 @@ fn first_wrong_belief(beliefs: &mut CpuBeliefs, rows: &[BeliefRow]) -> Option<us
 
 /// Whether just these of the three CPUs are usable, and just these are free, by each call that says so. The
 /// other class holds those of a mask.
-fn has_masks(beliefs: &CpuBeliefs, taken: Mask, usable: u64, free: u64) -> bool {
+fn has_masks(beliefs: &CpuBeliefs, taken: Mask, usable: u128, free: u128) -> bool {
     beliefs.usable(taken).bits() == usable
         && beliefs.free(taken).bits() == free
         && (0..4).all(|cpu| beliefs.is_usable(taken, cpu) == Mask::new(usable).has(cpu))
@@ -259,18 +259,18 @@ fn try_stamped(alloc: Global) -> Tried {
     tried_masks(alloc, &STAMPED)
 }
 
-/// Whether nothing is believed yet of 64 CPUs, while the agent attaches.
+/// Whether nothing is believed yet of 128 CPUs, while the agent attaches.
 fn is_blank(beliefs: &CpuBeliefs) -> bool {
-    beliefs.cpus() == 64
+    beliefs.cpus() == 128
         && beliefs.agent().is_none()
-        && beliefs.believed(63).is_none()
-        && beliefs.stamp_on(63).is_none()
-        && beliefs.free(Mask::none()).bits() == u64::MAX
+        && beliefs.believed(127).is_none()
+        && beliefs.stamp_on(127).is_none()
+        && beliefs.free(Mask::none()).bits() == u128::MAX
 }
 
 /// Whether that is so at the beginning.
 fn begins_blank(alloc: Global) -> bool {
-    match CpuBeliefs::new(alloc, 64, None) {
+    match CpuBeliefs::new(alloc, 128, None) {
         Ok(beliefs) => is_blank(&beliefs),
         Err(_) => false,
     }

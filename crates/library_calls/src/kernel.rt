@@ -23,7 +23,7 @@ type Shown = (u32, u32, Option<u16>);
 #[derive(Clone, Copy)]
 enum Deed {
     /// A runnable thread that may run on these CPUs is created.
-    Create(u64),
+    Create(u128),
     /// Something happens to a thread.
     Thread(u32, ThreadEvent),
     /// The agent that attaches becomes active on a CPU.
@@ -178,7 +178,7 @@ const LAST_PAGE: [Row; 11] = [
     ),
     (Dump(4, 9, &[], None), Refused(Refusal::NotAttaching), PAGED),
     (Activate(3), Refused(Refusal::BadCpu), PAGED),
-    (Activate(64), Refused(Refusal::BadCpu), PAGED),
+    (Activate(128), Refused(Refusal::BadCpu), PAGED),
     (Serve(Command::Take { cpu: 0 }), OtherClass, PAGED),
     (Activate(0), Refused(Refusal::CpuTaken), PAGED),
     (Create(7), Posted(7, 5), PAGED),
@@ -277,7 +277,7 @@ fn came_of(answer: &Answer) -> Came {
     }
 }
 
-fn create(kernel: &mut Kernel<ByteRing>, mask: u64) -> Option<Came> {
+fn create(kernel: &mut Kernel<ByteRing>, mask: u128) -> Option<Came> {
     let facts = Facts {
         runnable: true,
         mask: Mask::new(mask),
@@ -312,6 +312,7 @@ fn run(kernel: &mut Kernel<ByteRing>, cpu: u16, tid: u32, tseq: u32) -> Option<C
         tid,
         tseq,
         preempt: false,
+        group: false,
     };
     match kernel.land_stamp(cpu, &stamp) {
         Ok(landing) if landing.outcome == Outcome::Placed => Some(Placed),
@@ -427,7 +428,7 @@ fn try_no_threads(alloc: Global) -> Tried {
 }
 
 fn try_full(alloc: Global) -> Tried {
-    tried(alloc, 128, &FULL)
+    tried(alloc, 160, &FULL)
 }
 
 /// The first row of each table that comes out otherwise, of a kernel that goes through them in order.

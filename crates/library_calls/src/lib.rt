@@ -10,6 +10,8 @@ mod beliefs;
 #[cfg(test)]
 mod dump;
 #[cfg(test)]
+mod groups;
+#[cfg(test)]
 mod journal;
 #[cfg(test)]
 mod kernel;

@@ -32,7 +32,7 @@ impl Tried {
 #[derive(Clone, Copy)]
 pub(crate) enum Told {
     /// A runnable thread is created: its tid, its number, its class, its mask and its name.
-    Creation(u32, u32, Class, u64, &'static str),
+    Creation(u32, u32, Class, u128, &'static str),
     /// What happened to a thread, of this tid, at this number.
     Thread(u32, u32, Change),
     /// The timer of a CPU ticked.
@@ -55,7 +55,7 @@ impl Told {
 }
 
 /// The creation of a runnable thread of this class, mask and name.
-pub(crate) fn creation(class: Class, mask: u64, name: &str) -> Option<Change> {
+pub(crate) fn creation(class: Class, mask: u128, name: &str) -> Option<Change> {
     let facts = Facts {
         runnable: true,
         mask: Mask::new(mask),

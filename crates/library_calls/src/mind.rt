@@ -38,7 +38,7 @@ type Runner = Option<(u32, u32, u16)>;
 type Row = (Deed, &'static [u32], Runner, Option<u32>);
 
 /// The mask of the CPUs that the other class holds, and what is planned then.
-type PlanRow = (u64, Plan);
+type PlanRow = (u128, Plan);
 
 const APPLIED: Result<Taken, ApplyFault> = Ok(Taken::Applied);
 
@@ -190,6 +190,7 @@ fn landed(tid: u32, outcome: Outcome, at: Option<u16>) -> SlotState {
             tid,
             tseq: 5,
             preempt: true,
+            group: false,
         },
         outcome,
         at,
@@ -252,7 +253,7 @@ fn first_unplanned<P: Counted>(
 }
 
 /// Whether nothing is known or believed yet, and just these CPUs are free.
-fn is_blank(mind: &Mind, free: u64) -> bool {
+fn is_blank(mind: &Mind, free: u128) -> bool {
     mind.view().is_empty()
         && is_order(mind.waiting(), &[])
         && runner(mind, 1).is_none()
@@ -261,7 +262,7 @@ fn is_blank(mind: &Mind, free: u64) -> bool {
 }
 
 /// Whether the mind of an agent on this CPU of three, `None` while it attaches, begins blank.
-fn begins_blank(alloc: Global, agent: Option<u16>, free: u64) -> bool {
+fn begins_blank(alloc: Global, agent: Option<u16>, free: u128) -> bool {
     match Mind::new(alloc, 3, agent) {
         Ok(mind) => is_blank(&mind, free),
         Err(_) => false,

@@ -3,7 +3,7 @@
 ghost use Rattle.gs_layout.specs.Spelling.{IsSpellable};
 
 use crate::agent::ring_with;
-use crate::dump::{GREATEST, NONE, NONE_YET, TWO, WEB};
+use crate::dump::{GREATEST, NONE, NONE_YET, TWO, WEB_ONE};
 use crate::messages::Told::{self, Creation};
 use crate::messages::Tried;
 use crate::plans::is_order;
@@ -18,7 +18,7 @@ use gs_runq::Walk;
 use gs_view::{AgentView, ApplyFault, Taken};
 use std::alloc::Global;
 
-/// Those who are believed to run on CPUs 0 and 63, by their tids, their numbers and their ticks.
+/// Those who are believed to run on CPUs 0 and 127, by their tids, their numbers and their ticks.
 type Runners = [Option<(u32, u32, u16)>; 2];
 
 /// The bytes of a page, and what is so once it is taken in. That is where the next one begins, and the
@@ -42,7 +42,7 @@ const EARLIER: [Told; 2] = [
     Creation(9, 6, Class::Zero, 3, "web"),
 ];
 
-/// Pages into those. Of thread 5 another number is known then, and other facts.
+/// Pages into those, of which one is in version 1. Of thread 5 another number is known then, and other facts.
 const ROWS: [Row; 6] = [
     (
         &TWO,
@@ -76,7 +76,7 @@ const ROWS: [Row; 6] = [
         [LAST, FIFTH],
     ),
     (
-        &WEB,
+        &WEB_ONE,
         None,
         &[
             (1, true, 1),
@@ -200,7 +200,7 @@ fn mind_takes(alloc: Global, mind: &mut Mind, row: &Row) -> bool {
     runs && is_so(
         mind.view(),
         mind.waiting(),
-        [mind_runner(mind, 0), mind_runner(mind, 63)],
+        [mind_runner(mind, 0), mind_runner(mind, 127)],
         row,
     )
 }
@@ -215,7 +215,7 @@ fn role_takes(alloc: Global, role: &mut Role<TwoClass>, row: &Row) -> bool {
         && is_so(
             role.view(),
             role.waiting(),
-            [role_runner(role, 0), role_runner(role, 63)],
+            [role_runner(role, 0), role_runner(role, 127)],
             row,
         )
 }
@@ -267,7 +267,7 @@ fn tried_mind(alloc: Global, mind: &mut Mind) -> Tried {
 }
 
 fn try_mind(alloc: Global) -> Tried {
-    match Mind::new(alloc, 64, None) {
+    match Mind::new(alloc, 128, None) {
         Ok(mut mind) => tried_mind(alloc, &mut mind),
         Err(_) => Tried::NotMade,
     }
@@ -287,7 +287,7 @@ fn tried_role(alloc: Global, role: &mut Role<TwoClass>) -> Tried {
 
 /// What comes of the table, and the policy that the role gives back.
 fn try_role(alloc: Global) -> (Tried, Option<TwoClass>) {
-    match Role::attach(alloc, TwoClass { slice: 7 }, 64, 8) {
+    match Role::attach(alloc, TwoClass { slice: 7 }, 128, 8) {
         Ok(mut role) => {
             let tried = tried_role(alloc, &mut role);
             (tried, Some(role.retire()))

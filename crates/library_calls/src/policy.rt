@@ -26,7 +26,7 @@ const TWO_TICKS: TwoClass = TwoClass { slice: 2 };
 struct Row {
     /// The classes of threads 1 and 2, and the mask that both have.
     classes: (Class, Class),
-    mask: u64,
+    mask: u128,
     /// Who waits, and in which class of the queue.
     waits: &'static [(u32, Class)],
     cpus: u16,
@@ -35,7 +35,7 @@ struct Row {
     /// The thread that a stamp on CPU 1 names.
     stamped: Option<u32>,
     /// The CPUs that the other class holds.
-    taken: u64,
+    taken: u128,
     first_come: Plan,
     /// The plan of two classes with a slice of two ticks.
     two_class: Plan,
@@ -118,12 +118,12 @@ const ROWS: [Row; 11] = [
     // CPU 1 is stamped, and CPU 2 is the only one that the other class does not hold.
     Row {
         classes: (Class::Zero, Class::Zero),
-        mask: u64::MAX,
+        mask: u128::MAX,
         waits: &[(1, Class::Zero), (2, Class::Zero)],
-        cpus: 64,
+        cpus: 128,
         ticks: None,
         stamped: Some(9),
-        taken: 0xffff_ffff_ffff_fffb,
+        taken: 0xffff_ffff_ffff_ffff_ffff_ffff_ffff_fffb,
         first_come: &[(2, 1, false)],
         two_class: &[(2, 1, false)],
         first_only: &[(2, 1, false)],

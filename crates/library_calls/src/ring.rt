@@ -30,13 +30,16 @@ use Deed::{Need, Post, Take};
 type Row = (Deed, usize, usize, Option<(u32, Option<u16>)>);
 
 /// A name with which a creation has 48 bytes.
-const LONG: &str = "abcdefghijklmnop";
+const LONG: &str = "abcdefghijklmn";
 
 const FIRST: Told = Creation(1, 1, Class::Zero, 3, LONG);
 
 const SECOND: Told = Creation(2, 1, Class::Zero, 3, LONG);
 
 const THIRD: Told = Creation(3, 1, Class::Zero, 3, LONG);
+
+/// One that has 56 bytes.
+const LONGEST: Told = Creation(3, 1, Class::Zero, 3, "abcdefghijklmnop");
 
 /// In a ring of 128 bytes: behind the first two creations the third would lie over the end of the block.
 const ROUND_THE_END: [Row; 6] = [
@@ -47,6 +50,28 @@ const ROUND_THE_END: [Row; 6] = [
     (Need(48, 80), 128, 0, None),
     // A PAD stands in the 32 bytes up to the end.
     (Post(THIRD, true), 48, 1, Some((3, None))),
+];
+
+/// In a ring of 128 bytes: the longest creation stands behind the longest PAD, which is of 48 bytes. They have 104
+/// together, the most that a post may add.
+const BEHIND_THE_LONGEST_PAD: [Row; 7] = [
+    (
+        Post(Creation(1, 1, Class::Zero, 3, ""), true),
+        88,
+        1,
+        Some((1, None)),
+    ),
+    (
+        Post(Creation(2, 1, Class::Zero, 3, ""), true),
+        48,
+        2,
+        Some((1, None)),
+    ),
+    (Take(1, 1), 88, 1, Some((2, None))),
+    (Post(LONGEST, false), 88, 1, Some((2, None))),
+    (Take(1, 1), 128, 0, None),
+    (Need(56, 104), 128, 0, None),
+    (Post(LONGEST, true), 24, 1, Some((3, None))),
 ];
 
 /// Eight ticks of 16 bytes fill a ring of 128 to the last byte.
@@ -75,8 +100,8 @@ const TWO_WAIT: [Row; 4] = [
 /// The bytes of the creation of thread 3.
 const THIRD_BYTES: [u8; 48] = [
     0x30, 0x00, 0x01, 0x00, 0x03, 0x00, 0x00, 0x00, 0x01, 0x00, 0x00, 0x00, 0xff, 0xff, 0x01, 0x00,
-    0x03, 0x00, 0x00, 0x00, 0x00, 0x00, 0x00, 0x00, 0x00, 0x10, 0x61, 0x62, 0x63, 0x64, 0x65, 0x66,
-    0x67, 0x68, 0x69, 0x6a, 0x6b, 0x6c, 0x6d, 0x6e, 0x6f, 0x70, 0x00, 0x00, 0x00, 0x00, 0x00, 0x00,
+    0x03, 0x00, 0x00, 0x00, 0x00, 0x00, 0x00, 0x00, 0x00, 0x00, 0x00, 0x00, 0x00, 0x00, 0x00, 0x00,
+    0x00, 0x0e, 0x61, 0x62, 0x63, 0x64, 0x65, 0x66, 0x67, 0x68, 0x69, 0x6a, 0x6b, 0x6c, 0x6d, 0x6e,
 ];
 
 /// A PAD of 32 bytes.
@@ -273,6 +298,13 @@ fn try_to_the_last_byte(alloc: Global) -> Tried {
     }
 }
 
+fn try_longest_pad(alloc: Global) -> Tried {
+    match ByteRing::new(alloc, 128) {
+        Ok(mut ring) => Tried::with(first_wrong(&mut ring, &BEHIND_THE_LONGEST_PAD)),
+        Err(_) => Tried::NotMade,
+    }
+}
+
 fn try_several_laps(alloc: Global) -> Option<u32> {
     match ByteRing::new(alloc, 136) {
         Ok(mut ring) => first_stuck(&mut ring),
@@ -307,11 +339,12 @@ fn round_the_end(alloc: Global) -> Option<(Tried, bool)> {
 #[test]
 fn posts_and_takes(rt: HostRuntime) {
     let last_byte = try_to_the_last_byte(rt.alloc());
+    let longest_pad = try_longest_pad(rt.alloc());
     let stuck = try_several_laps(rt.alloc());
     let round = round_the_end(rt.alloc());
     assert_eq!(rt;
-        (last_byte, stuck, round),
-        (Tried::Well, None, Some((Tried::Well, true)))
+        (last_byte, longest_pad, stuck, round),
+        (Tried::Well, Tried::Well, None, Some((Tried::Well, true)))
     );
 }
 

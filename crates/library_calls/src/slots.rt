@@ -22,23 +22,23 @@ use std::thread::{Threads, join_mut};
 fn stamp_one(region: &mut Region, cpu: u16, tid: u32) -> Result<(), SlotBusy>
     requires { cpu < length region.old }
     ensures exact { (bytes : List ℕ) → slice_get region.old cpu ≡ Some bytes → state_in cpu bytes ≡ Ok SlotState.Idle → IsOk result }
-    ensures ok { OnOk result (region.new ≡ slice_set region.old cpu (slot_spelling cpu (SlotState.Stamped (record { generation = 1; tid = tid; tseq = 2; preempt = false })))) }
+    ensures ok { OnOk result (region.new ≡ slice_set region.old cpu (slot_spelling cpu (SlotState.Stamped (record { generation = 1; tid = tid; tseq = 2; preempt = false; group = false })))) }
     ensures busy { OnErr result (region.new ≡ region.old) }
 {
-    region.slot(cpu).stamp(1, tid, 2, false)
+    region.slot(cpu).stamp(1, tid, 2, false, false)
 }
 
 /// A transaction is stamped into a slot that is idle.
 fn stamp_in(cpu: u16, bytes: &mut [u8; 32], tid: u32)
-    ensures { state_in cpu bytes.old ≡ Ok SlotState.Idle → state_in cpu bytes.new ≡ Ok (SlotState.Stamped (record { generation = 1; tid = tid; tseq = 2; preempt = true })) }
+    ensures { state_in cpu bytes.old ≡ Ok SlotState.Idle → state_in cpu bytes.new ≡ Ok (SlotState.Stamped (record { generation = 1; tid = tid; tseq = 2; preempt = true; group = false })) }
 {
-    let _ = SlotMut::over(cpu, bytes).stamp(1, tid, 2, true);
+    let _ = SlotMut::over(cpu, bytes).stamp(1, tid, 2, true, false);
 }
 
 /// Lends two slots together, and writes the second before the first.
 #[tactic(auto, using(crate::proofs::Stamps::two_read))]
 fn stamp_two(region: &mut Region)
-    ensures { (a b : List ℕ) (rest : List (List ℕ)) → state_in 0 a ≡ Ok SlotState.Idle → state_in 1 b ≡ Ok SlotState.Idle → region.old ≡ a ∷ b ∷ rest → states_in 0 region.new ≡ Ok (SlotState.Stamped (record { generation = 1; tid = 8; tseq = 2; preempt = true })) ∷ Ok (SlotState.Stamped (record { generation = 1; tid = 9; tseq = 2; preempt = true })) ∷ states_in 2 rest }
+    ensures { (a b : List ℕ) (rest : List (List ℕ)) → state_in 0 a ≡ Ok SlotState.Idle → state_in 1 b ≡ Ok SlotState.Idle → region.old ≡ a ∷ b ∷ rest → states_in 0 region.new ≡ Ok (SlotState.Stamped (record { generation = 1; tid = 8; tseq = 2; preempt = true; group = false })) ∷ Ok (SlotState.Stamped (record { generation = 1; tid = 9; tseq = 2; preempt = true; group = false })) ∷ states_in 2 rest }
 {
     let Slots { rest, first: _ } = region.lend();
     if let Some((low, rest)) = Slots::next(rest) {
@@ -147,6 +147,7 @@ fn stamp_of(tid: u32, preempt: bool) -> Stamp {
         tid,
         tseq: 2,
         preempt,
+        group: false,
     }
 }
 
@@ -321,7 +322,7 @@ fn collects_in_two_threads(rt: HostRuntime) {
 
 /// Whether a new region has so many slots, all idle.
 fn is_opened_idle(alloc: Global, cpus: u16) -> bool {
-    let idle = [SlotState::Idle; 64];
+    let idle = [SlotState::Idle; 128];
     match (Region::new(alloc, cpus), idle.get(..cpus as usize)) {
         (Ok(region), Some(wanted)) => holds(&region, wanted),
         _ => false,
@@ -330,7 +331,7 @@ fn is_opened_idle(alloc: Global, cpus: u16) -> bool {
 
 /// The first count of CPUs for which a new region is otherwise.
 fn first_not_idle(alloc: Global) -> Option<u16> {
-    for cpus in [0, 1, 2, 64] {
+    for cpus in [0, 1, 2, 128] {
         if !is_opened_idle(alloc, cpus) {
             return Some(cpus);
         }
@@ -349,6 +350,7 @@ const FIRST: Stamp = Stamp {
     tid: 1,
     tseq: 1,
     preempt: false,
+    group: false,
 };
 
 /// [`FIRST`] in the slot of CPU 1.
@@ -367,6 +369,7 @@ const UNLIKE: Stamp = Stamp {
     tid: 258,
     tseq: 5,
     preempt: true,
+    group: false,
 };
 
 /// [`UNLIKE`] in the slot of CPU 1.
@@ -378,6 +381,39 @@ const UNLIKE_STAMPED: [u8; 32] = [
 const UNLIKE_STALE: [u8; 32] = [
     2, 1, 1, 0, 3, 0, 0, 0, 2, 1, 0, 0, 5, 0, 0, 0, 4, 0, 255, 255, 3, 1, 0, 0, 0, 0, 0, 0, 0, 0,
     0, 0,
+];
+
+/// The same of a group, without and with the flag that it preempts.
+const GROUPED: Stamp = Stamp {
+    preempt: false,
+    group: true,
+    ..UNLIKE
+};
+
+const BOTH: Stamp = Stamp {
+    group: true,
+    ..UNLIKE
+};
+
+/// [`GROUPED`] in the slot of CPU 1.
+const GROUPED_STAMPED: [u8; 32] = [
+    1, 2, 1, 0, 3, 0, 0, 0, 2, 1, 0, 0, 5, 0, 0, 0, 0, 0, 0, 0, 0, 0, 0, 0, 0, 0, 0, 0, 0, 0, 0, 0,
+];
+
+/// The same after it failed with its group.
+const GROUP_FAILED: [u8; 32] = [
+    2, 2, 1, 0, 3, 0, 0, 0, 2, 1, 0, 0, 5, 0, 0, 0, 14, 0, 255, 255, 5, 0, 0, 0, 0, 0, 0, 0, 0, 0,
+    0, 0,
+];
+
+/// [`BOTH`] in the slot of CPU 1.
+const BOTH_STAMPED: [u8; 32] = [
+    1, 3, 1, 0, 3, 0, 0, 0, 2, 1, 0, 0, 5, 0, 0, 0, 0, 0, 0, 0, 0, 0, 0, 0, 0, 0, 0, 0, 0, 0, 0, 0,
+];
+
+/// The same after it was placed.
+const BOTH_PLACED: [u8; 32] = [
+    2, 3, 1, 0, 3, 0, 0, 0, 2, 1, 0, 0, 5, 0, 0, 0, 0, 0, 1, 0, 5, 0, 0, 0, 0, 0, 0, 0, 0, 0, 0, 0,
 ];
 
 /// What is called on a slot.
@@ -410,7 +446,7 @@ fn finish(slot: SlotMut<'_>, outcome: Outcome, at: Option<u16>, seen: u32) -> bo
 fn is_called(slot: SlotMut<'_>, call: &Call) -> bool {
     match call {
         Call::Stamp(it) => slot
-            .stamp(it.generation, it.tid, it.tseq, it.preempt)
+            .stamp(it.generation, it.tid, it.tseq, it.preempt, it.group)
             .is_ok(),
         Call::Finish { outcome, at, seen } => finish(slot, *outcome, *at, *seen),
         Call::Clear => {
@@ -421,7 +457,7 @@ fn is_called(slot: SlotMut<'_>, call: &Call) -> bool {
 }
 
 /// A call on the slot of CPU 1, what is in the slot then, and its bytes.
-const CALLS: [(Call, SlotState, [u8; 32]); 7] = [
+const CALLS: [(Call, SlotState, [u8; 32]); 13] = [
     (
         Call::Stamp(FIRST),
         SlotState::Stamped { stamp: FIRST },
@@ -460,6 +496,46 @@ const CALLS: [(Call, SlotState, [u8; 32]); 7] = [
             seen: 259,
         },
         UNLIKE_STALE,
+    ),
+    (Call::Clear, SlotState::Idle, [0; 32]),
+    (
+        Call::Stamp(GROUPED),
+        SlotState::Stamped { stamp: GROUPED },
+        GROUPED_STAMPED,
+    ),
+    (
+        Call::Finish {
+            outcome: Outcome::GroupFailed,
+            at: None,
+            seen: 5,
+        },
+        SlotState::Done {
+            stamp: GROUPED,
+            outcome: Outcome::GroupFailed,
+            at: None,
+            seen: 5,
+        },
+        GROUP_FAILED,
+    ),
+    (Call::Clear, SlotState::Idle, [0; 32]),
+    (
+        Call::Stamp(BOTH),
+        SlotState::Stamped { stamp: BOTH },
+        BOTH_STAMPED,
+    ),
+    (
+        Call::Finish {
+            outcome: Outcome::Placed,
+            at: Some(1),
+            seen: 5,
+        },
+        SlotState::Done {
+            stamp: BOTH,
+            outcome: Outcome::Placed,
+            at: Some(1),
+            seen: 5,
+        },
+        BOTH_PLACED,
     ),
     (Call::Clear, SlotState::Idle, [0; 32]),
     // No byte of what was there before stays.
@@ -508,7 +584,7 @@ fn names_its_cpu(bytes: &mut [u8; 32], cpu: u16, low: u8, high: u8) -> bool {
 
 /// The first CPU that does not stand in the bytes of its slot.
 fn first_misnamed(bytes: &mut [u8; 32]) -> Option<u16> {
-    for low in 0..64u8 {
+    for low in 0..128u8 {
         let cpu = u16::from(low);
         if !names_its_cpu(bytes, cpu, low, 0) {
             return Some(cpu);
@@ -546,12 +622,16 @@ fn read(bytes: &mut [u8; 32]) -> Result<SlotState, Malformed> {
 }
 
 /// Slots of CPU 1.
-const SPELT: [[u8; 32]; 6] = [
+const SPELT: [[u8; 32]; 10] = [
     [0; 32],
     STAMPED,
     PLACED,
     UNLIKE_STAMPED,
     UNLIKE_STALE,
+    GROUPED_STAMPED,
+    GROUP_FAILED,
+    BOTH_STAMPED,
+    BOTH_PLACED,
     REFUSED,
 ];
 
@@ -588,20 +668,23 @@ fn reads_each_byte(rt: HostRuntime) {
 }
 
 /// A byte of CPU 1's slot, and what makes it malformed.
-const BROKEN: [([u8; 32], usize, u8); 10] = [
+const BROKEN: [([u8; 32], usize, u8); 12] = [
     // another first byte; a flag that there is not; another CPU
     (STAMPED, 0, 3),
-    (STAMPED, 1, 2),
+    (STAMPED, 1, 4),
     (STAMPED, 2, 0),
     (STAMPED, 3, 1),
     // a stamped slot with an outcome; an outcome that there is not; a CPU that there is not
     (STAMPED, 16, 1),
-    (PLACED, 16, 14),
-    (PLACED, 18, 64),
+    (PLACED, 16, 15),
+    (PLACED, 18, 128),
     // a byte behind the fields; one of an idle slot; a thread of a malformed slot
     (UNLIKE_STALE, 31, 1),
     ([0; 32], 9, 1),
     (REFUSED, 8, 1),
+    // a third flag; a malformed slot of a group
+    (BOTH_PLACED, 1, 7),
+    (REFUSED, 1, 2),
 ];
 
 /// The first of these that is not malformed, or into which a transaction is stamped.
@@ -650,6 +733,7 @@ fn fill_of(cpu: u16) -> Fill
         tid: 7,
         tseq: 2,
         preempt: true,
+        group: false,
     }
 }
 

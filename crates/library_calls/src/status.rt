@@ -26,18 +26,18 @@ const DEAD: StatusWord = StatusWord {
 
 /// What is shown of a thread, the word that shows it, and how many words that show something differ from that
 /// one in one bit. Some differ by a bit of the sequence number. Of a thread that runs, others differ by one
-/// of the six bits of its CPU. Of one that waits, or is dead, another differs by the bit that tells it from a
+/// of the seven bits of its CPU. Of one that waits, or is dead, another differs by the bit that tells it from a
 /// blocked one.
 const WORDS: [(StatusWord, u64, usize); 3] = [
-    (RUNNING, 0x0000070100000001, 32 + 6),
+    (RUNNING, 0x0000070100000001, 32 + 7),
     (WAITING, 0x000003ff00000001, 32 + 1),
     (DEAD, 0x000000ff00000002, 32 + 1),
 ];
 
 /// Words that show nothing.
 const NO_WORDS: [u64; 9] = [
-    // on CPU 64
-    0x0000074000000001,
+    // on CPU 128
+    0x0000078000000001,
     // on CPU 255
     0x000007ff00000001,
     // on CPU 1, and not told so
@@ -98,45 +98,69 @@ fn packs_and_unpacks(rt: HostRuntime) {
 }
 
 /// The bits of a mask, and whether no CPU is in it.
-const EMPTY: [(u64, bool); 2] = [(5, false), (0, true)];
+const EMPTY: [(u128, bool); 2] = [(5, false), (0, true)];
 
 /// The bits of a mask, a CPU, whether the mask has it, and whether it has one that is not below it.
-const MEMBERS: [(u64, u16, bool, bool); 7] = [
+const MEMBERS: [(u128, u16, bool, bool); 13] = [
     (5, 0, true, true),
     (5, 1, false, true),
     (5, 2, true, true),
     (5, 3, false, false),
-    (5, 64, false, false),
+    (5, 128, false, false),
     (1 << 63, 63, true, true),
     (1 << 63, 64, false, false),
+    (1 << 63, 127, false, false),
+    (1 << 64, 0, false, true),
+    (1 << 64, 63, false, true),
+    (1 << 64, 64, true, true),
+    (1 << 127, 127, true, true),
+    (1 << 127, 128, false, false),
 ];
 
 /// The bits of a mask, a CPU, and the bits with and without it.
-const CHANGED: [(u64, u16, u64, u64); 9] = [
-    (0, 63, 1 << 63, 0),
+const CHANGED: [(u128, u16, u128, u128); 13] = [
+    (0, 127, 1 << 127, 0),
     (4, 0, 5, 4),
     (5, 0, 5, 4),
     (5, 1, 7, 5),
     (5, 2, 5, 1),
-    (5, 63, 0x8000_0000_0000_0005, 5),
-    (u64::MAX, 63, u64::MAX, 0x7fff_ffff_ffff_ffff),
-    (u64::MAX, 0, u64::MAX, 0xffff_ffff_ffff_fffe),
+    (5, 127, 0x8000_0000_0000_0000_0000_0000_0000_0005, 5),
+    (
+        u128::MAX,
+        127,
+        u128::MAX,
+        0x7fff_ffff_ffff_ffff_ffff_ffff_ffff_ffff,
+    ),
+    (
+        u128::MAX,
+        0,
+        u128::MAX,
+        0xffff_ffff_ffff_ffff_ffff_ffff_ffff_fffe,
+    ),
     (0, 31, 0x8000_0000, 0),
+    (1 << 64, 63, 3 << 63, 1 << 64),
+    (1 << 63, 64, 3 << 63, 1 << 63),
+    (3 << 63, 63, 3 << 63, 1 << 64),
+    (3 << 63, 64, 3 << 63, 1 << 63),
 ];
 
 /// The bits of two masks, those of both, and the least CPU of both.
-const BOTH: [(u64, u64, u64, Option<u16>); 6] = [
+const BOTH: [(u128, u128, u128, Option<u16>); 10] = [
     (6, 12, 4, Some(2)),
     (6, 3, 2, Some(1)),
     (5, 10, 0, None),
-    (0, u64::MAX, 0, None),
-    (u64::MAX, 1, 1, Some(0)),
-    (1 << 63, u64::MAX, 1 << 63, Some(63)),
+    (0, u128::MAX, 0, None),
+    (u128::MAX, 1, 1, Some(0)),
+    (1 << 127, u128::MAX, 1 << 127, Some(127)),
+    (3 << 63, u128::MAX, 3 << 63, Some(63)),
+    (3 << 64, u128::MAX, 3 << 64, Some(64)),
+    (6 << 63, 3 << 63, 1 << 64, Some(64)),
+    (1 << 63, 1 << 64, 0, None),
 ];
 
 /// The bits of a mask with a CPU, without it, with it if a test holds, and if none does. `None` for a CPU
 /// that no mask has.
-fn changed(bits: u64, cpu: u16) -> Option<[u64; 4]> {
+fn changed(bits: u128, cpu: u16) -> Option<[u128; 4]> {
     if cpu >= MOST_CPUS {
         return None;
     }
@@ -148,13 +172,13 @@ fn changed(bits: u64, cpu: u16) -> Option<[u64; 4]> {
     Some([with, without, where_it_holds, where_none_does])
 }
 
-/// Masks that are made from none, by their bits: without a CPU, with CPUs 2 and 0, with CPU 63.
-fn made_from_none() -> [u64; 3] {
+/// Masks that are made from none, by their bits: without a CPU, with CPUs 2 and 0, with CPU 127.
+fn made_from_none() -> [u128; 3] {
     let two = Mask::none().with(2).with(0);
     [
         Mask::none().bits(),
         two.bits(),
-        Mask::none().with(63).bits(),
+        Mask::none().with(127).bits(),
     ]
 }
 
@@ -206,5 +230,5 @@ fn sets_of_cpus(rt: HostRuntime) {
         first_wrong_both(),
     ];
     assert_eq!(rt; wrong, [None; 4]);
-    assert_eq!(rt; made_from_none(), [0, 5, 1 << 63]);
+    assert_eq!(rt; made_from_none(), [0, 5, 1 << 127]);
 }

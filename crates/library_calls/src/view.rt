@@ -11,7 +11,7 @@ use std::alloc::Global;
 use std::test::Fail;
 
 /// What a thread is known to be: whether it may run, its mask, and the number at which it was so.
-type Seen = Option<(bool, u64, u32)>;
+type Seen = Option<(bool, u128, u32)>;
 
 /// A message, what the view returns for it, a thread and what is then known of it, and of how many threads
 /// something is known.

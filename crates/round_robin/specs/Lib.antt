@@ -1,3 +1,4 @@
 pub mod RoundRobin
 pub mod Output
+pub mod Streams
 pub mod Status

@@ -1,18 +1,24 @@
-ghost use Rattle.std.specs.Prelude.{◌≡◌, IfErr, IfOk, None, map};
+ghost use Rattle.std.specs.Prelude.{◌≡◌, ◌≢◌, IfErr, IfOk, IsErrOf, None, OnOk, map};
+ghost use Rattle.std.specs.Io.KnownBytes.{Keeps};
 ghost use Rattle.gs_core.specs.Config.{config_fault};
 ghost use Rattle.gs_core.specs.Machine.{planned, planning, start};
 ghost use Rattle.gs_policy.specs.declared.any.AnyPolicy as any;
 ghost use Rattle.gs_script.specs.Held.{seen};
 ghost use Rattle.gs_script.specs.Script.{script_of};
+ghost use Rattle.gs_trace.specs.Streams.{AnswersAll, AnswersRead, BeginsAnswer, ConsumesAtMost};
 ghost use Rattle.round_robin.specs.Output.{Answers, IsError, IsOutput, Replies};
 ghost use Rattle.round_robin.specs.RoundRobin.{round_robin};
+ghost use Rattle.round_robin.specs.Streams.{IsAnswer, TellsFault};
 
+use crate::failure::Failure;
 use crate::policy::RoundRobin;
 use gs_core::{Config, ConfigFault, Event, Machine, Reply, is_short};
 use gs_lines::{Text, text_of};
 use gs_policy::AnyPolicy;
 use gs_script::{Script, ScriptError, read_script};
+use gs_trace::{Ended, InputError, MOST_READ_BYTES, TraceFault, read_all, write_out};
 use std::alloc::{AllocError, Global};
+use std::io::{Read, Write};
 
 /// Returns the same events, with this policy in place of each that they name.
 fn own_events(
@@ -89,4 +95,43 @@ pub fn answer(alloc: Global, input: &[u8], policy: RoundRobin) -> Result<Text, S
     let script = read_script(alloc, input)?;
     let replies = replies_to(alloc, &script, policy)?;
     Ok(text_of(alloc, &replies)?)
+}
+
+/// Reads a script to its end, or until it is too long, runs it by this policy, whatever policies it names, and writes
+/// the lines of the replies.
+///
+/// The reads end at the first that gives no byte, and are at most 1,048,578. At most `MOST_READ_BYTES` are read.
+///
+/// # Errors
+///
+/// `Fault` with the script's first fault. `ReadFailed` if a read fails. `OutOfMemory` if out of memory, at an event
+/// too. In these cases nothing was written. `WriteFailed` if a write fails or takes no byte: a beginning of the lines
+/// was written, short of the whole.
+pub(crate) fn run_script<R: Read, W: Write>(
+    alloc: Global,
+    reader: &mut R,
+    writer: &mut W,
+    policy: RoundRobin,
+) -> Result<(), Failure>
+    ensures ended { OnOk result (AnswersAll (IsAnswer policy) Ended.Ran (R.remaining reader.old) (W.contents writer.old) (W.contents writer.new)) }
+    ensures read { OnOk result (AnswersRead (IsAnswer policy) Ended.Ran (R.remaining reader.old) (R.remaining reader.new) (W.contents writer.old) (W.contents writer.new)) }
+    ensures bounded { ConsumesAtMost MOST_READ_BYTES (R.remaining reader.old) (R.remaining reader.new) }
+    ensures told { IfErr result (TellsFault (R.remaining reader.old) (R.remaining reader.new)) }
+    ensures unwritten { IfErr result (λ failure. failure ≢ Failure.Trace TraceFault.WriteFailed → Keeps (W.contents writer.old) (W.contents writer.new)) }
+    ensures begun { IsErrOf result (Failure.Trace TraceFault.WriteFailed) → BeginsAnswer (IsAnswer policy) (R.remaining reader.old) (W.contents writer.old) (W.contents writer.new) }
+{
+    let input = match read_all(alloc, reader) {
+        Ok(input) => input,
+        Err(InputError::Failed) => return Err(Failure::Trace(TraceFault::ReadFailed)),
+        Err(InputError::OutOfMemory) => return Err(Failure::Trace(TraceFault::OutOfMemory)),
+    };
+    let text = match answer(alloc, &input, policy) {
+        Ok(text) => text,
+        Err(ScriptError::Fault(fault)) => return Err(Failure::Fault(fault)),
+        Err(ScriptError::OutOfMemory) => return Err(Failure::Trace(TraceFault::OutOfMemory)),
+    };
+    match write_out(writer, text.as_bytes()) {
+        Ok(()) => Ok(()),
+        Err(_) => Err(Failure::Trace(TraceFault::WriteFailed)),
+    }
 }

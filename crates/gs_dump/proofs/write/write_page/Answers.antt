@@ -2,6 +2,7 @@ use Rattle.std.proofs.Common.{◌≡◌, ◌+◌, ◌++◌, ◌∷◌, [], List,
 use Rattle.std.specs.List.{flat_map}
 use Rattle.std.proofs.lemmas.List.{flat_map_more, take_more}
 use Rattle.gs_dump.specs.declared.record.DumpRecord.{DumpRecord}
+use Rattle.gs_dump.specs.declared.version.Version.TheVariants as versions
 use Rattle.gs_dump.specs.Page.{Contents, header_bytes}
 use Rattle.gs_dump.specs.Record.{record_spelling}
 use Rattle.gs_dump.proofs.write.write_page.Goals as goal
@@ -16,5 +17,5 @@ loop-record-preserved c =
     let more : take (i + 1) all ≡ take i all ++ item ∷ [] = take_more all i item (omega (arith, c.loop-record-test.true, ap length same)) ∙ ap (λ (x : DumpRecord). take i all ++ x ∷ []) (sym (c.record-item.is ∙ ap (λ (rs : List DumpRecord). get_or rs i item) same)) in
     c.in_ok-extend_from_slice-2.ensures.items
     ∙ (λ j. c.loop-record.invariant j ++ c.record_bytes.ensures j)
-    ∙ flat_map_more record_spelling head (take i all) item
-    ∙ ap (λ (rs : List DumpRecord). head ++ flat_map record_spelling rs) (sym more)
+    ∙ flat_map_more (record_spelling versions.Two) head (take i all) item
+    ∙ ap (λ (rs : List DumpRecord). head ++ flat_map (record_spelling versions.Two) rs) (sym more)

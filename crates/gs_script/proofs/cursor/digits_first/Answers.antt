@@ -32,5 +32,5 @@ returns c =
     record {
       front = take n text;
       cut = rw (take_rest text n) (sym (take-append-drop n text));
-      is = read_number text n c.loop-count.value i.0 i.1 i.2 i.3 some plain;
+      is = read_number 18446744073709551615 text n c.loop-count.value i.0 i.1 i.2 i.3 some plain;
     }

@@ -6,4 +6,4 @@ use Rattle.library_calls.proofs.slots.stamp_one.Goals as goal
 
 pub returns-clause-ok : goal.returns-clause-ok
 returns-clause-ok c =
-    set_stamped c.stamp.result c.args.region.now c.args.cpu (cpu_of c.slot.result) c.stamp.new.self.0 (Stamped (record { generation = 1; tid = c.args.tid; tseq = 2; preempt = false })) c.slot.ensures.cpu c.stamp.ensures.stamped
+    set_stamped c.stamp.result c.args.region.now c.args.cpu (cpu_of c.slot.result) c.stamp.new.self.0 (Stamped (record { generation = 1; tid = c.args.tid; tseq = 2; preempt = false; group = false })) c.slot.ensures.cpu c.stamp.ensures.stamped

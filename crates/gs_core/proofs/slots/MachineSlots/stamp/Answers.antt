@@ -11,7 +11,7 @@ use Rattle.gs_core.proofs.Regions.{AreRead, Reads, count_is, idle_there, read_to
 use Rattle.gs_core.proofs.slots.MachineSlots.stamp.Goals as goal
 
 abbrev stamp : (g : _) → goal.After-self-1 g → Known → Stamp
-stamp g c = stamp_of c.args.tid c.args.preempt (c.args.role.now.generation, c.args.cpu)
+stamp g c = stamp_of c.args.tid c.args.preempt c.args.group (c.args.role.now.generation, c.args.cpu)
 
 reads : (g : _) (c : goal.After-self-1 g) → Reads c.args.self.now c.args.cpu (state_of c.slot.result)
 reads g c = λ z is.

@@ -54,7 +54,7 @@ walk-preserved g c =
     let room : Room = RoomOf p.same p.taken p.posted p.tight c.args.self.now.poster in
     let room' : Room = RoomOf p.same p.taken p.posted p.tight c.walk.self.poster in
     let there : has left k ≡ true = c.in-Some.ensures.is_in in
-    let found : least (has left) 64 ≡ Some k = sym c.in-Some.ensures.least in
+    let found : least (has left) 128 ≡ Some k = sym c.in-Some.ensures.least in
     let wanted : has c.args.mask k ≡ true = of_mask c.args.mask c.args.busy k _ (c.requires.busy k c.in-Some.ensures.within) (lowest_wanted _ _ _ _ _ _ _ _ _ _ i.walked there) in
     let lt : k < length old = omega (arith, has_below c.args.mask s.cpus k c.requires.within wanted, c.requires.cpus) in
     let count : count_ones left ≡ suc (count_ones c.without-left.result) = count_without left c.without-left.result k there c.without-left.ensures.here c.without-left.ensures.others in
@@ -65,7 +65,7 @@ walk-preserved g c =
     record { made = y.made; lands = if_map (LandsBytes room' s) (LandsBytes room s) true k x now y.made (bytes_map room' room s (room_later p.same p.taken p.posted p.tight c.args.self.now.poster c.walk.self.poster g.met.P.Poster.same_trans i.frame.ring i.frame.stays)) is; answers = y.answers; slots = y.slots; history = y.history } in
     record {
       walked = walked_push (LandsBytes room s) c.args.busy left c.without-left.result k old x c.land_next.new.slot.0 c.args.self.now.history c.args.landings.now.items c.walk.landings.items c.land_next.new.landings.items c.walk.region now c.land_next.new.self.history
-          i.walked there (least_before (has left) 64 k found) lt c.without-left.ensures.here c.without-left.ensures.others c.slot.ensures.bytes one;
+          i.walked there (least_before (has left) 128 k found) lt c.without-left.ensures.here c.without-left.ensures.others c.slot.ensures.bytes one;
       frame = record {
         ring = g.met.P.Poster.same_trans _ _ _ i.frame.ring e.frame.ring;
         stays = e.frame.stays ∙ i.frame.stays;
@@ -81,7 +81,7 @@ pub returns-clause-lands : goal.returns-clause-lands
 returns-clause-lands g c =
     let p = g.P.Poster in
     let old = c.args.region.now in
-    let few : (i : ℕ) (z : List ℕ) → slice_get old i ≡ Some z → i < 64 = λ i z e.
+    let few : (i : ℕ) (z : List ℕ) → slice_get old i ≡ Some z → i < 128 = λ i z e.
     let lt : i < length old = slice_get_within old i z e in
     omega (arith, lt, c.requires.cpus, c.self.invariant.in_range.most_cpus, ap (λ v. v.settings.cpus) c.self.view_is)
     in

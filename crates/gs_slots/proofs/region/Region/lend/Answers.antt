@@ -9,4 +9,5 @@ invariant_of-self-lent c = λ w.
     record {
       few = omega (arith, length-take blocks.len (w ++ drop (length w) blocks.items), c.self.invariant.few, c.deref_mut.ensures.len);
       covered = subst (CoversBusy _) (sym c.new-self-inside.ensures) (all_covered _);
+      single = λ e. absurd cc;
     }

@@ -1,0 +1,347 @@
+//! The transactions of a group land: all of them are placed, or none is.
+
+ghost use Rattle.std.specs.Prelude.{◌≡◌, ℕ, ◌+◌, ◌-◌, ◌*◌, ◌<◌, ◌≤◌, ◌++◌, Some, true, false, length, map, min, slice_get, IfOk, IfSome, OnOk, vec_len, vec_capacity};
+ghost use Rattle.gs_layout.specs.Spelling.{IsCpuOrNone};
+ghost use Rattle.gs_status.specs.Masks.{has};
+ghost use Rattle.gs_slots.specs.Reading.{state_or_idle, states_in, told_by};
+ghost use Rattle.gs_slots.specs.State.{Held, is_malformed};
+ghost use Rattle.gs_journal.specs.History.{on};
+ghost use Rattle.gs_kernel.specs.Group.{AreStamped, Finishes, GiveWay, GivesWay, LandsTogether, Puts, SettlesGroup, are_to_place, group_in, grouped, group_entries, is_group_placed, is_named_below, member_landing, or_failed, own_verdict, placings};
+ghost use Rattle.gs_kernel.specs.Kernel.{is_spent_there, preemption};
+ghost use Rattle.gs_kernel.specs.Lands.{Adds};
+ghost use Rattle.gs_kernel.specs.Legal.{Frame, RoomOf};
+ghost use Rattle.gs_kernel.specs.Ready.{AreApart, AreBelow, AreFree, AreNumbered, AreReady, Rises};
+
+use crate::effect::Effect;
+use crate::kernel::Kernel;
+use crate::landing::Landing;
+use gs_journal::Entry;
+use gs_layout::Outcome;
+use gs_ring::Poster;
+use gs_slots::{Region, SlotState, Stamp};
+use gs_status::{MOST_CPUS, Mask};
+use std::alloc::{AllocError, Global};
+
+impl<P: Poster> Kernel<P> {
+    /// Lands a group whose transactions are stamped in these slots: all of it is placed, or none. The slots are done
+    /// then. Appends what became of each to `landings`. There is room for its entries, and in `landings`.
+    pub(crate) fn land_group(
+        &mut self,
+        region: &mut Region,
+        group: &[(u16, Stamp)],
+        landings: &mut Vec<Landing>,
+    )
+        requires rises { Rises 0 self.old.settings group.now }
+        requires few { length group.now ≤ MOST_CPUS }
+        requires cpus { length region.old ≡ self.old.settings.cpus }
+        requires stamped { AreStamped region.old group.now }
+        requires entries { min (2 * length group.now) (self.old.settings.history - length self.old.history) ≤ self.old.room }
+        requires room { vec_len landings.old + length group.now ≤ vec_capacity landings.old }
+        ensures lands { Adds (LandsTogether (RoomOf P.same P.taken P.posted P.tight self.old.poster) self.old.settings group.now region.old self.old.history) landings.old.items landings.new.items region.new self.new.history }
+        ensures frame { Frame P.same P.taken P.posted self.old self.new }
+        ensures entries { self.old.room + length self.old.history ≤ self.new.room + length self.new.history }
+        ensures grown { length self.old.history ≤ length self.new.history }
+        ensures most { length self.new.history ≤ length self.old.history + 2 * length group.now }
+        ensures room { vec_len landings.new ≤ vec_len landings.old + length group.now }
+        ensures capacity { vec_capacity landings.new ≡ vec_capacity landings.old }
+    {
+        // A look at a field, by which the proof has what the kernel keeps.
+        let _settings = &self.settings;
+        let Some(_) = group.split_first() else {
+            return;
+        };
+        let together = self.settle_group(group);
+        self.finish_group(region, group, together, group, landings);
+    }
+
+    /// Places a group if it may be. Returns what becomes of all of it together, or `None` if one of it would not be
+    /// placed: then nothing changes. There is room for its entries.
+    fn settle_group(&mut self, group: &[(u16, Stamp)]) -> Option<Outcome>
+        requires rises { Rises 0 self.old.settings group.now }
+        requires few { length group.now ≤ MOST_CPUS }
+        requires entries { min (2 * length group.now) (self.old.settings.history - length self.old.history) ≤ self.old.room }
+        ensures settles { SettlesGroup (RoomOf P.same P.taken P.posted P.tight self.old.poster) self.old.settings self.old.history group.now result self.new.history }
+        ensures known { IfSome result (λ o. is_malformed o ≡ false) }
+        ensures frame { Frame P.same P.taken P.posted self.old self.new }
+        ensures room { self.old.room + length self.old.history ≤ self.new.room + length self.new.history }
+    {
+        // A look at a field, by which the proof has what the kernel keeps.
+        let _settings = &self.settings;
+        if !self.are_to_place(group, group) {
+            return None;
+        }
+        if !self.is_group_placed(group) {
+            return Some(Outcome::HistoryFull);
+        }
+        if self.put_group(group) {
+            Some(Outcome::Placed)
+        } else {
+            Some(Outcome::Gone)
+        }
+    }
+
+    /// Returns what became of a transaction of a group that landed.
+    fn member_landing(
+        &self,
+        all: &[(u16, Stamp)],
+        together: Option<Outcome>,
+        cpu: u16,
+        slot: &Stamp,
+    ) -> Landing
+        requires cpu { cpu < self.now.settings.cpus }
+        requires known { IfSome together (λ o. is_malformed o ≡ false) }
+        ensures value { result ≡ member_landing self.now.settings self.now.history all.now together (cpu, slot.now) }
+        ensures known { is_malformed result.outcome ≡ false }
+        ensures below { IsCpuOrNone result.at }
+    {
+        match together {
+            Some(outcome) => Landing {
+                cpu,
+                tid: slot.tid,
+                outcome,
+                seen: slot.tseq,
+                at: self.at(slot.tid),
+            },
+            None => Landing {
+                cpu,
+                tid: slot.tid,
+                outcome: or_failed(self.own_verdict(all, cpu, slot)),
+                seen: self.seq(slot.tid),
+                at: self.at(slot.tid),
+            },
+        }
+    }
+
+    /// Leaves in the slots of a group what became of its transactions, and appends that to `landings`, which has room.
+    fn finish_group(
+        &self,
+        region: &mut Region,
+        all: &[(u16, Stamp)],
+        together: Option<Outcome>,
+        group: &[(u16, Stamp)],
+        landings: &mut Vec<Landing>,
+    )
+        requires rises { Rises 0 self.now.settings group.now }
+        requires cpus { length region.old ≡ self.now.settings.cpus }
+        requires stamped { AreStamped region.old group.now }
+        requires known { IfSome together (λ o. is_malformed o ≡ false) }
+        requires room { vec_len landings.old + length group.now ≤ vec_capacity landings.old }
+        ensures slots { Finishes (member_landing self.now.settings self.now.history all.now together) group.now region.old region.new }
+        ensures answers { landings.new.items ≡ landings.old.items ++ map (member_landing self.now.settings self.now.history all.now together) group.now }
+        ensures room { vec_len landings.new ≤ vec_len landings.old + length group.now }
+        ensures capacity { vec_capacity landings.new ≡ vec_capacity landings.old }
+    {
+        let Some(((cpu, stamp), rest)) = group.split_first() else {
+            return;
+        };
+        let landing = self.member_landing(all, together, *cpu, stamp);
+        region
+            .slot(*cpu)
+            .finish(landing.outcome, landing.at, landing.seen);
+        landings.push_reserved(landing);
+        self.finish_group(region, all, together, rest, landings)
+    }
+
+    /// Places a group, each of which would be placed by itself, after the threads on its CPUs made way. Returns whether
+    /// their messages fit; the first that does not tears the enclave down, and nobody is placed. There is room for that.
+    pub(crate) fn put_group(&mut self, group: &[(u16, Stamp)]) -> bool
+        requires rises { Rises 0 self.old.settings group.now }
+        requires placed { is_group_placed self.old.settings self.old.history group.now ≡ true }
+        requires room { group_entries self.old.history group.now ≤ self.old.room }
+        ensures puts { Puts (RoomOf P.same P.taken P.posted P.tight self.old.poster) self.old.settings self.old.history group.now result self.new.history }
+        ensures frame { Frame P.same P.taken P.posted self.old self.new }
+        ensures room { self.old.room + length self.old.history ≤ self.new.room + length self.new.history }
+    {
+        // A look at a field, by which the proof has what the kernel keeps.
+        let _settings = &self.settings;
+        if !self.give_way(group) {
+            return false;
+        }
+        self.place_all(group);
+        true
+    }
+
+    /// Tells the thread on a CPU, if there is one, that it makes way. Returns whether that message fits; if it does not,
+    /// the enclave is torn down. There is room for it.
+    fn make_way(&mut self, cpu: u16) -> bool
+        requires cpu { cpu < self.old.settings.cpus }
+        requires numbers { is_spent_there self.old.settings self.old.history (on self.old.history cpu) ≡ false }
+        requires room { 0 < self.old.room }
+        requires few { length self.old.history < self.old.settings.history }
+        ensures gives { GivesWay (RoomOf P.same P.taken P.posted P.tight self.old.poster) self.old.history (preemption self.old.settings self.old.history cpu) result self.new.history }
+        ensures frame { Frame P.same P.taken P.posted self.old self.new }
+        ensures room { self.old.room + length self.old.history ≤ self.new.room + length self.new.history }
+    {
+        // A look at a field, by which the proof has what the kernel keeps.
+        let _settings = &self.settings;
+        match self.preemption(cpu) {
+            Some(message) => self.tell_message(&message),
+            None => true,
+        }
+    }
+
+    /// Tells the threads on the CPUs of a group that they make way, in order. Returns whether all these messages fit; the
+    /// first that does not tears the enclave down. There is room for them.
+    pub(crate) fn give_way(&mut self, group: &[(u16, Stamp)]) -> bool
+        requires numbered { AreNumbered self.old.settings self.old.history group.now }
+        requires room { length group.now ≤ self.old.room }
+        requires few { length self.old.history + length group.now ≤ self.old.settings.history }
+        ensures gives { GiveWay (RoomOf P.same P.taken P.posted P.tight self.old.poster) self.old.settings group.now self.old.history result self.new.history }
+        ensures frame { Frame P.same P.taken P.posted self.old self.new }
+        ensures room { self.old.room + length self.old.history ≤ self.new.room + length self.new.history }
+    {
+        // A look at a field, by which the proof has what the kernel keeps.
+        let _settings = &self.settings;
+        let Some(((cpu, _), rest)) = group.split_first() else {
+            return true;
+        };
+        if !self.make_way(*cpu) {
+            return false;
+        }
+        self.give_way(rest)
+    }
+
+    /// Places all of a group, whose CPUs are free. There is room for that.
+    pub(crate) fn place_all(&mut self, group: &[(u16, Stamp)])
+        requires ready { AreReady self.old.settings self.old.history group.now }
+        requires free { AreFree self.old.history group.now }
+        requires apart { AreApart group.now }
+        requires room { length group.now ≤ self.old.room }
+        requires few { length self.old.history + length group.now ≤ self.old.settings.history }
+        ensures placed { self.new.history ≡ self.old.history ++ placings group.now }
+        ensures frame { Frame P.same P.taken P.posted self.old self.new }
+        ensures room { self.old.room + length self.old.history ≤ self.new.room + length self.new.history }
+    {
+        // A look at a field, by which the proof has what the kernel keeps.
+        let _settings = &self.settings;
+        let Some(((cpu, slot), rest)) = group.split_first() else {
+            return;
+        };
+        self.tell(&Effect::Append {
+            victim: None,
+            entry: Entry::Placed {
+                tid: slot.tid,
+                tseq: slot.tseq,
+                cpu: *cpu,
+                generation: slot.generation,
+            },
+        });
+        self.place_all(rest)
+    }
+
+    /// Returns what would become of a transaction of a group by itself: one that would be placed fails if a transaction
+    /// for a lower CPU names its thread.
+    fn own_verdict(&self, group: &[(u16, Stamp)], cpu: u16, slot: &Stamp) -> Outcome
+        requires { cpu < self.now.settings.cpus }
+        ensures value { result ≡ own_verdict self.now.settings self.now.history group.now cpu slot.now }
+        ensures known { is_malformed result ≡ false }
+    {
+        let verdict = self.verdict(cpu, slot);
+        if verdict == Outcome::Placed && is_named_below(cpu, slot.tid, group) {
+            return Outcome::GroupFailed;
+        }
+        verdict
+    }
+
+    /// Returns whether each of these would be placed by itself, as one of a group.
+    fn are_to_place(&self, all: &[(u16, Stamp)], group: &[(u16, Stamp)]) -> bool
+        requires { AreBelow self.now.settings group.now }
+        ensures { result ≡ are_to_place self.now.settings self.now.history all.now group.now }
+    {
+        let Some(((cpu, slot), rest)) = group.split_first() else {
+            return true;
+        };
+        self.own_verdict(all, *cpu, slot) == Outcome::Placed && self.are_to_place(all, rest)
+    }
+
+    /// Returns how many entries a group adds.
+    fn group_entries(&self, group: &[(u16, Stamp)]) -> usize
+        requires below { AreBelow self.now.settings group.now }
+        requires few { length group.now ≤ MOST_CPUS }
+        ensures value { result ≡ group_entries self.now.history group.now }
+        ensures most { result ≤ 2 * length group.now }
+    {
+        let Some(((cpu, _), rest)) = group.split_first() else {
+            return 0;
+        };
+        self.placing_entries(*cpu) + self.group_entries(rest)
+    }
+
+    /// Returns whether a group is placed, as far as its messages fit.
+    pub(crate) fn is_group_placed(&self, group: &[(u16, Stamp)]) -> bool
+        requires below { AreBelow self.now.settings group.now }
+        requires few { length group.now ≤ MOST_CPUS }
+        ensures { result ≡ is_group_placed self.now.settings self.now.history group.now }
+    {
+        if !self.are_to_place(group, group) {
+            return false;
+        }
+        let entries = self.journal.len() + self.group_entries(group);
+        entries <= self.settings.history as usize
+    }
+}
+
+/// Returns whether a transaction of a group for a lower CPU names a thread.
+fn is_named_below(cpu: u16, tid: u32, group: &[(u16, Stamp)]) -> bool
+    ensures { result ≡ is_named_below cpu tid group.now }
+{
+    group
+        .iter()
+        .any(|member| member.0 < cpu && member.1.tid == tid)
+}
+
+/// Returns what becomes of a transaction of a group that fails: one that would be placed fails with it.
+fn or_failed(own: Outcome) -> Outcome
+    ensures value { result ≡ or_failed own }
+    ensures known { is_malformed own ≡ false → is_malformed result ≡ false }
+{
+    if own == Outcome::Placed {
+        Outcome::GroupFailed
+    } else {
+        own
+    }
+}
+
+/// Adds the transaction that is in the slot of a CPU, if it has not landed and is of the group. A slot without the
+/// flag is not read.
+fn add_member(group: &mut Vec<(u16, Stamp)>, cpu: u16, region: &Region) -> Result<(), AllocError>
+    requires { cpu < length region.now }
+    ensures { OnOk result ((x : Held) → slice_get (states_in 0 region.now) cpu ≡ Some x → group.new.items ≡ group.old.items ++ grouped true cpu (state_or_idle x)) }
+{
+    if !region.is_flagged(cpu) {
+        return Ok(());
+    }
+    match region.state(cpu) {
+        Ok(SlotState::Stamped { stamp }) if stamp.group => match group.push((cpu, stamp)) {
+            Ok(()) => Ok(()),
+            Err(_) => Err(AllocError),
+        },
+        _ => Ok(()),
+    }
+}
+
+/// Returns the group of a mask: the transactions in its stamped slots that have the flag, in increasing order of CPU.
+///
+/// # Errors
+///
+/// `AllocError` if out of memory.
+pub(crate) fn group_of(
+    alloc: Global,
+    region: &Region,
+    mask: Mask,
+) -> Result<Vec<(u16, Stamp)>, AllocError>
+    requires few { length region.now ≤ MOST_CPUS }
+    requires within { (c : ℕ) → has mask c ≡ true → c < length region.now }
+    ensures { IfOk result (λ group. group.items ≡ group_in mask 0 (told_by 0 region.now)) }
+{
+    if !region.may_be_grouped() {
+        return Ok(Vec::new(alloc));
+    }
+    let mut group = Vec::new(alloc);
+    let mut left = mask;
+    'walk: while let Some(cpu) = left.lowest() {
+        add_member(&mut group, cpu, region)?;
+        left = left.without(cpu);
+    }
+    Ok(group)
+}
