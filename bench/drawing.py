@@ -3,17 +3,28 @@
 # Lines that are passed over or have a bad byte, words that no event has, and a header in an event's place.
 STRANGE = (
     "", " ", "#", "  # tick", "\r", "# \x7f", "cpus 2 ring 128", "handoff", "page", "activate", "begin two", "begin third",
-    "begin two 0", "begin two 65536", "begin two 01", "begin first 2", "begin two 2 2", "begin x y", "begin x y z", "crash 1", "leave 1",
+    "stamp 1 1 gp", "stamp 1 1 g g", "stamp 1 1 pgp", "begin two 0", "begin two 65536", "begin two 01", "begin first 2", "begin two 2 2", "begin x y", "begin x y z", "crash 1", "leave 1",
     "page 65536", "activate 65536", "page 01", "activate two", "  begin  two  7  ", "begin 2",
 )
 MOST_TSEQ = 4_294_967_295
-MOST_MASK = 18_446_744_073_709_551_615
+MOST_CPUS = 128
+# Events that mostly append an entry.
+ENTRIES = "create affinity block wake yield die take give tick handoff crash leave begin activate".split()
+# What may stand behind a stamp: nothing, preempting, of a group, or both.
+FLAGS = "", "", "", " p", " p", " g", " pg"
+MOST_MASK = (1 << MOST_CPUS) - 1
+# CPUs on both sides of where a word of 64 bits ends.
+EDGES = (62, 63, 64, 65, 126, 127)
 NAMES = r'a web - -- # " \ ~! sixlet sevenle fourteenletter fifteen-letters sixteen-letters.'.split()
 WORDS = (
     "create block wake yield die affinity take give tick handoff drain decide commit late stamp view state unread cpus"
     " crash leave begin page activate"
-    " ring policy two first first-tseq first-gen history p r b Create bloc tickk 0 1 2 01 -1 +1 1x 64 65 128 129 65535 65536"
-    " 4294967295 4294967296 18446744073709551615 18446744073709551616 99999999999999999999999 1048576 1048584 16777216"
+    " ring policy two first first-tseq first-gen history p g pg gp r b Create bloc tickk 0 1 2 01 -1 +1 1x 64 65 127 128 129 65535 65536"
+    " 4294967295 4294967296 9223372036854775808 9999999999999999999 18446744073709551615 18446744073709551616"
+    " 99999999999999999999999 10000000000000000000000000000000000000 99999999999999999999999999999999999999"
+    " 170141183460469231731687303715884105728 340282366920938463463374607431768211455"
+    " 340282366920938463463374607431768211456 340282366920938463463374607431768211460 999999999999999999999999999999999999999"
+    " 0340282366920938463463374607431768211455 3402823669209384634633746074317682114550 1048576 1048584 16777216"
     " 16777217 # #tick seventeen-letters."
 ).split()
 
@@ -23,10 +34,11 @@ class Script:
 
     def __init__(self, chance, cpus=None):
         self.chance = chance
-        self.cpus = cpus or chance.choice((2, 2, 3, 3, 4, 5, 8, 64))
+        self.cpus = cpus or chance.choice((2, 2, 3, 3, 4, 5, 8, 63, 64, 65, 66, 100, 127, 128, 128, chance.randint(2, MOST_CPUS)))
+        self.edges = [cpu for cpu in EDGES if cpu < self.cpus]
         # If the number of CPUs is asked for, threads run on all of them, and else mostly on the first few.
         self.spread = bool(cpus)
-        self.ring = chance.choice((128, 128, 136, 192, 256, 256, 512, 1024, 4096, 1_048_576))
+        self.ring = chance.choice((128, 128, 136, 160, 192, 256, 256, 512, 1024, 4096, 1_048_576))
         self.classes = chance.random() < 0.5
         # How often each event comes differs from script to script.
         self.weights = [weight * chance.choice((0.2, 1, 1, 3)) for _, weight in self.EVENTS]
@@ -38,8 +50,10 @@ class Script:
         self.most_threads = chance.choice((4, 30, 100, 200) if self.spread else (2, 4, 4, 8, 30))
         # Whether an agent is active, attaches, or there is none.
         self.agent = "active"
-        # About how many bytes of messages wait.
+        # About how many bytes of messages wait, and about how many entries there are.
         self.bytes = 0
+        self.entries = 1
+        self.history = chance.choice((2, 3, 20, 30, 40, 50, 50, 100, 200)) if chance.random() < 0.15 else 16_777_216
 
     def header(self):
         chance = self.chance
@@ -48,8 +62,8 @@ class Script:
             words += ["first-tseq", str(chance.choice((0, 1, 99, 4_294_967_280, 4_294_967_290, 4_294_967_294)))]
         if chance.random() < 0.1:
             words += ["first-gen", str(chance.choice((1, 7, MOST_TSEQ - 2, MOST_TSEQ - 1, MOST_TSEQ)))]
-        if chance.random() < 0.15:
-            words += ["history", str(chance.choice((2, 3, 20, 50, 50, 100, 200, 16_777_216)))]
+        if self.history < 16_777_216 or chance.random() < 0.02:
+            words += ["history", str(self.history)]
         if self.classes:
             words += ["policy", "two", str(chance.choice((1, 1, 2, 3, 65_535)))]
         elif chance.random() < 0.3:
@@ -67,7 +81,9 @@ class Script:
 
     def cpu(self):
         if self.chance.random() < 0.02:
-            return self.chance.choice((self.cpus, 64, 255, 65_535))
+            return self.chance.choice((self.cpus, 64, 128, 255, 65_535))
+        if self.edges and self.chance.random() < 0.4:
+            return self.chance.choice(self.edges)
         if self.chance.random() < 0.1:
             return self.chance.randrange(self.cpus)
         return 1 + self.chance.randrange(self.cpus - 1 if self.spread else min(self.cpus - 1, 3))
@@ -75,11 +91,13 @@ class Script:
     def mask(self):
         draw = self.chance.random()
         if draw < 0.02:
-            return self.chance.choice((0, 1 << self.cpus, MOST_MASK, 1 << 63))
+            return self.chance.choice((0, (1 << self.cpus) & MOST_MASK, MOST_MASK, 1 << 63, 1 << 64, 1 << 127, MOST_MASK - (1 << 64) + 1))
         if draw < 0.4:
             return (1 << self.cpus) - 1
         if self.spread:
             return sum(1 << cpu for cpu in self.chance.sample(range(self.cpus), self.chance.randint(1, min(self.cpus, 9))))
+        if self.edges and draw < 0.7:
+            return sum(1 << cpu for cpu in self.chance.sample(self.edges, self.chance.randint(1, len(self.edges))))
         return self.chance.randrange(1, 1 << min(self.cpus, 4)) | (self.chance.randrange(2) << (self.cpus - 1))
 
     def forget(self, tid, *lists):
@@ -139,7 +157,7 @@ class Script:
         """The agent moves while what it stamped has not landed."""
         self.stamps += 1
         cpu, everywhere = self.cpu(), (1 << self.cpus) - 1
-        stamp = self.chance.choice(("decide", f"stamp {cpu} {self.tid()}{self.chance.choice(('', ' p'))}"))
+        stamp = self.chance.choice(("decide", f"stamp {cpu} {self.tid()}{self.chance.choice(('', ' p', ' g', ' pg'))}"))
         land = f"late {self.stamps}" if self.chance.random() < 0.3 else f"commit {everywhere}"
         return ["drain 99", *self.some(), stamp, *self.some(), *self.hand_off(), *self.some(), land, "decide", f"commit {everywhere}"]
 
@@ -158,7 +176,7 @@ class Script:
 
     def stamp(self):
         self.stamps += 1
-        return [f"stamp {self.cpu()} {self.tid()}{' p' if self.chance.random() < 0.4 else ''}"]
+        return [f"stamp {self.cpu()} {self.tid()}{self.chance.choice(FLAGS)}"]
 
     def late(self):
         if self.chance.random() < 0.03:
@@ -191,8 +209,8 @@ class Script:
         self.forget(tid, self.running)
         self.running.append(tid)
         self.stamps += 1
-        stamp = f"stamp {cpu} {tid}{self.chance.choice(('', '', ' p'))}"
-        land = f"late {self.stamps}" if self.chance.random() < 0.2 else f"commit {1 << min(cpu, 63)}"
+        stamp = f"stamp {cpu} {tid}{self.chance.choice(('', '', '', ' p', ' p', ' g', ' pg'))}"
+        land = f"late {self.stamps}" if self.chance.random() < 0.2 else f"commit {1 << min(cpu, MOST_CPUS - 1)}"
         return ["drain 99", *self.some(), stamp, *self.some(), land]
 
     def deciding(self):
@@ -210,8 +228,46 @@ class Script:
         lines = ["drain 99", f"stamp {cpu} {self.tid()}", f"commit {1 << cpu}", "drain 99"]
         lines += ["tick 1"] * (self.ring // 16 - self.chance.choice((0, 0, 0, 1)))
         for at in self.chance.choice(((cpu,), (cpu, other), (other, cpu))):
-            lines.append(f"stamp {at} {self.tid()} p")
+            lines.append(f"stamp {at} {self.tid()} {self.chance.choice(('p', 'p', 'pg'))}")
         return [*lines, *self.some(), *(self.late() if self.chance.random() < 0.3 else self.commit())]
+
+    def fresh(self, count):
+        """The lines by which so many threads are created that may run anywhere, and their numbers."""
+        tids = [*range(self.threads + 1, self.threads + 1 + count)]
+        self.threads += count
+        self.living += tids
+        return [f"create {(1 << self.cpus) - 1} {self.chance.randrange(2)} r a" for _ in tids] + ["drain 99"], tids
+
+    def grouping(self):
+        """Up to six slots land together, in place of threads that they name at times. Ring or journal may be about full."""
+        chance = self.chance
+        near = sorted({*range(1, self.cpus)} if self.spread else {*range(1, min(self.cpus, 5)), *self.edges})
+        cpus = chance.sample(near, min(len(near), chance.choice((1, 2, 2, 3, 3, 4, 5, 6))))
+        lines, everywhere = ["drain 99"], f"commit {(1 << self.cpus) - 1}"
+        created, tids = self.fresh(len(cpus)) if chance.random() < 0.7 else ([], [self.tid() for _ in cpus])
+        lines += created
+        victims = [cpu for cpu in cpus if chance.random() < 0.6] if chance.random() < 0.6 else []
+        if victims:
+            created, those = self.fresh(len(victims)) if chance.random() < 0.7 else ([], [self.tid() for _ in victims])
+            lines += [*created, *(f"stamp {cpu} {tid}" for cpu, tid in zip(victims, those)), everywhere, "drain 99"]
+            if chance.random() < 0.1:
+                tids[0] = chance.choice(those)
+            self.stamps += len(victims)
+        if chance.random() < 0.1:
+            tids[0] = chance.choice(tids)
+        if self.ring <= 512 and chance.random() < 0.3:
+            lines += ["tick 1"] * max(0, self.ring // 16 - chance.randrange(len(cpus) + 1))
+        elif self.history <= 200 and chance.random() < 0.5:
+            # About as many entries as there are by now are taken for as many as there are.
+            left = self.history - self.entries - sum(line.split()[0] in ENTRIES for line in lines) - len(victims)
+            lines += ["tick 1", "drain 1"] * max(0, min(left, 60) - chance.randrange(2 * len(cpus)))
+        usual = (" pg",) * 9 if victims or chance.random() < 0.3 else (" g",) * 6 + (" pg",) * 3
+        for cpu, tid in zip(cpus, tids):
+            self.stamps += 1
+            lines.append(f"stamp {cpu} {tid}{chance.choice((*usual, ' g', ' p', ''))}")
+        draw = chance.random()
+        land = [everywhere] if draw < 0.85 else self.late() if draw < 0.92 else self.commit()
+        return [*lines, *(self.some() if chance.random() < 0.3 else []), *land, *(self.late() if chance.random() < 0.1 else [])]
 
     def crash(self):
         return ["crash"]
@@ -230,7 +286,7 @@ class Script:
         """The CPU may have a thread, be another class's, or not be there."""
         draw = self.chance.random()
         if draw < 0.06:
-            return [f"activate {self.chance.choice((self.cpus, 63, 64, 65, 255, 65_535))}", "activate 0"]
+            return [f"activate {self.chance.choice((self.cpus, 63, 64, 127, 128, 129, 255, 65_535))}", "activate 0"]
         cpu = self.chance.choice((0, self.cpu()))
         if draw < 0.12:
             return [f"take {cpu}", f"activate {cpu}", f"give {cpu}", f"activate {cpu}"]
@@ -295,7 +351,7 @@ class Script:
     EVENTS = (
         (create, 5), (block, 2), (wake, 3), (yielding, 2), (die, 0.5), (affinity, 3), (take, 0.5), (give, 1),
         (exchange, 1), (tick, 2), (drain, 9), (decide, 3), (commit, 5), (stamp, 4), (late, 3), (view, 1), (state, 1),
-        (unread, 1), (placing, 4), (deciding, 3), (crowding, 0.7), (hand_off, 0.5), (moving, 1),
+        (unread, 1), (placing, 4), (deciding, 3), (crowding, 0.7), (grouping, 3), (hand_off, 0.5), (moving, 1),
         (crash, 0.2), (leave, 0.2), (begin, 0.2), (page, 0.2), (activate, 0.2), (upgrading, 1.2), (overtaking, 0.7),
     )
 
@@ -303,7 +359,7 @@ class Script:
         """The next lines. The agent is mostly in time to drain a ring before it is full."""
         lost = self.agent != "active" and self.chance.random() < 0.3
         lines = self.mending() if lost else self.chance.choices(self.EVENTS, self.weights)[0][0](self)
-        if self.bytes + 32 * len(lines) > self.ring and self.chance.random() < 0.95:
+        if self.bytes + 40 * len(lines) > self.ring and self.chance.random() < 0.95:
             lines = ["drain 99", *lines]
         for line in lines:
             word = line.split()[0]
@@ -313,10 +369,11 @@ class Script:
                 self.agent = "attaching"
             elif word == "activate" and self.agent == "attaching":
                 self.agent = "active"
+            self.entries += word in ENTRIES or word == "commit"
             if line in ("drain 99", f"drain {MOST_TSEQ}") and self.agent != "none":
                 self.bytes = 0
             elif word in ("create", "affinity", "block", "wake", "yield", "die", "take", "tick", "handoff", "commit", "activate"):
-                self.bytes += 40 if word == "create" else 16
+                self.bytes += {"create": 48, "affinity": 32}.get(word, 16)
         return lines
 
 
@@ -353,8 +410,40 @@ def with_fault(chance, line):
     return " ".join(words)
 
 
+def tight_group(chance, cpus):
+    """A script whose events are all accepted, up to a group for which the journal or the ring has about the room that it takes."""
+    cpus = cpus or chance.choice((2, 3, 4, 5, 7, 66, 128))
+    chosen = chance.sample(range(1, cpus), min(cpus - 1, chance.randint(1, 6)))
+    victims = [cpu for cpu in chosen if chance.random() < 0.5]
+    mask, ring = (1 << cpus) - 1, 64 * chance.randint(8, 16)
+    count = len(chosen) + len(victims)
+    lines = [f"create {mask} {chance.randrange(2)} r a"] * count + ["drain 99"]
+    lines += [*(f"stamp {cpu} {number}" for number, cpu in enumerate(victims, 1)), f"commit {mask}"]
+    # Creations have 40 bytes. Behind them 16 bytes are left for each message, and those at the end of the block if they are fewer.
+    ticks, entries = 0, 1 + count + len(victims)
+    if chance.random() < 0.5:
+        ticks = ring // 16 - (40 * count % 16 > 0) - chance.randrange(len(victims) + 2)
+        history = 16_777_216
+    else:
+        history = max(2, entries + chance.randrange(count + 2))
+    entries += ticks
+    lines += ["tick 1"] * ticks
+    tids = [*range(len(victims) + 1, count + 1)]
+    if chance.random() < 0.1:
+        tids[0] = chance.randint(1, count)
+    first = len(victims) + 1
+    for cpu, tid in zip(chosen, tids):
+        flags = (" pg", " pg", " pg", " pg", " pg", " p") if cpu in victims else (" g", " g", " g", " pg", "")
+        lines.append(f"stamp {cpu} {tid}{chance.choice(flags)}")
+    lines += [f"commit {mask}", *(f"late {chance.randint(first, first + len(chosen))}" for _ in range(chance.randrange(3)))]
+    after = ["unread", "state", "drain 99", "view", "decide", f"commit {mask}", "tick 1"]
+    return [f"cpus {cpus} ring {ring} history {history}", *lines, *after]
+
+
 def random_script(chance, cpus=None):
     """A script as bytes, of so many CPUs if that is asked for."""
+    if chance.random() < 0.1:
+        return "".join(line + "\n" for line in tight_group(chance, cpus)).encode()
     drawn = Script(chance, cpus)
     lines = [drawn.header()]
     if chance.random() < 0.8:

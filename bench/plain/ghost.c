@@ -26,7 +26,7 @@
 enum {
     MOST_BYTES = 1048576,
     MOST_THREADS = 65536,
-    MOST_CPUS = 64,
+    MOST_CPUS = 128,
     MOST_TICKS = 65535,
     SHORTEST_MESSAGE = 16,
     QUEUE = 1048576 / SHORTEST_MESSAGE,
@@ -45,6 +45,36 @@ enum {
 enum status { RAN = 0, SCRIPT_FAULT = 2, WRONG_ARGUMENTS = 3, IO_FAULT = 4, NO_MEMORY = 5 };
 
 enum kind { CREATED = 1, BLOCKED, WAKEUP, PREEMPTED, YIELD, DEAD, AFFINITY, TICK };
+
+// ---- masks ----
+
+// A set of CPUs, CPU k its bit k. It may stand at any multiple of four bytes, so that a row of a thread holds two of them.
+typedef unsigned __int128 cpumask __attribute__((aligned(4)));
+#define ALL_MASKS (~(cpumask)0)
+// The half of a mask that a CPU's bit is in is read and changed alone.
+typedef uint64_t half __attribute__((may_alias, aligned(4)));
+
+static inline bool has(const cpumask *mask, unsigned cpu)
+{
+    return ((const half *)mask)[cpu / 64] >> cpu % 64 & 1;
+}
+
+static inline void add(cpumask *mask, unsigned cpu)
+{
+    ((half *)mask)[cpu / 64] |= UINT64_C(1) << cpu % 64;
+}
+
+static inline void drop(cpumask *mask, unsigned cpu)
+{
+    ((half *)mask)[cpu / 64] &= ~(UINT64_C(1) << cpu % 64);
+}
+
+// The least CPU of a mask that has one.
+static inline unsigned least(cpumask mask)
+{
+    uint64_t low = (uint64_t)mask;
+    return low ? (unsigned)__builtin_ctzll(low) : 64 + (unsigned)__builtin_ctzll((uint64_t)(mask >> 64));
+}
 
 // ---- texts ----
 
@@ -82,7 +112,7 @@ static const struct text REFUSED[] = {
 
 enum outcome {
     IS_PLACED, IS_GONE, IS_DISPLACED, IS_NO_THREAD, IS_STALE, IS_NOT_RUNNABLE, IS_ALREADY_PLACED, IS_NOT_ALLOWED,
-    IS_CPU_AGENT, IS_CPU_TAKEN, IS_CPU_BUSY, IS_SEQ_SPENT, IS_HISTORY_FULL,
+    IS_CPU_AGENT, IS_CPU_TAKEN, IS_CPU_BUSY, IS_SEQ_SPENT, IS_HISTORY_FULL, IS_GROUP_FAILED = 14,
 };
 
 static const struct text OUTCOME[] = {
@@ -99,6 +129,7 @@ static const struct text OUTCOME[] = {
     [IS_CPU_BUSY] = TEXT(" cpubusy "),
     [IS_SEQ_SPENT] = TEXT(" seqspent "),
     [IS_HISTORY_FULL] = TEXT(" historyfull "),
+    [IS_GROUP_FAILED] = TEXT(" groupfailed "),
 };
 
 static const struct text KIND[] = {
@@ -116,11 +147,12 @@ static const struct text KIND[] = {
 
 static uint32_t cpus, capacity, first_tseq, history, slice;
 static bool two_classes;
-static uint64_t all_cpus;
+// The CPUs that are not there.
+static cpumask absent;
 
 // The kernel's row of a thread. One that is not alive keeps its last number.
 struct thread {
-    uint64_t mask;
+    cpumask mask;
     uint32_t tseq;
     uint32_t name;
     uint8_t name_length;
@@ -132,7 +164,7 @@ struct thread {
 static uint64_t alive[MOST_THREADS / 64];
 static uint32_t created;
 static uint32_t running[MOST_CPUS];
-static uint64_t taken;
+static cpumask taken;
 static uint32_t entries = 1;
 static bool torn;
 // The last generation that was given, and who has it. The CPU is the active agent's, NO_CPU while none is active.
@@ -142,34 +174,30 @@ static uint8_t agent;
 // The thread from which the next page goes on, 0 if there is none after the last one.
 static uint32_t next_page;
 
-// Of a message that waits in the ring all is kept that its record has.
+// Of a message that waits in the ring all is kept that its record has, but for what never changes: name and class.
 struct message {
-    uint64_t mask;
+    _Alignas(16) cpumask mask;
     uint32_t tid;
     uint32_t tseq;
-    uint32_t name;
     uint8_t kind;
     uint8_t cpu;
     // The record with the padding before it.
     uint8_t bytes;
     bool runnable : 1;
     bool off : 1;
-    bool class : 1;
-    uint8_t name_length : 5;
 };
 static uint32_t queue_first, queue_length;
 static uint32_t write_place, used_bytes;
 
 // The agent's record of a thread. `next` and `previous` are the threads beside it in the run queue of its class, 0 if
-// it does not wait. Of a record of another era than the agent's nothing counts: the agent does not know the thread.
+// it does not wait. Of a record of another era than the agent's nothing counts: the agent does not know the thread. Its
+// name is the one in the kernel's row.
 struct record {
-    uint64_t mask;
+    cpumask mask;
     uint32_t tseq;
     uint32_t era;
     uint32_t next;
     uint32_t previous;
-    uint32_t name;
-    uint8_t name_length;
     bool runnable : 1;
     bool class : 1;
     // The CPU that it is believed on.
@@ -182,10 +210,10 @@ static uint64_t present[MOST_THREADS / 64];
 static uint32_t era = 1;
 #define QUEUE_OF(class) (1 + MOST_THREADS + (class))
 // The CPUs that some waiting thread of the class may run on, and perhaps more.
-static uint64_t wanted[2];
+static cpumask wanted[2];
 static uint32_t believed[MOST_CPUS];
 static uint16_t ticks[MOST_CPUS];
-static uint64_t busy;
+static cpumask busy;
 
 struct transaction {
     uint32_t tid;
@@ -197,7 +225,9 @@ struct transaction {
 static uint32_t stamped_count;
 // The slot of a CPU holds the transaction of this number.
 static uint32_t slot[MOST_CPUS];
-static uint64_t stamped;
+static cpumask stamped;
+// Those of the stamped slots that land together with others, all of them or none.
+static cpumask grouped;
 
 // What may be large stands together, so that a long script has few pages of it brought in.
 static _Alignas(LARGE_PAGE) struct {
@@ -212,6 +242,7 @@ static _Alignas(LARGE_PAGE) struct {
     } rows[1 + MOST_THREADS + 2];
     char out[FLUSH + ONE_EVENT];
 } block;
+_Static_assert(sizeof(struct row) == 64, "a row is a line of the cache");
 #define input (block.input)
 #define queue (block.queue)
 #define out (block.out)
@@ -307,6 +338,36 @@ static inline char *put_number(char *o, uint64_t n)
     return put_long(o, n);
 }
 
+static const uint64_t TENS[] = {
+    1, 10, 100, 1000, 10000, 100000, 1000000, 10000000, 100000000, 1000000000, 10000000000, 100000000000, 1000000000000,
+    10000000000000, 100000000000000, 1000000000000000, 10000000000000000, 100000000000000000, 1000000000000000000,
+    UINT64_C(10000000000000000000),
+};
+
+// The 19 digits of a number, zeros before them.
+static char *put_19(char *o, uint64_t n)
+{
+    char *end = o + 19;
+    for (char *d = end - 2; d > o; d -= 2, n /= 100)
+        memcpy(d, PAIRS + 2 * (n % 100), 2);
+    *o = (char)('0' + n);
+    return end;
+}
+
+static char *put_long_mask(char *o, cpumask mask)
+{
+    if (mask >> 64 == 0)
+        return put_long(o, (uint64_t)mask);
+    cpumask front = mask / TENS[19];
+    o = put_long_mask(o, front);
+    return put_19(o, (uint64_t)mask - (uint64_t)front * TENS[19]);
+}
+
+static inline char *put_mask(char *o, cpumask mask)
+{
+    return mask >> 64 == 0 ? put_number(o, (uint64_t)mask) : put_long_mask(o, mask);
+}
+
 static inline char *put_cpu(char *o, uint8_t cpu)
 {
     if (cpu != NO_CPU)
@@ -322,18 +383,19 @@ static inline char *put_sequence(char *o, uint32_t tid, uint32_t tseq)
     return put_number(o, tseq);
 }
 
-static inline char *put_facts(char *o, bool runnable, uint64_t mask, unsigned class, uint32_t name, unsigned length)
+// What is known of a thread, whose name is in the kernel's row.
+static inline char *put_facts(char *o, bool runnable, cpumask mask, unsigned class, const struct thread *t)
 {
     if (runnable)
         PUT(" r mask ");
     else
         PUT(" b mask ");
-    o = put_number(o, mask);
+    o = put_mask(o, mask);
     PUT(" class ");
     *o++ = (char)('0' + class);
     PUT(" name ");
-    memcpy(o, input + name, 16);
-    return o + length;
+    memcpy(o, input + t->name, 16);
+    return o + t->name_length;
 }
 
 static inline char *refuse(char *o, enum refusal refusal)
@@ -381,16 +443,11 @@ static inline void leave_cpu(struct thread *t)
     t->cpu = NO_CPU;
 }
 
-static inline uint8_t mask_bit(uint64_t mask, unsigned cpu)
+// What would become of a transaction, if it landed alone.
+static inline enum outcome verdict(const struct transaction *x)
 {
-    return mask >> cpu & 1;
-}
-
-static inline enum outcome land(const struct transaction *x, uint32_t *seen)
-{
-    struct thread *t = THREAD(x->tid);
+    const struct thread *t = THREAD(x->tid);
     unsigned cpu = x->cpu;
-    *seen = t->tseq;
     if (unlikely(torn))
         return IS_GONE;
     if (unlikely(x->generation != generation) || unlikely(role != ACTIVE))
@@ -403,32 +460,96 @@ static inline enum outcome land(const struct transaction *x, uint32_t *seen)
         return IS_NOT_RUNNABLE;
     if (unlikely(t->cpu != NO_CPU))
         return IS_ALREADY_PLACED;
-    if (unlikely(!mask_bit(t->mask, cpu)))
+    if (unlikely(!has(&t->mask, cpu)))
         return IS_NOT_ALLOWED;
     if (unlikely(cpu == agent))
         return IS_CPU_AGENT;
-    if (unlikely(mask_bit(taken, cpu)))
+    if (unlikely(has(&taken, cpu)))
         return IS_CPU_TAKEN;
+    uint32_t victim = running[cpu];
+    if (victim && unlikely(!x->preempt))
+        return IS_CPU_BUSY;
+    if (victim && unlikely(THREAD(victim)->tseq == UINT32_MAX))
+        return IS_SEQ_SPENT;
+    if (unlikely(entries + 1 + (victim != 0) > history))
+        return IS_HISTORY_FULL;
+    return IS_PLACED;
+}
+
+// Whoever is on the CPU is told and leaves it; false if the message does not fit.
+static inline bool make_way(unsigned cpu)
+{
     uint32_t victim = running[cpu];
     if (victim) {
         struct thread *v = THREAD(victim);
-        if (unlikely(!x->preempt))
-            return IS_CPU_BUSY;
-        if (unlikely(v->tseq == UINT32_MAX))
-            return IS_SEQ_SPENT;
-        if (unlikely(entries + 2 > history))
-            return IS_HISTORY_FULL;
         if (unlikely(!post(PREEMPTED, 16, victim, v->tseq + 1, (uint8_t)cpu)))
-            return IS_GONE;
+            return false;
         v->tseq++;
-        v->cpu = NO_CPU;
-    } else if (unlikely(entries + 1 > history)) {
-        return IS_HISTORY_FULL;
+        leave_cpu(v);
     }
+    return true;
+}
+
+static inline void place(const struct transaction *x)
+{
     entries++;
-    running[cpu] = x->tid;
-    t->cpu = (uint8_t)cpu;
+    running[x->cpu] = x->tid;
+    THREAD(x->tid)->cpu = x->cpu;
+}
+
+static inline enum outcome land(const struct transaction *x, uint32_t *seen)
+{
+    *seen = THREAD(x->tid)->tseq;
+    enum outcome outcome = verdict(x);
+    if (unlikely(outcome != IS_PLACED))
+        return outcome;
+    if (unlikely(!make_way(x->cpu)))
+        return IS_GONE;
+    place(x);
     return IS_PLACED;
+}
+
+static inline const struct transaction *in_slot(unsigned cpu)
+{
+    return &transactions[slot[cpu]];
+}
+
+// Whether a slot of the group on a lower CPU names the same thread.
+static bool is_doubled(cpumask group, const struct transaction *x)
+{
+    for (; least(group) < x->cpu; group &= group - 1)
+        if (in_slot(least(group))->tid == x->tid)
+            return true;
+    return false;
+}
+
+// All slots of the group land, or none of them: what becomes of each, by its CPU. If a message does not fit, those before it
+// stay, and nobody is placed.
+static void land_group(cpumask group, uint8_t outcomes[MOST_CPUS])
+{
+    bool is_sound = true;
+    uint32_t wanted_entries = 0;
+    for (cpumask left = group; left; left &= left - 1) {
+        const struct transaction *x = in_slot(least(left));
+        enum outcome own = verdict(x);
+        // A thread that two slots name has been stamped twice.
+        if (own == IS_PLACED && unlikely(RECORD(x->tid)->stamps > 1) && is_doubled(group, x))
+            own = IS_GROUP_FAILED;
+        outcomes[x->cpu] = (uint8_t)own;
+        is_sound &= own == IS_PLACED;
+        wanted_entries += 1 + (running[x->cpu] != 0);
+    }
+    enum outcome all = !is_sound ? IS_GROUP_FAILED : entries + wanted_entries > history ? IS_HISTORY_FULL : IS_PLACED;
+    for (cpumask left = group; left && all == IS_PLACED; left &= left - 1)
+        if (!make_way(least(left)))
+            all = IS_GONE;
+    for (cpumask left = group; left; left &= left - 1) {
+        unsigned cpu = least(left);
+        if (all == IS_PLACED)
+            place(in_slot(cpu));
+        else if (outcomes[cpu] == IS_PLACED)
+            outcomes[cpu] = (uint8_t)all;
+    }
 }
 
 // ---- the agent ----
@@ -482,7 +603,7 @@ static inline void forget_belief(struct record *r)
 {
     if (r->cpu != NO_CPU) {
         believed[r->cpu] = 0;
-        busy &= ~(UINT64_C(1) << r->cpu);
+        drop(&busy, r->cpu);
         r->cpu = NO_CPU;
     }
 }
@@ -495,7 +616,7 @@ static inline void believe(unsigned cpu, uint32_t tid, struct record *r)
         return;
     forget_belief(r);
     believed[cpu] = tid;
-    busy |= UINT64_C(1) << cpu;
+    add(&busy, cpu);
     r->cpu = (uint8_t)cpu;
     if (before) {
         RECORD(before)->cpu = NO_CPU;
@@ -503,7 +624,7 @@ static inline void believe(unsigned cpu, uint32_t tid, struct record *r)
     }
 }
 
-static inline void stamp(unsigned cpu, uint32_t tid, bool preempt)
+static inline void stamp(unsigned cpu, uint32_t tid, bool preempt, bool group)
 {
     struct record *r = RECORD(tid);
     if (unlikely(stamped_count == transaction_room)) {
@@ -518,7 +639,9 @@ static inline void stamp(unsigned cpu, uint32_t tid, bool preempt)
     }
     transactions[stamped_count] = (struct transaction){ tid, r->tseq, generation, (uint8_t)cpu, preempt };
     slot[cpu] = stamped_count++;
-    stamped |= UINT64_C(1) << cpu;
+    add(&stamped, cpu);
+    if (unlikely(group))
+        add(&grouped, cpu);
     r->stamps++;
     if (r->next)
         take_out(r);
@@ -527,7 +650,7 @@ static inline void stamp(unsigned cpu, uint32_t tid, bool preempt)
 static inline void collect(const struct transaction *x, enum outcome outcome)
 {
     struct record *r = RECORD(x->tid);
-    stamped &= ~(UINT64_C(1) << x->cpu);
+    drop(&stamped, x->cpu);
     r->stamps--;
     if (outcome == IS_PLACED || outcome == IS_ALREADY_PLACED)
         believe(THREAD(x->tid)->cpu, x->tid, r);
@@ -557,9 +680,7 @@ static inline enum taken_as apply(const struct message *m)
     case CREATED:
         meet(tid, r);
         r->mask = m->mask;
-        r->name = m->name;
-        r->name_length = m->name_length;
-        r->class = m->class;
+        r->class = THREAD(tid)->class;
         r->runnable = m->runnable;
         if (r->runnable)
             append(tid, r);
@@ -624,7 +745,7 @@ static void begin(void)
     era++;
     memset(present, 0, (created + 63) / 64 * sizeof *present);
     memset(believed, 0, sizeof believed);
-    busy = stamped = 0;
+    busy = stamped = grouped = 0;
     for (unsigned class = 0; class < 2; class++) {
         RECORD(QUEUE_OF(class))->next = RECORD(QUEUE_OF(class))->previous = QUEUE_OF(class);
         wanted[class] = 0;
@@ -642,8 +763,6 @@ static inline void load(uint32_t tid, const struct thread *t)
         meet(tid, r);
     r->mask = t->mask;
     r->tseq = t->tseq;
-    r->name = t->name;
-    r->name_length = t->name_length;
     r->class = t->class;
     r->runnable = t->runnable;
     if (t->cpu != NO_CPU)
@@ -683,38 +802,38 @@ struct choice {
 
 static inline unsigned plan(struct choice *choices)
 {
-    uint64_t usable = all_cpus & ~(UINT64_C(1) << agent) & ~taken & ~stamped;
-    uint64_t idle = usable & ~busy;
+    cpumask usable = ~(absent | (cpumask)1 << agent | taken | stamped);
+    cpumask idle = usable & ~busy;
     // The CPUs that a thread of class 0, and one of class 1, may take from a thread of class 1.
-    uint64_t gain[2] = { 0, 0 };
+    cpumask gain[2] = { 0, 0 };
     if (two_classes) {
-        for (uint64_t left = usable & busy; left; left &= left - 1) {
-            unsigned cpu = (unsigned)__builtin_ctzll(left);
+        for (cpumask left = usable & busy; left; left &= left - 1) {
+            unsigned cpu = least(left);
             if (RECORD(believed[cpu])->class) {
-                gain[0] |= UINT64_C(1) << cpu;
+                add(&gain[0], cpu);
                 if (ticks[cpu] >= slice)
-                    gain[1] |= UINT64_C(1) << cpu;
+                    add(&gain[1], cpu);
             }
         }
     }
     unsigned count = 0;
     for (unsigned class = 0; class < 2; class++) {
-        uint64_t free = idle, won = gain[class], met = 0;
+        cpumask free = idle, won = gain[class], met = 0;
         uint32_t end = QUEUE_OF(class), tid = RECORD(end)->next;
         for (; tid != end && (free | won) & wanted[class]; tid = RECORD(tid)->next) {
-            uint64_t mask = RECORD(tid)->mask;
+            cpumask mask = RECORD(tid)->mask;
             met |= mask;
-            uint64_t open = mask & free;
+            cpumask open = mask & free;
             bool preempt = !open;
             if (preempt)
                 open = mask & won;
             if (!open)
                 continue;
-            uint64_t bit = open & -open;
+            cpumask bit = open & -open;
             free &= ~bit;
             won &= ~bit;
             gain[1] &= ~bit;
-            choices[count++] = (struct choice){ tid, (uint8_t)__builtin_ctzll(bit), preempt };
+            choices[count++] = (struct choice){ tid, (uint8_t)least(bit), preempt };
         }
         idle = free;
         if (tid == end)
@@ -764,23 +883,23 @@ static bool is(const struct words *words, unsigned i, const char *text)
     return words->length[i] == strlen(text) && memcmp(words->at[i], text, words->length[i]) == 0;
 }
 
-static bool number_in(const struct words *words, unsigned i, uint64_t least, uint64_t most, uint64_t *value)
+static bool number_in(const struct words *words, unsigned i, uint64_t lowest, cpumask most, uint64_t *value)
 {
     const char *digits = words->at[i];
     unsigned length = words->length[i];
-    uint64_t n = 0;
+    cpumask n = 0;
     if (length > 1 && digits[0] == '0')
         return false;
     for (unsigned k = 0; k < length; k++) {
         if (digits[k] < '0' || digits[k] > '9')
             return false;
         unsigned digit = (unsigned)(digits[k] - '0');
-        if (n > (UINT64_MAX - digit) / 10)
+        if (n > (ALL_MASKS - digit) / 10)
             return false;
         n = 10 * n + digit;
     }
-    *value = n;
-    return least <= n && n <= most;
+    *value = (uint64_t)n;
+    return lowest <= n && n <= most;
 }
 
 // The fault of a policy's name, with `i` at its last word then; if there is none, its slice, or 0 for the one without.
@@ -839,7 +958,7 @@ static enum fault header_fault(const char *line)
         }
         part++;
     }
-    all_cpus = UINT64_MAX >> (MOST_CPUS - cpus);
+    absent = ~(ALL_MASKS >> (MOST_CPUS - cpus));
     first_tseq = (uint32_t)numbers[0];
     generation = (uint32_t)numbers[1];
     history = (uint32_t)numbers[2];
@@ -847,7 +966,7 @@ static enum fault header_fault(const char *line)
 }
 
 // The words after the first, a letter for each: a mask, a class, runnable or not, a name, a CPU, a thread or another
-// number, the flag. In small letters one that may be absent. What may stand behind `begin` is not told by a letter for each.
+// number, the flags. In small letters one that may be absent. What may stand behind `begin` is not told by a letter for each.
 static const char BEGIN[] = "begin";
 static const struct { const char *word, *form; } EVENTS[] = {
     { "create", "MKRN" }, { "block", "T" }, { "wake", "T" }, { "yield", "T" }, { "die", "T" }, { "affinity", "TM" },
@@ -888,7 +1007,7 @@ static enum fault event_fault(const char *line)
     for (unsigned i = 1; i < words.count; i++) {
         switch (form[i - 1]) {
         case 'M':
-            if (!number_in(&words, i, 0, UINT64_MAX, &n))
+            if (!number_in(&words, i, 0, ALL_MASKS, &n))
                 return BAD_NUMBER;
             break;
         case 'K':
@@ -908,7 +1027,7 @@ static enum fault event_fault(const char *line)
                 return BAD_WORD;
             break;
         case 'p':
-            if (!is(&words, i, "p"))
+            if (!is(&words, i, "p") && !is(&words, i, "g") && !is(&words, i, "pg"))
                 return BAD_WORD;
             break;
         case 'N':
@@ -962,6 +1081,37 @@ static size_t first_bad_byte(const unsigned char *s, size_t length)
     return length;
 }
 
+static inline void count_landing(enum outcome outcome)
+{
+    *(outcome == IS_PLACED ? &placed : &unplaced) += 1;
+}
+
+static inline char *put_landing(char *o, const struct transaction *x, enum outcome outcome, uint32_t seen)
+{
+    count_landing(outcome);
+    PUT("cpu ");
+    o = put_number(o, x->cpu);
+    o = put_text(o, &OUTCOME[outcome]);
+    o = put_sequence(o, x->tid, seen);
+    *o++ = '\n';
+    return o;
+}
+
+// The slots of the group land and are collected, before any other slot. No thread of a group makes way for it, so each still has
+// the number that it had before.
+static char *commit_group(char *o, cpumask group)
+{
+    uint8_t outcomes[MOST_CPUS];
+    land_group(group, outcomes);
+    for (cpumask left = group; left; left &= left - 1) {
+        const struct transaction *x = in_slot(least(left));
+        o = put_landing(o, x, outcomes[x->cpu], THREAD(x->tid)->tseq);
+        collect(x, outcomes[x->cpu]);
+    }
+    grouped &= ~group;
+    return o;
+}
+
 // What is behind the last lines that the report asks for, moved to the front.
 static char *keep_last_lines(char *o)
 {
@@ -981,8 +1131,30 @@ static char *spill(char *o)
     return out;
 }
 
-// Numbers from left to right; `goto odd` if the line is at fault, or is not an event.
 #define DIGIT(p) ((unsigned)(unsigned char)*(p) - '0')
+
+// The rest of a mask whose first 19 digits have this value and are not all; null if it is too great.
+static const char *long_mask(const char *p, cpumask *mask)
+{
+    const char *first = p;
+    unsigned digit;
+    uint64_t more = 0;
+    while ((digit = DIGIT(p)) <= 9 && p - first < 19) {
+        more = 10 * more + digit;
+        p++;
+    }
+    cpumask value = *mask * TENS[p - first] + more;
+    if (digit <= 9) {
+        if (value > ALL_MASKS / 10 || (value == ALL_MASKS / 10 && digit > ALL_MASKS % 10) || DIGIT(p + 1) <= 9)
+            return NULL;
+        value = 10 * value + digit;
+        p++;
+    }
+    *mask = value;
+    return p;
+}
+
+// Numbers from left to right; `goto odd` if the line is at fault, or is not an event.
 #define END_WORD() do { if (unlikely((unsigned char)*p > ' ')) goto odd; while (*p == ' ') p++; } while (0)
 #define NUMBER(n, most) \
     do { \
@@ -1006,15 +1178,14 @@ static char *spill(char *o)
         if (unlikely(digit > 9)) goto odd; \
         uint64_t value = digit; \
         if (likely(digit != 0)) { \
-            while ((digit = DIGIT(++p)) <= 9) { \
-                if (unlikely(p - first >= 19) && (p - first >= 20 || value > (UINT64_MAX - digit) / 10)) goto odd; \
-                value = 10 * value + digit; \
-            } \
+            while ((digit = DIGIT(++p)) <= 9 && p - first < 19) value = 10 * value + digit; \
+            n = value; \
+            if (unlikely(digit <= 9) && !(p = long_mask(p, &n))) goto odd; \
         } else { \
             p++; \
+            n = 0; \
         } \
         END_WORD(); \
-        n = value; \
     } while (0)
 #define END_LINE() do { if (unlikely(*p != '\n')) goto odd; p++; events++; } while (0)
 #define REFUSE(refusal) do { o = refuse(o, refusal); goto next; } while (0)
@@ -1034,7 +1205,7 @@ static char *spill(char *o)
 #define FREE_SEAT(spent) do { \
         REFUSE_IF(cpu >= cpus, BAD_CPU); \
         REFUSE_IF(cpu == agent, AGENT_THERE); \
-        REFUSE_IF(mask_bit(taken, cpu), CPU_TAKEN); \
+        REFUSE_IF(has(&taken, cpu), CPU_TAKEN); \
         tid = running[cpu]; \
         REFUSE_IF(tid && THREAD(tid)->tseq == UINT32_MAX, SEQ_SPENT); \
         REFUSE_IF(spent, GEN_SPENT); \
@@ -1102,7 +1273,7 @@ static const char *run(const char *p, const char *end, char **behind, enum fault
     while (p < end) {
         uint64_t word, low;
         uint32_t tid, n, cpu;
-        uint64_t mask;
+        cpumask mask;
         struct thread *t;
         struct message *m;
 
@@ -1152,20 +1323,17 @@ static const char *run(const char *p, const char *end, char **behind, enum fault
                 goto odd;
             END_WORD();
             END_LINE();
-            REFUSE_IF(!mask || mask & ~all_cpus, EMPTY_MASK);
+            REFUSE_IF(!mask || mask & absent, EMPTY_MASK);
             REFUSE_IF(created == MOST_THREADS, TIDS_SPENT);
             REFUSE_IF(entries >= history, HISTORY_FULL);
             // The name `-` is the empty one, and is shown so.
-            unsigned bytes = 26 + (length == 1 && *name == '-' ? 0 : length);
+            unsigned bytes = 34 + (length == 1 && *name == '-' ? 0 : length);
             uint32_t at = (uint32_t)(name - input);
             tid = created + 1;
             m = post(CREATED, (bytes + 7) & ~7u, tid, first_tseq + 1, NO_CPU);
             if (unlikely(!m))
                 goto tear;
             m->mask = mask;
-            m->name = at;
-            m->name_length = (uint8_t)length;
-            m->class = class;
             m->runnable = runnable;
             created = tid;
             *THREAD(tid) = (struct thread){ mask, first_tseq + 1, at, (uint8_t)length, (uint8_t)class, NO_CPU, true, runnable };
@@ -1217,14 +1385,14 @@ static const char *run(const char *p, const char *end, char **behind, enum fault
             MASK(mask);
             END_LINE();
             REFUSE_IF(!t, NO_THREAD);
-            REFUSE_IF(!mask || mask & ~all_cpus, EMPTY_MASK);
+            REFUSE_IF(!mask || mask & absent, EMPTY_MASK);
             uint8_t from = t->cpu;
-            NEXT_MESSAGE(AFFINITY, 24, from);
+            NEXT_MESSAGE(AFFINITY, 32, from);
             m->mask = mask;
             t->mask = mask;
             PUT("affinity ");
             o = put_sequence(o, tid, t->tseq);
-            if (from != NO_CPU && !mask_bit(mask, from)) {
+            if (from != NO_CPU && !has(&mask, from)) {
                 m->off = true;
                 leave_cpu(t);
                 PUT(" off ");
@@ -1237,7 +1405,7 @@ static const char *run(const char *p, const char *end, char **behind, enum fault
             NUMBER(cpu, 65535);
             END_LINE();
             FREE_SEAT(false);
-            taken |= UINT64_C(1) << cpu;
+            add(&taken, cpu);
             entries++;
             PUT_WITH("taken ", cpu);
             break;
@@ -1320,9 +1488,9 @@ static const char *run(const char *p, const char *end, char **behind, enum fault
             NUMBER(cpu, 65535);
             END_LINE();
             REFUSE_IF(cpu >= cpus, BAD_CPU);
-            REFUSE_IF(!mask_bit(taken, cpu), NOT_TAKEN);
+            REFUSE_IF(!has(&taken, cpu), NOT_TAKEN);
             REFUSE_IF(entries >= history, HISTORY_FULL);
-            taken &= ~(UINT64_C(1) << cpu);
+            drop(&taken, cpu);
             entries++;
             PUT_WITH("given ", cpu);
             break;
@@ -1357,17 +1525,18 @@ static const char *run(const char *p, const char *end, char **behind, enum fault
             NUMBER(cpu, 65535);
             NUMBER(tid, UINT32_MAX);
             bool preempt = *p == 'p';
-            if (preempt) {
-                p++;
+            p += preempt;
+            bool group = *p == 'g';
+            p += group;
+            if (preempt | group)
                 END_WORD();
-            }
             END_LINE();
             REFUSE_IF(role != ACTIVE, NOT_ACTIVE);
             REFUSE_IF(cpu >= cpus, BAD_CPU);
             REFUSE_IF(tid - 1 >= MOST_THREADS || !known(RECORD(tid)), NO_THREAD);
-            REFUSE_IF(mask_bit(stamped, cpu), SLOT_OPEN);
+            REFUSE_IF(has(&stamped, cpu), SLOT_OPEN);
             REFUSE_IF(stamped_count >= history, HISTORY_FULL);
-            stamp(cpu, tid, preempt);
+            stamp(cpu, tid, preempt, group);
             PUT_WITH("stamped ", stamped_count);
             break;
         }
@@ -1380,7 +1549,7 @@ static const char *run(const char *p, const char *end, char **behind, enum fault
             PUT_WITH("decided ", count);
             for (unsigned i = 0; i < count; i++) {
                 const struct choice *c = &choices[i];
-                stamp(c->cpu, c->tid, c->preempt);
+                stamp(c->cpu, c->tid, c->preempt, false);
                 PUT("stamped ");
                 o = put_number(o, stamped_count);
                 PUT(" cpu ");
@@ -1397,17 +1566,17 @@ static const char *run(const char *p, const char *end, char **behind, enum fault
             MASK(mask);
             END_LINE();
             REFUSE_IF(role != ACTIVE, NOT_ACTIVE);
-            REFUSE_IF(mask & ~all_cpus, EMPTY_MASK);
-            for (uint64_t left = mask & stamped; left; left &= left - 1) {
-                const struct transaction *x = &transactions[slot[__builtin_ctzll(left)]];
+            REFUSE_IF(mask & absent, EMPTY_MASK);
+            mask &= stamped;
+            if (unlikely((mask & grouped) != 0)) {
+                o = commit_group(o, mask & grouped);
+                mask &= stamped;
+            }
+            for (; mask; mask &= mask - 1) {
+                const struct transaction *x = in_slot(least(mask));
                 uint32_t seen;
                 enum outcome outcome = land(x, &seen);
-                *(outcome == IS_PLACED ? &placed : &unplaced) += 1;
-                PUT("cpu ");
-                o = put_number(o, x->cpu);
-                o = put_text(o, &OUTCOME[outcome]);
-                o = put_sequence(o, x->tid, seen);
-                *o++ = '\n';
+                o = put_landing(o, x, outcome, seen);
                 collect(x, outcome);
             }
             if (unlikely(torn))
@@ -1420,7 +1589,7 @@ static const char *run(const char *p, const char *end, char **behind, enum fault
             const struct transaction *x = &transactions[n - 1];
             uint32_t seen;
             enum outcome outcome = land(x, &seen);
-            *(outcome == IS_PLACED ? &placed : &unplaced) += 1;
+            count_landing(outcome);
             PUT("late ");
             o = put_number(o, n);
             o = put_text(o, &OUTCOME[outcome]);
@@ -1439,7 +1608,7 @@ static const char *run(const char *p, const char *end, char **behind, enum fault
                     const struct record *r = RECORD(tid);
                     PUT("view ");
                     o = put_sequence(o, tid, r->tseq);
-                    o = put_facts(o, r->runnable, r->mask, r->class, r->name, r->name_length);
+                    o = put_facts(o, r->runnable, r->mask, r->class, THREAD(tid));
                     *o++ = '\n';
                 }
             }
@@ -1452,7 +1621,7 @@ static const char *run(const char *p, const char *end, char **behind, enum fault
                     t = THREAD(tid);
                     PUT("state ");
                     o = put_sequence(o, tid, t->tseq);
-                    o = put_facts(o, t->runnable, t->mask, t->class, t->name, t->name_length);
+                    o = put_facts(o, t->runnable, t->mask, t->class, t);
                     PUT(" cpu ");
                     o = put_cpu(o, t->cpu);
                     *o++ = '\n';

@@ -1,10 +1,13 @@
-//! Pages: a header of eight bytes and 40 for each thread, kept as words, lowest byte first.
+//! Pages: a header of eight bytes and a record for each thread, kept as words, lowest byte first. A record of version 2, which
+//! is written, has 48 bytes. One of version 1 has 40, since its mask has no CPU above 63.
 
 use crate::event::{Facts, Name, NO_CPU};
+use crate::mask::Mask;
 use crate::threads::Threads;
 
-const VERSION: u64 = 1;
-const RECORD: usize = 5;
+/// The words of a record of each version.
+pub const ONE: usize = 5;
+pub const TWO: usize = 6;
 
 /// What a page tells of a thread.
 pub struct Told {
@@ -23,22 +26,24 @@ pub fn write(threads: &Threads, from: u32, max: u16, page: &mut Vec<u64>) -> (u1
     for tid in living.by_ref().take(max.into()) {
         page.extend_from_slice(&record(threads, tid));
     }
-    let count = (page.len() / RECORD) as u16;
+    let count = (page.len() / TWO) as u16;
     let next = living.next();
     page[0] = (count as u64 | (next.is_none() as u64) << 16 | (next.unwrap_or(0) as u64) << 32).to_le();
     (count, next)
 }
 
 #[inline(always)]
-fn record(threads: &Threads, tid: u32) -> [u64; RECORD] {
+fn record(threads: &Threads, tid: u32) -> [u64; TWO] {
     let row = threads.row(tid);
     let status = row.status();
     let cpu = if status.is_on() { status.cpu() as u64 } else { 0xffff };
     let name = u128::from_le_bytes(row.name.bytes);
+    let [mask_low, mask_high] = row.mask.words();
     [
-        VERSION | (row.class as u64) << 16 | (row.name.length as u64) << 24 | (tid as u64) << 32,
+        2 | (row.class as u64) << 16 | (row.name.length as u64) << 24 | (tid as u64) << 32,
         status.tseq() as u64 | cpu << 32 | (status.is_runnable() as u64) << 48,
-        row.mask,
+        mask_low,
+        mask_high,
         name as u64,
         (name >> 64) as u64,
     ]
@@ -51,11 +56,19 @@ pub fn next(page: &[u64]) -> Option<u32> {
     (next != 0).then_some(next)
 }
 
-/// The threads of a page.
+/// Whether the records of a page are of version 1.
+pub fn is_of_one(page: &[u64]) -> bool {
+    page.get(1).is_some_and(|head| u64::from_le(*head) as u16 == 1)
+}
+
+/// The threads of a page whose records have so many words.
 #[inline(always)]
-pub fn read(page: &[u64]) -> impl DoubleEndedIterator<Item = Told> + '_ {
-    page[1..].as_chunks::<RECORD>().0.iter().map(|record| {
-        let [head, second, mask, low, high] = record.map(u64::from_le);
+pub fn read<const WORDS: usize>(page: &[u64]) -> impl DoubleEndedIterator<Item = Told> + '_ {
+    page[1..].as_chunks::<WORDS>().0.iter().map(|record| {
+        let record = record.map(u64::from_le);
+        let (head, second) = (record[0], record[1]);
+        let mask = Mask::of([record[2], if WORDS == TWO { record[3] } else { 0 }]);
+        let (low, high) = (record[WORDS - 2], record[WORDS - 1]);
         let name = (low as u128 | (high as u128) << 64).to_le_bytes();
         let cpu = (second >> 32) as u16;
         Told {

@@ -1,7 +1,10 @@
 //! The words that all parts speak: events, refusals, outcomes, names.
 
+use crate::mask::Mask;
+use crate::slots::Flags;
+
 /// The most CPUs, and the most threads.
-pub const MOST_CPUS: usize = 64;
+pub const MOST_CPUS: usize = 128;
 pub const MOST_THREADS: u32 = 65_536;
 /// Where a CPU would stand: there is none.
 pub const NO_CPU: u8 = 255;
@@ -25,7 +28,7 @@ impl Name {
 /// What is known of a thread beside its number.
 #[derive(Clone, Copy, Default)]
 pub struct Facts {
-    pub mask: u64,
+    pub mask: Mask,
     pub name: Name,
     pub class: u8,
     pub runnable: bool,
@@ -46,24 +49,25 @@ pub enum Policy {
     Two { slice: u16 },
 }
 
-/// A line of a script. A name is told by its place in the script and its length, 0 for the empty one.
+/// A line of a script. A name is told by its place in the script and its length, 0 for the empty one, and a mask by its
+/// place among the script's masks.
 #[derive(Clone, Copy)]
 pub enum Event {
-    Create { mask: u64, name: u32, length: u8, class: u8, runnable: bool },
+    Create { mask: u32, name: u32, length: u8, class: u8, runnable: bool },
     Block { tid: u32 },
     Wake { tid: u32 },
     Yield { tid: u32 },
     Die { tid: u32 },
-    Affinity { tid: u32, mask: u64 },
+    Affinity { tid: u32, mask: u32 },
     Take { cpu: u16 },
     Give { cpu: u16 },
     Tick { cpu: u16 },
     HandOff { cpu: u16 },
     Drain { max: u32 },
     Decide,
-    Commit { mask: u64 },
+    Commit { mask: u32 },
     Late { number: u32 },
-    Stamp { cpu: u16, tid: u32, preempt: bool },
+    Stamp { cpu: u16, tid: u32, flags: Flags },
     Crash,
     Leave,
     Begin { policy: Option<Policy> },
@@ -153,12 +157,13 @@ pub enum Outcome {
     CpuBusy,
     SeqSpent,
     HistoryFull,
+    GroupFailed = 14,
 }
 
 impl Outcome {
     /// The word of the reply line.
     pub fn word(self) -> &'static str {
-        const WORDS: [&str; 13] = [
+        const WORDS: [&str; 15] = [
             " placed ",
             " gone ",
             " displaced ",
@@ -172,6 +177,8 @@ impl Outcome {
             " cpubusy ",
             " seqspent ",
             " historyfull ",
+            "",
+            " groupfailed ",
         ];
         WORDS[self as usize]
     }
@@ -194,27 +201,6 @@ impl Outcome {
             SeqSpent,
             HistoryFull,
         ];
-        ALL[number as usize]
+        ALL.get(number as usize).copied().unwrap_or(GroupFailed)
     }
-}
-
-/// The CPUs of a mask, in increasing order.
-#[inline(always)]
-pub fn cpus_in(mut mask: u64) -> impl Iterator<Item = u8> {
-    std::iter::from_fn(move || {
-        let cpu = mask.trailing_zeros() as u8;
-        let some = mask != 0;
-        mask &= mask.wrapping_sub(1);
-        some.then_some(cpu)
-    })
-}
-
-#[inline(always)]
-pub fn has(mask: u64, cpu: u8) -> bool {
-    mask >> (cpu & 63) & 1 == 1
-}
-
-#[inline(always)]
-pub fn bit(cpu: u8) -> u64 {
-    1 << (cpu & 63)
 }

@@ -1,6 +1,6 @@
 //! Why a script does not run: the first fault of its first line that has one.
 
-use crate::event::Policy;
+use crate::event::{Policy, MOST_CPUS};
 use crate::kernel::Settings;
 use Fault::*;
 
@@ -23,7 +23,7 @@ pub fn words(line: &[u8]) -> Words<'_> {
 }
 
 /// The number that a word is, if it is one from `least` to `most`.
-fn number(word: &[u8], least: u64, most: u64) -> Result<u64, Fault> {
+fn number(word: &[u8], least: u128, most: u128) -> Result<u128, Fault> {
     let digits = std::str::from_utf8(word).map_err(|_| BadNumber)?;
     if !word.iter().all(u8::is_ascii_digit) || word.len() > 1 && word[0] == b'0' {
         return Err(BadNumber);
@@ -55,7 +55,7 @@ pub fn header(line: &[u8]) -> Result<(Settings, Policy), Fault> {
     let [_, cpus, ring, capacity, rest @ ..] = words.as_slice() else {
         return Err(BadCount);
     };
-    let cpus = number(cpus, 2, 64)? as u16;
+    let cpus = number(cpus, 2, MOST_CPUS as u128)? as u16;
     if ring != b"ring" {
         return Err(BadWord);
     }
@@ -70,7 +70,7 @@ pub fn header(line: &[u8]) -> Result<(Settings, Policy), Fault> {
 
 /// The parts of the header that may be absent.
 fn parts(mut words: &[&[u8]]) -> Result<([u32; 3], Policy), Fault> {
-    const PARTS: [(&[u8], u64, u64); 3] =
+    const PARTS: [(&[u8], u128, u128); 3] =
         [(b"first-tseq", 0, 4_294_967_294), (b"first-gen", 1, 4_294_967_295), (b"history", 2, 16_777_216)];
     let mut numbers = [0, 1, 16_777_216];
     let mut part = 0;
@@ -103,7 +103,7 @@ fn last_part(words: &[&[u8]]) -> Result<Policy, Fault> {
 }
 
 /// The words behind an event's first, a letter for each: a mask, a class, runnable or not, a name, a CPU, another number,
-/// the flag, which may be absent.
+/// the flags, which may be absent.
 const EVENTS: [(&[u8], &[u8]); 22] = [
     (b"create", b"MKRN"),
     (b"block", b"T"),
@@ -157,12 +157,12 @@ fn begin(words: &[&[u8]]) -> Result<(), Fault> {
 
 fn word_fault(kind: u8, word: &[u8]) -> Result<(), Fault> {
     match kind {
-        b'M' => number(word, 0, u64::MAX).map(drop),
+        b'M' => number(word, 0, u128::MAX).map(drop),
         b'K' => number(word, 0, 1).map(drop),
         b'C' => number(word, 0, 65_535).map(drop),
         b'T' => number(word, 0, u32::MAX.into()).map(drop),
         b'R' if word != b"r" && word != b"b" => Err(BadWord),
-        b'p' if word != b"p" => Err(BadWord),
+        b'p' if word != b"p" && word != b"g" && word != b"pg" => Err(BadWord),
         b'N' if word.len() > 16 => Err(BadName),
         _ => Ok(()),
     }

@@ -27,7 +27,7 @@ fn entry<'a>(lines: &'a mut Lines, kernel: &Kernel, entry: Entry) -> &'a mut Lin
         }
         Entry::Posted { kind, cpu, tid, tseq } => posted(lines, kind, tid, tseq, cpu),
         Entry::Affinity { tid, tseq, mask, cpu, off } => {
-            lines.text("posted affinity ").thread(tid, tseq).text(" mask ").long(mask).text(" cpu ").cpu(cpu);
+            lines.text("posted affinity ").thread(tid, tseq).text(" mask ").mask(mask).text(" cpu ").cpu(cpu);
             lines.text(if off { " off" } else { "" })
         }
         Entry::Placed { tid, tseq, generation, cpu } => {

@@ -1,11 +1,13 @@
 //! All that happened, an entry each. The name and the class of a thread never change, so they stand in its row alone.
 
+use crate::mask::Mask;
+
 #[derive(Clone, Copy)]
 pub enum Entry {
     Created {
         tid: u32,
         tseq: u32,
-        mask: u64,
+        mask: Mask,
         runnable: bool,
     },
     /// A message of this kind, none of the others here.
@@ -18,7 +20,7 @@ pub enum Entry {
     Affinity {
         tid: u32,
         tseq: u32,
-        mask: u64,
+        mask: Mask,
         cpu: u8,
         off: bool,
     },

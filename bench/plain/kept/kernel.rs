@@ -1,8 +1,9 @@
 //! The kernel: threads, CPUs, the ring to the agent, and the journal. Each call tests its refusals in order.
 
 use crate::dump;
-use crate::event::{bit, has, refuse_if, Facts, Refusal, MOST_CPUS, MOST_THREADS, NO_CPU};
+use crate::event::{refuse_if, Facts, Refusal, MOST_CPUS, MOST_THREADS, NO_CPU};
 use crate::journal::{Entry, Journal};
+use crate::mask::Mask;
 use crate::ring::{self, Ring};
 use crate::threads::{Row, Status, Threads};
 use Refusal::*;
@@ -29,10 +30,12 @@ pub struct Kernel {
     pub ring: Ring,
     pub journal: Journal,
     cpus: u16,
+    /// The CPUs that are not there.
+    absent: Mask,
     first_tseq: u32,
     /// The thread on each CPU, 0 for none.
     pub(crate) running: [u32; MOST_CPUS],
-    pub(crate) taken: u64,
+    pub(crate) taken: Mask,
     pub(crate) agent: Agent,
     /// The active agent's CPU, else `NO_CPU`.
     pub(crate) agent_cpu: u8,
@@ -50,9 +53,10 @@ impl Kernel {
             ring: Ring::new(settings.ring),
             journal: Journal::new(settings.history, settings.first_generation),
             cpus: settings.cpus,
+            absent: !Mask::first(settings.cpus),
             first_tseq: settings.first_tseq,
             running: [0; MOST_CPUS],
-            taken: 0,
+            taken: Mask::NONE,
             agent: Agent::Active,
             agent_cpu: 0,
             generation: settings.first_generation,
@@ -61,7 +65,7 @@ impl Kernel {
         }
     }
 
-    pub fn taken(&self) -> u64 {
+    pub fn taken(&self) -> Mask {
         self.taken
     }
 
@@ -82,8 +86,8 @@ impl Kernel {
     }
 
     /// Whether a mask has a CPU past the last.
-    pub fn is_past(&self, mask: u64) -> bool {
-        mask & !(u64::MAX >> (MOST_CPUS as u16 - self.cpus)) != 0
+    pub fn is_past(&self, mask: Mask) -> bool {
+        !(mask & self.absent).is_empty()
     }
 
     /// The number of a CPU that is there.
@@ -140,7 +144,7 @@ impl Kernel {
 
     /// A new thread: its number and the one of its first message.
     pub fn create(&mut self, facts: Facts) -> Result<(u32, u32), Refusal> {
-        refuse_if(facts.mask == 0 || self.is_past(facts.mask), EmptyMask)?;
+        refuse_if(facts.mask.is_empty() || self.is_past(facts.mask), EmptyMask)?;
         let (tid, tseq) = (self.threads.created() + 1, self.first_tseq + 1);
         refuse_if(tid > MOST_THREADS, TidsSpent)?;
         self.has_room(1)?;
@@ -189,15 +193,16 @@ impl Kernel {
     }
 
     /// A new mask: the number of its message, and the CPU that the thread was taken off, or `NO_CPU`.
-    pub fn affinity(&mut self, tid: u32, mask: u64) -> Result<(u32, u8), Refusal> {
+    pub fn affinity(&mut self, tid: u32, mask: Mask) -> Result<(u32, u8), Refusal> {
         let status = self.living(tid)?;
-        refuse_if(mask == 0 || self.is_past(mask), EmptyMask)?;
+        refuse_if(mask.is_empty() || self.is_past(mask), EmptyMask)?;
         refuse_if(status.tseq() == u32::MAX, SeqSpent)?;
         self.has_room(1)?;
         let (tseq, cpu) = (status.tseq() + 1, status.cpu());
-        let off = status.is_on() && !has(mask, cpu);
-        let [first, second] = ring::head(3, ring::AFFINITY, tid, tseq, cpu, off);
-        if self.ring.post([first, second, mask.to_le()]).is_err() {
+        let off = status.is_on() && !mask.has(cpu);
+        let [first, second] = ring::head(4, ring::AFFINITY, tid, tseq, cpu, off);
+        let [low, high] = mask.words();
+        if self.ring.post([first, second, low.to_le(), high.to_le()]).is_err() {
             return Err(self.tear());
         }
         self.journal.append(Entry::Affinity { tid, tseq, mask, cpu, off });
@@ -216,12 +221,16 @@ impl Kernel {
     fn seat(&self, cpu: u16, is_spent: bool) -> Result<u8, Refusal> {
         let cpu = self.cpu(cpu)?;
         refuse_if(cpu == self.agent_cpu, AgentThere)?;
-        refuse_if(has(self.taken, cpu), CpuTaken)?;
+        refuse_if(self.taken.has(cpu), CpuTaken)?;
         let there = self.running[cpu as usize % MOST_CPUS];
         refuse_if(there != 0 && self.threads.row(there).status().tseq() == u32::MAX, SeqSpent)?;
         refuse_if(is_spent, GenSpent)?;
         self.has_room(2)?;
         Ok(cpu)
+    }
+
+    pub(crate) fn is_busy(&self, cpu: u8) -> bool {
+        self.running[cpu as usize % MOST_CPUS] != 0
     }
 
     /// The thread on a CPU is told that it makes way, and does.
@@ -240,16 +249,16 @@ impl Kernel {
     pub fn take(&mut self, cpu: u16) -> Result<u8, Refusal> {
         let cpu = self.seat(cpu, false)?;
         self.preempt(cpu)?;
-        self.taken |= bit(cpu);
+        self.taken.insert(cpu);
         self.journal.append(Entry::Taken { cpu });
         Ok(cpu)
     }
 
     pub fn give(&mut self, cpu: u16) -> Result<u8, Refusal> {
         let cpu = self.cpu(cpu)?;
-        refuse_if(!has(self.taken, cpu), NotTaken)?;
+        refuse_if(!self.taken.has(cpu), NotTaken)?;
         self.has_room(1)?;
-        self.taken &= !bit(cpu);
+        self.taken.remove(cpu);
         self.journal.append(Entry::Given { cpu });
         Ok(cpu)
     }

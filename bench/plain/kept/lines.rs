@@ -1,6 +1,7 @@
 //! Reply lines, written into one block that is put out at the end.
 
 use crate::event::{Facts, Name, NO_CPU};
+use crate::mask::Mask;
 
 #[derive(Default)]
 pub struct Lines {
@@ -57,8 +58,8 @@ impl Lines {
         }
     }
 
-    /// A number of any length.
-    pub fn long(&mut self, mut n: u64) -> &mut Lines {
+    /// A number of up to 20 digits.
+    fn long(&mut self, mut n: u64) -> &mut Lines {
         if n < 100_000 {
             return self.number(n as u32);
         }
@@ -75,6 +76,37 @@ impl Lines {
         }
         self.bytes.extend_from_slice(&digits[at..]);
         self
+    }
+
+    /// The 18 digits of a number, zeros before them.
+    fn eighteen(&mut self, mut n: u64) -> &mut Lines {
+        let mut digits = [[0; 2]; 9];
+        for two in digits.iter_mut().rev() {
+            *two = pair((n % 100) as u32);
+            n /= 100;
+        }
+        self.bytes.extend_from_slice(digits.as_flattened());
+        self
+    }
+
+    /// The number of a mask.
+    #[inline(always)]
+    pub fn mask(&mut self, mask: Mask) -> &mut Lines {
+        match mask.words() {
+            [low, 0] => self.long(low),
+            _ => self.longest(mask.number()),
+        }
+    }
+
+    /// A number of more than 18 digits.
+    fn longest(&mut self, n: u128) -> &mut Lines {
+        const PART: u64 = 1_000_000_000_000_000_000;
+        let front = n / PART as u128;
+        match u64::try_from(front) {
+            Ok(front) => self.long(front),
+            Err(_) => self.longest(front),
+        }
+        .eighteen((n as u64).wrapping_sub((front as u64).wrapping_mul(PART)))
     }
 
     #[inline(always)]
@@ -109,7 +141,7 @@ impl Lines {
 
     #[inline(always)]
     pub fn facts(&mut self, facts: &Facts) -> &mut Lines {
-        self.text(if facts.runnable { " r mask " } else { " b mask " }).long(facts.mask);
+        self.text(if facts.runnable { " r mask " } else { " b mask " }).mask(facts.mask);
         self.text(if facts.class == 0 { " class 0 name " } else { " class 1 name " }).name(&facts.name)
     }
 }

@@ -2,12 +2,13 @@
 
 use crate::event::{Choice, Facts, Name, Policy};
 use crate::kernel::{Kernel, Settings};
+use crate::mask::Mask;
 use crate::role::Role;
-use crate::slots::Region;
+use crate::slots::{Flags, Region};
 
 const RING: usize = 1_048_576;
 const HISTORY: u32 = 16_777_216;
-/// So many creations wait at most until they are drained: their messages take half of the ring.
+/// So many creations wait at most until they are drained: their messages of 40 bytes fit into the ring.
 const CREATIONS: u32 = 16_384;
 /// The most messages that are drained if only those of a round wait.
 const MANY: u32 = 65_536;
@@ -21,7 +22,7 @@ struct Enclave {
     kernel: Kernel,
     role: Role,
     region: Region,
-    mask: u64,
+    mask: Mask,
     choices: Vec<Choice>,
     page: Vec<u64>,
 }
@@ -33,7 +34,7 @@ impl Enclave {
             kernel: Kernel::new(&settings),
             role: Role::new(Policy::First, cpus, 1, None),
             region: Region::new(),
-            mask: u64::MAX >> (64 - cpus) & !1,
+            mask: Mask::first(cpus).without(0),
             choices: Vec::new(),
             page: Vec::new(),
         };
@@ -53,7 +54,8 @@ impl Enclave {
     }
 
     fn stamp(&mut self, choice: Choice) {
-        let _ = self.role.stamp(&mut self.region, choice.cpu, choice.tid, choice.preempt);
+        let _ =
+            self.role.stamp(&mut self.region, choice.cpu, choice.tid, Flags { preempt: choice.preempt, group: false });
     }
 
     /// The stamped slots land, and are collected: how many they were.
@@ -130,7 +132,7 @@ pub fn run(words: &[&str]) -> Option<u64> {
         return None;
     };
     let (count, threads, cpus) = (count.parse().ok()?, threads.parse().ok()?, cpus.parse().ok()?);
-    if threads == 0 || !(2..=64).contains(&cpus) {
+    if threads == 0 || !(2..=128).contains(&cpus) {
         return None;
     }
     rounds(kind, count, threads, cpus)

@@ -3,9 +3,10 @@
 use crate::event::{refuse_if, Choice, Event, Facts, Name, Outcome, Policy, Refusal};
 use crate::kernel::{Agent, Kernel, Settings};
 use crate::lines::Lines;
+use crate::mask::Mask;
 use crate::ring::Message;
 use crate::role::Role;
-use crate::slots::{Region, Stamp};
+use crate::slots::{Flags, Region, Stamp};
 
 /// The slot of a CPU, as it was stamped. The facts that it was stamped from are those of that number, in the journal.
 struct Transaction {
@@ -35,6 +36,8 @@ impl Counts {
 pub struct Machine<'a> {
     /// The script, with room behind it: names stand there.
     text: &'a [u8],
+    /// Its masks.
+    masks: &'a [Mask],
     kernel: Kernel,
     role: Option<Role>,
     region: Region,
@@ -49,9 +52,10 @@ pub struct Machine<'a> {
 }
 
 impl<'a> Machine<'a> {
-    pub fn new(settings: &Settings, policy: Policy, text: &'a [u8]) -> Machine<'a> {
+    pub fn new(settings: &Settings, policy: Policy, text: &'a [u8], masks: &'a [Mask]) -> Machine<'a> {
         Machine {
             text,
+            masks,
             kernel: Kernel::new(settings),
             role: Some(Role::new(policy, settings.cpus, settings.first_generation, None)),
             region: Region::new(),
@@ -95,12 +99,12 @@ impl<'a> Machine<'a> {
             Event::HandOff { cpu } => self.kernel.hand_off(cpu).map(|cpu| self.seated(cpu)),
             Event::Activate { cpu } => self.kernel.activate(cpu).map(|cpu| self.seated(cpu)),
             Event::Drain { max } => self.drain(max),
-            Event::Stamp { cpu, tid, preempt } => self.stamp(cpu, tid, preempt),
+            Event::Stamp { cpu, tid, flags } => self.stamp(cpu, tid, flags),
             Event::Decide => self.decide(),
             Event::Commit { mask } => self.commit(mask),
             Event::Late { number } => self.late(number),
             Event::Crash => self.leave(false, "crashed\n"),
-            Event::Leave => self.leave(self.region.stamped() != 0, "left\n"),
+            Event::Leave => self.leave(!self.region.stamped().is_empty(), "left\n"),
             Event::Begin { policy } => self.begin(policy),
             Event::Page { max } => self.page(max),
             Event::View => self.view(),
@@ -121,16 +125,17 @@ impl<'a> Machine<'a> {
     }
 
     #[inline(always)]
-    fn create(&mut self, mask: u64, name: u32, length: u8, class: u8, runnable: bool) -> Result<(), Refusal> {
+    fn create(&mut self, mask: u32, name: u32, length: u8, class: u8, runnable: bool) -> Result<(), Refusal> {
         let bytes = self.text[name as usize..].first_chunk().unwrap_or(&[0; 16]);
+        let mask = self.masks[mask as usize];
         let (tid, tseq) = self.kernel.create(Facts { mask, name: Name::front(bytes, length), class, runnable })?;
         self.told("created ", tid, tseq);
         Ok(())
     }
 
     #[inline(always)]
-    fn affinity(&mut self, tid: u32, mask: u64) -> Result<(), Refusal> {
-        let (tseq, off) = self.kernel.affinity(tid, mask)?;
+    fn affinity(&mut self, tid: u32, mask: u32) -> Result<(), Refusal> {
+        let (tseq, off) = self.kernel.affinity(tid, self.masks[mask as usize])?;
         self.lines.text("affinity ").thread(tid, tseq);
         if off != crate::event::NO_CPU {
             self.lines.text(" off ").cpu(off);
@@ -173,7 +178,7 @@ impl<'a> Machine<'a> {
     }
 
     #[inline(always)]
-    fn stamp(&mut self, cpu: u16, tid: u32, preempt: bool) -> Result<(), Refusal> {
+    fn stamp(&mut self, cpu: u16, tid: u32, flags: Flags) -> Result<(), Refusal> {
         self.active()?;
         let cpu = self.kernel.cpu(cpu)?;
         let (kept, is_idle) = (self.transactions.len(), self.region.is_idle(cpu));
@@ -184,7 +189,7 @@ impl<'a> Machine<'a> {
             role.get(tid).ok_or(Refusal::NoThread)?;
             refuse_if(is_idle, Refusal::HistoryFull)?;
         }
-        let stamp = role.stamp(&mut self.region, cpu, tid, preempt)?;
+        let stamp = role.stamp(&mut self.region, cpu, tid, flags)?;
         self.transactions.push(Transaction { stamp, cpu });
         self.count("stamped ", kept as u32 + 1);
         Ok(())
@@ -202,7 +207,7 @@ impl<'a> Machine<'a> {
         refuse_if(count > 0 && self.transactions.len() + count > self.history, Refusal::HistoryFull)?;
         self.lines.text("decided ").number(count as u32).end();
         for &Choice { tid, cpu, preempt } in &self.choices {
-            let stamp = role.stamp(&mut self.region, cpu, tid, preempt)?;
+            let stamp = role.stamp(&mut self.region, cpu, tid, Flags { preempt, group: false })?;
             self.transactions.push(Transaction { stamp, cpu });
             let lines = self.lines.text("stamped ").number(self.transactions.len() as u32);
             lines.text(" cpu ").cpu(cpu).text(" thread ").number(tid);
@@ -215,7 +220,8 @@ impl<'a> Machine<'a> {
     }
 
     #[inline(always)]
-    fn commit(&mut self, mask: u64) -> Result<(), Refusal> {
+    fn commit(&mut self, mask: u32) -> Result<(), Refusal> {
+        let mask = self.masks[mask as usize];
         let (lines, counts) = (&mut self.lines, &mut self.counts);
         self.kernel.commit(&mut self.region, mask, |cpu, stamp, landing| {
             lines.text("cpu ").cpu(cpu);

@@ -15,6 +15,7 @@ mod bits;
 mod dump;
 mod event;
 mod faults;
+mod group;
 mod history;
 mod journal;
 mod kernel;
@@ -22,6 +23,7 @@ mod land;
 mod lines;
 mod loops;
 mod machine;
+mod mask;
 mod report;
 mod ring;
 mod role;
@@ -93,7 +95,7 @@ fn answer(asked: &Asked) -> io::Result<u8> {
         Ok(script) => script,
         Err((line, fault)) => return put(format!("fault line {line} {fault:?}\n").as_bytes()).map(|()| SCRIPT_FAULT),
     };
-    let mut machine = Machine::new(&script.settings, script.policy, &text);
+    let mut machine = Machine::new(&script.settings, script.policy, &text, &script.masks);
     for event in &script.events {
         machine.step(event);
     }

@@ -5,6 +5,7 @@
 //! together with that message.
 
 use crate::event::{Facts, Name, NO_CPU};
+use crate::mask::Mask;
 
 pub const CREATED: u16 = 1;
 pub const BLOCKED: u16 = 2;
@@ -79,15 +80,15 @@ impl Ring {
     #[inline(always)]
     pub fn post_creation(&mut self, tid: u32, tseq: u32, facts: &Facts) -> Result<(), Full> {
         let name = u128::from_le_bytes(facts.name.bytes);
-        let words = (33 + facts.name.length as usize) / 8;
+        let words = (41 + facts.name.length as usize) / 8;
         let [first, second] = head(words, CREATED, tid, tseq, NO_CPU, facts.runnable);
-        let mask = facts.mask.to_le();
-        let third = (facts.class as u64 | (facts.name.length as u64) << 8 | (name << 16) as u64).to_le();
-        let fourth = ((name >> 48) as u64).to_le();
+        let [low, high] = facts.mask.words().map(u64::to_le);
+        let fifth = (facts.class as u64 | (facts.name.length as u64) << 8 | (name << 16) as u64).to_le();
+        let sixth = ((name >> 48) as u64).to_le();
         match words {
-            4 => self.post([first, second, mask, third]),
-            5 => self.post([first, second, mask, third, fourth]),
-            _ => self.post([first, second, mask, third, fourth, ((name >> 112) as u64).to_le()]),
+            5 => self.post([first, second, low, high, fifth]),
+            6 => self.post([first, second, low, high, fifth, sixth]),
+            _ => self.post([first, second, low, high, fifth, sixth, ((name >> 112) as u64).to_le()]),
         }
     }
 
@@ -179,26 +180,26 @@ impl Message<'_> {
     }
 
     #[inline(always)]
-    pub fn mask(&self) -> u64 {
-        self.word(2)
+    pub fn mask(&self) -> Mask {
+        Mask::of([self.word(2), self.word(3)])
     }
 
     /// What a creation tells.
     #[inline(always)]
     pub fn facts(&self) -> Facts {
-        let third = self.word(3);
-        let length = (third >> 8) as u8;
-        let mut name = (third >> 16) as u128;
+        let fifth = self.word(4);
+        let length = (fifth >> 8) as u8;
+        let mut name = (fifth >> 16) as u128;
         if length > 6 {
-            name |= (self.word(4) as u128) << 48;
+            name |= (self.word(5) as u128) << 48;
         }
         if length > 14 {
-            name |= (self.word(5) as u128) << 112;
+            name |= (self.word(6) as u128) << 112;
         }
         Facts {
             mask: self.mask(),
             name: Name { bytes: name.to_le_bytes(), length },
-            class: third as u8,
+            class: fifth as u8,
             runnable: self.flag(),
         }
     }

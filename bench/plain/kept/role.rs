@@ -2,9 +2,10 @@
 
 use crate::bits::Bits;
 use crate::dump::{self, Told};
-use crate::event::{bit, cpus_in, Choice, Facts, Outcome, Policy, Refusal, MOST_CPUS, NO_CPU};
+use crate::event::{Choice, Facts, Outcome, Policy, Refusal, MOST_CPUS, NO_CPU};
+use crate::mask::Mask;
 use crate::ring::{self, Message, Ring};
-use crate::slots::{Region, Stamp};
+use crate::slots::{Flags, Region, Stamp};
 
 const MOST_TICKS: u16 = u16::MAX;
 
@@ -51,12 +52,12 @@ pub struct Role {
     /// The thread that each CPU is believed to run, 0 for none, and the ticks since.
     believed: [u32; MOST_CPUS],
     ticks: [u16; MOST_CPUS],
-    busy: u64,
+    busy: Mask,
     /// The CPUs with a stamp that was not collected.
-    stamped: u64,
+    stamped: Mask,
     /// Of each class the CPUs that some thread that waits may run on, and perhaps more.
-    wanted: [u64; 2],
-    usable: u64,
+    wanted: [Mask; 2],
+    usable: Mask,
     generation: u32,
     next_page: Option<u32>,
     policy: Policy,
@@ -74,10 +75,10 @@ impl Role {
             known: Bits::default(),
             believed: [0; MOST_CPUS],
             ticks: [0; MOST_CPUS],
-            busy: 0,
-            stamped: 0,
-            wanted: [0; 2],
-            usable: u64::MAX >> (MOST_CPUS as u16 - cpus),
+            busy: Mask::NONE,
+            stamped: Mask::NONE,
+            wanted: [Mask::NONE; 2],
+            usable: Mask::first(cpus),
             generation,
             next_page,
             policy,
@@ -160,7 +161,7 @@ impl Role {
         let cpu = std::mem::replace(&mut self.record(tid).cpu, NO_CPU);
         if cpu != NO_CPU {
             self.believed[cpu as usize % MOST_CPUS] = 0;
-            self.busy &= !bit(cpu);
+            self.busy.remove(cpu);
         }
     }
 
@@ -175,7 +176,7 @@ impl Role {
         }
         self.disbelieve(tid);
         self.believed[at] = tid;
-        self.busy |= bit(cpu);
+        self.busy.insert(cpu);
         self.record(tid).cpu = cpu;
         if before != 0 {
             self.record(before).cpu = NO_CPU;
@@ -274,15 +275,15 @@ impl Role {
 
     /// Stamps what is known of a thread into the idle slot of a CPU.
     #[inline(always)]
-    pub fn stamp(&mut self, region: &mut Region, cpu: u8, tid: u32, preempt: bool) -> Result<Stamp, Refusal> {
+    pub fn stamp(&mut self, region: &mut Region, cpu: u8, tid: u32, flags: Flags) -> Result<Stamp, Refusal> {
         let (_, tseq) = self.get(tid).ok_or(Refusal::NoThread)?;
         if !region.is_idle(cpu) {
             return Err(Refusal::SlotOpen);
         }
-        let stamp = Stamp { generation: self.generation, tid, tseq, preempt };
+        let stamp = Stamp { generation: self.generation, tid, tseq, flags };
         region.stamp(cpu, stamp);
         self.record(tid).stamps += 1;
-        self.stamped |= bit(cpu);
+        self.stamped.insert(cpu);
         self.take_out(tid + OTHERS);
         Ok(stamp)
     }
@@ -290,7 +291,7 @@ impl Role {
     /// Takes in what became of the slots that are done, which are idle then.
     pub fn collect(&mut self, region: &mut Region) {
         region.collect(|cpu, tid, outcome, at| {
-            self.stamped &= !bit(cpu);
+            self.stamped.remove(cpu);
             self.record(tid).stamps -= 1;
             if matches!(outcome, Outcome::Placed | Outcome::AlreadyPlaced) {
                 self.believe(at, tid);
@@ -301,11 +302,22 @@ impl Role {
 
     /// Takes a page in: what it tells of its threads is known.
     pub fn rebuild(&mut self, page: &[u64]) {
+        if dump::is_of_one(page) {
+            self.load::<{ dump::ONE }>(page);
+        } else {
+            self.load::<{ dump::TWO }>(page);
+        }
+        self.next_page = dump::next(page);
+    }
+
+    /// Takes in the records of a page, of so many words each.
+    #[inline(always)]
+    fn load<const WORDS: usize>(&mut self, page: &[u64]) {
         // Room for all of them at once.
-        if let Some(last) = dump::read(page).next_back() {
+        if let Some(last) = dump::read::<WORDS>(page).next_back() {
             self.touch(last.tid);
         }
-        for Told { tid, tseq, cpu, facts } in dump::read(page) {
+        for Told { tid, tseq, cpu, facts } in dump::read::<WORDS>(page) {
             let record = self.record(tid);
             if !record.known {
                 *record = Record { known: true, cpu: NO_CPU, ..Record::default() };
@@ -318,21 +330,20 @@ impl Role {
             }
             self.settle(tid);
         }
-        self.next_page = dump::next(page);
     }
 
     /// The CPUs that a thread of class 0, and one of class 1, may take from a thread of class 1, of these.
-    fn gains(&self, usable: u64) -> [u64; 2] {
+    fn gains(&self, usable: Mask) -> [Mask; 2] {
         let Policy::Two { slice } = self.policy else {
-            return [0; 2];
+            return [Mask::NONE; 2];
         };
-        let mut gains = [0; 2];
-        for cpu in cpus_in(usable & self.busy) {
+        let mut gains = [Mask::NONE; 2];
+        for cpu in (usable & self.busy).cpus() {
             let place = self.believed[cpu as usize % MOST_CPUS] + OTHERS;
             if self.records[place as usize].facts.class == 1 {
-                gains[0] |= bit(cpu);
+                gains[0].insert(cpu);
                 if self.ticks[cpu as usize % MOST_CPUS] >= slice {
-                    gains[1] |= bit(cpu);
+                    gains[1].insert(cpu);
                 }
             }
         }
@@ -341,25 +352,28 @@ impl Role {
 
     /// What the policy plans: those who wait get the least CPU of their mask that is free, else one that they may take.
     /// A row is walked up to where no CPU is left that anyone in it may have.
-    pub fn plan(&mut self, agent: u8, taken: u64, choices: &mut Vec<Choice>) {
+    pub fn plan(&mut self, agent: u8, taken: Mask, choices: &mut Vec<Choice>) {
         choices.clear();
-        let usable = self.usable & !bit(agent) & !taken & !self.stamped;
+        let usable = self.usable.without(agent) & !taken & !self.stamped;
         let mut free = usable & !self.busy;
         let mut gains = self.gains(usable);
         for class in 0..2 {
-            let (end, mut met, mut gain) = (1 + class as Place, 0, gains[class]);
+            let (end, mut met, mut gain) = (1 + class as Place, Mask::NONE, gains[class]);
             let mut place = self.records[end as usize].next;
-            while place != end && (free | gain) & self.wanted[class] != 0 {
+            while place != end && !((free | gain) & self.wanted[class]).is_empty() {
                 let Record { facts: Facts { mask, .. }, next, .. } = &self.records[place as usize];
+                let (mask, next) = (*mask, *next);
                 met |= mask;
-                let preempt = mask & free == 0;
+                let preempt = (mask & free).is_empty();
                 let open = mask & if preempt { gain } else { free };
-                if open != 0 {
-                    let cpu = open.trailing_zeros() as u8;
-                    (free, gain, gains[1]) = (free & !bit(cpu), gain & !bit(cpu), gains[1] & !bit(cpu));
+                if !open.is_empty() {
+                    let cpu = open.least();
+                    free.remove(cpu);
+                    gain.remove(cpu);
+                    gains[1].remove(cpu);
                     choices.push(Choice { tid: place - OTHERS, cpu, preempt });
                 }
-                place = *next;
+                place = next;
             }
             if place == end {
                 self.wanted[class] = met;

@@ -3,6 +3,8 @@
 use crate::event::{Event, Policy};
 use crate::faults::{self, Fault};
 use crate::kernel::Settings;
+use crate::mask::Mask;
+use crate::slots::{Flags, NO_FLAGS};
 
 pub const MOST_BYTES: usize = 1_048_576;
 /// So many bytes are there behind a text: a word is read as eight bytes, and a name as sixteen.
@@ -13,6 +15,7 @@ pub struct Script {
     pub settings: Settings,
     pub policy: Policy,
     pub events: Vec<Event>,
+    pub masks: Vec<Mask>,
 }
 
 /// Where the text's words are read.
@@ -107,10 +110,34 @@ impl Cursor<'_> {
             }
         }
         if self.at - first > 19 {
-            value = std::str::from_utf8(&self.text[first..self.at]).ok()?.parse().ok()?;
+            return None;
         }
         self.spaces()?;
         (value <= most).then_some(value)
+    }
+
+    /// A mask, which is put behind these: its place.
+    #[inline(always)]
+    fn mask(&mut self, masks: &mut Vec<Mask>) -> Option<u32> {
+        let first = self.at;
+        let mut value = (self.byte().wrapping_sub(b'0')) as u64;
+        if value > 9 {
+            return None;
+        }
+        self.at += 1;
+        if value > 0 {
+            loop {
+                let digit = self.byte().wrapping_sub(b'0');
+                if digit > 9 {
+                    break;
+                }
+                value = value.wrapping_mul(10).wrapping_add(digit.into());
+                self.at += 1;
+            }
+        }
+        masks.push(if self.at - first > 19 { long_mask(&self.text[first..self.at])? } else { Mask::of([value, 0]) });
+        self.spaces()?;
+        Some(masks.len() as u32 - 1)
     }
 
     #[inline(always)]
@@ -151,8 +178,8 @@ impl Cursor<'_> {
     }
 
     #[inline(always)]
-    fn create(&mut self) -> Option<Event> {
-        let mask = self.number(u64::MAX)?;
+    fn create(&mut self, masks: &mut Vec<Mask>) -> Option<Event> {
+        let mask = self.mask(masks)?;
         let class = self.number(1)? as u8;
         let runnable = self.letter(b'r')?;
         if !runnable && !self.letter(b'b')? {
@@ -160,6 +187,23 @@ impl Cursor<'_> {
         }
         let (name, length) = self.name()?;
         Some(Event::Create { mask, name, length, class, runnable })
+    }
+
+    #[inline(always)]
+    fn stamp(&mut self) -> Option<Event> {
+        let (cpu, tid) = (self.cpu()?, self.tid()?);
+        let flags = if self.byte() == b'\n' { NO_FLAGS } else { self.flags()? };
+        Some(Event::Stamp { cpu, tid, flags })
+    }
+
+    /// The flags of a stamp, of which there is one at least.
+    fn flags(&mut self) -> Option<Flags> {
+        let preempt = self.byte() == b'p';
+        self.at += preempt as usize;
+        let group = self.byte() == b'g';
+        self.at += group as usize;
+        self.spaces()?;
+        Some(Flags { preempt, group })
     }
 
     #[inline(always)]
@@ -175,30 +219,31 @@ impl Cursor<'_> {
         Some(Event::Begin { policy: Some(policy) })
     }
 
-    /// The event of a line, behind which the cursor stands then; none if the line is at fault or has no words.
+    /// The event of a line, behind which the cursor stands then; none if the line is at fault or has no words. Its mask is put
+    /// behind these.
     #[inline(always)]
-    fn event(&mut self) -> Option<Event> {
+    fn event(&mut self, masks: &mut Vec<Mask>) -> Option<Event> {
         let word = self.word()?;
         let place = place(word);
         if WORDS[place] != word {
             return None;
         }
         let event = match place {
-            CREATE => self.create()?,
+            CREATE => self.create(masks)?,
             BLOCK => Event::Block { tid: self.tid()? },
             WAKE => Event::Wake { tid: self.tid()? },
             YIELD => Event::Yield { tid: self.tid()? },
             DIE => Event::Die { tid: self.tid()? },
-            AFFINITY => Event::Affinity { tid: self.tid()?, mask: self.number(u64::MAX)? },
+            AFFINITY => Event::Affinity { tid: self.tid()?, mask: self.mask(masks)? },
             TAKE => Event::Take { cpu: self.cpu()? },
             GIVE => Event::Give { cpu: self.cpu()? },
             TICK => Event::Tick { cpu: self.cpu()? },
             HANDOFF => Event::HandOff { cpu: self.cpu()? },
             DRAIN => Event::Drain { max: self.tid()? },
             DECIDE => Event::Decide,
-            COMMIT => Event::Commit { mask: self.number(u64::MAX)? },
+            COMMIT => Event::Commit { mask: self.mask(masks)? },
             LATE => Event::Late { number: self.tid()? },
-            STAMP => Event::Stamp { cpu: self.cpu()?, tid: self.tid()?, preempt: self.letter(b'p')? },
+            STAMP => self.stamp()?,
             CRASH => Event::Crash,
             LEAVE => Event::Leave,
             BEGIN => self.begin()?,
@@ -243,13 +288,14 @@ impl Cursor<'_> {
         }
     }
 
-    /// The events up to this place.
-    fn events(&mut self, end: usize) -> Result<Vec<Event>, Fault> {
+    /// The events up to this place, and their masks.
+    fn events(&mut self, end: usize) -> Result<(Vec<Event>, Vec<Mask>), Fault> {
         let mut events = Vec::with_capacity((end - self.at.min(end)) / 12 + 1);
+        let mut masks = Vec::new();
         while self.at < end {
             // A copy, which can stand in the processor's registers.
             let mut cursor = *self;
-            if let Some(event) = cursor.event() {
+            if let Some(event) = cursor.event(&mut masks) {
                 events.push(event);
                 self.at = cursor.at;
                 continue;
@@ -260,8 +306,18 @@ impl Cursor<'_> {
                 return Err(faults::event(self.line()).expect_err("a line that is no event has a fault"));
             }
         }
-        Ok(events)
+        Ok((events, masks))
     }
+}
+
+/// The mask of more than 19 digits.
+fn long_mask(digits: &[u8]) -> Option<Mask> {
+    let mut number = 0_u128;
+    for part in digits.chunks(19) {
+        let value = part.iter().fold(0, |value, digit| 10 * value + u64::from(digit - b'0'));
+        number = number.checked_mul(10_u64.pow(part.len() as u32).into())?.checked_add(value.into())?;
+    }
+    Some(Mask::numbered(number))
 }
 
 fn is_bad(byte: u8) -> bool {
@@ -289,9 +345,9 @@ pub fn read(text: &[u8], length: usize) -> Result<Script, (usize, Fault)> {
     if cursor.at < end {
         let (settings, policy) = faults::header(cursor.line()).map_err(|fault| at(&cursor, fault))?;
         cursor.next_line();
-        let events = cursor.events(end).map_err(|fault| at(&cursor, fault))?;
+        let (events, masks) = cursor.events(end).map_err(|fault| at(&cursor, fault))?;
         if bad.is_none() {
-            return Ok(Script { settings, policy, events });
+            return Ok(Script { settings, policy, events, masks });
         }
     }
     cursor.at = end;

@@ -2,6 +2,7 @@
 
 use crate::bits::Bits;
 use crate::event::{Facts, Name, NO_CPU};
+use crate::mask::Mask;
 
 /// The number in bits 0 to 31, the CPU (255 for none) from 32 on, then runnable, alive, on a CPU.
 #[derive(Clone, Copy)]
@@ -47,7 +48,7 @@ impl Status {
 #[derive(Clone, Copy)]
 pub struct Row {
     status: Status,
-    pub mask: u64,
+    pub mask: Mask,
     pub name: Name,
     pub class: u8,
 }
