@@ -1,0 +1,2 @@
+#!/bin/sh
+exec "${0%/*}/../../../bench/pictures" 800

@@ -1,0 +1,2 @@
+#!/bin/sh
+exec "${0%/*}/short-stays.make" 100000
