@@ -25,11 +25,12 @@ use Rattle.gs_kernel.specs.declared.answer.Answer.TheVariants as answers
 use Rattle.gs_kernel.specs.Legal.{Legal, Room, RoomOf, Tells, effect, last_in, refusal as kernel_refuses}
 use Rattle.gs_core.specs.declared.event.Event.{Event}
 use Rattle.gs_core.specs.declared.event.Event.TheVariants as events
-use Rattle.gs_core.specs.declared.reply.Reply.{Reply}
-use Rattle.gs_core.specs.declared.reply.Reply.TheVariants as replies
+use Rattle.gs_replies.specs.declared.reply.Reply.{Reply}
+use Rattle.gs_replies.specs.declared.reply.Reply.TheVariants as replies
 use Rattle.gs_kernel.proofs.Laws.{Entails, tells_map}
 use Rattle.gs_agent.specs.Role.{RoleOf}
-use Rattle.gs_core.specs.Answers.{answered, follows, on_cpu, reply_of}
+use Rattle.gs_core.specs.Answers.{answered, follows, on_cpu}
+use Rattle.gs_replies.specs.Replies.{reply_of}
 use Rattle.gs_core.specs.Machine.{Agent, Carries, Plan, State, IsFit, fits_into, freed_by, is_given_all, kernel_refusal, led, promoted, refusal, standing_refusal, stays_with, told_refusal, Does, IsShort, Serves, Step}
 use Rattle.gs_core.specs.Held.{agent_of}
 use Rattle.gs_core.proofs.Leads.{freed_by_none, led_by_none}

@@ -16,8 +16,8 @@ use Rattle.gs_kernel.specs.Kernel.{next_generation}
 use Rattle.gs_kernel.specs.Legal.{Tells, effect}
 use Rattle.gs_kernel.specs.Shown.{live_from}
 use Rattle.gs_core.specs.declared.event.Event.{Event}
-use Rattle.gs_core.specs.declared.reply.Reply.{Reply}
-use Rattle.gs_core.specs.declared.reply.Reply.TheVariants as replies
+use Rattle.gs_replies.specs.declared.reply.Reply.{Reply}
+use Rattle.gs_replies.specs.declared.reply.Reply.TheVariants as replies
 use Rattle.gs_core.specs.declared.stage.Stage.{Stage}
 use Rattle.gs_core.specs.declared.stage.Stage.TheVariants.{Crash, Begin, Page, Activate}
 use Rattle.gs_core.specs.Machine.{Does, IsShort, Plan, Serves, State, Step, carried, crashed, fits, led, next_dump, page_of, planned, refusal}

@@ -19,7 +19,7 @@ use Rattle.gs_mind.specs.Mind.{picture_of}
 use Rattle.gs_mind.specs.Picture.{Picture, after_all, after_stamp}
 use Rattle.gs_policy.specs.declared.choice.Choice.{Choice}
 use Rattle.gs_agent.specs.declared.drained.Drained.{Drained}
-use Rattle.gs_core.specs.declared.config.Config.{Config}
+use Rattle.gs_replies.specs.declared.config.Config.{Config}
 use Rattle.gs_core.specs.Machine.{Agent, Plan, State, planning, Drains, Takes, committed, mind_of, page_of, picture, stamp_of, stamps, stamps_all, stamps_with, start, thinking, unread, view}
 use Rattle.gs_core.specs.Good.{Good}
 use Rattle.gs_core.specs.Trust.{AreSeen, IsSeen, NoneDone, Trusted, Trusts}

@@ -13,8 +13,8 @@ use Rattle.gs_core.specs.declared.transaction.Transaction.{Transaction}
 use Rattle.gs_core.specs.Machine.{Plan, State, planning, start}
 use Rattle.gs_core.specs.Safe.{IsIn, IsBacked, OnOne}
 use Rattle.gs_core.specs.Good.{Good}
-use Rattle.gs_core.specs.declared.config.Config.{Config}
-use Rattle.gs_core.specs.Config.{settings_of}
+use Rattle.gs_replies.specs.declared.config.Config.{Config}
+use Rattle.gs_replies.specs.Config.{settings_of}
 use Rattle.gs_core.specs.declared.event.Event.{Event}
 use Rattle.gs_core.specs.declared.event.Event.TheVariants as events
 use Rattle.gs_core.specs.Desk.{AreBelow}

@@ -1,4 +1,4 @@
--- What the kernel's answer to a command makes of the agent's role, and the machine's reply to it.
+-- What the kernel's answer to a command makes of the agent's role.
 use Rattle.std.specs.Prelude.{ℕ, Option, option_map}
 use Rattle.gs_journal.specs.declared.entry.Entry.{Entry}
 use Rattle.gs_journal.specs.declared.entry.Entry.TheVariants.{Role}
@@ -6,8 +6,6 @@ use Rattle.gs_kernel.specs.declared.answer.Answer.{Answer}
 use Rattle.gs_kernel.specs.declared.answer.Answer.TheVariants as answers
 use Rattle.gs_mind.specs.Mind.{moved}
 use Rattle.gs_agent.specs.Role.{RoleOf}
-use Rattle.gs_core.specs.declared.reply.Reply.{Reply}
-use Rattle.gs_core.specs.declared.reply.Reply.TheVariants as replies
 
 -- a role on a CPU, of a generation
 abbrev pub on_cpu : {P : Type 0} → ℕ → ℕ → RoleOf P → RoleOf P
@@ -23,9 +21,3 @@ abbrev pub answered : {P : Type 0} → Answer → Option (RoleOf P) → Option (
 answered (answers.Refused f) o = o
 answered answers.Torn o = o
 answered (answers.Done e) o = follows e o
-
--- the machine's reply, by the kernel's answer
-abbrev pub reply_of : Answer → Reply
-reply_of (answers.Refused f) = replies.Refused f
-reply_of answers.Torn = replies.Torn
-reply_of (answers.Done e) = replies.Done e

@@ -27,7 +27,7 @@ use Rattle.gs_kernel.specs.Kernel.{has_agent, unless_torn}
 use Rattle.gs_kernel.specs.Shown.{live_threads}
 use Rattle.gs_kernel.specs.Attaching.{page_refusal}
 use Rattle.gs_kernel.specs.Dumped.{dumped}
-use Rattle.gs_dump.specs.Page.{Contents, page_spelling}
+use Rattle.gs_dump.specs.Page.{Contents}
 use Rattle.gs_ring.specs.Places.{free_after, need, record_len, written}
 use Rattle.gs_policy.specs.Shown.{Shown}
 use Rattle.gs_policy.specs.declared.choice.Choice.{Choice}
@@ -37,14 +37,15 @@ use Rattle.gs_mind.specs.Picture.{Picture, after_all, after_stamp, takes_in_all}
 use Rattle.gs_mind.specs.Pages.{after_page}
 use Rattle.gs_view.specs.Shown.{tids}
 use Rattle.std.specs.List.Sorted.{IsStrictlyIncreasing}
-use Rattle.gs_core.specs.declared.config.Config.{Config}
-use Rattle.gs_core.specs.Config.{settings_of}
+use Rattle.gs_replies.specs.declared.config.Config.{Config}
+use Rattle.gs_replies.specs.Config.{settings_of}
 use Rattle.gs_agent.specs.declared.drained.Drained.{Drained}
 use Rattle.gs_agent.specs.declared.drained.Stop.TheVariants as stops
 use Rattle.gs_core.specs.declared.event.Event.{Event}
 use Rattle.gs_core.specs.declared.event.Event.TheVariants as events
-use Rattle.gs_core.specs.declared.reply.Reply.{Reply}
-use Rattle.gs_core.specs.declared.reply.Reply.TheVariants as replies
+use Rattle.gs_replies.specs.declared.reply.Reply.{Reply}
+use Rattle.gs_replies.specs.declared.reply.Reply.TheVariants as replies
+use Rattle.gs_replies.specs.Replies.{page_reply}
 use Rattle.gs_core.specs.declared.transaction.Transaction.{Transaction}
 
 -- what an agent keeps: what it has in mind, and the tid where its next page begins, none if it needs no more pages
@@ -345,10 +346,6 @@ crashed m = record m { history = m.history ++ Left ∷ []; agent = None }
 -- the page that begins where the agent's next one does, of so many threads at most
 abbrev pub next_dump : State → ℕ → Contents
 next_dump m max = dumped m.settings m.history (unwrap_or (page_of m.agent) 0) max
-
--- the reply to a page: how many threads it tells of, where the next one begins, and its bytes
-abbrev pub page_reply : Contents → Reply
-page_reply p = replies.Page (length p.records) p.next (page_spelling p)
 
 -- the agent that attaches is told of the next threads that live
 pub record Attaches (m : State) (max : ℕ) (r : Reply) (m' : State) : Type 0 where

@@ -2,8 +2,8 @@
 use Rattle.std.specs.Prelude.{List, ◌∷◌}
 use Rattle.gs_core.specs.declared.event.Event.{Event}
 use Rattle.gs_core.specs.declared.event.Event.TheVariants.{Begin}
-use Rattle.gs_core.specs.declared.reply.Reply.{Reply}
-use Rattle.gs_core.specs.declared.reply.Reply.TheVariants.{Done}
+use Rattle.gs_replies.specs.declared.reply.Reply.{Reply}
+use Rattle.gs_replies.specs.declared.reply.Reply.TheVariants.{Done}
 
 -- the policy after an event with this reply: the one by which a new agent begins, if the event names it and is not refused
 abbrev pub policy_after : {P : Type 0} → Event P → Reply → P → P

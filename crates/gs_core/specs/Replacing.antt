@@ -4,8 +4,8 @@ use Rattle.gs_kernel.specs.declared.command.Command.TheVariants as commands
 use Rattle.gs_kernel.specs.Kernel.{has_agent}
 use Rattle.gs_core.specs.declared.event.Event.{Event}
 use Rattle.gs_core.specs.declared.event.Event.TheVariants as events
-use Rattle.gs_core.specs.declared.reply.Reply.{Reply}
-use Rattle.gs_core.specs.declared.reply.Reply.TheVariants as replies
+use Rattle.gs_replies.specs.declared.reply.Reply.{Reply}
+use Rattle.gs_replies.specs.declared.reply.Reply.TheVariants as replies
 use Rattle.gs_core.specs.declared.stage.Stage.{Stage}
 use Rattle.gs_core.specs.declared.stage.Stage.TheVariants.{Crash, Begin, Page, Activate}
 use Rattle.gs_core.specs.Machine.{Plan, State}

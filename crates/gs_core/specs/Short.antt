@@ -3,8 +3,8 @@ use Rattle.std.specs.Prelude.{Bool, true, false, Option, Some}
 use Rattle.gs_layout.specs.declared.refusal.Refusal.TheVariants.{OutOfMemory}
 use Rattle.gs_agent.specs.declared.drained.Stop.{Stop}
 use Rattle.gs_agent.specs.declared.drained.Stop.TheVariants.{Memory}
-use Rattle.gs_core.specs.declared.reply.Reply.{Reply}
-use Rattle.gs_core.specs.declared.reply.Reply.TheVariants.{Refused, Drained}
+use Rattle.gs_replies.specs.declared.reply.Reply.{Reply}
+use Rattle.gs_replies.specs.declared.reply.Reply.TheVariants.{Refused, Drained}
 
 abbrev pub is_memory : Option Stop → Bool
 is_memory (Some Memory) = true

@@ -1,10 +1,9 @@
-//! What becomes of the agent's role after a command, and the machine's reply to it.
+//! What becomes of the agent's role after a command.
 
 ghost use Rattle.std.specs.Prelude.{◌≡◌};
 ghost use Rattle.gs_kernel.specs.Fate.{answer_by};
-ghost use Rattle.gs_core.specs.Answers.{answered, follows, reply_of};
+ghost use Rattle.gs_core.specs.Answers.{answered, follows};
 
-use crate::reply::Reply;
 use gs_agent::Role;
 use gs_journal::Entry;
 use gs_kernel::Fate;
@@ -26,19 +25,6 @@ fn follow<P>(role: &mut Option<Role<P>>, entry: &Entry)
     if let Entry::Role { generation, cpu } = entry {
         if let Some(role) = role {
             role.promote(*generation, *cpu);
-        }
-    }
-}
-
-impl Reply {
-    /// Returns the reply to a command by its fate and the kernel's last entry.
-    pub fn by(fate: Fate, last: &Entry) -> Reply
-        ensures { result ≡ reply_of (answer_by fate last.now) }
-    {
-        match fate {
-            Fate::Refused { refusal } => Reply::Refused(refusal),
-            Fate::Torn => Reply::Torn,
-            Fate::Done => Reply::Done(*last),
         }
     }
 }

@@ -10,19 +10,18 @@ ghost use Rattle.gs_kernel.specs.Kernel.{IsRefusal};
 ghost use Rattle.gs_kernel.specs.Fate.{last_entry};
 ghost use Rattle.gs_core.specs.Fates.{reply_by};
 ghost use Rattle.gs_core.specs.declared.event.Event.{Event};
-ghost use Rattle.gs_core.specs.declared.reply.Reply.{Reply};
+ghost use Rattle.gs_replies.specs.declared.reply.Reply.{Reply};
 ghost use Rattle.gs_core.specs.Machine.{Attaches, Carries, Step, crashed, kernel_refusal, next_dump, planned_by, planning, standing_refusal, stays_with};
 ghost use Rattle.gs_core.specs.Policies.{policy_after};
 
 use crate::answers::follow_fate;
-use crate::items::Items;
 use crate::machine::Machine;
-use crate::reply::Reply;
 use gs_agent::Role;
 use gs_dump::{Page, read_page, write_page};
 use gs_kernel::{Command, Fate};
 use gs_layout::Refusal;
 use gs_policy::Counted;
+use gs_replies::{Items, Reply};
 use std::alloc::Global;
 
 impl<P: Counted + Copy> Machine<P> {

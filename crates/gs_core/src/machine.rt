@@ -2,7 +2,7 @@ ghost use Rattle.std.specs.Prelude.{◌≡◌, ◌+◌, ◌≤◌, ℕ, None, So
 ghost use Rattle.std.specs.Option.{option_map};
 ghost use Rattle.gs_kernel.specs.Kernel.{IsRefusal};
 ghost use Rattle.gs_kernel.specs.declared.settings.TheConstants.{MOST_HISTORY};
-ghost use Rattle.gs_core.specs.Config.{config_fault, IsFault};
+ghost use Rattle.gs_replies.specs.Config.{config_fault, IsFault};
 ghost use denote.Ref.{Bor};
 ghost use Rattle.gs_agent.specs.Role.{RoleOf};
 ghost use Rattle.gs_core.specs.Held.{agent_of};
@@ -15,11 +15,8 @@ ghost use Rattle.gs_ring.specs.Ends.{Posted};
 ghost use Rattle.gs_slots.specs.Reading.{states_in};
 ghost use Rattle.gs_core.specs.Safe.{Safe, IsFaithful, Run};
 
-use crate::config::{Config, ConfigFault};
 use crate::event::Event;
-use crate::items::Items;
 use crate::known::known_threads;
-use crate::reply::Reply;
 use crate::slots::MachineSlots;
 use crate::stamping::{stamp_all, stamp_choice, stamp_refusal};
 use crate::transaction::Transaction;
@@ -29,6 +26,7 @@ use gs_agent::Role;
 use gs_kernel::{Command, Fate, Kernel};
 use gs_layout::Refusal;
 use gs_policy::{Choice, Counted};
+use gs_replies::{Config, ConfigFault, Items, Reply};
 use gs_ring::ByteRing;
 use gs_slots::{Region, SlotState, Stamp};
 use gs_status::Mask;

@@ -5,9 +5,9 @@ ghost use Rattle.gs_core.specs.Machine.{planning};
 ghost use Rattle.gs_core.specs.Replacing.{Replaces};
 
 use crate::machine::Machine;
-use crate::reply::Reply;
 use crate::stage::Stage;
 use gs_policy::Counted;
+use gs_replies::Reply;
 use std::alloc::AllocError;
 
 impl<P: Counted + Copy> Machine<P> {

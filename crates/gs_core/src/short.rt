@@ -2,13 +2,13 @@ ghost use Rattle.std.specs.Prelude.{◌≡◌};
 ghost use Rattle.std.specs.List.{list_any};
 ghost use Rattle.gs_journal.specs.declared.entry.Entry.{Entry};
 ghost use Rattle.gs_kernel.specs.Fate.{answer_by};
-ghost use Rattle.gs_core.specs.Answers.{reply_of};
+ghost use Rattle.gs_replies.specs.Replies.{reply_of};
 ghost use Rattle.gs_core.specs.Short.{wants_memory};
 
-use crate::reply::Reply;
 use gs_agent::Stop;
 use gs_kernel::Fate;
 use gs_layout::Refusal;
+use gs_replies::Reply;
 
 /// Tells whether a reply says that memory ran out.
 fn wants_memory(reply: &Reply) -> bool

@@ -4,8 +4,8 @@ ghost use Rattle.std.specs.Prelude.{◌≡◌};
 ghost use Rattle.gs_core.specs.Replacing.{first_stage, stage_after, stage_event};
 
 use crate::event::Event;
-use crate::reply::Reply;
 use gs_kernel::Command;
+use gs_replies::Reply;
 
 /// What is done next as an agent is replaced.
 #[derive(Clone, Copy)]

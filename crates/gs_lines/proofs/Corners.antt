@@ -1,7 +1,7 @@
 -- What the definitions say of replies at their edge.
 use Rattle.std.proofs.Common.{◌≡◌, [], ◌∷◌, ◌++◌, codes, refl, None, Some, true, false}
 use Rattle.std.specs.Fmt.{digits}
-use Rattle.gs_core.specs.declared.reply.Reply.TheVariants as replies
+use Rattle.gs_replies.specs.declared.reply.Reply.TheVariants as replies
 use Rattle.gs_lines.specs.Lines.{lines, line}
 
 two_commits : lines (replies.Landed [] false ∷ replies.Stamped 0 ∷ replies.Landed [] false ∷ []) ≡ line (codes "stamped 0")

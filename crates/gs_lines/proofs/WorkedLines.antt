@@ -4,7 +4,7 @@ use Rattle.std.specs.Fmt.{digits}
 use Rattle.gs_layout.specs.declared.refusal.Refusal.TheVariants as refusals
 use Rattle.gs_layout.specs.declared.outcome.Outcome.TheVariants as outcomes
 use Rattle.gs_agent.specs.declared.drained.Stop.TheVariants.{Gap}
-use Rattle.gs_core.specs.declared.reply.Reply.TheVariants.{Refused, Torn, Done, Crashed, Page, Drained, Stamped, Decided, Landed, Late, View, State, Unread}
+use Rattle.gs_replies.specs.declared.reply.Reply.TheVariants.{Refused, Torn, Done, Crashed, Page, Drained, Stamped, Decided, Landed, Late, View, State, Unread}
 use Rattle.gs_journal.specs.declared.entry.Entry.TheVariants as entries
 use Rattle.gs_journal.specs.declared.entry.Entry.TheVariants.{Posted, Taken, Given, Placed, Role, Begin, Left}
 use Rattle.gs_layout.specs.declared.facts.Class.TheVariants.{Zero, One}

@@ -1,6 +1,6 @@
 ghost use Rattle.std.specs.Prelude.{◌≡◌, ◌≤◌, ◌++◌, IfOk, OnOk, codes, decimal, length};
 ghost use Rattle.gs_kernel.specs.Fate.{answer_by};
-ghost use Rattle.gs_core.specs.Answers.{reply_of};
+ghost use Rattle.gs_replies.specs.Replies.{reply_of};
 ghost use Rattle.gs_lines.specs.Lines.{refusal_text, outcome_text, drained_text, unless_zero, stop_text, line, landed_text, landing_text, landing_lines, late_text, next_text, page_text, torn_line, reply_lines, lines};
 
 use crate::choice_line::write_decided;

@@ -3,7 +3,7 @@ use Rattle.std.proofs.Common.{◌≡◌, ◌∙◌, refl, ℕ, ◌+◌, List, []
 use Rattle.std.specs.List.{list_any}
 use Rattle.std.proofs.lemmas.List.Folds.{list_any-append}
 use Rattle.std.proofs.lemmas.Grind.{common_steps}
-use Rattle.gs_core.specs.declared.reply.Reply.{Reply}
+use Rattle.gs_replies.specs.declared.reply.Reply.{Reply}
 use Rattle.gs_report.specs.Counts.{counts_more, counts_of, is_refusal, placed_in, tears_down, unplaced_in}
 
 sums : (f : Reply → ℕ) (rs : List Reply) (r : Reply) → sum_by f (rs ++ r ∷ []) ≡ sum_by f rs + f r

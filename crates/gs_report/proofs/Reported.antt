@@ -1,6 +1,6 @@
 -- A report that takes in one more reply.
 use Rattle.std.proofs.Common.{◌≡◌, ◌∙◌, ap, sym, List, [], ◌∷◌, ◌++◌}
-use Rattle.gs_core.specs.declared.reply.Reply.{Reply}
+use Rattle.gs_replies.specs.declared.reply.Reply.{Reply}
 use Rattle.gs_lines.specs.Lines.{reply_lines}
 use Rattle.gs_lines.proofs.Laws.{lines_more}
 use Rattle.gs_report.specs.Counts.{counts_more}

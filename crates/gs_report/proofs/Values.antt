@@ -4,7 +4,7 @@ use Rattle.serde_json.specs.Data.{string, depth, items_depth}
 use Rattle.serde_json.specs.Read.{max_depth}
 use Rattle.serde_json.specs.View.{items_of}
 use Rattle.serde_json.specs.Written.{has_float, items_have_float}
-use Rattle.gs_core.specs.declared.reply.Reply.{Reply}
+use Rattle.gs_replies.specs.declared.reply.Reply.{Reply}
 use Rattle.gs_lines.specs.Lines.{lines}
 use Rattle.gs_report.specs.Counts.{counts_of}
 use Rattle.gs_report.specs.declared.counts.Counts.{Counts}

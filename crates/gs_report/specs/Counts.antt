@@ -4,8 +4,8 @@ use Rattle.std.specs.List.{list_any}
 use Rattle.gs_layout.specs.declared.outcome.Outcome.{Outcome}
 use Rattle.gs_layout.specs.declared.outcome.Outcome.TheVariants.{Placed}
 use Rattle.gs_kernel.specs.declared.landing.Landing.{Landing}
-use Rattle.gs_core.specs.declared.reply.Reply.{Reply}
-use Rattle.gs_core.specs.declared.reply.Reply.TheVariants as replies
+use Rattle.gs_replies.specs.declared.reply.Reply.{Reply}
+use Rattle.gs_replies.specs.declared.reply.Reply.TheVariants as replies
 use Rattle.gs_report.specs.declared.counts.Counts.{Counts}
 
 -- the landings that a reply tells of

@@ -6,7 +6,7 @@ use Rattle.serde_json.specs.Data.{Data, boolean, number, unsigned, string, array
 use Rattle.serde_json.specs.Read.{read}
 use Rattle.serde_json.specs.View.{items_of}
 use Rattle.serde_json.specs.Written.{compact_text}
-use Rattle.gs_core.specs.declared.reply.Reply.{Reply}
+use Rattle.gs_replies.specs.declared.reply.Reply.{Reply}
 use Rattle.gs_lines.specs.Lines.{line, lines}
 use Rattle.gs_report.specs.Counts.{counts_of}
 use Rattle.gs_report.specs.declared.counts.Counts.{Counts}

@@ -2,7 +2,7 @@ ghost use Rattle.std.specs.Prelude.{◌≡◌, List, [], ◌∷◌, ◌++◌, If
 ghost use Rattle.serde_json.specs.View.{view};
 ghost use Rattle.serde_json.specs.Data.{string};
 ghost use Rattle.serde_json.specs.Written.{compact_text};
-ghost use Rattle.gs_core.specs.declared.reply.Reply as replies;
+ghost use Rattle.gs_replies.specs.declared.reply.Reply as replies;
 ghost use Rattle.gs_lines.specs.Lines.{line};
 ghost use Rattle.gs_report.specs.Report.{report_data, report_of, value_of, ReadsAs, ReportsOn};
 

@@ -2,7 +2,7 @@
 use Rattle.std.proofs.Common.{◌≡◌, ℕ, ◌≤◌, ◌%◌, true, false, refl, None}
 use Rattle.std.proofs.lemmas.Bool.{le-leb, le-ltb}
 use Rattle.gs_ring.specs.Places.{is_capacity}
-use Rattle.gs_core.specs.Config.{config_fault, is_outside}
+use Rattle.gs_replies.specs.Config.{config_fault, is_outside}
 use Rattle.gs_script.specs.declared.header.Firsts.{Firsts}
 use Rattle.gs_script.specs.Header.{AreAllowed}
 use Rattle.gs_script.proofs.Sizes.{configured}

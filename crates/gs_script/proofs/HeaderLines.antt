@@ -9,7 +9,7 @@ use Rattle.gs_script.specs.declared.script.LineError.{LineError}
 use Rattle.gs_script.specs.declared.script.LineError.TheVariants as lines
 use Rattle.gs_core.specs.declared.event.Event.{Event}
 use Rattle.gs_policy.specs.declared.any.AnyPolicy.{AnyPolicy}
-use Rattle.gs_core.specs.declared.config.Config.{Config}
+use Rattle.gs_replies.specs.declared.config.Config.{Config}
 use Rattle.gs_script.specs.declared.script.ScriptError.{ScriptError}
 use Rattle.gs_script.specs.declared.script.ScriptError.TheVariants as errors
 use Rattle.gs_script.specs.Held.{Gives, GivesBy, placed}

@@ -2,7 +2,7 @@
 use Rattle.std.proofs.Common.{◌≡◌, ℕ, List, [], ◌∷◌, map, Bool, true, false, refl, sym, ◌∙◌, ap, Ok, Err, codes, length, nat_lt, drop, arith, Option, Some, None}
 use Rattle.std.proofs.lemmas.Bool.Decides.{nat_tests}
 use Rattle.gs_policy.specs.declared.any.AnyPolicy.{AnyPolicy}
-use Rattle.gs_core.specs.declared.config.Config.{Config}
+use Rattle.gs_replies.specs.declared.config.Config.{Config}
 use Rattle.gs_script.specs.declared.fault.Reason.{Reason}
 use Rattle.gs_script.specs.declared.fault.Reason.TheVariants.{BadNumber}
 use Rattle.gs_script.specs.declared.header.Firsts.{Firsts}

@@ -1,7 +1,7 @@
 -- Scripts: what their bytes say.
 use Rattle.std.specs.Prelude.{ℕ, ◌+◌, nat_lt, List, [], ◌∷◌, Bool, true, not, ◌==◌, length, if◌then◌else◌, Option, Some, None, get_or, Result, Ok, Err}
 use Rattle.gs_policy.specs.declared.any.AnyPolicy.{AnyPolicy}
-use Rattle.gs_core.specs.declared.config.Config.{Config}
+use Rattle.gs_replies.specs.declared.config.Config.{Config}
 use Rattle.gs_core.specs.declared.event.Event.{Event}
 use Rattle.gs_script.specs.declared.fault.Reason.{Reason}
 use Rattle.gs_script.specs.declared.fault.Reason.TheVariants.{TooLong, BadByte, NoHeader}

@@ -1,5 +1,5 @@
 ghost use Rattle.std.specs.Prelude.{◌≡◌, ◌∷◌, ◌≤◌, ◌%◌, codes, IfOk, IfErr, IfSome};
-ghost use Rattle.gs_core.specs.Config.{config_fault};
+ghost use Rattle.gs_replies.specs.Config.{config_fault};
 ghost use Rattle.gs_script.specs.Rows.{shown};
 ghost use Rattle.gs_script.specs.Header.{header_of, config_in, capacity_in, part_in, policy_in, policy_named, firsts_in, AreAllowed};
 

@@ -1,6 +1,6 @@
 ghost use Rattle.std.specs.Prelude.{◌≡◌, ◌+◌, ◌<◌, ◌^◌, IfOk, IfErr, IfSome, length, None, Some, Ok, if◌then◌else◌};
 ghost use Rattle.std.specs.Result.{result_map_both};
-ghost use Rattle.gs_core.specs.Config.{config_fault};
+ghost use Rattle.gs_replies.specs.Config.{config_fault};
 ghost use Rattle.gs_script.specs.declared.script.ScriptError.TheVariants.{OutOfMemory};
 ghost use Rattle.gs_script.specs.Words.{lines_of};
 ghost use Rattle.gs_script.specs.Rows.{event_of, shown};

@@ -14,11 +14,11 @@ use Rattle.gs_kernel.specs.declared.command.Command.TheVariants as commands
 use Rattle.gs_ring.specs.Places.{need, pad_len}
 use Rattle.gs_policy.specs.declared.any.AnyPolicy.TheVariants as policies
 use Rattle.gs_policy.specs.declared.any.AnyPolicy.{AnyPolicy}
-use Rattle.gs_core.specs.declared.config.Config.{Config}
+use Rattle.gs_replies.specs.declared.config.Config.{Config}
 use Rattle.gs_core.specs.declared.event.Event.{Event}
 use Rattle.gs_core.specs.declared.event.Event.TheVariants as events
-use Rattle.gs_core.specs.declared.reply.Reply.{Reply}
-use Rattle.gs_core.specs.declared.reply.Reply.TheVariants as replies
+use Rattle.gs_replies.specs.declared.reply.Reply.{Reply}
+use Rattle.gs_replies.specs.declared.reply.Reply.TheVariants as replies
 use Rattle.gs_core.specs.Machine.{Plan, State, Step, start, planning}
 use Rattle.gs_core.specs.Safe.{Run}
 use Rattle.gs_core.proofs.Laws.{kept_faithful, kept_safe, kept_start, kept_step}

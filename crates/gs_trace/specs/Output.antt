@@ -1,7 +1,7 @@
 -- What is to be written for the bytes of an input.
 use Rattle.std.specs.Prelude.{◌≡◌, ⊤, ℕ, List, ◌++◌, false, map, codes, decimal, Result, Ok, Err}
 use Rattle.std.specs.List.{list_any}
-use Rattle.gs_core.specs.declared.reply.Reply.{Reply}
+use Rattle.gs_replies.specs.declared.reply.Reply.{Reply}
 use Rattle.gs_policy.specs.declared.any.AnyPolicy.{AnyPolicy}
 use Rattle.gs_policy.specs.Any.{any_takes}
 use Rattle.gs_policy.specs.Plan.{plan}

@@ -2,7 +2,7 @@
 use Rattle.std.specs.Prelude.{◌≡◌, ℕ, List, ◌++◌, ◌∷◌, [], false}
 use Rattle.std.specs.List.{list_any}
 use Rattle.gs_core.specs.declared.event.Event.{Event}
-use Rattle.gs_core.specs.declared.reply.Reply.{Reply}
+use Rattle.gs_replies.specs.declared.reply.Reply.{Reply}
 use Rattle.gs_core.specs.Machine.{Plan, State, Step}
 use Rattle.gs_core.specs.Safe.{Safe, IsFaithful, Run}
 use Rattle.gs_core.specs.Short.{wants_memory}

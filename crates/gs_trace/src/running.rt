@@ -2,9 +2,9 @@
 
 ghost use Rattle.std.specs.Prelude.{◌≡◌, List, [], ◌∷◌, ◌++◌, IfOk, OnOk, map};
 ghost use Rattle.gs_kernel.specs.Fate.{answer_by};
-ghost use Rattle.gs_core.specs.Answers.{reply_of};
+ghost use Rattle.gs_replies.specs.Replies.{reply_of};
 ghost use Rattle.gs_core.specs.Machine.{planned, planning};
-ghost use Rattle.gs_core.specs.declared.reply.Reply as replies;
+ghost use Rattle.gs_replies.specs.declared.reply.Reply as replies;
 ghost use Rattle.gs_lines.specs.Lines.{lines};
 ghost use Rattle.gs_report.specs.Report.{ReportsOn};
 ghost use Rattle.gs_trace.specs.Output.{any_plans};

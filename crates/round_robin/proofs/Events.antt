@@ -1,11 +1,11 @@
 -- Events whose policies are replaced twice, and what that says of a script's replies.
 use Rattle.std.proofs.Common.{◌≡◌, ◌∙◌, ap, List, [], ◌∷◌, map, refl}
 use Rattle.gs_policy.specs.declared.any.AnyPolicy.{AnyPolicy}
-use Rattle.gs_core.specs.declared.config.Config.{Config}
+use Rattle.gs_replies.specs.declared.config.Config.{Config}
 use Rattle.gs_core.specs.declared.event.Event.{Event}
 use Rattle.gs_core.specs.declared.event.Event.TheVariants as events
-use Rattle.gs_core.specs.declared.reply.Reply.{Reply}
-use Rattle.gs_core.specs.Config.{with_policy}
+use Rattle.gs_replies.specs.declared.reply.Reply.{Reply}
+use Rattle.gs_replies.specs.Config.{with_policy}
 use Rattle.gs_core.specs.Machine.{StateOf, planned, planning, start}
 use Rattle.gs_script.specs.Script.{Script}
 use Rattle.round_robin.specs.declared.policy.RoundRobin.{RoundRobin}

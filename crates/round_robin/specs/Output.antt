@@ -2,8 +2,8 @@
 use Rattle.std.specs.Prelude.{◌≡◌, ℕ, List, map, false, Result, Err, IsOkAnd}
 use Rattle.std.specs.List.{list_any}
 use Rattle.gs_core.specs.declared.event.Event.{Event}
-use Rattle.gs_core.specs.declared.reply.Reply.{Reply}
-use Rattle.gs_core.specs.Config.{with_policy}
+use Rattle.gs_replies.specs.declared.reply.Reply.{Reply}
+use Rattle.gs_replies.specs.Config.{with_policy}
 use Rattle.gs_core.specs.Machine.{Plan, State, planned, planning, start}
 use Rattle.gs_core.specs.Safe.{Run}
 use Rattle.gs_core.specs.Short.{wants_memory}

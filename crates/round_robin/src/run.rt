@@ -1,6 +1,6 @@
 ghost use Rattle.std.specs.Prelude.{◌≡◌, ◌≢◌, IfErr, IfOk, IsErrOf, None, OnOk, map};
 ghost use Rattle.std.specs.Io.KnownBytes.{Keeps};
-ghost use Rattle.gs_core.specs.Config.{config_fault};
+ghost use Rattle.gs_replies.specs.Config.{config_fault};
 ghost use Rattle.gs_core.specs.Machine.{planned, planning, start};
 ghost use Rattle.gs_policy.specs.declared.any.AnyPolicy as any;
 ghost use Rattle.gs_script.specs.Held.{seen};

@@ -1,6 +1,6 @@
 use Rattle.std.proofs.Common.{◌≡◌, ◌∙◌, List, ℕ, map}
 use Rattle.gs_core.specs.Machine.{planned, planning}
-use Rattle.gs_core.specs.declared.reply.Reply.{Reply}
+use Rattle.gs_replies.specs.declared.reply.Reply.{Reply}
 use Rattle.gs_lines.specs.Lines.{lines}
 use Rattle.gs_trace.specs.declared.form.Form.TheVariants.{Lines}
 use Rattle.gs_trace.specs.Output.{any_plans, shown_as}

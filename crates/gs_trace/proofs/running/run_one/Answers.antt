@@ -2,8 +2,8 @@ use Rattle.std.proofs.Common.{◌≡◌, ◌∙◌, ◌||◌, ap, subst, sym, fa
 use Rattle.gs_journal.specs.declared.entry.Entry.{Entry}
 use Rattle.gs_kernel.specs.Fate.{answer_by, last_entry}
 use Rattle.gs_core.specs.declared.event.Event.{Event}
-use Rattle.gs_core.specs.declared.reply.Reply.{Reply}
-use Rattle.gs_core.specs.Answers.{reply_of}
+use Rattle.gs_replies.specs.declared.reply.Reply.{Reply}
+use Rattle.gs_replies.specs.Replies.{reply_of}
 use Rattle.gs_core.specs.Machine.{Step, planned, planning}
 use Rattle.gs_core.specs.Short.{wants_memory}
 use Rattle.gs_trace.specs.Output.{any_plans}

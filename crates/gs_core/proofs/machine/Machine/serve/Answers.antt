@@ -4,7 +4,8 @@ use Rattle.gs_journal.specs.declared.entry.Entry.{Entry}
 use Rattle.gs_kernel.specs.declared.answer.Answer.{Answer}
 use Rattle.gs_kernel.specs.Fate.{answer_by, last_entry}
 use Rattle.gs_core.specs.declared.event.Event.TheVariants as events
-use Rattle.gs_core.specs.Answers.{answered, reply_of}
+use Rattle.gs_core.specs.Answers.{answered}
+use Rattle.gs_replies.specs.Replies.{reply_of}
 use Rattle.gs_core.specs.Machine.{State, Step, StateOf, planning}
 use Rattle.gs_core.specs.Held.{Suits, agent_of, machine_now}
 use Rattle.gs_core.proofs.Posting.{RingRoom, answered_agent, answered_slots, freed_after, led_by, legal_told, told_step, with_kernel}

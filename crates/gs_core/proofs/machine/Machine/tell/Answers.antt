@@ -3,7 +3,7 @@ use Rattle.gs_layout.specs.declared.refusal.Refusal.{Refusal}
 use Rattle.gs_kernel.specs.declared.command.Command.{Command}
 use Rattle.gs_kernel.specs.declared.command.Command.TheVariants.{Begin}
 use Rattle.gs_core.specs.declared.event.Event.TheVariants as events
-use Rattle.gs_core.specs.declared.reply.Reply.{Reply}
+use Rattle.gs_replies.specs.declared.reply.Reply.{Reply}
 use Rattle.gs_core.specs.Fates.{reply_by}
 use Rattle.gs_core.specs.Machine.{Plan, Serves, State, Step, StateOf, planning, refusal}
 use Rattle.gs_core.proofs.machine.Machine.tell.Goals as goal

@@ -10,7 +10,7 @@ use Rattle.gs_kernel.specs.Legal.{paged_by}
 use Rattle.gs_kernel.specs.declared.answer.Answer.TheVariants as answers
 use Rattle.gs_kernel.proofs.Laws.{begins_when, free_when}
 use Rattle.gs_agent.specs.Role.{RoleOf}
-use Rattle.gs_core.specs.declared.reply.Reply.TheVariants as replies
+use Rattle.gs_replies.specs.declared.reply.Reply.TheVariants as replies
 use Rattle.gs_core.specs.Machine.{Carries, State, StateOf, newcomer, planned_by, planning}
 use Rattle.gs_core.specs.Good.{Good}
 use Rattle.gs_core.specs.Held.{Kept, agent_of, machine_now}
