@@ -1,5 +1,6 @@
 -- The words of a board, and which of them a seat knows.
 use Rattle.std.specs.Prelude.{◌≡◌, ◌⊎◌, ℕ, ◌/◌, ◌%◌, ◌^◌, ◌≤◌, List, [], ◌∷◌, ◌++◌}
+use Rattle.gs_status.specs.declared.bit_word.TheConstants.{WORD_BITS}
 use Rattle.gs_board.specs.declared.words.Shown.{Shown}
 
 -- what a word of generation and CPU says
@@ -10,13 +11,13 @@ role_in word = (word / 65536, word % 65536)
 abbrev pub shown_role : Shown → ℕ × ℕ
 shown_role s = (s.generation, s.cpu)
 
--- the CPUs below 64 of a mask, as a word
+-- the first CPUs of a mask, as a word
 abbrev pub low_word : ℕ → ℕ
-low_word mask = mask % 2 ^ 64
+low_word mask = mask % 2 ^ WORD_BITS
 
--- the CPUs from 64 on, as a word
+-- the other CPUs of a mask, as a word
 abbrev pub high_word : ℕ → ℕ
-high_word mask = mask / 2 ^ 64
+high_word mask = mask / 2 ^ WORD_BITS
 
 module _ {A : Type 0} where
   abbrev pub StartsWith : List A → List A → Type 0

@@ -68,21 +68,21 @@ all_of xs mask k [] of = tt
 all_of xs mask k (z ∷ zs) of = one_more xs (has mask k) k z (group_in mask (suc k) zs) (head_of xs k z zs of) (all_of xs mask (suc k) zs (tail_of xs k z zs of))
 
 -- and their CPUs rise
-rises_from : (s : Settings) (n m : ℕ) (g : Group) → n ≤ m → Rises m s g → Rises n s g
+rises_from : (s : Settings) (n m : ℕ) (g : Group) → n ≤ m → Rises m s.cpus g → Rises n s.cpus g
 rises_from s n m [] le r = tt
 rises_from s n m (x ∷ g) le r = (omega (arith, le, r.0), r.1, r.2)
 
-rises_more : (s : Settings) (w : Bool) (k : ℕ) (z : SlotState) (g : Group) → ((b : Stamp) → z ≡ Stamped b → k < s.cpus) → Rises (suc k) s g → Rises k s (grouped w k z ++ g)
+rises_more : (s : Settings) (w : Bool) (k : ℕ) (z : SlotState) (g : Group) → ((b : Stamp) → z ≡ Stamped b → k < s.cpus) → Rises (suc k) s.cpus g → Rises k s.cpus (grouped w k z ++ g)
 rises_more s false k z g below rest = rises_from s k (suc k) g (omega arith) rest
 rises_more s true k Idle g below rest = rises_from s k (suc k) g (omega arith) rest
 rises_more s true k (Done b o a n) g below rest = rises_from s k (suc k) g (omega arith) rest
 rises_more s true k (Stamped b) g below rest = by_test b.group
   where
-    by_test : (p : Bool) → Rises k s (cond p ((k, b) ∷ []) [] ++ g)
+    by_test : (p : Bool) → Rises k s.cpus (cond p ((k, b) ∷ []) [] ++ g)
     by_test true = (omega arith, below b refl, rest)
     by_test false = rises_from s k (suc k) g (omega arith) rest
 
-rises_in : (s : Settings) (xs : List Transaction) (mask k : ℕ) (zs : List SlotState) → ((x : Transaction) → IsIn xs x → x.cpu < s.cpus) → AreOf xs k zs → Rises k s (group_in mask k zs)
+rises_in : (s : Settings) (xs : List Transaction) (mask k : ℕ) (zs : List SlotState) → ((x : Transaction) → IsIn xs x → x.cpu < s.cpus) → AreOf xs k zs → Rises k s.cpus (group_in mask k zs)
 rises_in s xs mask k [] within of = tt
 rises_in s xs mask k (z ∷ zs) within of =
     rises_more s (has mask k) k z (group_in mask (suc k) zs) (λ b e. let q = head_of xs k z zs of b e in omega (arith, within q.0 q.1, q.3)) (rises_in s xs mask (suc k) zs within (tail_of xs k z zs of))

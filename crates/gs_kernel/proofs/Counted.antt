@@ -83,3 +83,25 @@ count_some n c there = by_count (count_ones n) refl
     by_count : (k : ℕ) → count_ones n ≡ k → 0 < k
     by_count zero e = let away : has n c ≡ false = ap (λ m. has m c) (zero_from_ones n e) ∙ nobody c in absurd cc
     by_count (suc k) e = omega arith
+
+-- a mask without a CPU has no more than before
+pub count_fewer : (n m c : ℕ) → has m c ≡ false → ((i : ℕ) → i ≢ c → has m i ≡ has n i) → count_ones m ≤ count_ones n
+count_fewer n m c away others = by_test (has n c) refl
+  where
+    gone : has m c ≡ false
+    gone = away
+
+    same : (i : ℕ) → i ≢ c → has m i ≡ has n i
+    same = others
+
+    at_or_past : has n c ≡ false → (i : ℕ) → (c < i) ⊎ (i ≤ c) → c ≤ i → has m i ≡ has n i
+    at_or_past e i (inl lt) le = same i (λ q. absurd (omega (arith, q, lt)))
+    at_or_past e i (inr ge) le = let here : i ≡ c = omega (arith, ge, le) in ap (has m) here ∙ (gone ∙ sym (ap (has n) here ∙ e))
+
+    all_same : has n c ≡ false → (i : ℕ) → (i < c) ⊎ (c ≤ i) → has m i ≡ has n i
+    all_same e i (inl lt) = same i (λ q. absurd (omega (arith, q, lt)))
+    all_same e i (inr le) = at_or_past e i (cases_lt c i) le
+
+    by_test : (b : Bool) → has n c ≡ b → count_ones m ≤ count_ones n
+    by_test true e = omega (arith, count_without n m c e gone same)
+    by_test false e = let k : m ≡ n = same_from_bits m n (λ i. bit_same n m i (all_same e i (cases_lt i c))) in omega (arith, ap count_ones k)

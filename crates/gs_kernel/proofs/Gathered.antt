@@ -1,5 +1,5 @@
 -- A walk over the busy CPUs of a mask, which collects its group.
-use Rattle.std.proofs.Common.{List, ◌≡◌, ◌≢◌, ◌⊎◌, inl, inr, ℕ, zero, suc, ◌+◌, ◌-◌, ◌<◌, ◌≤◌, ◌++◌, ◌∷◌, [], Bool, true, false, cond, length, Option, None, Some, refl, ap, sym, subst, ◌∙◌, append-nil, arith, get_or, slice_get, take}
+use Rattle.std.proofs.Common.{List, ◌≡◌, ◌≢◌, ◌⊎◌, inl, inr, ℕ, zero, suc, ◌+◌, ◌-◌, ◌<◌, ◌≤◌, ◌++◌, ◌∷◌, [], Bool, true, false, cond, length, Option, None, Some, Ok, Err, refl, ap, sym, subst, ◌∙◌, append-nil, arith, get_or, slice_get, take}
 use Rattle.std.proofs.lemmas.Bool.{cases_lt, false≢true}
 use Rattle.std.specs.Prelude.{◌&&◌}
 use Rattle.std.proofs.lemmas.List.{take_all}
@@ -12,6 +12,7 @@ use Rattle.gs_slots.specs.State.{Held, is_grouped}
 use Rattle.gs_slots.proofs.Laws.{flag_is, state_at}
 use Rattle.gs_status.specs.Masks.{has}
 use Rattle.gs_kernel.specs.Group.{Group, group_in, grouped}
+use Rattle.gs_kernel.specs.Lands.{is_to_land}
 use Rattle.gs_kernel.proofs.Groups.{get_told, grouped_first}
 use Rattle.gs_kernel.proofs.Idle.{Alike, AllAlike, are_alike}
 
@@ -135,15 +136,16 @@ gathered_end busy left zs g w none =
 
 -- ---- the group of the busy ones of a mask is that of the mask
 
-idle_alone : (b : Bool) (k : ℕ) → grouped b k Idle ≡ []
-idle_alone true k = refl
-idle_alone false k = refl
+none_there : (b : Bool) (k : ℕ) (x : Held) → is_to_land x ≡ false → grouped b k (state_or_idle x) ≡ []
+none_there true k (Ok Idle) e = refl
+none_there true k (Ok (Done b o a n)) e = refl
+none_there true k (Ok (Stamped b)) e = absurd cc
+none_there true k (Err x) e = absurd cc
+none_there false k x e = refl
 
 one_group : (busy mask k : ℕ) (z : List ℕ) → Alike busy mask k z → grouped (has busy k) k (state_or_idle (state_in k z)) ≡ grouped (has mask k) k (state_or_idle (state_in k z))
 one_group busy mask k z (inl same) = ap (λ b. grouped b k (state_or_idle (state_in k z))) same
-one_group busy mask k z (inr p) =
-    let idle : state_or_idle (state_in k z) ≡ Idle = ap state_or_idle p.1 in
-    (ap (grouped (has busy k) k) idle ∙ idle_alone (has busy k) k) ∙ sym (ap (grouped (has mask k) k) idle ∙ idle_alone (has mask k) k)
+one_group busy mask k z (inr p) = none_there (has busy k) k (state_in k z) p.1 ∙ sym (none_there (has mask k) k (state_in k z) p.1)
 
 same_from : (busy mask k : ℕ) (region : List (List ℕ)) → AllAlike busy mask k region → group_in busy k (told_by k region) ≡ group_in mask k (told_by k region)
 same_from busy mask k [] alike = refl

@@ -175,7 +175,7 @@ makes_way room s P Q all done k h first mid keeps lt gives are free p = by_who (
     by_who None there g = subst (MadeWay s P all done k first) (sym g.1) (record { kept = p; ready = λ e. are; before = λ e. free; free = λ e. there })
     by_who (Some t) there g = by_fit t first there g
 
-make_way : (room : Room) (s : Settings) (P : History → Type 0) (Q : ℕ → Stamp → Type 0) (all done g : Group) (h : History) (fit : Bool) (h' : History) → IsKeptBy s P Q → AreBelow s g
+make_way : (room : Room) (s : Settings) (P : History → Type 0) (Q : ℕ → Stamp → Type 0) (all done g : Group) (h : History) (fit : Bool) (h' : History) → IsKeptBy s P Q → AreBelow s.cpus g
     → GiveWay room s g h fit h' → AreReady s h all → AreFree h done → P h → GaveWay s P all done g fit h'
 make_way room s P Q all done [] h fit h' keeps below gives are free p =
     subst (GaveWay s P all done [] fit) (sym gives.1) (record { kept = p; ready = λ e. are; before = λ e. free; free = λ e. tt })
@@ -204,7 +204,7 @@ place_all s P Q (x ∷ g) h keeps of apart are free p =
     (place_all s P Q g (h ++ placing x.0 x.1 ∷ []) keeps of.1 apart.1 (all_placed s h x g apart.0 are.2) (all_left h x g apart.0 free.1)
     (keeps.placed h x.0 x.1 are.0 (ready_placing s h x.0 x.1 free.0 are.1) of.0 p))
 
-below_of : (s : Settings) (h : History) (g : Group) → AreReady s h g → AreBelow s g
+below_of : (s : Settings) (h : History) (g : Group) → AreReady s h g → AreBelow s.cpus g
 below_of s h [] p = tt
 below_of s h (x ∷ g) p = (p.0, below_of s h g p.2)
 
@@ -229,7 +229,7 @@ own_placed s h g k b e = by_both (is_to_place (verdict s h k b)) refl (is_named_
     by_both true p true q t = absurd cc
     by_both false p q q' t = absurd (false≢true (sym p ∙ t))
 
-are_ready : (s : Settings) (h : History) (all g : Group) (n : ℕ) → Rises n s g → are_to_place s h all g ≡ true → AreReady s h g
+are_ready : (s : Settings) (h : History) (all g : Group) (n : ℕ) → Rises n s.cpus g → are_to_place s h all g ≡ true → AreReady s h g
 are_ready s h all [] n r e = tt
 are_ready s h all (x ∷ g) n r e =
     let p = and_parts (is_to_place (own_verdict s h all x.0 x.1)) (are_to_place s h all g) e in
@@ -246,7 +246,7 @@ other_thread false b p e = absurd (false≢true p)
 lt_true : (a b : ℕ) → a < b → nat_lt a b ≡ true
 lt_true a b lt = grind (arith, nat_tests)
 
-is_apart : (s : Settings) (h : History) (all : Group) (x : ℕ × Stamp) (g : Group) (n : ℕ) → ((p : ℕ × Stamp → Bool) → list_any p all ≡ false → p x ≡ false) → x.0 < n → Rises n s g → are_to_place s h all g ≡ true → IsApart x g
+is_apart : (s : Settings) (h : History) (all : Group) (x : ℕ × Stamp) (g : Group) (n : ℕ) → ((p : ℕ × Stamp → Bool) → list_any p all ≡ false → p x ≡ false) → x.0 < n → Rises n s.cpus g → are_to_place s h all g ≡ true → IsApart x g
 is_apart s h all x [] n covers lt r e = tt
 is_apart s h all x (y ∷ g) n covers lt r e =
     let p = and_parts (is_to_place (own_verdict s h all y.0 y.1)) (are_to_place s h all g) e in
@@ -254,7 +254,7 @@ is_apart s h all x (y ∷ g) n covers lt r e =
     let alone : (nat_lt x.0 y.0 && x.1.tid == y.1.tid) ≡ false = covers (λ z. nat_lt z.0 y.0 && z.1.tid == y.1.tid) (own_placed s h all y.0 y.1 p.0).1 in
     (not_equal x.0 y.0 low, other_thread (nat_lt x.0 y.0) (x.1.tid == y.1.tid) (lt_true x.0 y.0 low) alone, is_apart s h all x g (suc y.0) covers (omega (arith, low)) r.2 p.1)
 
-are_apart : (s : Settings) (h : History) (all g : Group) (n : ℕ) → ((p : ℕ × Stamp → Bool) → list_any p all ≡ false → list_any p g ≡ false) → Rises n s g → are_to_place s h all g ≡ true → AreApart g
+are_apart : (s : Settings) (h : History) (all g : Group) (n : ℕ) → ((p : ℕ × Stamp → Bool) → list_any p all ≡ false → list_any p g ≡ false) → Rises n s.cpus g → are_to_place s h all g ≡ true → AreApart g
 are_apart s h all [] n covers r e = tt
 are_apart s h all (x ∷ g) n covers r e =
     let p = and_parts (is_to_place (own_verdict s h all x.0 x.1)) (are_to_place s h all g) e in (
@@ -263,7 +263,7 @@ are_apart s h all (x ∷ g) n covers r e =
     )
 
 -- whatever a group's message, a placing and a tear-down keep of a history, a group that lands keeps
-pub group_keeps : (room : Room) (s : Settings) (P : History → Type 0) (Q : ℕ → Stamp → Type 0) (g : Group) (h : History) (fit : Bool) (h' : History) → IsKeptBy s P Q → AllOf Q g → Rises 0 s g
+pub group_keeps : (room : Room) (s : Settings) (P : History → Type 0) (Q : ℕ → Stamp → Type 0) (g : Group) (h : History) (fit : Bool) (h' : History) → IsKeptBy s P Q → AllOf Q g → Rises 0 s.cpus g
     → PutsIf (is_group_placed s h g) room s h g fit h' → P h → P h'
 group_keeps room s P Q g h fit h' keeps of rises puts p = by_verdict (is_group_placed s h g) refl puts
   where
@@ -387,7 +387,7 @@ gave_not a s x g h first mid e one = (false, mid, subst (λ q. GivesWay a h (pre
 
 -- ---- a group that is placed, in the kernel's steps
 
-are_numbered : (s : Settings) (h : History) (all g : Group) (n : ℕ) → Rises n s g → are_to_place s h all g ≡ true → AreNumbered s h g
+are_numbered : (s : Settings) (h : History) (all g : Group) (n : ℕ) → Rises n s.cpus g → are_to_place s h all g ≡ true → AreNumbered s h g
 are_numbered s h all [] n r e = tt
 are_numbered s h all (x ∷ g) n r e =
     let p = and_parts (is_to_place (own_verdict s h all x.0 x.1)) (are_to_place s h all g) e in
@@ -450,7 +450,7 @@ pub record Stands (s : Settings) (h : History) (g : Group) : Type 0 where
   pub least : length g ≤ group_entries h g
   pub most : length h + group_entries h g ≤ s.history
 
-pub stands : (s : Settings) (h : History) (g : Group) → Rises 0 s g → is_group_placed s h g ≡ true → Stands s h g
+pub stands : (s : Settings) (h : History) (g : Group) → Rises 0 s.cpus g → is_group_placed s h g ≡ true → Stands s h g
 stands s h g rises e =
     let p = and_parts (are_to_place s h g g) (not (is_full s h (group_entries h g))) e in
     record {
@@ -479,9 +479,17 @@ pub put_none : (room : Room) (s : Settings) (h : History) (g : Group) (fit : Boo
 put_none room s h g fit mid e t = (mid, subst (λ b. GiveWay room s g h b mid) e t, sym (append-nil mid))
 
 -- CPUs that rise are the enclave's
-pub rise_below : (s : Settings) (n : ℕ) (g : Group) → Rises n s g → AreBelow s g
+pub rise_below : (s : Settings) (n : ℕ) (g : Group) → Rises n s.cpus g → AreBelow s.cpus g
 rise_below s n [] r = tt
 rise_below s n (x ∷ g) r = (r.1, rise_below s (suc x.0) g r.2)
+
+pub rises_below : (n m more : ℕ) (g : Group) → m ≤ more → Rises n m g → Rises n more g
+rises_below n m more [] le r = tt
+rises_below n m more (x ∷ g) le r = (r.0, omega (arith, r.1, le), rises_below (suc x.0) m more g le r.2)
+
+pub below_more : (n m : ℕ) (g : Group) → n ≤ m → AreBelow n g → AreBelow m g
+below_more n m [] le b = tt
+below_more n m (x ∷ g) le b = (omega (arith, b.0, le), below_more n m g le b.1)
 
 -- the group of the first slots, and then of one more
 pub grouped_first : (mask k i : ℕ) (zs : List SlotState) (z : SlotState) → slice_get zs i ≡ Some z → group_in mask k (take (i + 1) zs) ≡ group_in mask k (take i zs) ++ grouped (has mask (k + i)) (k + i) z

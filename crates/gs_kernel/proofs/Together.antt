@@ -1,13 +1,15 @@
 -- A group in the slots of a region.
 use Rattle.std.proofs.Common.{List, ◌≡◌, ℕ, suc, zero, ◌+◌, ◌*◌, ◌<◌, ◌≤◌, ◌++◌, ◌∷◌, [], Bool, true, false, not, length, length-append, cond, Option, None, Some, Ok, Err, refl, ap, sym, subst, ◌∙◌, append_assoc, append-nil, arith, slice_get, slice_set, map}
-use Rattle.std.specs.Prelude.{◌&&◌}
-use Rattle.std.proofs.lemmas.Bool.{and_parts, eqb-true}
+use Rattle.std.proofs.lemmas.Option.{slice_get_within}
+use Rattle.std.specs.Prelude.{◌&&◌, ◌||◌, ◌==◌}
+use Rattle.std.proofs.lemmas.Bool.{and_parts, eqb-true, or_from, or_parts}
+use Rattle.std.proofs.lemmas.Bool.Decides.{nat_tests}
 use Rattle.gs_layout.specs.declared.outcome.Outcome.{Outcome}
 use Rattle.gs_layout.specs.declared.outcome.Outcome.TheVariants as outcomes
 use Rattle.gs_slots.specs.declared.state.Stamp.{Stamp}
 use Rattle.gs_slots.specs.declared.state.SlotState.{SlotState}
 use Rattle.gs_slots.specs.declared.state.SlotState.TheVariants.{Idle, Stamped, Done}
-use Rattle.gs_slots.specs.Busy.{is_busy, is_busy_at}
+use Rattle.gs_slots.specs.Busy.{is_busy, is_busy_if_any, is_busy_at}
 use Rattle.gs_slots.specs.Reading.{state_in, state_or_idle, told_by}
 use Rattle.gs_slots.specs.State.{Held}
 use Rattle.gs_slots.proofs.Laws.{quiet_read}
@@ -18,40 +20,41 @@ use Rattle.gs_kernel.specs.declared.settings.Settings.{Settings}
 use Rattle.gs_kernel.specs.Kernel.{is_full, preemption}
 use Rattle.gs_kernel.specs.Landing.{placing_entries, verdict}
 use Rattle.gs_kernel.specs.Legal.{Room}
-use Rattle.gs_kernel.specs.Lands.{Adds, LandsBytes, LandsRegion, is_to_place}
-use Rattle.gs_kernel.specs.Group.{AreStamped, CommitsRegion, Finishes, GiveWay, Group, IfFits, LandsTogether, PutsIf, SettlesGroup, are_to_place, group_entries, group_in, group_landing, group_outcome, grouped, is_group_placed, member_landing, or_failed, own_verdict, placings, together}
+use Rattle.gs_kernel.specs.Lands.{Adds, LandsBytes, LandsRegion, is_to_land, is_to_place}
+use Rattle.gs_kernel.specs.Group.{AreMarked, AreStamped, CommitsRegion, Finishes, GiveWay, Group, IfFits, LandsTogether, PutsIf, SettlesGroup, are_to_place, group_entries, group_in, group_landing, group_outcome, grouped, is_for, is_group_placed, is_named_below, marked_verdict, member_landing, or_failed, own_verdict, placings, together}
 use Rattle.gs_kernel.specs.Ready.{Rises}
 use Rattle.gs_kernel.proofs.Groups.{gave_few, none_put, own_placed}
 use Rattle.gs_kernel.proofs.Landings.{Entails, all_map_by, bytes_map}
 use Rattle.gs_kernel.proofs.Placings.{placing_when}
+use Rattle.gs_kernel.proofs.Marks.{marked_own}
 
 -- ---- the group of slots
 
-pub rises_from : (s : Settings) (n m : ℕ) (g : Group) → n ≤ m → Rises m s g → Rises n s g
+pub rises_from : (s : Settings) (n m : ℕ) (g : Group) → n ≤ m → Rises m s.cpus g → Rises n s.cpus g
 rises_from s n m [] le r = tt
 rises_from s n m (x ∷ g) le r = (omega (arith, le, r.0), r.1, r.2)
 
-pub rises_few : (s : Settings) (n : ℕ) (g : Group) → Rises n s g → n ≤ s.cpus → n + length g ≤ s.cpus
+pub rises_few : (s : Settings) (n : ℕ) (g : Group) → Rises n s.cpus g → n ≤ s.cpus → n + length g ≤ s.cpus
 rises_few s n [] r le = omega (arith, le)
 rises_few s n (x ∷ g) r le = let q = rises_few s (suc x.0) g r.2 (omega (arith, r.1)) in omega (arith, q, r.0)
 
-one_rises : (s : Settings) (k : ℕ) (g : Group) (wanted : Bool) (z : SlotState) → k < s.cpus → Rises (suc k) s g → Rises k s (grouped wanted k z ++ g)
+one_rises : (s : Settings) (k : ℕ) (g : Group) (wanted : Bool) (z : SlotState) → k < s.cpus → Rises (suc k) s.cpus g → Rises k s.cpus (grouped wanted k z ++ g)
 one_rises s k g false z lt r = rises_from s k (suc k) g (omega arith) r
 one_rises s k g true Idle lt r = rises_from s k (suc k) g (omega arith) r
 one_rises s k g true (Done b o a n) lt r = rises_from s k (suc k) g (omega arith) r
 one_rises s k g true (Stamped b) lt r = by_flag b.group
   where
-    more : Rises (suc k) s g
+    more : Rises (suc k) s.cpus g
     more = r
 
     low : k < s.cpus
     low = lt
 
-    by_flag : (f : Bool) → Rises k s (cond f ((k, b) ∷ []) [] ++ g)
+    by_flag : (f : Bool) → Rises k s.cpus (cond f ((k, b) ∷ []) [] ++ g)
     by_flag true = (omega arith, low, more)
     by_flag false = rises_from s k (suc k) g (omega arith) more
 
-pub group_rises : (s : Settings) (mask k : ℕ) (zs : List SlotState) → k + length zs ≤ s.cpus → Rises k s (group_in mask k zs)
+pub group_rises : (s : Settings) (mask k : ℕ) (zs : List SlotState) → k + length zs ≤ s.cpus → Rises k s.cpus (group_in mask k zs)
 group_rises s mask k [] le = tt
 group_rises s mask k (z ∷ zs) le = one_rises s k (group_in mask (suc k) zs) (has mask k) z (omega (arith, le)) (group_rises s mask (suc k) zs (omega (arith, le)))
 
@@ -59,7 +62,7 @@ told_many : (k : ℕ) (region : List (List ℕ)) → length (told_by k region) �
 told_many k [] = refl
 told_many k (z ∷ zs) = ap suc (told_many (suc k) zs)
 
-pub region_rises : (s : Settings) (mask : ℕ) (region : List (List ℕ)) → length region ≡ s.cpus → Rises 0 s (group_in mask 0 (told_by 0 region))
+pub region_rises : (s : Settings) (mask : ℕ) (region : List (List ℕ)) → length region ≡ s.cpus → Rises 0 s.cpus (group_in mask 0 (told_by 0 region))
 region_rises s mask region e = group_rises s mask 0 (told_by 0 region) (omega (arith, e, told_many 0 region))
 
 one_stamped : (whole : List (List ℕ)) (k : ℕ) (z : List ℕ) (g : Group) (wanted : Bool) (x : Held) → slice_get whole k ≡ Some z → state_in k z ≡ x → AreStamped whole g → AreStamped whole (grouped wanted k (state_or_idle x) ++ g)
@@ -94,12 +97,18 @@ region_stamped mask region = stamped_in mask 0 region region (λ i z e. let n : 
 
 -- ---- its slots are done
 
-set_beyond : {A : Type 0} (xs : List A) (k c : ℕ) (x : A) → k < c → slice_get (slice_set xs k x) c ≡ slice_get xs c
-set_beyond [] k c x lt = refl
-set_beyond (y ∷ ys) zero zero x lt = absurd (omega (arith, lt))
-set_beyond (y ∷ ys) zero (suc c) x lt = refl
-set_beyond (y ∷ ys) (suc k) zero x lt = absurd (omega (arith, lt))
-set_beyond (y ∷ ys) (suc k) (suc c) x lt = set_beyond ys k c x (omega (arith, lt))
+-- another place of a list stays, and what is put in its place is there
+set_other : {A : Type 0} (xs : List A) (k c : ℕ) (x : A) → (k ≡ c → ⊥) → slice_get (slice_set xs k x) c ≡ slice_get xs c
+set_other [] k c x differ = refl
+set_other (y ∷ ys) zero zero x differ = absurd (differ refl)
+set_other (y ∷ ys) zero (suc c) x differ = refl
+set_other (y ∷ ys) (suc k) zero x differ = refl
+set_other (y ∷ ys) (suc k) (suc c) x differ = set_other ys k c x (λ e. differ (ap suc e))
+
+set_here : {A : Type 0} (xs : List A) (k : ℕ) (z x : A) → slice_get xs k ≡ Some z → slice_get (slice_set xs k x) k ≡ Some x
+set_here [] k z x e = absurd cc
+set_here (y ∷ ys) zero z x e = refl
+set_here (y ∷ ys) (suc k) z x e = set_here ys k z x e
 
 pub set_many : {A : Type 0} (xs : List A) (k : ℕ) (x : A) → length (slice_set xs k x) ≡ length xs
 set_many [] k x = refl
@@ -107,41 +116,64 @@ set_many (y ∷ ys) zero x = refl
 set_many (y ∷ ys) (suc k) x = ap suc (set_many ys k x)
 
 -- those for higher CPUs are stamped still
-pub stamped_still : (s : Settings) (n j : ℕ) (zs : List (List ℕ)) (y : List ℕ) (g : Group) → j < n → Rises n s g → AreStamped zs g → AreStamped (slice_set zs j y) g
+pub stamped_still : (s : Settings) (n j : ℕ) (zs : List (List ℕ)) (y : List ℕ) (g : Group) → j < n → Rises n s.cpus g → AreStamped zs g → AreStamped (slice_set zs j y) g
 stamped_still s n j zs y [] lt r t = tt
 stamped_still s n j zs y (x ∷ g) lt r t =
     let low : j < x.0 = omega (arith, lt, r.0) in
-    (t.0, set_beyond zs j x.0 y low ∙ t.1, t.2, stamped_still s (suc x.0) j zs y g (omega (arith, low)) r.2 t.3)
+    (t.0, set_other zs j x.0 y (λ e. absurd (omega (arith, e, low))) ∙ t.1, t.2, stamped_still s (suc x.0) j zs y g (omega (arith, low)) r.2 t.3)
 
-busy_unless : (k : ℕ) (z : List ℕ) → (state_in k z ≡ Ok Idle → ⊥) → is_busy z ≡ true
-busy_unless k z other = by_busy (is_busy z) refl
+-- none of these is for a lower CPU
+none_below : (s : Settings) (n c : ℕ) (g : Group) → c < n → Rises n s.cpus g → is_for c g ≡ false
+none_below s n c [] lt r = refl
+none_below s n c (x ∷ g) lt r = or_from (x.0 == c) (is_for c g) (other x.0 c (omega (arith, lt, r.0))) (none_below s (suc x.0) c g (omega (arith, lt, r.0)) r.2)
   where
-    never : state_in k z ≡ Ok Idle → ⊥
-    never = other
+    other : (a b : ℕ) → b < a → (a == b) ≡ false
+    other a b lt = grind (arith, nat_tests, lt)
 
-    by_busy : (q : Bool) → is_busy z ≡ q → q ≡ true
-    by_busy true p = refl
-    by_busy false p = absurd (never (quiet_read k z p))
+differ : (a b : ℕ) → (a == b) ≡ false → a ≡ b → ⊥
+differ a b e q = absurd (grind (arith, nat_tests, e, q))
 
-not_idle : (x : Held) (b : Stamp) → x ≡ Ok (Stamped b) → x ≡ Ok Idle → ⊥
-not_idle x b e i = cc
+second : (a b : Bool) → a ≡ false → (a || b) ≡ true → b ≡ true
+second a b e t = ap (λ z. z || b) (sym e) ∙ t
 
-not_idle_done : (x : Held) (b : Stamp) (o : Outcome) (a : Option ℕ) (n : ℕ) → x ≡ Ok (Done b o a n) → x ≡ Ok Idle → ⊥
-not_idle_done x b o a n e i = cc
+one_slot : {A : Type 0} (x y : A) → Some x ≡ Some y → x ≡ y
+one_slot x y e = cc
 
-busy_set : (zs : List (List ℕ)) (k c : ℕ) (z y : List ℕ) → slice_get zs k ≡ Some z → is_busy z ≡ true → is_busy y ≡ true → is_busy_at (slice_set zs k y) c ≡ is_busy_at zs c
-busy_set [] k c z y e a b = refl
-busy_set (x ∷ zs) zero zero z y e a b = let same : x ≡ z = cc in b ∙ sym (ap is_busy same ∙ a)
-busy_set (x ∷ zs) zero (suc c) z y e a b = refl
-busy_set (x ∷ zs) (suc k) zero z y e a b = refl
-busy_set (x ∷ zs) (suc k) (suc c) z y e a b = busy_set zs k c z y e a b
+-- the slot of any other CPU stays
+pub finished_others : (l : ℕ × Stamp → Landing) (g : Group) (zs zs' : List (List ℕ)) (c : ℕ) → Finishes l g zs zs' → is_for c g ≡ false → slice_get zs' c ≡ slice_get zs c
+finished_others l [] zs zs' c f e = ap (λ q. slice_get q c) f
+finished_others l (x ∷ g) zs zs' c f e =
+    let p = or_parts (x.0 == c) (is_for c g) e in
+    finished_others l g (slice_set zs x.0 f.0) zs' c f.2 p.1 ∙ set_other zs x.0 c f.0 (differ x.0 c p.0)
 
--- no slot becomes idle or busy
-pub finished_busy : (s : Settings) (l : ℕ × Stamp → Landing) (n : ℕ) (g : Group) (zs zs' : List (List ℕ)) (c : ℕ) → Rises n s g → AreStamped zs g → Finishes l g zs zs' → is_busy_at zs' c ≡ is_busy_at zs c
-finished_busy s l n [] zs zs' c r t f = ap (λ q. is_busy_at q c) f
-finished_busy s l n (x ∷ g) zs zs' c r t f =
-    finished_busy s l (suc x.0) g (slice_set zs x.0 f.0) zs' c r.2 (stamped_still s (suc x.0) x.0 zs f.0 g (omega arith) r.2 t.3) f.2
-    ∙ busy_set zs x.0 c t.0 f.0 t.1 (busy_unless x.0 t.0 (not_idle (state_in x.0 t.0) x.1 t.2)) (busy_unless x.0 f.0 (not_idle_done (state_in x.0 f.0) x.1 (l x).outcome (l x).at (l x).seen f.1))
+-- a slot of the group is done
+pub finished_here : (s : Settings) (l : ℕ × Stamp → Landing) (n : ℕ) (g : Group) (zs zs' : List (List ℕ)) (c : ℕ) (y : List ℕ) → Rises n s.cpus g → AreStamped zs g → Finishes l g zs zs' → is_for c g ≡ true → slice_get zs' c ≡ Some y
+    → is_to_land (state_in c y) ≡ false
+finished_here s l n [] zs zs' c y r t f e there = absurd cc
+finished_here s l n (x ∷ g) zs zs' c y r t f e there = by_test (x.0 == c) refl (λ w. finished_here s l (suc x.0) g (slice_set zs x.0 f.0) zs' c y r.2 (stamped_still s (suc x.0) x.0 zs f.0 g (omega arith) r.2 t.3) f.2 w there)
+  where
+    t' : AreStamped zs (x ∷ g)
+    t' = t
+
+    r' : Rises n s.cpus (x ∷ g)
+    r' = r
+
+    f' : Finishes l (x ∷ g) zs zs'
+    f' = f
+
+    e' : is_for c (x ∷ g) ≡ true
+    e' = e
+
+    there' : slice_get zs' c ≡ Some y
+    there' = there
+
+    by_test : (b : Bool) → (x.0 == c) ≡ b → (is_for c g ≡ true → is_to_land (state_in c y) ≡ false) → is_to_land (state_in c y) ≡ false
+    by_test true q later =
+        let k : x.0 ≡ c = eqb-true x.0 c q in
+        let left : slice_get zs' x.0 ≡ Some f'.0 = finished_others l g (slice_set zs x.0 f'.0) zs' x.0 f'.2 (none_below s (suc x.0) x.0 g (omega arith) r'.2) ∙ set_here zs x.0 t'.0 f'.0 t'.1 in
+        let same : f'.0 ≡ y = one_slot f'.0 y (sym left ∙ (ap (slice_get zs') k ∙ there')) in
+        ap is_to_land (subst (λ m. state_in m y ≡ Ok (Done x.1 (l x).outcome (l x).at (l x).seen)) k (subst (λ w. state_in x.0 w ≡ Ok (Done x.1 (l x).outcome (l x).at (l x).seen)) same f'.1))
+    by_test false q later = later (second (x.0 == c) (is_for c g) q e')
 
 pub finished_many : (l : ℕ × Stamp → Landing) (g : Group) (zs zs' : List (List ℕ)) → Finishes l g zs zs' → length zs' ≡ length zs
 finished_many l [] zs zs' f = ap length f
@@ -175,41 +207,47 @@ map_same l m (x ∷ g) e = λ i. e.0 i ∷ map_same l m g e.1 i
 current_is : (s : Settings) (h : History) (k : ℕ) (b : Stamp) → verdict s h k b ≡ outcomes.Placed → b.tseq ≡ seq s.first_tseq h b.tid
 current_is s h k b e = eqb-true b.tseq (seq s.first_tseq h b.tid) (placing_when s h k b e).current
 
-one_same : (s : Settings) (h h' : History) (all : Group) (x : ℕ × Stamp) (o : Outcome) → x.1.tseq ≡ seq s.first_tseq h x.1.tid → member_landing s h' all (Some o) x ≡ group_landing s h h' x.0 x.1 o
-one_same s h h' all x o e = λ i. record { cpu = x.0; tid = x.1.tid; outcome = o; seen = e i; at = at s.cpus h' x.1.tid }
+one_same : (s : Settings) (h h' : History) (marks : ℕ) (x : ℕ × Stamp) (o : Outcome) → x.1.tseq ≡ seq s.first_tseq h x.1.tid → member_landing s h' marks (Some o) x ≡ group_landing s h h' x.0 x.1 o
+one_same s h h' marks x o e = λ i. record { cpu = x.0; tid = x.1.tid; outcome = o; seen = e i; at = at s.cpus h' x.1.tid }
 
-placed_same : (s : Settings) (h h' : History) (all g : Group) (o : Outcome) → are_to_place s h all g ≡ true → AllSame (member_landing s h' all (Some o)) (λ x. group_landing s h h' x.0 x.1 o) g
-placed_same s h h' all [] o e = tt
-placed_same s h h' all (x ∷ g) o e =
+placed_same : (s : Settings) (h h' : History) (marks : ℕ) (all g : Group) (o : Outcome) → are_to_place s h all g ≡ true → AllSame (member_landing s h' marks (Some o)) (λ x. group_landing s h h' x.0 x.1 o) g
+placed_same s h h' marks all [] o e = tt
+placed_same s h h' marks all (x ∷ g) o e =
     let p = and_parts (is_to_place (own_verdict s h all x.0 x.1)) (are_to_place s h all g) e in
-    (one_same s h h' all x o (current_is s h x.0 x.1 (own_placed s h all x.0 x.1 p.0).0), placed_same s h h' all g o p.1)
+    (one_same s h h' marks x o (current_is s h x.0 x.1 (own_placed s h all x.0 x.1 p.0).0), placed_same s h h' marks all g o p.1)
 
-one_failed : (s : Settings) (h h' : History) (all : Group) (x : ℕ × Stamp) → h' ≡ h → member_landing s h' all None x ≡ group_landing s h h' x.0 x.1 (or_failed (own_verdict s h all x.0 x.1))
-one_failed s h h' all x e = λ i. record { cpu = x.0; tid = x.1.tid; outcome = or_failed (own_verdict s (e i) all x.0 x.1); seen = seq s.first_tseq (e i) x.1.tid; at = at s.cpus h' x.1.tid }
+one_failed : (s : Settings) (h h' : History) (marks : ℕ) (all : Group) (x : ℕ × Stamp) → h' ≡ h → has marks x.0 ≡ is_named_below x.0 x.1.tid all
+    → member_landing s h' marks None x ≡ group_landing s h h' x.0 x.1 (or_failed (own_verdict s h all x.0 x.1))
+one_failed s h h' marks all x e m =
+    (λ i. record { cpu = x.0; tid = x.1.tid; outcome = or_failed (marked_verdict s (e i) marks x.0 x.1); seen = seq s.first_tseq (e i) x.1.tid; at = at s.cpus h' x.1.tid })
+    ∙ (λ i. record { cpu = x.0; tid = x.1.tid; outcome = or_failed (marked_own s h marks all x.0 x.1 m i); seen = seq s.first_tseq h x.1.tid; at = at s.cpus h' x.1.tid })
 
-failed_same : (s : Settings) (h h' : History) (all g : Group) → h' ≡ h → AllSame (member_landing s h' all None) (λ x. group_landing s h h' x.0 x.1 (or_failed (own_verdict s h all x.0 x.1))) g
-failed_same s h h' all [] e = tt
-failed_same s h h' all (x ∷ g) e = (one_failed s h h' all x e, failed_same s h h' all g e)
+failed_same : (s : Settings) (h h' : History) (marks : ℕ) (all g : Group) → h' ≡ h → AreMarked marks all g → AllSame (member_landing s h' marks None) (λ x. group_landing s h h' x.0 x.1 (or_failed (own_verdict s h all x.0 x.1))) g
+failed_same s h h' marks all [] e m = tt
+failed_same s h h' marks all (x ∷ g) e m = (one_failed s h h' marks all x e m.0, failed_same s h h' marks all g e m.1)
 
-all_same : (room : Room) (s : Settings) (h h' : History) (g : Group) (o : Option Outcome) (fit : Bool) → PutsIf (is_group_placed s h g) room s h g fit h' → o ≡ together s h g fit
-    → AllSame (member_landing s h' g o) (λ x. group_landing s h h' x.0 x.1 (group_outcome s h g fit x.0 x.1)) g
-all_same room s h h' g o fit puts is = by_all (are_to_place s h g g) refl puts is
+all_same : (room : Room) (s : Settings) (h h' : History) (marks : ℕ) (g : Group) (o : Option Outcome) (fit : Bool) → PutsIf (is_group_placed s h g) room s h g fit h' → o ≡ together s h g fit → AreMarked marks g g
+    → AllSame (member_landing s h' marks o) (λ x. group_landing s h h' x.0 x.1 (group_outcome s h g fit x.0 x.1)) g
+all_same room s h h' marks g o fit puts is marked = by_all (are_to_place s h g g) refl puts is
   where
     one : Outcome
     one = cond (is_full s h (group_entries h g)) outcomes.HistoryFull (cond fit outcomes.Placed outcomes.Gone)
 
+    marked' : AreMarked marks g g
+    marked' = marked
+
     by_all : (b : Bool) → are_to_place s h g g ≡ b → PutsIf (b && not (is_full s h (group_entries h g))) room s h g fit h' → o ≡ cond b (Some one) None
-        → AllSame (member_landing s h' g o) (λ x. group_landing s h h' x.0 x.1 (cond b one (or_failed (own_verdict s h g x.0 x.1)))) g
-    by_all true e p q = subst (λ (z : Option Outcome). AllSame (member_landing s h' g z) (λ x. group_landing s h h' x.0 x.1 one) g) (sym q) (placed_same s h h' g g one e)
+        → AllSame (member_landing s h' marks o) (λ x. group_landing s h h' x.0 x.1 (cond b one (or_failed (own_verdict s h g x.0 x.1)))) g
+    by_all true e p q = subst (λ (z : Option Outcome). AllSame (member_landing s h' marks z) (λ x. group_landing s h h' x.0 x.1 one) g) (sym q) (placed_same s h h' marks g g one e)
     by_all false e p q =
-        subst (λ (z : Option Outcome). AllSame (member_landing s h' g z) (λ x. group_landing s h h' x.0 x.1 (or_failed (own_verdict s h g x.0 x.1))) g) (sym q) (failed_same s h h' g g p.1)
+        subst (λ (z : Option Outcome). AllSame (member_landing s h' marks z) (λ x. group_landing s h h' x.0 x.1 (or_failed (own_verdict s h g x.0 x.1))) g) (sym q) (failed_same s h h' marks g g p.1 marked')
 
 -- the slots and the answers are the group's
-pub lands_together : (room : Room) (s : Settings) (g : Group) (zs zs' : List (List ℕ)) (h h' : History) (o : Option Outcome) (before after : List Landing)
-    → SettlesGroup room s h g o h' → Finishes (member_landing s h' g o) g zs zs' → after ≡ before ++ map (member_landing s h' g o) g
+pub lands_together : (room : Room) (s : Settings) (marks : ℕ) (g : Group) (zs zs' : List (List ℕ)) (h h' : History) (o : Option Outcome) (before after : List Landing)
+    → SettlesGroup room s h g o h' → AreMarked marks g g → Finishes (member_landing s h' marks o) g zs zs' → after ≡ before ++ map (member_landing s h' marks o) g
     → Adds (LandsTogether room s g zs h) before after zs' h'
-lands_together room s g zs zs' h h' o before after t f a =
-    let same = all_same room s h h' g o t.0 t.1 t.2 in
+lands_together room s marks g zs zs' h h' o before after t marked f a =
+    let same = all_same room s h h' marks g o t.0 t.1 t.2 marked in
     record {
       made = record { answers = map (λ x. group_landing s h h' x.0 x.1 (group_outcome s h g t.0 x.0 x.1)) g; history = h'; slots = zs' };
       lands = record { fit = t.0; puts = t.1; answers = refl; slots = finishes_same _ _ g zs zs' same f };
@@ -269,8 +307,8 @@ puts_few true room s h g fit h' t = by_fit fit t.2
 
 -- ---- a commit
 
-pub rises_is : (s : Settings) (mask : ℕ) (region : List (List ℕ)) (g : Group) → length region ≡ s.cpus → g ≡ group_in mask 0 (told_by 0 region) → Rises 0 s g
-rises_is s mask region g n e = subst (Rises 0 s) (sym e) (region_rises s mask region n)
+pub rises_is : (s : Settings) (mask : ℕ) (region : List (List ℕ)) (g : Group) → length region ≡ s.cpus → g ≡ group_in mask 0 (told_by 0 region) → Rises 0 s.cpus g
+rises_is s mask region g n e = subst (Rises 0 s.cpus) (sym e) (region_rises s mask region n)
 
 pub stamped_is : (mask : ℕ) (region : List (List ℕ)) (g : Group) → g ≡ group_in mask 0 (told_by 0 region) → AreStamped region g
 stamped_is mask region g e = subst (AreStamped region) (sym e) (region_stamped mask region)
@@ -278,9 +316,41 @@ stamped_is mask region g e = subst (AreStamped region) (sym e) (region_stamped m
 pub together_many : (room : Room) (s : Settings) (g : Group) (zs left : List (List ℕ)) (h h' : History) (before after : List Landing) → Adds (LandsTogether room s g zs h) before after left h' → length left ≡ length zs
 together_many room s g zs left h h' before after t = ap length t.slots ∙ finished_many (λ x. group_landing s h t.made.history x.0 x.1 (group_outcome s h g t.lands.fit x.0 x.1)) g zs t.made.slots t.lands.slots
 
-pub together_busy : (room : Room) (s : Settings) (g : Group) (zs left : List (List ℕ)) (h h' : History) (before after : List Landing) (c : ℕ) → Rises 0 s g → AreStamped zs g → Adds (LandsTogether room s g zs h) before after left h'
-    → is_busy_at left c ≡ is_busy_at zs c
-together_busy room s g zs left h h' before after c r w t = ap (λ q. is_busy_at q c) t.slots ∙ finished_busy s (λ x. group_landing s h t.made.history x.0 x.1 (group_outcome s h g t.lands.fit x.0 x.1)) 0 g zs t.made.slots c r w t.lands.slots
+-- a slot of the mask that is of no group and not busy lands as nothing, and so does one of the group, which is done
+pub nothing_left : (room : Room) (s : Settings) (mask busy some : ℕ) (g : Group) (zs left : List (List ℕ)) (h h' : History) (before after : List Landing) → Rises 0 s.cpus g → AreStamped zs g → Adds (LandsTogether room s g zs h) before after left h'
+    → length zs ≤ 128 → ((c : ℕ) → c < 128 → has busy c ≡ is_busy_at zs c) → ((c : ℕ) → has some c ≡ ((has mask c && has busy c) && not (is_for c g)))
+    → (c : ℕ) (z : List ℕ) → has mask c ≡ true → has some c ≡ false → slice_get left c ≡ Some z → is_to_land (state_in c z) ≡ false
+nothing_left room s mask busy some g zs left h h' before after r w t few of is c z wanted out there = by_group (is_for c g) refl
+  where
+    l : ℕ × Stamp → Landing
+    l x = group_landing s h t.made.history x.0 x.1 (group_outcome s h g t.lands.fit x.0 x.1)
+
+    finishes : Finishes l g zs t.made.slots
+    finishes = t.lands.slots
+
+    found : slice_get t.made.slots c ≡ Some z
+    found = sym (ap (λ q. slice_get q c) t.slots) ∙ there
+
+    rises : Rises 0 s.cpus g
+    rises = r
+
+    stamped : AreStamped zs g
+    stamped = w
+
+    by_busy : (b : Bool) → is_busy z ≡ b → has busy c ≡ b → is_for c g ≡ false → is_to_land (state_in c z) ≡ false
+    by_busy false quiet e p = ap is_to_land (quiet_read c z quiet)
+    by_busy true b e p =
+        absurd (not_out (sym out ∙ (is c ∙ (ap (λ a. (a && has busy c) && not (is_for c g)) wanted ∙ (ap (λ a. a && not (is_for c g)) e ∙ ap not p)))))
+      where
+        not_out : false ≡ true → ⊥
+        not_out e = cc
+
+    by_group : (b : Bool) → is_for c g ≡ b → is_to_land (state_in c z) ≡ false
+    by_group true e = finished_here s l 0 g zs t.made.slots c z rises stamped finishes e found
+    by_group false e =
+        let old : slice_get zs c ≡ Some z = sym (finished_others l g zs t.made.slots c finishes e) ∙ found in
+        let lt : c < 128 = omega (arith, slice_get_within zs c z old, few) in
+        by_busy (is_busy z) refl (of c lt ∙ ap is_busy_if_any old) e
 
 -- landings by a ring later on
 pub later_adds : (a b : Room) (s s' : Settings) (mask : ℕ) (zs left : List (List ℕ)) (h h' : History) (before after : List Landing) → Entails a b → s ≡ s'

@@ -35,6 +35,10 @@ abbrev pub group_in : ℕ → ℕ → List SlotState → Group
 group_in mask k [] = []
 group_in mask k (z ∷ zs) = grouped (has mask k) k z ++ group_in mask (suc k) zs
 
+-- whether a transaction of the group is for CPU k
+abbrev pub is_for : ℕ → Group → Bool
+is_for k g = list_any (λ x. x.0 == k) g
+
 -- whether a transaction of the group for a CPU below k names a thread
 abbrev pub is_named_below : ℕ → ℕ → Group → Bool
 is_named_below k t g = list_any (λ x. nat_lt x.0 k && x.1.tid == t) g
@@ -43,9 +47,22 @@ is_named_below k t g = list_any (λ x. nat_lt x.0 k && x.1.tid == t) g
 abbrev pub own_verdict : Settings → History → Group → ℕ → Stamp → Outcome
 own_verdict s h g k b = if is_to_place (verdict s h k b) && is_named_below k b.tid g then outcomes.GroupFailed else verdict s h k b
 
+-- the transactions of these that are marked are those whose threads one of the group for a lower CPU names
+abbrev pub AreMarked : ℕ → Group → Group → Type 0
+AreMarked marks all [] = Unit {0}
+AreMarked marks all (x ∷ g) = (has marks x.0 ≡ is_named_below x.0 x.1.tid all) × AreMarked marks all g
+
+-- what would become of a transaction by itself, by whether it is marked
+abbrev pub marked_verdict : Settings → History → ℕ → ℕ → Stamp → Outcome
+marked_verdict s h marks k b = if is_to_place (verdict s h k b) && has marks k then outcomes.GroupFailed else verdict s h k b
+
 -- whether each of these would be placed by itself, as one of a group
 abbrev pub are_to_place : Settings → History → Group → Group → Bool
 are_to_place s h all g = list_all (λ x. is_to_place (own_verdict s h all x.0 x.1)) g
+
+-- the same, by which of them are marked
+abbrev pub are_marked_to_place : Settings → History → ℕ → Group → Bool
+are_marked_to_place s h marks g = list_all (λ x. is_to_place (marked_verdict s h marks x.0 x.1)) g
 
 -- how many entries the group adds: one for each, and one for each thread that makes way
 abbrev pub group_entries : History → Group → ℕ
@@ -133,10 +150,10 @@ together s h g fit =
 abbrev pub SettlesGroup : Room → Settings → History → Group → Option Outcome → History → Type 0
 SettlesGroup room s h g o h' = (fit : Bool) × PutsIf (is_group_placed s h g) room s h g fit h' × (o ≡ together s h g fit)
 
--- what is returned of a transaction of the group, by the history that the group left
-abbrev pub member_landing : Settings → History → Group → Option Outcome → ℕ × Stamp → Landing
-member_landing s h g (Some o) x = record { cpu = x.0; tid = x.1.tid; outcome = o; seen = x.1.tseq; at = at s.cpus h x.1.tid }
-member_landing s h g None x = record { cpu = x.0; tid = x.1.tid; outcome = or_failed (own_verdict s h g x.0 x.1); seen = seq s.first_tseq h x.1.tid; at = at s.cpus h x.1.tid }
+-- what is returned of a transaction of the group, by the history that the group left and by which are marked
+abbrev pub member_landing : Settings → History → ℕ → Option Outcome → ℕ × Stamp → Landing
+member_landing s h marks (Some o) x = record { cpu = x.0; tid = x.1.tid; outcome = o; seen = x.1.tseq; at = at s.cpus h x.1.tid }
+member_landing s h marks None x = record { cpu = x.0; tid = x.1.tid; outcome = or_failed (marked_verdict s h marks x.0 x.1); seen = seq s.first_tseq h x.1.tid; at = at s.cpus h x.1.tid }
 
 -- the slots of a group are stamped with its transactions
 abbrev pub AreStamped : List (List ℕ) → Group → Type 0

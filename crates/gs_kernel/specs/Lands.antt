@@ -58,6 +58,13 @@ abbrev pub LandsHeld : Room → Settings → History → ℕ → Held → Option
 LandsHeld room s h k (Ok z) o x h' = (z' : SlotState) × LandsIn room s h k z o z' h' × (x ≡ Ok z')
 LandsHeld room s h k (Err e) o x h' = (o ≡ Some (malformed_landing k)) × (x ≡ Ok refused) × (h' ≡ h)
 
+-- whether something comes of the landing of a slot, of which this is read
+abbrev pub is_to_land : Held → Bool
+is_to_land (Ok Idle) = false
+is_to_land (Ok (Stamped b)) = true
+is_to_land (Ok (Done b o a n)) = false
+is_to_land (Err e) = true
+
 -- the slot of CPU k with these bytes lands, and those are left
 abbrev pub LandsBytes : Room → Settings → History → ℕ → List ℕ → Option Landing → List ℕ → History → Type 0
 LandsBytes room s h k b o b' h' = LandsHeld room s h k (state_in k b) o (state_in k b') h'

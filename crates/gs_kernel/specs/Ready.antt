@@ -39,12 +39,12 @@ abbrev pub AreNumbered : Settings → History → Group → Type 0
 AreNumbered s h [] = Unit {0}
 AreNumbered s h (x ∷ g) = (x.0 < s.cpus) × (is_spent_there s h (on h x.0) ≡ false) × AreNumbered s h g
 
--- the CPUs of the group rise from one on
-abbrev pub Rises : ℕ → Settings → Group → Type 0
-Rises n s [] = Unit {0}
-Rises n s (x ∷ g) = (n ≤ x.0) × (x.0 < s.cpus) × Rises (suc x.0) s g
+-- the CPUs of the group rise from one on, and are below another
+abbrev pub Rises : ℕ → ℕ → Group → Type 0
+Rises n m [] = Unit {0}
+Rises n m (x ∷ g) = (n ≤ x.0) × (x.0 < m) × Rises (suc x.0) m g
 
--- the CPUs are the enclave's
-abbrev pub AreBelow : Settings → Group → Type 0
-AreBelow s [] = Unit {0}
-AreBelow s (x ∷ g) = (x.0 < s.cpus) × AreBelow s g
+-- the CPUs are below this one
+abbrev pub AreBelow : ℕ → Group → Type 0
+AreBelow n [] = Unit {0}
+AreBelow n (x ∷ g) = (x.0 < n) × AreBelow n g

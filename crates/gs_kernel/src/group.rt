@@ -1,13 +1,13 @@
 //! The transactions of a group land: all of them are placed, or none is.
 
-ghost use Rattle.std.specs.Prelude.{◌≡◌, ℕ, ◌+◌, ◌-◌, ◌*◌, ◌<◌, ◌≤◌, ◌++◌, Some, true, false, length, map, min, slice_get, IfOk, IfSome, OnOk, vec_len, vec_capacity};
+ghost use Rattle.std.specs.Prelude.{◌≡◌, ℕ, ◌+◌, ◌-◌, ◌*◌, ◌<◌, ◌≤◌, ◌++◌, ◌&&◌, Some, true, false, length, map, min, not, slice_get, IfOk, IfSome, OnOk, count_ones, vec_len, vec_capacity};
 ghost use Rattle.gs_layout.specs.Spelling.{IsCpuOrNone};
 ghost use Rattle.gs_status.specs.Masks.{has};
 ghost use Rattle.gs_slots.specs.Reading.{state_or_idle, states_in, told_by};
 ghost use Rattle.gs_slots.specs.State.{Held, is_malformed};
 ghost use Rattle.gs_journal.specs.History.{on};
-ghost use Rattle.gs_kernel.specs.Group.{AreStamped, Finishes, GiveWay, GivesWay, LandsTogether, Puts, SettlesGroup, are_to_place, group_in, grouped, group_entries, is_group_placed, is_named_below, member_landing, or_failed, own_verdict, placings};
-ghost use Rattle.gs_kernel.specs.Kernel.{is_spent_there, preemption};
+ghost use Rattle.gs_kernel.specs.Group.{AreMarked, AreStamped, Finishes, GiveWay, GivesWay, LandsTogether, Puts, SettlesGroup, are_marked_to_place, group_in, grouped, group_entries, is_for, is_group_placed, marked_verdict, member_landing, or_failed, placings};
+ghost use Rattle.gs_kernel.specs.Kernel.{is_full, is_spent_there, preemption};
 ghost use Rattle.gs_kernel.specs.Lands.{Adds};
 ghost use Rattle.gs_kernel.specs.Legal.{Frame, RoomOf};
 ghost use Rattle.gs_kernel.specs.Ready.{AreApart, AreBelow, AreFree, AreNumbered, AreReady, Rises};
@@ -15,6 +15,7 @@ ghost use Rattle.gs_kernel.specs.Ready.{AreApart, AreBelow, AreFree, AreNumbered
 use crate::effect::Effect;
 use crate::kernel::Kernel;
 use crate::landing::Landing;
+use crate::repeated::repeated_in;
 use gs_journal::Entry;
 use gs_layout::Outcome;
 use gs_ring::Poster;
@@ -31,7 +32,7 @@ impl<P: Poster> Kernel<P> {
         group: &[(u16, Stamp)],
         landings: &mut Vec<Landing>,
     )
-        requires rises { Rises 0 self.old.settings group.now }
+        requires rises { Rises 0 self.old.settings.cpus group.now }
         requires few { length group.now ≤ MOST_CPUS }
         requires cpus { length region.old ≡ self.old.settings.cpus }
         requires stamped { AreStamped region.old group.now }
@@ -50,14 +51,17 @@ impl<P: Poster> Kernel<P> {
         let Some(_) = group.split_first() else {
             return;
         };
-        let together = self.settle_group(group);
-        self.finish_group(region, group, together, group, landings);
+        let repeated = repeated_in(group);
+        let together = self.settle_group(group, repeated);
+        self.finish_group(region, repeated, together, group, landings);
     }
 
     /// Places a group if it may be. Returns what becomes of all of it together, or `None` if one of it would not be
-    /// placed: then nothing changes. There is room for its entries.
-    fn settle_group(&mut self, group: &[(u16, Stamp)]) -> Option<Outcome>
-        requires rises { Rises 0 self.old.settings group.now }
+    /// placed: then nothing changes. There is room for its entries. Those whose thread is named before are marked.
+    #[tactic(auto, using(crate::proofs::Marks::marked_place))]
+    fn settle_group(&mut self, group: &[(u16, Stamp)], repeated: Mask) -> Option<Outcome>
+        requires rises { Rises 0 self.old.settings.cpus group.now }
+        requires marked { AreMarked repeated group.now group.now }
         requires few { length group.now ≤ MOST_CPUS }
         requires entries { min (2 * length group.now) (self.old.settings.history - length self.old.history) ≤ self.old.room }
         ensures settles { SettlesGroup (RoomOf P.same P.taken P.posted P.tight self.old.poster) self.old.settings self.old.history group.now result self.new.history }
@@ -67,10 +71,10 @@ impl<P: Poster> Kernel<P> {
     {
         // A look at a field, by which the proof has what the kernel keeps.
         let _settings = &self.settings;
-        if !self.are_to_place(group, group) {
+        if !self.are_to_place(repeated, group) {
             return None;
         }
-        if !self.is_group_placed(group) {
+        if !self.has_room_for(group) {
             return Some(Outcome::HistoryFull);
         }
         if self.put_group(group) {
@@ -83,14 +87,14 @@ impl<P: Poster> Kernel<P> {
     /// Returns what became of a transaction of a group that landed.
     fn member_landing(
         &self,
-        all: &[(u16, Stamp)],
+        repeated: Mask,
         together: Option<Outcome>,
         cpu: u16,
         slot: &Stamp,
     ) -> Landing
         requires cpu { cpu < self.now.settings.cpus }
         requires known { IfSome together (λ o. is_malformed o ≡ false) }
-        ensures value { result ≡ member_landing self.now.settings self.now.history all.now together (cpu, slot.now) }
+        ensures value { result ≡ member_landing self.now.settings self.now.history repeated together (cpu, slot.now) }
         ensures known { is_malformed result.outcome ≡ false }
         ensures below { IsCpuOrNone result.at }
     {
@@ -105,7 +109,7 @@ impl<P: Poster> Kernel<P> {
             None => Landing {
                 cpu,
                 tid: slot.tid,
-                outcome: or_failed(self.own_verdict(all, cpu, slot)),
+                outcome: or_failed(self.own_verdict(repeated, cpu, slot)),
                 seen: self.seq(slot.tid),
                 at: self.at(slot.tid),
             },
@@ -116,36 +120,36 @@ impl<P: Poster> Kernel<P> {
     fn finish_group(
         &self,
         region: &mut Region,
-        all: &[(u16, Stamp)],
+        repeated: Mask,
         together: Option<Outcome>,
         group: &[(u16, Stamp)],
         landings: &mut Vec<Landing>,
     )
-        requires rises { Rises 0 self.now.settings group.now }
+        requires rises { Rises 0 self.now.settings.cpus group.now }
         requires cpus { length region.old ≡ self.now.settings.cpus }
         requires stamped { AreStamped region.old group.now }
         requires known { IfSome together (λ o. is_malformed o ≡ false) }
         requires room { vec_len landings.old + length group.now ≤ vec_capacity landings.old }
-        ensures slots { Finishes (member_landing self.now.settings self.now.history all.now together) group.now region.old region.new }
-        ensures answers { landings.new.items ≡ landings.old.items ++ map (member_landing self.now.settings self.now.history all.now together) group.now }
+        ensures slots { Finishes (member_landing self.now.settings self.now.history repeated together) group.now region.old region.new }
+        ensures answers { landings.new.items ≡ landings.old.items ++ map (member_landing self.now.settings self.now.history repeated together) group.now }
         ensures room { vec_len landings.new ≤ vec_len landings.old + length group.now }
         ensures capacity { vec_capacity landings.new ≡ vec_capacity landings.old }
     {
         let Some(((cpu, stamp), rest)) = group.split_first() else {
             return;
         };
-        let landing = self.member_landing(all, together, *cpu, stamp);
+        let landing = self.member_landing(repeated, together, *cpu, stamp);
         region
             .slot(*cpu)
             .finish(landing.outcome, landing.at, landing.seen);
         landings.push_reserved(landing);
-        self.finish_group(region, all, together, rest, landings)
+        self.finish_group(region, repeated, together, rest, landings)
     }
 
     /// Places a group, each of which would be placed by itself, after the threads on its CPUs made way. Returns whether
     /// their messages fit; the first that does not tears the enclave down, and nobody is placed. There is room for that.
     pub(crate) fn put_group(&mut self, group: &[(u16, Stamp)]) -> bool
-        requires rises { Rises 0 self.old.settings group.now }
+        requires rises { Rises 0 self.old.settings.cpus group.now }
         requires placed { is_group_placed self.old.settings self.old.history group.now ≡ true }
         requires room { group_entries self.old.history group.now ≤ self.old.room }
         ensures puts { Puts (RoomOf P.same P.taken P.posted P.tight self.old.poster) self.old.settings self.old.history group.now result self.new.history }
@@ -230,33 +234,34 @@ impl<P: Poster> Kernel<P> {
     }
 
     /// Returns what would become of a transaction of a group by itself: one that would be placed fails if a transaction
-    /// for a lower CPU names its thread.
-    fn own_verdict(&self, group: &[(u16, Stamp)], cpu: u16, slot: &Stamp) -> Outcome
+    /// for a lower CPU names its thread, which is marked.
+    fn own_verdict(&self, repeated: Mask, cpu: u16, slot: &Stamp) -> Outcome
         requires { cpu < self.now.settings.cpus }
-        ensures value { result ≡ own_verdict self.now.settings self.now.history group.now cpu slot.now }
+        ensures value { result ≡ marked_verdict self.now.settings self.now.history repeated cpu slot.now }
         ensures known { is_malformed result ≡ false }
     {
         let verdict = self.verdict(cpu, slot);
-        if verdict == Outcome::Placed && is_named_below(cpu, slot.tid, group) {
+        if verdict == Outcome::Placed && repeated.has(cpu) {
             return Outcome::GroupFailed;
         }
         verdict
     }
 
     /// Returns whether each of these would be placed by itself, as one of a group.
-    fn are_to_place(&self, all: &[(u16, Stamp)], group: &[(u16, Stamp)]) -> bool
-        requires { AreBelow self.now.settings group.now }
-        ensures { result ≡ are_to_place self.now.settings self.now.history all.now group.now }
+    fn are_to_place(&self, repeated: Mask, group: &[(u16, Stamp)]) -> bool
+        requires { AreBelow self.now.settings.cpus group.now }
+        ensures { result ≡ are_marked_to_place self.now.settings self.now.history repeated group.now }
     {
         let Some(((cpu, slot), rest)) = group.split_first() else {
             return true;
         };
-        self.own_verdict(all, *cpu, slot) == Outcome::Placed && self.are_to_place(all, rest)
+        self.own_verdict(repeated, *cpu, slot) == Outcome::Placed
+            && self.are_to_place(repeated, rest)
     }
 
     /// Returns how many entries a group adds.
     fn group_entries(&self, group: &[(u16, Stamp)]) -> usize
-        requires below { AreBelow self.now.settings group.now }
+        requires below { AreBelow self.now.settings.cpus group.now }
         requires few { length group.now ≤ MOST_CPUS }
         ensures value { result ≡ group_entries self.now.history group.now }
         ensures most { result ≤ 2 * length group.now }
@@ -267,27 +272,27 @@ impl<P: Poster> Kernel<P> {
         self.placing_entries(*cpu) + self.group_entries(rest)
     }
 
-    /// Returns whether a group is placed, as far as its messages fit.
-    pub(crate) fn is_group_placed(&self, group: &[(u16, Stamp)]) -> bool
-        requires below { AreBelow self.now.settings group.now }
+    /// Returns whether the entries that a group adds fit into the journal.
+    fn has_room_for(&self, group: &[(u16, Stamp)]) -> bool
+        requires below { AreBelow self.now.settings.cpus group.now }
         requires few { length group.now ≤ MOST_CPUS }
-        ensures { result ≡ is_group_placed self.now.settings self.now.history group.now }
+        ensures { result ≡ not (is_full self.now.settings self.now.history (group_entries self.now.history group.now)) }
     {
-        if !self.are_to_place(group, group) {
-            return false;
-        }
         let entries = self.journal.len() + self.group_entries(group);
         entries <= self.settings.history as usize
     }
 }
 
-/// Returns whether a transaction of a group for a lower CPU names a thread.
-fn is_named_below(cpu: u16, tid: u32, group: &[(u16, Stamp)]) -> bool
-    ensures { result ≡ is_named_below cpu tid group.now }
+/// Returns the CPUs of a mask for which no transaction of a group is.
+pub(crate) fn without_group(mask: Mask, group: &[(u16, Stamp)]) -> Mask
+    requires { AreBelow MOST_CPUS group.now }
+    ensures few { count_ones result ≤ count_ones mask }
+    ensures others { (c : ℕ) → has result c ≡ (has mask c && not (is_for c group.now)) }
 {
-    group
-        .iter()
-        .any(|member| member.0 < cpu && member.1.tid == tid)
+    match group.split_first() {
+        Some(((cpu, _), rest)) => without_group(mask.without(*cpu), rest),
+        None => mask,
+    }
 }
 
 /// Returns what becomes of a transaction of a group that fails: one that would be placed fails with it.
@@ -337,7 +342,7 @@ pub(crate) fn group_of(
     if !region.may_be_grouped() {
         return Ok(Vec::new(alloc));
     }
-    let mut group = Vec::new(alloc);
+    let mut group = Vec::with_capacity(alloc, mask.bits().count_ones() as usize)?;
     let mut left = mask;
     'walk: while let Some(cpu) = left.lowest() {
         add_member(&mut group, cpu, region)?;

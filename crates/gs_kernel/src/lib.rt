@@ -24,6 +24,7 @@ mod live_thread;
 mod other_class;
 mod page;
 mod post;
+mod repeated;
 mod serve;
 mod settings;
 mod shown;

@@ -13,7 +13,7 @@ returns-then-not-may_be_grouped c =
     no_group c.args.mask c.args.region.now _ c.requires.few (c.may_be_grouped.ensures none) c.new.ensures.items
 
 pub walk-init : goal.walk-init
-walk-init c = gathered_none _ _ _ c.new-group.ensures.items
+walk-init c = gathered_none _ _ _ c.in_ok-group.ensures.items
 
 pub add_member-requires : goal.add_member-requires
 add_member-requires c = c.requires.within c.in-Some.cpu (gathered_busy _ _ _ _ _ c.walk.invariant c.in-Some.ensures.is_in)

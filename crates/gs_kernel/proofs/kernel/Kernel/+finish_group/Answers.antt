@@ -12,7 +12,7 @@ finish_group-requires g t c κs within =
     let x = c.in-Some.field-0-0.now in
     let rest = c.in-Some.rest.now in
     let whole : c.args.group.now ≡ x ∷ rest = c.in-Some.ensures.cases.0 in
-    let rises = subst (λ (z : Group). Rises 0 s z) whole c.requires.rises in
+    let rises = subst (λ (z : Group). Rises 0 s.cpus z) whole c.requires.rises in
     let stamped = subst (λ (z : Group). AreStamped c.args.region.now z) whole c.requires.stamped in
     let k = ap length whole in (
       search rules,
@@ -44,5 +44,5 @@ returns-clause-slots g t c =
     let stamped = subst (λ (z : Group). AreStamped c.args.region.now z) whole c.requires.stamped in
     let l = c.member_landing-landing in
     let is : state_of c.slot.result ≡ Ok (Stamped x.1) = read_here c.args.region.now x.0 (cpu_of c.slot.result) stamped.0 (bytes_of c.slot.result) x.1 stamped.1 stamped.2 c.slot.ensures.bytes c.slot.ensures.cpu in
-    subst (λ (z : Group). Finishes (member_landing s h c.args.all.now c.args.together) z c.args.region.now c.finish_group.new.region) (sym whole)
-    (_, left_here x.0 (cpu_of c.slot.result) _ x.1 l.result (member_landing s h c.args.all.now c.args.together x) c.slot.ensures.cpu l.ensures.value (c.finish.ensures.done x.1 l.ensures.known is), c.finish_group.ensures.slots)
+    subst (λ (z : Group). Finishes (member_landing s h c.args.repeated c.args.together) z c.args.region.now c.finish_group.new.region) (sym whole)
+    (_, left_here x.0 (cpu_of c.slot.result) _ x.1 l.result (member_landing s h c.args.repeated c.args.together x) c.slot.ensures.cpu l.ensures.value (c.finish.ensures.done x.1 l.ensures.known is), c.finish_group.ensures.slots)

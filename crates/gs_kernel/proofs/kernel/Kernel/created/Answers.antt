@@ -1,4 +1,4 @@
-use Rattle.std.proofs.Common.{◌≡◌, ◌⊎◌, ℕ, ◌<◌, None, length, sym, subst}
+use Rattle.std.proofs.Common.{◌≡◌, ◌⊎◌, ℕ, ◌<◌, None, length, subst}
 use Rattle.gs_journal.specs.State.{state}
 use Rattle.gs_kernel.specs.Kernel.{KernelOf}
 use Rattle.gs_kernel.proofs.Living.{nobody_beyond}

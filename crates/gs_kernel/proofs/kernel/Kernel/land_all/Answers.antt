@@ -1,5 +1,4 @@
-use Rattle.std.proofs.Common.{◌≡◌, ◌∙◌, ◌<◌, ℕ, List, slice_get, Some, true, ap, sym, subst, suc, count_ones, length, arith, rules}
-use Rattle.std.proofs.lemmas.Option.{slice_get_within}
+use Rattle.std.proofs.Common.{◌≡◌, ◌∙◌, ◌<◌, Some, true, ap, sym, subst, suc, count_ones, length, arith, rules}
 use Rattle.gs_slots.specs.SlotMut.{bytes_of}
 use Rattle.gs_status.specs.Masks.{has, least}
 use Rattle.gs_status.proofs.Laws.{least_before}
@@ -8,7 +7,7 @@ use Rattle.gs_kernel.specs.Legal.{Room, RoomOf}
 use Rattle.gs_kernel.specs.Lands.{Adds, LandsBytes, LandsIfBy}
 use Rattle.gs_kernel.proofs.Counted.{count_some, count_without, has_below, none_in}
 use Rattle.gs_kernel.proofs.Landings.{bytes_map, if_map, room_later}
-use Rattle.gs_kernel.proofs.Idle.{busy_land, of_mask}
+use Rattle.gs_kernel.proofs.Idle.{some_land}
 use Rattle.gs_kernel.proofs.Walked.{lowest_wanted, walked_end, walked_length, walked_none, walked_push}
 use Rattle.gs_kernel.proofs.kernel.Kernel.land_all.Goals as goal
 
@@ -18,14 +17,14 @@ walk-init g c = record { walked = walked_none _ _ _ _ _; frame = search rules; e
 pub slot-requires : goal.slot-requires
 slot-requires g c =
     let i = c.walk.invariant in
-    let wanted : has c.args.mask c.in-Some.cpu ≡ true = of_mask c.args.mask c.args.busy c.in-Some.cpu _ (c.requires.busy c.in-Some.cpu c.in-Some.ensures.within) (lowest_wanted _ _ _ _ _ _ _ _ _ _ i.walked c.in-Some.ensures.is_in) in
+    let wanted : has c.args.mask c.in-Some.cpu ≡ true = c.requires.some c.in-Some.cpu (lowest_wanted _ _ _ _ _ _ _ _ _ _ i.walked c.in-Some.ensures.is_in) in
     let lt = has_below c.args.mask c.args.self.now.settings.cpus c.in-Some.cpu c.requires.within wanted in
     omega (arith, lt, c.requires.cpus, walked_length _ _ _ _ _ _ _ _ _ i.walked)
 
 pub land_next-requires-clause-cpu : goal.land_next-requires-clause-cpu
 land_next-requires-clause-cpu g c =
     let i = c.walk.invariant in
-    let wanted : has c.args.mask c.in-Some.cpu ≡ true = of_mask c.args.mask c.args.busy c.in-Some.cpu _ (c.requires.busy c.in-Some.cpu c.in-Some.ensures.within) (lowest_wanted _ _ _ _ _ _ _ _ _ _ i.walked c.in-Some.ensures.is_in) in
+    let wanted : has c.args.mask c.in-Some.cpu ≡ true = c.requires.some c.in-Some.cpu (lowest_wanted _ _ _ _ _ _ _ _ _ _ i.walked c.in-Some.ensures.is_in) in
     let lt = has_below c.args.mask c.args.self.now.settings.cpus c.in-Some.cpu c.requires.within wanted in
     omega (arith, lt, c.slot.ensures.cpu, ap (λ (z : Settings). z.cpus) i.frame.settings)
 
@@ -55,7 +54,7 @@ walk-preserved g c =
     let room' : Room = RoomOf p.same p.taken p.posted p.tight c.walk.self.poster in
     let there : has left k ≡ true = c.in-Some.ensures.is_in in
     let found : least (has left) 128 ≡ Some k = sym c.in-Some.ensures.least in
-    let wanted : has c.args.mask k ≡ true = of_mask c.args.mask c.args.busy k _ (c.requires.busy k c.in-Some.ensures.within) (lowest_wanted _ _ _ _ _ _ _ _ _ _ i.walked there) in
+    let wanted : has c.args.mask k ≡ true = c.requires.some k (lowest_wanted _ _ _ _ _ _ _ _ _ _ i.walked there) in
     let lt : k < length old = omega (arith, has_below c.args.mask s.cpus k c.requires.within wanted, c.requires.cpus) in
     let count : count_ones left ≡ suc (count_ones c.without-left.result) = count_without left c.without-left.result k there c.without-left.ensures.here c.without-left.ensures.others in
     let y = e.lands in
@@ -64,7 +63,7 @@ walk-preserved g c =
     let one : Adds (LandsIfBy (LandsBytes room s) true k x now) c.walk.landings.items c.land_next.new.landings.items _ c.land_next.new.self.history =
     record { made = y.made; lands = if_map (LandsBytes room' s) (LandsBytes room s) true k x now y.made (bytes_map room' room s (room_later p.same p.taken p.posted p.tight c.args.self.now.poster c.walk.self.poster g.met.P.Poster.same_trans i.frame.ring i.frame.stays)) is; answers = y.answers; slots = y.slots; history = y.history } in
     record {
-      walked = walked_push (LandsBytes room s) c.args.busy left c.without-left.result k old x c.land_next.new.slot.0 c.args.self.now.history c.args.landings.now.items c.walk.landings.items c.land_next.new.landings.items c.walk.region now c.land_next.new.self.history
+      walked = walked_push (LandsBytes room s) c.args.some left c.without-left.result k old x c.land_next.new.slot.0 c.args.self.now.history c.args.landings.now.items c.walk.landings.items c.land_next.new.landings.items c.walk.region now c.land_next.new.self.history
           i.walked there (least_before (has left) 128 k found) lt c.without-left.ensures.here c.without-left.ensures.others c.slot.ensures.bytes one;
       frame = record {
         ring = g.met.P.Poster.same_trans _ _ _ i.frame.ring e.frame.ring;
@@ -80,11 +79,6 @@ walk-preserved g c =
 pub returns-clause-lands : goal.returns-clause-lands
 returns-clause-lands g c =
     let p = g.P.Poster in
-    let old = c.args.region.now in
-    let few : (i : ℕ) (z : List ℕ) → slice_get old i ≡ Some z → i < 128 = λ i z e.
-    let lt : i < length old = slice_get_within old i z e in
-    omega (arith, lt, c.requires.cpus, c.self.invariant.in_range.most_cpus, ap (λ v. v.settings.cpus) c.self.view_is)
-    in
-    busy_land (RoomOf p.same p.taken p.posted p.tight c.args.self.now.poster) c.args.self.now.settings c.args.busy c.args.mask old c.args.self.now.history c.args.landings.now.items c.walk.landings.items c.walk.region c.walk.self.history
-    c.requires.busy few
+    some_land (RoomOf p.same p.taken p.posted p.tight c.args.self.now.poster) c.args.self.now.settings c.args.some c.args.mask c.args.region.now c.args.self.now.history c.args.landings.now.items c.walk.landings.items c.walk.region c.walk.self.history
+    c.requires.some c.requires.others
     (walked_end _ _ _ _ _ _ _ _ _ c.walk.invariant.walked (none_in c.walk.left c.in_default.ensures.empty))

@@ -1,10 +1,14 @@
-use Rattle.std.proofs.Common.{◌≡◌, ◌++◌, [], map, subst, arith}
+use Rattle.std.proofs.Common.{◌≡◌, ◌++◌, [], map, ap, subst, arith}
 use Rattle.std.proofs.lemmas.Grind.{common_steps}
 use Rattle.gs_kernel.specs.declared.settings.Settings.{Settings}
 use Rattle.gs_kernel.specs.Group.{Finishes, is_group_placed, member_landing}
 use Rattle.gs_kernel.specs.Legal.{RoomOf}
+use Rattle.gs_kernel.proofs.Groups.{rises_below}
 use Rattle.gs_kernel.proofs.Together.{lands_together, none_together, puts_few}
 use Rattle.gs_kernel.proofs.kernel.Kernel.land_group.Goals as goal
+
+pub repeated_in-repeated-requires : goal.repeated_in-repeated-requires
+repeated_in-repeated-requires g c = rises_below 0 c.args.self.now.settings.cpus 128 c.args.group.now (omega (arith, c.self.invariant.in_range.most_cpus, ap (λ v. v.settings.cpus) c.self.view_is)) c.requires.rises
 
 pub returns-in_default-clause-lands : goal.returns-in_default-clause-lands
 returns-in_default-clause-lands g c =
@@ -23,9 +27,10 @@ returns-clause-lands g c =
     let before = c.args.landings.now.items in
     let after = c.finish_group.new.landings.items in
     let same : c.settle_group-together.new.self.settings ≡ s = c.settle_group-together.ensures.frame.settings in
-    lands_together (RoomOf p.same p.taken p.posted p.tight c.args.self.now.poster) s all c.args.region.now c.finish_group.new.region h h' o before after c.settle_group-together.ensures.settles
-    (subst (λ (z : Settings). Finishes (member_landing z h' all o) all c.args.region.now c.finish_group.new.region) same c.finish_group.ensures.slots)
-    (subst (λ (z : Settings). after ≡ before ++ map (member_landing z h' all o) all) same c.finish_group.ensures.answers)
+    let marks = c.repeated_in-repeated.result in
+    lands_together (RoomOf p.same p.taken p.posted p.tight c.args.self.now.poster) s marks all c.args.region.now c.finish_group.new.region h h' o before after c.settle_group-together.ensures.settles c.repeated_in-repeated.ensures
+    (subst (λ (z : Settings). Finishes (member_landing z h' marks o) all c.args.region.now c.finish_group.new.region) same c.finish_group.ensures.slots)
+    (subst (λ (z : Settings). after ≡ before ++ map (member_landing z h' marks o) all) same c.finish_group.ensures.answers)
 
 pub returns-clause-grown : goal.returns-clause-grown
 returns-clause-grown g c =

@@ -1,4 +1,4 @@
-use Rattle.std.proofs.Common.{◌≡◌, ◌∙◌, ◌&&◌, ℕ, None, List, [], length, ap, sym, subst, arith}
+use Rattle.std.proofs.Common.{◌≡◌, ◌∙◌, ◌&&◌, ◌≤◌, ℕ, None, List, [], not, length, ap, sym, subst, arith}
 use Rattle.std.proofs.lemmas.Grind.{common_steps}
 use Rattle.gs_status.specs.Masks.{has, has_past}
 use Rattle.gs_slots.specs.Busy.{is_busy_at}
@@ -6,16 +6,17 @@ use Rattle.gs_slots.specs.Reading.{told_by}
 use Rattle.gs_kernel.specs.declared.landing.Landing.{Landing}
 use Rattle.gs_kernel.specs.declared.settings.Settings.{Settings}
 use Rattle.gs_kernel.specs.Commit.{commit_refusal}
-use Rattle.gs_kernel.specs.Group.{CommitsRegion, Group, LandsTogether, group_in}
+use Rattle.gs_kernel.specs.Group.{CommitsRegion, Group, LandsTogether, group_in, is_for}
 use Rattle.gs_kernel.specs.Lands.{Adds}
 use Rattle.gs_kernel.specs.Legal.{RoomOf}
 use Rattle.gs_kernel.specs.Ready.{Rises}
 use Rattle.gs_kernel.proofs.Counted.{has_below}
+use Rattle.gs_kernel.proofs.Groups.{below_more, rise_below}
 use Rattle.gs_kernel.proofs.Gathered.{group_is}
 use Rattle.gs_kernel.proofs.Idle.{of_mask}
 use Rattle.gs_kernel.proofs.Landings.{room_later}
 use Rattle.gs_kernel.proofs.Refusals.{commits_within}
-use Rattle.gs_kernel.proofs.Together.{commits, later_adds, rises_few, rises_is, stamped_is, together_busy, together_many}
+use Rattle.gs_kernel.proofs.Together.{commits, later_adds, nothing_left, rises_few, rises_is, stamped_is, together_many}
 use Rattle.gs_kernel.proofs.kernel.Kernel.txns_commit.Goals as goal
 
 pub group_of-requires-clause-few : goal.group_of-requires-clause-few
@@ -31,7 +32,7 @@ group_of-requires-clause-within g c i there =
 pub land_group-requires-clause-rises : goal.land_group-requires-clause-rises
 land_group-requires-clause-rises g c =
     let same = ap (λ v. v.settings) c.reserve.ensures.same in
-    subst (λ (z : Settings). Rises 0 z c.deref.result.now) (sym same)
+    subst (λ (z : Settings). Rises 0 z.cpus c.deref.result.now) (sym same)
     (rises_is c.args.self.now.settings c.args.mask c.busy.new.self c.deref.result.now (ap length c.busy.ensures.same ∙ c.requires.cpus) (group_is c.both-busy.result c.busy.result c.args.mask c.args.region.now c.busy.new.self c.deref.result.now c.busy.ensures.same (omega (arith, c.requires.cpus, c.self.invariant.in_range.most_cpus, ap (λ v. v.settings.cpus) c.self.view_is)) c.both-busy.ensures c.busy.ensures.busy (c.deref.ensures.value ∙ c.in_ok-group.ensures)))
 
 pub land_group-requires-clause-few : goal.land_group-requires-clause-few
@@ -53,15 +54,31 @@ land_all-requires-clause-within g c =
     let none : commit_refusal c.args.self.now.settings c.args.self.now.history c.args.mask ≡ None = grind (arith, common_steps) in
     ap (λ (z : Settings). has_past c.args.mask z.cpus) c.land_group.ensures.frame.settings ∙ (ap (λ v. has_past c.args.mask v.settings.cpus) c.reserve.ensures.same ∙ commits_within _ _ _ none)
 
-pub land_all-requires-clause-busy : goal.land_all-requires-clause-busy
-land_all-requires-clause-busy g c i lt =
-    let group = group_is c.both-busy.result c.busy.result c.args.mask c.args.region.now c.busy.new.self c.deref.result.now c.busy.ensures.same (omega (arith, c.requires.cpus, c.self.invariant.in_range.most_cpus, ap (λ v. v.settings.cpus) c.self.view_is)) c.both-busy.ensures c.busy.ensures.busy (c.deref.ensures.value ∙ c.in_ok-group.ensures) in
+pub without_group-requires : goal.without_group-requires
+without_group-requires g c =
+    let few : length c.args.region.now ≤ 128 = omega (arith, c.requires.cpus, c.self.invariant.in_range.most_cpus, ap (λ v. v.settings.cpus) c.self.view_is) in
+    let group = group_is c.both-busy.result c.busy.result c.args.mask c.args.region.now c.busy.new.self c.deref-2.result.now c.busy.ensures.same few c.both-busy.ensures c.busy.ensures.busy (c.deref-2.ensures.value ∙ c.in_ok-group.ensures) in
+    below_more c.args.self.now.settings.cpus 128 c.deref-2.result.now (omega (arith, c.self.invariant.in_range.most_cpus, ap (λ v. v.settings.cpus) c.self.view_is))
+    (rise_below c.args.self.now.settings 0 c.deref-2.result.now (rises_is c.args.self.now.settings c.args.mask c.busy.new.self c.deref-2.result.now (ap length c.busy.ensures.same ∙ c.requires.cpus) group))
+
+pub land_all-requires-clause-some : goal.land_all-requires-clause-some
+land_all-requires-clause-some g c i there =
+    let busy = of_mask c.both-busy.result c.without_group.result i (not (is_for i c.deref-2.result.now)) (c.without_group.ensures.others i) there in
+    of_mask c.args.mask c.both-busy.result i (has c.busy.result i) (c.both-busy.ensures i) busy
+
+pub land_all-requires-clause-others : goal.land_all-requires-clause-others
+land_all-requires-clause-others g c =
+    let few : length c.args.region.now ≤ 128 = omega (arith, c.requires.cpus, c.self.invariant.in_range.most_cpus, ap (λ v. v.settings.cpus) c.self.view_is) in
+    let group = group_is c.both-busy.result c.busy.result c.args.mask c.args.region.now c.busy.new.self c.deref.result.now c.busy.ensures.same few c.both-busy.ensures c.busy.ensures.busy (c.deref.ensures.value ∙ c.in_ok-group.ensures) in
     let same = ap (λ v. v.settings) c.reserve.ensures.same in
-    let rises = subst (λ (z : Settings). Rises 0 z c.deref.result.now) (sym same)
+    let rises = subst (λ (z : Settings). Rises 0 z.cpus c.deref.result.now) (sym same)
     (rises_is c.args.self.now.settings c.args.mask c.busy.new.self c.deref.result.now (ap length c.busy.ensures.same ∙ c.requires.cpus) group)
     in
-    let still = together_busy _ _ _ _ _ _ _ _ _ i rises (stamped_is c.args.mask c.busy.new.self c.deref.result.now group) c.land_group.ensures.lands in
-    c.both-busy.ensures i ∙ ap (λ b. has c.args.mask i && b) (c.busy.ensures.busy i lt ∙ sym (still ∙ ap (λ (z : List (List ℕ)). is_busy_at z i) c.busy.ensures.same))
+    let again : c.deref-2.result.now ≡ c.deref.result.now = c.deref-2.ensures.value ∙ sym c.deref.ensures.value in
+    nothing_left _ _ c.args.mask c.busy.result c.without_group.result _ _ _ _ _ _ _ rises (stamped_is c.args.mask c.busy.new.self c.deref.result.now group) c.land_group.ensures.lands
+    (omega (arith, few, ap length c.busy.ensures.same))
+    (λ i lt. c.busy.ensures.busy i lt ∙ sym (ap (λ (z : List (List ℕ)). is_busy_at z i) c.busy.ensures.same))
+    (λ i. c.without_group.ensures.others i ∙ (ap (λ b. b && not (is_for i c.deref-2.result.now)) (c.both-busy.ensures i) ∙ ap (λ (q : Group). (has c.args.mask i && has c.busy.result i) && not (is_for i q)) again))
 
 pub returns-clause-lands : goal.returns-clause-lands
 returns-clause-lands g c =
