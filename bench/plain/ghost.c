@@ -348,24 +348,27 @@ static const uint64_t TENS[] = {
 static char *put_19(char *o, uint64_t n)
 {
     char *end = o + 19;
-    for (char *d = end - 2; d > o; d -= 2, n /= 100)
+    for (char *d = end; d != o + 1; n /= 100) {
+        d -= 2;
         memcpy(d, PAIRS + 2 * (n % 100), 2);
+    }
     *o = (char)('0' + n);
     return end;
 }
 
-static char *put_long_mask(char *o, cpumask mask)
-{
-    if (mask >> 64 == 0)
-        return put_long(o, (uint64_t)mask);
-    cpumask front = mask / TENS[19];
-    o = put_long_mask(o, front);
-    return put_19(o, (uint64_t)mask - (uint64_t)front * TENS[19]);
-}
+static char *put_long_mask(char *o, cpumask mask);
 
 static inline char *put_mask(char *o, cpumask mask)
 {
     return mask >> 64 == 0 ? put_number(o, (uint64_t)mask) : put_long_mask(o, mask);
+}
+
+// One of more than 64 bits.
+static char *put_long_mask(char *o, cpumask mask)
+{
+    cpumask front = mask / TENS[19];
+    o = put_mask(o, front);
+    return put_19(o, (uint64_t)mask - (uint64_t)front * TENS[19]);
 }
 
 static inline char *put_cpu(char *o, uint8_t cpu)
@@ -416,7 +419,7 @@ static inline struct message *post(enum kind kind, uint32_t length, uint32_t tid
         return NULL;
     }
     used_bytes += need;
-    write_place = length < rest ? write_place + length : length == rest ? 0 : length;
+    write_place = length <= rest ? write_place + length : length;
     struct message *m = &queue[(queue_first + queue_length++) % QUEUE];
     m->tid = tid;
     m->tseq = tseq;
@@ -432,7 +435,7 @@ static inline struct message *post(enum kind kind, uint32_t length, uint32_t tid
 
 static inline struct thread *living(uint32_t tid)
 {
-    if (unlikely(tid - 1 >= created) || unlikely(!THREAD(tid)->alive))
+    if (unlikely(tid > created) || unlikely(!THREAD(tid)->alive))
         return NULL;
     return THREAD(tid);
 }
@@ -608,13 +611,13 @@ static inline void forget_belief(struct record *r)
     }
 }
 
+// A thread that landed, or is on a CPU as a page has it, is believed on no other one: it has not left any since its last message.
 static inline void believe(unsigned cpu, uint32_t tid, struct record *r)
 {
     uint32_t before = believed[cpu];
     ticks[cpu] = 0;
     if (before == tid)
         return;
-    forget_belief(r);
     believed[cpu] = tid;
     add(&busy, cpu);
     r->cpu = (uint8_t)cpu;
@@ -739,6 +742,12 @@ static inline uint32_t drain(uint32_t most, uint32_t counts[3])
     return count;
 }
 
+static void empty_queues(void)
+{
+    for (unsigned class = 0; class < 2; class++)
+        RECORD(QUEUE_OF(class))->next = RECORD(QUEUE_OF(class))->previous = QUEUE_OF(class);
+}
+
 // Whatever the agent before had in mind is gone; one walk over the threads' bits, and none over the threads.
 static void begin(void)
 {
@@ -746,10 +755,7 @@ static void begin(void)
     memset(present, 0, (created + 63) / 64 * sizeof *present);
     memset(believed, 0, sizeof believed);
     busy = stamped = grouped = 0;
-    for (unsigned class = 0; class < 2; class++) {
-        RECORD(QUEUE_OF(class))->next = RECORD(QUEUE_OF(class))->previous = QUEUE_OF(class);
-        wanted[class] = 0;
-    }
+    empty_queues();
     role = ATTACHING;
     generation++;
     next_page = 1;
@@ -776,7 +782,7 @@ static inline void load(uint32_t tid, const struct thread *t)
 static uint32_t load_page(uint32_t most)
 {
     uint32_t count = 0, words = (created + 63) / 64, i = (next_page - 1) / 64;
-    uint64_t left = i < words ? alive[i] & UINT64_MAX << (next_page - 1) % 64 : 0;
+    uint64_t left = alive[i] & UINT64_MAX << (next_page - 1) % 64;
     for (;; left &= left - 1) {
         while (!left && ++i < words)
             left = alive[i];
@@ -1066,6 +1072,11 @@ static enum fault fault_from(const char *p, const char *end, const char **where)
 
 // ---- running ----
 
+static inline bool is_bad(unsigned char byte)
+{
+    return (unsigned char)(byte - 32) > 94 && byte != '\n';
+}
+
 // The first byte that no line may have; `length` if there is none.
 static size_t first_bad_byte(const unsigned char *s, size_t length)
 {
@@ -1073,10 +1084,12 @@ static size_t first_bad_byte(const unsigned char *s, size_t length)
         size_t stop = length - at < 4096 ? length : at + 4096;
         unsigned char bad = 0;
         for (size_t i = at; i < stop; i++)
-            bad |= (unsigned char)(s[i] - 32) > 94 && s[i] != '\n';
-        for (size_t i = at; bad && i < stop; i++)
-            if ((s[i] < 32 || s[i] > 126) && s[i] != '\n')
-                return i;
+            bad |= is_bad(s[i]);
+        if (bad) {
+            while (!is_bad(s[at]))
+                at++;
+            return at;
+        }
     }
     return length;
 }
@@ -1133,7 +1146,8 @@ static char *spill(char *o)
 
 #define DIGIT(p) ((unsigned)(unsigned char)*(p) - '0')
 
-// The rest of a mask whose first 19 digits have this value and are not all; null if it is too great.
+// The rest of a mask whose first 19 digits have this value and are not all; null if it is too great. If it has more digits than
+// any mask, the place is that of one of them, so that no word ends there.
 static const char *long_mask(const char *p, cpumask *mask)
 {
     const char *first = p;
@@ -1145,7 +1159,7 @@ static const char *long_mask(const char *p, cpumask *mask)
     }
     cpumask value = *mask * TENS[p - first] + more;
     if (digit <= 9) {
-        if (value > ALL_MASKS / 10 || (value == ALL_MASKS / 10 && digit > ALL_MASKS % 10) || DIGIT(p + 1) <= 9)
+        if (value > ALL_MASKS / 10 || (value == ALL_MASKS / 10 && digit > ALL_MASKS % 10))
             return NULL;
         value = 10 * value + digit;
         p++;
@@ -1326,11 +1340,10 @@ static const char *run(const char *p, const char *end, char **behind, enum fault
             REFUSE_IF(!mask || mask & absent, EMPTY_MASK);
             REFUSE_IF(created == MOST_THREADS, TIDS_SPENT);
             REFUSE_IF(entries >= history, HISTORY_FULL);
-            // The name `-` is the empty one, and is shown so.
-            unsigned bytes = 34 + (length == 1 && *name == '-' ? 0 : length);
+            // The name `-` is the empty one, and is shown so; it has as much room as a name of one byte.
             uint32_t at = (uint32_t)(name - input);
             tid = created + 1;
-            m = post(CREATED, (bytes + 7) & ~7u, tid, first_tseq + 1, NO_CPU);
+            m = post(CREATED, (34 + length + 7) & ~7u, tid, first_tseq + 1, NO_CPU);
             if (unlikely(!m))
                 goto tear;
             m->mask = mask;
@@ -1437,7 +1450,7 @@ static const char *run(const char *p, const char *end, char **behind, enum fault
             break;
         case E_BEGIN: {
             bool named = *p != '\n', two = *p == 't';
-            n = 0;
+            n = slice;
             if (named) {
                 if (memcmp(p, two ? "two" : "first", two ? 3 : 5) != 0)
                     goto odd;
@@ -1453,10 +1466,9 @@ static const char *run(const char *p, const char *end, char **behind, enum fault
             REFUSE_IF(role != NOBODY, STILL_ATTACHED);
             REFUSE_IF(generation == UINT32_MAX, GEN_SPENT);
             REFUSE_IF(entries >= history, HISTORY_FULL);
-            if (named) {
+            if (named)
                 two_classes = two;
-                slice = n;
-            }
+            slice = n;
             begin();
             entries++;
             PUT_WITH("begun generation ", generation);
@@ -1533,7 +1545,7 @@ static const char *run(const char *p, const char *end, char **behind, enum fault
             END_LINE();
             REFUSE_IF(role != ACTIVE, NOT_ACTIVE);
             REFUSE_IF(cpu >= cpus, BAD_CPU);
-            REFUSE_IF(tid - 1 >= MOST_THREADS || !known(RECORD(tid)), NO_THREAD);
+            REFUSE_IF(tid > MOST_THREADS || !known(RECORD(tid)), NO_THREAD);
             REFUSE_IF(has(&stamped, cpu), SLOT_OPEN);
             REFUSE_IF(stamped_count >= history, HISTORY_FULL);
             stamp(cpu, tid, preempt, group);
@@ -1668,11 +1680,10 @@ tear:
     *fault = fault_from(p, end, &line);
     if (*fault)
         return line;
+    // The replies to all lines of a script take less than what one event may.
     for (; p < end; p = line_after(p)) {
         if (!is_passed_over(p)) {
             events++;
-            if (o > out + FLUSH)
-                o = spill(o);
             o = refuse(o, GONE);
         }
     }
@@ -1745,7 +1756,7 @@ static enum status answer(void)
     const char *end = input + length, *bad = input + first_bad_byte((const unsigned char *)input, length);
     bool has_bad = bad < end;
     if (has_bad) {
-        while (bad > input && bad[-1] != '\n')
+        while (bad != input && bad[-1] != '\n')
             bad--;
         end = bad;
     }
@@ -1763,8 +1774,7 @@ static enum status answer(void)
         return fault ? faulted(line, fault) : faulted(bad, BAD_BYTE);
     }
 
-    for (unsigned class = 0; class < 2; class++)
-        RECORD(QUEUE_OF(class))->next = RECORD(QUEUE_OF(class))->previous = QUEUE_OF(class);
+    empty_queues();
     char *behind = out;
     line = run(line_after(p), end, &behind, &fault);
     if (line)
