@@ -43,8 +43,24 @@ pub(crate) fn put_number(array: &mut [u8], end: usize, number: u64) -> usize
     write_digits(number, array, end)
 }
 
-/// Writes a mask so that it ends here, and returns where it begins.
+/// Writes a mask so that it ends here, and returns where it begins. One of 64 bits is written as a number.
+#[inline(always)]
 pub(crate) fn put_mask(array: &mut [u8], end: usize, mask: u128) -> usize
+    requires { (39 ≤ end) × (end ≤ length array.old) }
+    ensures start { result ≤ end }
+    ensures low { end ≤ result + 39 }
+    ensures written { drop result array.new ≡ decimal mask ++ drop end array.old }
+    ensures utf8 { IsUtf8 (drop end array.old) → IsUtf8 (drop result array.new) }
+    ensures size { length array.new ≡ length array.old }
+{
+    match u64::try_from(mask) {
+        Ok(number) => put_number(array, end, number),
+        Err(_) => put_long_mask(array, end, mask),
+    }
+}
+
+/// Writes any mask so that it ends here, and returns where it begins.
+fn put_long_mask(array: &mut [u8], end: usize, mask: u128) -> usize
     requires { (39 ≤ end) × (end ≤ length array.old) }
     ensures start { result ≤ end }
     ensures low { end ≤ result + 39 }

@@ -180,6 +180,8 @@ fn can_hold(state: &SlotState) -> bool
 /// # Errors
 ///
 /// `Malformed` if its bytes spell no state of a slot of this CPU.
+// In line, as are those that hand it on, so that a caller's `match` takes the fields where they lie.
+#[inline(always)]
 pub(crate) fn state_at(cpu: u16, bytes: &[u8]) -> Result<SlotState, Malformed>
     requires { length bytes.now ≡ 32 }
     ensures { result ≡ state_in cpu bytes.now }

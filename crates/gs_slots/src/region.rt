@@ -120,6 +120,7 @@ impl Region {
 
     /// Returns the CPUs below [`MOST_CPUS`] whose slots are not idle: stamped, done or malformed. It looks at those
     /// alone that were lent since they were last seen to be idle.
+    #[inline(always)]
     pub fn busy(&mut self) -> Mask
         ensures busy { (c : ℕ) → c < MOST_CPUS → has result c ≡ is_busy_at self.old c }
         ensures same { self.new ≡ self.old }
@@ -194,6 +195,8 @@ fn or_flagged(flagged: bool, blocks: &[[u8; 32]], cpu: u16) -> bool
 
 /// Returns the CPUs below [`MOST_CPUS`] whose slots are not idle, and whether one of them may have the flag of a
 /// group. All that are not idle are among those that were lent.
+// In line, since with few CPUs a call costs as much as the walk.
+#[inline(always)]
 fn busy_of(lent: Mask, blocks: &[[u8; 32]]) -> (Mask, bool)
     requires { CoversBusy blocks.now lent }
     ensures busy { (c : ℕ) → c < MOST_CPUS → has result.0 c ≡ is_busy_at blocks.now c }

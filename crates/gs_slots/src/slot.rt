@@ -52,6 +52,7 @@ impl<'a> SlotMut<'a> {
     ///
     /// `Malformed` exactly if its bytes spell no state of a slot of its CPU. Another CPU stands there, a flag
     /// that there is not, a number that is no outcome's, or a byte that no field has is not zero.
+    #[inline(always)]
     pub fn state(&self) -> Result<SlotState, Malformed>
         ensures state { result ≡ state_of self.now }
         ensures spelt { IfOk result (λ z. bytes_of self.now ≡ slot_spelling (cpu_of self.now) z) }
