@@ -1,5 +1,5 @@
 -- What is done to a region in which no slot is malformed is done to its states.
-use Rattle.std.proofs.Common.{◌≡◌, Bool, true, false, ℕ, zero, suc, ◌+◌, ◌<◌, Option, None, Some, Result, Ok, Err, IfOk, IfErr, OnErr, OnOk, List, [], ◌∷◌, ◌++◌, length, map, replicate, slice_get, slice_set, get_or, refl, ap, sym, subst, ◌∙◌, arith}
+use Rattle.std.proofs.Common.{◌≡◌, ℕ, zero, suc, ◌+◌, ◌<◌, Option, None, Some, Result, Ok, Err, IfOk, IfErr, OnErr, OnOk, List, [], ◌∷◌, length, map, replicate, slice_get, slice_set, get_or, refl, ap, sym, ◌∙◌, arith}
 use Rattle.std.specs.Global.{Vec}
 use Rattle.std.specs.Result.{result_unwrap_or}
 use Rattle.std.proofs.lemmas.Option.{slice_get-get_or}
