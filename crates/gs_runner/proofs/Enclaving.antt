@@ -1,0 +1,81 @@
+-- What a call under the lock keeps.
+use Rattle.std.proofs.Common.{◌≡◌, ℕ, ◌+◌, ◌≤◌, Bool, false, List, [], ◌∷◌, ◌++◌, length, refl, ap, sym, subst, ◌∙◌, arith, length-append}
+use Rattle.gs_board.specs.declared.rule.Words.{Words}
+use Rattle.gs_board.specs.Words.{MayFollow}
+use Rattle.gs_layout.specs.declared.refusal.Refusal.{Refusal}
+use Rattle.gs_link.specs.declared.poster.RtrbPoster.{RtrbPoster}
+use Rattle.gs_link.specs.Between.{SameEnd}
+use Rattle.gs_kernel.specs.declared.settings.Settings.{Settings}
+use Rattle.gs_kernel.specs.Kernel.{KernelOf}
+use Rattle.gs_replies.specs.declared.reply.Reply.{Reply}
+use Rattle.gs_replies.specs.declared.reply.Reply.TheVariants as replies
+use Rattle.gs_runner.specs.declared.call.Called.{Called}
+use Rattle.gs_runner.specs.declared.call.Call.{Call}
+use Rattle.gs_runner.specs.Calls.{GoesOnBy, IsCall, IsLegalHistory, LegalCall, ThreadRoom, given_by, is_refused}
+use Rattle.gs_runner.specs.Told.{IsTold, parcels_of}
+use Rattle.gs_runner.specs.Enclaves.{IsEnclave, IsShown, enclave_of, generation_number, role_of}
+use Rattle.gs_runner.proofs.Callings.{leads_more}
+use Rattle.gs_runner.proofs.Growths.{GoesOn, call_goes, goes_longer}
+
+pub accepted : (r : Reply) → ((x : Refusal) → r ≡ replies.Refused x → ⊥) → is_refused r ≡ false
+accepted (replies.Refused x) n = absurd (n x refl)
+accepted replies.Torn n = refl
+accepted (replies.Done e) n = refl
+accepted replies.Crashed n = refl
+accepted (replies.Page a b c) n = refl
+accepted (replies.Drained d) n = refl
+accepted (replies.Stamped k) n = refl
+accepted (replies.Decided a b) n = refl
+accepted (replies.Landed a b) n = refl
+accepted (replies.Late a b c) n = refl
+accepted (replies.View a) n = refl
+accepted (replies.State a) n = refl
+accepted (replies.Unread a) n = refl
+
+-- a call is appended as it was given, with the reply that its receipt has
+pub same_call : (before calls : List Call) (c d : Called) (at more : ℕ) (again r : Reply) → before ≡ calls → c ≡ d → again ≡ r
+    → before ++ record { called = c; at = at; entries = more; reply = again } ∷ [] ≡ calls ++ record { called = d; at = at; entries = more; reply = r } ∷ []
+same_call before calls c d at more again r e f k = λ i. e i ++ record { called = f i; at = at; entries = more; reply = k i } ∷ []
+
+told_goes : (a b : KernelOf RtrbPoster) (c : Called) (r : Reply) → IsTold a c r b → GoesOn a.history b.history
+told_goes a b c r t = call_goes (ThreadRoom (parcels_of a)) a.settings a.history a.paged c r b.history t.legal
+
+pub told_longer : (a b : KernelOf RtrbPoster) (c : Called) (r : Reply) → IsTold a c r b → length a.history ≤ length b.history
+told_longer a b c r t = goes_longer a.history b.history (told_goes a b c r t)
+
+-- by as many entries as it is longer
+pub told_on : (a b : KernelOf RtrbPoster) (c : Called) (r : Reply) (at more : ℕ) → IsTold a c r b → at ≡ length a.history → length b.history ≡ at + more → GoesOnBy more a.history b.history
+told_on a b c r at more t is longer =
+    let g = told_goes a b c r t in
+    let n = ap length g.all ∙ length-append a.history g.more in
+    (g.more, g.all, omega (arith, n, is, longer))
+
+-- the generation that is published next is not below the last
+pub may_publish : (a b : KernelOf RtrbPoster) (c : Called) (r : Reply) (published : Words) → IsTold a c r b → IsShown published a.history → MayFollow published.roles (generation_number b.history)
+may_publish a b c r published t shown = (role_of a.history, shown.role, (told_goes a b c r t).rises)
+
+-- what is kept whenever the lock is got, is kept by an accepted call
+pub told_kept : (is_ring : RtrbPoster → Type 0) (parcels parts : ℕ) (a b : KernelOf RtrbPoster) (calls calls' : List Call) (total total' : ℕ) (published published' : Words) (c : Call)
+    → ((p q : RtrbPoster) → is_ring p → SameEnd p q → is_ring q)
+    → IsEnclave is_ring parcels parts a (enclave_of a calls total published) → IsTold a c.called c.reply b → is_refused c.reply ≡ false → c.at ≡ length a.history → length b.history ≡ c.at + c.entries → calls' ≡ calls ++ c ∷ [] → total' ≡ total + 1
+    → IsShown published' b.history → IsEnclave is_ring parcels parts b (enclave_of b calls' total' published')
+told_kept is_ring parcels parts a b calls calls' total total' published published' c stays i t ok at longer is counts shown =
+    let call : IsCall parcels a.settings a.history a.paged c b.history = record {
+      legal = subst (λ (n : ℕ). LegalCall (ThreadRoom n) a.settings a.history a.paged c.called c.reply b.history) i.capacity t.legal;
+      at = at;
+      entries = told_on a b c.called c.reply c.at c.entries t at longer;
+      accepted = ok;
+    } in
+    let lead : IsLegalHistory parcels a.settings (calls ++ c ∷ []) b.history (given_by c.reply a.paged) = leads_more parcels a.settings _ false calls a.history a.paged c b.history i.kept.legal call in
+    record {
+      kept = record {
+        legal = subst (λ (s : Settings). IsLegalHistory parcels s calls' b.history b.paged) (sym t.settings)
+            (subst (λ (g : Bool). IsLegalHistory parcels a.settings calls' b.history g) (sym t.pages) (subst (λ (l : List Call). IsLegalHistory parcels a.settings l b.history (given_by c.reply a.paged)) (sym is) lead));
+        counted = omega (arith, counts, i.kept.counted, ap length is, length-append calls (c ∷ []));
+        shown = shown;
+      };
+      sent = t.sent;
+      ring = stays a.poster b.poster i.ring t.ring;
+      capacity = t.ring.1 ∙ i.capacity;
+      whole = i.whole;
+    }

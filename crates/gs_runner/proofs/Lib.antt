@@ -1,0 +1,15 @@
+mod Rooms
+mod Tellings
+mod Generations
+mod Growths
+mod Callings
+mod Refused
+mod Landing
+mod Walking
+mod Counting
+mod Committing
+mod Enclaving
+mod Answering
+mod Opening
+mod Standings
+mod Rows

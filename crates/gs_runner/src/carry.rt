@@ -1,0 +1,146 @@
+//! What a command does to the kernel under the lock.
+
+ghost use Rattle.std.specs.Prelude.{◌≡◌, ℕ, IfErr, IfOk, OnErr, None, length};
+ghost use Rattle.gs_dump.specs.Page.{page_spelling};
+ghost use Rattle.gs_journal.specs.declared.entry.Entry.{Entry};
+ghost use Rattle.gs_kernel.specs.Fate.{answer_by};
+ghost use Rattle.gs_kernel.specs.Kernel.{IsRefusal};
+ghost use Rattle.gs_replies.specs.declared.reply.Reply.{Reply};
+ghost use Rattle.gs_replies.specs.Replies.{page_reply};
+ghost use Rattle.gs_runner.specs.declared.call.Called.{Called};
+ghost use Rattle.gs_runner.specs.declared.command.Command.{Command};
+ghost use Rattle.gs_runner.specs.Calls.{LegalCall, ThreadRoom, call_page_refusal, call_refusal, crash_reply};
+ghost use Rattle.gs_runner.specs.Told.{IsTold};
+
+use crate::command::Command;
+use crate::land::{land, land_refusal};
+use gs_dump::{Page, write_page};
+use gs_kernel::{Fate, Kernel};
+use gs_layout::Refusal;
+use gs_link::RtrbPoster;
+use gs_replies::{Items, Reply};
+use std::alloc::Global;
+
+/// Returns how many entries the journal has.
+pub(crate) fn entries(kernel: &Kernel<RtrbPoster>) -> u32
+    ensures { result ≡ length kernel.now.history }
+{
+    // A look at the numbers, by which the proof has the most entries.
+    let _settings = kernel.settings();
+    kernel.journal().len() as u32
+}
+
+/// Returns why a command is refused, apart from `OutOfMemory`.
+fn call_refusal(kernel: &Kernel<RtrbPoster>, command: &Command) -> Option<Refusal>
+    ensures { result ≡ call_refusal kernel.now.settings kernel.now.history kernel.now.paged command.now }
+{
+    match command {
+        Command::Kernel { command } => kernel.refusal(command),
+        Command::Crash => kernel.refusal(&gs_kernel::Command::Leave),
+        Command::Page { .. } => kernel.page_refusal(),
+        Command::Land { bytes } => land_refusal(kernel, bytes),
+    }
+}
+
+/// Returns why a command is refused if out of memory for its call.
+#[tactic(auto, using(crate::proofs::Refused::short_call))]
+pub(crate) fn short_refusal(kernel: &Kernel<RtrbPoster>, command: &Command) -> Refusal
+    ensures { (parcels : ℕ) → LegalCall (ThreadRoom parcels) kernel.now.settings kernel.now.history kernel.now.paged (Called.Served command.now) (Reply.Refused result) kernel.now.history }
+{
+    call_refusal(kernel, command).unwrap_or(Refusal::OutOfMemory)
+}
+
+/// Carries a command out, or refuses it. Returns the reply twice.
+pub(crate) fn carry_out(
+    kernel: &mut Kernel<RtrbPoster>,
+    alloc: Global,
+    command: &Command,
+) -> (Reply, Reply)
+    ensures told { IsTold kernel.old (Called.Served command.now) result.0 kernel.new }
+    ensures same { result.1 ≡ result.0 }
+{
+    match command {
+        Command::Kernel { command } => obey(kernel, command),
+        Command::Crash => crash(kernel),
+        Command::Page { from, max } => page(kernel, alloc, *from, *max),
+        Command::Land { bytes } => land(kernel, alloc, bytes),
+    }
+}
+
+/// Tells the kernel a command.
+fn obey(kernel: &mut Kernel<RtrbPoster>, command: &gs_kernel::Command) -> (Reply, Reply)
+    ensures told { IsTold kernel.old (Called.Served (Command.Kernel command.now)) result.0 kernel.new }
+    ensures same { result.1 ≡ result.0 }
+{
+    let fate = kernel.obey(command);
+    let last = kernel.last();
+    (Reply::by(fate, last), Reply::by(fate, last))
+}
+
+/// Tells the kernel that the agent crashed.
+fn crash(kernel: &mut Kernel<RtrbPoster>) -> (Reply, Reply)
+    ensures told { IsTold kernel.old (Called.Served Command.Crash) result.0 kernel.new }
+    ensures same { result.1 ≡ result.0 }
+{
+    let fate = kernel.obey(&gs_kernel::Command::Leave);
+    (crash_reply(fate), crash_reply(fate))
+}
+
+/// Returns the reply to a crash, by the fate of a leaving.
+fn crash_reply(fate: Fate) -> Reply
+    ensures { (e : Entry) → result ≡ crash_reply (answer_by fate e) }
+{
+    match fate {
+        Fate::Refused { refusal } => Reply::Refused(refusal),
+        Fate::Torn => Reply::Torn,
+        Fate::Done => Reply::Crashed,
+    }
+}
+
+/// Gives a page.
+#[tactic(auto, using(crate::proofs::Refused::told_refused))]
+fn page(kernel: &mut Kernel<RtrbPoster>, alloc: Global, from: u32, max: u16) -> (Reply, Reply)
+    ensures told { IsTold kernel.old (Called.Served (Command.Page from max)) result.0 kernel.new }
+    ensures same { result.1 ≡ result.0 }
+{
+    // A look at the ring's end, by which the proof has what was sent.
+    let _poster = kernel.poster();
+    match try_page(kernel, alloc, from, max) {
+        Ok(replies) => replies,
+        Err(refusal) => (Reply::Refused(refusal), Reply::Refused(refusal)),
+    }
+}
+
+/// Writes a page twice, and notes that it was given. Returns the reply twice.
+#[tactic(auto, using(crate::proofs::Refused::told_page))]
+fn try_page(
+    kernel: &mut Kernel<RtrbPoster>,
+    alloc: Global,
+    from: u32,
+    max: u16,
+) -> Result<(Reply, Reply), Refusal>
+    ensures told { IfOk result (λ r. IsTold kernel.old (Called.Served (Command.Page from max)) r.0 kernel.new) }
+    ensures same { IfOk result (λ r. r.1 ≡ r.0) }
+    ensures refused { IfErr result (IsRefusal (call_page_refusal kernel.old.history kernel.old.paged)) }
+    ensures unchanged { OnErr result (kernel.new ≡ kernel.old) }
+{
+    let page = kernel.dump(alloc, from, max)?;
+    let bytes = write_page(alloc, &page)?;
+    let again = write_page(alloc, &page)?;
+    kernel.note_page(&page);
+    // A look at the ring's end, by which the proof has what was sent.
+    let _poster = kernel.poster();
+    Ok((page_reply(&page, bytes), page_reply(&page, again)))
+}
+
+/// Returns the reply to a page with these bytes.
+fn page_reply(page: &Page, bytes: Vec<u8>) -> Reply
+    requires { bytes.items ≡ page_spelling page.now }
+    ensures { result ≡ page_reply page.now }
+{
+    Reply::Page {
+        count: page.records.len() as u16,
+        next: page.next,
+        bytes: Items::new(bytes),
+    }
+}

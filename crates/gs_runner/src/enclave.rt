@@ -1,0 +1,123 @@
+//! What lies under the lock.
+
+ghost use Rattle.std.specs.Prelude.{◌≡◌, ◌+◌, ◌∷◌, ◌++◌, [], false, length, true};
+ghost use Rattle.gs_journal.specs.declared.entry.Entry.{Entry};
+ghost use Rattle.gs_journal.specs.History.{posted};
+ghost use Rattle.gs_link.specs.Between.{Posted};
+ghost use Rattle.gs_runner.specs.declared.call.Called.{Called};
+ghost use Rattle.gs_runner.specs.Calls.{GoesOnBy, LegalCall, ThreadRoom, is_refused};
+ghost use Rattle.gs_runner.specs.Enclaves.{IsKept, IsShown, enclave_of};
+ghost use Rattle.gs_runner.specs.Told.{parcels_of};
+ghost use Rattle.gs_runner.specs.declared.pass.TheConstants.{PASSES};
+
+use crate::call::{Call, Called, Receipt};
+use crate::carry::{carry_out, entries, short_refusal};
+use crate::command::Command;
+use crate::log::Log;
+use crate::share::Share;
+use crate::site::Site;
+use gs_board::{Board, WriterSeat};
+use gs_kernel::Kernel;
+use gs_link::RtrbPoster;
+use gs_replies::Reply;
+use std::alloc::Global;
+use std::marker::Model;
+use std::sync::ledger::Book;
+
+/// What lies under the lock: the kernel, and the calls that it accepted. Whenever the lock is got, the calls are a
+/// legal history for the journal, and the book counts them. What was sent through the ring is what was posted, and
+/// the board's last words are the journal's.
+#[derive(Drop)]
+pub struct Enclave<L: Site> {
+    pub(crate) alloc: Global,
+    pub(crate) kernel: Kernel<RtrbPoster>,
+    pub(crate) log: Log<L>,
+}
+
+impl<L: Site> Model for Enclave<L> {
+    ghost use Rattle.gs_runner.specs.Enclaves.{EnclaveOf, IsEnclave, enclave_of};
+
+    ghost Value = { EnclaveOf };
+
+    ghost view = { λ e. enclave_of e.kernel e.log.calls.items e.log.book.total e.log.seat };
+
+    ghost invariant = { λ e. IsEnclave L.is_ring L.parcels L.parts e.kernel (enclave_of e.kernel e.log.calls.items e.log.book.total e.log.seat) };
+}
+
+impl<L: Site> Enclave<L> {
+    /// Puts a kernel in which nothing was called beside an empty list of calls.
+    pub(crate) fn new(
+        alloc: Global,
+        kernel: Kernel<RtrbPoster>,
+        book: Book<L>,
+        seat: WriterSeat<L>,
+    ) -> Enclave<L>
+        requires ring { L.is_ring kernel.poster × (parcels_of kernel ≡ L.parcels) }
+        requires opening { (kernel.history ≡ Entry.Role kernel.settings.first_generation 0 ∷ []) × (kernel.paged ≡ false) }
+        requires sent { Posted kernel.poster [] }
+        requires shown { IsShown seat kernel.history }
+        requires book { (book.total ≡ 0) × (L.parts ≡ PASSES) }
+        ensures { result ≡ enclave_of kernel [] 0 seat }
+    {
+        Enclave {
+            alloc,
+            kernel,
+            log: Log {
+                calls: Vec::new(alloc),
+                book,
+                seat,
+            },
+        }
+    }
+
+    /// Serves a command: the kernel's legal step, with the reply that the receipt has. Unless it is refused, the call
+    /// stands in the list then, and share and book count it. A refused one changes nothing.
+    pub fn serve(&mut self, board: &Board<L>, share: &mut Share<L>, command: &Command) -> Receipt
+        ensures legal { LegalCall (ThreadRoom L.parcels) self.old.settings self.old.history self.old.given (Called.Served command.now) result.reply self.new.history }
+        ensures at { result.at ≡ length self.old.history }
+        ensures entries { GoesOnBy result.entries self.old.history self.new.history }
+        ensures accepted { is_refused result.reply ≡ false → self.new.calls ≡ self.old.calls ++ record { called = Called.Served command.now; at = result.at; entries = result.entries; reply = result.reply } ∷ [] }
+        ensures counted { is_refused result.reply ≡ false → (share.new ≡ share.old + 1) × (self.new.counted ≡ self.old.counted + 1) }
+        ensures refused { is_refused result.reply ≡ true → (self.new ≡ self.old) × (share.new ≡ share.old) }
+        ensures settings { self.new.settings ≡ self.old.settings }
+    {
+        let at = entries(&self.kernel);
+        if self.log.calls.reserve(1).is_err() {
+            return Receipt::refused(at, short_refusal(&self.kernel, command));
+        }
+        let (reply, again) = carry_out(&mut self.kernel, self.alloc, command);
+        if let Reply::Refused(refusal) = reply {
+            return Receipt::refused(at, refusal);
+        }
+        let more = entries(&self.kernel) - at;
+        let call = Call {
+            called: Called::Served(*command),
+            at,
+            entries: more,
+            reply: again,
+        };
+        self.log.accept(board, share, &self.kernel, call);
+        Receipt {
+            at,
+            entries: more,
+            reply,
+        }
+    }
+
+    /// Lends the kernel, to look: what was sent through its ring is what was posted.
+    pub fn kernel(&self) -> &Kernel<RtrbPoster>
+        ensures value { (result.now.settings ≡ self.now.settings) × (result.now.history ≡ self.now.history) × (result.now.paged ≡ self.now.given) }
+        ensures sent { Posted result.now.poster (posted self.now.history) }
+    {
+        &self.kernel
+    }
+
+    /// Lends the calls that were accepted, in order: a legal history for the journal. The book counts them, and the
+    /// last words on the board are the journal's.
+    pub fn calls(&self) -> &[Call]
+        ensures value { result.now ≡ self.now.calls }
+        ensures kept { IsKept L.parcels self.now }
+    {
+        self.log.calls.as_slice()
+    }
+}

@@ -1,0 +1,11 @@
+//! Tests of a locked enclave in threads: whether its calls can succeed, and what no clause says of threads.
+#![tactic(auto)]
+
+#[cfg(test)]
+mod callers;
+#[cfg(test)]
+mod closing;
+#[cfg(test)]
+mod hand_off;
+#[cfg(test)]
+mod running;
