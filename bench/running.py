@@ -10,7 +10,7 @@ import tempfile
 HERE = pathlib.Path(__file__).resolve().parent
 PROGRAM = HERE.parent / "crates/ghost_cli/out/ghost_cli"
 THREADS = (64, 1_024, 16_384, 65_536)
-# The plain programs, as bench/plain/build names them.
+# The plain programs that run scripts, as bench/plain/build names them.
 PLAIN = ("ghost", "kept")
 
 
@@ -69,10 +69,10 @@ def markdown(heads, rows):
         yield "| " + " | ".join(row) + " |"
 
 
-def build(folder):
-    """Builds the plain programs into a folder: their paths."""
+def build(folder, names=PLAIN):
+    """Builds the plain programs into a folder: the paths of these."""
     subprocess.run([HERE / "plain/build", folder], check=True)
-    return [pathlib.Path(folder) / name for name in PLAIN]
+    return [pathlib.Path(folder) / name for name in names]
 
 
 def add_program(parser):

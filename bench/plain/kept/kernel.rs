@@ -4,7 +4,7 @@ use crate::dump;
 use crate::event::{refuse_if, Facts, Refusal, MOST_CPUS, MOST_THREADS, NO_CPU};
 use crate::journal::{Entry, Journal};
 use crate::mask::Mask;
-use crate::ring::{self, Ring};
+use crate::ring::{self, Post, Ring};
 use crate::threads::{Row, Status, Threads};
 use Refusal::*;
 
@@ -25,9 +25,10 @@ pub enum Agent {
     Active,
 }
 
-pub struct Kernel {
+/// It posts to a ring of bytes, or to another one.
+pub struct Kernel<R = Ring> {
     pub threads: Threads,
-    pub ring: Ring,
+    pub ring: R,
     pub journal: Journal,
     cpus: u16,
     /// The CPUs that are not there.
@@ -48,9 +49,16 @@ pub struct Kernel {
 
 impl Kernel {
     pub fn new(settings: &Settings) -> Kernel {
+        Kernel::over(settings, Ring::new(settings.ring))
+    }
+}
+
+impl<R: Post> Kernel<R> {
+    /// A kernel that posts to this ring.
+    pub fn over(settings: &Settings, ring: R) -> Kernel<R> {
         Kernel {
             threads: Threads::default(),
-            ring: Ring::new(settings.ring),
+            ring,
             journal: Journal::new(settings.history, settings.first_generation),
             cpus: settings.cpus,
             absent: !Mask::first(settings.cpus),

@@ -40,15 +40,32 @@ pub fn head(words: usize, kind: u16, tid: u32, tseq: u32, cpu: u8, flag: bool) -
     ]
 }
 
-impl Ring {
-    /// An empty ring of so many bytes.
-    pub fn new(capacity: usize) -> Ring {
-        Ring { block: vec![0; capacity / 8].into(), write: 0, read: 0, used: 0 }
-    }
+/// The end of a ring that a kernel posts to.
+pub trait Post {
+    /// Writes a message.
+    fn post<const WORDS: usize>(&mut self, message: [u64; WORDS]) -> Result<(), Full>;
 
+    /// Writes the message of a thread that was created.
+    #[inline(always)]
+    fn post_creation(&mut self, tid: u32, tseq: u32, facts: &Facts) -> Result<(), Full> {
+        let name = u128::from_le_bytes(facts.name.bytes);
+        let words = (41 + facts.name.length as usize) / 8;
+        let [first, second] = head(words, CREATED, tid, tseq, NO_CPU, facts.runnable);
+        let [low, high] = facts.mask.words().map(u64::to_le);
+        let fifth = (facts.class as u64 | (facts.name.length as u64) << 8 | (name << 16) as u64).to_le();
+        let sixth = ((name >> 48) as u64).to_le();
+        match words {
+            5 => self.post([first, second, low, high, fifth]),
+            6 => self.post([first, second, low, high, fifth, sixth]),
+            _ => self.post([first, second, low, high, fifth, sixth, ((name >> 112) as u64).to_le()]),
+        }
+    }
+}
+
+impl Post for Ring {
     /// Writes a message, and a pad before it if that is wanted.
     #[inline(always)]
-    pub fn post<const WORDS: usize>(&mut self, message: [u64; WORDS]) -> Result<(), Full> {
+    fn post<const WORDS: usize>(&mut self, message: [u64; WORDS]) -> Result<(), Full> {
         let capacity = self.block.len();
         let rest = capacity - self.write;
         let pad = if WORDS <= rest { 0 } else { rest };
@@ -66,6 +83,13 @@ impl Ring {
         self.used += pad + WORDS;
         Ok(())
     }
+}
+
+impl Ring {
+    /// An empty ring of so many bytes.
+    pub fn new(capacity: usize) -> Ring {
+        Ring { block: vec![0; capacity / 8].into(), write: 0, read: 0, used: 0 }
+    }
 
     /// Fills the block up to its end.
     #[cold]
@@ -74,22 +98,6 @@ impl Ring {
         rest.fill(0);
         rest[0] = (8 * rest.len() as u64 | (PAD as u64) << 16).to_le();
         self.write = 0;
-    }
-
-    /// Writes the message of a thread that was created.
-    #[inline(always)]
-    pub fn post_creation(&mut self, tid: u32, tseq: u32, facts: &Facts) -> Result<(), Full> {
-        let name = u128::from_le_bytes(facts.name.bytes);
-        let words = (41 + facts.name.length as usize) / 8;
-        let [first, second] = head(words, CREATED, tid, tseq, NO_CPU, facts.runnable);
-        let [low, high] = facts.mask.words().map(u64::to_le);
-        let fifth = (facts.class as u64 | (facts.name.length as u64) << 8 | (name << 16) as u64).to_le();
-        let sixth = ((name >> 48) as u64).to_le();
-        match words {
-            5 => self.post([first, second, low, high, fifth]),
-            6 => self.post([first, second, low, high, fifth, sixth]),
-            _ => self.post([first, second, low, high, fifth, sixth, ((name >> 112) as u64).to_le()]),
-        }
     }
 
     /// The message that is read next, and the words of the pad before it.
