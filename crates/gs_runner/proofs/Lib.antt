@@ -13,3 +13,7 @@ mod Answering
 mod Opening
 mod Standings
 mod Rows
+mod Agreeing
+mod Receiving
+mod Beginning
+mod Concluding

@@ -4,3 +4,9 @@ pub mod Enclaves
 pub mod Holds
 pub mod Holding
 pub mod Starts
+pub mod Settles
+pub mod Receipts
+pub mod Ends
+pub mod Shifts
+pub mod Finishes
+pub mod Pages

@@ -10,10 +10,12 @@ ghost use Rattle.gs_replies.specs.Replies.{page_reply};
 ghost use Rattle.gs_runner.specs.declared.call.Called.{Called};
 ghost use Rattle.gs_runner.specs.declared.command.Command.{Command};
 ghost use Rattle.gs_runner.specs.Calls.{LegalCall, ThreadRoom, call_page_refusal, call_refusal, crash_reply};
+ghost use Rattle.gs_runner.specs.Pages.{Reads};
 ghost use Rattle.gs_runner.specs.Told.{IsTold};
 
 use crate::command::Command;
 use crate::land::{land, land_refusal};
+use crate::reader::PageReader;
 use gs_dump::{Page, write_page};
 use gs_kernel::{Fate, Kernel};
 use gs_layout::Refusal;
@@ -50,19 +52,21 @@ pub(crate) fn short_refusal(kernel: &Kernel<RtrbPoster>, command: &Command) -> R
     call_refusal(kernel, command).unwrap_or(Refusal::OutOfMemory)
 }
 
-/// Carries a command out, or refuses it. Returns the reply twice.
-pub(crate) fn carry_out(
+/// Carries a command out, or refuses it. A page is read before it counts as given. Returns the reply twice.
+pub(crate) fn carry_out<T: PageReader>(
     kernel: &mut Kernel<RtrbPoster>,
     alloc: Global,
     command: &Command,
+    reader: &mut T,
 ) -> (Reply, Reply)
     ensures told { IsTold kernel.old (Called.Served command.now) result.0 kernel.new }
     ensures same { result.1 ≡ result.0 }
+    ensures reads { Reads T.read command.now result.0 reader.old reader.new }
 {
     match command {
         Command::Kernel { command } => obey(kernel, command),
         Command::Crash => crash(kernel),
-        Command::Page { from, max } => page(kernel, alloc, *from, *max),
+        Command::Page { from, max } => page(kernel, alloc, *from, *max, reader),
         Command::Land { bytes } => land(kernel, alloc, bytes),
     }
 }
@@ -99,34 +103,45 @@ fn crash_reply(fate: Fate) -> Reply
 
 /// Gives a page.
 #[tactic(auto, using(crate::proofs::Refused::told_refused))]
-fn page(kernel: &mut Kernel<RtrbPoster>, alloc: Global, from: u32, max: u16) -> (Reply, Reply)
+fn page<T: PageReader>(
+    kernel: &mut Kernel<RtrbPoster>,
+    alloc: Global,
+    from: u32,
+    max: u16,
+    reader: &mut T,
+) -> (Reply, Reply)
     ensures told { IsTold kernel.old (Called.Served (Command.Page from max)) result.0 kernel.new }
     ensures same { result.1 ≡ result.0 }
+    ensures reads { Reads T.read (Command.Page from max) result.0 reader.old reader.new }
 {
     // A look at the ring's end, by which the proof has what was sent.
     let _poster = kernel.poster();
-    match try_page(kernel, alloc, from, max) {
+    match try_page(kernel, alloc, from, max, reader) {
         Ok(replies) => replies,
         Err(refusal) => (Reply::Refused(refusal), Reply::Refused(refusal)),
     }
 }
 
-/// Writes a page twice, and notes that it was given. Returns the reply twice.
+/// Writes a page twice, lets it be read, and notes that it was given. Returns the reply twice.
 #[tactic(auto, using(crate::proofs::Refused::told_page))]
-fn try_page(
+fn try_page<T: PageReader>(
     kernel: &mut Kernel<RtrbPoster>,
     alloc: Global,
     from: u32,
     max: u16,
+    reader: &mut T,
 ) -> Result<(Reply, Reply), Refusal>
     ensures told { IfOk result (λ r. IsTold kernel.old (Called.Served (Command.Page from max)) r.0 kernel.new) }
     ensures same { IfOk result (λ r. r.1 ≡ r.0) }
+    ensures reads { IfOk result (λ r. Reads T.read (Command.Page from max) r.0 reader.old reader.new) }
     ensures refused { IfErr result (IsRefusal (call_page_refusal kernel.old.history kernel.old.paged)) }
     ensures unchanged { OnErr result (kernel.new ≡ kernel.old) }
+    ensures unread { OnErr result (reader.new ≡ reader.old) }
 {
     let page = kernel.dump(alloc, from, max)?;
     let bytes = write_page(alloc, &page)?;
     let again = write_page(alloc, &page)?;
+    reader.read(alloc, &bytes)?;
     kernel.note_page(&page);
     // A look at the ring's end, by which the proof has what was sent.
     let _poster = kernel.poster();

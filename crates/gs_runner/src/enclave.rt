@@ -7,6 +7,7 @@ ghost use Rattle.gs_link.specs.Between.{Posted};
 ghost use Rattle.gs_runner.specs.declared.call.Called.{Called};
 ghost use Rattle.gs_runner.specs.Calls.{GoesOnBy, LegalCall, ThreadRoom, is_refused};
 ghost use Rattle.gs_runner.specs.Enclaves.{IsKept, IsShown, enclave_of};
+ghost use Rattle.gs_runner.specs.Pages.{Reads};
 ghost use Rattle.gs_runner.specs.Told.{parcels_of};
 ghost use Rattle.gs_runner.specs.declared.pass.TheConstants.{PASSES};
 
@@ -14,6 +15,7 @@ use crate::call::{Call, Called, Receipt};
 use crate::carry::{carry_out, entries, short_refusal};
 use crate::command::Command;
 use crate::log::Log;
+use crate::reader::{Nobody, PageReader};
 use crate::share::Share;
 use crate::site::Site;
 use gs_board::{Board, WriterSeat};
@@ -81,11 +83,32 @@ impl<L: Site> Enclave<L> {
         ensures refused { is_refused result.reply ≡ true → (self.new ≡ self.old) × (share.new ≡ share.old) }
         ensures settings { self.new.settings ≡ self.old.settings }
     {
+        self.serve_to(board, share, command, &mut Nobody)
+    }
+
+    /// Serves a command as [`Enclave::serve`] does. A page is read before it counts as given: out of memory for that
+    /// it is refused.
+    pub(crate) fn serve_to<T: PageReader>(
+        &mut self,
+        board: &Board<L>,
+        share: &mut Share<L>,
+        command: &Command,
+        reader: &mut T,
+    ) -> Receipt
+        ensures legal { LegalCall (ThreadRoom L.parcels) self.old.settings self.old.history self.old.given (Called.Served command.now) result.reply self.new.history }
+        ensures at { result.at ≡ length self.old.history }
+        ensures entries { GoesOnBy result.entries self.old.history self.new.history }
+        ensures accepted { is_refused result.reply ≡ false → self.new.calls ≡ self.old.calls ++ record { called = Called.Served command.now; at = result.at; entries = result.entries; reply = result.reply } ∷ [] }
+        ensures counted { is_refused result.reply ≡ false → (share.new ≡ share.old + 1) × (self.new.counted ≡ self.old.counted + 1) }
+        ensures refused { is_refused result.reply ≡ true → (self.new ≡ self.old) × (share.new ≡ share.old) }
+        ensures settings { self.new.settings ≡ self.old.settings }
+        ensures reads { Reads T.read command.now result.reply reader.old reader.new }
+    {
         let at = entries(&self.kernel);
         if self.log.calls.reserve(1).is_err() {
             return Receipt::refused(at, short_refusal(&self.kernel, command));
         }
-        let (reply, again) = carry_out(&mut self.kernel, self.alloc, command);
+        let (reply, again) = carry_out(&mut self.kernel, self.alloc, command, reader);
         if let Reply::Refused(refusal) = reply {
             return Receipt::refused(at, refusal);
         }

@@ -1,6 +1,7 @@
 ghost use Rattle.std.specs.Prelude.{◌≡◌, Option, List, IfSome, IfNone, None, Some};
 ghost use Rattle.gs_link.specs.declared.poster.RtrbPoster.{RtrbPoster};
 ghost use Rattle.gs_link.specs.Between.{IsPairOf};
+ghost use Rattle.gs_runner.specs.Ends.{live_of};
 
 use crate::site::Site;
 use gs_agent::Role;
@@ -43,6 +44,16 @@ impl<L: Site, P> Held<L, P> {
             taker,
             region,
             of: PhantomData,
+        }
+    }
+
+    /// Returns how many threads the role knows. There are none without a role.
+    pub fn live(&self) -> usize
+        ensures { result ≡ live_of self.now.role }
+    {
+        match &self.role {
+            Some(role) => role.view().len(),
+            None => 0,
         }
     }
 }

@@ -43,6 +43,12 @@ impl<L: Site> Station<L> {
         &self.board
     }
 
+    /// Takes the enclave out of its lock.
+    pub(crate) fn into_enclave(self) -> Enclave<L> {
+        let Station { lock, board: _ } = self;
+        lock.into_inner()
+    }
+
     /// Ends the enclave, and gives journal and calls. The calls are a legal history for the journal, and they are as
     /// many as the shares of the passes add up to. It does not allocate.
     ///
@@ -61,8 +67,7 @@ impl<L: Site> Station<L> {
                 passes,
             });
         }
-        let Station { lock, board: _ } = self;
-        let mut enclave = lock.into_inner();
+        let mut enclave = self.into_enclave();
         let mut all = gather(passes);
         enclave.audit(&mut all);
         Ok(enclave.into_closed())

@@ -8,4 +8,8 @@ mod closing;
 #[cfg(test)]
 mod hand_off;
 #[cfg(test)]
+mod in_order;
+#[cfg(test)]
 mod running;
+#[cfg(test)]
+mod shifts;

@@ -5,7 +5,7 @@ use Rattle.gs_runner.specs.declared.call.Call.{Call}
 use Rattle.gs_runner.specs.Calls.{GoesOnBy, LegalCall, ThreadRoom}
 use Rattle.gs_runner.specs.Enclaves.{EnclaveOf}
 use Rattle.gs_runner.proofs.Enclaving.{accepted, may_publish, same_call, told_kept, told_longer, told_on}
-use Rattle.gs_runner.proofs.enclave.Enclave.serve.Goals as goal
+use Rattle.gs_runner.proofs.enclave.Enclave.serve_to.Goals as goal
 
 pub returns-then-is_err-clause-legal : goal.returns-then-is_err-clause-legal
 returns-then-is_err-clause-legal g c =
@@ -54,5 +54,6 @@ returns g c =
       accepted = λ _. items ∙ ap (λ (e : EnclaveOf). e.calls ++ call ∷ []) is;
       counted = λ _. (c.accept.ensures.counted.1, c.accept.ensures.counted.0 ∙ ap (λ (e : EnclaveOf). e.counted + 1) is);
       refused = λ yes. absurd (true≢false (sym yes ∙ ok));
+      reads = c.carry_out-reply.ensures.reads;
       settings = told.settings ∙ ap (λ (e : EnclaveOf). e.settings) is;
     }
