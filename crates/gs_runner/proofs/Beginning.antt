@@ -1,5 +1,5 @@
 -- A begin that is refused.
-use Rattle.std.proofs.Common.{◌≡◌, Bool, Option, None, Some, refl, sym, ◌∙◌, ap, subst}
+use Rattle.std.proofs.Common.{◌≡◌, Bool, Option, None, Some, refl, sym, ◌∙◌, ap}
 use Rattle.gs_agent.specs.Role.{RoleOf}
 use Rattle.gs_journal.specs.History.{History}
 use Rattle.gs_layout.specs.declared.refusal.Refusal.{Refusal}

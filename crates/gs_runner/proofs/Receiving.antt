@@ -1,5 +1,5 @@
 -- Receipts, one after another.
-use Rattle.std.proofs.Common.{◌≡◌, ℕ, List, [], ◌∷◌, ◌++◌}
+use Rattle.std.proofs.Common.{ℕ, List, [], ◌∷◌, ◌++◌}
 use Rattle.gs_runner.specs.declared.command.Command.{Command}
 use Rattle.gs_runner.specs.declared.call.Receipt.{Receipt}
 use Rattle.gs_runner.specs.Receipts.{AreReceipts, IsReceipt}

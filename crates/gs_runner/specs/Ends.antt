@@ -1,5 +1,5 @@
 -- How a run ends.
-use Rattle.std.specs.Prelude.{◌≡◌, ◌≤◌, ◌<◌, ◌+◌, ℕ, Option, None, Some, Result, Ok, Err, length}
+use Rattle.std.specs.Prelude.{◌≡◌, ◌≤◌, ◌<◌, ℕ, Option, None, Some, Result, Ok, Err, length}
 use Rattle.gs_agent.specs.Role.{RoleOf}
 use Rattle.gs_journal.specs.History.{History, posted}
 use Rattle.gs_link.specs.declared.taker.RtrbTaker.{RtrbTaker}

@@ -1,5 +1,5 @@
 -- What the steps of a shift make of the role that is held.
-use Rattle.std.specs.Prelude.{◌≡◌, Bool, true, false, ℕ, ◌+◌, Option, None, Some, is_none}
+use Rattle.std.specs.Prelude.{◌≡◌, Bool, false, ℕ, Option, None, Some, is_none}
 use Rattle.std.specs.Option.{option_map}
 use Rattle.gs_agent.specs.Role.{RoleOf}
 use Rattle.gs_agent.specs.Drains.{Took}

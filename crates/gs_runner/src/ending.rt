@@ -24,11 +24,7 @@ pub(crate) struct Ended {
 }
 
 /// Lets the agent settle, and ends the enclave.
-fn end<L: Site, P>(
-    enclave: Enclave<L>,
-    held: &mut Held<L, P>,
-    passes: Vec<Pass<L>>,
-) -> Ended
+fn end<L: Site, P>(enclave: Enclave<L>, held: &mut Held<L, P>, passes: Vec<Pass<L>>) -> Ended
     requires { vec_len passes ≡ PASSES }
     ensures legal { IsLegal L.parcels result.closed.calls.items result.closed.journal.entries }
     ensures ended { EndsAs P result.closed.journal.entries result.threads result.end }

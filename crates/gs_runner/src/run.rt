@@ -42,8 +42,9 @@ fn run_all<
             let commands = list.as_slice();
             let number = worker;
             if let Some((pass, sheet)) = given.next() {
-                let _ = scope
-                    .spawn(move || serve_list(rt, station, gate, number, commands, pass, sheet));
+                let _ = scope.spawn(move || serve_list(
+                    rt, station, gate, number, commands, pass, sheet,
+                ));
             }
             worker = worker.wrapping_add(1);
         }

@@ -72,7 +72,16 @@ fn take_step<L: Site, P: Counted + Copy + Drop, R: Wait>(
         return None;
     }
     let mut enclave = station.enclave().lock(rt);
-    step_locked(&mut *enclave, board, share, alloc, role, policy, region, step)
+    step_locked(
+        &mut *enclave,
+        board,
+        share,
+        alloc,
+        role,
+        policy,
+        region,
+        step,
+    )
 }
 
 /// Takes steps, and notes the receipt of each that was a call. The gate is told before and after each.

@@ -4,7 +4,9 @@ use gs_status::Mask;
 #[derive(Clone, Copy, PartialEq, Eq, Debug)]
 pub enum Step<P> {
     /// It takes in the messages that wait, at most `max`.
-    Drain { max: u32 },
+    Drain {
+        max: u32,
+    },
     /// It stamps what its policy plans. Which CPUs are taken it reads from the board.
     Decide,
     /// It stamps what it knows of a thread into the slot of a CPU. `preempt` says that a thread that is there is to
@@ -16,19 +18,29 @@ pub enum Step<P> {
         group: bool,
     },
     /// The slots of the mask land, and are collected.
-    Commit { mask: Mask },
+    Commit {
+        mask: Mask,
+    },
     /// It goes on as the next generation, on another CPU.
-    HandOff { cpu: u16 },
+    HandOff {
+        cpu: u16,
+    },
     /// It crashes: its role is gone.
     Crash,
     /// It leaves, if no slot is stamped: its role is gone.
     Leave,
     /// The next one begins, by this policy or the one before.
-    Begin { policy: Option<P> },
+    Begin {
+        policy: Option<P>,
+    },
     /// It is told of the next threads that live, at most `max`.
-    Page { max: u16 },
+    Page {
+        max: u16,
+    },
     /// It becomes active on a CPU, once it was told of all.
-    Activate { cpu: u16 },
+    Activate {
+        cpu: u16,
+    },
 }
 
 /// The steps of an agent's thread, in order.

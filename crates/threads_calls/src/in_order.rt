@@ -26,12 +26,12 @@ impl InOrder {
 
     /// Returns the place of a call, if it has one.
     fn place(&self, worker: usize, call: usize) -> Option<u64> {
-        let mut place = 0;
+        let mut place: u64 = 0;
         for turn in &self.order {
             if *turn == (worker, call) {
                 return Some(place);
             }
-            place += 1;
+            place = place.wrapping_add(1);
         }
         None
     }

@@ -10,6 +10,8 @@ mod hand_off;
 #[cfg(test)]
 mod in_order;
 #[cfg(test)]
+mod planned;
+#[cfg(test)]
 mod running;
 #[cfg(test)]
 mod shifts;

@@ -1,4 +1,4 @@
-use Rattle.std.proofs.Common.{◌≡◌, length}
+use Rattle.std.proofs.Common.{length}
 use Rattle.std.specs.Prelude.{◌↔◌}
 use Rattle.gs_runner.specs.Receipts.{AllAnswered}
 use Rattle.gs_runner.proofs.answered.are_answered.Given as goal

@@ -1,4 +1,4 @@
-use Rattle.std.proofs.Common.{◌≡◌, ap, sym, ◌∙◌}
+use Rattle.std.proofs.Common.{ap, sym, ◌∙◌}
 use Rattle.gs_runner.specs.Enclaves.{EnclaveOf}
 use Rattle.gs_runner.proofs.Concluding.{says_by}
 use Rattle.gs_runner.proofs.ending.end.Goals as goal

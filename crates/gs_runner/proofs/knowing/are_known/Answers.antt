@@ -1,4 +1,4 @@
-use Rattle.std.proofs.Common.{◌≡◌, ℕ, List, [], ◌∷◌, ◌++◌, Some, true, false, true≢false, IsTrue, refl, ap, sym, subst, ◌∙◌, append_assoc}
+use Rattle.std.proofs.Common.{◌≡◌, ℕ, [], ◌∷◌, ◌++◌, true≢false, IsTrue, ap, sym, subst, ◌∙◌, append_assoc}
 use Rattle.gs_layout.specs.View.{Look, look_up}
 use Rattle.gs_layout.specs.declared.known.Known.{Known}
 use Rattle.gs_journal.specs.State.{state}
@@ -11,8 +11,7 @@ returns-then-not-is_known-clause-exact c =
     let v : Look = state c.args.kernel.now.settings.first_tseq c.args.kernel.now.history in
     let i = c.loop-tid.invariant in
     let e : ℕ × Known = (c.in-Some.tid, c.in-Some.known.now) in
-    let whole : i.0 ++ e ∷ c.next.new.self ≡ c.args.view.now = ap (λ l. i.0 ++ l) (sym c.in-Some.ensures.steps) ∙ i.1 in
-    (
+    let whole : i.0 ++ e ∷ c.next.new.self ≡ c.args.view.now = ap (λ l. i.0 ++ l) (sym c.in-Some.ensures.steps) ∙ i.1 in (
       (λ is. absurd (true≢false (sym is))),
       (λ all. let b = known_behind v i.0 (e ∷ c.next.new.self) (subst (AreKnown v) (sym whole) all) in subst IsTrue c.if-not-is_known.true (c.is_known.ensures.1 b.0)),
     )

@@ -18,8 +18,7 @@ loop-command-preserved g c =
     let made = c.serve-receipt.ensures in
     let e = c.deref_mut.result.now in
     let one : IsReceipt n command r = record { settings = e.settings; before = e.history; given = e.given; after = c.serve-receipt.new.self.history; legal = made.legal; at = made.at; entries = made.entries } in
-    let next : take (i + 1) all ≡ take i all ++ command ∷ [] = take_more all i command c.loop-command-test.true ∙ ap (λ (x : Command). take i all ++ x ∷ []) (sym c.command-item.is) in
-    (
+    let next : take (i + 1) all ≡ take i all ++ command ∷ [] = take_more all i command c.loop-command-test.true ∙ ap (λ (x : Command). take i all ++ x ∷ []) (sym c.command-item.is) in (
       omega (arith, so.0, c.push_reserved.ensures.len),
       c.push_reserved.ensures.capacity ∙ so.1,
       (

@@ -1,8 +1,7 @@
-use Rattle.std.proofs.Common.{◌≡◌, ◌≢◌, ℕ, subst, true, false, true≢false, Option, None, Some, IsTrue, refl, ap, sym, ◌∙◌}
+use Rattle.std.proofs.Common.{◌≡◌, ◌≢◌, subst, false, true≢false, None, ap, sym, ◌∙◌}
 use Rattle.gs_layout.specs.View.{look_up}
 use Rattle.gs_journal.specs.History.{active, posted, torn}
 use Rattle.gs_journal.specs.State.{state}
-use Rattle.gs_link.specs.Between.{Gave}
 use Rattle.gs_runner.specs.Enclaves.{EnclaveOf}
 use Rattle.gs_runner.proofs.Agreeing.{gave_all, none_when}
 use Rattle.gs_runner.proofs.settling.settle_role.Goals as goal

@@ -1,5 +1,4 @@
 use Rattle.gs_link.specs.Between.{SameEnd, SameEnd-trans, room}
-
 use Rattle.gs_runner.proofs.threads.run_threads.Given as goal
 
 abbrev pub ghosts-run_named-L-Ledger : goal.ghosts-run_named-L-Ledger
