@@ -27,7 +27,7 @@ use Rattle.gs_kernel.specs.Legal.{Room}
 use Rattle.gs_kernel.specs.Lands.{Landings, is_to_place}
 use Rattle.gs_kernel.specs.Group.{Group, LandsCommit, LandsGroup, are_to_place, done_if, group_entries, group_in, group_landing, group_outcome, grouped, is_named_below, left_of, or_failed, own_verdict}
 use Rattle.gs_kernel.specs.Ready.{Rises}
-use Rattle.gs_kernel.proofs.Laws.{AllOf, IsKeptBy, IsPlacing, group_keeps, own_placed, torn_now}
+use Rattle.gs_kernel.proofs.Laws.{AllOf, IsKeptBy, IsPlacing, group_keeps, own_placed, rises_from, torn_now}
 use Rattle.gs_beliefs.specs.Cpus.{running}
 use Rattle.gs_beliefs.specs.Belief.{shows_place}
 use Rattle.gs_core.specs.declared.transaction.Transaction.{Transaction}
@@ -68,10 +68,6 @@ all_of xs mask k [] of = tt
 all_of xs mask k (z ∷ zs) of = one_more xs (has mask k) k z (group_in mask (suc k) zs) (head_of xs k z zs of) (all_of xs mask (suc k) zs (tail_of xs k z zs of))
 
 -- and their CPUs rise
-rises_from : (s : Settings) (n m : ℕ) (g : Group) → n ≤ m → Rises m s.cpus g → Rises n s.cpus g
-rises_from s n m [] le r = tt
-rises_from s n m (x ∷ g) le r = (omega (arith, le, r.0), r.1, r.2)
-
 rises_more : (s : Settings) (w : Bool) (k : ℕ) (z : SlotState) (g : Group) → ((b : Stamp) → z ≡ Stamped b → k < s.cpus) → Rises (suc k) s.cpus g → Rises k s.cpus (grouped w k z ++ g)
 rises_more s false k z g below rest = rises_from s k (suc k) g (omega arith) rest
 rises_more s true k Idle g below rest = rises_from s k (suc k) g (omega arith) rest

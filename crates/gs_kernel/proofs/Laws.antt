@@ -11,3 +11,4 @@ pub use Rattle.gs_kernel.proofs.Placings.{IsPlacing, on_none, placing_free, plac
 pub use Rattle.gs_kernel.specs.Landing.{IsToPlace}
 pub use Rattle.gs_kernel.proofs.Refusals.{first_passed, free_when, happens_when, neither, not_not}
 pub use Rattle.gs_kernel.proofs.Seats.{get_other}
+pub use Rattle.gs_kernel.proofs.Together.{region_stamped, rises_from, set_other}

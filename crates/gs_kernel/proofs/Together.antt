@@ -98,7 +98,7 @@ region_stamped mask region = stamped_in mask 0 region region (λ i z e. let n : 
 -- ---- its slots are done
 
 -- another place of a list stays, and what is put in its place is there
-set_other : {A : Type 0} (xs : List A) (k c : ℕ) (x : A) → (k ≡ c → ⊥) → slice_get (slice_set xs k x) c ≡ slice_get xs c
+pub set_other : {A : Type 0} (xs : List A) (k c : ℕ) (x : A) → (k ≡ c → ⊥) → slice_get (slice_set xs k x) c ≡ slice_get xs c
 set_other [] k c x differ = refl
 set_other (y ∷ ys) zero zero x differ = absurd (differ refl)
 set_other (y ∷ ys) zero (suc c) x differ = refl

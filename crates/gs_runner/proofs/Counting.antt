@@ -13,6 +13,7 @@ use Rattle.gs_kernel.specs.declared.landing.Landing.{Landing}
 use Rattle.gs_kernel.specs.Legal.{Room}
 use Rattle.gs_kernel.specs.Group.{AreStamped, CommitsRegion, Finishes, Group, group_in, group_landing, group_outcome, grouped}
 use Rattle.gs_kernel.specs.Lands.{LandingsOf, LandsBytes, LandsHeld, LandsIfBy, LandsIn, LandsRegion, listed}
+use Rattle.gs_kernel.proofs.Laws.{region_stamped, set_other}
 use Rattle.gs_runner.specs.Calls.{is_settled, is_wanted, landed_if, landed_slots}
 
 -- ---- slots that land one after another
@@ -68,50 +69,12 @@ of_mask : (mask k : ℕ) (zs : List SlotState) → OfMask mask k (group_in mask 
 of_mask mask k [] = tt
 of_mask mask k (z ∷ zs) = one_of mask k (has mask k) z (group_in mask (suc k) zs) refl (of_mask mask (suc k) zs)
 
--- its slots are stamped
-one_stamped : (whole : List (List ℕ)) (k : ℕ) (z : List ℕ) (g : Group) (wanted : Bool) (x : Held) → slice_get whole k ≡ Some z → state_in k z ≡ x → AreStamped whole g → AreStamped whole (grouped wanted k (state_or_idle x) ++ g)
-one_stamped whole k z g false x here is t = t
-one_stamped whole k z g true (Err e) here is t = t
-one_stamped whole k z g true (Ok Idle) here is t = t
-one_stamped whole k z g true (Ok (Done b o a n)) here is t = t
-one_stamped whole k z g true (Ok (Stamped b)) here is t = by_flag b.group
-  where
-    here' : slice_get whole k ≡ Some z
-    here' = here
-
-    is' : state_in k z ≡ Ok (Stamped b)
-    is' = is
-
-    more : AreStamped whole g
-    more = t
-
-    by_flag : (f : Bool) → AreStamped whole (cond f ((k, b) ∷ []) [] ++ g)
-    by_flag true = (z, here', is', more)
-    by_flag false = more
-
-stamped_in : (mask k : ℕ) (whole zs : List (List ℕ)) → ((i : ℕ) (z : List ℕ) → slice_get zs i ≡ Some z → slice_get whole (k + i) ≡ Some z) → AreStamped whole (group_in mask k (told_by k zs))
-stamped_in mask k whole [] there = tt
-stamped_in mask k whole (z ∷ zs) there =
-    let n : k + 0 ≡ k = omega arith in
-    one_stamped whole k z (group_in mask (suc k) (told_by (suc k) zs)) (has mask k) (state_in k z) (subst (λ m. slice_get whole m ≡ Some z) n (there 0 z refl)) refl
-    (stamped_in mask (suc k) whole zs (λ i y e. let m : k + suc i ≡ suc k + i = omega arith in subst (λ j. slice_get whole j ≡ Some y) m (there (suc i) y e)))
-
-are_stamped : (mask : ℕ) (region : List (List ℕ)) → AreStamped region (group_in mask 0 (told_by 0 region))
-are_stamped mask region = stamped_in mask 0 region region (λ i z e. let n : i ≡ 0 + i = omega arith in subst (λ j. slice_get region j ≡ Some z) n e)
-
-set_beyond : (xs : List (List ℕ)) (k c : ℕ) (x : List ℕ) → k < c → slice_get (slice_set xs k x) c ≡ slice_get xs c
-set_beyond [] k c x lt = refl
-set_beyond (y ∷ ys) zero zero x lt = absurd (omega (arith, lt))
-set_beyond (y ∷ ys) zero (suc c) x lt = refl
-set_beyond (y ∷ ys) (suc k) zero x lt = absurd (omega (arith, lt))
-set_beyond (y ∷ ys) (suc k) (suc c) x lt = set_beyond ys k c x (omega (arith, lt))
-
 -- those for higher CPUs are stamped still
 stamped_still : (mask n j : ℕ) (zs : List (List ℕ)) (y : List ℕ) (g : Group) → j < n → OfMask mask n g → AreStamped zs g → AreStamped (slice_set zs j y) g
 stamped_still mask n j zs y [] lt r t = tt
 stamped_still mask n j zs y (x ∷ g) lt r t =
     let low : j < x.0 = omega (arith, lt, r.0) in
-    (t.0, set_beyond zs j x.0 y low ∙ t.1, t.2, stamped_still mask (suc x.0) j zs y g (omega (arith, low)) r.2 t.3)
+    (t.0, set_other zs j x.0 y (λ e. absurd (omega (arith, e, low))) ∙ t.1, t.2, stamped_still mask (suc x.0) j zs y g (omega (arith, low)) r.2 t.3)
 
 -- a slot that lands no more is one less
 set_count : (mask k i : ℕ) (zs : List (List ℕ)) (z y : List ℕ) → slice_get zs i ≡ Some z → is_wanted mask (k + i) z ≡ true → is_wanted mask (k + i) y ≡ false → length (landed_slots mask k zs) ≡ suc (length (landed_slots mask k (slice_set zs i y)))
@@ -159,6 +122,6 @@ commit_count room s mask region h r t =
     let l : ℕ × Stamp → Landing = λ x. group_landing s h t.group.history x.0 x.1 (group_outcome s h g t.first.fit x.0 x.1) in
     let first = ap length t.first.answers ∙ map_count l g in
     let rest = region_count room s mask 0 t.group.slots t.group.history t.rest t.others in
-    let parts = group_count l mask 0 g region t.group.slots (of_mask mask 0 (told_by 0 region)) (are_stamped mask region) t.first.slots in
+    let parts = group_count l mask 0 g region t.group.slots (of_mask mask 0 (told_by 0 region)) (region_stamped mask region) t.first.slots in
     let all = ap (λ (q : LandingsOf (List ℕ)). length q.answers) t.whole ∙ length-append t.group.answers t.rest.answers in
     omega (arith, first, rest, parts, all)
