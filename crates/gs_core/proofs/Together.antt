@@ -1,5 +1,5 @@
 -- What a commit leaves, which lands a group first and then the others.
-use Rattle.std.proofs.Common.{◌≡◌, refl, ap, sym, subst, ◌∙◌, ℕ, zero, suc, ◌+◌, ◌<◌, ◌≤◌, ◌⊎◌, inl, inr, ◌==◌, Bool, true, false, cond, Option, None, Some, List, [], ◌∷◌, ◌++◌, slice_get, arith}
+use Rattle.std.proofs.Common.{◌≡◌, refl, ap, sym, subst, ◌∙◌, ℕ, suc, ◌<◌, ◌⊎◌, inl, inr, Bool, true, false, cond, Option, Some, List, [], ◌∷◌, ◌++◌, arith}
 use Rattle.std.specs.Prelude.{◌&&◌}
 use Rattle.std.specs.List.{list_all}
 use Rattle.std.proofs.lemmas.Bool.{and_parts, false≢true}
@@ -14,10 +14,9 @@ use Rattle.gs_slots.specs.declared.state.SlotState.TheVariants.{Idle, Stamped, D
 use Rattle.gs_slots.specs.Reading.{by_cpu}
 use Rattle.gs_status.specs.Masks.{has}
 use Rattle.gs_journal.specs.declared.entry.Entry.TheVariants.{Posted, Torn}
-use Rattle.gs_journal.specs.History.{History, at, on, record_in, seq, torn}
+use Rattle.gs_journal.specs.History.{History, on, seq, torn}
 use Rattle.gs_journal.specs.State.{AllWas}
 use Rattle.gs_journal.proofs.Laws.{same_posted}
-use Rattle.gs_threads.specs.Rows.{is_live}
 use Rattle.gs_threads.proofs.Laws.{eqb_same}
 use Rattle.gs_kernel.specs.declared.settings.Settings.{Settings}
 use Rattle.gs_kernel.specs.declared.landing.Landing.{Landing}
@@ -28,12 +27,11 @@ use Rattle.gs_kernel.specs.Lands.{Landings, is_to_place}
 use Rattle.gs_kernel.specs.Group.{Group, LandsCommit, LandsGroup, are_to_place, done_if, group_entries, group_in, group_landing, group_outcome, grouped, is_named_below, left_of, or_failed, own_verdict}
 use Rattle.gs_kernel.specs.Ready.{Rises}
 use Rattle.gs_kernel.proofs.Laws.{AllOf, IsKeptBy, IsPlacing, group_keeps, own_placed, rises_from, torn_now}
-use Rattle.gs_beliefs.specs.Cpus.{running}
 use Rattle.gs_beliefs.specs.Belief.{shows_place}
 use Rattle.gs_core.specs.declared.transaction.Transaction.{Transaction}
 use Rattle.gs_core.specs.Safe.{IsIn, is_given}
 use Rattle.gs_core.specs.Good.{AreOf, GoodHistory}
-use Rattle.gs_core.specs.Trust.{AreSeen, Backs, IsSeen, NoneDone}
+use Rattle.gs_core.specs.Trust.{AreSeen, IsSeen, NoneDone}
 use Rattle.gs_core.proofs.Believing.{backs_posted, backs_same}
 use Rattle.gs_core.proofs.Collecting.{AllShow, AreLanded, Keeps, Shows, are_landed, at_is_on, none_shows, now_when, placed_nobody, shown_by}
 use Rattle.gs_core.proofs.Growing.{Both, both_next, both_placed, both_torn}

@@ -1,8 +1,8 @@
 -- As many slots land in a commit as are listed.
-use Rattle.std.proofs.Common.{◌≡◌, ℕ, zero, suc, ◌+◌, ◌<◌, ◌≤◌, Bool, true, false, not, Option, Some, Ok, Err, List, [], ◌∷◌, ◌++◌, length, length-append, slice_get, slice_set, map, cond, refl, ap, sym, subst, ◌∙◌, arith}
+use Rattle.std.proofs.Common.{◌≡◌, ℕ, zero, suc, ◌+◌, ◌<◌, ◌≤◌, Bool, true, false, not, Option, Some, Ok, Err, List, [], ◌∷◌, ◌++◌, length, length-append, slice_get, slice_set, map, cond, refl, ap, sym, ◌∙◌, arith}
 use Rattle.std.specs.Prelude.{◌&&◌}
 use Rattle.gs_status.specs.Masks.{has}
-use Rattle.gs_slots.specs.Reading.{state_in, state_or_idle, told_by}
+use Rattle.gs_slots.specs.Reading.{state_in, told_by}
 use Rattle.gs_slots.specs.State.{Held}
 use Rattle.gs_slots.specs.declared.state.SlotState.{SlotState}
 use Rattle.gs_slots.specs.declared.state.SlotState.TheVariants.{Idle, Stamped, Done}
