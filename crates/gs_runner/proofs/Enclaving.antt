@@ -1,5 +1,5 @@
 -- What a call under the lock keeps.
-use Rattle.std.proofs.Common.{◌≡◌, ℕ, ◌+◌, ◌≤◌, Bool, false, List, [], ◌∷◌, ◌++◌, length, refl, ap, sym, subst, ◌∙◌, arith, length-append}
+use Rattle.std.proofs.Common.{◌≡◌, ℕ, ◌+◌, ◌≤◌, Bool, false, true≢false, List, [], ◌∷◌, ◌++◌, length, refl, ap, sym, subst, ◌∙◌, arith, append-nil, length-append}
 use Rattle.gs_board.specs.declared.rule.Words.{Words}
 use Rattle.gs_board.specs.Words.{MayFollow}
 use Rattle.gs_layout.specs.declared.refusal.Refusal.{Refusal}
@@ -7,13 +7,22 @@ use Rattle.gs_link.specs.declared.poster.RtrbPoster.{RtrbPoster}
 use Rattle.gs_link.specs.Between.{SameEnd}
 use Rattle.gs_kernel.specs.declared.settings.Settings.{Settings}
 use Rattle.gs_kernel.specs.Kernel.{KernelOf}
+use Rattle.gs_kernel.specs.declared.fate.Fate.{Fate}
+use Rattle.gs_kernel.specs.declared.fate.Fate.TheVariants as fates
+use Rattle.gs_kernel.specs.Fate.{answer_by}
+use Rattle.gs_journal.specs.declared.entry.Entry.{Entry}
 use Rattle.gs_replies.specs.declared.reply.Reply.{Reply}
 use Rattle.gs_replies.specs.declared.reply.Reply.TheVariants as replies
+use Rattle.gs_replies.specs.Replies.{reply_of}
+use Rattle.gs_runner.specs.declared.command.Command.{Command}
 use Rattle.gs_runner.specs.declared.call.Called.{Called}
+use Rattle.gs_runner.specs.declared.call.Called.TheVariants.{Served}
 use Rattle.gs_runner.specs.declared.call.Call.{Call}
+use Rattle.gs_runner.specs.declared.call.Receipt.{Receipt}
 use Rattle.gs_runner.specs.Calls.{GoesOnBy, IsCall, IsLegalHistory, LegalCall, ThreadRoom, given_by, is_refused}
 use Rattle.gs_runner.specs.Told.{IsTold, parcels_of}
-use Rattle.gs_runner.specs.Enclaves.{IsEnclave, IsShown, enclave_of, generation_number, role_of}
+use Rattle.gs_runner.specs.Serving.{Serves}
+use Rattle.gs_runner.specs.Enclaves.{EnclaveOf, IsEnclave, IsShown, enclave_of, generation_number, role_of}
 use Rattle.gs_runner.proofs.Callings.{leads_more}
 use Rattle.gs_runner.proofs.Growths.{GoesOn, call_goes, goes_longer}
 
@@ -37,7 +46,7 @@ pub same_call : (before calls : List Call) (c d : Called) (at more : ℕ) (again
     → before ++ record { called = c; at = at; entries = more; reply = again } ∷ [] ≡ calls ++ record { called = d; at = at; entries = more; reply = r } ∷ []
 same_call before calls c d at more again r e f k = λ i. e i ++ record { called = f i; at = at; entries = more; reply = k i } ∷ []
 
-told_goes : (a b : KernelOf RtrbPoster) (c : Called) (r : Reply) → IsTold a c r b → GoesOn a.history b.history
+pub told_goes : (a b : KernelOf RtrbPoster) (c : Called) (r : Reply) → IsTold a c r b → GoesOn a.history b.history
 told_goes a b c r t = call_goes (ThreadRoom (parcels_of a)) a.settings a.history a.paged c r b.history t.legal
 
 pub told_longer : (a b : KernelOf RtrbPoster) (c : Called) (r : Reply) → IsTold a c r b → length a.history ≤ length b.history
@@ -79,3 +88,40 @@ told_kept is_ring parcels parts a b calls calls' total total' published publishe
       capacity = t.ring.1 ∙ i.capacity;
       whole = i.whole;
     }
+
+-- ---- what a command comes to
+
+-- it was refused, and all is as it was
+pub serves_refused : (parcels : ℕ) (c : Command) (a b : EnclaveOf) (n : ℕ) (r : Receipt) (x : Refusal) → r ≡ record { at = length a.history; entries = 0; reply = replies.Refused x } → b ≡ a
+    → LegalCall (ThreadRoom parcels) a.settings a.history a.given (Served c) (replies.Refused x) a.history → Serves parcels c a n r b n
+serves_refused parcels c a b n r x is same legal =
+    let served : Serves parcels c a n (record { at = length a.history; entries = 0; reply = replies.Refused x }) a n = record {
+      legal = legal;
+      at = refl;
+      entries = ([], sym (append-nil a.history), refl);
+      accepted = λ e. absurd (true≢false e);
+      counted = λ e. absurd (true≢false e);
+      refused = λ e. (refl, refl);
+      settings = refl;
+    } in
+    subst (λ (s : Receipt). Serves parcels c a n s b n) (sym is) (subst (λ (e : EnclaveOf). Serves parcels c a n (record { at = length a.history; entries = 0; reply = replies.Refused x }) e n) (sym same) served)
+
+-- it was accepted, and stands in the list
+pub serves_accepted : (parcels : ℕ) (a b : KernelOf RtrbPoster) (c : Command) (r : Reply) (calls calls' : List Call) (total total' n n' at more : ℕ) (published published' : Words)
+    → parcels_of a ≡ parcels → IsTold a (Served c) r b → is_refused r ≡ false → at ≡ length a.history → length b.history ≡ at + more → calls' ≡ calls ++ record { called = Served c; at = at; entries = more; reply = r } ∷ [] → total' ≡ total + 1 → n' ≡ n + 1
+    → Serves parcels c (enclave_of a calls total published) n (record { at = at; entries = more; reply = r }) (enclave_of b calls' total' published') n'
+serves_accepted parcels a b c r calls calls' total total' n n' at more published published' capacity t ok is longer items counts shares = record {
+  legal = subst (λ (m : ℕ). LegalCall (ThreadRoom m) a.settings a.history a.paged (Served c) r b.history) capacity t.legal;
+  at = is;
+  entries = told_on a b (Served c) r at more t is longer;
+  accepted = λ _. items;
+  counted = λ _. (shares, counts);
+  refused = λ yes. absurd (true≢false (sym yes ∙ ok));
+  settings = t.settings;
+}
+
+-- what became of a command that was not refused
+pub fate_accepted : (f : Fate) (e : Entry) → ((x : Refusal) → f ≡ fates.Refused x → ⊥) → is_refused (reply_of (answer_by f e)) ≡ false
+fate_accepted (fates.Refused x) e n = absurd (n x refl)
+fate_accepted fates.Torn e n = refl
+fate_accepted fates.Done e n = refl

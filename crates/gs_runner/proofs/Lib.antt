@@ -9,9 +9,11 @@ mod Walking
 mod Counting
 mod Committing
 mod Enclaving
+mod Keeping
 mod Answering
 mod Opening
 mod Standings
+mod Places
 mod Rows
 mod Agreeing
 mod Receiving

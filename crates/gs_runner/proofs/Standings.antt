@@ -1,10 +1,15 @@
 -- Whether a call stands in a list of calls.
-use Rattle.std.proofs.Common.{◌≡◌, ℕ, zero, suc, Bool, false, IsTrue, true≢false, List, ◌∷◌, Some, slice_get, sym, subst, ◌∙◌, ◌⊎◌, inl, inr}
-use Rattle.std.specs.Prelude.{◌↔◌}
+use Rattle.std.proofs.Common.{◌≡◌, ℕ, zero, suc, Bool, true, false, IsTrue, true≢false, List, ◌∷◌, Some, slice_get, sym, ap, subst, ◌∙◌, ◌⊎◌, inl, inr}
+use Rattle.std.proofs.lemmas.Bool.{false≢true}
+use Rattle.std.specs.List.{list_all}
+use Rattle.std.specs.Prelude.{◌↔◌, ◌&&◌}
+use Rattle.gs_journal.specs.History.{History}
+use Rattle.gs_runner.specs.declared.kept.Kept.{Kept}
 use Rattle.gs_runner.specs.declared.command.Command.{Command}
 use Rattle.gs_runner.specs.declared.call.Call.{Call}
 use Rattle.gs_runner.specs.declared.call.Receipt.{Receipt}
-use Rattle.gs_runner.specs.Holds.{Stands, call_of}
+use Rattle.gs_runner.specs.Holds.{Stands, answers_command, call_of}
+use Rattle.gs_runner.specs.Kept.{call_kept, calls_kept}
 
 stands_first : (x : Call) (xs : List Call) (c : Command) (r : Receipt) → Stands (x ∷ xs) c r → (x ≡ call_of c r) ⊎ Stands xs c r
 stands_first x xs c r t = by_place t.0 t.1
@@ -29,3 +34,11 @@ stands_exactly x xs all c r here later whole is none rest = ((λ yes. subst (λ 
     by_first : (x ≡ call_of c r) ⊎ Stands xs c r → IsTrue later
     by_first (inl e) = absurd (true≢false (sym (is_here.1 e) ∙ is_none))
     by_first (inr t) = is_later.1 t
+
+-- those behind the first have replies of commands too
+pub answered_later : (h : History) (o : List Call) (k : Kept) (ks all : List Kept) → all ≡ k ∷ ks → list_all answers_command (calls_kept h o all) ≡ true → list_all answers_command (calls_kept h o ks) ≡ true
+answered_later h o k ks all is e = by_first (answers_command (call_kept h o k)) (sym (ap (λ (l : List Kept). list_all answers_command (calls_kept h o l)) is) ∙ e)
+  where
+    by_first : (b : Bool) → (b && list_all answers_command (calls_kept h o ks)) ≡ true → list_all answers_command (calls_kept h o ks) ≡ true
+    by_first true e = e
+    by_first false e = absurd (false≢true e)

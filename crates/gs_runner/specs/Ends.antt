@@ -35,12 +35,12 @@ pub record EndsAs (P : Type 0) (h : History) (threads : ℕ) (end : Result Settl
   pub live : threads ≡ live_of role
   pub says : Says enclave taker role end
 
--- why a run of so many lists and shifts has no end, once a station can be started: the first that applies
+-- why a run of so many lists and shifts has no end, once a station can be started: the first that applies. It can always be closed
 abbrev pub Follows : ℕ → RunFault → Type 0
 Follows n (Start f) = f ≡ faults.OutOfMemory
 Follows n TooMany = PASSES < n
 Follows n OutOfMemory = n ≤ PASSES
-Follows n Close = n ≤ PASSES
+Follows n Close = ⊥
 Follows n Astray = n ≤ PASSES
 
 -- why it has none: the first that applies

@@ -9,7 +9,7 @@ use Rattle.gs_runner.specs.declared.finished.Finished.{Finished}
 
 -- a run of these lists, and of so many shifts, over a ring of so many parcels
 pub record IsFinished (P : Type 0) (parcels : ℕ) (lists : List (Vec Command)) (shifts : ℕ) (f : Finished) : Type 0 where
-  pub answered : AllAnswered f.closed.calls.items lists f.receipts.items
+  pub answered : AllAnswered f.closed.calls lists f.receipts.items
   pub count : vec_len f.receipts ≡ length lists + shifts
-  pub legal : IsLegal parcels f.closed.calls.items f.closed.journal.entries
+  pub legal : IsLegal parcels f.closed.calls f.closed.journal.entries
   pub ended : EndsAs P f.closed.journal.entries f.threads f.end

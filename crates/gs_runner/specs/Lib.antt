@@ -1,6 +1,10 @@
 pub mod Calls
 pub mod Told
+pub mod Kept
+pub mod Shown
 pub mod Enclaves
+pub mod Serving
+pub mod Closing
 pub mod Holds
 pub mod Holding
 pub mod Starts

@@ -12,7 +12,7 @@ use gs_replies::Reply;
 
 /// Returns whether a receipt was refused, or stands in the calls.
 fn is_kept(closed: &Closed, command: &Command, receipt: &Receipt) -> bool
-    ensures { IsTrue result ↔ (is_refused receipt.now.reply ≡ false → Stands closed.now.calls.items command.now receipt.now) }
+    ensures { IsTrue result ↔ (is_refused receipt.now.reply ≡ false → Stands closed.now.calls command.now receipt.now) }
 {
     match &receipt.reply {
         Reply::Refused(_) => true,
@@ -23,7 +23,7 @@ fn is_kept(closed: &Closed, command: &Command, receipt: &Receipt) -> bool
 /// Returns whether there is a receipt for each command, in order, each of which was refused or stands in the calls,
 /// and whether their places in the journal never fall.
 fn is_answered(closed: &Closed, commands: &[Command], receipts: &[Receipt]) -> bool
-    ensures { IsTrue result ↔ Answered closed.now.calls.items 0 commands.now receipts.now }
+    ensures { IsTrue result ↔ Answered closed.now.calls 0 commands.now receipts.now }
 {
     let mut commands = commands;
     let mut receipts = receipts;
@@ -48,7 +48,7 @@ pub(crate) fn are_answered(
     lists: &[Vec<Command>],
     receipts: &[Vec<Receipt>],
 ) -> bool
-    ensures { IsTrue result ↔ AllAnswered closed.now.calls.items lists.now receipts.now }
+    ensures { IsTrue result ↔ AllAnswered closed.now.calls lists.now receipts.now }
 {
     let mut lists = lists;
     let mut receipts = receipts;

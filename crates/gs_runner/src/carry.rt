@@ -1,23 +1,26 @@
 //! What a command does to the kernel under the lock.
 
-ghost use Rattle.std.specs.Prelude.{◌≡◌, ℕ, IfErr, IfOk, OnErr, None, length};
+ghost use Rattle.std.specs.Prelude.{◌≡◌, ℕ, IfErr, IfOk, OnErr, None, false, length, true};
 ghost use Rattle.gs_dump.specs.Page.{page_spelling};
 ghost use Rattle.gs_journal.specs.declared.entry.Entry.{Entry};
-ghost use Rattle.gs_kernel.specs.Fate.{answer_by};
+ghost use Rattle.gs_kernel.specs.declared.fate.Fate.{Fate};
+ghost use Rattle.gs_kernel.specs.Fate.{answer_by, last_entry};
 ghost use Rattle.gs_kernel.specs.Kernel.{IsRefusal};
 ghost use Rattle.gs_replies.specs.declared.reply.Reply.{Reply};
-ghost use Rattle.gs_replies.specs.Replies.{page_reply};
+ghost use Rattle.gs_replies.specs.Replies.{page_reply, reply_of};
 ghost use Rattle.gs_runner.specs.declared.call.Called.{Called};
 ghost use Rattle.gs_runner.specs.declared.command.Command.{Command};
 ghost use Rattle.gs_runner.specs.Calls.{LegalCall, ThreadRoom, call_page_refusal, call_refusal, crash_reply};
+ghost use Rattle.gs_runner.specs.Kept.{command_by, is_told_by_entry};
 ghost use Rattle.gs_runner.specs.Pages.{Reads};
+ghost use Rattle.gs_runner.specs.Serving.{is_told};
 ghost use Rattle.gs_runner.specs.Told.{IsTold};
 
 use crate::command::Command;
 use crate::land::{land, land_refusal};
 use crate::reader::PageReader;
 use gs_dump::{Page, write_page};
-use gs_kernel::{Fate, Kernel};
+use gs_kernel::{Command as Told, Fate, Kernel};
 use gs_layout::Refusal;
 use gs_link::RtrbPoster;
 use gs_replies::{Items, Reply};
@@ -38,7 +41,7 @@ fn call_refusal(kernel: &Kernel<RtrbPoster>, command: &Command) -> Option<Refusa
 {
     match command {
         Command::Kernel { command } => kernel.refusal(command),
-        Command::Crash => kernel.refusal(&gs_kernel::Command::Leave),
+        Command::Crash => kernel.refusal(&Told::Leave),
         Command::Page { .. } => kernel.page_refusal(),
         Command::Land { bytes } => land_refusal(kernel, bytes),
     }
@@ -52,33 +55,34 @@ pub(crate) fn short_refusal(kernel: &Kernel<RtrbPoster>, command: &Command) -> R
     call_refusal(kernel, command).unwrap_or(Refusal::OutOfMemory)
 }
 
-/// Carries a command out, or refuses it. A page is read before it counts as given. Returns the reply twice.
+/// Tells the kernel a command, and returns what became of it. If it was done, the command, but for an activation, follows
+/// from the last entry.
+pub(crate) fn obey(kernel: &mut Kernel<RtrbPoster>, command: &Told) -> Fate
+    ensures told { IsTold kernel.old (Called.Served (Command.Kernel command.now)) (reply_of (answer_by result (last_entry kernel.new.history))) kernel.new }
+    ensures follows { result ≡ Fate.Done → is_told_by_entry command.now ≡ true → command_by (last_entry kernel.new.history) ≡ command.now }
+{
+    kernel.obey(command)
+}
+
+/// Carries a command out of which the kernel is not told as it is, or refuses it. A page is read before it counts as
+/// given. Returns the reply twice.
 pub(crate) fn carry_out<T: PageReader>(
     kernel: &mut Kernel<RtrbPoster>,
     alloc: Global,
     command: &Command,
     reader: &mut T,
 ) -> (Reply, Reply)
+    requires { is_told command.now ≡ false }
     ensures told { IsTold kernel.old (Called.Served command.now) result.0 kernel.new }
     ensures same { result.1 ≡ result.0 }
     ensures reads { Reads T.read command.now result.0 reader.old reader.new }
 {
     match command {
-        Command::Kernel { command } => obey(kernel, command),
+        Command::Kernel { .. } => unreachable!(),
         Command::Crash => crash(kernel),
         Command::Page { from, max } => page(kernel, alloc, *from, *max, reader),
         Command::Land { bytes } => land(kernel, alloc, bytes),
     }
-}
-
-/// Tells the kernel a command.
-fn obey(kernel: &mut Kernel<RtrbPoster>, command: &gs_kernel::Command) -> (Reply, Reply)
-    ensures told { IsTold kernel.old (Called.Served (Command.Kernel command.now)) result.0 kernel.new }
-    ensures same { result.1 ≡ result.0 }
-{
-    let fate = kernel.obey(command);
-    let last = kernel.last();
-    (Reply::by(fate, last), Reply::by(fate, last))
 }
 
 /// Tells the kernel that the agent crashed.
@@ -86,7 +90,7 @@ fn crash(kernel: &mut Kernel<RtrbPoster>) -> (Reply, Reply)
     ensures told { IsTold kernel.old (Called.Served Command.Crash) result.0 kernel.new }
     ensures same { result.1 ≡ result.0 }
 {
-    let fate = kernel.obey(&gs_kernel::Command::Leave);
+    let fate = kernel.obey(&Told::Leave);
     (crash_reply(fate), crash_reply(fate))
 }
 

@@ -2,18 +2,21 @@
 
 ghost use Rattle.std.specs.Prelude.{◌≡◌, ◌↔◌, IsTrue, length, true};
 ghost use Rattle.std.specs.List.{list_all};
+ghost use Rattle.std.specs.List.Sorted.{IsNonDecreasingBy};
 ghost use Rattle.gs_runner.specs.Calls.{IsLegal};
-ghost use Rattle.gs_runner.specs.Holds.{Stands, answers_command, call_of};
+ghost use Rattle.gs_runner.specs.Holds.{Stands, answers_command};
+ghost use Rattle.gs_runner.specs.Kept.{AllWithin, calls_kept};
+ghost use Rattle.gs_runner.specs.declared.pass.TheConstants.{PASSES};
 
-use crate::call::{Call, Called, Receipt};
+use crate::call::Receipt;
+use crate::calls::Calls;
 use crate::command::Command;
 use crate::enclave::Enclave;
+use crate::kept::CallList;
 use crate::log::Log;
-use crate::pass::PASSES;
-use crate::same::same_reply;
-use crate::same_command::same_command;
 use crate::site::Site;
 use gs_journal::Journal;
+use std::marker::Model;
 use std::sync::ledger::Share as Part;
 
 /// The journal of a closed enclave, and the calls that it accepted. They are a legal history for the journal, as
@@ -21,17 +24,34 @@ use std::sync::ledger::Share as Part;
 #[derive(Drop)]
 pub struct Closed {
     journal: Journal,
-    calls: Vec<Call>,
-    ghost answered: { list_all answers_command calls.items ≡ true },
+    list: CallList,
+}
+
+impl Model for Closed {
+    ghost use Rattle.std.specs.Prelude.{◌≡◌, length, true};
+    ghost use Rattle.std.specs.List.{list_all};
+    ghost use Rattle.std.specs.List.Sorted.{IsNonDecreasingBy};
+    ghost use Rattle.std.specs.List.Sorted.{IsNonDecreasingBy};
+    ghost use Rattle.gs_runner.specs.Closing.{ClosedOf};
+    ghost use Rattle.gs_runner.specs.Holds.{answers_command};
+    ghost use Rattle.gs_runner.specs.Kept.{AllWithin, calls_kept};
+
+    ghost Value = { ClosedOf };
+
+    ghost view = { λ c. record { journal = c.journal; calls = calls_kept c.journal.entries c.list.others.items c.list.kept.items } };
+
+    ghost invariant = { λ c. (list_all answers_command (calls_kept c.journal.entries c.list.others.items c.list.kept.items) ≡ true) × IsNonDecreasingBy (λ x. x.at) (calls_kept c.journal.entries c.list.others.items c.list.kept.items) × AllWithin (length c.journal.entries) (length c.list.others.items) c.list.kept.items };
 }
 
 impl Closed {
     /// Puts a journal and its calls together.
-    pub(crate) fn new(journal: Journal, calls: Vec<Call>) -> Closed
-        requires { list_all answers_command calls.items ≡ true }
-        ensures { (result.journal ≡ journal) × (result.calls ≡ calls) }
+    pub(crate) fn new(journal: Journal, list: CallList) -> Closed
+        requires answered { list_all answers_command (calls_kept journal.entries list.others.items list.kept.items) ≡ true }
+        requires order { IsNonDecreasingBy (λ x. x.at) (calls_kept journal.entries list.others.items list.kept.items) }
+        requires within { AllWithin (length journal.entries) (length list.others.items) list.kept.items }
+        ensures { (result.journal ≡ journal) × (result.calls ≡ calls_kept journal.entries list.others.items list.kept.items) }
     {
-        Closed { journal, calls }
+        Closed { journal, list }
     }
 
     /// Lends the journal of all that happened.
@@ -41,19 +61,19 @@ impl Closed {
         &self.journal
     }
 
-    /// Lends the calls that were accepted, in order.
-    pub fn calls(&self) -> &[Call]
-        ensures { result.now ≡ self.now.calls.items }
+    /// Shows the calls that were accepted, in order.
+    pub fn calls(&self) -> Calls<'_>
+        ensures { result ≡ self.now.calls }
     {
-        self.calls.as_slice()
+        Calls::new(&self.journal, &self.list)
     }
 
     /// Returns whether some call has this command, and the receipt's place in the journal, count of entries and
     /// reply. No call has the receipt of one that was refused.
     pub fn holds(&self, command: &Command, receipt: &Receipt) -> bool
-        ensures { IsTrue result ↔ Stands self.now.calls.items command.now receipt.now }
+        ensures { IsTrue result ↔ Stands self.now.calls command.now receipt.now }
     {
-        stands(&self.calls, command, receipt)
+        Calls::new(&self.journal, &self.list).holds(command, receipt)
     }
 }
 
@@ -69,8 +89,8 @@ impl<L: Site> Enclave<L> {
 
     /// Gives journal and calls.
     pub(crate) fn into_closed(self) -> Closed
-        ensures value { (result.journal.entries ≡ self.history) × (result.calls.items ≡ self.calls) }
-        ensures legal { IsLegal L.parcels result.calls.items result.journal.entries }
+        ensures value { (result.journal.entries ≡ self.history) × (result.calls ≡ self.calls) }
+        ensures legal { IsLegal L.parcels result.calls result.journal.entries }
     {
         let Enclave {
             alloc: _,
@@ -78,35 +98,10 @@ impl<L: Site> Enclave<L> {
             log,
         } = self;
         let Log {
-            calls,
+            list,
             book: _,
             seat: _,
         } = log;
-        Closed::new(kernel.into_journal(), calls)
-    }
-}
-
-/// Returns whether a call has this command, and the receipt's place, count of entries and reply.
-fn is_call(call: &Call, command: &Command, receipt: &Receipt) -> bool
-    requires { answers_command call.now ≡ true }
-    ensures { IsTrue result ↔ (call.now ≡ call_of command.now receipt.now) }
-{
-    let Called::Served(served) = &call.called else {
-        return false;
-    };
-    call.at == receipt.at
-        && call.entries == receipt.entries
-        && same_command(served, command)
-        && same_reply(&call.reply, &receipt.reply)
-}
-
-/// Returns whether one of these calls has this command, and the receipt's place, count of entries and reply.
-fn stands(calls: &[Call], command: &Command, receipt: &Receipt) -> bool
-    requires { list_all answers_command calls.now ≡ true }
-    ensures { IsTrue result ↔ Stands calls.now command.now receipt.now }
-{
-    match calls.split_first() {
-        Some((call, rest)) => is_call(call, command, receipt) || stands(rest, command, receipt),
-        None => false,
+        Closed::new(kernel.into_journal(), list)
     }
 }

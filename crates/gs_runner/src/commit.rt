@@ -134,7 +134,7 @@ impl<L: Site> Enclave<L> {
         ensures settings { self.new.settings ≡ self.old.settings }
     {
         let at = entries(&self.kernel);
-        if self.log.calls.reserve(1).is_err() {
+        if self.log.list.reserve().is_err() {
             return Receipt::refused(at, short_commit(&self.kernel, mask));
         }
         let Commit {

@@ -8,18 +8,22 @@ ghost use Rattle.gs_runner.specs.declared.call.Called.{Called};
 ghost use Rattle.gs_runner.specs.Calls.{GoesOnBy, LegalCall, ThreadRoom, is_refused};
 ghost use Rattle.gs_runner.specs.Enclaves.{IsKept, IsShown, enclave_of};
 ghost use Rattle.gs_runner.specs.Pages.{Reads};
+ghost use Rattle.gs_runner.specs.declared.command.Command.{Command as Commands};
+ghost use Rattle.gs_runner.specs.Serving.{Serves, is_told};
 ghost use Rattle.gs_runner.specs.Told.{parcels_of};
 ghost use Rattle.gs_runner.specs.declared.pass.TheConstants.{PASSES};
 
 use crate::call::{Call, Called, Receipt};
-use crate::carry::{carry_out, entries, short_refusal};
+use crate::calls::Calls;
+use crate::carry::{carry_out, entries, obey, short_refusal};
 use crate::command::Command;
+use crate::kept::CallList;
 use crate::log::Log;
 use crate::reader::{Nobody, PageReader};
 use crate::share::Share;
 use crate::site::Site;
 use gs_board::{Board, WriterSeat};
-use gs_kernel::Kernel;
+use gs_kernel::{Command as Told, Fate, Kernel};
 use gs_link::RtrbPoster;
 use gs_replies::Reply;
 use std::alloc::Global;
@@ -37,13 +41,15 @@ pub struct Enclave<L: Site> {
 }
 
 impl<L: Site> Model for Enclave<L> {
+    ghost use Rattle.std.specs.Prelude.{length};
     ghost use Rattle.gs_runner.specs.Enclaves.{EnclaveOf, IsEnclave, enclave_of};
+    ghost use Rattle.gs_runner.specs.Kept.{AllWithin, calls_kept};
 
     ghost Value = { EnclaveOf };
 
-    ghost view = { λ e. enclave_of e.kernel e.log.calls.items e.log.book.total e.log.seat };
+    ghost view = { λ e. enclave_of e.kernel (calls_kept e.kernel.history e.log.list.others.items e.log.list.kept.items) e.log.book.total e.log.seat };
 
-    ghost invariant = { λ e. IsEnclave L.is_ring L.parcels L.parts e.kernel (enclave_of e.kernel e.log.calls.items e.log.book.total e.log.seat) };
+    ghost invariant = { λ e. IsEnclave L.is_ring L.parcels L.parts e.kernel (enclave_of e.kernel (calls_kept e.kernel.history e.log.list.others.items e.log.list.kept.items) e.log.book.total e.log.seat) × AllWithin (length e.kernel.history) (length e.log.list.others.items) e.log.list.kept.items };
 }
 
 impl<L: Site> Enclave<L> {
@@ -65,7 +71,7 @@ impl<L: Site> Enclave<L> {
             alloc,
             kernel,
             log: Log {
-                calls: Vec::new(alloc),
+                list: CallList::new(alloc),
                 book,
                 seat,
             },
@@ -95,17 +101,53 @@ impl<L: Site> Enclave<L> {
         command: &Command,
         reader: &mut T,
     ) -> Receipt
-        ensures legal { LegalCall (ThreadRoom L.parcels) self.old.settings self.old.history self.old.given (Called.Served command.now) result.reply self.new.history }
-        ensures at { result.at ≡ length self.old.history }
-        ensures entries { GoesOnBy result.entries self.old.history self.new.history }
-        ensures accepted { is_refused result.reply ≡ false → self.new.calls ≡ self.old.calls ++ record { called = Called.Served command.now; at = result.at; entries = result.entries; reply = result.reply } ∷ [] }
-        ensures counted { is_refused result.reply ≡ false → (share.new ≡ share.old + 1) × (self.new.counted ≡ self.old.counted + 1) }
-        ensures refused { is_refused result.reply ≡ true → (self.new ≡ self.old) × (share.new ≡ share.old) }
-        ensures settings { self.new.settings ≡ self.old.settings }
+        ensures serves { Serves L.parcels command.now self.old share.old result self.new share.new }
+        ensures reads { Reads T.read command.now result.reply reader.old reader.new }
+    {
+        match command {
+            Command::Kernel { command } => self.tell(board, share, command),
+            _ => self.serve_other(board, share, command, reader),
+        }
+    }
+
+    /// Tells the kernel a command. What it did is not copied, but for an activation: it follows from the journal.
+    #[inline(always)]
+    fn tell(&mut self, board: &Board<L>, share: &mut Share<L>, command: &Told) -> Receipt
+        ensures { Serves L.parcels (Commands.Kernel command.now) self.old share.old result self.new share.new }
+    {
+        let at = entries(&self.kernel);
+        if self.log.list.reserve().is_err() {
+            let command = Command::Kernel { command: *command };
+            return Receipt::refused(at, short_refusal(&self.kernel, &command));
+        }
+        let fate = obey(&mut self.kernel, command);
+        if let Fate::Refused { refusal } = fate {
+            return Receipt::refused(at, refusal);
+        }
+        let end = entries(&self.kernel);
+        self.log
+            .accept_told(board, share, &self.kernel, command, fate, at, end);
+        Receipt {
+            at,
+            entries: end - at,
+            reply: Reply::by(fate, self.kernel.last()),
+        }
+    }
+
+    /// Serves a command of which the kernel is not told as it is.
+    fn serve_other<T: PageReader>(
+        &mut self,
+        board: &Board<L>,
+        share: &mut Share<L>,
+        command: &Command,
+        reader: &mut T,
+    ) -> Receipt
+        requires { is_told command.now ≡ false }
+        ensures serves { Serves L.parcels command.now self.old share.old result self.new share.new }
         ensures reads { Reads T.read command.now result.reply reader.old reader.new }
     {
         let at = entries(&self.kernel);
-        if self.log.calls.reserve(1).is_err() {
+        if self.log.list.reserve().is_err() {
             return Receipt::refused(at, short_refusal(&self.kernel, command));
         }
         let (reply, again) = carry_out(&mut self.kernel, self.alloc, command, reader);
@@ -135,12 +177,12 @@ impl<L: Site> Enclave<L> {
         &self.kernel
     }
 
-    /// Lends the calls that were accepted, in order: a legal history for the journal. The book counts them, and the
+    /// Shows the calls that were accepted, in order: a legal history for the journal. The book counts them, and the
     /// last words on the board are the journal's.
-    pub fn calls(&self) -> &[Call]
-        ensures value { result.now ≡ self.now.calls }
+    pub fn calls(&self) -> Calls<'_>
+        ensures value { result ≡ self.now.calls }
         ensures kept { IsKept L.parcels self.now }
     {
-        self.log.calls.as_slice()
+        Calls::new(self.kernel.journal(), &self.log.list)
     }
 }

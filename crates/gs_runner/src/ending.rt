@@ -26,7 +26,7 @@ pub(crate) struct Ended {
 /// Lets the agent settle, and ends the enclave.
 fn end<L: Site, P>(enclave: Enclave<L>, held: &mut Held<L, P>, passes: Vec<Pass<L>>) -> Ended
     requires { vec_len passes ≡ PASSES }
-    ensures legal { IsLegal L.parcels result.closed.calls.items result.closed.journal.entries }
+    ensures legal { IsLegal L.parcels result.closed.calls result.closed.journal.entries }
     ensures ended { EndsAs P result.closed.journal.entries result.threads result.end }
 {
     let mut enclave = enclave;
@@ -51,7 +51,7 @@ impl<L: Site> Station<L> {
         held: &mut Held<L, P>,
         passes: Vec<Pass<L>>,
     ) -> Result<Ended, CloseFault<L>>
-        ensures legal { IfOk result (λ e. IsLegal L.parcels e.closed.calls.items e.closed.journal.entries) }
+        ensures legal { IfOk result (λ e. IsLegal L.parcels e.closed.calls e.closed.journal.entries) }
         ensures ended { IfOk result (λ e. EndsAs P e.closed.journal.entries e.threads e.end) }
         ensures fault { IfErr result (λ _. vec_len passes ≡ PASSES → ⊥) }
     {

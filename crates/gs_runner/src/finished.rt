@@ -28,7 +28,7 @@ pub enum RunFault {
     TooMany,
     /// Memory ran out, or a thread could not be started.
     OutOfMemory,
-    /// The station could not be closed.
+    /// The station could not be closed. No run ends so, as all passes are kept.
     Close,
     /// The receipts of a list are not those of its commands: one is wanting, their places in the journal fall, or one
     /// was accepted and does not stand in the calls.

@@ -1,27 +1,60 @@
-//! The calls that were accepted.
+//! What is noted of the calls that were accepted.
 
-ghost use Rattle.std.specs.Prelude.{◌≡◌, ◌+◌, ◌<◌, ◌++◌, ◌∷◌, [], vec_len, vec_capacity};
+ghost use Rattle.std.specs.Prelude.{◌≡◌, ◌+◌, ◌≤◌, ◌<◌, ◌++◌, ◌∷◌, [], length, true, vec_len, vec_capacity};
 ghost use Rattle.gs_board.specs.Words.{MayFollow};
+ghost use Rattle.gs_kernel.specs.declared.fate.Fate.{Fate};
+ghost use Rattle.gs_kernel.specs.Fate.{last_entry};
 ghost use Rattle.gs_runner.specs.Enclaves.{IsShown, generation_number};
+ghost use Rattle.gs_runner.specs.Kept.{AllWithin, calls_kept, command_by, is_told_by_entry, told_call};
 
 use crate::call::Call;
+use crate::kept::CallList;
 use crate::publish::publish;
 use crate::share::Share;
 use crate::site::Site;
 use gs_board::{Board, WriterSeat};
-use gs_kernel::Kernel;
+use gs_kernel::{Command as Told, Fate, Kernel};
 use gs_link::RtrbPoster;
 use std::sync::ledger::Book;
 
 /// The calls that were accepted, the book that counts them, and the seat by which the board shows what they left.
 #[derive(Drop)]
 pub(crate) struct Log<L: Site> {
-    pub calls: Vec<Call>,
+    pub list: CallList,
     pub book: Book<L>,
     pub seat: WriterSeat<L>,
 }
 
 impl<L: Site> Log<L> {
+    /// Appends that the kernel was told a command, which was not refused and for which there is room. Counts it in share
+    /// and book, and publishes what the kernel is after it.
+    #[inline(always)]
+    pub(crate) fn accept_told(
+        &mut self,
+        board: &Board<L>,
+        share: &mut Share<L>,
+        kernel: &Kernel<RtrbPoster>,
+        command: &Told,
+        fate: Fate,
+        at: u32,
+        end: u32,
+    )
+        requires kept { vec_len self.old.list.kept < vec_capacity self.old.list.kept }
+        requires others { vec_len self.old.list.others < vec_capacity self.old.list.others }
+        requires order { at ≤ end }
+        requires end { end ≡ length kernel.now.history }
+        requires follows { fate ≡ Fate.Done → is_told_by_entry command.now ≡ true → command_by (last_entry kernel.now.history) ≡ command.now }
+        requires within { AllWithin end (length self.old.list.others.items) self.old.list.kept.items }
+        requires rises { MayFollow self.old.seat.roles (generation_number kernel.now.history) }
+        ensures calls { calls_kept kernel.now.history self.new.list.others.items self.new.list.kept.items ≡ calls_kept kernel.now.history self.old.list.others.items self.old.list.kept.items ++ told_call command.now fate (last_entry kernel.now.history) at end ∷ [] }
+        ensures within { AllWithin end (length self.new.list.others.items) self.new.list.kept.items }
+        ensures counted { (self.new.book.total ≡ self.old.book.total + 1) × (share.new ≡ share.old + 1) }
+        ensures shown { IsShown self.new.seat kernel.now.history }
+    {
+        self.list.push_told(command, fate, kernel.last(), at, end);
+        self.note(board, share, kernel);
+    }
+
     /// Appends a call, for which there is room, counts it in share and book, and publishes what the kernel is after it.
     pub(crate) fn accept(
         &mut self,
@@ -30,13 +63,27 @@ impl<L: Site> Log<L> {
         kernel: &Kernel<RtrbPoster>,
         call: Call,
     )
-        requires room { vec_len self.old.calls < vec_capacity self.old.calls }
+        requires kept { vec_len self.old.list.kept < vec_capacity self.old.list.kept }
+        requires others { vec_len self.old.list.others < vec_capacity self.old.list.others }
+        requires within { AllWithin (length kernel.now.history) (length self.old.list.others.items) self.old.list.kept.items }
         requires rises { MayFollow self.old.seat.roles (generation_number kernel.now.history) }
-        ensures calls { self.new.calls.items ≡ self.old.calls.items ++ call ∷ [] }
+        ensures calls { calls_kept kernel.now.history self.new.list.others.items self.new.list.kept.items ≡ calls_kept kernel.now.history self.old.list.others.items self.old.list.kept.items ++ call ∷ [] }
+        ensures within { AllWithin (length kernel.now.history) (length self.new.list.others.items) self.new.list.kept.items }
         ensures counted { (self.new.book.total ≡ self.old.book.total + 1) × (share.new ≡ share.old + 1) }
         ensures shown { IsShown self.new.seat kernel.now.history }
     {
-        self.calls.push_reserved(call);
+        self.list.push_other(call);
+        self.note(board, share, kernel);
+    }
+
+    /// Counts a call in share and book, and publishes what the kernel is after it.
+    #[inline(always)]
+    fn note(&mut self, board: &Board<L>, share: &mut Share<L>, kernel: &Kernel<RtrbPoster>)
+        requires { MayFollow self.old.seat.roles (generation_number kernel.now.history) }
+        ensures list { self.new.list ≡ self.old.list }
+        ensures counted { (self.new.book.total ≡ self.old.book.total + 1) × (share.new ≡ share.old + 1) }
+        ensures shown { IsShown self.new.seat kernel.now.history }
+    {
         share.count(&mut self.book);
         publish(board, &mut self.seat, kernel);
     }

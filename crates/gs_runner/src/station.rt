@@ -56,8 +56,8 @@ impl<L: Site> Station<L> {
     ///
     /// Exactly if there are not 32 passes. Station and passes are handed back.
     pub fn close(self, passes: Vec<Pass<L>>) -> Result<Closed, CloseFault<L>>
-        ensures counted { IfOk result (λ c. length c.calls.items ≡ sum_by (λ p. p.share) passes.items) }
-        ensures legal { IfOk result (λ c. IsLegal L.parcels c.calls.items c.journal.entries) }
+        ensures counted { IfOk result (λ c. length c.calls ≡ sum_by (λ p. p.share) passes.items) }
+        ensures legal { IfOk result (λ c. IsLegal L.parcels c.calls c.journal.entries) }
         ensures all { IfOk result (λ _. vec_len passes ≡ PASSES) }
         ensures fault { IfErr result (λ f. (vec_len passes ≡ PASSES → ⊥) × (f.station ≡ self) × (f.passes ≡ passes)) }
     {

@@ -1,13 +1,12 @@
 //! A run of lists and shifts in threads, from its start to its end.
 
-ghost use Rattle.std.specs.Prelude.{◌≡◌, ◌+◌, ◌<◌, ◌↔◌, ◌≤◌, ℕ, IfErr, IfOk, IsTrue, length};
+ghost use Rattle.std.specs.Prelude.{◌≡◌, ◌+◌, ◌<◌, ◌↔◌, ◌≤◌, ℕ, IfErr, IfOk, IsTrue, length, vec_len};
 ghost use Rattle.gs_link.specs.declared.poster.RtrbPoster.{RtrbPoster};
 ghost use Rattle.gs_link.specs.Between.{IsPairOf, room};
 ghost use Rattle.gs_replies.specs.Config.{config_fault};
 ghost use Rattle.gs_runner.specs.Calls.{IsLegal};
 ghost use Rattle.gs_runner.specs.Ends.{EndsAs, Follows, WhyNotRun};
 ghost use Rattle.gs_runner.specs.Finishes.{IsFinished};
-ghost use Rattle.gs_runner.specs.declared.finished.RunFault.{RunFault};
 ghost use Rattle.gs_runner.specs.declared.pass.TheConstants.{PASSES};
 
 use crate::answered::are_answered;
@@ -55,9 +54,10 @@ fn run_and_close<
     gate: &G,
     sheets: &mut [Sheet],
 ) -> Result<Ended, RunFault>
-    ensures legal { IfOk result (λ e. IsLegal L.parcels e.closed.calls.items e.closed.journal.entries) }
+    requires { vec_len passes ≡ PASSES }
+    ensures legal { IfOk result (λ e. IsLegal L.parcels e.closed.calls e.closed.journal.entries) }
     ensures ended { IfOk result (λ e. EndsAs P e.closed.journal.entries e.threads e.end) }
-    ensures fault { IfErr result (λ f. f ≡ RunFault.Close) }
+    ensures fault { IfErr result (λ _. ⊥) }
 {
     let mut passes = passes;
     let mut held = run_at_desk(
@@ -86,7 +86,7 @@ fn finish<L: Site, P>(
     sheets: Vec<Sheet>,
 ) -> Result<Finished, RunFault>
     requires few { length lists.now + shifts ≤ PASSES }
-    requires legal { IsLegal L.parcels ended.closed.calls.items ended.closed.journal.entries }
+    requires legal { IsLegal L.parcels ended.closed.calls ended.closed.journal.entries }
     requires ended { EndsAs P ended.closed.journal.entries ended.threads ended.end }
     ensures finished { IfOk result (IsFinished P L.parcels lists.now shifts) }
     ensures fault { IfErr result (Follows (length lists.now + shifts)) }
@@ -132,6 +132,7 @@ fn run_noted<
     sheets: Vec<Sheet>,
 ) -> Result<Finished, RunFault>
     requires few { length lists.now + length shifts.now ≤ PASSES }
+    requires passes { vec_len passes ≡ PASSES }
     ensures finished { IfOk result (IsFinished P L.parcels lists.now (length shifts.now)) }
     ensures fault { IfErr result (Follows (length lists.now + length shifts.now)) }
 {
@@ -168,6 +169,7 @@ fn run_on<
     shifts: &[Shift<P>],
     gate: &G,
 ) -> Result<Finished, RunFault>
+    requires { vec_len passes ≡ PASSES }
     ensures finished { IfOk result (IsFinished P L.parcels lists.now (length shifts.now)) }
     ensures fault { IfErr result (Follows (length lists.now + length shifts.now)) }
 {
@@ -228,7 +230,7 @@ fn run_named<
 /// - `TooMany` if there are more than 32 lists and shifts.
 /// - `OutOfMemory` if memory ran out, or a thread could not be started. Its list or shift is not run, and the others
 ///   are.
-/// - `Close` if the station cannot be closed.
+/// - `Close` if the station cannot be closed. That does not happen: all passes are kept.
 /// - `Astray` if the receipts of a list are not those of its commands.
 pub fn run_threads<
     P: Counted + Copy + Drop + Send + Sync,

@@ -15,3 +15,5 @@ mod planned;
 mod running;
 #[cfg(test)]
 mod shifts;
+#[cfg(test)]
+mod shown;

@@ -4,7 +4,7 @@ use Rattle.gs_runner.specs.Receipts.{AllAnswered}
 use Rattle.gs_runner.proofs.answered.are_answered.Given as goal
 
 abbrev pub invariant-lists : goal.invariant-lists
-invariant-lists l = AllAnswered l.closed.calls.items l.lists l.receipts ↔ AllAnswered l.closed.calls.items l.fn.lists l.fn.receipts
+invariant-lists l = AllAnswered l.closed.calls l.lists l.receipts ↔ AllAnswered l.closed.calls l.fn.lists l.fn.receipts
 
 abbrev pub decreases-lists : goal.decreases-lists
 decreases-lists l = length l.lists

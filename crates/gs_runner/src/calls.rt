@@ -1,0 +1,229 @@
+//! The calls that were accepted, as they are shown.
+
+ghost use Rattle.std.specs.Prelude.{◌≡◌, ◌↔◌, ◌==◌, ◌≤◌, IsTrue, length, option_map, slice_get, true};
+ghost use Rattle.std.specs.List.{list_all};
+ghost use Rattle.std.specs.List.Sorted.{IsNonDecreasingBy};
+ghost use Rattle.gs_replies.specs.declared.reply.Reply.{Reply};
+ghost use Rattle.gs_runner.specs.declared.command.Command.{Command as Commands};
+ghost use Rattle.gs_runner.specs.Shown.{shown_call};
+ghost use Rattle.gs_runner.specs.Kept.{AllWithin, AreMadeAt, IsWithin, call_kept, calls_kept, command_by, entry_before, kept_at};
+ghost use Rattle.gs_runner.specs.Holds.{Stands, answers_command, call_of};
+
+use crate::call::{Call, Called, Receipt};
+use crate::command::Command;
+use crate::kept::{CallList, Kept, command_by};
+use crate::same::same_reply;
+use crate::same_command::same_command;
+use gs_journal::{Entry, Journal};
+use gs_kernel::Command as Told;
+use gs_replies::Reply;
+use std::marker::Model;
+
+/// A call that was accepted.
+#[derive(Clone, Copy)]
+pub enum CallRef<'a> {
+    /// The kernel was told a command, and did it: the reply was `Done`, with the last entry that it added.
+    Told {
+        command: Told,
+        /// How many entries the journal had before.
+        at: u32,
+        /// How many it appended.
+        entries: u32,
+        last: Entry,
+    },
+    /// Any other call.
+    Other {
+        call: &'a Call,
+    },
+}
+
+/// The calls that were accepted, in order. Clauses see them as a list of calls.
+#[derive(Drop)]
+pub struct Calls<'a> {
+    journal: &'a [Entry],
+    kept: &'a [Kept],
+    others: &'a [Call],
+}
+
+impl<'a> Model for Calls<'a> {
+    ghost use Rattle.std.specs.Prelude.{List, length};
+    ghost use Rattle.gs_runner.specs.declared.call.Call.{Call};
+    ghost use Rattle.gs_runner.specs.Kept.{AllWithin, calls_kept};
+
+    ghost Value = { List Call };
+
+    ghost view = { λ c. calls_kept c.journal.now c.others.now c.kept.now };
+
+    ghost invariant = { λ c. AllWithin (length c.journal.now) (length c.others.now) c.kept.now };
+}
+
+impl<'a> Calls<'a> {
+    /// Shows the calls of a list, beside the journal that they made.
+    pub(crate) fn new(journal: &'a Journal, list: &'a CallList) -> Calls<'a>
+        requires { AllWithin (length journal.now.entries) (length list.now.others.items) list.now.kept.items }
+        ensures { result ≡ calls_kept journal.now.entries list.now.others.items list.now.kept.items }
+    {
+        Calls {
+            journal: journal.entries(),
+            kept: list.kept.as_slice(),
+            others: list.others.as_slice(),
+        }
+    }
+
+    /// Returns how many calls there are.
+    pub fn len(&self) -> usize
+        ensures { result ≡ length self.now }
+    {
+        self.kept.len()
+    }
+
+    /// Returns whether there is no call.
+    pub fn is_empty(&self) -> bool
+        ensures { result ≡ (length self.now == 0) }
+    {
+        self.kept.is_empty()
+    }
+
+    /// Returns the call at a place, counted from 0, if there is one.
+    pub fn get(&self, index: usize) -> Option<CallRef<'a>>
+        ensures { option_map shown_call result ≡ slice_get self.now index }
+    {
+        let kept = self.kept.get(index)?;
+        Some(show(self.journal, self.others, kept))
+    }
+
+    /// Returns whether some call has this command, and the receipt's place in the journal, count of entries and
+    /// reply.
+    pub(crate) fn holds(&self, command: &Command, receipt: &Receipt) -> bool
+        requires answered { list_all answers_command self.now ≡ true }
+        requires order { IsNonDecreasingBy (λ c. c.at) self.now }
+        ensures { IsTrue result ↔ Stands self.now command.now receipt.now }
+    {
+        let made = made_at(self.others, self.kept, receipt.at);
+        stands(self.journal, self.others, made, command, receipt)
+    }
+}
+
+/// Returns the last of so many entries.
+fn entry_before(journal: &[Entry], end: u32) -> Entry
+    requires { end ≤ length journal.now }
+    ensures { result ≡ entry_before journal.now end }
+{
+    match journal[..end as usize].last() {
+        Some(entry) => *entry,
+        None => Entry::Torn,
+    }
+}
+
+/// Shows a call that is kept so.
+fn show<'a>(journal: &[Entry], others: &'a [Call], kept: &Kept) -> CallRef<'a>
+    requires { IsWithin (length journal.now) (length others.now) kept.now }
+    ensures { shown_call result ≡ call_kept journal.now others.now kept.now }
+{
+    match kept {
+        Kept::Told { at, end } => {
+            let last = entry_before(journal, *end);
+            CallRef::Told {
+                command: command_by(&last),
+                at: *at,
+                entries: *end - *at,
+                last,
+            }
+        }
+        Kept::Other { index } => CallRef::Other {
+            call: &others[*index],
+        },
+    }
+}
+
+/// Returns how many entries the journal had before a call that is kept so.
+fn place(others: &[Call], kept: &Kept) -> u32
+    ensures { result ≡ kept_at others.now kept.now }
+{
+    match kept {
+        Kept::Told { at, .. } => *at,
+        Kept::Other { index } => match others.get(*index) {
+            Some(call) => call.at,
+            None => 0,
+        },
+    }
+}
+
+/// Returns those calls that were made when the journal had so many entries. The places of all never fall.
+fn made_at<'k>(others: &[Call], kept: &'k [Kept], at: u32) -> &'k [Kept]
+    requires { IsNonDecreasingBy (kept_at others.now) kept.now }
+    ensures { AreMadeAt others.now at kept.now result.now }
+{
+    let before = kept.partition_point(|kept| place(others, kept) < at);
+    let (_, later) = kept.split_at(before);
+    let there = later.partition_point(|kept| place(others, kept) <= at);
+    let (made, _) = later.split_at(there);
+    made
+}
+
+/// Returns whether the kernel was told this command if this is the last entry that it added, and this the reply.
+fn is_done(last: &Entry, command: &Command, reply: &Reply) -> bool
+    ensures { IsTrue result ↔ (Commands.Kernel (command_by last.now) ≡ command.now) × (Reply.Done last.now ≡ reply.now) }
+{
+    let told = Command::Kernel {
+        command: command_by(last),
+    };
+    same_command(&told, command) && same_reply(&Reply::Done(*last), reply)
+}
+
+/// Returns whether a call has this command, and the receipt's place, count of entries and reply.
+fn is_other(call: &Call, command: &Command, receipt: &Receipt) -> bool
+    requires { answers_command call.now ≡ true }
+    ensures { IsTrue result ↔ (call.now ≡ call_of command.now receipt.now) }
+{
+    let Called::Served(served) = &call.called else {
+        return false;
+    };
+    call.at == receipt.at
+        && call.entries == receipt.entries
+        && same_command(served, command)
+        && same_reply(&call.reply, &receipt.reply)
+}
+
+/// Returns whether a call that is kept so has this command, and the receipt's place, count of entries and reply.
+fn is_call(
+    journal: &[Entry],
+    others: &[Call],
+    kept: &Kept,
+    command: &Command,
+    receipt: &Receipt,
+) -> bool
+    requires within { IsWithin (length journal.now) (length others.now) kept.now }
+    requires answered { answers_command (call_kept journal.now others.now kept.now) ≡ true }
+    ensures { IsTrue result ↔ (call_kept journal.now others.now kept.now ≡ call_of command.now receipt.now) }
+{
+    match kept {
+        Kept::Told { at, end } => {
+            *at == receipt.at
+                && *end - *at == receipt.entries
+                && is_done(&entry_before(journal, *end), command, &receipt.reply)
+        }
+        Kept::Other { index } => is_other(&others[*index], command, receipt),
+    }
+}
+
+/// Returns whether one of the calls that are kept so has this command, and the receipt's place, count of entries and reply.
+fn stands(
+    journal: &[Entry],
+    others: &[Call],
+    kept: &[Kept],
+    command: &Command,
+    receipt: &Receipt,
+) -> bool
+    requires within { AllWithin (length journal.now) (length others.now) kept.now }
+    requires answered { list_all answers_command (calls_kept journal.now others.now kept.now) ≡ true }
+    ensures { IsTrue result ↔ Stands (calls_kept journal.now others.now kept.now) command.now receipt.now }
+{
+    match kept.split_first() {
+        Some((first, rest)) => {
+            is_call(journal, others, first, command, receipt)
+                || stands(journal, others, rest, command, receipt)
+        }
+        None => false,
+    }
+}
