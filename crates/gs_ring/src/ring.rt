@@ -1,5 +1,8 @@
 ghost use Rattle.std.specs.Prelude.{◌≡◌, ◌↔◌, ◌+◌, ◌-◌, ◌^◌, ◌<◌, ◌≤◌, List, [], ◌∷◌, ◌++◌, length, min, true, false, IfOk, IsErr, IsErrOf, MatchOption, OnOk, OnErr};
 ghost use Rattle.gs_layout.specs.declared.message.Message.{Message};
+ghost use Rattle.std.specs.Borrow.{sem};
+ghost use Rattle.std.specs.Io.BufRead.{Rests};
+ghost use Rattle.gs_ring.specs.Batches.{messages_of};
 ghost use Rattle.gs_ring.specs.Ends.{Ahead, IsEmpty, Passed};
 ghost use Rattle.gs_ring.specs.Peek.{message_of};
 ghost use Rattle.gs_layout.specs.Spelling.{IsSpellable};
@@ -221,6 +224,7 @@ impl Poster for ByteRing {
 }
 
 impl Taker for ByteRing {
+    ghost use Rattle.gs_ring.specs.contracts.ring.ByteRing.{the_row};
     ghost use Rattle.gs_ring.specs.Ends.{Ahead-begins, Passed-agrees, Passed-join, Passed-none};
 
     ghost passed = { Passed };
@@ -237,7 +241,11 @@ impl Taker for ByteRing {
         self.pop();
     }
 
-    fn batch(&mut self) -> Batch<'_> {
+    fn batch(&mut self) -> Batch<'_>
+        ensures none { messages_of result ≡ [] → IsEmpty self.old }
+        ensures whole { messages_of result ≡ self.old.unread }
+        ensures* after { sem 𝓛 (Rests the_row self.entry (λ new. Passed self.old [] new × Ahead new (messages_of result) × (messages_of result ≡ [] → (m : Message) (ms : List Message) → Ahead new (m ∷ ms) → ⊥))) }
+    {
         Batch::Ring(self)
     }
 
