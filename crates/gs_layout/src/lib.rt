@@ -16,6 +16,7 @@ mod outcome;
 mod parcel;
 mod record;
 mod refusal;
+mod spellable;
 mod wire;
 
 pub use cpu::{NO_CPU, cpu_number, cpu_numbered};

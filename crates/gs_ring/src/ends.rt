@@ -35,8 +35,8 @@ pub trait Poster {
     /// The same end of the same ring.
     ghost same: { Self → Self → Type 0 };
 
-    /// Appends a message, whose fields are in their ranges. Fewer than [`MOST_POSTS`] were posted
-    /// before.
+    /// Appends a message, whose fields are in their ranges: [`Message::is_spellable`] says so. Fewer than
+    /// [`MOST_POSTS`] were posted before.
     ///
     /// # Errors
     ///

@@ -1,11 +1,11 @@
 //! The messages that tables tell. Each is made as a test runs, if its fields are in their ranges, so that
 //! rows may be sent in a loop whatever they hold.
 
-ghost use Rattle.std.specs.Prelude.{◌≡◌, IfSome, true};
-ghost use Rattle.gs_layout.specs.Spelling.{IsSpellable, IsSpellableChange};
+ghost use Rattle.std.specs.Prelude.{IfSome};
+ghost use Rattle.gs_layout.specs.Spelling.{IsSpellable};
 
-use gs_layout::{Change, Class, Facts, MOST_TIDS, Message, Name};
-use gs_status::{MOST_CPUS, Mask};
+use gs_layout::{Change, Class, Facts, Message, Name};
+use gs_status::Mask;
 
 /// What came of a table.
 #[derive(Clone, Copy, PartialEq, Eq, Debug)]
@@ -69,42 +69,23 @@ pub(crate) fn creation(class: Class, mask: u128, name: &str) -> Option<Change> {
 pub(crate) fn about(tid: u32, tseq: u32, change: Change) -> Option<Message>
     ensures { IfSome result IsSpellable }
 {
-    if tid < 1 || tid > MOST_TIDS || tseq < 1 || !is_spellable(&change) {
-        return None;
-    }
-    Some(Message::Thread { tid, tseq, change })
+    spellable(Message::Thread { tid, tseq, change })
 }
 
 /// A tick of a CPU's timer, or `None` if there can be no such CPU.
 pub(crate) fn tick(cpu: u16) -> Option<Message>
     ensures { IfSome result IsSpellable }
 {
-    if cpu >= MOST_CPUS {
-        return None;
-    }
-    Some(Message::TimerTick { cpu })
+    spellable(Message::TimerTick { cpu })
 }
 
-/// Whether the fields of a change are in their ranges.
-fn is_spellable(change: &Change) -> bool
-    ensures { result ≡ true → IsSpellableChange change.now }
+/// The message, or `None` if a field of it is out of its range.
+fn spellable(message: Message) -> Option<Message>
+    ensures { IfSome result IsSpellable }
 {
-    match change {
-        Change::Created { facts } => facts.mask.bits() > 0 && Name::is_name(facts.name.as_bytes()),
-        Change::Blocked { cpu }
-        | Change::Preempted { cpu }
-        | Change::Yield { cpu }
-        | Change::Dead { cpu: Some(cpu) } => *cpu < MOST_CPUS,
-        Change::Wakeup | Change::Dead { cpu: None } => true,
-        Change::Affinity {
-            cpu: None,
-            off,
-            mask,
-        } => !*off && mask.bits() > 0,
-        Change::Affinity {
-            cpu: Some(cpu),
-            mask,
-            ..
-        } => *cpu < MOST_CPUS && mask.bits() > 0,
+    if message.is_spellable() {
+        Some(message)
+    } else {
+        None
     }
 }
