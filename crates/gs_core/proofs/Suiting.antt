@@ -7,6 +7,7 @@ use Rattle.gs_layout.specs.declared.message.Message.TheVariants.{TimerTick}
 use Rattle.gs_journal.specs.declared.entry.Entry.TheVariants.{Posted, Role, Begin, Left, Taken}
 use Rattle.gs_journal.specs.declared.entry.Entry.{Entry}
 use Rattle.gs_journal.specs.History.{History, active, attaching}
+use Rattle.gs_journal.proofs.Laws.{attaching-push}
 use Rattle.gs_kernel.specs.declared.settings.Settings.{Settings}
 use Rattle.gs_kernel.specs.Kernel.{creation, happening, next_generation, preemption}
 use Rattle.gs_kernel.specs.declared.command.Command.{Command}
@@ -31,30 +32,32 @@ suits_still p h h' b b' r r' roles same is s =
     record {
       plans = ap (λ (x : RoleOf _). x.policy) is ∙ s.plans;
       acts = acts_on h h' r.generation r'.generation roles.active (ap (λ (x : RoleOf _). x.generation) is) s.acts;
+      attaches = λ a e. ap (λ (x : RoleOf _). x.generation) is ∙ s.attaches a (roles.attaching a e);
       given = λ q. same ∙ (s.given (was_role (attaching h) (attaching h') roles.attaching q) ∙ ap (λ (x : RoleOf _). is_none x.next) (sym is));
     }
 
 -- so does any role, or none
 pub suits_on : {P : Type 0} (p : P) (h h' : History) (b b' : Bool) (o : Option (RoleOf P)) → NoNewRole h h' → b' ≡ b → Suits p h b o → Suits p h' b' o
-suits_on p h h' b b' None roles same s = record { plans = tt; acts = tt; given = λ q. same ∙ s.given (was_role (attaching h) (attaching h') roles.attaching q) }
+suits_on p h h' b b' None roles same s = record { plans = tt; acts = tt; attaches = tt; given = λ q. same ∙ s.given (was_role (attaching h) (attaching h') roles.attaching q) }
 suits_on p h h' b b' (Some r) roles same s = suits_still p h h' b b' r r roles same refl s
 
 -- if no agent is there, none has to suit
 pub suits_left : {P : Type 0} (p : P) (h h' : History) (b : Bool) → h' ≡ h ++ Left ∷ [] → Suits p h' b None
-suits_left p h h' b is = record { plans = tt; acts = tt; given = λ q. absurd (none_there (attaching h') (ap attaching is ∙ attaching_left h) q) }
+suits_left p h h' b is = record { plans = tt; acts = tt; attaches = tt; given = λ q. absurd (none_there (attaching h') (ap attaching is ∙ attaching_left h) q) }
 
 -- one that begins suits, as it was given no page
-pub suits_begun : {P : Type 0} (p : P) (h h' : History) (g : ℕ) (b : Bool) (r : RoleOf P) → h' ≡ h ++ Begin g ∷ [] → b ≡ false → r.policy ≡ p → r.next ≡ Some 1 → Suits p h' b (Some r)
-suits_begun p h h' g b r is none plans page =
+pub suits_begun : {P : Type 0} (p : P) (h h' : History) (g : ℕ) (b : Bool) (r : RoleOf P) → h' ≡ h ++ Begin g ∷ [] → b ≡ false → r.policy ≡ p → r.generation ≡ g → r.next ≡ Some 1 → Suits p h' b (Some r)
+suits_begun p h h' g b r is none plans its page =
     record {
       plans = plans;
       acts = λ a e. let no_way : None ≡ Some a = sym (ap active is ∙ active_begun h g) ∙ e in absurd cc;
+      attaches = λ a e. let z : Some g ≡ Some a = sym (ap attaching is ∙ attaching-push h (Begin g)) ∙ e in let same : g ≡ a = cc in its ∙ same;
       given = λ q. none ∙ sym (ap is_none page);
     }
 
 -- one that was given a page suits, as the kernel knows whether it was the last one
 pub suits_paged : {P : Type 0} (p : P) (h : History) (b b' : Bool) (r r' : RoleOf P) → r' ≡ record r { mind = r'.mind; next = r'.next } → b' ≡ is_none r'.next → Suits p h b (Some r) → Suits p h b' (Some r')
-suits_paged p h b b' r r' is knows s = record { plans = ap (λ (x : RoleOf _). x.policy) is ∙ s.plans; acts = λ a e. ap (λ (x : RoleOf _). x.generation) is ∙ s.acts a e; given = λ q. knows }
+suits_paged p h b b' r r' is knows s = record { plans = ap (λ (x : RoleOf _). x.policy) is ∙ s.plans; acts = λ a e. ap (λ (x : RoleOf _). x.generation) is ∙ s.acts a e; attaches = λ a e. ap (λ (x : RoleOf _). x.generation) is ∙ s.attaches a e; given = λ q. knows }
 
 -- after a role nobody attaches
 attaching_role : (h : History) (o : Option Message) (g c : ℕ) → attaching (h ++ entries_in (Append o (Role g c))) ≡ None
@@ -63,11 +66,12 @@ attaching_role h (Some x) g c = ap attaching (sym (append_assoc h (Posted x ∷ 
 
 -- a role that goes on to a CPU is that of the active agent
 suits_led : {P : Type 0} (p : P) (h : History) (b : Bool) (o : Option (RoleOf P)) (x : Option Message) (g c : ℕ) → Suits p h b o → Suits p (h ++ entries_in (Append x (Role g c))) b (option_map (on_cpu g c) o)
-suits_led p h b None x g c s = record { plans = tt; acts = tt; given = λ q. absurd (none_there _ (attaching_role h x g c) q) }
+suits_led p h b None x g c s = record { plans = tt; acts = tt; attaches = tt; given = λ q. absurd (none_there _ (attaching_role h x g c) q) }
 suits_led p h b (Some r) x g c s =
     record {
       plans = s.plans;
       acts = λ a e. let z : Some (g, c) ≡ Some a = sym (role_last h x g c) ∙ e in let same : (g, c) ≡ a = cc in ap (λ (y : ℕ × ℕ). y.0) same;
+      attaches = λ a e. let z : None ≡ Some a = sym (attaching_role h x g c) ∙ e in absurd cc;
       given = λ q. absurd (none_there _ (attaching_role h x g c) q);
     }
 

@@ -10,10 +10,10 @@ ghost use Rattle.gs_core.specs.Machine.{Step, decides, mind_of, plan_of, planned
 ghost use Rattle.gs_core.specs.Fates.{reply_by};
 ghost use Rattle.gs_core.specs.Policies.{policy_after, policy_after_all};
 ghost use Rattle.gs_core.specs.Desk.{AreBelow, AreStampable};
-ghost use Rattle.gs_journal.specs.History.{active, posted, torn};
+ghost use Rattle.gs_journal.specs.History.{active, attaching, posted, torn};
 ghost use Rattle.gs_ring.specs.Ends.{Posted};
 ghost use Rattle.gs_slots.specs.Reading.{states_in};
-ghost use Rattle.gs_core.specs.Safe.{Safe, IsFaithful, Run};
+ghost use Rattle.gs_core.specs.Safe.{Safe, StopsForNoGap, IsFaithful, Run};
 
 use crate::event::Event;
 use crate::known::known_threads;
@@ -109,12 +109,13 @@ impl<P: Counted + Copy> Machine<P> {
         })
     }
 
-    /// Lends the role of the agent, if one is active or attaches. It plans by the machine's policy. While an
-    /// agent is active, it is of the active generation and takes the active agent's CPU for its own.
+    /// Lends the role of the agent, if one is active or attaches. It plans by the machine's policy, and is of the
+    /// generation that is active or attaches. While an agent is active, it takes that one's CPU for its own.
     pub fn role(&self) -> Option<&Role<P>>
         ensures agent { option_map (λ (r : Bor (RoleOf P)). agent_of r.now) result ≡ self.now.agent }
         ensures policy { IfSome result (λ r. r.now.policy ≡ self.now.policy) }
         ensures generation { IfSome result (λ r. (a : ℕ × ℕ) → active self.now.history ≡ Some a → r.now.generation ≡ a.0) }
+        ensures attaching { IfSome result (λ r. (g : ℕ) → attaching self.now.history ≡ Some g → r.now.generation ≡ g) }
         ensures cpu { IfSome result (λ r. (a : ℕ × ℕ) → active self.now.history ≡ Some a → r.now.mind.cpus.agent ≡ Some a.1) }
     {
         self.role.as_ref()
@@ -366,11 +367,12 @@ impl<P: Counted + Copy> Machine<P> {
     }
 
     /// Lets one event happen, and returns the reply. It is refused by the first refusal that applies, and
-    /// changes nothing then.
+    /// changes nothing then. No drain stops for a gap.
     pub fn step(&mut self, event: &Event<P>) -> Reply
         ensures step { Step (planning P.chosen self.old) (planned P.chosen event.now) result (planning P.chosen self.new) }
         ensures safe { Safe (planning P.chosen self.new) }
         ensures faithful { IsFaithful (planning P.chosen self.new) }
+        ensures no_gap { (max : ℕ) → event.now ≡ Event.Drain max → StopsForNoGap result }
         ensures policy { self.new.policy ≡ policy_after event.now result self.old.policy }
     {
         // A look at a field, by which the proof has what the machine keeps.

@@ -1,4 +1,4 @@
-use Rattle.std.proofs.Common.{◌≡◌, ◌==◌, ◌∷◌, [], ◌++◌, Some, true, false, ap, sym, subst, ◌∙◌, arith, replicate}
+use Rattle.std.proofs.Common.{◌≡◌, ◌==◌, ◌+◌, ◌∷◌, [], ◌++◌, ℕ, Option, Some, unwrap_or, true, false, ap, sym, subst, ◌∙◌, arith, replicate}
 use Rattle.std.proofs.lemmas.Bool.Decides.{nat_tests}
 use Rattle.gs_slots.specs.declared.state.SlotState.TheVariants.{Idle}
 use Rattle.gs_journal.specs.declared.entry.Entry.{Entry}
@@ -46,7 +46,8 @@ invariant_of-self g c =
     record {
       kept = subst Kept left (kept_begun m (next_generation m.history) (g.P.Policy.chosen c.args.policy) i.kept);
       told = e.frame.told;
-      suits = suits_begun c.args.policy m.history k.history (next_generation m.history) k.paged c.in_ok-role.role history none (ap (λ (r : RoleOf _). r.policy) c.in_ok-role.ensures) (ap (λ (r : RoleOf _). r.next) c.in_ok-role.ensures);
+      suits = suits_begun c.args.policy m.history k.history (next_generation m.history) k.paged c.in_ok-role.role history none (ap (λ (r : RoleOf _). r.policy) c.in_ok-role.ensures)
+          (ap (λ (r : RoleOf _). r.generation) c.in_ok-role.ensures ∙ ap (λ (o : Option ℕ). unwrap_or o 0 + 1) c.generation-generation.ensures) (ap (λ (r : RoleOf _). r.next) c.in_ok-role.ensures);
     }
 
 pub returns-in-Done-clause-begun : goal.returns-in-Done-clause-begun
