@@ -1,7 +1,9 @@
 //! The events: a thread is told its mask anew.
 
-use gs_kernel::{Command, ThreadEvent};
+use gs_kernel::{Command, LEAST_GENERATION, MOST_HISTORY, ThreadEvent};
 use gs_layout::{Class, Facts, Name};
+use gs_policy::FirstCome;
+use gs_replies::Config;
 use gs_runner::MOST_PARCELS;
 use gs_status::Mask;
 
@@ -19,6 +21,19 @@ fn others() -> Mask {
     Mask::new(14)
 }
 
+/// What an enclave is opened with. Only the machine has the ring of bytes, the largest one: between threads there are
+/// parcels.
+pub(crate) fn config() -> Config<FirstCome> {
+    Config {
+        cpus: CPUS,
+        ring: 1_048_576,
+        first_tseq: 0,
+        first_generation: LEAST_GENERATION,
+        history: MOST_HISTORY,
+        policy: FirstCome,
+    }
+}
+
 /// A thread is created.
 pub(crate) fn creation() -> Command {
     Command::Create {
@@ -31,12 +46,17 @@ pub(crate) fn creation() -> Command {
     }
 }
 
-/// The event of a turn: one of the threads is told its mask anew.
-pub(crate) fn event(turn: u32) -> Command {
+/// A thread is told its mask anew.
+pub(crate) fn told(tid: u32) -> Command {
     Command::Thread {
-        tid: turn.wrapping_mul(STRIDE) % THREADS + 1,
+        tid,
         event: ThreadEvent::Affinity { mask: others() },
     }
+}
+
+/// The event of a turn: one of the threads is told its mask anew.
+pub(crate) fn event(turn: u32) -> Command {
+    told(turn.wrapping_mul(STRIDE) % THREADS + 1)
 }
 
 /// How many parcels there have to be for the messages of all creations and of so many events of so many callers, none of

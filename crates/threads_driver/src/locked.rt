@@ -6,10 +6,8 @@ ghost use Rattle.gs_link.specs.Between.{IsPairOf, room};
 
 use crate::callers::call_all;
 use crate::calls::{create_all, read_all, serve_all};
-use crate::events::{CPUS, parcels};
-use gs_kernel::{LEAST_GENERATION, MOST_HISTORY};
+use crate::events::{config, parcels};
 use gs_policy::FirstCome;
-use gs_replies::Config;
 use gs_runner::{Parts, Pass, Site, Station};
 use std::alloc::Global;
 use std::marker::Brand;
@@ -91,16 +89,7 @@ pub(crate) fn run_locked<R: Threads + Wait + Sync>(
     alloc: Global,
     course: Course,
 ) -> Option<u64> {
-    let config = Config {
-        cpus: CPUS,
-        // The bytes of a ring in one thread. Between threads it has parcels.
-        ring: 128,
-        first_tseq: 0,
-        first_generation: LEAST_GENERATION,
-        history: MOST_HISTORY,
-        policy: FirstCome,
-    };
-    match Parts::make(alloc, config, course.parcels()?) {
+    match Parts::make(alloc, config(), course.parcels()?) {
         Ok(parts) => run_named::<Brand, R>(rt, alloc, parts, course),
         Err(_) => None,
     }

@@ -8,8 +8,14 @@
 //! | `serve N` | has a locked enclave serve N events, with nobody else at the lock |
 //! | `read N` | reads the board N times |
 //! | `threads T N` | has a locked enclave serve N events of each of T callers, in threads of their own |
+//! | `machine N` | lets N events happen in the machine, in one thread, and drains them in batches |
+//! | `run L N` | runs L lists of N events each in threads of their own, beside a shift that drains in batches |
+//! | `clock-machine N`, `clock-run L N` | do the same, and tell how many nanoseconds that took, without making the lists |
+//! | `lists L N` | makes the lists alone |
+//! | `watch L N` | runs L lists of N events each beside a shift that lands, turn by turn, and writes how each turn stood |
 //!
-//! For each command a number is written: how many events were done, or how many reads showed the first agent.
+//! For each command a number is written last: how many events were done or made, how many reads showed the first agent, how
+//! many turns landed, or how many nanoseconds it took.
 #![tactic(auto)]
 
 ghost use Rattle.std.specs.Prelude.{◌<◌, IfSome, length};
@@ -17,13 +23,27 @@ ghost use Rattle.std.specs.Prelude.{◌<◌, IfSome, length};
 mod alone;
 mod callers;
 mod calls;
+mod count;
 mod events;
+mod lists;
 mod locked;
+mod one_thread;
+mod paced;
+mod running;
+mod timed;
+mod waiting;
+mod watched;
 
 use crate::alone::run_alone;
+use crate::lists::{Size, count_lists};
 use crate::locked::{Course, run_locked};
+use crate::one_thread::run_machine;
+use crate::running::run_lists;
+use crate::timed::Told;
+use crate::waiting::watch_lists;
 use std::alloc::Global;
 use std::process::ExitCode;
+use std::rt::Clock;
 use std::sync::Wait;
 use std::thread::Threads;
 
@@ -43,6 +63,14 @@ enum Asked {
     Kernel { calls: u32 },
     /// A course of a locked enclave.
     Locked { course: Course },
+    /// So many events of the machine.
+    Machine { calls: u32, told: Told },
+    /// Lists of this size are made.
+    Lists { size: Size },
+    /// Lists of this size are run.
+    Run { size: Size, told: Told },
+    /// Lists of this size are run beside a shift that lands.
+    Watch { size: Size },
 }
 
 impl Asked {
@@ -56,15 +84,54 @@ impl Asked {
             "read" => Some(Asked::Locked {
                 course: Course::Read { reads: number },
             }),
+            "machine" => Some(Asked::Machine {
+                calls: number,
+                told: Told::Done,
+            }),
+            "clock-machine" => Some(Asked::Machine {
+                calls: number,
+                told: Told::Nanoseconds,
+            }),
+            _ => None,
+        }
+    }
+
+    /// Returns what is asked for with two numbers.
+    fn sized(kind: &str, number: u32, calls: u32) -> Option<Asked> {
+        let size = Size {
+            lists: number,
+            calls,
+        };
+        match kind {
+            "threads" => Some(Asked::Locked {
+                course: Course::Threads {
+                    callers: number,
+                    calls,
+                },
+            }),
+            "lists" => Some(Asked::Lists { size }),
+            "run" => Some(Asked::Run {
+                size,
+                told: Told::Done,
+            }),
+            "clock-run" => Some(Asked::Run {
+                size,
+                told: Told::Nanoseconds,
+            }),
+            "watch" => Some(Asked::Watch { size }),
             _ => None,
         }
     }
 
     /// Does what is asked for, and returns how much came of it.
-    fn run<R: Threads + Wait + Sync>(self, rt: &R, alloc: Global) -> Option<u64> {
+    fn run<R: Threads + Wait + Clock + Print + Sync>(self, rt: &R, alloc: Global) -> Option<u64> {
         match self {
             Asked::Kernel { calls } => run_alone(alloc, calls),
             Asked::Locked { course } => run_locked(rt, alloc, course),
+            Asked::Machine { calls, told } => run_machine(rt, alloc, calls)?.number(told),
+            Asked::Lists { size } => count_lists(alloc, size),
+            Asked::Run { size, told } => run_lists(rt, alloc, size)?.number(told),
+            Asked::Watch { size } => watch_lists(rt, alloc, size),
         }
     }
 }
@@ -75,19 +142,16 @@ fn first_asked<'a>(kind: &str, words: &'a [String]) -> Option<(Asked, &'a [Strin
 {
     let (first, rest) = words.split_first()?;
     let first = first.parse::<u32>().ok()?;
-    if kind != "threads" {
-        return Some((Asked::alone(kind, first)?, rest));
+    if let Some(asked) = Asked::alone(kind, first) {
+        return Some((asked, rest));
     }
     let (calls, rest) = rest.split_first()?;
-    let course = Course::Threads {
-        callers: first,
-        calls: calls.parse::<u32>().ok()?,
-    };
-    Some((Asked::Locked { course }, rest))
+    let calls = calls.parse::<u32>().ok()?;
+    Some((Asked::sized(kind, first, calls)?, rest))
 }
 
 /// Runs what all words ask for, in order.
-fn run_all<R: Threads + Wait + Sync + Print>(
+fn run_all<R: Threads + Wait + Clock + Sync + Print>(
     rt: &R,
     alloc: Global,
     words: &[String],
