@@ -10,7 +10,7 @@ pub const MOST_THREADS: u32 = 65_536;
 pub const NO_CPU: u8 = 255;
 
 /// The name of a thread: at most 16 bytes, zeros behind them.
-#[derive(Clone, Copy, Default)]
+#[derive(Clone, Copy, Default, PartialEq, Eq)]
 pub struct Name {
     pub bytes: [u8; 16],
     pub length: u8,
@@ -26,7 +26,7 @@ impl Name {
 }
 
 /// What is known of a thread beside its number.
-#[derive(Clone, Copy, Default)]
+#[derive(Clone, Copy, Default, PartialEq, Eq)]
 pub struct Facts {
     pub mask: Mask,
     pub name: Name,

@@ -2,7 +2,7 @@
 
 use crate::mask::Mask;
 
-#[derive(Clone, Copy)]
+#[derive(Clone, Copy, PartialEq, Eq)]
 pub enum Entry {
     Created {
         tid: u32,

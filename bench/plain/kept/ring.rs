@@ -62,6 +62,15 @@ pub trait Post {
     }
 }
 
+/// The end of a ring that an agent takes from.
+pub trait Take {
+    /// The message that is taken next, and the words of the pad before it.
+    fn front(&mut self) -> Option<(Message<'_>, usize)>;
+
+    /// Passes over the message that is taken next, of so many words, and over so many of a pad before it.
+    fn advance(&mut self, pad: usize, words: usize);
+}
+
 impl Post for Ring {
     /// Writes a message, and a pad before it if that is wanted.
     #[inline(always)]
@@ -100,33 +109,17 @@ impl Ring {
         self.write = 0;
     }
 
-    /// The message that is read next, and the words of the pad before it.
-    #[inline(always)]
-    pub fn front(&self) -> Option<(Message<'_>, usize)> {
-        self.at(self.read, self.used)
-    }
-
-    /// Passes over the message that is read next, of so many words, and over so many of a pad before it.
-    #[inline(always)]
-    pub fn advance(&mut self, pad: usize, words: usize) {
-        self.used -= pad + words;
-        self.read = if pad > 0 { words } else { self.read + words };
-        if self.read == self.block.len() {
-            self.read = 0;
-        }
-    }
-
     /// The message at a place of the block, before which there may be a pad, and the words of that.
     #[inline(always)]
     fn at(&self, place: usize, left: usize) -> Option<(Message<'_>, usize)> {
         if left == 0 {
             return None;
         }
-        let message = Message { bytes: &self.block[place..] };
+        let message = Message::over(&self.block[place..]);
         if message.kind() != PAD {
             return Some((message, 0));
         }
-        Some((Message { bytes: &self.block }, self.block.len() - place))
+        Some((Message::over(&self.block), self.block.len() - place))
     }
 
     /// The messages that wait, in order.
@@ -142,10 +135,34 @@ impl Ring {
     }
 }
 
+impl Take for Ring {
+    #[inline(always)]
+    fn front(&mut self) -> Option<(Message<'_>, usize)> {
+        self.at(self.read, self.used)
+    }
+
+    #[inline(always)]
+    fn advance(&mut self, pad: usize, words: usize) {
+        self.used -= pad + words;
+        self.read = if pad > 0 { words } else { self.read + words };
+        if self.read == self.block.len() {
+            self.read = 0;
+        }
+    }
+}
+
 /// A message where it lies in the ring.
 #[derive(Clone, Copy)]
 pub struct Message<'a> {
     bytes: &'a [u64],
+}
+
+impl<'a> Message<'a> {
+    /// The message of these words, and of others behind it.
+    #[inline(always)]
+    pub fn over(bytes: &'a [u64]) -> Message<'a> {
+        Message { bytes }
+    }
 }
 
 impl Message<'_> {

@@ -4,7 +4,7 @@ use crate::bits::Bits;
 use crate::dump::{self, Told};
 use crate::event::{Choice, Facts, Outcome, Policy, Refusal, MOST_CPUS, NO_CPU};
 use crate::mask::Mask;
-use crate::ring::{self, Message, Ring};
+use crate::ring::{self, Message, Take};
 use crate::slots::{Flags, Region, Stamp};
 
 const MOST_TICKS: u16 = u16::MAX;
@@ -185,7 +185,7 @@ impl Role {
     }
 
     /// Takes in at most so many messages.
-    pub fn drain(&mut self, ring: &mut Ring, max: u32) -> Drained {
+    pub fn drain<R: Take>(&mut self, ring: &mut R, max: u32) -> Drained {
         let mut drained = Drained::default();
         while drained.count < max {
             let Some((message, pad)) = ring.front() else {

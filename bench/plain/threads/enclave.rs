@@ -6,10 +6,11 @@ use crate::journal::Entry;
 use crate::kernel::Kernel;
 use crate::mask::Mask;
 use crate::parcels::Poster;
+use crate::ring::Post;
 
 /// What the kernel is told. Only some are called here.
 #[allow(dead_code)]
-#[derive(Clone, Copy)]
+#[derive(Clone, Copy, PartialEq, Eq)]
 pub enum Command {
     Create { facts: Facts },
     Block { tid: u32 },
@@ -28,7 +29,7 @@ pub enum Command {
 
 /// Tells the kernel a command.
 #[inline(always)]
-pub fn obey(kernel: &mut Kernel<Poster>, command: &Command) -> Result<(), Refusal> {
+pub fn obey<R: Post>(kernel: &mut Kernel<R>, command: &Command) -> Result<(), Refusal> {
     match *command {
         Command::Create { facts } => kernel.create(facts).map(|_| ()),
         Command::Block { tid } => kernel.block(tid).map(|_| ()),
@@ -46,8 +47,7 @@ pub fn obey(kernel: &mut Kernel<Poster>, command: &Command) -> Result<(), Refusa
     }
 }
 
-#[allow(dead_code)]
-#[derive(Clone, Copy)]
+#[derive(Clone, Copy, PartialEq, Eq)]
 pub enum Reply {
     Refused(Refusal),
     Torn,
@@ -55,15 +55,20 @@ pub enum Reply {
 }
 
 /// A call that was accepted: at which length of the journal, and how many entries it added.
-#[allow(dead_code)]
-struct Call {
+pub struct Call {
     command: Command,
     at: u32,
     entries: u32,
     reply: Reply,
 }
 
-#[allow(dead_code)]
+impl Call {
+    /// Whether a command got this receipt by this call.
+    fn has(&self, command: &Command, receipt: &Receipt) -> bool {
+        self.command == *command && self.entries == receipt.entries && self.reply == receipt.reply
+    }
+}
+
 pub struct Receipt {
     pub at: u32,
     pub entries: u32,
@@ -81,6 +86,11 @@ impl Enclave {
     pub fn new(kernel: Kernel<Poster>) -> (Enclave, Board) {
         let shown = Words::of(&kernel);
         (Enclave { kernel, calls: Vec::new(), shown }, Board::new(shown))
+    }
+
+    /// The kernel, and the calls.
+    pub fn parts(&self) -> (&Kernel<Poster>, &[Call]) {
+        (&self.kernel, &self.calls)
     }
 
     fn entries(&self) -> u32 {
@@ -102,4 +112,18 @@ impl Enclave {
         self.shown = now;
         Receipt { at, entries, reply }
     }
+}
+
+/// Whether there is a receipt for each command, in order, whose places in the journal never fall, and each that was not refused
+/// stands in the calls.
+pub fn are_answered(calls: &[Call], commands: &[Command], receipts: &[Receipt]) -> bool {
+    let (mut calls, mut from) = (calls, 0);
+    commands.len() == receipts.len()
+        && commands.iter().zip(receipts).all(|(command, receipt)| {
+            let in_order = from <= receipt.at;
+            from = receipt.at;
+            calls = &calls[calls.iter().take_while(|call| call.at < receipt.at).count()..];
+            let mut here = calls.iter().take_while(|call| call.at == receipt.at);
+            in_order && (matches!(receipt.reply, Reply::Refused(_)) || here.any(|call| call.has(command, receipt)))
+        })
 }

@@ -7,12 +7,19 @@
 //!     serve N      has a locked enclave serve N events, with nobody else at the lock
 //!     read N       reads the board N times
 //!     threads T N  has a locked enclave serve N events of each of T callers, in threads of their own
+//!     machine N    lets N events happen in one thread, and drains them in batches
+//!     run L N      runs L lists of N events each in threads of their own, beside a shift that drains in batches
+//!     clock-machine N, clock-run L N   do the same, and tell how many nanoseconds that took, without making the lists
+//!     lists L N    makes the lists alone
 //!
-//! For each command it writes how many events were done, or how many reads showed the first agent.
+//! For each command it writes how many events were done or made, how many reads showed the first agent, or how many nanoseconds it
+//! took.
 
 mod board;
 mod enclave;
+mod lists;
 mod parcels;
+mod runs;
 
 #[allow(dead_code)]
 #[path = "../kept/bits.rs"]
@@ -36,6 +43,9 @@ mod mask;
 #[path = "../kept/ring.rs"]
 mod ring;
 #[allow(dead_code)]
+#[path = "../kept/role.rs"]
+mod role;
+#[allow(dead_code)]
 #[path = "../kept/slots.rs"]
 mod slots;
 #[allow(dead_code)]
@@ -44,51 +54,32 @@ mod threads;
 
 use board::Board;
 use enclave::{obey, Command, Enclave, Reply};
-use event::{Facts, Name};
-use kernel::{Kernel, Settings};
-use mask::Mask;
+use kernel::Kernel;
+use lists::{creation, event, GENERATION, THREADS};
 use parcels::{ring, Poster, Taker};
 use std::process::ExitCode;
 use std::sync::Mutex;
 use std::thread;
+use std::time::Duration;
 
-/// As crates/threads_driver has them.
-const CPUS: u16 = 4;
-const THREADS: u32 = 64;
-const STRIDE: u32 = 2_654_435_761;
-const MOST_PARCELS: u32 = 1_048_576;
-const HISTORY: u32 = 16_777_216;
-const GENERATION: u32 = 1;
+/// The most parcels of a ring, as crates/threads_driver has it.
+const MOST_PARCELS: usize = 1_048_576;
 
-fn others() -> Mask {
-    Mask::first(CPUS).without(0)
+/// How many parcels a ring has that has room for the messages of all creations and of so many events of so many callers.
+fn parcels(callers: u32, calls: u32) -> Option<usize> {
+    let parcels = (callers as usize * calls as usize + THREADS as usize).next_power_of_two();
+    (parcels <= MOST_PARCELS).then_some(parcels)
 }
 
-fn creation() -> Command {
-    let name = Name::front(b"a               ", 1);
-    Command::Create { facts: Facts { mask: others(), name, class: 0, runnable: true } }
-}
-
-fn event(turn: u32) -> Command {
-    Command::Affinity { tid: turn.wrapping_mul(STRIDE) % THREADS + 1, mask: others() }
-}
-
-/// A kernel with its threads, of whose creations the other end of its ring has been told. The ring has room for the messages
-/// of so many events of so many callers.
+/// A kernel with its threads, and the other end of its ring, which has room for the messages of so many events of so many
+/// callers.
 fn open(callers: u32, calls: u32) -> Option<(Kernel<Poster>, Taker)> {
-    let parcels = callers.checked_mul(calls)?.max(THREADS).checked_next_power_of_two()?;
-    if parcels > MOST_PARCELS {
-        return None;
-    }
-    // The ring of bytes that a kernel may have has no use here.
-    let settings = Settings { cpus: CPUS, ring: 0, first_tseq: 0, first_generation: GENERATION, history: HISTORY };
-    let (poster, mut taker) = ring(parcels as usize);
-    let mut kernel = Kernel::over(&settings, poster);
+    let (poster, taker) = ring(parcels(callers, calls)?);
+    let mut kernel = Kernel::over(&lists::settings(0), poster);
     for _ in 0..THREADS {
         let _ = obey(&mut kernel, &creation());
     }
-    let told = (0..THREADS).all(|_| taker.take().is_some()) && taker.take().is_none();
-    told.then_some((kernel, taker))
+    Some((kernel, taker))
 }
 
 /// A kernel by itself: how many events it did.
@@ -148,7 +139,26 @@ fn run<'a>(words: &'a [&'a str]) -> Option<(u64, &'a [&'a str])> {
             let (callers, calls) = (callers.parse().ok()?, calls.parse().ok()?);
             Some((Station::open(callers, calls)?.call_all(callers, calls)?, rest))
         }
+        [kind @ ("machine" | "clock-machine"), calls, rest @ ..] => {
+            Some((told(kind, runs::machine(calls.parse().ok()?)), rest))
+        }
+        ["lists", count, calls, rest @ ..] => {
+            let lists = lists::make(count.parse().ok()?, calls.parse().ok()?);
+            Some((lists.iter().map(Vec::len).sum::<usize>() as u64 - u64::from(THREADS), rest))
+        }
+        [kind @ ("run" | "clock-run"), count, calls, rest @ ..] => {
+            Some((told(kind, runs::run(count.parse().ok()?, calls.parse().ok()?)?), rest))
+        }
         _ => None,
+    }
+}
+
+/// What is told of so many events that took so long.
+fn told(kind: &str, (done, took): (u64, Duration)) -> u64 {
+    if kind.starts_with("clock") {
+        took.as_nanos() as u64
+    } else {
+        done
     }
 }
 

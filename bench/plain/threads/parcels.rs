@@ -1,7 +1,7 @@
 //! The ring between two threads: an end that a kernel posts to, and one that an agent takes from. Each message has a parcel
 //! of its own.
 
-use crate::ring::{Full, Post};
+use crate::ring::{Full, Message, Post, Take};
 use std::cell::UnsafeCell;
 use std::mem::MaybeUninit;
 use std::sync::atomic::{AtomicUsize, Ordering};
@@ -35,10 +35,11 @@ pub struct Poster {
     taken: usize,
 }
 
-/// The agent's end. It knows how many it took.
+/// The agent's end. It knows how many it took, and of how many it found that they were posted.
 pub struct Taker {
     shared: Arc<Shared>,
     taken: usize,
+    posted: usize,
 }
 
 /// A ring of so many parcels, a power of two.
@@ -46,7 +47,7 @@ pub fn ring(parcels: usize) -> (Poster, Taker) {
     assert!(parcels.is_power_of_two());
     let parcels = (0..parcels).map(|_| UnsafeCell::new(MaybeUninit::uninit())).collect();
     let shared = Arc::new(Shared { parcels, posted: AtomicUsize::new(0), taken: AtomicUsize::new(0) });
-    (Poster { shared: shared.clone(), posted: 0, taken: 0 }, Taker { shared, taken: 0 })
+    (Poster { shared: shared.clone(), posted: 0, taken: 0 }, Taker { shared, taken: 0, posted: 0 })
 }
 
 impl Poster {
@@ -76,15 +77,29 @@ impl Post for Poster {
 }
 
 impl Taker {
-    /// The next message, if one waits.
-    pub fn take(&mut self) -> Option<Parcel> {
-        if self.taken == self.shared.posted.load(Ordering::Acquire) {
-            return None;
+    #[inline(always)]
+    fn is_empty(&self) -> bool {
+        self.taken == self.posted
+    }
+}
+
+impl Take for Taker {
+    #[inline(always)]
+    fn front(&mut self) -> Option<(Message<'_>, usize)> {
+        if self.is_empty() {
+            self.posted = self.shared.posted.load(Ordering::Acquire);
+            if self.is_empty() {
+                return None;
+            }
         }
         // SAFETY: the place was written, and is not written again before it is told that this one was taken.
-        let parcel = unsafe { (*self.shared.place(self.taken)).assume_init() };
+        let parcel = unsafe { (*self.shared.place(self.taken)).assume_init_ref() };
+        Some((Message::over(parcel), 0))
+    }
+
+    #[inline(always)]
+    fn advance(&mut self, _pad: usize, _words: usize) {
         self.taken += 1;
         self.shared.taken.store(self.taken, Ordering::Release);
-        Some(parcel)
     }
 }
