@@ -8,7 +8,7 @@ use crate::lists::{Crowd, Size, Work, make_lists};
 use crate::watched::{TURN, Watched};
 use gs_policy::FirstCome;
 use gs_replies::Reply;
-use gs_runner::{Call, Called, Shift, Step};
+use gs_runner::{Call, CallRef, Called, Calls, Shift, Step};
 use gs_slots::{SlotMut, SlotState};
 use gs_status::Mask;
 use std::alloc::{AllocError, Global};
@@ -70,13 +70,21 @@ fn stands(call: &Call) -> Option<Standing> {
     })
 }
 
+/// Returns the call at a place, if it is a commit.
+fn commit_at<'a>(calls: &Calls<'a>, index: usize) -> Option<&'a Call> {
+    match calls.get(index) {
+        Some(CallRef::Other { call }) if matches!(call.called, Called::Committed(_)) => Some(call),
+        _ => None,
+    }
+}
+
 /// Writes a line for each turn that landed: the nanoseconds up to its end, how many messages were posted, and how many were
 /// taken. Returns how many lines there are, `None` if not all can be written.
-fn show<R: Print>(rt: &R, calls: &[Call], ends: &[u64]) -> Option<u64> {
+fn show<R: Print>(rt: &R, calls: &Calls<'_>, ends: &[u64]) -> Option<u64> {
     let mut ends = ends;
     let mut lines: u64 = 0;
-    for call in calls {
-        if let Called::Committed(_) = &call.called {
+    for index in 0..calls.len() {
+        if let Some(call) = commit_at(calls, index) {
             let (end, later) = ends.split_first()?;
             ends = later;
             if let Some(Standing { posted, taken }) = stands(call) {
@@ -105,5 +113,5 @@ pub(crate) fn watch_lists<R: Threads + Wait + Clock + Print + Sync>(
     let work = prepare(alloc, size, turns).ok()?;
     let gate = Watched::new(rt, alloc, size.lists as usize, turns as usize)?;
     let finished = work.run(rt, alloc, &gate)?;
-    show(rt, finished.closed.calls(), gate.into_ends().as_slice())
+    show(rt, &finished.closed.calls(), gate.into_ends().as_slice())
 }
