@@ -1,5 +1,5 @@
-// Loaded by .ci/sweeps into the program that it runs, before libc: reads of standard input, writes to standard output and allocations
-// that fail where the environment says. Each of its words is a number, and what is not there, or is 0, never happens.
+// Loaded into a program by .ci/sweeps and .ci/retries, before libc: reads of standard input, writes to standard output and
+// allocations that fail where the environment says. Each of its words is a number, and what is not there, or is 0, never happens.
 //
 //     FAIL_READ=N         the Nth read fails, once
 //     MOST_READ=N         a read gives at most N bytes
@@ -8,6 +8,8 @@
 //     MOST_WRITTEN=N      a write takes at most N bytes
 //     FAIL_ALLOCATION=N   the Nth allocation fails
 //     FAIL_FROM=N         the Nth allocation fails, and each one after it
+//     IN_TRIES=1          allocations are counted, and fail, only while something is tried: from a write of the line `try` to
+//                         standard error on to the next write there. If one failed by then, no later one does
 //
 // How often each was asked for is counted in a file that is mapped: descriptor 3.
 #include <errno.h>
@@ -29,7 +31,8 @@ struct counts {
     uint64_t reads, written, allocations;
 };
 static struct counts unmapped, *counts = &unmapped;
-static uint64_t fail_read, most_read, endless, fail_write, most_written, fail_allocation, fail_from;
+static uint64_t fail_read, most_read, endless, fail_write, most_written, fail_allocation, fail_from, in_tries;
+static int is_tried;
 
 static uint64_t number(const char *name)
 {
@@ -51,6 +54,7 @@ __attribute__((constructor)) static void begin(void)
     most_written = number("MOST_WRITTEN");
     fail_allocation = number("FAIL_ALLOCATION");
     fail_from = number("FAIL_FROM");
+    in_tries = number("IN_TRIES");
 }
 
 static size_t at_most(size_t length, uint64_t most)
@@ -73,8 +77,18 @@ ssize_t read(int from, void *to, size_t length)
     return (ssize_t)length;
 }
 
+// Hears a line of standard error, which says whether something is tried from now on. What was tried before is at its end.
+static void hear(const void *line, size_t length)
+{
+    if (is_tried && fail_from && counts->allocations >= fail_from)
+        fail_from = 0;
+    is_tried = length == 4 && !memcmp(line, "try\n", length);
+}
+
 ssize_t write(int to, const void *from, size_t length)
 {
+    if (to == STDERR_FILENO)
+        hear(from, length);
     if (to != STDOUT_FILENO)
         return syscall(SYS_write, to, from, length);
     length = at_most(length, most_written);
@@ -100,6 +114,8 @@ ssize_t __write(int to, const void *from, size_t length)
 // Counts an allocation, and returns whether it fails.
 static int fails(void)
 {
+    if (in_tries && !is_tried)
+        return 0;
     uint64_t nth = ++counts->allocations;
     if (nth != fail_allocation && !(fail_from && nth >= fail_from))
         return 0;
