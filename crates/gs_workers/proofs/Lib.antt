@@ -1,0 +1,4 @@
+mod Few
+mod Listing
+mod Names
+mod Running
