@@ -6,9 +6,13 @@ use Rattle.clap.specs.Values.{kind_of}
 use Rattle.clap.specs.Kinds.{IsAmong, Kinds}
 use Rattle.clap.specs.declared.error.Error.{Error}
 use Rattle.clap.specs.declared.error.kind.ErrorKind.TheVariants as kinds
-use Rattle.gs_trace.specs.declared.run.TraceFault.TheVariants.{OutOfMemory}
+use Rattle.gs_trace.specs.declared.run.TraceFault.TheVariants.{OutOfMemory, WriteFailed}
+use Rattle.gs_workers.specs.Written.{WhyUntold}
+use Rattle.gs_workers.specs.declared.fault.WorkFault.TheVariants as works
+use Rattle.ghost_cli.specs.declared.asked.Task.{Task}
+use Rattle.ghost_cli.specs.declared.asked.Task.TheVariants as tasks
 use Rattle.ghost_cli.specs.declared.failure.Failure.{Failure}
-use Rattle.ghost_cli.specs.declared.failure.Failure.TheVariants.{Arguments, NotText, Script}
+use Rattle.ghost_cli.specs.declared.failure.Failure.TheVariants.{Arguments, NotText, Script, Work}
 
 -- reading the arguments failed with this kind of error: out of memory, or they are not text
 abbrev pub IsUnreadBy : ErrorKind → Failure → Type 0
@@ -23,9 +27,30 @@ abbrev pub TellsOneOf : Kinds → Failure → Type 0
 TellsOneOf kinds (Arguments error) = IsAmong (kind_of error) kinds
 TellsOneOf kinds NotText = ⊥
 TellsOneOf kinds (Script fault) = fault ≡ OutOfMemory
+TellsOneOf kinds (Work fault) = ⊥
+
+-- nothing was begun: the words are told what is wrong with them, the help or the version, or out of memory
+abbrev pub IsOfWords : Failure → Type 0
+IsOfWords (Arguments error) = ⊤
+IsOfWords NotText = ⊥
+IsOfWords (Script fault) = fault ≡ OutOfMemory
+IsOfWords (Work fault) = ⊥
 
 -- the arguments are not at fault
-abbrev pub IsOfScript : Failure → Type 0
-IsOfScript (Arguments error) = ⊥
-IsOfScript NotText = ⊥
-IsOfScript (Script fault) = ⊤
+abbrev pub IsOfTask : Failure → Type 0
+IsOfTask (Arguments error) = ⊥
+IsOfTask NotText = ⊥
+IsOfTask (Script fault) = ⊤
+IsOfTask (Work fault) = ⊤
+
+-- a write failed
+abbrev pub IsOfWriting : Failure → Type 0
+IsOfWriting (Script fault) = fault ≡ WriteFailed
+IsOfWriting (Work fault) = fault ≡ works.WriteFailed
+IsOfWriting _ = ⊥
+
+-- what may be said of a task: of workers, that their agent did not settle only if a run of theirs ended so
+abbrev pub SaidOf : Task → Failure → Type 0
+SaidOf (tasks.Script form) (Script fault) = ⊤
+SaidOf (tasks.Workers work shown) (Work fault) = WhyUntold work fault
+SaidOf _ _ = ⊥

@@ -7,8 +7,10 @@ use Rattle.gs_trace.specs.declared.run.Ended.{Ended}
 use Rattle.gs_trace.specs.declared.run.Ended.TheVariants.{Ran, Faulted}
 use Rattle.gs_trace.specs.declared.run.TraceFault.{TraceFault}
 use Rattle.gs_trace.specs.declared.run.TraceFault.TheVariants.{ReadFailed, OutOfMemory, WriteFailed}
+use Rattle.gs_workers.specs.declared.fault.WorkFault.{WorkFault}
+use Rattle.gs_workers.specs.declared.fault.WorkFault.TheVariants as works
 use Rattle.ghost_cli.specs.declared.failure.Failure.{Failure}
-use Rattle.ghost_cli.specs.declared.failure.Failure.TheVariants.{Arguments, NotText, Script}
+use Rattle.ghost_cli.specs.declared.failure.Failure.TheVariants.{Arguments, NotText, Script, Work}
 
 -- 0 if a script ran, 2 if it has a fault
 abbrev pub ended_status : Ended → ℕ
@@ -21,6 +23,12 @@ fault_status ReadFailed = 4
 fault_status OutOfMemory = 5
 fault_status WriteFailed = 4
 
+-- 4 and 5 for the same of workers, and 6 if their run came to another end than it is to
+abbrev pub work_status : WorkFault → ℕ
+work_status works.OutOfMemory = 5
+work_status works.WriteFailed = 4
+work_status _ = 6
+
 -- 3 if the arguments are wrong. If the help or the version was asked for, 0, or 4 if it could not be written
 abbrev pub IsArgumentsStatus : ErrorKind → ℕ → Type 0
 IsArgumentsStatus kind status = (kind ≢ DisplayHelp → kind ≢ DisplayVersion → status ≡ 3) × ((kind ≡ DisplayHelp) ⊎ (kind ≡ DisplayVersion) → (status ≡ 0) ⊎ (status ≡ 4))
@@ -30,6 +38,7 @@ abbrev pub IsFailureStatus : Failure → ℕ → Type 0
 IsFailureStatus (Arguments error) status = IsArgumentsStatus (kind_of error) status
 IsFailureStatus NotText status = status ≡ 3
 IsFailureStatus (Script fault) status = status ≡ fault_status fault
+IsFailureStatus (Work fault) status = status ≡ work_status fault
 
 -- the exit status of what was done
 abbrev pub IsStatus : Result Ended Failure → ℕ → Type 0

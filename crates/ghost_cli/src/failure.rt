@@ -5,6 +5,7 @@ ghost use Rattle.ghost_cli.specs.Failures.{IsToldBy, IsUnreadBy};
 
 use clap::error::ErrorKind;
 use gs_trace::TraceFault;
+use gs_workers::WorkFault;
 use std::io;
 use thiserror::Error;
 
@@ -18,6 +19,8 @@ pub(crate) enum Failure {
     NotText,
     #[error("ghost: {0}\n")]
     Script(TraceFault),
+    #[error("ghost: {0}\n")]
+    Work(WorkFault),
 }
 
 /// Returns why there are no arguments: out of memory, or they are not text.

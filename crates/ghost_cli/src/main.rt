@@ -3,7 +3,7 @@
 
 ghost use Rattle.std.specs.Prelude.{◌≡◌};
 ghost use Rattle.clap.specs.Values.{kind_of};
-ghost use Rattle.ghost_cli.specs.Status.{IsArgumentsStatus, IsFailureStatus, IsStatus, ended_status, fault_status};
+ghost use Rattle.ghost_cli.specs.Status.{IsArgumentsStatus, IsFailureStatus, IsStatus, ended_status, fault_status, work_status};
 
 mod asked;
 mod failure;
@@ -11,6 +11,7 @@ mod failure;
 use asked::ghost_command;
 use failure::Failure;
 use gs_trace::{Ended, TraceFault};
+use gs_workers::WorkFault;
 use std::process::ExitCode;
 
 /// Returns the exit status of a script that ended.
@@ -30,6 +31,17 @@ fn fault_code(fault: TraceFault) -> u8
     match fault {
         TraceFault::OutOfMemory => 5,
         TraceFault::ReadFailed | TraceFault::WriteFailed => 4,
+    }
+}
+
+/// Returns the exit status of workers of whom not all was written.
+fn work_code(fault: WorkFault) -> u8
+    ensures { result ≡ work_status fault }
+{
+    match fault {
+        WorkFault::OutOfMemory => 5,
+        WorkFault::WriteFailed => 4,
+        WorkFault::Astray | WorkFault::Close | WorkFault::Unsettled(_) => 6,
     }
 }
 
@@ -62,6 +74,10 @@ fn report(rt: &HostRuntime, failure: &Failure) -> u8
             let _ = eprint!(rt; "{failure}");
             fault_code(*fault)
         }
+        Failure::Work(fault) => {
+            let _ = eprint!(rt; "{failure}");
+            work_code(*fault)
+        }
     }
 }
 
@@ -77,6 +93,12 @@ fn conclude(rt: &HostRuntime, done: &Result<Ended, Failure>) -> u8
 
 fn main(rt: HostRuntime) -> ExitCode {
     let arguments = std::env::args(&rt);
-    let done = ghost_command(rt.alloc(), arguments, &mut rt.stdin(), &mut rt.stdout());
+    let done = ghost_command(
+        &rt,
+        rt.alloc(),
+        arguments,
+        &mut rt.stdin(),
+        &mut rt.stdout(),
+    );
     ExitCode::from(conclude(&rt, &done))
 }

@@ -1,11 +1,12 @@
 -- What the program's command line takes.
 use Rattle.std.proofs.Common.{◌≡◌, ◌≤◌, ◌⊎◌, inl, inr, is_some, length, drop, ℕ, suc, zero, Bool, List, [], ◌∷◌, ◌++◌, true, false, refl, codes, cond, fold, ◌∙◌, ap, sym, subst, Option, None, Some, arith}
 use Rattle.std.specs.Fmt.{digits}
-use Rattle.std.specs.Prelude.{decimal, ⊤, not, nat_lt, Result, Ok, Err, encode_utf8, ◌&&◌, bytes_eq, find, option_map, option_and_then, slice_get}
+use Rattle.std.specs.Prelude.{decimal, ⊤, not, nat_le, nat_lt, Result, Ok, Err, encode_utf8, ◌&&◌, bytes_eq, find, option_map, option_and_then, slice_get}
 use Rattle.std.specs.List.{list_all}
 use Rattle.std.specs.Str.{chars}
 use Rattle.std.specs.Str.Parse.{ParsesBool, ParsesUnsigned, digits_value, without_leading_plus}
 use Rattle.std.specs.Option.{option_map_or}
+use Rattle.std.proofs.lemmas.Bool.{and_parts}
 use Rattle.std.proofs.lemmas.Bool.Decides.{nat_tests}
 use Rattle.std.proofs.lemmas.Slice.Eq.{bytes_eq-Decides}
 use Rattle.clap.specs.Words.{Row, Rule, Shape, Text, takes, one_of, is_simple, built}
@@ -26,9 +27,9 @@ use Rattle.clap.specs.declared.parser.matches.ValueSource.{ValueSource}
 use Rattle.clap.specs.declared.parser.matches.ValueSource.TheVariants.{CommandLine, DefaultValue}
 use Rattle.clap.proofs.OnLiterals.{clap_on_literals}
 use Rattle.gs_arguments.specs.declared.arguments.Command.{Command}
-use Rattle.gs_arguments.specs.declared.arguments.Command.TheVariants.{Run, Report, Journal, Timeline}
-use Rattle.gs_arguments.specs.declared.arguments.TheConstants.{DEFAULT_LINES}
-use Rattle.gs_arguments.specs.Arguments.{ghost_program, last_rule, command_given, backward, unless_backward, command_in, ShowsAllowed, flag_of, number_of}
+use Rattle.gs_arguments.specs.declared.arguments.Command.TheVariants.{Run, Report, Journal, Timeline, Threads}
+use Rattle.gs_arguments.specs.declared.arguments.TheConstants.{DEFAULT_LINES, LEAST_COUNT, MOST_EACH, MOST_WORKERS}
+use Rattle.gs_arguments.specs.Arguments.{ghost_program, last_rule, command_given, backward, unless_backward, command_in, AsksAllowed, count_of, flag_of, number_of, threads_given}
 
 -- the default as a word of the command line
 pub default_word : codes "10" ≡ decimal DEFAULT_LINES
@@ -265,6 +266,10 @@ abbrev fifth : List Shape → Shape
 fifth (_ ∷ _ ∷ _ ∷ _ ∷ s ∷ _) = s
 fifth _ = (built ghost_program).top
 
+abbrev sixth : List Shape → Shape
+sixth (_ ∷ _ ∷ _ ∷ _ ∷ _ ∷ s ∷ _) = s
+sixth _ = (built ghost_program).top
+
 abbrev second : List Shape → Shape
 second (_ ∷ s ∷ _) = s
 second _ = (built ghost_program).top
@@ -372,36 +377,40 @@ in_range_number text n ok e = by_number (is_unsigned_in 0 18446744073709551615 t
         rw (sym is) (accepted.2, accepted.3)
     by_number false e = absurd cc
 
-report_in_range : (rows : List Row) (command : Command) → Passed rows → option_map Report (option_and_then number_of (one_of (codes "last") rows)) ≡ Some command → ShowsAllowed command
+report_in_range : (rows : List Row) (command : Command) → Passed rows → option_map Report (option_and_then number_of (one_of (codes "last") rows)) ≡ Some command → AsksAllowed command
 report_in_range rows command p e = by_text (one_of (codes "last") rows) refl e
   where
-    by_number : (text : Text) (o : Option ℕ) → passes text ≡ true → number_of text ≡ o → option_map Report o ≡ Some command → ShowsAllowed command
+    by_number : (text : Text) (o : Option ℕ) → passes text ≡ true → number_of text ≡ o → option_map Report o ≡ Some command → AsksAllowed command
     by_number text None ok is e = absurd cc
-    by_number text (Some n) ok is e = let report : Report n ≡ command = cc in subst ShowsAllowed report (in_range_number text n ok is)
+    by_number text (Some n) ok is e = let report : Report n ≡ command = cc in subst AsksAllowed report (in_range_number text n ok is)
 
-    by_text : (o : Option Text) → one_of (codes "last") rows ≡ o → option_map Report (option_and_then number_of o) ≡ Some command → ShowsAllowed command
+    by_text : (o : Option Text) → one_of (codes "last") rows ≡ o → option_map Report (option_and_then number_of o) ≡ Some command → AsksAllowed command
     by_text None is e = absurd cc
     by_text (Some text) is e = by_number text (number_of text) (one_passes rows text p is) refl e
 
 -- a subcommand of the built program, if there is one
 abbrev Sub : Option Shape → Type 0
 Sub None = ⊤
-Sub (Some s) = (s ≡ shape) ⊎ ((s.name ≡ codes "run") ⊎ ((s.name ≡ codes "journal") ⊎ ((s.name ≡ codes "timeline") ⊎ (s.name ≡ codes "help"))))
+Sub (Some s) = (s ≡ shape) ⊎ ((s.name ≡ codes "run") ⊎ ((s.name ≡ codes "journal") ⊎ ((s.name ≡ codes "timeline") ⊎ ((s.name ≡ codes "threads") ⊎ (s.name ≡ codes "help")))))
 
 sub_in : (p : Shape → Bool) → Sub (find p (built ghost_program).subs)
-sub_in p = by_first (p _) (p _) (p _) (p _) (p _)
+sub_in p = by_first (p _) (p _) (p _) (p _) (p _) (p _)
   where
-    by_first : (a b d e f : Bool) → Sub (cond a (Some (first (built ghost_program).subs)) (cond b (Some shape) (cond d (Some (third (built ghost_program).subs)) (cond e (Some (fourth (built ghost_program).subs)) (cond f (Some (fifth (built ghost_program).subs)) None)))))
-    by_first true b d e f = inr (inl refl)
-    by_first false true d e f = inl refl
-    by_first false false true e f = inr (inr (inl refl))
-    by_first false false false true f = inr (inr (inr (inl refl)))
-    by_first false false false false true = inr (inr (inr (inr refl)))
-    by_first false false false false false = tt
+    behind : (d e f g : Bool) → Option Shape
+    behind d e f g = cond d (Some (third (built ghost_program).subs)) (cond e (Some (fourth (built ghost_program).subs)) (cond f (Some (fifth (built ghost_program).subs)) (cond g (Some (sixth (built ghost_program).subs)) None)))
 
-journal_allowed : (o : Option Bool) (command : Command) → option_map Journal o ≡ Some command → ShowsAllowed command
+    by_first : (a b d e f g : Bool) → Sub (cond a (Some (first (built ghost_program).subs)) (cond b (Some shape) (behind d e f g)))
+    by_first true b d e f g = inr (inl refl)
+    by_first false true d e f g = inl refl
+    by_first false false true e f g = inr (inr (inl refl))
+    by_first false false false true f g = inr (inr (inr (inl refl)))
+    by_first false false false false true g = inr (inr (inr (inr (inl refl))))
+    by_first false false false false false true = inr (inr (inr (inr (inr refl))))
+    by_first false false false false false false = tt
+
+journal_allowed : (o : Option Bool) (command : Command) → option_map Journal o ≡ Some command → AsksAllowed command
 journal_allowed None command e = absurd cc
-journal_allowed (Some json) command e = let same : Journal json ≡ command = cc in subst ShowsAllowed same tt
+journal_allowed (Some json) command e = let same : Journal json ≡ command = cc in subst AsksAllowed same tt
 
 not_above : (from to : ℕ) → backward (Timeline from to) ≡ None → from ≤ to
 not_above from to e = by_test (nat_lt to from) refl e
@@ -410,10 +419,48 @@ not_above from to e = by_test (nat_lt to from) refl e
     by_test true is e = absurd cc
     by_test false is e = grind (arith, nat_tests)
 
-timeline_allowed : (from to : ℕ) (command : Command) → Some (Timeline from to) ≡ Some command → backward command ≡ None → ShowsAllowed command
+timeline_allowed : (from to : ℕ) (command : Command) → Some (Timeline from to) ≡ Some command → backward command ≡ None → AsksAllowed command
 timeline_allowed from to command e forward =
     let same : Timeline from to ≡ command = cc in
-    subst ShowsAllowed same (not_above from to (ap backward same ∙ forward))
+    subst AsksAllowed same (not_above from to (ap backward same ∙ forward))
+
+-- a count that is read is one of those that may be
+counted : (most : ℕ) (o : Option Text) (n : ℕ) → option_and_then (count_of most) o ≡ Some n → (LEAST_COUNT ≤ n) × (n ≤ most)
+counted most None n e = absurd cc
+counted most (Some text) n e = by_number (number_of text) e
+  where
+    by_test : (m : ℕ) (b : Bool) → (nat_le LEAST_COUNT m && nat_le m most) ≡ b → cond {A = Option ℕ} b (Some m) None ≡ Some n → (LEAST_COUNT ≤ n) × (n ≤ most)
+    by_test m true is e =
+        let same : m ≡ n = cc in
+        let parts = and_parts (nat_le LEAST_COUNT m) (nat_le m most) is in
+        let least : nat_le LEAST_COUNT m ≡ true = parts.0 in
+        let greatest : nat_le m most ≡ true = parts.1 in
+        subst (λ (x : ℕ). (LEAST_COUNT ≤ x) × (x ≤ most)) same (grind (arith, nat_tests, least), grind (arith, nat_tests, greatest))
+    by_test m false is e = absurd cc
+
+    by_number : (o : Option ℕ) → option_and_then (λ m. cond {A = Option ℕ} (nat_le LEAST_COUNT m && nat_le m most) (Some m) None) o ≡ Some n → (LEAST_COUNT ≤ n) × (n ≤ most)
+    by_number None e = absurd cc
+    by_number (Some m) e = by_test m (nat_le LEAST_COUNT m && nat_le m most) refl e
+
+abbrev journal_in : List Row → Option Bool
+journal_in rows = option_and_then flag_of (one_of (codes "journal") rows)
+
+threads_allowed : (rows : List Row) (command : Command) → threads_given rows ≡ Some command → AsksAllowed command
+threads_allowed rows command e = by_workers (option_and_then (count_of MOST_WORKERS) (one_of (codes "workers") rows)) refl e
+  where
+    by_flag : (w k : ℕ) (o : Option Bool) → option_map (λ journal. Threads w k journal) o ≡ Some command → (LEAST_COUNT ≤ w) × (w ≤ MOST_WORKERS) → (LEAST_COUNT ≤ k) × (k ≤ MOST_EACH) → AsksAllowed command
+    by_flag w k None e p q = absurd cc
+    by_flag w k (Some journal) e p q = let same : Threads w k journal ≡ command = cc in subst AsksAllowed same (p.0, p.1, q.0, q.1)
+
+    by_each : (w : ℕ) (o : Option ℕ) → option_and_then (count_of MOST_EACH) (one_of (codes "each") rows) ≡ o
+        → option_and_then (λ k. option_map (λ journal. Threads w k journal) (journal_in rows)) o ≡ Some command → (LEAST_COUNT ≤ w) × (w ≤ MOST_WORKERS) → AsksAllowed command
+    by_each w None is e p = absurd cc
+    by_each w (Some k) is e p = by_flag w k (journal_in rows) e p (counted MOST_EACH (one_of (codes "each") rows) k is)
+
+    by_workers : (o : Option ℕ) → option_and_then (count_of MOST_WORKERS) (one_of (codes "workers") rows) ≡ o
+        → option_and_then (λ w. option_and_then (λ k. option_map (λ journal. Threads w k journal) (journal_in rows)) (option_and_then (count_of MOST_EACH) (one_of (codes "each") rows))) o ≡ Some command → AsksAllowed command
+    by_workers None is e = absurd cc
+    by_workers (Some w) is e = by_each w (option_and_then (count_of MOST_EACH) (one_of (codes "each") rows)) refl e (counted MOST_WORKERS (one_of (codes "workers") rows) w is)
 
 -- a command that is given, and does not end before it begins
 kept : (o : Option Command) (command : Command) → option_and_then unless_backward o ≡ Some command → (o ≡ Some command) × (backward command ≡ None)
@@ -425,7 +472,7 @@ kept (Some given) command e = by_part (backward given) refl e
     by_part None is e = let same : given ≡ command = cc in (e, ap backward (sym same) ∙ is)
 
 -- words without a fault give a command in its range
-pub no_fault_in_range : (words : List Text) (command : Command) → fault_of ghost_program words ≡ [] → command_in words ≡ Some command → ShowsAllowed command
+pub no_fault_in_range : (words : List Text) (command : Command) → fault_of ghost_program words ≡ [] → command_in words ≡ Some command → AsksAllowed command
 no_fault_in_range words command none is =
     let whole = built ghost_program in
     let given = argument_words ghost_program words in
@@ -434,16 +481,17 @@ no_fault_in_range words command none is =
     by_stop stop (below_empty whole.top (names_of whole) nothing_held given (is_some (entered whole stop)) (entered_fault whole stop) none) met.0 met.1
   where
     by_sub : (rest : List Text) (found : Option Shape) → Sub found → option_map_or (λ s. level_fault s [] nothing_held rest false []) found [] ≡ []
-        → option_and_then command_given (option_map (λ s. rows_at s rest) found) ≡ Some command → backward command ≡ None → ShowsAllowed command
+        → option_and_then command_given (option_map (λ s. rows_at s rest) found) ≡ Some command → backward command ≡ None → AsksAllowed command
     by_sub rest None k none is forward = absurd cc
     by_sub rest (Some s) (inl k) none is forward = report_in_range (rows_after rules [] rest) command (passed_level rest (subst (λ (x : Shape). level_fault x [] nothing_held rest false [] ≡ []) k none))
         (subst (λ (x : Shape). command_given (rows_at x rest) ≡ Some command) k is)
-    by_sub rest (Some s) (inr (inl k)) none is forward = let run : Some Run ≡ Some command = rw k at is in let same : Run ≡ command = cc in subst ShowsAllowed same tt
+    by_sub rest (Some s) (inr (inl k)) none is forward = let run : Some Run ≡ Some command = rw k at is in let same : Run ≡ command = cc in subst AsksAllowed same tt
     by_sub rest (Some s) (inr (inr (inl k))) none is forward = journal_allowed _ command (rw k at is)
     by_sub rest (Some s) (inr (inr (inr (inl k)))) none is forward = timeline_allowed _ _ command (rw k at is) forward
-    by_sub rest (Some s) (inr (inr (inr (inr k)))) none is forward = let none : None ≡ Some command = rw k at is in absurd cc
+    by_sub rest (Some s) (inr (inr (inr (inr (inl k))))) none is forward = threads_allowed (rows_at s rest).1 command (rw k at is)
+    by_sub rest (Some s) (inr (inr (inr (inr (inr k))))) none is forward = let none : None ≡ Some command = rw k at is in absurd cc
 
-    by_stop : (stop : Option (Text × List Text)) → entered_fault (built ghost_program) stop ≡ [] → option_and_then command_given (entered (built ghost_program) stop) ≡ Some command → backward command ≡ None → ShowsAllowed command
+    by_stop : (stop : Option (Text × List Text)) → entered_fault (built ghost_program) stop ≡ [] → option_and_then command_given (entered (built ghost_program) stop) ≡ Some command → backward command ≡ None → AsksAllowed command
     by_stop None none is forward = absurd cc
     by_stop (Some p) none is forward = by_sub p.1 (find (λ s. answers_to p.0 (label_of s)) (built ghost_program).subs) (sub_in (λ s. answers_to p.0 (label_of s))) none is forward
 

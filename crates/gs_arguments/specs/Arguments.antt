@@ -1,13 +1,13 @@
 -- The arguments of the program.
-use Rattle.std.specs.Prelude.{◌≤◌, ⊤, ℕ, List, [], ◌∷◌, Bool, true, false, Option, None, Some, codes, bytes_eq, decimal, if◌then◌else◌, is_some, nat_lt, option_and_then, option_map, unwrap_or}
+use Rattle.std.specs.Prelude.{◌≤◌, ⊤, ℕ, List, [], ◌∷◌, Bool, true, false, Option, None, Some, codes, bytes_eq, decimal, if◌then◌else◌, is_some, nat_le, nat_lt, ◌&&◌, option_and_then, option_map, unwrap_or}
 use Rattle.std.specs.Str.Parse.{digits_value, without_leading_plus}
 use Rattle.clap.specs.ValueTests.{is_unsigned_in}
 use Rattle.clap.specs.Words.{App, Row, Rule, Text, new_app, new_rule, one_of, subcommand_of, with_rule, with_subcommand}
 use Rattle.clap.specs.declared.builder.action.ArgAction.TheVariants.{SetTrue}
 use Rattle.clap.specs.declared.builder.value_parser.ValueParser.TheVariants as vp
 use Rattle.gs_arguments.specs.declared.arguments.Command.{Command}
-use Rattle.gs_arguments.specs.declared.arguments.Command.TheVariants.{Run, Report, Journal, Timeline}
-use Rattle.gs_arguments.specs.declared.arguments.TheConstants.{DEFAULT_LINES, LEAST_LINES, MOST_LINES}
+use Rattle.gs_arguments.specs.declared.arguments.Command.TheVariants.{Run, Report, Journal, Timeline, Threads}
+use Rattle.gs_arguments.specs.declared.arguments.TheConstants.{DEFAULT_LINES, LEAST_COUNT, LEAST_LINES, MOST_EACH, MOST_LINES, MOST_WORKERS}
 
 -- a program without arguments of its own: its version, and the commands, of which one is to be given
 abbrev pub ghost_alone : App
@@ -20,12 +20,12 @@ last_rule = record (new_rule (codes "last")) { long = Some (codes "last"); value
 abbrev pub report_alone : App
 report_alone = with_rule (new_app (codes "report")) last_rule
 
--- the flag `--json`
-abbrev pub json_rule : Rule
-json_rule = record (new_rule (codes "json")) { long = Some (codes "json"); action = Some SetTrue }
+-- a flag
+abbrev pub flag_rule : Text → Rule
+flag_rule name = record (new_rule name) { long = Some name; action = Some SetTrue }
 
 abbrev pub journal_alone : App
-journal_alone = with_rule (new_app (codes "journal")) json_rule
+journal_alone = with_rule (new_app (codes "journal")) (flag_rule (codes "json"))
 
 -- an option that takes the place of an entry
 abbrev pub place_rule : Text → Rule
@@ -34,8 +34,16 @@ place_rule name = record (new_rule name) { long = Some name; value_names = 1; pa
 abbrev pub timeline_alone : App
 timeline_alone = with_rule (with_rule (new_app (codes "timeline")) (place_rule (codes "from"))) (place_rule (codes "to"))
 
+-- an option that has to be given: a count, of which this is the most
+abbrev pub count_rule : Text → ℕ → Rule
+count_rule name most = record (new_rule name) { long = Some name; value_names = 1; required = true; parser = Some (vp.Unsigned LEAST_COUNT most) }
+
+abbrev pub threads_alone : App
+threads_alone = with_rule (with_rule (with_rule (new_app (codes "threads")) (count_rule (codes "workers") MOST_WORKERS)) (count_rule (codes "each") MOST_EACH)) (flag_rule (codes "journal"))
+
 abbrev pub ghost_program : App
-ghost_program = with_subcommand (with_subcommand (with_subcommand (with_subcommand ghost_alone (new_app (codes "run")).top) report_alone.top) journal_alone.top) timeline_alone.top
+ghost_program =
+    with_subcommand (with_subcommand (with_subcommand (with_subcommand (with_subcommand ghost_alone (new_app (codes "run")).top) report_alone.top) journal_alone.top) timeline_alone.top) threads_alone.top
 
 -- the number that a text spells in decimal digits, of those that 64 bits hold
 abbrev pub number_of : Text → Option ℕ
@@ -45,9 +53,22 @@ number_of text = if is_unsigned_in 0 18446744073709551615 text then Some (digits
 abbrev pub flag_of : Text → Option Bool
 flag_of text = if bytes_eq text (codes "true") then Some true else if bytes_eq text (codes "false") then Some false else None
 
+-- the count that a text spells, if it is no more than this
+abbrev pub count_of : ℕ → Text → Option ℕ
+count_of most text = option_and_then (λ n. if nat_le LEAST_COUNT n && nat_le n most then Some n else None) (number_of text)
+
 -- the place that an option is given, or another one if it is not
 abbrev pub place_in : List Row → Text → ℕ → ℕ
 place_in rows name other = unwrap_or (option_and_then number_of (one_of name rows)) other
+
+-- `threads`, with the values that were given to it
+abbrev pub threads_given : List Row → Option Command
+threads_given rows =
+    option_and_then (λ workers.
+    option_and_then (λ each.
+    option_map (λ journal. Threads workers each journal) (option_and_then flag_of (one_of (codes "journal") rows)))
+    (option_and_then (count_of MOST_EACH) (one_of (codes "each") rows)))
+    (option_and_then (count_of MOST_WORKERS) (one_of (codes "workers") rows))
 
 -- the command of a name, with the values that were given to it
 abbrev pub command_given : Text × List Row → Option Command
@@ -56,6 +77,7 @@ command_given given =
     else if bytes_eq given.0 (codes "report") then option_map Report (option_and_then number_of (one_of (codes "last") given.1))
     else if bytes_eq given.0 (codes "journal") then option_map Journal (option_and_then flag_of (one_of (codes "json") given.1))
     else if bytes_eq given.0 (codes "timeline") then Some (Timeline (place_in given.1 (codes "from") 0) (place_in given.1 (codes "to") 18446744073709551615))
+    else if bytes_eq given.0 (codes "threads") then threads_given given.1
     else None
 
 -- the first and the last entry that a picture is to show, if the first is above the last
@@ -75,9 +97,10 @@ command_from given = option_and_then unless_backward (option_and_then command_gi
 abbrev pub command_in : List Text → Option Command
 command_in words = command_from (subcommand_of ghost_program words)
 
--- a report shows as many lines as it may, and a picture does not end before it begins
-abbrev pub ShowsAllowed : Command → Type 0
-ShowsAllowed Run = ⊤
-ShowsAllowed (Journal json) = ⊤
-ShowsAllowed (Timeline from to) = from ≤ to
-ShowsAllowed (Report last) = (LEAST_LINES ≤ last) × (last ≤ MOST_LINES)
+-- a report shows as many lines as it may, a picture does not end before it begins, and there are as many workers and creations as there may be
+abbrev pub AsksAllowed : Command → Type 0
+AsksAllowed Run = ⊤
+AsksAllowed (Journal json) = ⊤
+AsksAllowed (Timeline from to) = from ≤ to
+AsksAllowed (Report last) = (LEAST_LINES ≤ last) × (last ≤ MOST_LINES)
+AsksAllowed (Threads workers each journal) = (LEAST_COUNT ≤ workers) × (workers ≤ MOST_WORKERS) × (LEAST_COUNT ≤ each) × (each ≤ MOST_EACH)

@@ -1,9 +1,9 @@
-ghost use Rattle.std.specs.Prelude.{◌≡◌, ◌≢◌, ℕ, List, false, Some, [], ◌∷◌, map, codes, IfOk, IfErr, MatchResult, option_and_then};
+ghost use Rattle.std.specs.Prelude.{◌≡◌, ◌≢◌, ◌≤◌, ℕ, List, false, Some, [], ◌∷◌, map, codes, IfOk, IfErr, MatchResult, option_and_then};
 ghost use Rattle.clap.specs.Words.{app_of, found_of, new_app, kind_of, one_of, rows_of, rule_of, subcommand_rows_of};
 ghost use Rattle.clap.specs.Kinds.{HasKind, Kinds};
 ghost use Rattle.clap.specs.declared.builder.command.Command.TheViews.{out-Command as fields_of};
 ghost use Rattle.clap.specs.Faults.{fault_of};
-ghost use Rattle.gs_arguments.specs.Arguments.{ShowsAllowed, backward, command_from, command_given, command_in, flag_of, ghost_alone, ghost_program, journal_alone, json_rule, last_rule, number_of, place_rule, report_alone, timeline_alone};
+ghost use Rattle.gs_arguments.specs.Arguments.{AsksAllowed, backward, command_from, command_given, command_in, count_of, count_rule, flag_of, flag_rule, ghost_alone, ghost_program, journal_alone, last_rule, number_of, place_rule, report_alone, threads_alone, timeline_alone};
 ghost use Rattle.gs_arguments.specs.declared.arguments.Command.{Command};
 ghost use Rattle.gs_arguments.specs.declared.arguments.Command.TheVariants.{Journal, Report};
 
@@ -24,7 +24,16 @@ pub const DEFAULT_LINES: usize = 10;
 /// `DEFAULT_LINES` as a word of the command line.
 const DEFAULT_WORD: &str = "10";
 
-/// What the program is to do with the script of standard input.
+/// The fewest workers of `threads`, and the fewest threads that each creates.
+pub const LEAST_COUNT: usize = 1;
+
+/// The most workers of `threads`.
+pub const MOST_WORKERS: usize = 16;
+
+/// The most threads that each worker creates.
+pub const MOST_EACH: usize = 1_000;
+
+/// What the program is to do: with the script of standard input, but for the last.
 #[derive(Clone, Copy, PartialEq, Eq, Debug)]
 pub enum Command {
     /// Run it, and write the lines of its replies to standard output.
@@ -46,6 +55,15 @@ pub enum Command {
         /// That of the last one, not below `from`.
         to: usize,
     },
+    /// Run workers in threads of their own, and write how that ended to standard output.
+    Threads {
+        /// How many workers there are, from [`LEAST_COUNT`] to [`MOST_WORKERS`].
+        workers: usize,
+        /// How many threads each of them creates, from [`LEAST_COUNT`] to [`MOST_EACH`].
+        each: usize,
+        /// The journal of all that happened is written in place of the line.
+        journal: bool,
+    },
 }
 
 /// The option `--last N`: how many of the last lines a report shows.
@@ -61,14 +79,14 @@ fn last_option<'a>(alloc: Global) -> clap::Arg<'a>
         .default_value(DEFAULT_WORD)
 }
 
-/// The flag `--json`: whether the journal is written as JSON Lines.
-fn json_flag<'a>(alloc: Global) -> clap::Arg<'a>
-    ensures rule { rule_of result ≡ json_rule }
+/// A flag.
+fn flag<'a>(alloc: Global, name: &'a str, help: &'a str) -> clap::Arg<'a>
+    ensures rule { rule_of result ≡ flag_rule name.entry.now }
     ensures local { result.global ≡ false }
 {
-    clap::Arg::new(alloc, "json")
-        .long("json")
-        .help("Writes a JSON object for each entry, one a line")
+    clap::Arg::new(alloc, name)
+        .long(name)
+        .help(help)
         .action(ArgAction::SetTrue)
 }
 
@@ -82,6 +100,26 @@ fn place_option<'a>(alloc: Global, name: &'a str, help: &'a str) -> clap::Arg<'a
         .value_name("N")
         .help(help)
         .value_parser(clap::value_parser!(usize))
+}
+
+/// An option of `threads` that has to be given: a count, of which this is the most.
+fn count_option<'a>(
+    alloc: Global,
+    name: &'a str,
+    value: &'a str,
+    help: &'a str,
+    most: usize,
+) -> clap::Arg<'a>
+    requires { most ≤ MOST_EACH }
+    ensures rule { rule_of result ≡ count_rule name.entry.now most }
+    ensures local { result.global ≡ false }
+{
+    clap::Arg::new(alloc, name)
+        .long(name)
+        .value_name(value)
+        .help(help)
+        .required(true)
+        .value_parser(clap::value_parser!(usize).range(LEAST_COUNT as i64..=most as i64))
 }
 
 /// The command `run`.
@@ -115,7 +153,11 @@ fn journal_command<'a>(alloc: Global) -> Result<clap::Command<'a>, AllocError>
         .about(
             "Runs the script of standard input and writes the journal of all that happened to standard output",
         )
-        .arg(json_flag(alloc))
+        .arg(flag(
+            alloc,
+            "json",
+            "Writes a JSON object for each entry, one a line",
+        ))
 }
 
 /// The command `timeline`.
@@ -135,6 +177,39 @@ fn timeline_command<'a>(alloc: Global) -> Result<clap::Command<'a>, AllocError>
         )
         .arg(first)?
         .arg(last)
+}
+
+/// The command `threads`.
+fn threads_command<'a>(alloc: Global) -> Result<clap::Command<'a>, AllocError>
+    ensures shape { IfOk result (λ command. app_of command ≡ threads_alone) }
+    ensures local { IfOk result (λ command. (fields_of command).has_globals ≡ false) }
+{
+    let workers = count_option(
+        alloc,
+        "workers",
+        "W",
+        "How many workers there are",
+        MOST_WORKERS,
+    );
+    let each = count_option(
+        alloc,
+        "each",
+        "K",
+        "How many threads each of them creates",
+        MOST_EACH,
+    );
+    let journal = flag(
+        alloc,
+        "journal",
+        "Writes the journal of all that happened in place of the line",
+    );
+    clap::Command::new(alloc, "threads")
+        .about(
+            "Runs workers that create threads, and an agent that is handed off, in threads of their own",
+        )
+        .arg(workers)?
+        .arg(each)?
+        .arg(journal)
 }
 
 /// The program's command line.
@@ -161,18 +236,20 @@ fn with_commands<'a>(
     let report = report_command(alloc)?;
     let journal = journal_command(alloc)?;
     let timeline = timeline_command(alloc)?;
+    let threads = threads_command(alloc)?;
     alone
         .subcommand(run)?
         .subcommand(report)?
         .subcommand(journal)?
-        .subcommand(timeline)
+        .subcommand(timeline)?
+        .subcommand(threads)
 }
 
-/// Whether `--json` is given.
-fn json_of(given: &clap::ArgMatches<'_>) -> Option<bool>
-    ensures { result ≡ option_and_then flag_of (one_of (codes "json") (rows_of (found_of given.now))) }
+/// Whether a flag is given.
+fn flag_in(given: &clap::ArgMatches<'_>, name: &str) -> Option<bool>
+    ensures { result ≡ option_and_then flag_of (one_of name.now (rows_of (found_of given.now))) }
 {
-    given.get_one("json")
+    given.get_one(name)
 }
 
 /// The number that an option is given.
@@ -180,6 +257,14 @@ fn number_in(given: &clap::ArgMatches<'_>, name: &str) -> Option<usize>
     ensures { result ≡ option_and_then number_of (one_of name.now (rows_of (found_of given.now))) }
 {
     given.get_one(name)
+}
+
+/// The count that an option is given, if it is no more than this.
+fn count_in(given: &clap::ArgMatches<'_>, name: &str, most: usize) -> Option<usize>
+    ensures { result ≡ option_and_then (count_of most) (one_of name.now (rows_of (found_of given.now))) }
+{
+    let count = number_in(given, name)?;
+    (LEAST_COUNT <= count && count <= most).then_some(count)
 }
 
 /// The command that was given, with the values of its options.
@@ -192,11 +277,16 @@ fn command_given(matches: &clap::ArgMatches<'_>) -> Option<Command>
             last: number_in(given, "last")?,
         }),
         ("journal", given) => Some(Command::Journal {
-            json: json_of(given)?,
+            json: flag_in(given, "json")?,
         }),
         ("timeline", given) => Some(Command::Timeline {
             from: number_in(given, "from").unwrap_or(0),
             to: number_in(given, "to").unwrap_or(usize::MAX),
+        }),
+        ("threads", given) => Some(Command::Threads {
+            workers: count_in(given, "workers", MOST_WORKERS)?,
+            each: count_in(given, "each", MOST_EACH)?,
+            journal: flag_in(given, "journal")?,
         }),
         _ => None,
     }
@@ -251,7 +341,7 @@ fn no_command(
 /// a fault that give a command are refused only if out of memory.
 pub fn settings<'a, S: AsStr>(alloc: Global, words: &'a [S]) -> Result<Command, clap::Error>
     ensures given { IfOk result (λ command. command_in (map S.text words.entry.now) ≡ Some command) }
-    ensures allowed { IfOk result ShowsAllowed }
+    ensures allowed { IfOk result AsksAllowed }
     ensures faultless { IfOk result (λ _. fault_of ghost_program (map S.text words.entry.now) ≡ []) }
     ensures failed { IfErr result (HasKind (ErrorKind.MissingSubcommand ∷ ErrorKind.ValueValidation ∷ fault_of ghost_program (map S.text words.entry.now))) }
     ensures told { fault_of ghost_program (map S.text words.entry.now) ≢ [] → IfErr result (HasKind (fault_of ghost_program (map S.text words.entry.now))) }

@@ -3,4 +3,6 @@
 
 mod arguments;
 
-pub use arguments::{Command, DEFAULT_LINES, LEAST_LINES, MOST_LINES, settings};
+pub use arguments::{
+    Command, DEFAULT_LINES, LEAST_COUNT, LEAST_LINES, MOST_EACH, MOST_LINES, MOST_WORKERS, settings,
+};

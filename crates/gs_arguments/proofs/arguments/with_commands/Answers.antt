@@ -1,7 +1,7 @@
 use Rattle.std.proofs.Common.{◌≡◌, ◌∙◌, ap, ap₂, codes}
 use Rattle.std.proofs.lemmas.Result.{IfOk-weaker}
 use Rattle.clap.specs.Words.{App, app_of, new_app, with_subcommand}
-use Rattle.gs_arguments.specs.Arguments.{ghost_alone, journal_alone, report_alone}
+use Rattle.gs_arguments.specs.Arguments.{ghost_alone, journal_alone, report_alone, timeline_alone}
 use Rattle.gs_arguments.proofs.arguments.with_commands.Goals as goal
 
 abbrev first : App
@@ -13,9 +13,13 @@ second = with_subcommand first report_alone.top
 abbrev third : App
 third = with_subcommand second journal_alone.top
 
+abbrev fourth : App
+fourth = with_subcommand third timeline_alone.top
+
 pub returns : goal.returns
 returns c =
     let first_is : app_of c.in_ok-subcommand.field-0 ≡ first = c.in_ok-subcommand.ensures.shape c.run_command-run.ensures.local ∙ ap₂ with_subcommand c.requires (ap (λ (a : App). a.top) c.run_command-run.ensures.shape) in
     let second_is : app_of c.in_ok-subcommand-2.field-0 ≡ second = c.in_ok-subcommand-2.ensures.shape c.in_ok-report.ensures.local ∙ ap₂ with_subcommand first_is (ap (λ (a : App). a.top) c.in_ok-report.ensures.shape) in
     let third_is : app_of c.in_ok-subcommand-3.field-0 ≡ third = c.in_ok-subcommand-3.ensures.shape c.in_ok-journal.ensures.local ∙ ap₂ with_subcommand second_is (ap (λ (a : App). a.top) c.in_ok-journal.ensures.shape) in
-    IfOk-weaker c.subcommand-4.result _ _ (λ command h. h.shape c.in_ok-timeline.ensures.local ∙ ap₂ with_subcommand third_is (ap (λ (a : App). a.top) c.in_ok-timeline.ensures.shape)) c.subcommand-4.ensures
+    let fourth_is : app_of c.in_ok-subcommand-4.field-0 ≡ fourth = c.in_ok-subcommand-4.ensures.shape c.in_ok-timeline.ensures.local ∙ ap₂ with_subcommand third_is (ap (λ (a : App). a.top) c.in_ok-timeline.ensures.shape) in
+    IfOk-weaker c.subcommand-5.result _ _ (λ command h. h.shape c.in_ok-threads.ensures.local ∙ ap₂ with_subcommand fourth_is (ap (λ (a : App). a.top) c.in_ok-threads.ensures.shape)) c.subcommand-5.ensures
