@@ -7,6 +7,7 @@
 //! | `kernel N` | tells a kernel by itself N events |
 //! | `serve N` | has a locked enclave serve N events, with nobody else at the lock |
 //! | `read N` | reads the board N times |
+//! | `runs N` | runs workers that create threads N times, one after another |
 //! | `threads T N` | has a locked enclave serve N events of each of T callers, in threads of their own |
 //! | `machine N` | lets N events happen in the machine, in one thread, and drains them in batches |
 //! | `run L N` | runs L lists of N events each in threads of their own, beside a shift that drains in batches |
@@ -30,6 +31,7 @@ mod locked;
 mod one_thread;
 mod paced;
 mod running;
+mod runs;
 mod timed;
 mod waiting;
 mod watched;
@@ -39,6 +41,7 @@ use crate::lists::{Size, count_lists};
 use crate::locked::{Course, run_locked};
 use crate::one_thread::run_machine;
 use crate::running::run_lists;
+use crate::runs::run_many;
 use crate::timed::Told;
 use crate::waiting::watch_lists;
 use std::alloc::Global;
@@ -61,6 +64,8 @@ enum Failure {
 enum Asked {
     /// So many events of a kernel by itself.
     Kernel { calls: u32 },
+    /// So many runs of workers.
+    Runs { runs: u32 },
     /// A course of a locked enclave.
     Locked { course: Course },
     /// So many events of the machine.
@@ -78,6 +83,7 @@ impl Asked {
     fn alone(kind: &str, number: u32) -> Option<Asked> {
         match kind {
             "kernel" => Some(Asked::Kernel { calls: number }),
+            "runs" => Some(Asked::Runs { runs: number }),
             "serve" => Some(Asked::Locked {
                 course: Course::Serve { calls: number },
             }),
@@ -127,6 +133,7 @@ impl Asked {
     fn run<R: Threads + Wait + Clock + Print + Sync>(self, rt: &R, alloc: Global) -> Option<u64> {
         match self {
             Asked::Kernel { calls } => run_alone(alloc, calls),
+            Asked::Runs { runs } => run_many(rt, alloc, runs),
             Asked::Locked { course } => run_locked(rt, alloc, course),
             Asked::Machine { calls, told } => run_machine(rt, alloc, calls)?.number(told),
             Asked::Lists { size } => count_lists(alloc, size),
