@@ -32,7 +32,7 @@ is_short f = list_any (λ receipts. list_any (λ r. wants_memory r.reply) receip
 
 -- how many calls were accepted
 abbrev pub calls_in : Finished → ℕ
-calls_in f = length f.closed.calls.items
+calls_in f = length f.closed.calls
 
 -- the line of a run that settled: how many threads the agent knew, and how many calls were accepted
 abbrev pub settled_line : Finished → List ℕ
