@@ -57,6 +57,7 @@ pub(crate) fn short_refusal(kernel: &Kernel<RtrbPoster>, command: &Command) -> R
 
 /// Tells the kernel a command, and returns what became of it. If it was done, the command, but for an activation, follows
 /// from the last entry.
+#[inline(always)]
 pub(crate) fn obey(kernel: &mut Kernel<RtrbPoster>, command: &Told) -> Fate
     ensures told { IsTold kernel.old (Called.Served (Command.Kernel command.now)) (reply_of (answer_by result (last_entry kernel.new.history))) kernel.new }
     ensures follows { result ≡ Fate.Done → is_told_by_entry command.now ≡ true → command_by (last_entry kernel.new.history) ≡ command.now }

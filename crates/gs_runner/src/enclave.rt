@@ -80,6 +80,7 @@ impl<L: Site> Enclave<L> {
 
     /// Serves a command: the kernel's legal step, with the reply that the receipt has. Unless it is refused, the call
     /// stands in the list then, and share and book count it. A refused one changes nothing.
+    #[inline(always)]
     pub fn serve(&mut self, board: &Board<L>, share: &mut Share<L>, command: &Command) -> Receipt
         ensures legal { LegalCall (ThreadRoom L.parcels) self.old.settings self.old.history self.old.given (Called.Served command.now) result.reply self.new.history }
         ensures at { result.at ≡ length self.old.history }
@@ -94,6 +95,7 @@ impl<L: Site> Enclave<L> {
 
     /// Serves a command as [`Enclave::serve`] does. A page is read before it counts as given: out of memory for that
     /// it is refused.
+    #[inline(always)]
     pub(crate) fn serve_to<T: PageReader>(
         &mut self,
         board: &Board<L>,
