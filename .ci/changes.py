@@ -2,11 +2,13 @@
 import collections
 import contextlib
 import dataclasses
+import functools
 import os
 import re
 import subprocess
 import sys
 
+import edits
 import sources
 
 ROOT = sources.ROOT
@@ -91,7 +93,7 @@ class Change:
     def __init__(self, since):
         files = [*sorted(ROOT.glob("crates/*/src/**/*.rt")), *sorted(ROOT.glob("crates/*/specs/**/*.antt"))]
         self.sources = {(path := str(it.relative_to(ROOT))): source(path, it.read_text(encoding="utf-8")) for it in files}
-        self.is_all = since is None
+        self.is_all, self.since = since is None, since
         self.files = set() if self.is_all else {*git("diff", "--name-only", since, "--", "crates").split("\n")} - {""}
         # the functions that changed, by file and name
         self.functions = set()
@@ -99,13 +101,25 @@ class Change:
         self.defined, self.called = collections.defaultdict(set), collections.defaultdict(set)
         for path in sorted(self.files):
             if re.fullmatch(r"crates/\w+/(src/.*\.rt|specs/.*\.antt)", path):
-                self.compare(path, since)
+                self.compare(path)
         self.pass_on()
 
-    def compare(self, path, since):
+    def was(self, path):
+        """Returns the text that a file had."""
+        return subprocess.run(["git", "show", f"{self.since}:{path}"], capture_output=True, cwd=ROOT).stdout.decode(errors="replace")
+
+    @functools.cache
+    def parts_of(self, crate):
+        """Returns the parts that a crate's file wrong-bodies had, by name."""
+        return dict(edits.parts(self.was(f"crates/{crate}/wrong-bodies")))
+
+    def has_changed(self, edit):
+        """Returns whether an edit of wrong-bodies has another text than it had."""
+        return self.parts_of(edit.crate()).get(edit.name) != edit.text
+
+    def compare(self, path):
         """Notes what changed in a file."""
-        was = subprocess.run(["git", "show", f"{since}:{path}"], capture_output=True, cwd=ROOT).stdout.decode(errors="replace")
-        old, new = source(path, was), self.sources.get(path) or source(path, "")
+        old, new = source(path, self.was(path)), self.sources.get(path) or source(path, "")
         self.functions |= {(path, name) for name in differ(old.texts(), new.texts())}
         for table, names in (self.defined, differ(old.definitions, new.definitions)), (self.called, differ(old.contracts(), new.contracts())):
             for name in names:
