@@ -41,7 +41,7 @@ fn work_code(fault: WorkFault) -> u8
     match fault {
         WorkFault::OutOfMemory => 5,
         WorkFault::WriteFailed => 4,
-        WorkFault::Astray | WorkFault::Close | WorkFault::Unsettled(_) => 6,
+        WorkFault::Astray | WorkFault::Unsettled(_) => 6,
     }
 }
 

@@ -34,7 +34,7 @@ possible p n (runs.Start starts.BadParcels) some most few (same, inr many) = abs
 possible p n (runs.Start starts.OutOfMemory) some most few why = refl
 possible p n runs.TooMany some most few (same, least, greatest, many) = absurd (omega (arith, many, few))
 possible p n runs.OutOfMemory some most few why = tt
-possible p n runs.Close some most few why = tt
+possible p n runs.Close some most few (same, least, greatest, never) = absurd never
 possible p n runs.Astray some most few why = tt
 
 pub why_possible : (w : Work) (lists : List (Vec Command)) (shifts : List (Shift FirstCome)) (config : Option ConfigFault) (p n : ℕ) (fault : RunFault) → IsAllowed w

@@ -15,7 +15,7 @@ use Rattle.gs_runner.specs.declared.finished.RunFault.TheVariants as runs
 use Rattle.gs_runner.specs.declared.start.StartFault.TheVariants as starts
 use Rattle.gs_workers.specs.Work.{all_creations, parcels, turns}
 use Rattle.gs_workers.specs.declared.fault.WorkFault.{WorkFault}
-use Rattle.gs_workers.specs.declared.fault.WorkFault.TheVariants.{OutOfMemory, Astray, Close, Unsettled}
+use Rattle.gs_workers.specs.declared.fault.WorkFault.TheVariants.{OutOfMemory, Astray, Unsettled}
 use Rattle.gs_workers.specs.declared.text.Shown.{Shown}
 use Rattle.gs_workers.specs.declared.text.Shown.TheVariants.{Line, Journal}
 use Rattle.gs_workers.specs.declared.work.Work.{Work}
@@ -63,11 +63,12 @@ pub record BeginsText (w : Work) (shown : Shown) (before after : Option (List �
 abbrev pub IsPossible : RunFault → Type 0
 IsPossible (runs.Start fault) = fault ≡ starts.OutOfMemory
 IsPossible runs.TooMany = ⊥
+IsPossible runs.Close = ⊥
 IsPossible _ = ⊤
 
 -- why a run has no end
 abbrev pub HasNoEnd : WorkFault → Type 0
-HasNoEnd fault = (fault ≡ OutOfMemory) ⊎ ((fault ≡ Astray) ⊎ (fault ≡ Close))
+HasNoEnd fault = (fault ≡ OutOfMemory) ⊎ (fault ≡ Astray)
 
 -- why nothing is written of a run of this work: if the agent did not settle, that is what settling said
 abbrev pub WhyUntold : Work → WorkFault → Type 0

@@ -17,9 +17,6 @@ pub enum WorkFault {
     /// The receipts of a worker are not those of its commands. Nothing was written.
     #[error("Astray: the receipts of a worker are not those of its commands")]
     Astray,
-    /// The station could not be closed. Nothing was written.
-    #[error("Close: not all passes came back, so the station could not be closed")]
-    Close,
     /// In the end the agent did not know what the kernel knows. Nothing was written.
     #[error("{}", meaning(*.0))]
     Unsettled(Unsettled),

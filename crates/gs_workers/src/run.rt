@@ -57,8 +57,7 @@ fn fault_of(fault: RunFault) -> WorkFault
     match fault {
         RunFault::Start(StartFault::OutOfMemory) | RunFault::OutOfMemory => WorkFault::OutOfMemory,
         RunFault::Astray => WorkFault::Astray,
-        RunFault::Close => WorkFault::Close,
-        RunFault::Start(_) | RunFault::TooMany => unreachable!(),
+        RunFault::Start(_) | RunFault::TooMany | RunFault::Close => unreachable!(),
     }
 }
 
@@ -143,7 +142,6 @@ fn run_to_text<R: Threads + Wait + Sync>(
 /// The first that applies, and nothing is written but for the last:
 ///
 /// - `OutOfMemory` if memory ran out, or a thread could not be started.
-/// - `Close` if the station cannot be closed.
 /// - `Astray` if the receipts of a worker are not those of its commands.
 /// - `OutOfMemory` if a call was refused because memory ran out.
 /// - `Unsettled` if the agent did not settle.
