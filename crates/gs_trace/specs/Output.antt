@@ -70,8 +70,8 @@ abbrev pub history_shown : Notation → History → List ℕ
 history_shown notations.Lines h = journal_lines h
 history_shown notations.Json h = json_lines h
 
--- which texts show what came of a script: the lines of its replies, a report with so many of the last of these, or the journal. Of a
--- picture nothing is said here
+-- which texts show what came of a script: the lines of its replies, a report with so many of the last of these, or the journal of all
+-- that happened, the last event's entries too, and nothing else. Of a picture nothing is said here
 abbrev pub shown_as : Form → List Reply → ℕ → History → List ℕ → Type 0
 shown_as Lines replies cpus h out = out ≡ lines replies
 shown_as (Report last) replies cpus h out = out ≡ report_of last replies
@@ -85,7 +85,3 @@ IsOutput input ended out = IsShown (shown_as Lines) input ended out
 -- or their report
 abbrev pub IsReport : ℕ → List ℕ → Ended → List ℕ → Type 0
 IsReport last input ended out = IsShown (shown_as (Report last)) input ended out
-
--- or the journal of all that happened, the last event's entries too, and nothing else
-abbrev pub IsJournal : Notation → List ℕ → Ended → List ℕ → Type 0
-IsJournal notation input ended out = IsShown (shown_as (Journal notation)) input ended out

@@ -1,10 +1,10 @@
 ghost use Rattle.std.specs.Prelude.{◌≡◌, ◌≢◌, IfOk, IfErr, IsErrOf, string_bytes};
 ghost use Rattle.std.specs.Io.KnownBytes.{Keeps};
 ghost use Rattle.gs_trace.specs.declared.run.TraceFault.TheVariants.{OutOfMemory};
-ghost use Rattle.gs_trace.specs.Output.{IsJournal, IsOutput, IsReport, IsShown, fault_line, reason_text, shown_as};
+ghost use Rattle.gs_trace.specs.Output.{IsOutput, IsReport, IsShown, fault_line, reason_text, shown_as};
 ghost use Rattle.gs_trace.specs.Streams.{AnswersAll, AnswersRead, BeginsAnswer, ConsumesAtMost};
 
-use crate::form::{Form, Notation, show};
+use crate::form::{Form, show};
 use crate::pipe::{InputError, MOST_READ_BYTES, read_all, write_out};
 use gs_core::{ConfigFault, Machine};
 use gs_script::{Reason, ScriptError, ScriptFault, read_script};
@@ -143,27 +143,6 @@ pub fn run_report<R: Read, W: Write>(
     ensures begun { IsErrOf result TraceFault.WriteFailed → BeginsAnswer (IsReport last) (R.remaining reader.old) (W.contents writer.old) (W.contents writer.new) }
 {
     run_as(alloc, reader, writer, Form::Report { last })
-}
-
-/// Reads and runs a script as [`run_script`] does, and writes the journal of all that happened in place of the
-/// lines, in this notation. As [`run_as`] with [`Form::Journal`].
-///
-/// # Errors
-///
-/// As of [`run_as`].
-pub fn run_journal<R: Read, W: Write>(
-    alloc: Global,
-    reader: &mut R,
-    writer: &mut W,
-    notation: Notation,
-) -> Result<Ended, TraceFault>
-    ensures ended { IfOk result (λ ended. AnswersAll (IsJournal notation) ended (R.remaining reader.old) (W.contents writer.old) (W.contents writer.new)) }
-    ensures read { IfOk result (λ ended. AnswersRead (IsJournal notation) ended (R.remaining reader.old) (R.remaining reader.new) (W.contents writer.old) (W.contents writer.new)) }
-    ensures bounded { ConsumesAtMost MOST_READ_BYTES (R.remaining reader.old) (R.remaining reader.new) }
-    ensures unwritten { IfErr result (λ e. e ≢ TraceFault.WriteFailed → Keeps (W.contents writer.old) (W.contents writer.new)) }
-    ensures begun { IsErrOf result TraceFault.WriteFailed → BeginsAnswer (IsJournal notation) (R.remaining reader.old) (W.contents writer.old) (W.contents writer.new) }
-{
-    run_as(alloc, reader, writer, Form::Journal(notation))
 }
 
 /// Reads a script to its end, or until it is too long, runs it, and writes what came of it in this form. A script's
