@@ -3,13 +3,14 @@ use Rattle.std.proofs.Common.{◌≡◌, refl, ap, sym, ◌∙◌, ℕ, ◌+◌,
 use Rattle.std.specs.Prelude.{not}
 use Rattle.std.proofs.lemmas.Bool.{cases_lt}
 use Rattle.std.proofs.lemmas.List.{get_or_past}
+use Rattle.gs_sets.specs.declared.bits.TheConstants.{WORD}
 use Rattle.gs_status.specs.Masks.{has_none}
 use Rattle.gs_sets.specs.Bits.{is_in, left_of_word, IsFirst, IsNone, IsSummed}
 use Rattle.gs_sets.proofs.BitWords.{empty_word, none_left, left_whole, past_end, same_words}
 
 -- a number whose word is not among those that are not empty is not in
-pub unsummed : (words sums : List ℕ) (n : ℕ) → IsSummed words sums → is_in sums (n / 64) ≡ false → is_in words n ≡ false
-unsummed words sums n summed none = empty_word words n (by_test (has_none (get_or words (n / 64) 0)) (sym (summed.same (n / 64)) ∙ none))
+pub unsummed : (words sums : List ℕ) (n : ℕ) → IsSummed words sums → is_in sums (n / WORD) ≡ false → is_in words n ≡ false
+unsummed words sums n summed none = empty_word words n (by_test (has_none (get_or words (n / WORD) 0)) (sym (summed.same (n / WORD)) ∙ none))
   where
     by_test : (b : Bool) → not b ≡ false → b ≡ true
     by_test true e = refl
@@ -17,51 +18,51 @@ unsummed words sums n summed none = empty_word words n (by_test (has_none (get_o
 
 -- none from a number on, if none is left of its word and no later word has any
 pub none_beyond : (words sums : List ℕ) (from : ℕ) → IsSummed words sums → has_none (left_of_word words from) ≡ true
-    → IsNone (is_in sums) (from / 64 + 1) → IsNone (is_in words) from
-none_beyond words sums from summed left none = λ n ge. by_word n ge (cases_lt (n / 64) (from / 64 + 1))
+    → IsNone (is_in sums) (from / WORD + 1) → IsNone (is_in words) from
+none_beyond words sums from summed left none = λ n ge. by_word n ge (cases_lt (n / WORD) (from / WORD + 1))
   where
     nothing : has_none (left_of_word words from) ≡ true
     nothing = left
 
-    later : IsNone (is_in sums) (from / 64 + 1)
+    later : IsNone (is_in sums) (from / WORD + 1)
     later = none
 
     pair : IsSummed words sums
     pair = summed
 
-    by_word : (n : ℕ) → from ≤ n → (n / 64 < from / 64 + 1) ⊎ (from / 64 + 1 ≤ n / 64) → is_in words n ≡ false
+    by_word : (n : ℕ) → from ≤ n → (n / WORD < from / WORD + 1) ⊎ (from / WORD + 1 ≤ n / WORD) → is_in words n ≡ false
     by_word n ge (inl same) = none_left words from nothing n ge (omega (arith, same, ge))
-    by_word n ge (inr after) = unsummed words sums n pair (later (n / 64) after)
+    by_word n ge (inr after) = unsummed words sums n pair (later (n / WORD) after)
 
 -- the first of the next word that has any
-pub first_beyond : (words sums : List ℕ) (from w n : ℕ) → IsFirst (is_in words) (w * 64) n → IsFirst (is_in sums) (from / 64 + 1) w
+pub first_beyond : (words sums : List ℕ) (from w n : ℕ) → IsFirst (is_in words) (w * WORD) n → IsFirst (is_in sums) (from / WORD + 1) w
     → IsSummed words sums → has_none (left_of_word words from) ≡ true → IsFirst (is_in words) from n
 first_beyond words sums from w n first word summed left =
     record {
       after = omega (arith, first.after, word.after);
       passes = first.passes;
-      none_before = λ k ge lt. by_word k ge lt (cases_lt (k / 64) (from / 64 + 1)) (cases_lt k (w * 64));
+      none_before = λ k ge lt. by_word k ge lt (cases_lt (k / WORD) (from / WORD + 1)) (cases_lt k (w * WORD));
     }
   where
     nothing : has_none (left_of_word words from) ≡ true
     nothing = left
 
-    of_word : IsFirst (is_in words) (w * 64) n
+    of_word : IsFirst (is_in words) (w * WORD) n
     of_word = first
 
-    next : IsFirst (is_in sums) (from / 64 + 1) w
+    next : IsFirst (is_in sums) (from / WORD + 1) w
     next = word
 
     pair : IsSummed words sums
     pair = summed
 
-    by_word : (k : ℕ) → from ≤ k → k < n → (k / 64 < from / 64 + 1) ⊎ (from / 64 + 1 ≤ k / 64) → (k < w * 64) ⊎ (w * 64 ≤ k) → is_in words k ≡ false
+    by_word : (k : ℕ) → from ≤ k → k < n → (k / WORD < from / WORD + 1) ⊎ (from / WORD + 1 ≤ k / WORD) → (k < w * WORD) ⊎ (w * WORD ≤ k) → is_in words k ≡ false
     by_word k ge lt (inl same) _ = none_left words from nothing k ge (omega (arith, same, ge))
-    by_word k ge lt (inr after) (inl before) = unsummed words sums k pair (next.none_before (k / 64) after (omega (arith, before)))
+    by_word k ge lt (inr after) (inl before) = unsummed words sums k pair (next.none_before (k / WORD) after (omega (arith, before)))
     by_word k ge lt _ (inr in_word) = of_word.none_before k in_word lt
 
 -- a word that is not empty has a first number
-pub word_has : (words sums : List ℕ) (w : ℕ) → IsSummed words sums → is_in sums w ≡ true → has_none (left_of_word words (w * 64)) ≡ true → ⊥
+pub word_has : (words sums : List ℕ) (w : ℕ) → IsSummed words sums → is_in sums w ≡ true → has_none (left_of_word words (w * WORD)) ≡ true → ⊥
 word_has words sums w summed there none =
     let empty : has_none (get_or words w 0) ≡ true = sym (ap has_none (left_whole words w)) ∙ none in
     let full : not (has_none (get_or words w 0)) ≡ true = sym (summed.same w) ∙ there in
@@ -88,7 +89,7 @@ summed_sums words sums sums' summed same more =
 
 -- with more words, of which no number is in, and room for their places
 pub summed_words : (words words' sums : List ℕ) → IsSummed words sums → ((w : ℕ) → get_or words' w 0 ≡ get_or words w 0)
-    → length words' ≤ 64 * length sums → 64 * length words' ≤ 2 ^ 32 → IsSummed words' sums
+    → length words' ≤ WORD * length sums → WORD * length words' ≤ 2 ^ 32 → IsSummed words' sums
 summed_words words words' sums summed same room within =
     record {
       same = λ w. summed.same w ∙ ap (λ m. not (has_none m)) (sym (same w));

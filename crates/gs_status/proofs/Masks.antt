@@ -8,6 +8,8 @@ use Rattle.std.proofs.lemmas.Nat.{or_lt, pow_pos, pow-add}
 use Rattle.std.proofs.lemmas.Nat.Bits.{shr_and_one, bit_at-zero, bit_at_above, bit_at_and, bit_at_set_same, bit_at_set_other, bit_at_clear_same, bit_at_clear_other, bit_at-lt, bit_at-trailing_zeros}
 use Rattle.std.proofs.Math.Nat.{div-div-eq-div-mul, div-eq_of_lt, lt-div-mul-add, mod-lt}
 use Rattle.std.proofs.Math.Pow.{pow_mono}
+use Rattle.gs_status.specs.declared.bit_word.TheConstants.{WORD_BITS}
+use Rattle.gs_status.specs.declared.mask.TheConstants.{MOST_CPUS}
 use Rattle.gs_status.specs.Masks.{has, has_none, has_past, least}
 use Rattle.gs_status.proofs.Least.{least_none, least_found}
 
@@ -37,20 +39,20 @@ below_past bits n c small past =
     let p : 2 ^ bits ≤ 2 ^ c = pow_mono past in
     omega (arith, p, small)
 
-pub past_all : (n c : ℕ) → n < 2 ^ 128 → 128 ≤ c → has_past n c ≡ false
+pub past_all : (n c : ℕ) → n < 2 ^ MOST_CPUS → MOST_CPUS ≤ c → has_past n c ≡ false
 past_all n c small past =
-    let lt = below_past 128 n c small past in
+    let lt = below_past MOST_CPUS n c small past in
     grind (arith, nat_tests, lt)
 
 -- a set of so many bits has nothing from there on
 none_past : (bits n c : ℕ) → n < 2 ^ bits → bits ≤ c → has n c ≡ false
 none_past bits n c small past = ap (λ k. bit_and k 1 == 1) (div-eq_of_lt (below_past bits n c small past))
 
-pub none_past_word : (n c : ℕ) → n < 2 ^ 64 → 64 ≤ c → has n c ≡ false
-none_past_word n c small past = none_past 64 n c small past
+pub none_past_word : (n c : ℕ) → n < 2 ^ WORD_BITS → WORD_BITS ≤ c → has n c ≡ false
+none_past_word n c small past = none_past WORD_BITS n c small past
 
-pub has_none_past : (n c : ℕ) → n < 2 ^ 128 → 128 ≤ c → has n c ≡ false
-has_none_past n c small past = none_past 128 n c small past
+pub has_none_past : (n c : ℕ) → n < 2 ^ MOST_CPUS → MOST_CPUS ≤ c → has n c ≡ false
+has_none_past n c small past = none_past MOST_CPUS n c small past
 
 -- a shift moves each bit
 pub has_shifted : (n b c : ℕ) → has (n / 2 ^ b) c ≡ has n (b + c)
@@ -73,43 +75,43 @@ nobody c = has_by_bit 0 c ∙ ap (λ (k : ℕ). k == 1) (bit_at-zero c)
 
 -- a word with one bit more
 abbrev pub with_bit : ℕ → ℕ → ℕ
-with_bit n c = bit_or n (1 * 2 ^ c % 2 ^ 64)
+with_bit n c = bit_or n (1 * 2 ^ c % 2 ^ WORD_BITS)
 
-pub with_fits : (n c : ℕ) → n < 2 ^ 64 → with_bit n c < 2 ^ 64
-with_fits n c fits = or_lt 64 n (1 * 2 ^ c % 2 ^ 64) fits (mod-lt (1 * 2 ^ c) (pow_pos 64))
+pub with_fits : (n c : ℕ) → n < 2 ^ WORD_BITS → with_bit n c < 2 ^ WORD_BITS
+with_fits n c fits = or_lt WORD_BITS n (1 * 2 ^ c % 2 ^ WORD_BITS) fits (mod-lt (1 * 2 ^ c) (pow_pos WORD_BITS))
 
-pub with_here : (n c : ℕ) → c < 64 → has (with_bit n c) c ≡ true
+pub with_here : (n c : ℕ) → c < WORD_BITS → has (with_bit n c) c ≡ true
 with_here n c within = has_by_bit (with_bit n c) c ∙ ap (λ (k : ℕ). k == 1) (bit_at_set_same w64 n c within)
 
-pub with_others : (n c : ℕ) → c < 64 → (i : ℕ) → i ≢ c → has (with_bit n c) i ≡ has n i
+pub with_others : (n c : ℕ) → c < WORD_BITS → (i : ℕ) → i ≢ c → has (with_bit n c) i ≡ has n i
 with_others n c within i other = has_same (with_bit n c) n i (bit_at_set_other w64 n c within i other)
 
 -- a word with one bit cleared
 abbrev pub without_bit : ℕ → ℕ → ℕ
-without_bit n c = bit_and n (bit_not w64 (1 * 2 ^ c % 2 ^ 64))
+without_bit n c = bit_and n (bit_not w64 (1 * 2 ^ c % 2 ^ WORD_BITS))
 
-pub without_here : (n c : ℕ) → c < 64 → has (without_bit n c) c ≡ false
+pub without_here : (n c : ℕ) → c < WORD_BITS → has (without_bit n c) c ≡ false
 without_here n c within = has_by_bit (without_bit n c) c ∙ ap (λ (k : ℕ). k == 1) (bit_at_clear_same w64 n c within)
 
 -- a bit from the 64th on is zero before and after
-pub without_others : (n c : ℕ) → n < 2 ^ 64 → c < 64 → (i : ℕ) → i ≢ c → has (without_bit n c) i ≡ has n i
-without_others n c small within i other = has_same (without_bit n c) n i (by_place (cases_lt i 64))
+pub without_others : (n c : ℕ) → n < 2 ^ WORD_BITS → c < WORD_BITS → (i : ℕ) → i ≢ c → has (without_bit n c) i ≡ has n i
+without_others n c small within i other = has_same (without_bit n c) n i (by_place (cases_lt i WORD_BITS))
   where
-    fits : n < 2 ^ 64
+    fits : n < 2 ^ WORD_BITS
     fits = small
 
-    inside : c < 64
+    inside : c < WORD_BITS
     inside = within
 
     differs : i ≢ c
     differs = other
 
-    by_place : (i < 64) ⊎ (64 ≤ i) → bit_at (without_bit n c) i ≡ bit_at n i
+    by_place : (i < WORD_BITS) ⊎ (WORD_BITS ≤ i) → bit_at (without_bit n c) i ≡ bit_at n i
     by_place (inl below) = bit_at_clear_other w64 n c inside i below differs
     by_place (inr past) =
-        let before : bit_at n i ≡ 0 = bit_at_above n 64 i fits past in
-        let after : bit_at (without_bit n c) i ≡ min (bit_at n i) (bit_at (bit_not w64 (1 * 2 ^ c % 2 ^ 64)) i) =
-        bit_at_and n (bit_not w64 (1 * 2 ^ c % 2 ^ 64)) i in
+        let before : bit_at n i ≡ 0 = bit_at_above n WORD_BITS i fits past in
+        let after : bit_at (without_bit n c) i ≡ min (bit_at n i) (bit_at (bit_not w64 (1 * 2 ^ c % 2 ^ WORD_BITS)) i) =
+        bit_at_and n (bit_not w64 (1 * 2 ^ c % 2 ^ WORD_BITS)) i in
         omega (arith, before, after)
 
 -- both masks have a CPU if its bit is one in both
@@ -129,15 +131,15 @@ has_both n m c =
     ∙ sym (ap (λ (b : Bool). b && has m c) (has_by_bit n c) ∙ ap (λ (b : Bool). (bit_at n c == 1) && b) (has_by_bit m c))))
 
 -- the place of the lowest bit that is one is the least CPU
-pub lowest_has : (n : ℕ) → 0 < n → n < 2 ^ 64 → has n (trailing_zeros w64 n) ≡ true
+pub lowest_has : (n : ℕ) → 0 < n → n < 2 ^ WORD_BITS → has n (trailing_zeros w64 n) ≡ true
 lowest_has n pos fits = has_by_bit n (trailing_zeros w64 n) ∙ ap (λ (k : ℕ). k == 1) (bit_at-trailing_zeros w64 n pos fits).1
 
-pub lowest_within : (n : ℕ) → 0 < n → n < 2 ^ 64 → trailing_zeros w64 n < 64
+pub lowest_within : (n : ℕ) → 0 < n → n < 2 ^ WORD_BITS → trailing_zeros w64 n < WORD_BITS
 lowest_within n pos fits = (bit_at-trailing_zeros w64 n pos fits).0
 
-pub least_of_none : (n : ℕ) → n ≡ 0 → None ≡ least (has n) 64
-least_of_none n none = sym (least_none (has n) 64 (λ c l. ap (λ (k : ℕ). has k c) none ∙ nobody c))
+pub least_of_none : (n : ℕ) → n ≡ 0 → None ≡ least (has n) WORD_BITS
+least_of_none n none = sym (least_none (has n) WORD_BITS (λ c l. ap (λ (k : ℕ). has k c) none ∙ nobody c))
 
-pub least_of_some : (n : ℕ) → 0 < n → n < 2 ^ 64 → Some (trailing_zeros w64 n) ≡ least (has n) 64
+pub least_of_some : (n : ℕ) → 0 < n → n < 2 ^ WORD_BITS → Some (trailing_zeros w64 n) ≡ least (has n) WORD_BITS
 least_of_some n pos fits =
-    sym (least_found (has n) 64 (trailing_zeros w64 n) (lowest_within n pos fits) (lowest_has n pos fits) (λ c l. has_by_bit n c ∙ ap (λ (k : ℕ). k == 1) ((bit_at-trailing_zeros w64 n pos fits).2 c l)))
+    sym (least_found (has n) WORD_BITS (trailing_zeros w64 n) (lowest_within n pos fits) (lowest_has n pos fits) (λ c l. has_by_bit n c ∙ ap (λ (k : ℕ). k == 1) ((bit_at-trailing_zeros w64 n pos fits).2 c l)))

@@ -1,7 +1,7 @@
 -- What the kernel shows of a thread, and the word that shows it.
 use Rattle.std.specs.Prelude.{Bool, true, false, ℕ, ◌+◌, ◌*◌, ◌^◌, ◌<◌, ◌≡◌, Option, None, Some, is_some}
 use Rattle.gs_status.specs.declared.mask.TheConstants.{MOST_CPUS}
-use Rattle.gs_status.specs.declared.status.TheConstants.{NO_CPU_BYTE}
+use Rattle.gs_status.specs.declared.status.TheConstants.{CPU_BIT, FLAGS_BIT, NO_CPU_BYTE}
 
 -- a thread's sequence number, the CPU that it is on, whether it may run, and whether it lives
 pub record Status : Type 0 where
@@ -26,10 +26,10 @@ abbrev pub bit : Bool → ℕ
 bit true = 1
 bit false = 0
 
--- the word: from bit 0 the sequence number, from bit 32 the byte of the CPU, bit 40 runnable, bit 41 alive, bit 42 on a CPU
+-- the word: from bit 0 the sequence number, from CPU_BIT the byte of the CPU, and from FLAGS_BIT runnable, alive, on a CPU
 abbrev pub packed : Status → ℕ
 packed s =
-    s.tseq + cpu_byte s.cpu * 2 ^ 32 + bit s.runnable * 2 ^ 40 + bit s.alive * 2 ^ 41 + bit (is_some s.cpu) * 2 ^ 42
+    s.tseq + cpu_byte s.cpu * 2 ^ CPU_BIT + bit s.runnable * 2 ^ FLAGS_BIT + bit s.alive * 2 ^ (FLAGS_BIT + 1) + bit (is_some s.cpu) * 2 ^ (FLAGS_BIT + 2)
 
 -- the word shows this status
 pub record Spells (s : Status) (word : ℕ) : Type 0 where

@@ -9,9 +9,9 @@ use std::marker::Model;
 pub const NO_CPU_BYTE: u8 = 255;
 
 /// The bit at which the CPU's byte begins.
-const CPU: u32 = 32;
+const CPU_BIT: u32 = 32;
 /// The bit at which the flags begin: runnable, alive, on a CPU, and zeros from there on.
-const FLAGS: u32 = 40;
+const FLAGS_BIT: u32 = 40;
 
 /// The flags of a dead thread.
 const DEAD: u64 = 0b000;
@@ -61,7 +61,7 @@ impl StatusWord {
             None => (NO_CPU_BYTE as u64, 0),
         };
         let flags = self.runnable as u64 | (self.alive as u64) << 1 | on_cpu << 2;
-        self.tseq as u64 | cpu << CPU | flags << FLAGS
+        self.tseq as u64 | cpu << CPU_BIT | flags << FLAGS_BIT
     }
 
     /// Returns the status that a word shows, or `None` if no status has that word.
@@ -70,8 +70,8 @@ impl StatusWord {
         ensures all { (status : Status) → Spells status word → result ≡ Some status }
     {
         let tseq = (word & 0xffff_ffff) as u32;
-        let cpu = (word >> CPU) & 0xff;
-        let flags = word >> FLAGS;
+        let cpu = (word >> CPU_BIT) & 0xff;
+        let flags = word >> FLAGS_BIT;
         if flags == RUNNING && cpu < MOST_CPUS as u64 {
             return Some(StatusWord {
                 tseq,

@@ -1,4 +1,5 @@
 use Rattle.std.proofs.Common.{◌≡◌, ap, sym, ◌∙◌, ℕ, ◌*◌, ◌^◌, ◌<◌, true, List, length, arith}
+use Rattle.gs_sets.specs.declared.bits.TheConstants.{WORD}
 use Rattle.gs_sets.specs.Bits.{is_in, IsNone, IsSummed}
 use Rattle.std.proofs.lemmas.Option.{IfSome_then}
 use Rattle.gs_sets.proofs.BitWords.{in_within}
@@ -6,9 +7,9 @@ use Rattle.gs_sets.proofs.Summed.{none_beyond, summed_within}
 use Rattle.gs_sets.proofs.number_set.NumberSet.next_from.Goals as goal
 
 -- a number of the set stands in one of its words, of which there are no more than numbers of 32 bits need
-stands : (numbers words sums : List ℕ) (n : ℕ) → numbers ≡ words → IsSummed numbers sums → is_in numbers n ≡ true → (n < 64 * length words) × (n < 2 ^ 32)
+stands : (numbers words sums : List ℕ) (n : ℕ) → numbers ≡ words → IsSummed numbers sums → is_in numbers n ≡ true → (n < WORD * length words) × (n < 2 ^ 32)
 stands numbers words sums n same summed there =
-    let within : n < 64 * length numbers = in_within numbers n there in
+    let within : n < WORD * length numbers = in_within numbers n there in
     (omega (arith, within, ap length same), omega (arith, within, summed.within))
 
 pub returns-in-Some-clause-within : goal.returns-in-Some-clause-within
