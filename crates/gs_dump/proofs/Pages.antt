@@ -5,11 +5,14 @@ use Rattle.std.specs.List.{flat_map, list_any, AllByRecursion}
 use Rattle.std.proofs.lemmas.Bool.{and_from, and_parts, cond-false, cond-true, eqb-true, le-leb, leb-true, lt-ltb, or_cases, or_left, or_parts, or_right, false≢true}
 use Rattle.std.proofs.lemmas.Bool.Decides.{nat_tests}
 use Rattle.std.proofs.Math.Nat.{add_comm, mul-suc}
+use Rattle.gs_dump.specs.declared.wire.TheConstants.{COUNT_AT, HEADER_LEN, LAST_AT, NEXT_AT, VERSION_LEN}
+use Rattle.gs_layout.specs.declared.message.TheConstants.{MOST_TIDS}
 use Rattle.gs_layout.specs.Reading.{number_at}
+use Rattle.gs_layout.specs.Spelling.{is_tid}
 use Rattle.std.proofs.lemmas.List.{drop_at, take_at, length-drop, length-take, take-append-drop, nil_from_length}
 use Rattle.byteorder.specs.Endian.{little_bytes, little_number}
 use Rattle.byteorder.specs.Numbers.{little_from-lt}
-use Rattle.gs_layout.proofs.Laws.{IsBytes, IsBytes-drop, IsBytes-take, at_2, at_4}
+use Rattle.gs_layout.proofs.Laws.{IsBytes, IsBytes-drop, IsBytes-take, at_place, reads, tid_from, tid_passes}
 use Rattle.gs_dump.specs.declared.fault.PageFault.{PageFault}
 use Rattle.gs_dump.specs.declared.fault.PageFault.TheVariants as faults
 use Rattle.gs_dump.specs.declared.record.DumpRecord.{DumpRecord}
@@ -20,7 +23,7 @@ use Rattle.gs_dump.specs.Record.{FitsIn, IsLive, record_spelling}
 use Rattle.gs_dump.specs.Page.{Contents, IsPage, end_number, header_bytes, rises, spelling_in}
 use Rattle.gs_dump.specs.Reading.{IsFault, IsSpelled, count_in, end_fits, end_in, fault_of, field_fault, is_bad, is_headless, is_other_version, next_in, next_number_in, page_fault, page_in, record_in, record_read, size_in, sized_fault, texts, texts_in, version_of}
 use Rattle.gs_dump.specs.Scan.{Faults}
-use Rattle.gs_dump.proofs.Records.{length-record_spelling, not_false, reads, record_again, record_back, record_sound}
+use Rattle.gs_dump.proofs.Records.{length-record_spelling, not_false, record_again, record_back, record_sound}
 
 -- ---- what is spelled is read back
 
@@ -66,18 +69,18 @@ length-records v (r ∷ rs) h =
     times_one : (w n : ℕ) → w + w * n ≡ w * suc n
     times_one w n = sym (mul-suc w n ∙ add_comm (w * n) w)
 
-next_back : (o : Option ℕ) → IfSome o (λ t. (1 ≤ t) × (t ≤ 65536))
+next_back : (o : Option ℕ) → IfSome o (λ t. (1 ≤ t) × (t ≤ MOST_TIDS))
     → (if little_number 2 (little_bytes 2 (end_number o) ++ []) == 1 then None else Some (little_number 4 (little_bytes 4 (unwrap_or o 0) ++ []))) ≡ o
 next_back None h = refl
 next_back (Some n) h = ap (λ (k : ℕ). Some k) (reads 4 n (omega (arith, h)))
 
-end_passes : (o : Option ℕ) → IfSome o (λ t. (1 ≤ t) × (t ≤ 65536))
+end_passes : (o : Option ℕ) → IfSome o (λ t. (1 ≤ t) × (t ≤ MOST_TIDS))
     → ((little_number 2 (little_bytes 2 (end_number o) ++ []) == 1 && little_number 4 (little_bytes 4 (unwrap_or o 0) ++ []) == 0)
-    || (little_number 2 (little_bytes 2 (end_number o) ++ []) == 0 && nat_le 1 (little_number 4 (little_bytes 4 (unwrap_or o 0) ++ [])) && nat_le (little_number 4 (little_bytes 4 (unwrap_or o 0) ++ [])) 65536)) ≡ true
+    || (little_number 2 (little_bytes 2 (end_number o) ++ []) == 0 && is_tid (little_number 4 (little_bytes 4 (unwrap_or o 0) ++ [])))) ≡ true
 end_passes None h = refl
 end_passes (Some n) h =
     let e : little_number 4 (little_bytes 4 n ++ []) ≡ n = reads 4 n (omega (arith, h)) in
-    (λ i. nat_le 1 (e i) && nat_le (e i) 65536) ∙ and_from (nat_le 1 n) (nat_le n 65536) (le-leb 1 n h.0) (le-leb n 65536 h.1)
+    ap is_tid e ∙ tid_passes n h.0 h.1
 
 count_back : (v : Version) (p : Contents) → IsPage p → count_in (spelling_in v p) ≡ length p.records
 count_back v p h = reads 2 (length p.records) (omega (arith, h.count))
@@ -97,8 +100,8 @@ faulted version field order = if version then Some faults.BadVersion else if fie
 
 size_back : (v : Version) (p : Contents) → IsPage p → length (spelling_in v p) ≡ size_in v (spelling_in v p)
 size_back v p h =
-    let e : length (spelling_in v p) ≡ 8 + length (flat_map (record_spelling v) p.records) = omega arith in
-    e ∙ ap (λ (n : ℕ). 8 + n) (length-records v p.records h.live ∙ ap (λ (n : ℕ). record_len v * n) (sym (count_back v p h)))
+    let e : length (spelling_in v p) ≡ HEADER_LEN + length (flat_map (record_spelling v) p.records) = omega arith in
+    e ∙ ap (λ (n : ℕ). HEADER_LEN + n) (length-records v p.records h.live ∙ ap (λ (n : ℕ). record_len v * n) (sym (count_back v p h)))
 
 no_field_fault : (v : Version) (p : Contents) → IsPage p → Fit v p.records → field_fault v (end_fits (spelling_in v p)) true 0 (next_in (spelling_in v p)) (texts_in v (spelling_in v p)) ≡ None
 no_field_fault v p h f =
@@ -136,7 +139,7 @@ version_back v p h f = by_records p.records refl f
     by_records [] e g =
         let none : (count_in (spelling_in v p) == 0) ≡ true = ap (λ (n : ℕ). n == 0) (count_back v p is ∙ ap length e) in (
           versions.Two,
-          cond-true (count_in (spelling_in v p) == 0) (Some versions.Two) (version_numbered (number_at 8 2 (spelling_in v p))) none,
+          cond-true (count_in (spelling_in v p) == 0) (Some versions.Two) (version_numbered (number_at HEADER_LEN 2 (spelling_in v p))) none,
           subst (Fit versions.Two) (sym e) tt,
           ap (λ (rs : List DumpRecord). header_bytes p ++ flat_map (record_spelling v) rs) e ∙ sym (ap (λ (rs : List DumpRecord). header_bytes p ++ flat_map (record_spelling versions.Two) rs) e),
         )
@@ -144,20 +147,20 @@ version_back v p h f = by_records p.records refl f
         let n : count_in (spelling_in v p) ≡ suc (length rs) = count_back v p is ∙ ap length e in
         let z : (suc (length rs) == 0) ≡ false = grind (arith, nat_tests) in
         let some : (count_in (spelling_in v p) == 0) ≡ false = ap (λ (k : ℕ). k == 0) n ∙ z in
-        let first : number_at 8 2 (spelling_in v p) ≡ little_number 2 (little_bytes 2 (version_number v) ++ []) = ap (λ (xs : List DumpRecord). little_number 2 (flat_map (record_spelling v) xs)) e in (
+        let first : number_at HEADER_LEN 2 (spelling_in v p) ≡ little_number 2 (little_bytes 2 (version_number v) ++ []) = ap (λ (xs : List DumpRecord). little_number 2 (flat_map (record_spelling v) xs)) e in (
           v,
-          cond-false (count_in (spelling_in v p) == 0) (Some versions.Two) (version_numbered (number_at 8 2 (spelling_in v p))) some ∙ (ap version_numbered first ∙ number_back v),
+          cond-false (count_in (spelling_in v p) == 0) (Some versions.Two) (version_numbered (number_at HEADER_LEN 2 (spelling_in v p))) some ∙ (ap version_numbered first ∙ number_back v),
           subst (Fit v) (sym e) g,
           refl,
         )
 
 -- a spelling has its header, and a first record's version if it has records
-headed : (l c : ℕ) → 8 ≤ l → ((c == 0) ≡ false → 10 ≤ l) → (nat_lt l 8 || (not (c == 0) && nat_lt l 10)) ≡ false
+headed : (l c : ℕ) → HEADER_LEN ≤ l → ((c == 0) ≡ false → HEADER_LEN + VERSION_LEN ≤ l) → (nat_lt l HEADER_LEN || (not (c == 0) && nat_lt l (HEADER_LEN + VERSION_LEN))) ≡ false
 headed l c least more = by_test (c == 0) more
   where
-    by_test : (b : Bool) → (b ≡ false → 10 ≤ l) → (nat_lt l 8 || (not b && nat_lt l 10)) ≡ false
-    by_test true q = λ i. not_lt l 8 least i || false
-    by_test false q = λ i. not_lt l 8 least i || not_lt l 10 (q refl) i
+    by_test : (b : Bool) → (b ≡ false → HEADER_LEN + VERSION_LEN ≤ l) → (nat_lt l HEADER_LEN || (not b && nat_lt l (HEADER_LEN + VERSION_LEN))) ≡ false
+    by_test true q = λ i. not_lt l HEADER_LEN least i || false
+    by_test false q = λ i. not_lt l HEADER_LEN least i || not_lt l (HEADER_LEN + VERSION_LEN) (q refl) i
 
 headless_back : (v : Version) (p : Contents) → IsPage p → is_headless (spelling_in v p) ≡ false
 headless_back v p h = headed (length (spelling_in v p)) (count_in (spelling_in v p)) (omega arith) (λ some. by_records p.records refl h.live some)
@@ -168,7 +171,7 @@ headless_back v p h = headed (length (spelling_in v p)) (count_in (spelling_in v
     long : (r : DumpRecord) → IsLive r → 2 ≤ length (record_spelling v r)
     long r live = omega arith
 
-    by_records : (rs : List DumpRecord) → p.records ≡ rs → AreLive rs → (count_in (spelling_in v p) == 0) ≡ false → 10 ≤ length (spelling_in v p)
+    by_records : (rs : List DumpRecord) → p.records ≡ rs → AreLive rs → (count_in (spelling_in v p) == 0) ≡ false → HEADER_LEN + VERSION_LEN ≤ length (spelling_in v p)
     by_records [] e live some =
         let none : (count_in (spelling_in v p) == 0) ≡ true = ap (λ (n : ℕ). n == 0) (count_back v p is ∙ ap length e) in
         absurd (false≢true (sym some ∙ none))
@@ -226,30 +229,29 @@ length-texts v zero bytes = refl
 length-texts v (suc n) bytes = ap suc (length-texts v n (drop (record_len v) bytes))
 
 -- the end and the next tid that the header names are those of the page
-end_again : (e n : ℕ) → ((e == 1 && n == 0) || (e == 0 && nat_le 1 n && nat_le n 65536)) ≡ true
-    → (end_number (if e == 1 then None else Some n) ≡ e) × (unwrap_or (if e == 1 then None else Some n) 0 ≡ n) × IfSome (if e == 1 then None else Some n) (λ t. (1 ≤ t) × (t ≤ 65536))
+end_again : (e n : ℕ) → ((e == 1 && n == 0) || (e == 0 && is_tid n)) ≡ true
+    → (end_number (if e == 1 then None else Some n) ≡ e) × (unwrap_or (if e == 1 then None else Some n) 0 ≡ n) × IfSome (if e == 1 then None else Some n) (λ t. (1 ≤ t) × (t ≤ MOST_TIDS))
 end_again e n h =
-    let P : Option ℕ → Type 0 = λ o. (end_number o ≡ e) × (unwrap_or o 0 ≡ n) × IfSome o (λ t. (1 ≤ t) × (t ≤ 65536)) in
-    elim (or_cases (e == 1 && n == 0) (e == 0 && nat_le 1 n && nat_le n 65536) h) [
+    let P : Option ℕ → Type 0 = λ o. (end_number o ≡ e) × (unwrap_or o 0 ≡ n) × IfSome o (λ t. (1 ≤ t) × (t ≤ MOST_TIDS)) in
+    elim (or_cases (e == 1 && n == 0) (e == 0 && is_tid n) h) [
       | inl last ↦ let a = and_parts (e == 1) (n == 0) last in
           subst P (sym (cond-true (e == 1) None (Some n) a.0)) (sym (eqb-true e 1 a.0), sym (eqb-true n 0 a.1), tt)
-      | inr more ↦ let a = and_parts (e == 0 && nat_le 1 n) (nat_le n 65536) more in
-          let b = and_parts (e == 0) (nat_le 1 n) a.0 in
-          let none : e ≡ 0 = eqb-true e 0 b.0 in
+      | inr more ↦ let a = and_parts (e == 0) (is_tid n) more in
+          let none : e ≡ 0 = eqb-true e 0 a.0 in
           let other : (e == 1) ≡ false = ap (λ (k : ℕ). k == 1) none in
-          subst P (sym (cond-false (e == 1) None (Some n) other)) (sym none, refl, (leb-true 1 n b.1, leb-true n 65536 a.1))
+          subst P (sym (cond-false (e == 1) None (Some n) other)) (sym none, refl, tid_from n a.1)
     ]
 
-header_again : (bytes : List ℕ) → IsBytes bytes → 8 ≤ length bytes → little_bytes 2 (count_in bytes) ++ (little_bytes 2 (end_in bytes) ++ (little_bytes 4 (next_number_in bytes) ++ drop 8 bytes)) ≡ bytes
+header_again : (bytes : List ℕ) → IsBytes bytes → HEADER_LEN ≤ length bytes → little_bytes 2 (count_in bytes) ++ (little_bytes 2 (end_in bytes) ++ (little_bytes 4 (next_number_in bytes) ++ drop HEADER_LEN bytes)) ≡ bytes
 header_again bytes fits long =
     let a = little_bytes 2 (count_in bytes) in
     let b = little_bytes 2 (end_in bytes) in
-    ap (λ (r : List ℕ). a ++ (b ++ r)) (at_4 4 bytes (omega arith) fits) ∙ ap (λ (r : List ℕ). a ++ r) (at_2 2 bytes (omega arith) fits) ∙ at_2 0 bytes (omega arith) fits
+    ap (λ (r : List ℕ). a ++ (b ++ r)) (at_place 4 NEXT_AT bytes (omega arith) fits) ∙ ap (λ (r : List ℕ). a ++ r) (at_place 2 LAST_AT bytes (omega arith) fits) ∙ at_place 2 COUNT_AT bytes (omega arith) fits
 
 not_less : (a b : ℕ) → nat_lt a b ≡ false → b ≤ a
 not_less a b e = grind (arith, nat_tests)
 
-pub sound_in : (v : Version) (bytes : List ℕ) → IsBytes bytes → 8 ≤ length bytes → sized_fault v bytes ≡ None → IsSpelled bytes (page_in v bytes)
+pub sound_in : (v : Version) (bytes : List ℕ) → IsBytes bytes → HEADER_LEN ≤ length bytes → sized_fault v bytes ≡ None → IsSpelled bytes (page_in v bytes)
 sound_in v bytes fits long e =
     let ts = texts_in v bytes in
     let j = unjudged (nat_lt (length bytes) (size_in v bytes)) (nat_lt (size_in v bytes) (length bytes)) (field_fault v (end_fits bytes) true 0 (next_in bytes) ts) e in
@@ -258,9 +260,9 @@ sound_in v bytes fits long e =
     let f = no_faults (list_any (is_other_version v) ts) (not (end_fits bytes) || list_any (is_bad v) ts) (rises 0 (map (record_in v) ts) (next_in bytes)) j.2 in
     let g = or_parts (not (end_fits bytes)) (list_any (is_bad v) ts) f.field in
     let end = end_again (end_in bytes) (next_number_in bytes) (not_false (end_fits bytes) g.0) in
-    let count : length (map (record_in v) ts) ≡ count_in bytes = length-texts v (count_in bytes) (drop 8 bytes) in
+    let count : length (map (record_in v) ts) ≡ count_in bytes = length-texts v (count_in bytes) (drop HEADER_LEN bytes) in
     let below : count_in bytes < 2 ^ 16 = little_from-lt 0 2 bytes fits in
-    let r = texts_sound v (count_in bytes) (drop 8 bytes) (IsBytes-drop 8 bytes fits) (omega (arith, length-drop 8 bytes, long, least, most)) f.version g.1 in
+    let r = texts_sound v (count_in bytes) (drop HEADER_LEN bytes) (IsBytes-drop HEADER_LEN bytes fits) (omega (arith, length-drop HEADER_LEN bytes, long, least, most)) f.version g.1 in
     record {
       page = record { count = omega (arith, count, below); live = r.1; tid = end.2; order = f.order };
       version = v;
@@ -280,26 +282,26 @@ page_sound bytes fits e = by_head (is_headless bytes) refl e
     small : IsBytes bytes
     small = fits
 
-    by_version : 8 ≤ length bytes → (o : Option Version) → version_of bytes ≡ o → fault_of o bytes ≡ None → Read bytes
+    by_version : HEADER_LEN ≤ length bytes → (o : Option Version) → version_of bytes ≡ o → fault_of o bytes ≡ None → Read bytes
     by_version long None q f = absurd cc
     by_version long (Some v) q f = record { version = v; is = q; spelled = sound_in v bytes small long f }
 
     by_head : (b : Bool) → is_headless bytes ≡ b → headed_fault b (fault_of (version_of bytes) bytes) ≡ None → Read bytes
     by_head true q f = absurd cc
-    by_head false q f = by_version (not_less (length bytes) 8 (or_parts (nat_lt (length bytes) 8) (not (count_in bytes == 0) && nat_lt (length bytes) 10) q).0) (version_of bytes) refl f
+    by_head false q f = by_version (not_less (length bytes) HEADER_LEN (or_parts (nat_lt (length bytes) HEADER_LEN) (not (count_in bytes == 0) && nat_lt (length bytes) (HEADER_LEN + VERSION_LEN)) q).0) (version_of bytes) refl f
 
 -- ---- what the clauses say
 
 pub headless_page : (bytes : List ℕ) → is_headless bytes ≡ true → page_fault bytes ≡ Some faults.Short
 headless_page bytes e = λ i. headed_fault (e i) (fault_of (version_of bytes) bytes)
 
-pub few_bytes : (bytes : List ℕ) → length bytes < 8 → is_headless bytes ≡ true
-few_bytes bytes lt = or_left (nat_lt (length bytes) 8) (not (count_in bytes == 0) && nat_lt (length bytes) 10) (lt-ltb (length bytes) 8 lt)
+pub few_bytes : (bytes : List ℕ) → length bytes < HEADER_LEN → is_headless bytes ≡ true
+few_bytes bytes lt = or_left (nat_lt (length bytes) HEADER_LEN) (not (count_in bytes == 0) && nat_lt (length bytes) (HEADER_LEN + VERSION_LEN)) (lt-ltb (length bytes) HEADER_LEN lt)
 
-pub few_for_version : (bytes : List ℕ) → (count_in bytes ≡ 0 → ⊥) → length bytes < 10 → is_headless bytes ≡ true
+pub few_for_version : (bytes : List ℕ) → (count_in bytes ≡ 0 → ⊥) → length bytes < HEADER_LEN + VERSION_LEN → is_headless bytes ≡ true
 few_for_version bytes some lt =
     let z : not (count_in bytes == 0) ≡ true = by_test (count_in bytes == 0) refl in
-    or_right (nat_lt (length bytes) 8) (not (count_in bytes == 0) && nat_lt (length bytes) 10) (and_from (not (count_in bytes == 0)) (nat_lt (length bytes) 10) z (lt-ltb (length bytes) 10 lt))
+    or_right (nat_lt (length bytes) HEADER_LEN) (not (count_in bytes == 0) && nat_lt (length bytes) (HEADER_LEN + VERSION_LEN)) (and_from (not (count_in bytes == 0)) (nat_lt (length bytes) (HEADER_LEN + VERSION_LEN)) z (lt-ltb (length bytes) (HEADER_LEN + VERSION_LEN) lt))
   where
     never : count_in bytes ≡ 0 → ⊥
     never = some
@@ -308,7 +310,7 @@ few_for_version bytes some lt =
     by_test true e = absurd (never (eqb-true (count_in bytes) 0 e))
     by_test false e = ap not e
 
-pub has_head : (bytes : List ℕ) → 8 ≤ length bytes → ((count_in bytes ≡ 0 → ⊥) → 10 ≤ length bytes) → is_headless bytes ≡ false
+pub has_head : (bytes : List ℕ) → HEADER_LEN ≤ length bytes → ((count_in bytes ≡ 0 → ⊥) → HEADER_LEN + VERSION_LEN ≤ length bytes) → is_headless bytes ≡ false
 has_head bytes long more = headed (length bytes) (count_in bytes) long (λ e. more (λ z. false≢true (sym e ∙ ap (λ (n : ℕ). n == 0) z)))
 
 pub no_version : (bytes : List ℕ) → is_headless bytes ≡ false → version_of bytes ≡ None → page_fault bytes ≡ Some faults.BadVersion

@@ -1,13 +1,14 @@
 -- What stands in the bytes of a page, and what is wrong with them.
 use Rattle.std.specs.Prelude.{◌≡◌, Bool, true, not, ◌==◌, ◌&&◌, ◌||◌, nat_lt, nat_le, ℕ, zero, suc, ◌+◌, ◌*◌, Option, None, Some, Result, Ok, Err, List, [], ◌∷◌, length, map, take, drop, slice_index, if◌then◌else◌}
-use Rattle.std.specs.List.{list_all, list_any, AllByRecursion}
-use Rattle.gs_layout.specs.declared.message.TheConstants.{MOST_TIDS}
+use Rattle.std.specs.List.{list_any, AllByRecursion}
+use Rattle.gs_dump.specs.declared.wire.TheConstants.{CLASS_AT, COUNT_AT, CPU_AT, FLAGS_AT, HEADER_LEN, LAST_AT, MASK_AT, NAME_LEN_AT, NEXT_AT, TID_AT, TSEQ_AT, VERSION_AT, VERSION_LEN}
 use Rattle.gs_layout.specs.declared.name.TheConstants.{MOST_NAME_LEN}
 use Rattle.gs_layout.specs.declared.cpu.TheConstants.{NO_CPU}
 use Rattle.gs_status.specs.declared.mask.TheConstants.{MOST_CPUS}
 use Rattle.gs_status.specs.Masks.{has}
 use Rattle.gs_layout.specs.Name.{is_name}
-use Rattle.gs_layout.specs.Reading.{class_numbered, cpu_numbered, number_at}
+use Rattle.gs_layout.specs.Reading.{are_zeros, class_numbered, cpu_numbered, number_at}
+use Rattle.gs_layout.specs.Spelling.{are_numbers, is_tid}
 use Rattle.gs_dump.specs.declared.fault.PageFault.{PageFault}
 use Rattle.gs_dump.specs.declared.fault.PageFault.TheVariants as faults
 use Rattle.gs_dump.specs.declared.record.DumpRecord.{DumpRecord}
@@ -19,25 +20,25 @@ use Rattle.gs_dump.specs.Page.{Contents, IsPage, rises, spelling_in}
 
 -- the numbers of a record, by the bytes that tell it
 abbrev pub version_in : List ℕ → ℕ
-version_in text = number_at 0 2 text
+version_in text = number_at VERSION_AT 2 text
 
 abbrev pub tid_in : List ℕ → ℕ
-tid_in text = number_at 4 4 text
+tid_in text = number_at TID_AT 4 text
 
 abbrev pub tseq_in : List ℕ → ℕ
-tseq_in text = number_at 8 4 text
+tseq_in text = number_at TSEQ_AT 4 text
 
 abbrev pub cpu_number_in : List ℕ → ℕ
-cpu_number_in text = number_at 12 2 text
+cpu_number_in text = number_at CPU_AT 2 text
 
 abbrev pub flags_in : List ℕ → ℕ
-flags_in text = number_at 14 2 text
+flags_in text = number_at FLAGS_AT 2 text
 
 abbrev pub mask_in : Version → List ℕ → ℕ
-mask_in v text = number_at 16 (mask_len v) text
+mask_in v text = number_at MASK_AT (mask_len v) text
 
 abbrev pub name_len_in : List ℕ → ℕ
-name_len_in text = slice_index text 3
+name_len_in text = slice_index text NAME_LEN_AT
 
 abbrev pub name_in : Version → List ℕ → List ℕ
 name_in v text = take (name_len_in text) (drop (name_at v) text)
@@ -50,23 +51,22 @@ record_in v text = record {
   facts = record {
     runnable = flags_in text == 1;
     mask = mask_in v text;
-    class = class_numbered (slice_index text 2);
+    class = class_numbered (slice_index text CLASS_AT);
     name = name_in v text;
   };
   cpu = cpu_numbered (cpu_number_in text);
 }
 
--- a tid is 1 to 65,536, and a sequence number is not 0
 abbrev pub numbers_fit : List ℕ → Bool
-numbers_fit text = nat_le 1 (tid_in text) && nat_le (tid_in text) MOST_TIDS && nat_le 1 (tseq_in text)
+numbers_fit text = are_numbers (tid_in text) (tseq_in text)
 
 -- the class is 0 or 1, of the flags bit 0 alone may be set, and the mask is not empty
 abbrev pub facts_fit : Version → List ℕ → Bool
-facts_fit v text = nat_lt (slice_index text 2) 2 && nat_lt (flags_in text) 2 && not (mask_in v text == 0)
+facts_fit v text = nat_lt (slice_index text CLASS_AT) 2 && nat_lt (flags_in text) 2 && not (mask_in v text == 0)
 
 -- 0 to 16 bytes that may stand in a name, and zeros behind them
 abbrev pub name_fits : Version → List ℕ → Bool
-name_fits v text = nat_le (name_len_in text) MOST_NAME_LEN && is_name (name_in v text) && list_all (λ b. b == 0) (drop (name_at v + name_len_in text) text)
+name_fits v text = nat_le (name_len_in text) MOST_NAME_LEN && is_name (name_in v text) && are_zeros (drop (name_at v + name_len_in text) text)
 
 -- 65,535 stands for no CPU; a thread on a CPU is runnable, and the CPU is in its mask. A mask of the first version has no CPU from 64 on
 abbrev pub cpu_fits : Version → List ℕ → Bool
@@ -93,31 +93,31 @@ texts v (suc n) bytes = take (record_len v) bytes ∷ texts v n (drop (record_le
 
 -- how many records the header names
 abbrev pub count_in : List ℕ → ℕ
-count_in bytes = number_at 0 2 bytes
+count_in bytes = number_at COUNT_AT 2 bytes
 
 -- how many bytes the page then has
 abbrev pub size_in : Version → List ℕ → ℕ
-size_in v bytes = 8 + record_len v * count_in bytes
+size_in v bytes = HEADER_LEN + record_len v * count_in bytes
 
 -- the version of the page: that of its first record, and the second if it has none
 abbrev pub version_of : List ℕ → Option Version
-version_of bytes = if count_in bytes == 0 then Some Two else version_numbered (number_at 8 2 bytes)
+version_of bytes = if count_in bytes == 0 then Some Two else version_numbered (number_at HEADER_LEN 2 bytes)
 
 abbrev pub end_in : List ℕ → ℕ
-end_in bytes = number_at 2 2 bytes
+end_in bytes = number_at LAST_AT 2 bytes
 
 abbrev pub next_number_in : List ℕ → ℕ
-next_number_in bytes = number_at 4 4 bytes
+next_number_in bytes = number_at NEXT_AT 4 bytes
 
 abbrev pub next_in : List ℕ → Option ℕ
 next_in bytes = if end_in bytes == 1 then None else Some (next_number_in bytes)
 
 -- the last page names no next thread, and every other page names one
 abbrev pub end_fits : List ℕ → Bool
-end_fits bytes = (end_in bytes == 1 && next_number_in bytes == 0) || (end_in bytes == 0 && nat_le 1 (next_number_in bytes) && nat_le (next_number_in bytes) MOST_TIDS)
+end_fits bytes = (end_in bytes == 1 && next_number_in bytes == 0) || (end_in bytes == 0 && is_tid (next_number_in bytes))
 
 abbrev pub texts_in : Version → List ℕ → List (List ℕ)
-texts_in v bytes = texts v (count_in bytes) (drop 8 bytes)
+texts_in v bytes = texts v (count_in bytes) (drop HEADER_LEN bytes)
 
 -- the page that the bytes name
 abbrev pub page_in : Version → List ℕ → Contents
@@ -125,7 +125,7 @@ page_in v bytes = record { records = map (record_in v) (texts_in v bytes); next 
 
 -- too few for the header, or for a first record's version
 abbrev pub is_headless : List ℕ → Bool
-is_headless bytes = nat_lt (length bytes) 8 || (not (count_in bytes == 0) && nat_lt (length bytes) 10)
+is_headless bytes = nat_lt (length bytes) HEADER_LEN || (not (count_in bytes == 0) && nat_lt (length bytes) (HEADER_LEN + VERSION_LEN))
 
 -- the first fault of records of a version, over all of them. The Bools say whether all before them fits and whether the tids before them increase.
 -- The numbers say which tid was the last of these and where the next page begins

@@ -1,5 +1,8 @@
 -- The versions of the layout of records.
 use Rattle.std.specs.Prelude.{ℕ, ◌+◌, ◌==◌, Option, None, Some, if◌then◌else◌}
+use Rattle.gs_layout.specs.declared.name.TheConstants.{MOST_NAME_LEN}
+use Rattle.gs_layout.specs.declared.wire.TheConstants.{MASK_LEN}
+use Rattle.gs_dump.specs.declared.wire.TheConstants.{FIRST_MASK_LEN, MASK_AT}
 use Rattle.gs_dump.specs.declared.version.Version.{Version}
 use Rattle.gs_dump.specs.declared.version.Version.TheVariants.{One, Two}
 
@@ -14,15 +17,13 @@ version_numbered n = if n == 1 then Some One else if n == 2 then Some Two else N
 
 -- how many bytes a mask has
 abbrev pub mask_len : Version → ℕ
-mask_len One = 8
-mask_len Two = 16
+mask_len One = FIRST_MASK_LEN
+mask_len Two = MASK_LEN
 
 -- where the name stands: behind the mask
 abbrev pub name_at : Version → ℕ
-name_at One = 24
-name_at Two = 32
+name_at v = MASK_AT + mask_len v
 
--- how many bytes a record has
+-- how many bytes a record has: the name ends it
 abbrev pub record_len : Version → ℕ
-record_len One = 40
-record_len Two = 48
+record_len v = name_at v + MOST_NAME_LEN

@@ -1,17 +1,20 @@
 //! The ranges of a record's fields, and the record that they name.
 
 ghost use Rattle.std.specs.Prelude.{◌≡◌, ◌==◌, ◌≤◌, ◌&&◌, length, slice_index, true};
-ghost use Rattle.std.specs.List.{list_all};
 ghost use Rattle.gs_layout.specs.Name.{is_name};
 ghost use Rattle.gs_dump.specs.Version.{record_len};
 ghost use Rattle.gs_dump.specs.Reading.{cpu_fits, end_fits, facts_fit, mask_in, name_fits, name_in, next_in, numbers_fit, record_fits, record_in, record_read};
 
 use crate::fault::PageFault;
 use crate::record::DumpRecord;
-use crate::version::{MASK_AT, Version};
+use crate::version::Version;
+use crate::wire::{
+    CLASS_AT, CPU_AT, FLAGS_AT, HEADER_LEN, LAST_AT, MASK_AT, NAME_LEN_AT, NEXT_AT, TID_AT,
+    TSEQ_AT, VERSION_AT,
+};
 use gs_layout::{
-    Class, Facts, MOST_NAME_LEN, MOST_TIDS, NO_CPU, Name, cpu_numbered, u16_at, u32_at, u64_at,
-    u128_at,
+    Class, Facts, MOST_NAME_LEN, NO_CPU, Name, are_numbers, are_zeros, cpu_numbered, is_tid,
+    u16_at, u32_at, u64_at, u128_at,
 };
 use gs_status::{MOST_CPUS, Mask};
 
@@ -27,40 +30,33 @@ fn mask_at(version: Version, text: &[u8]) -> Mask
 }
 
 fn numbers_fit(text: &[u8]) -> bool
-    requires { 16 ≤ length text.now }
+    requires { MASK_AT ≤ length text.now }
     ensures { result ≡ numbers_fit text.now }
 {
-    let tid = u32_at(text, 4);
-    1 <= tid && tid <= MOST_TIDS && 1 <= u32_at(text, 8)
+    are_numbers(u32_at(text, TID_AT), u32_at(text, TSEQ_AT))
 }
 
 fn facts_fit(version: Version, text: &[u8]) -> bool
     requires { length text.now ≡ record_len version }
     ensures { result ≡ facts_fit version text.now }
 {
-    text[2] < 2 && u16_at(text, 14) < 2 && !mask_at(version, text).is_empty()
-}
-
-fn are_zeros(bytes: &[u8]) -> bool
-    ensures { result ≡ list_all (λ b. b == 0) bytes.now }
-{
-    bytes.iter().all(|byte| *byte == 0)
+    text[CLASS_AT] < 2 && u16_at(text, FLAGS_AT) < 2 && !mask_at(version, text).is_empty()
 }
 
 fn name_at(version: Version, text: &[u8]) -> &[u8]
     requires size { length text.now ≡ record_len version }
-    requires len { slice_index text.now 3 ≤ MOST_NAME_LEN }
+    requires len { slice_index text.now NAME_LEN_AT ≤ MOST_NAME_LEN }
     ensures { result.now ≡ name_in version text.now }
 {
     let start = version.name_at();
-    &text[start..start + text[3] as usize]
+    &text[start..start + text[NAME_LEN_AT] as usize]
 }
 
 fn name_fits(version: Version, text: &[u8]) -> bool
     requires { length text.now ≡ record_len version }
     ensures { result ≡ name_fits version text.now }
 {
-    let len = text[3] as usize;
+    let len = text[NAME_LEN_AT] as usize;
     len <= MOST_NAME_LEN
         && Name::is_name(name_at(version, text))
         && are_zeros(&text[version.name_at() + len..])
@@ -70,9 +66,9 @@ fn cpu_fits(version: Version, text: &[u8]) -> bool
     requires { length text.now ≡ record_len version }
     ensures { result ≡ cpu_fits version text.now }
 {
-    let cpu = u16_at(text, 12);
+    let cpu = u16_at(text, CPU_AT);
     let mask = mask_at(version, text);
-    cpu == NO_CPU || (cpu < MOST_CPUS && u16_at(text, 14) == 1 && mask.has(cpu))
+    cpu == NO_CPU || (cpu < MOST_CPUS && u16_at(text, FLAGS_AT) == 1 && mask.has(cpu))
 }
 
 /// Returns whether each field of a record is in its range.
@@ -88,18 +84,14 @@ fn record_fits(version: Version, text: &[u8]) -> bool
 
 fn facts_at(version: Version, text: &[u8]) -> Facts
     requires size { length text.now ≡ record_len version }
-    requires len { slice_index text.now 3 ≤ MOST_NAME_LEN }
+    requires len { slice_index text.now NAME_LEN_AT ≤ MOST_NAME_LEN }
     requires name { is_name (name_in version text.now) ≡ true }
     ensures { result ≡ (record_in version text.now).facts }
 {
     Facts {
-        runnable: u16_at(text, 14) == 1,
+        runnable: u16_at(text, FLAGS_AT) == 1,
         mask: mask_at(version, text),
-        class: if text[2] == 0 {
-            Class::Zero
-        } else {
-            Class::One
-        },
+        class: Class::numbered(text[CLASS_AT]),
         name: Name::new(name_at(version, text)).unwrap(),
     }
 }
@@ -109,28 +101,28 @@ pub(crate) fn read_record(version: Version, text: &[u8]) -> Result<DumpRecord, P
     requires { length text.now ≡ record_len version }
     ensures { result ≡ record_read version text.now }
 {
-    if u16_at(text, 0) != version.number() {
+    if u16_at(text, VERSION_AT) != version.number() {
         return Err(PageFault::BadVersion);
     }
     if !record_fits(version, text) {
         return Err(PageFault::BadField);
     }
     Ok(DumpRecord {
-        tid: u32_at(text, 4),
-        tseq: u32_at(text, 8),
+        tid: u32_at(text, TID_AT),
+        tseq: u32_at(text, TSEQ_AT),
         facts: facts_at(version, text),
-        cpu: cpu_numbered(u16_at(text, 12)),
+        cpu: cpu_numbered(u16_at(text, CPU_AT)),
     })
 }
 
 /// Returns whether the header says that the page is the last and names no next thread, or names one.
 pub(crate) fn end_fits(bytes: &[u8]) -> bool
-    requires { 8 ≤ length bytes.now }
+    requires { HEADER_LEN ≤ length bytes.now }
     ensures { result ≡ end_fits bytes.now }
 {
-    let next = u32_at(bytes, 4);
-    match u16_at(bytes, 2) {
-        0 => 1 <= next && next <= MOST_TIDS,
+    let next = u32_at(bytes, NEXT_AT);
+    match u16_at(bytes, LAST_AT) {
+        0 => is_tid(next),
         1 => next == 0,
         _ => false,
     }
@@ -138,12 +130,12 @@ pub(crate) fn end_fits(bytes: &[u8]) -> bool
 
 /// Returns the thread at which the next page begins, as the header says, or `None` on the last page.
 pub(crate) fn next_at(bytes: &[u8]) -> Option<u32>
-    requires { 8 ≤ length bytes.now }
+    requires { HEADER_LEN ≤ length bytes.now }
     ensures { result ≡ next_in bytes.now }
 {
-    if u16_at(bytes, 2) == 1 {
+    if u16_at(bytes, LAST_AT) == 1 {
         None
     } else {
-        Some(u32_at(bytes, 4))
+        Some(u32_at(bytes, NEXT_AT))
     }
 }

@@ -7,6 +7,7 @@ mod page;
 mod read;
 mod record;
 mod version;
+mod wire;
 mod write;
 
 pub use fault::PageFault;

@@ -12,11 +12,9 @@ use crate::fields::{end_fits, next_at, read_record};
 use crate::page::Page;
 use crate::record::DumpRecord;
 use crate::version::Version;
+use crate::wire::{COUNT_AT, HEADER_LEN, VERSION_LEN};
 use gs_layout::u16_at;
 use std::alloc::Global;
-
-/// How many bytes stand before the records.
-pub(crate) const HEADER: usize = 8;
 
 /// Returns whether the next page, if there is one, begins above a thread.
 fn begins_above(last: u32, next: Option<u32>) -> bool
@@ -83,7 +81,7 @@ fn read_records(
 #[tactic(auto, using(crate::proofs::Pages::few_for_version, crate::proofs::Pages::headless_page, crate::proofs::Pages::has_head, crate::proofs::Pages::no_version))]
 fn version_at(count: u16, bytes: &[u8]) -> Result<Version, PageFault>
     requires count { count ≡ count_in bytes.now }
-    requires long { 8 ≤ length bytes.now }
+    requires long { HEADER_LEN ≤ length bytes.now }
     ensures head { IfOk result (λ _. is_headless bytes.now ≡ false) }
     ensures version { IfOk result (λ v. version_of bytes.now ≡ Some v) }
     ensures fault { IfErr result (λ f. Faults f (page_fault bytes.now)) }
@@ -91,10 +89,10 @@ fn version_at(count: u16, bytes: &[u8]) -> Result<Version, PageFault>
     if count == 0 {
         return Ok(Version::Two);
     }
-    if bytes.len() < HEADER + 2 {
+    if bytes.len() < HEADER_LEN + VERSION_LEN {
         return Err(PageFault::Short);
     }
-    match Version::numbered(u16_at(bytes, HEADER)) {
+    match Version::numbered(u16_at(bytes, HEADER_LEN)) {
         Some(version) => Ok(version),
         None => Err(PageFault::BadVersion),
     }
@@ -118,15 +116,15 @@ pub fn read_page(alloc: Global, bytes: &[u8]) -> Result<Page, PageFault>
     ensures fault { IfErr result (IsFault bytes.now) }
     ensures only_fault { (f : PageFault) → page_fault bytes.now ≡ Some f → result ≡ Err f }
 {
-    if bytes.len() < HEADER {
+    if bytes.len() < HEADER_LEN {
         return Err(PageFault::Short);
     }
-    let count = u16_at(bytes, 0);
+    let count = u16_at(bytes, COUNT_AT);
     let version = match version_at(count, bytes) {
         Ok(version) => version,
         Err(fault) => return Err(fault),
     };
-    let size = HEADER + version.record_len() * count as usize;
+    let size = HEADER_LEN + version.record_len() * count as usize;
     if bytes.len() < size {
         return Err(PageFault::Short);
     }
@@ -140,7 +138,7 @@ pub fn read_page(alloc: Global, bytes: &[u8]) -> Result<Page, PageFault>
         count,
         end_fits(bytes),
         next,
-        &bytes[HEADER..],
+        &bytes[HEADER_LEN..],
     )?;
     Ok(Page { records, next })
 }

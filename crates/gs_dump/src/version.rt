@@ -1,10 +1,8 @@
 ghost use Rattle.std.specs.Prelude.{◌≡◌};
 ghost use Rattle.gs_dump.specs.Version.{mask_len, name_at, record_len, version_number, version_numbered};
 
-use gs_layout::MOST_NAME_LEN;
-
-/// Where the mask begins in a record.
-pub(crate) const MASK_AT: usize = 16;
+use crate::wire::{FIRST_MASK_LEN, MASK_AT};
+use gs_layout::{MASK_LEN, MOST_NAME_LEN};
 
 /// A version of the layout of records: in the first one a mask has 8 bytes, and in the second 16.
 #[derive(Clone, Copy, PartialEq, Eq, Debug)]
@@ -40,8 +38,8 @@ impl Version {
         ensures { result ≡ mask_len self }
     {
         match self {
-            Version::One => 8,
-            Version::Two => 16,
+            Version::One => FIRST_MASK_LEN,
+            Version::Two => MASK_LEN,
         }
     }
 

@@ -5,33 +5,35 @@ ghost use Rattle.gs_dump.specs.Page.{header_bytes, page_spelling};
 ghost use Rattle.gs_dump.specs.Record.{front_bytes, name_field, record_spelling};
 
 use crate::page::Page;
-use crate::read::HEADER;
 use crate::record::DumpRecord;
-use crate::version::{MASK_AT, Version};
+use crate::version::Version;
+use crate::wire::{
+    CLASS_AT, CPU_AT, FLAGS_AT, HEADER_LEN, LAST_AT, MASK_AT, NEXT_AT, TID_AT, TSEQ_AT,
+};
 use byteorder::{ByteOrder, LittleEndian};
-use gs_layout::{MOST_NAME_LEN, cpu_number};
+use gs_layout::{MASK_LEN, MOST_NAME_LEN, cpu_number};
 use std::alloc::{AllocError, Global};
 
 /// Where the name begins in a record that is written.
-const NAME: usize = 32;
+const NAME_AT: usize = MASK_AT + MASK_LEN;
 
 /// How many bytes a record has that is written.
-const RECORD: usize = 48;
+const RECORD_LEN: usize = NAME_AT + MOST_NAME_LEN;
 
 /// Writes what stands before the mask of a record.
 fn write_front(thread: &DumpRecord, out: &mut [u8])
-    requires { 16 ≤ length out.old }
-    ensures { out.new ≡ front_bytes Version.Two thread.now ++ drop 16 out.old }
+    requires { MASK_AT ≤ length out.old }
+    ensures { out.new ≡ front_bytes Version.Two thread.now ++ drop MASK_AT out.old }
 {
     LittleEndian::write_u16(out, Version::Two.number());
-    out[2..4].copy_from_slice(&[
+    out[CLASS_AT..TID_AT].copy_from_slice(&[
         thread.facts.class.number(),
         thread.facts.name.as_bytes().len() as u8,
     ]);
-    LittleEndian::write_u32(&mut out[4..], thread.tid);
-    LittleEndian::write_u32(&mut out[8..], thread.tseq);
-    LittleEndian::write_u16(&mut out[12..], cpu_number(thread.cpu));
-    LittleEndian::write_u16(&mut out[14..], u16::from(thread.facts.runnable));
+    LittleEndian::write_u32(&mut out[TID_AT..], thread.tid);
+    LittleEndian::write_u32(&mut out[TSEQ_AT..], thread.tseq);
+    LittleEndian::write_u16(&mut out[CPU_AT..], cpu_number(thread.cpu));
+    LittleEndian::write_u16(&mut out[FLAGS_AT..], u16::from(thread.facts.runnable));
 }
 
 /// Writes a name, and zeros up to [`MOST_NAME_LEN`] bytes.
@@ -44,23 +46,23 @@ fn write_name(name: &[u8], out: &mut [u8])
     out[name.len()..].fill(0);
 }
 
-fn record_bytes(thread: &DumpRecord) -> [u8; RECORD]
+fn record_bytes(thread: &DumpRecord) -> [u8; RECORD_LEN]
     ensures { result ≡ record_spelling Version.Two thread.now }
 {
-    let mut bytes = [0; RECORD];
+    let mut bytes = [0; RECORD_LEN];
     write_front(thread, &mut bytes);
     LittleEndian::write_u128(&mut bytes[MASK_AT..], thread.facts.mask.bits());
-    write_name(thread.facts.name.as_bytes(), &mut bytes[NAME..]);
+    write_name(thread.facts.name.as_bytes(), &mut bytes[NAME_AT..]);
     bytes
 }
 
-fn header(page: &Page) -> [u8; 8]
+fn header(page: &Page) -> [u8; HEADER_LEN]
     ensures { result ≡ header_bytes page.now }
 {
-    let mut bytes = [0; HEADER];
+    let mut bytes = [0; HEADER_LEN];
     LittleEndian::write_u16(&mut bytes, page.records.len() as u16);
-    LittleEndian::write_u16(&mut bytes[2..], u16::from(page.next.is_none()));
-    LittleEndian::write_u32(&mut bytes[4..], page.next.unwrap_or(0));
+    LittleEndian::write_u16(&mut bytes[LAST_AT..], u16::from(page.next.is_none()));
+    LittleEndian::write_u32(&mut bytes[NEXT_AT..], page.next.unwrap_or(0));
     bytes
 }
 
@@ -72,7 +74,7 @@ fn header(page: &Page) -> [u8; 8]
 pub fn write_page(alloc: Global, page: &Page) -> Result<Vec<u8>, AllocError>
     ensures { IfOk result (λ bytes. bytes.items ≡ page_spelling page.now) }
 {
-    let mut bytes = Vec::with_capacity(alloc, HEADER + RECORD * page.records.len())?;
+    let mut bytes = Vec::with_capacity(alloc, HEADER_LEN + RECORD_LEN * page.records.len())?;
     bytes.extend_from_slice(&header(page))?;
     for record in &page.records {
         bytes.extend_from_slice(&record_bytes(record))?;

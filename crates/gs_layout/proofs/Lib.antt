@@ -3,7 +3,7 @@ mod Spelled
 mod ReadBack
 mod Parcels
 mod NumberBytes
-mod Placed
+mod Shared
 mod Rows
 mod Corners
 pub mod Laws

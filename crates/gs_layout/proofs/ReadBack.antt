@@ -6,6 +6,9 @@ use Rattle.std.proofs.lemmas.Bool.{false≢true}
 use Rattle.std.proofs.lemmas.Bool.Decides.{nat_tests}
 use Rattle.byteorder.specs.Endian.{little_bytes, little_number}
 use Rattle.byteorder.specs.Numbers.{little_number-reads_back}
+use Rattle.gs_layout.specs.declared.cpu.TheConstants.{NO_CPU}
+use Rattle.gs_layout.specs.declared.wire.TheConstants.{KIND_AT, MASK_AT, MASK_LEN, TID_AT, TSEQ_AT}
+use Rattle.gs_status.specs.declared.mask.TheConstants.{MOST_CPUS}
 use Rattle.gs_layout.specs.declared.facts.Class.{Class}
 use Rattle.gs_layout.specs.declared.facts.Class.TheVariants.{Zero, One}
 use Rattle.gs_layout.specs.declared.facts.Facts.{Facts}
@@ -18,27 +21,8 @@ use Rattle.gs_layout.specs.declared.message.Message.TheVariants.{Thread, TimerTi
 use Rattle.gs_layout.specs.Class.{class_number}
 use Rattle.gs_layout.specs.Kind.{kind_number}
 use Rattle.gs_layout.specs.Spelling.{AreNumbers, IsSpellable, IsSpellableChange, kind_of, mask_of, padding, spelling}
+use Rattle.gs_layout.proofs.Shared.{class_back, cpu_back, flag_back, reads}
 use Rattle.gs_layout.specs.Reading.{Begins, change_with, class_numbered, cpu_numbered, facts_in, kind_in, kind_numbered, message_in, message_with, number_at}
-
--- a number is read from its bytes
-reads : (n x : ℕ) → x < 256 ^ n → little_number n (little_bytes n x ++ []) ≡ x
-reads n x lt = little_number-reads_back n x [] lt
-
-flag_back : (b : Bool) → (little_number 2 (little_bytes 2 (if b then 1 else 0)) == 1) ≡ b
-flag_back true = refl
-flag_back false = refl
-
-class_back : (k : Class) → class_numbered (class_number k) ≡ k
-class_back Zero = refl
-class_back One = refl
-
-cpu_below : (c : ℕ) → c < 128 → cpu_numbered c ≡ Some c
-cpu_below c lt =
-    let other : (c == 65535) ≡ false = grind (arith, nat_tests) in
-    ap (λ (b : Bool). cond b None (Some c)) other
-
-cpu_back : (c : ℕ) → c < 128 → cpu_numbered (little_number 2 (little_bytes 2 c ++ [])) ≡ Some c
-cpu_back c lt = ap cpu_numbered (reads 2 c (omega arith)) ∙ cpu_below c lt
 
 name_back : (name rest : List ℕ) → take (length name) ((name ++ padding (length name)) ++ rest) ≡ name
 name_back name rest =
@@ -47,7 +31,7 @@ name_back name rest =
 facts_back : (t s : ℕ) (f : Facts) (rest : List ℕ) → IsSpellableChange (Created f) → facts_in (spelling (Thread t s (Created f)) ++ rest) ≡ f
 facts_back t s f rest fits = λ i. record {
   runnable = flag_back f.runnable i;
-  mask = reads 16 f.mask fits.0.1 i;
+  mask = reads MASK_LEN f.mask fits.0.1 i;
   class = class_back f.class i;
   name = name_back f.name rest i;
 }
@@ -59,9 +43,9 @@ change_back t s Wakeup rest n fits = λ i. Thread (reads 4 t (omega (arith, n.ti
 change_back t s (Preempted c) rest n fits = λ i. Thread (reads 4 t (omega (arith, n.tid_high)) i) (reads 4 s n.tseq_high i) (Preempted (reads 2 c (omega arith) i))
 change_back t s (Yield c) rest n fits = λ i. Thread (reads 4 t (omega (arith, n.tid_high)) i) (reads 4 s n.tseq_high i) (Yield (reads 2 c (omega arith) i))
 change_back t s (Dead None) rest n fits = λ i. Thread (reads 4 t (omega (arith, n.tid_high)) i) (reads 4 s n.tseq_high i) (Dead None)
-change_back t s (Dead (Some c)) rest n fits = λ i. Thread (reads 4 t (omega (arith, n.tid_high)) i) (reads 4 s n.tseq_high i) (Dead (cpu_back c fits i))
-change_back t s (Affinity None off m) rest n fits = λ i. Thread (reads 4 t (omega (arith, n.tid_high)) i) (reads 4 s n.tseq_high i) (Affinity None (flag_back off i) (reads 16 m fits.0.1 i))
-change_back t s (Affinity (Some c) off m) rest n fits = λ i. Thread (reads 4 t (omega (arith, n.tid_high)) i) (reads 4 s n.tseq_high i) (Affinity (cpu_back c fits.1 i) (flag_back off i) (reads 16 m fits.0.1 i))
+change_back t s (Dead (Some c)) rest n fits = λ i. Thread (reads 4 t (omega (arith, n.tid_high)) i) (reads 4 s n.tseq_high i) (Dead (cpu_back (Some c) fits i))
+change_back t s (Affinity None off m) rest n fits = λ i. Thread (reads 4 t (omega (arith, n.tid_high)) i) (reads 4 s n.tseq_high i) (Affinity None (flag_back off i) (reads MASK_LEN m fits.0.1 i))
+change_back t s (Affinity (Some c) off m) rest n fits = λ i. Thread (reads 4 t (omega (arith, n.tid_high)) i) (reads 4 s n.tseq_high i) (Affinity (cpu_back (Some c) fits.1 i) (flag_back off i) (reads MASK_LEN m fits.0.1 i))
 
 -- a message is read back from its spelling, whatever follows it
 pub read_back : (m : Message) (rest : List ℕ) → IsSpellable m → message_in (spelling m ++ rest) ≡ m
@@ -82,8 +66,8 @@ kind_back kinds.Dead = refl
 kind_back kinds.Affinity = refl
 kind_back kinds.TimerTick = refl
 
-pub kind_begun : (bytes : List ℕ) (m : Message) → Begins bytes m → kind_numbered (number_at 2 2 bytes) ≡ Some (kind_of m)
-kind_begun bytes m h = ap (λ (bs : List ℕ). kind_numbered (number_at 2 2 bs)) h.whole ∙ kind_back (kind_of m)
+pub kind_begun : (bytes : List ℕ) (m : Message) → Begins bytes m → kind_numbered (number_at KIND_AT 2 bytes) ≡ Some (kind_of m)
+kind_begun bytes m h = ap (λ (bs : List ℕ). kind_numbered (number_at KIND_AT 2 bs)) h.whole ∙ kind_back (kind_of m)
 
 pub kind_in_begun : (bytes : List ℕ) (m : Message) → Begins bytes m → kind_in bytes ≡ kind_of m
 kind_in_begun bytes m h = ap (λ (o : Option Kind). unwrap_or o kinds.TimerTick) (kind_begun bytes m h)
@@ -99,10 +83,10 @@ masked k (inr e) = ap has_mask e
 
 -- the mask of a creation or of a new mask stands where the bytes name it
 pub mask_begun : (bytes : List ℕ) (m : Message) (k : Kind) → Begins bytes m → k ≡ kind_of m → (k ≡ kinds.Created) ⊎ (k ≡ kinds.Affinity)
-    → Some (number_at 16 16 bytes) ≡ mask_of m
-mask_begun bytes (Thread t s (Created f)) k h e kind = ap (λ (n : ℕ). Some n) (ap (number_at 16 16) h.whole ∙ reads 16 f.mask h.spellable.1.0.1)
-mask_begun bytes (Thread t s (Affinity None off m)) k h e kind = ap (λ (n : ℕ). Some n) (ap (number_at 16 16) h.whole ∙ reads 16 m h.spellable.1.0.1)
-mask_begun bytes (Thread t s (Affinity (Some c) off m)) k h e kind = ap (λ (n : ℕ). Some n) (ap (number_at 16 16) h.whole ∙ reads 16 m h.spellable.1.0.1)
+    → Some (number_at MASK_AT MASK_LEN bytes) ≡ mask_of m
+mask_begun bytes (Thread t s (Created f)) k h e kind = ap (λ (n : ℕ). Some n) (ap (number_at MASK_AT MASK_LEN) h.whole ∙ reads MASK_LEN f.mask h.spellable.1.0.1)
+mask_begun bytes (Thread t s (Affinity None off m)) k h e kind = ap (λ (n : ℕ). Some n) (ap (number_at MASK_AT MASK_LEN) h.whole ∙ reads MASK_LEN m h.spellable.1.0.1)
+mask_begun bytes (Thread t s (Affinity (Some c) off m)) k h e kind = ap (λ (n : ℕ). Some n) (ap (number_at MASK_AT MASK_LEN) h.whole ∙ reads MASK_LEN m h.spellable.1.0.1)
 mask_begun bytes (Thread t s (Blocked c)) k h e kind = absurd (false≢true (sym (ap has_mask e) ∙ masked k kind))
 mask_begun bytes (Thread t s Wakeup) k h e kind = absurd (false≢true (sym (ap has_mask e) ∙ masked k kind))
 mask_begun bytes (Thread t s (Preempted c)) k h e kind = absurd (false≢true (sym (ap has_mask e) ∙ masked k kind))
@@ -111,7 +95,7 @@ mask_begun bytes (Thread t s (Dead c)) k h e kind = absurd (false≢true (sym (a
 mask_begun bytes (TimerTick c) k h e kind = absurd (false≢true (sym (ap has_mask e) ∙ masked k kind))
 
 -- a message of a thread, by its fields
-pub thread_made : (k : Kind) (bytes : List ℕ) (t s : ℕ) (c : Change) → (k ≡ kinds.TimerTick → ⊥) → t ≡ number_at 4 4 bytes → s ≡ number_at 8 4 bytes → c ≡ change_with k bytes
+pub thread_made : (k : Kind) (bytes : List ℕ) (t s : ℕ) (c : Change) → (k ≡ kinds.TimerTick → ⊥) → t ≡ number_at TID_AT 4 bytes → s ≡ number_at TSEQ_AT 4 bytes → c ≡ change_with k bytes
     → Thread t s c ≡ message_with k bytes
 thread_made kinds.Created bytes t s c other p q r = λ i. Thread (p i) (q i) (r i)
 thread_made kinds.Blocked bytes t s c other p q r = λ i. Thread (p i) (q i) (r i)

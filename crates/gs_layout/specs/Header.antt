@@ -1,4 +1,4 @@
--- The first 16 bytes of a message as the encoder holds them.
+-- The header of a message as the encoder holds it.
 use Rattle.std.specs.Prelude.{ℕ, List}
 use Rattle.gs_layout.specs.declared.encode.Header.{Header}
 use Rattle.gs_layout.specs.Spelling.{header_bytes}

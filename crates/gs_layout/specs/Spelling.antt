@@ -1,6 +1,7 @@
 -- The bytes of a message. All numbers are little-endian, and every byte that no field names is zero.
-use Rattle.std.specs.Prelude.{◌≡◌, true, false, ℕ, ◌+◌, ◌-◌, ◌*◌, ◌/◌, ◌^◌, ◌<◌, ◌≤◌, Option, None, Some, List, [], ◌∷◌, ◌++◌, length, replicate, if◌then◌else◌}
+use Rattle.std.specs.Prelude.{◌≡◌, Bool, true, false, ◌&&◌, nat_le, nat_lt, ℕ, ◌+◌, ◌-◌, ◌*◌, ◌/◌, ◌^◌, ◌<◌, ◌≤◌, Option, None, Some, List, [], ◌∷◌, ◌++◌, length, replicate, if◌then◌else◌}
 use Rattle.byteorder.specs.Endian.{little_bytes}
+use Rattle.gs_layout.specs.declared.wire.TheConstants.{AFFINITY_LEN, ALIGNMENT, HEADER_LEN, MASK_LEN, NAME_AT}
 use Rattle.gs_status.specs.declared.mask.TheConstants.{MOST_CPUS}
 use Rattle.gs_layout.specs.declared.cpu.TheConstants.{NO_CPU}
 use Rattle.gs_layout.specs.declared.facts.Class.{Class}
@@ -83,26 +84,26 @@ name_of _ = None
 
 -- the next multiple of 8
 abbrev pub round_up : ℕ → ℕ
-round_up n = (n + 7) / 8 * 8
+round_up n = (n + (ALIGNMENT - 1)) / ALIGNMENT * ALIGNMENT
 
 abbrev pub size_of_change : Change → ℕ
-size_of_change (Created f) = round_up (34 + length f.name)
-size_of_change (Affinity c off m) = 32
-size_of_change _ = 16
+size_of_change (Created f) = round_up (NAME_AT + length f.name)
+size_of_change (Affinity c off m) = AFFINITY_LEN
+size_of_change _ = HEADER_LEN
 
 -- how many bytes a message has
 abbrev pub size_of : Message → ℕ
 size_of (Thread t s c) = size_of_change c
-size_of (TimerTick c) = 16
+size_of (TimerTick c) = HEADER_LEN
 
--- the first 16 bytes, by their numbers
+-- the header, by its numbers
 abbrev pub header_bytes : ℕ → ℕ → ℕ → ℕ → ℕ → ℕ → List ℕ
 header_bytes len kind tid tseq cpu flags =
     little_bytes 2 len ++ little_bytes 2 kind ++ little_bytes 4 tid ++ little_bytes 4 tseq ++ little_bytes 2 cpu ++ little_bytes 2 flags
 
 -- the zeros behind a name
 abbrev pub padding : ℕ → List ℕ
-padding name_len = replicate (round_up (34 + name_len) - (34 + name_len)) 0
+padding name_len = replicate (round_up (NAME_AT + name_len) - (NAME_AT + name_len)) 0
 
 -- a name, and the zeros behind it
 abbrev pub name_bytes : List ℕ → List ℕ
@@ -110,11 +111,11 @@ name_bytes name = name ++ padding (length name)
 
 -- of a creation: mask, class, the name's length, the name, zeros
 abbrev pub facts_bytes : Facts → List ℕ
-facts_bytes f = (little_bytes 16 f.mask ++ class_number f.class ∷ length f.name ∷ []) ++ name_bytes f.name
+facts_bytes f = (little_bytes MASK_LEN f.mask ++ class_number f.class ∷ length f.name ∷ []) ++ name_bytes f.name
 
 abbrev pub more_of_change : Change → List ℕ
 more_of_change (Created f) = facts_bytes f
-more_of_change (Affinity c off m) = little_bytes 16 m
+more_of_change (Affinity c off m) = little_bytes MASK_LEN m
 more_of_change _ = []
 
 -- the bytes behind the header
@@ -122,7 +123,7 @@ abbrev pub more_of : Message → List ℕ
 more_of (Thread t s c) = more_of_change c
 more_of (TimerTick c) = []
 
--- the first 16 bytes of a message
+-- the header of a message
 abbrev pub header_of : Message → List ℕ
 header_of m = header_bytes (size_of m) (kind_number (kind_of m)) (tid_of m) (tseq_of m) (cpu_number (cpu_of m)) (flags_of m)
 
@@ -132,6 +133,10 @@ spelling m = header_of m ++ more_of m
 
 abbrev pub IsMask : ℕ → Type 0
 IsMask mask = (0 < mask) × (mask < 2 ^ MOST_CPUS)
+
+abbrev pub is_cpu_or_none : Option ℕ → Bool
+is_cpu_or_none None = true
+is_cpu_or_none (Some c) = nat_lt c MOST_CPUS
 
 abbrev pub IsCpuOrNone : Option ℕ → Type 0
 IsCpuOrNone None = Unit {0}
@@ -148,7 +153,15 @@ IsSpellableChange (Dead c) = IsCpuOrNone c
 IsSpellableChange (Affinity None off m) = IsMask m × (off ≡ false)
 IsSpellableChange (Affinity (Some c) off m) = IsMask m × (c < MOST_CPUS)
 
--- a thread's number, and the number of a message about it
+-- whether this is a thread's number
+abbrev pub is_tid : ℕ → Bool
+is_tid tid = nat_le 1 tid && nat_le tid MOST_TIDS
+
+-- whether these are a thread's number and the number of a message about it, which has 4 bytes
+abbrev pub are_numbers : ℕ → ℕ → Bool
+are_numbers tid tseq = is_tid tid && nat_le 1 tseq
+
+-- the same as ranges
 pub record AreNumbers (tid tseq : ℕ) : Type 0 where
   pub tid_low : 1 ≤ tid
   pub tid_high : tid ≤ MOST_TIDS

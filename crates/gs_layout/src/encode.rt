@@ -9,10 +9,16 @@ use crate::cpu::cpu_number;
 use crate::facts::{Class, Facts};
 use crate::message::{Change, Message};
 use crate::name::MOST_NAME_LEN;
-use crate::wire::{AFFINITY_LEN, CPU_AT, FLAGS_AT, HEADER_LEN, KIND_AT, NAME_AT, TID_AT, TSEQ_AT};
+use crate::wire::{
+    AFFINITY_LEN, ALIGNMENT, CLASS_AT, CPU_AT, FLAGS_AT, HEADER_LEN, KIND_AT, MASK_LEN, NAME_AT,
+    TID_AT, TSEQ_AT,
+};
 use byteorder::{ByteOrder, LittleEndian};
 
-/// The numbers of a message's first 16 bytes.
+/// How many bytes the class of a creation and the length of its name have.
+const SIZES_LEN: usize = NAME_AT - CLASS_AT;
+
+/// The numbers of a message's header.
 #[derive(Clone, Copy)]
 struct Header {
     len: u16,
@@ -28,7 +34,7 @@ pub fn creation_len(name_len: usize) -> usize
     requires { name_len ≤ MOST_NAME_LEN }
     ensures { result ≡ round_up (NAME_AT + name_len) }
 {
-    (NAME_AT + name_len + 7) / 8 * 8
+    (NAME_AT + name_len + (ALIGNMENT - 1)) / ALIGNMENT * ALIGNMENT
 }
 
 fn flags(message: &Message) -> u16
@@ -84,10 +90,10 @@ fn header_of(message: &Message) -> Header
     }
 }
 
-/// Writes the first 16 bytes of a message.
+/// Writes the header of a message.
 fn write_header(header: &Header, out: &mut [u8])
-    requires { 16 ≤ length out.old }
-    ensures { out.new ≡ numbered header.now ++ drop 16 out.old }
+    requires { HEADER_LEN ≤ length out.old }
+    ensures { out.new ≡ numbered header.now ++ drop HEADER_LEN out.old }
 {
     LittleEndian::write_u16(out, header.len);
     LittleEndian::write_u16(&mut out[KIND_AT..], header.kind);
@@ -111,11 +117,11 @@ fn write_name(name: &[u8], out: &mut [u8])
 /// Writes a class, the length of a name, the name and the zeros behind it.
 fn write_class(class: Class, name: &[u8], out: &mut [u8])
     requires short { length name.now ≤ MOST_NAME_LEN }
-    requires room { 2 + length (name_bytes name.now) ≤ length out.old }
+    requires room { SIZES_LEN + length (name_bytes name.now) ≤ length out.old }
     ensures { out.new ≡ (class_number class ∷ length name.now ∷ name_bytes name.now) ++ drop (length (class_number class ∷ length name.now ∷ name_bytes name.now)) out.old }
 {
-    out[..2].copy_from_slice(&[class.number(), name.len() as u8]);
-    write_name(name, &mut out[2..]);
+    out[..SIZES_LEN].copy_from_slice(&[class.number(), name.len() as u8]);
+    write_name(name, &mut out[SIZES_LEN..]);
 }
 
 fn write_facts(facts: &Facts, out: &mut [u8])
@@ -123,7 +129,7 @@ fn write_facts(facts: &Facts, out: &mut [u8])
     ensures { out.new ≡ facts_bytes facts.now ++ drop (length (facts_bytes facts.now)) out.old }
 {
     LittleEndian::write_u128(out, facts.mask.bits());
-    write_class(facts.class, facts.name.as_bytes(), &mut out[16..]);
+    write_class(facts.class, facts.name.as_bytes(), &mut out[MASK_LEN..]);
 }
 
 /// Writes the bytes behind the header.

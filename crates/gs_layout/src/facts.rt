@@ -13,12 +13,23 @@ pub enum Class {
 
 impl Class {
     ghost use Rattle.gs_layout.specs.Class.{class_number};
+    ghost use Rattle.gs_layout.specs.Reading.{class_numbered};
 
     /// Returns the class's number, 0 or 1.
     pub fn number(self) -> u8
         ensures { result ≡ class_number self }
     {
         self as u8
+    }
+
+    /// Returns the class of this number: class 0 for 0, and class 1 for any other.
+    pub fn numbered(number: u8) -> Class
+        ensures { result ≡ class_numbered number }
+    {
+        match number {
+            0 => Class::Zero,
+            _ => Class::One,
+        }
     }
 }
 

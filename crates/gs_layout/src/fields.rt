@@ -97,11 +97,7 @@ fn class_at(bytes: &[u8]) -> Class
     requires { CLASS_AT < length bytes.now }
     ensures { result ≡ class_numbered (slice_index bytes.now CLASS_AT) }
 {
-    if bytes[CLASS_AT] == 0 {
-        Class::Zero
-    } else {
-        Class::One
-    }
+    Class::numbered(bytes[CLASS_AT])
 }
 
 fn name_at(bytes: &[u8]) -> &[u8]

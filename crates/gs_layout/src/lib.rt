@@ -30,12 +30,14 @@ pub use known::{Known, Word};
 pub use law::one_spelling;
 pub use message::{Change, MOST_TIDS, Message};
 pub use name::{MOST_NAME_LEN, Name};
-pub use number::{u16_at, u32_at, u64_at, u128_at};
-pub use outcome::Outcome;
+pub use number::{are_zeros, u16_at, u32_at, u64_at, u128_at};
+pub use outcome::{OUTCOMES, Outcome};
 pub use parcel::Parcel;
 pub use record::Record;
 pub use refusal::Refusal;
+pub use spellable::{are_numbers, is_cpu_or_none, is_tid};
 pub use wire::{
-    AFFINITY_LEN, CLASS_AT, CPU_AT, FLAGS_AT, HEADER_LEN, KIND_AT, MASK_AT, MOST_MESSAGE_LEN,
+    AFFINITY_LEN, ALIGNMENT, CLASS_AT, CPU_AT, FLAGS_AT, FRONT_LEN, HEADER_LEN, KIND_AT,
+    LEAST_CREATION_LEN, LEAST_PAD_LEN, LEN_AT, MASK_AT, MASK_LEN, MOST_MESSAGE_LEN, MOST_PAD_LEN,
     NAME_AT, NAME_LEN_AT, PAD, TID_AT, TSEQ_AT,
 };

@@ -4,7 +4,7 @@ ghost use Rattle.gs_layout.specs.Name.{is_name, is_name_byte};
 
 use std::marker::Model;
 
-/// The most bytes that a name has, so that no message has more than 56.
+/// The most bytes that a name has.
 pub const MOST_NAME_LEN: usize = 16;
 
 /// A thread's name: at most [`MOST_NAME_LEN`] bytes, each from 33 to 126. Clauses see it as its bytes.

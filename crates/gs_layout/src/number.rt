@@ -1,9 +1,16 @@
 //! Numbers where they stand in bytes, the lowest byte first.
 
 ghost use Rattle.std.specs.Prelude.{◌≡◌, ◌+◌, ◌≤◌, length};
-ghost use Rattle.gs_layout.specs.Reading.{number_at};
+ghost use Rattle.gs_layout.specs.Reading.{are_zeros, number_at};
 
 use byteorder::{ByteOrder, LittleEndian};
+
+/// Returns whether all of these bytes are zero.
+pub fn are_zeros(bytes: &[u8]) -> bool
+    ensures { result ≡ are_zeros bytes.now }
+{
+    bytes.iter().all(|byte| *byte == 0)
+}
 
 /// Returns the number of two bytes that stands at a place.
 pub fn u16_at(bytes: &[u8], place: usize) -> u16

@@ -1,5 +1,8 @@
 ghost use Rattle.std.specs.Prelude.{◌≡◌};
 
+/// How many outcomes there are: their numbers are below it.
+pub const OUTCOMES: u16 = 15;
+
 /// What becomes of a transaction when it lands: the first outcome that applies. `Malformed` is tested before
 /// all, then the others in the order in which they stand here. It is `Placed` if none applies. The layout
 /// numbers them from 0 to 14, in this order.

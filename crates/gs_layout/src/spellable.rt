@@ -1,14 +1,15 @@
-//! Which messages have a spelling.
+//! Which messages have a spelling, and the ranges of their fields.
 
 ghost use Rattle.std.specs.Prelude.{◌≡◌, ◌↔◌, IsTrue};
-ghost use Rattle.gs_layout.specs.Spelling.{AreNumbers, IsCpuOrNone, IsMask, IsSpellable, IsSpellableChange};
+ghost use Rattle.gs_layout.specs.Spelling.{AreNumbers, IsCpuOrNone, IsMask, IsSpellable, IsSpellableChange, are_numbers, is_cpu_or_none, is_tid};
 
 use crate::message::{Change, MOST_TIDS, Message};
 use gs_status::{MOST_CPUS, Mask};
 
-/// Returns whether this is a CPU, or none.
-fn is_cpu_or_none(cpu: Option<u16>) -> bool
-    ensures { IsTrue result ↔ IsCpuOrNone cpu }
+/// Returns whether this is a CPU, which is below [`MOST_CPUS`], or none.
+pub fn is_cpu_or_none(cpu: Option<u16>) -> bool
+    ensures value { result ≡ is_cpu_or_none cpu }
+    ensures spelled { IsTrue result ↔ IsCpuOrNone cpu }
 {
     match cpu {
         Some(cpu) => cpu < MOST_CPUS,
@@ -23,11 +24,19 @@ fn is_mask(mask: Mask) -> bool
     mask.bits() != 0
 }
 
-/// Returns whether this is a tid, and this the number of a message about its thread.
-fn are_numbers(tid: u32, tseq: u32) -> bool
-    ensures { IsTrue result ↔ AreNumbers tid tseq }
+/// Returns whether this is a thread's tid: from 1 to [`MOST_TIDS`].
+pub fn is_tid(tid: u32) -> bool
+    ensures { result ≡ is_tid tid }
 {
-    1 <= tid && tid <= MOST_TIDS && 1 <= tseq
+    1 <= tid && tid <= MOST_TIDS
+}
+
+/// Returns whether this is a thread's tid, and this the number of a message about it: at least 1.
+pub fn are_numbers(tid: u32, tseq: u32) -> bool
+    ensures value { result ≡ are_numbers tid tseq }
+    ensures spelled { IsTrue result ↔ AreNumbers tid tseq }
+{
+    is_tid(tid) && 1 <= tseq
 }
 
 impl Change {

@@ -1,11 +1,11 @@
 -- Reading is the spelling backwards, and each fault is returned exactly if it is the first in the order.
 use Rattle.std.proofs.Common.{◌≡◌, Bool, true, false, cond, ℕ, ◌≤◌, Option, None, Some, Result, Ok, Err, List, ◌++◌, length, take, drop, refl, ap, sym, subst, ◌∙◌, arith}
 use Rattle.std.specs.Prelude.{◌==◌, IfOk, IfErr}
-use Rattle.std.specs.List.{list_all}
 use Rattle.std.proofs.lemmas.List.{length-take, take-append-drop}
+use Rattle.gs_layout.specs.declared.wire.TheConstants.{FRONT_LEN, LEAST_PAD_LEN}
 use Rattle.gs_layout.specs.declared.kind.Kind.{Kind}
 use Rattle.gs_layout.specs.Pad.{pad}
-use Rattle.gs_layout.specs.Reading.{kind_numbered, message_in}
+use Rattle.gs_layout.specs.Reading.{are_zeros, kind_numbered, message_in}
 use Rattle.gs_layout.specs.Spelling.{spelling}
 use Rattle.gs_layout.proofs.Laws.{IsBytes, IsBytes-take}
 use Rattle.gs_reader.specs.declared.fault.ReadFault.{ReadFault}
@@ -38,7 +38,7 @@ ok_not_err : (x : Item × ℕ) (f : ReadFault) → ok_read x ≡ err_read f → 
 ok_not_err x f e = cc
 
 -- what was read is what the first bytes spell
-pad_found : (bytes : List ℕ) (n : ℕ) (b : Bool) (r : Item × ℕ) → IsBytes bytes → n ≤ length bytes → IsWhole None (take n bytes) → list_all (λ x. x == 0) (drop 4 (take n bytes)) ≡ b
+pad_found : (bytes : List ℕ) (n : ℕ) (b : Bool) (r : Item × ℕ) → IsBytes bytes → n ≤ length bytes → IsWhole None (take n bytes) → are_zeros (drop FRONT_LEN (take n bytes)) ≡ b
     → with_length n (cond b (Ok items.Pad) (Err BadField)) ≡ ok_read r → IsRead bytes r
 pad_found bytes n true r fits room w zeros e = subst (IsRead bytes) (ok_is (items.Pad, n) r e) (room, pad_read (take n bytes) (IsBytes-take n bytes fits) w zeros)
 pad_found bytes n false r fits room w zeros e = absurd (ok_not_err r BadField (sym e))
@@ -51,7 +51,7 @@ message_found bytes n k true r fits room w fit e =
 message_found bytes n k false r fits room w fit e = absurd (ok_not_err r BadField (sym e))
 
 item_found : (bytes : List ℕ) (n : ℕ) (o : Option Kind) (r : Item × ℕ) → IsBytes bytes → n ≤ length bytes → IsWhole o (take n bytes) → with_length n (item_in o (take n bytes)) ≡ ok_read r → IsRead bytes r
-item_found bytes n None r fits room w e = pad_found bytes n (list_all (λ x. x == 0) (drop 4 (take n bytes))) r fits room w refl e
+item_found bytes n None r fits room w e = pad_found bytes n (are_zeros (drop FRONT_LEN (take n bytes))) r fits room w refl e
 item_found bytes n (Some k) r fits room w e = message_found bytes n k (fields_fit k (take n bytes)) r fits room w refl e
 
 found_behind : (bytes : List ℕ) (o : Option ReadFault) (r : Item × ℕ) → IsBytes bytes → front_fault bytes ≡ o → read_behind o bytes ≡ ok_read r → IsRead bytes r
@@ -93,7 +93,7 @@ item_fault n true item f e = absurd (ok_not_err (item, n) f e)
 item_fault n false item f e = err_is BadField f e
 
 fault_item : (n : ℕ) (o : Option Kind) (text : List ℕ) (f : ReadFault) → with_length n (item_in o text) ≡ err_read f → BadField ≡ f
-fault_item n None text f e = item_fault n (list_all (λ x. x == 0) (drop 4 text)) items.Pad f e
+fault_item n None text f e = item_fault n (are_zeros (drop FRONT_LEN text)) items.Pad f e
 fault_item n (Some k) text f e = item_fault n (fields_fit k text) (items.Message (message_in text)) f e
 
 fault_behind : (bytes : List ℕ) (o : Option ReadFault) (f : ReadFault) → front_fault bytes ≡ o → read_behind o bytes ≡ err_read f → read bytes ≡ err_read f → IsFault bytes f
@@ -133,22 +133,22 @@ pub fault_clause : (bytes : List ℕ) (a : Answer) → a ≡ read bytes → IfEr
 fault_clause bytes (Ok r) e = tt
 fault_clause bytes (Err f) e = is_fault bytes f (sym e)
 
--- an item that was read has at least 8 bytes, and they are there
+-- an item that was read has at least the bytes of a PAD, and they are there
 with_length_is : (n : ℕ) (a : Result Item ReadFault) (r : Item × ℕ) → with_length n a ≡ ok_read r → n ≡ r.1
 with_length_is n (Ok item) r e = ap (λ (p : Item × ℕ). p.1) (ok_is (item, n) r e)
 with_length_is n (Err f) r e = absurd (ok_not_err r f (sym e))
 
-size_behind : (bytes : List ℕ) (o : Option ReadFault) (r : Item × ℕ) → front_fault bytes ≡ o → read_behind o bytes ≡ ok_read r → (8 ≤ r.1) × (r.1 ≤ length bytes)
+size_behind : (bytes : List ℕ) (o : Option ReadFault) (r : Item × ℕ) → front_fault bytes ≡ o → read_behind o bytes ≡ ok_read r → (LEAST_PAD_LEN ≤ r.1) × (r.1 ≤ length bytes)
 size_behind bytes (Some f) r front e = absurd (ok_not_err r f (sym e))
 size_behind bytes None r front e =
     let h = fronted bytes front in
     let n : length_in bytes ≡ r.1 = with_length_is (length_in bytes) (item_in (kind_numbered (kind_number_in bytes)) (take (length_in bytes) bytes)) r e in
-    let low = least_length (kind_number_in bytes) (length_in bytes) h.one in
+    let low = least_length (kind_numbered (kind_number_in bytes)) (length_in bytes) h.one in
     (omega (arith, n, low), omega (arith, n, h.room))
 
-pub size_read : (bytes : List ℕ) (r : Item × ℕ) → read bytes ≡ ok_read r → (8 ≤ r.1) × (r.1 ≤ length bytes)
+pub size_read : (bytes : List ℕ) (r : Item × ℕ) → read bytes ≡ ok_read r → (LEAST_PAD_LEN ≤ r.1) × (r.1 ≤ length bytes)
 size_read bytes r e = size_behind bytes (front_fault bytes) r refl e
 
-pub size_clause : (bytes : List ℕ) (a : Answer) → a ≡ read bytes → IfOk a (λ r. (8 ≤ r.1) × (r.1 ≤ length bytes))
+pub size_clause : (bytes : List ℕ) (a : Answer) → a ≡ read bytes → IfOk a (λ r. (LEAST_PAD_LEN ≤ r.1) × (r.1 ≤ length bytes))
 size_clause bytes (Ok r) e = size_read bytes r (sym e)
 size_clause bytes (Err f) e = tt

@@ -1,10 +1,12 @@
 -- What the faults of the length and the kind say of the bytes.
 use Rattle.std.proofs.Common.{◌≡◌, Bool, true, false, cond, ℕ, ◌≤◌, Option, None, Some, List, length, take, refl, ap, sym, ◌∙◌, arith}
 use Rattle.std.specs.Prelude.{◌==◌, ◌||◌, not, nat_lt}
-use Rattle.std.specs.List.{list_any}
 use Rattle.std.proofs.lemmas.Bool.{le-ltb, ltb-false}
 use Rattle.std.proofs.lemmas.Bool.Decides.{nat_tests}
 use Rattle.std.proofs.lemmas.List.{get_or-drop, get_or-take, length-take}
+use Rattle.gs_layout.specs.declared.kind.Kind.{Kind}
+use Rattle.gs_layout.specs.declared.kind.Kind.TheVariants as kinds
+use Rattle.gs_layout.specs.declared.wire.TheConstants.{FRONT_LEN, KIND_AT, LEAST_PAD_LEN, LEN_AT}
 use Rattle.gs_layout.specs.Reading.{kind_numbered, number_at}
 use Rattle.gs_reader.specs.declared.fault.ReadFault.{ReadFault}
 use Rattle.gs_reader.specs.declared.fault.ReadFault.TheVariants.{Short, BadKind, BadLength, BadField}
@@ -31,20 +33,20 @@ no_field false true true false e = cc
 
 pub front_no_field : (bytes : List ℕ) → front_fault bytes ≡ Some BadField → ⊥
 front_no_field bytes e =
-    no_field (nat_lt (length bytes) 4) (is_kind (kind_number_in bytes)) (has_length (kind_number_in bytes) (length_in bytes)) (nat_lt (length bytes) (length_in bytes)) e
+    no_field (nat_lt (length bytes) FRONT_LEN) (is_kind (kind_number_in bytes)) (has_length (kind_numbered (kind_number_in bytes)) (length_in bytes)) (nat_lt (length bytes) (length_in bytes)) e
 
 -- no fault of the length and the kind
 pub record IsFronted (bytes : List ℕ) : Type 0 where
-  pub four : 4 ≤ length bytes
+  pub four : FRONT_LEN ≤ length bytes
   pub known : is_kind (kind_number_in bytes) ≡ true
-  pub one : has_length (kind_number_in bytes) (length_in bytes) ≡ true
+  pub one : has_length (kind_numbered (kind_number_in bytes)) (length_in bytes) ≡ true
   pub room : length_in bytes ≤ length bytes
 
 pub fronted : (bytes : List ℕ) → front_fault bytes ≡ None → IsFronted bytes
 fronted bytes e =
-    let p = passed (nat_lt (length bytes) 4) (is_kind (kind_number_in bytes)) (has_length (kind_number_in bytes) (length_in bytes)) (nat_lt (length bytes) (length_in bytes)) e in
+    let p = passed (nat_lt (length bytes) FRONT_LEN) (is_kind (kind_number_in bytes)) (has_length (kind_numbered (kind_number_in bytes)) (length_in bytes)) (nat_lt (length bytes) (length_in bytes)) e in
     record {
-      four = ltb-false (length bytes) 4 p.0;
+      four = ltb-false (length bytes) FRONT_LEN p.0;
       known = p.1;
       one = p.2;
       room = ltb-false (length bytes) (length_in bytes) p.3;
@@ -52,38 +54,30 @@ fronted bytes e =
 
 pub front_none : (bytes : List ℕ) → IsFronted bytes → front_fault bytes ≡ None
 front_none bytes h =
-    let a : nat_lt (length bytes) 4 ≡ false = le-ltb (length bytes) 4 h.four in
+    let a : nat_lt (length bytes) FRONT_LEN ≡ false = le-ltb (length bytes) FRONT_LEN h.four in
     let d : nat_lt (length bytes) (length_in bytes) ≡ false = le-ltb (length bytes) (length_in bytes) h.room in
     λ i. tested (a i) (h.known i) (h.one i) (d i)
 
-pick : (b : Bool) (xs ys : List ℕ) (n : ℕ) → list_any (λ m. m == n) (cond b xs ys) ≡ true → (list_any (λ m. m == n) xs ≡ true → 8 ≤ n) → (list_any (λ m. m == n) ys ≡ true → 8 ≤ n) → 8 ≤ n
-pick true xs ys n e first second = first e
-pick false xs ys n e first second = second e
-
-low_16 : (n : ℕ) → ((16 == n) || false) ≡ true → 8 ≤ n
-low_16 n e = grind (arith, nat_tests)
-
-low_new : (n : ℕ) → ((32 == n) || false) ≡ true → 8 ≤ n
-low_new n e = grind (arith, nat_tests)
-
-low_created : (n : ℕ) → ((40 == n) || ((48 == n) || ((56 == n) || false))) ≡ true → 8 ≤ n
-low_created n e = grind (arith, nat_tests)
-
-low_8 : (n : ℕ) → ((8 == n) || ((16 == n) || ((24 == n) || ((32 == n) || ((40 == n) || ((48 == n) || false)))))) ≡ true → 8 ≤ n
-low_8 n e = grind (arith, nat_tests)
-
--- no kind has a length under 8
-pub least_length : (k n : ℕ) → has_length k n ≡ true → 8 ≤ n
-least_length k n e = pick (k == 1) _ _ n e (low_created n) (λ e. pick (k == 7) _ _ n e (low_new n) (λ e. pick (k == 9) _ _ n e (low_8 n) (low_16 n)))
+-- no kind has a length under that of the least PAD
+pub least_length : (o : Option Kind) (n : ℕ) → has_length o n ≡ true → LEAST_PAD_LEN ≤ n
+least_length (Some kinds.Created) n e = grind (arith, nat_tests)
+least_length (Some kinds.Blocked) n e = grind (arith, nat_tests)
+least_length (Some kinds.Wakeup) n e = grind (arith, nat_tests)
+least_length (Some kinds.Preempted) n e = grind (arith, nat_tests)
+least_length (Some kinds.Yield) n e = grind (arith, nat_tests)
+least_length (Some kinds.Dead) n e = grind (arith, nat_tests)
+least_length (Some kinds.Affinity) n e = grind (arith, nat_tests)
+least_length (Some kinds.TimerTick) n e = grind (arith, nat_tests)
+least_length None n e = grind (arith, nat_tests)
 
 -- the front of a text says what the front of the bytes says
-pub front_0 : (n : ℕ) (bytes : List ℕ) → 4 ≤ n → number_at 0 2 (take n bytes) ≡ number_at 0 2 bytes
+pub front_0 : (n : ℕ) (bytes : List ℕ) → FRONT_LEN ≤ n → number_at LEN_AT 2 (take n bytes) ≡ number_at LEN_AT 2 bytes
 front_0 n bytes h =
     let a = get_or-take n bytes 0 0 (omega arith) in
     let b = get_or-take n bytes 1 0 (omega arith) in
     omega (arith, a, b)
 
-pub front_2 : (n : ℕ) (bytes : List ℕ) → 4 ≤ n → number_at 2 2 (take n bytes) ≡ number_at 2 2 bytes
+pub front_2 : (n : ℕ) (bytes : List ℕ) → FRONT_LEN ≤ n → number_at KIND_AT 2 (take n bytes) ≡ number_at KIND_AT 2 bytes
 front_2 n bytes h =
     let a = get_or-take n bytes 2 0 (omega arith) in
     let b = get_or-take n bytes 3 0 (omega arith) in
@@ -97,7 +91,7 @@ front_2 n bytes h =
 pub whole_text : (bytes : List ℕ) → IsFronted bytes → IsWhole (kind_numbered (kind_number_in bytes)) (take (length_in bytes) bytes)
 whole_text bytes h =
     let n = length_in bytes in
-    let low : 8 ≤ n = least_length (kind_number_in bytes) n h.one in
+    let low : LEAST_PAD_LEN ≤ n = least_length (kind_numbered (kind_number_in bytes)) n h.one in
     let kind = front_2 n bytes (omega arith) in
     let size = front_0 n bytes (omega arith) in
     let len : length (take n bytes) ≡ n = omega (arith, length-take n bytes, h.room) in
@@ -105,5 +99,5 @@ whole_text bytes h =
       kind = ap kind_numbered kind;
       known = ap is_kind kind ∙ h.known;
       size = size ∙ sym len;
-      one = (λ i. has_length (kind i) (len i)) ∙ h.one;
+      one = ap (has_length (kind_numbered (kind_number_in bytes))) len ∙ h.one;
     }

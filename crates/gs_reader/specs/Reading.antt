@@ -1,16 +1,15 @@
 -- What bytes begin with.
 use Rattle.std.specs.Prelude.{◌≡◌, Bool, true, not, ◌==◌, ◌&&◌, ◌||◌, nat_lt, nat_le, ℕ, ◌+◌, ◌≤◌, Option, None, Some, Result, Ok, Err, List, length, take, drop, slice_index, if◌then◌else◌}
-use Rattle.std.specs.List.{list_all}
+use Rattle.gs_layout.specs.declared.wire.TheConstants.{CLASS_AT, CPU_AT, FLAGS_AT, FRONT_LEN, MASK_AT, MASK_LEN, NAME_AT, NAME_LEN_AT, TID_AT, TSEQ_AT}
 use Rattle.gs_status.specs.declared.mask.TheConstants.{MOST_CPUS}
 use Rattle.gs_layout.specs.declared.cpu.TheConstants.{NO_CPU}
 use Rattle.gs_layout.specs.declared.kind.Kind.{Kind}
 use Rattle.gs_layout.specs.declared.kind.Kind.TheVariants as kinds
-use Rattle.gs_layout.specs.declared.message.TheConstants.{MOST_TIDS}
 use Rattle.gs_layout.specs.declared.name.TheConstants.{MOST_NAME_LEN}
 use Rattle.gs_layout.specs.Name.{is_name}
 use Rattle.gs_layout.specs.Pad.{IsPadSize, pad}
-use Rattle.gs_layout.specs.Reading.{kind_numbered, message_in, name_in, number_at}
-use Rattle.gs_layout.specs.Spelling.{IsSpellable, round_up, spelling}
+use Rattle.gs_layout.specs.Reading.{are_zeros, kind_numbered, message_in, name_in, number_at}
+use Rattle.gs_layout.specs.Spelling.{IsSpellable, are_numbers, round_up, spelling}
 use Rattle.gs_reader.specs.declared.fault.ReadFault.{ReadFault}
 use Rattle.gs_reader.specs.declared.fault.ReadFault.TheVariants.{BadField}
 use Rattle.gs_reader.specs.declared.item.Item.{Item}
@@ -33,7 +32,7 @@ IsFault bytes f = front_fault bytes ≡ Some f
 
 abbrev pub numbers_fit : Kind → ℕ → ℕ → Bool
 numbers_fit kinds.TimerTick tid tseq = tid == 0 && tseq == 0
-numbers_fit _ tid tseq = nat_le 1 tid && nat_le tid MOST_TIDS && nat_le 1 tseq
+numbers_fit _ tid tseq = are_numbers tid tseq
 
 abbrev pub cpu_fits : Kind → ℕ → Bool
 cpu_fits kinds.Created cpu = cpu == NO_CPU
@@ -50,25 +49,25 @@ flags_fit _ cpu flags = flags == 0
 -- the mask, the class and the lengths of a creation
 abbrev pub sizes_fit : List ℕ → Bool
 sizes_fit text =
-    not (number_at 16 16 text == 0) && nat_lt (slice_index text 32) 2 && nat_le (slice_index text 33) MOST_NAME_LEN && round_up (34 + slice_index text 33) == length text
+    not (number_at MASK_AT MASK_LEN text == 0) && nat_lt (slice_index text CLASS_AT) 2 && nat_le (slice_index text NAME_LEN_AT) MOST_NAME_LEN && round_up (NAME_AT + slice_index text NAME_LEN_AT) == length text
 
 -- the name of a creation, and the zeros behind it
 abbrev pub name_fits : List ℕ → Bool
-name_fits text = is_name (name_in text) && list_all (λ b. b == 0) (drop (34 + slice_index text 33) text)
+name_fits text = is_name (name_in text) && are_zeros (drop (NAME_AT + slice_index text NAME_LEN_AT) text)
 
 abbrev pub more_fits : Kind → List ℕ → Bool
 more_fits kinds.Created text = sizes_fit text && name_fits text
-more_fits kinds.Affinity text = not (number_at 16 16 text == 0)
+more_fits kinds.Affinity text = not (number_at MASK_AT MASK_LEN text == 0)
 more_fits _ text = true
 
 -- whether each field of a message of this kind is in its range
 abbrev pub fields_fit : Kind → List ℕ → Bool
 fields_fit k text =
-    numbers_fit k (number_at 4 4 text) (number_at 8 4 text) && cpu_fits k (number_at 12 2 text) && flags_fit k (number_at 12 2 text) (number_at 14 2 text) && more_fits k text
+    numbers_fit k (number_at TID_AT 4 text) (number_at TSEQ_AT 4 text) && cpu_fits k (number_at CPU_AT 2 text) && flags_fit k (number_at CPU_AT 2 text) (number_at FLAGS_AT 2 text) && more_fits k text
 
 -- the item that all of these bytes are, which have the length that they name: a message of this kind, or a PAD
 abbrev pub item_in : Option Kind → List ℕ → Result Item ReadFault
-item_in None text = if list_all (λ b. b == 0) (drop 4 text) then Ok Pad else Err BadField
+item_in None text = if are_zeros (drop FRONT_LEN text) then Ok Pad else Err BadField
 item_in (Some k) text = if fields_fit k text then Ok (Message (message_in text)) else Err BadField
 
 -- these bytes have the length that they name, which is one of the kind's, and they name the kind, or a PAD
@@ -76,7 +75,7 @@ pub record IsWhole (o : Option Kind) (text : List ℕ) : Type 0 where
   pub kind : kind_numbered (kind_number_in text) ≡ o
   pub known : is_kind (kind_number_in text) ≡ true
   pub size : length_in text ≡ length text
-  pub one : has_length (kind_number_in text) (length text) ≡ true
+  pub one : has_length o (length text) ≡ true
 
 abbrev pub with_length : ℕ → Result Item ReadFault → Result (Item × ℕ) ReadFault
 with_length len (Ok item) = Ok (item, len)

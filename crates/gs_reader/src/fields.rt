@@ -1,14 +1,13 @@
 //! The ranges of a message's fields.
 
-ghost use Rattle.std.specs.Prelude.{◌≡◌, ◌==◌, ◌+◌, ◌≤◌, length, slice_index};
+ghost use Rattle.std.specs.Prelude.{◌≡◌, ◌+◌, ◌≤◌, length, slice_index};
 ghost use Rattle.std.specs.Bool.{OnTrue};
-ghost use Rattle.std.specs.List.{list_all};
 ghost use Rattle.gs_layout.specs.Reading.{least};
 ghost use Rattle.gs_reader.specs.Reading.{cpu_fits, fields_fit, flags_fit, more_fits, name_fits, numbers_fit, sizes_fit};
 
 use gs_layout::{
-    CLASS_AT, CPU_AT, FLAGS_AT, Kind, MASK_AT, MOST_NAME_LEN, MOST_TIDS, NAME_AT, NAME_LEN_AT,
-    NO_CPU, Name, TID_AT, TSEQ_AT, creation_len, u16_at, u32_at, u128_at,
+    CLASS_AT, CPU_AT, FLAGS_AT, Kind, MASK_AT, MOST_NAME_LEN, NAME_AT, NAME_LEN_AT, NO_CPU, Name,
+    TID_AT, TSEQ_AT, are_numbers, are_zeros, creation_len, u16_at, u32_at, u128_at,
 };
 use gs_status::MOST_CPUS;
 
@@ -17,7 +16,7 @@ fn numbers_fit(kind: Kind, tid: u32, tseq: u32) -> bool
 {
     match kind {
         Kind::TimerTick => tid == 0 && tseq == 0,
-        _ => 1 <= tid && tid <= MOST_TIDS && 1 <= tseq,
+        _ => are_numbers(tid, tseq),
     }
 }
 
@@ -39,12 +38,6 @@ fn flags_fit(kind: Kind, cpu: u16, flags: u16) -> bool
         Kind::Affinity => flags == 0 || (flags == 1 && cpu != NO_CPU),
         _ => flags == 0,
     }
-}
-
-pub(crate) fn are_zeros(bytes: &[u8]) -> bool
-    ensures { result ≡ list_all (λ b. b == 0) bytes.now }
-{
-    bytes.iter().all(|byte| *byte == 0)
 }
 
 fn sizes_fit(text: &[u8]) -> bool

@@ -5,43 +5,51 @@ ghost use Rattle.gs_layout.specs.declared.message.Message.{Message};
 ghost use Rattle.gs_layout.specs.Spelling.{IsSpellable, spelling};
 ghost use Rattle.gs_reader.specs.declared.fault.ReadFault.{ReadFault};
 ghost use Rattle.gs_reader.specs.declared.item.Item.{Item};
-ghost use Rattle.gs_reader.specs.Fault.{front_fault, has_length};
+ghost use Rattle.gs_reader.specs.Fault.{front_fault, has_length, is_length};
 ghost use Rattle.gs_reader.specs.Reading.{IsFault, IsRead, IsWhole, item_in, read};
 
 use crate::fault::ReadFault;
-use crate::fields::{are_zeros, fields_fit};
+use crate::fields::fields_fit;
 use crate::item::Item;
 use crate::message_ref::MessageRef;
-use gs_layout::{AFFINITY_LEN, HEADER_LEN, KIND_AT, Kind, PAD, u16_at};
+use gs_layout::{
+    AFFINITY_LEN, ALIGNMENT, FRONT_LEN, HEADER_LEN, KIND_AT, Kind, LEAST_CREATION_LEN,
+    LEAST_PAD_LEN, LEN_AT, MOST_MESSAGE_LEN, MOST_PAD_LEN, PAD, are_zeros, u16_at,
+};
 
-fn has_length(kind: u16, len: u16) -> bool
+fn is_length(least: usize, most: usize, len: usize) -> bool
+    ensures { result ≡ is_length least most len }
+{
+    least <= len && len <= most && len % ALIGNMENT == 0
+}
+
+/// Returns whether a message of this kind, or a PAD, may have so many bytes.
+fn has_length(kind: Option<Kind>, len: usize) -> bool
     ensures { result ≡ has_length kind len }
 {
-    match Kind::numbered(kind) {
-        Some(Kind::Created) => len == 40 || len == 48 || len == 56,
-        Some(Kind::Affinity) => len == AFFINITY_LEN as u16,
-        None if kind == PAD => {
-            len == 8 || len == 16 || len == 24 || len == 32 || len == 40 || len == 48
-        }
-        _ => len == HEADER_LEN as u16,
+    match kind {
+        Some(Kind::Created) => is_length(LEAST_CREATION_LEN, MOST_MESSAGE_LEN, len),
+        Some(Kind::Affinity) => len == AFFINITY_LEN,
+        Some(_) => len == HEADER_LEN,
+        None => is_length(LEAST_PAD_LEN, MOST_PAD_LEN, len),
     }
 }
 
 fn front_fault(bytes: &[u8]) -> Option<ReadFault>
     ensures { result ≡ front_fault bytes.now }
 {
-    if bytes.len() < 4 {
+    if bytes.len() < FRONT_LEN {
         return Some(ReadFault::Short);
     }
-    let len = u16_at(bytes, 0);
+    let len = u16_at(bytes, LEN_AT) as usize;
     let kind = u16_at(bytes, KIND_AT);
     if kind < 1 || kind > PAD {
         return Some(ReadFault::BadKind);
     }
-    if !has_length(kind, len) {
+    if !has_length(Kind::numbered(kind), len) {
         return Some(ReadFault::BadLength);
     }
-    if bytes.len() < len as usize {
+    if bytes.len() < len {
         return Some(ReadFault::Short);
     }
     None
@@ -53,7 +61,7 @@ fn item_in(kind: Option<Kind>, text: &[u8]) -> Result<Item<'_>, ReadFault>
     ensures { result ≡ item_in kind text.now }
 {
     match kind {
-        None if are_zeros(&text[4..]) => Ok(Item::Pad),
+        None if are_zeros(&text[FRONT_LEN..]) => Ok(Item::Pad),
         Some(kind) if fields_fit(kind, text) => Ok(Item::Message(MessageRef::over(text))),
         _ => Err(ReadFault::BadField),
     }
@@ -65,7 +73,7 @@ fn first_item(bytes: &[u8]) -> Result<(Item<'_>, usize), ReadFault>
     if let Some(fault) = front_fault(bytes) {
         return Err(fault);
     }
-    let len = u16_at(bytes, 0) as usize;
+    let len = u16_at(bytes, LEN_AT) as usize;
     let kind = Kind::numbered(u16_at(bytes, KIND_AT));
     Ok((item_in(kind, &bytes[..len])?, len))
 }
@@ -90,7 +98,7 @@ pub fn read_one(bytes: &[u8]) -> Result<(Item<'_>, usize), ReadFault>
     ensures again { (m : Message) (rest : List ℕ) → IsSpellable m → bytes.now ≡ spelling m ++ rest
         → result ≡ Ok (Item.Message m, length (spelling m)) }
 
-    ensures size { IfOk result (λ found. (8 ≤ found.1) × (found.1 ≤ length bytes.now)) }
+    ensures size { IfOk result (λ found. (LEAST_PAD_LEN ≤ found.1) × (found.1 ≤ length bytes.now)) }
     ensures exact { result ≡ read bytes.now }
 {
     first_item(bytes)

@@ -3,6 +3,7 @@ use Rattle.std.proofs.Common.{◌≡◌, ℕ, ◌+◌, ◌-◌, ◌*◌, ◌/◌
 use Rattle.std.proofs.Math.Nat.{div-add-mod, mul-le-mul_left}
 use Rattle.std.proofs.lemmas.Nat.{div-add-mod', mod-mul-add}
 use Rattle.std.proofs.lemmas.Bool.{cases_lt}
+use Rattle.gs_layout.specs.declared.wire.TheConstants.{ALIGNMENT}
 
 -- a place further on, before the end of the block
 pub mod_further : (c p j : ℕ) → p % c + j < c → (p + j) % c ≡ p % c + j
@@ -23,10 +24,10 @@ mod_round c p pos =
     ap (λ k. k % c) e ∙ mod-mul-add (p / c + 1) c 0 pos
 
 -- the remainder of a multiple of 8
-pub mod_whole : (c p : ℕ) → 0 < c → c % 8 ≡ 0 → p % 8 ≡ 0 → (p % c) % 8 ≡ 0
+pub mod_whole : (c p : ℕ) → 0 < c → c % ALIGNMENT ≡ 0 → p % ALIGNMENT ≡ 0 → (p % c) % ALIGNMENT ≡ 0
 mod_whole c p pos eights whole =
-    let k : c ≡ 8 * (c / 8) = omega arith in
-    let e : (p / c) * c ≡ (p / c) * (8 * (c / 8)) = ap (λ n. (p / c) * n) k in
+    let k : c ≡ ALIGNMENT * (c / ALIGNMENT) = omega arith in
+    let e : (p / c) * c ≡ (p / c) * (ALIGNMENT * (c / ALIGNMENT)) = ap (λ n. (p / c) * n) k in
     omega (arith, div-add-mod' p c, e)
 
 -- of two places at most a block apart, the bytes that are written at the later one lie beside the earlier one

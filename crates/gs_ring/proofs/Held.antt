@@ -3,6 +3,8 @@ use Rattle.std.proofs.Common.{◌≡◌, true, ℕ, zero, suc, ◌+◌, ◌-◌,
 use Rattle.std.specs.Prelude.{All}
 use Rattle.std.proofs.lemmas.List.{append-nil, drop_at}
 use Rattle.std.proofs.lemmas.List.Elements.{All-head, All-nil, All-push, All-tail}
+use Rattle.gs_ring.specs.declared.ends.TheConstants.{MOST_POSTS}
+use Rattle.gs_layout.specs.declared.wire.TheConstants.{ALIGNMENT, MOST_MESSAGE_LEN, MOST_PAD_LEN}
 use Rattle.gs_layout.specs.declared.message.Message.{Message}
 use Rattle.gs_layout.specs.Spelling.{IsSpellable}
 use Rattle.gs_ring.specs.declared.place.Place.{Place}
@@ -25,7 +27,7 @@ length-seen b p (suc n) = ap suc (length-seen b (suc p) n)
 
 -- these messages are seen in a block between two places
 pub record Shows (b : List ℕ) (r w : ℕ) (ms : List Message) : Type 0 where
-  pub whole : r % 8 ≡ 0
+  pub whole : r % ALIGNMENT ≡ 0
   pub room : w ≤ r + length b
   pub spellable : All IsSpellable ms
   pub behind : place_behind (length b) r ms ≡ w
@@ -43,7 +45,7 @@ pub waiting_is : (b : List ℕ) (r w n : ℕ) (ms : List Message) → IsWide (le
 waiting_is b r w n ms wide s count =
     ap (λ t. messages_in n t) s.holds ∙ ap (λ k. messages_in k (bytes (length b) r ms)) count ∙ messages_again (length b) r ms wide s.whole s.spellable
 
-pub ring_from : (b : List ℕ) (r w t p : ℕ) (ms : List Message) → is_capacity (length b) ≡ true → t ≤ p → p ≤ 2 ^ 24 → w ≤ 104 * p → Shows b r w ms → p - t ≡ length ms → IsRing b r w t p
+pub ring_from : (b : List ℕ) (r w t p : ℕ) (ms : List Message) → is_capacity (length b) ≡ true → t ≤ p → p ≤ MOST_POSTS → w ≤ (MOST_MESSAGE_LEN + MOST_PAD_LEN) * p → Shows b r w ms → p - t ≡ length ms → IsRing b r w t p
 ring_from b r w t p ms size order few low s count =
     let e : ms ≡ waiting b r w (p - t) = sym (waiting_is b r w (p - t) ms (wide (length b) size) s count) in
     let f = subst (λ xs. Shows b r w xs) e s in
@@ -60,7 +62,7 @@ bytes-push c w (x ∷ ms) m =
     let front = pad_bytes (pad_len c w (record_len x)) ++ spelling x in
     ap (λ t. front ++ t) (bytes-push c (w + need c w (record_len x)) ms m) ∙ sym (append_assoc front _ _)
 
-pub place_whole : (c w : ℕ) (ms : List Message) → IsWide c → w % 8 ≡ 0 → All IsSpellable ms → place_behind c w ms % 8 ≡ 0
+pub place_whole : (c w : ℕ) (ms : List Message) → IsWide c → w % ALIGNMENT ≡ 0 → All IsSpellable ms → place_behind c w ms % ALIGNMENT ≡ 0
 place_whole c w [] wide even fits = even
 place_whole c w (m ∷ ms) wide even fits =
     place_whole c (w + need c w (record_len m)) ms wide (sizes_of c w m wide even (All-head IsSpellable m ms fits)).next (All-tail IsSpellable m ms fits)
@@ -93,7 +95,7 @@ shows_more b r w ms m wide s fits room =
     let c = length b in
     let k = pad_len c w (record_len m) in
     let pos : 0 < c = omega (arith, wide.least) in
-    let even : w % 8 ≡ 0 = subst (λ n. n % 8 ≡ 0) s.behind (place_whole c r ms wide s.whole s.spellable) in
+    let even : w % ALIGNMENT ≡ 0 = subst (λ n. n % ALIGNMENT ≡ 0) s.behind (place_whole c r ms wide s.whole s.spellable) in
     let z = sizes_of c w m wide even fits in
     let order : r ≤ w = omega (arith, s.behind, place_behind-grows c r ms) in
     let pads : length (pad_bytes k) ≡ k = length-pad_bytes k z.whole in
@@ -162,8 +164,8 @@ posts_in b r w t p v h view = ap posts (sym view) ∙ omega (arith, length-messa
 -- what is asked if a message is written behind a PAD of so many bytes
 pub record Fitting (b : List ℕ) (w : ℕ) (m : Message) (k : ℕ) : Type 0 where
   pub fits : w % length b + k ≤ length b
-  pub whole : k % 8 ≡ 0
-  pub low : k + record_len m ≤ 104
+  pub whole : k % ALIGNMENT ≡ 0
+  pub low : k + record_len m ≤ MOST_MESSAGE_LEN + MOST_PAD_LEN
   pub behind : (w + k) % length b + record_len m ≤ length b
 
 pub fitting : (b : List ℕ) (r w t p : ℕ) (m : Message) (k : ℕ) → IsRing b r w t p → IsSpellable m → k ≡ pad_len (length b) w (record_len m) → Fitting b w m k
@@ -172,7 +174,7 @@ fitting b r w t p m k h fits e =
     let wide_ = wide c h.size in
     let s = shown b r w t p h in
     let pos : 0 < c = omega (arith, wide_.least) in
-    let even : w % 8 ≡ 0 = subst (λ n. n % 8 ≡ 0) s.behind (place_whole c r (waiting b r w (p - t)) wide_ s.whole s.spellable) in
+    let even : w % ALIGNMENT ≡ 0 = subst (λ n. n % ALIGNMENT ≡ 0) s.behind (place_whole c r (waiting b r w (p - t)) wide_ s.whole s.spellable) in
     let z = sizes_of c w m wide_ even fits in
     subst (λ x. Fitting b w m x) (sym e) (record {
       fits = pad_fits c w (record_len m) pos;
@@ -187,7 +189,7 @@ pub record Pushed (b : List ℕ) (r w t p : ℕ) (m : Message) (k : ℕ) : Type 
   pub ring : IsRing (block_with b w k m) r (w + k + record_len m) t (p + 1)
   pub state : ring_of (block_with b w k m) r (w + k + record_len m) t (p + 1) ≡ record { capacity = length b; taken = t; read = r; unread = waiting b r w (p - t) ++ m ∷ [] }
 
-pushed_at : (b : List ℕ) (r w t p : ℕ) (m : Message) → IsRing b r w t p → IsSpellable m → p < 2 ^ 24 → w + need (length b) w (record_len m) ≤ r + length b
+pushed_at : (b : List ℕ) (r w t p : ℕ) (m : Message) → IsRing b r w t p → IsSpellable m → p < MOST_POSTS → w + need (length b) w (record_len m) ≤ r + length b
     → Pushed b r w t p m (pad_len (length b) w (record_len m))
 pushed_at b r w t p m h fits few room =
     let c = length b in
@@ -206,7 +208,7 @@ pushed_at b r w t p m h fits few room =
       state = λ i. record { capacity = more.0 i; taken = t; read = r; unread = waiting_is (block_with b w k m) r (w + k + record_len m) (p + 1 - t) (ms ++ m ∷ []) (wide _ size) shows count i };
     }
 
-pub pushed : (b : List ℕ) (r w t p : ℕ) (v : RingState) (m : Message) (k : ℕ) → IsRing b r w t p → ring_of b r w t p ≡ v → IsSpellable m → posts v < 2 ^ 24
+pub pushed : (b : List ℕ) (r w t p : ℕ) (v : RingState) (m : Message) (k : ℕ) → IsRing b r w t p → ring_of b r w t p ≡ v → IsSpellable m → posts v < MOST_POSTS
     → k ≡ pad_len (length b) w (record_len m) → k + record_len m ≤ free v → Pushed b r w t p m k
 pushed b r w t p v m k h view fits few e room =
     let n = need_is (length b) w (record_len m) in

@@ -1,10 +1,11 @@
 -- What waits in a ring stands in two segments: up to the end of the block, and from its start on.
-use Rattle.std.proofs.Common.{◌≡◌, ℕ, zero, suc, ◌+◌, ◌-◌, ◌*◌, ◌/◌, ◌%◌, ◌<◌, ◌≤◌, ◌⊎◌, inl, inr, ⊎_elim, List, [], ◌∷◌, ◌++◌, length, take, drop, refl, ap, sym, subst, ◌∙◌, append_assoc, arith, length-append}
+use Rattle.std.proofs.Common.{◌^◌, ◌≡◌, ℕ, zero, suc, ◌+◌, ◌-◌, ◌*◌, ◌/◌, ◌%◌, ◌<◌, ◌≤◌, ◌⊎◌, inl, inr, ⊎_elim, List, [], ◌∷◌, ◌++◌, length, take, drop, refl, ap, sym, subst, ◌∙◌, append_assoc, arith, length-append}
 use Rattle.std.specs.Prelude.{All, min}
 use Rattle.std.proofs.lemmas.Bool.{cases_lt}
 use Rattle.std.proofs.lemmas.List.{drop_at, take_at}
 use Rattle.std.proofs.lemmas.List.Elements.{All-head, All-tail}
 use Rattle.std.proofs.lemmas.Nat.{div-add-mod', mod-mul-add}
+use Rattle.gs_layout.specs.declared.wire.TheConstants.{ALIGNMENT}
 use Rattle.gs_layout.specs.declared.message.Message.{Message}
 use Rattle.gs_layout.specs.Spelling.{IsSpellable, spelling}
 use Rattle.gs_ring.specs.Block.{IsRing, ring_of}
@@ -15,7 +16,7 @@ use Rattle.gs_ring.specs.Segments.{Stands, spellings}
 use Rattle.gs_ring.proofs.Around.{mod_round}
 use Rattle.gs_ring.proofs.Held.{shown, waiting}
 use Rattle.gs_ring.proofs.Next.{need_some}
-use Rattle.gs_ring.proofs.Pads.{IsWide, length-pad_bytes, need_is, pad_bytes_none, pad_cases, record_is, wide}
+use Rattle.gs_ring.proofs.Pads.{IsWide, length-pad_bytes, need_is, pad_bytes_none, pad_cases, wide}
 use Rattle.gs_ring.proofs.ReadAgain.{sizes_of}
 use Rattle.gs_ring.proofs.Standing.{stands_row}
 
@@ -104,10 +105,10 @@ add_front f s m ms here fits h = record {
 }
 
 -- all of them behind a PAD of so many bytes
-behind_filler : (k : ℕ) (ms : List Message) → k % 8 ≡ 0 → k < 65536 → All IsSpellable ms → Stands (pad_bytes k) (spellings ms) ms
+behind_filler : (k : ℕ) (ms : List Message) → k % ALIGNMENT ≡ 0 → k < 2 ^ 16 → All IsSpellable ms → Stands (pad_bytes k) (spellings ms) ms
 behind_filler k ms whole short fits = record { front = []; back = ms; filler = k; all = refl; spellable = fits; whole = whole; short = short; first_is = refl; second_is = refl }
 
-pub two_rows : (c e r : ℕ) (ms : List Message) → IsWide c → r % 8 ≡ 0 → All IsSpellable ms → Before c e r → place_behind c r ms ≤ e + c → Split c e r ms
+pub two_rows : (c e r : ℕ) (ms : List Message) → IsWide c → r % ALIGNMENT ≡ 0 → All IsSpellable ms → Before c e r → place_behind c r ms ≤ e + c → Split c e r ms
 two_rows c e r [] wide_ even fits b most =
     record { first = []; second = []; stands = stands_row [] fits; bytes_ = refl; count = omega arith }
 two_rows c e r (m ∷ ms) wide_ even fits b most =
@@ -128,7 +129,7 @@ two_rows c e r (m ∷ ms) wide_ even fits b most =
       second = more.second;
       stands = add_front more.first more.second m ms here fits more.stands;
       bytes_ = ap (λ t. (t ++ spelling m) ++ bytes c (r + n) ms) (pad_bytes_none k h.0) ∙ ap (λ t. spelling m ++ t) more.bytes_ ∙ sym (append_assoc (spelling m) more.first more.second);
-      count = omega (arith, length-append (spelling m) more.first, ap length (record_is m), more.count, z.both, h.0, h.1, left, low);
+      count = omega (arith, length-append (spelling m) more.first, more.count, z.both, h.0, h.1, left, low);
     } in
     s)
     (λ (h : (k ≡ rest c r) × (rest c r < record_len m)).
@@ -166,7 +167,7 @@ same_front a b x y e n = (
   sym (drop_at a b (length a) refl) ∙ ap (λ t. drop (length a) t) e ∙ drop_at x y (length a) (sym n),
 )
 
-stands_where : (f s : List ℕ) (c r : ℕ) (ms : List Message) → IsWide c → r % 8 ≡ 0 → All IsSpellable ms → place_behind c r ms ≤ r + c → f ++ s ≡ bytes c r ms
+stands_where : (f s : List ℕ) (c r : ℕ) (ms : List Message) → IsWide c → r % ALIGNMENT ≡ 0 → All IsSpellable ms → place_behind c r ms ≤ r + c → f ++ s ≡ bytes c r ms
     → length f ≡ min (place_behind c r ms - r) (rest c r) → Stands f s ms
 stands_where f s c r ms wide_ even fits room is count =
     let pos : 0 < c = omega (arith, wide_.least) in

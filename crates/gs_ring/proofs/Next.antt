@@ -4,6 +4,7 @@ use Rattle.std.specs.Prelude.{◌==◌, min}
 use Rattle.std.proofs.lemmas.Bool.{cases_lt}
 use Rattle.std.proofs.lemmas.List.{drop_at, take-append-drop, take-append-le, take_at}
 use Rattle.std.proofs.lemmas.List.Elements.{All-head}
+use Rattle.gs_layout.specs.declared.wire.TheConstants.{FRONT_LEN, HEADER_LEN, KIND_AT, LEN_AT, PAD}
 use Rattle.gs_layout.specs.declared.message.Change.{Change}
 use Rattle.gs_layout.specs.declared.message.Change.TheVariants.{Created, Blocked, Wakeup, Preempted, Yield, Dead, Affinity}
 use Rattle.gs_layout.specs.declared.message.Message.{Message}
@@ -18,7 +19,7 @@ use Rattle.gs_ring.specs.Places.{bytes, need, pad_bytes, pad_len, place_behind, 
 use Rattle.gs_ring.specs.RingState.{RingState, end}
 use Rattle.gs_ring.proofs.Around.{mod_round, mod_whole}
 use Rattle.gs_ring.proofs.Held.{Shows, length-messages_in, length-seen, ring_from, shown, shows_rest, waiting, waiting_is}
-use Rattle.gs_ring.proofs.Pads.{IsWide, need_is, pad_bytes_none, pad_bytes_some, pad_cases, record_is, wide}
+use Rattle.gs_ring.proofs.Pads.{IsWide, need_is, pad_bytes_none, pad_bytes_some, pad_cases, wide}
 use Rattle.gs_ring.proofs.ReadAgain.{length_named, message_kind, pad_kind, sizes_of}
 use Rattle.gs_ring.proofs.Written.{seen-row, seen-split}
 
@@ -41,7 +42,7 @@ row_begins b p x e fits =
     let row : take (length x) (drop i b) ≡ x = sym (seen-row b p (length x) fits) ∙ e in
     sym (take-append-drop (length x) (drop i b)) ∙ ap (λ t. t ++ drop (length x) (drop i b)) row
 
-by_kind : (b : List ℕ) (r : ℕ) (x : Bool) → (number_at 2 2 (drop (r % length b) b) == 9) ≡ x → record_index b r ≡ cond x 0 (r % length b)
+by_kind : (b : List ℕ) (r : ℕ) (x : Bool) → (number_at KIND_AT 2 (drop (r % length b) b) == PAD) ≡ x → record_index b r ≡ cond x 0 (r % length b)
 unfolding record_index
 by_kind b r x e = ap (λ (y : Bool). cond y 0 (r % length b)) e
 
@@ -54,7 +55,7 @@ first_lies b r w m ms wide_ s =
     let pos : 0 < c = omega (arith, wide_.least) in
     let even = mod_whole c r pos wide_.whole s.whole in
     let within : i < c = omega (arith, pos) in
-    let room : i + 4 ≤ c = omega (arith, within, even, wide_.whole) in
+    let room : i + FRONT_LEN ≤ c = omega (arith, within, even, wide_.whole) in
     let len = record_len m in
     let k = pad_len c r len in
     let tail = bytes c (r + need c r len) ms in
@@ -64,8 +65,8 @@ first_lies b r w m ms wide_ s =
     let one = (seen_parts b r (w - r) (spelling m) tail e).0 in
     let end_ : i + len ≤ c = omega (arith, h.1, within) in
     let row = row_begins b r (spelling m) one end_ in
-    let front : drop i b ≡ spelling m ++ drop len (drop i b) = row ∙ ap (λ t. t ++ drop len (drop i b)) (record_is m) in
-    let kind : (number_at 2 2 (drop i b) == 9) ≡ false = ap (λ (t : List ℕ). number_at 2 2 t == 9) front ∙ message_kind m (drop len (drop i b)) in
+    let front : drop i b ≡ spelling m ++ drop len (drop i b) = row in
+    let kind : (number_at KIND_AT 2 (drop i b) == PAD) ≡ false = ap (λ (t : List ℕ). number_at KIND_AT 2 t == PAD) front ∙ message_kind m (drop len (drop i b)) in
     let at : record_index b r ≡ i = by_kind b r false kind in
     let l : Lies b r m = record { spellable = fits; room = room; more = drop len (drop i b); front = ap (λ n. drop n b) at ∙ front; fits = omega (arith, at, end_) } in
     l)
@@ -77,7 +78,7 @@ first_lies b r w m ms wide_ s =
     let size : length (pad_bytes k) ≡ k = omega (arith, z.count, z.both, length-append (pad_bytes k) (spelling m)) in
     let row = row_begins b r (pad_bytes k) parts.0 (omega (arith, size, h.0, within)) in
     let front : drop i b ≡ pad k ++ drop (length (pad_bytes k)) (drop i b) = row ∙ ap (λ t. t ++ drop (length (pad_bytes k)) (drop i b)) is in
-    let kind : (number_at 2 2 (drop i b) == 9) ≡ true = ap (λ (t : List ℕ). number_at 2 2 t == 9) front ∙ pad_kind k (drop (length (pad_bytes k)) (drop i b)) in
+    let kind : (number_at KIND_AT 2 (drop i b) == PAD) ≡ true = ap (λ (t : List ℕ). number_at KIND_AT 2 t == PAD) front ∙ pad_kind k (drop (length (pad_bytes k)) (drop i b)) in
     let at : record_index b r ≡ 0 = by_kind b r true kind in
     let next : (r + length (pad_bytes k)) % c ≡ 0 = ap (λ n. (r + n) % c) (size ∙ h.0) ∙ mod_round c r pos in
     let two = (seen_parts b (r + length (pad_bytes k)) (w - r - length (pad_bytes k)) (spelling m) tail parts.1).0 in
@@ -85,13 +86,13 @@ first_lies b r w m ms wide_ s =
     let row2 = row_begins b (r + length (pad_bytes k)) (spelling m) two (omega (arith, next, low)) in
     let begins : b ≡ spelling m ++ drop len b =
     sym (ap (λ n. drop n b) next) ∙ row2 ∙ ap (λ n. spelling m ++ drop len (drop n b)) next in
-    let l : Lies b r m = record { spellable = fits; room = room; more = drop len b; front = ap (λ n. drop n b) at ∙ begins ∙ ap (λ t. t ++ drop len b) (record_is m); fits = omega (arith, at, low) } in
+    let l : Lies b r m = record { spellable = fits; room = room; more = drop len b; front = ap (λ n. drop n b) at ∙ begins; fits = omega (arith, at, low) } in
     l)
     (pad_cases c r len)
 
 -- the length that it names is its own
 pub names_length : (b : List ℕ) (r : ℕ) (m : Message) → Lies b r m → number_at (record_index b r) 2 b ≡ record_len m
-names_length b r m h = ap (λ (t : List ℕ). number_at 0 2 t) h.front ∙ length_named m h.more h.spellable
+names_length b r m h = ap (λ (t : List ℕ). number_at LEN_AT 2 t) h.front ∙ length_named m h.more h.spellable
 
 -- the first message of a ring, and the ring after it is taken
 pub record First (b : List ℕ) (r w t p : ℕ) (v : RingState) (m : Message) : Type 0 where
@@ -155,22 +156,9 @@ rows_of b r u i f pos fits is_i is_f =
 pub front_bytes : (b : List ℕ) (r w t p : ℕ) (v : RingState) → IsRing b r w t p → ring_of b r w t p ≡ v → seen b r (w - r) ≡ bytes v.capacity v.read v.unread
 front_bytes b r w t p v h view = h.holds ∙ ap (λ (x : RingState). bytes x.capacity x.read x.unread) view
 
-size_least_change : (c : Change) → 16 ≤ size_of_change c
-size_least_change (Created f) = omega arith
-size_least_change (Blocked c) = omega arith
-size_least_change Wakeup = omega arith
-size_least_change (Preempted c) = omega arith
-size_least_change (Yield c) = omega arith
-size_least_change (Dead c) = omega arith
-size_least_change (Affinity c off m) = omega arith
-
-size_least : (m : Message) → 16 ≤ size_of m
-size_least (Thread t s c) = size_least_change c
-size_least (TimerTick c) = omega arith
-
 -- each message takes up some bytes
 pub need_some : (c w : ℕ) (m : Message) → 0 < need c w (record_len m)
-need_some c w m = omega (arith, need_is c w (record_len m), ap length (record_is m), spelled_length m, size_least m)
+need_some c w m = omega (arith, need_is c w (record_len m))
 
 -- of two fronts of one list that end at the same place both are the same
 pub same_place : (c w : ℕ) (xs b ys d : List Message) → xs ++ b ≡ ys ++ d → place_behind c w xs ≡ place_behind c w ys → xs ≡ ys

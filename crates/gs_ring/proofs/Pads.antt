@@ -4,6 +4,9 @@ use Rattle.std.specs.Prelude.{nat_le, ◌==◌}
 use Rattle.std.proofs.lemmas.Bool.Decides.{nat_tests}
 use Rattle.std.proofs.lemmas.Bool.{cases_lt}
 use Rattle.std.proofs.lemmas.List.{length-replicate}
+use Rattle.gs_layout.specs.declared.name.TheConstants.{MOST_NAME_LEN}
+use Rattle.gs_ring.specs.declared.block.TheConstants.{LEAST_CAPACITY, MOST_CAPACITY}
+use Rattle.gs_layout.specs.declared.wire.TheConstants.{ALIGNMENT, FRONT_LEN, HEADER_LEN, MOST_MESSAGE_LEN}
 use Rattle.gs_layout.specs.declared.message.Change.{Change}
 use Rattle.gs_layout.specs.declared.message.Change.TheVariants.{Created, Blocked, Wakeup, Preempted, Yield, Dead, Affinity}
 use Rattle.gs_layout.specs.declared.message.Message.{Message}
@@ -11,48 +14,21 @@ use Rattle.gs_layout.specs.declared.message.Message.TheVariants.{Thread, TimerTi
 use Rattle.gs_layout.specs.Name.{is_name}
 use Rattle.gs_layout.specs.Pad.{pad}
 use Rattle.gs_layout.specs.Spelling.{IsSpellable, IsSpellableChange, size_of, size_of_change, spelling}
-use Rattle.gs_layout.proofs.Laws.{spelled_length}
+use Rattle.gs_layout.proofs.Laws.{IsSize, size_message, spelled_length}
 use Rattle.gs_ring.specs.Places.{is_capacity, need, pad_bytes, pad_len, record_len, rest}
 use Rattle.gs_ring.proofs.Around.{mod_round, mod_whole}
 
--- a size that a record may have
-pub record IsSize (n : ℕ) : Type 0 where
-  pub least : 16 ≤ n
-  pub most : n ≤ 56
-  pub whole : n % 8 ≡ 0
-
 -- a ring's capacity
 pub record IsWide (c : ℕ) : Type 0 where
-  pub least : 128 ≤ c
-  pub most : c ≤ 1048576
-  pub whole : c % 8 ≡ 0
+  pub least : LEAST_CAPACITY ≤ c
+  pub most : c ≤ MOST_CAPACITY
+  pub whole : c % ALIGNMENT ≡ 0
 
 pub wide : (c : ℕ) → is_capacity c ≡ true → IsWide c
 wide c h = record { least = grind (arith, nat_tests); most = grind (arith, nat_tests); whole = grind (arith, nat_tests) }
 
-name_size : (name : List ℕ) → is_name name ≡ true → length name ≤ 16
-name_size name h = grind (arith, nat_tests)
-
-size_change : (c : Change) → IsSpellableChange c → IsSize (size_of_change c)
-size_change (Created f) fits =
-    let n = name_size f.name fits.1 in
-    record { least = omega arith; most = omega (arith, n); whole = omega arith }
-size_change (Blocked c) fits = record { least = omega arith; most = omega arith; whole = omega arith }
-size_change Wakeup fits = record { least = omega arith; most = omega arith; whole = omega arith }
-size_change (Preempted c) fits = record { least = omega arith; most = omega arith; whole = omega arith }
-size_change (Yield c) fits = record { least = omega arith; most = omega arith; whole = omega arith }
-size_change (Dead c) fits = record { least = omega arith; most = omega arith; whole = omega arith }
-size_change (Affinity c off m) fits = record { least = omega arith; most = omega arith; whole = omega arith }
-
-size_message : (m : Message) → IsSpellable m → IsSize (size_of m)
-size_message (Thread t s c) fits = size_change c fits.1
-size_message (TimerTick c) fits = record { least = omega arith; most = omega arith; whole = omega arith }
-
-pub record_is : (m : Message) → spelling m ≡ spelling m
-record_is m = refl
-
 pub record_size : (m : Message) → IsSpellable m → IsSize (record_len m)
-record_size m fits = subst IsSize (sym (spelled_length m) ∙ ap length (sym (record_is m))) (size_message m fits)
+record_size m fits = subst IsSize (sym (spelled_length m)) (size_message m fits)
 
 pad_by : (c w len : ℕ) (b : Bool) → nat_le len (rest c w) ≡ b
     → ((cond b 0 (rest c w) ≡ 0) × (len ≤ rest c w)) ⊎ ((cond b 0 (rest c w) ≡ rest c w) × (rest c w < len))
@@ -76,7 +52,7 @@ record_fits c w len pos small =
     (λ h. let e : (w + pad_len c w len) % c ≡ 0 = ap (λ k. (w + k) % c) h.0 ∙ mod_round c w pos in omega (arith, e))
     (pad_cases c w len)
 
-pub pad_whole : (c w len : ℕ) → 0 < c → c % 8 ≡ 0 → w % 8 ≡ 0 → pad_len c w len % 8 ≡ 0
+pub pad_whole : (c w len : ℕ) → 0 < c → c % ALIGNMENT ≡ 0 → w % ALIGNMENT ≡ 0 → pad_len c w len % ALIGNMENT ≡ 0
 pad_whole c w len pos eights whole =
     let m = mod_whole c w pos eights whole in
     ⊎_elim (λ h. omega (arith, h.0)) (λ h. omega (arith, h.0, m)) (pad_cases c w len)
@@ -89,15 +65,15 @@ pub need_is : (c w len : ℕ) → need c w len ≡ pad_len c w len + len
 unfolding need
 need_is c w len = refl
 
-pub length-pad : (n : ℕ) → 4 ≤ n → length (pad n) ≡ n
-length-pad n h = omega (arith, length-replicate {A = ℕ} (n - 4) 0)
+pub length-pad : (n : ℕ) → FRONT_LEN ≤ n → length (pad n) ≡ n
+length-pad n h = omega (arith, length-replicate {A = ℕ} (n - FRONT_LEN) 0)
 
-bytes_by : (n : ℕ) (b : Bool) → (n == 0) ≡ b → (n ≡ 0) ⊎ (4 ≤ n) → length (cond b [] (pad n)) ≡ n
+bytes_by : (n : ℕ) (b : Bool) → (n == 0) ≡ b → (n ≡ 0) ⊎ (FRONT_LEN ≤ n) → length (cond b [] (pad n)) ≡ n
 bytes_by n true e h = grind (arith, nat_tests)
 bytes_by n false e h = ⊎_elim (λ z. absurd (grind (arith, nat_tests))) (length-pad n) h
 
 -- as many bytes as the PAD has
-pub length-pad_bytes : (n : ℕ) → n % 8 ≡ 0 → length (pad_bytes n) ≡ n
+pub length-pad_bytes : (n : ℕ) → n % ALIGNMENT ≡ 0 → length (pad_bytes n) ≡ n
 unfolding pad_bytes
 length-pad_bytes n h = bytes_by n (n == 0) refl (⊎_elim (λ z. inl (omega arith)) (λ z. inr (omega arith)) (cases_lt n 1))
 

@@ -1,10 +1,11 @@
 -- The messages of two segments of bytes.
-use Rattle.std.proofs.Common.{◌≡◌, Bool, true, false, ℕ, suc, ◌%◌, ◌<◌, ◌≤◌, ◌⊎◌, inl, inr, ⊎_elim, List, [], ◌∷◌, ◌++◌, length, refl, ap, sym, subst, ◌∙◌, append_assoc, arith, length-append}
+use Rattle.std.proofs.Common.{◌^◌, ◌≡◌, Bool, true, false, ℕ, suc, ◌%◌, ◌<◌, ◌≤◌, ◌⊎◌, inl, inr, ⊎_elim, List, [], ◌∷◌, ◌++◌, length, refl, ap, sym, subst, ◌∙◌, append_assoc, arith, length-append}
 use Rattle.std.specs.Prelude.{All, ◌==◌, ◌||◌}
 use Rattle.std.proofs.lemmas.Bool.{cases_lt}
 use Rattle.std.proofs.lemmas.Bool.Decides.{nat_tests}
 use Rattle.std.proofs.lemmas.List.{append-nil}
 use Rattle.std.proofs.lemmas.List.Elements.{All-cons, All-head, All-nil, All-tail}
+use Rattle.gs_layout.specs.declared.wire.TheConstants.{ALIGNMENT, FRONT_LEN, KIND_AT, PAD}
 use Rattle.gs_layout.specs.declared.message.Message.{Message}
 use Rattle.gs_layout.specs.Pad.{pad}
 use Rattle.gs_layout.specs.Reading.{number_at}
@@ -12,7 +13,7 @@ use Rattle.gs_layout.specs.Spelling.{IsSpellable, spelling}
 use Rattle.gs_ring.specs.Block.{behind_front, front_message, messages_in}
 use Rattle.gs_ring.specs.Places.{pad_bytes}
 use Rattle.gs_ring.specs.Segments.{Stands, is_ended, spellings}
-use Rattle.gs_ring.proofs.Pads.{length-pad_bytes, pad_bytes_none, pad_bytes_some, record_is, record_size}
+use Rattle.gs_ring.proofs.Pads.{length-pad_bytes, pad_bytes_none, pad_bytes_some, record_size}
 use Rattle.gs_ring.proofs.ReadAgain.{front_is, message_kind, pad_kind, rest_is}
 
 front_plain : (m : Message) (more : List ℕ) → IsSpellable m → front_message (spelling m ++ more) ≡ m
@@ -31,7 +32,7 @@ read_row (m ∷ ms) fits =
     let here = All-head IsSpellable m ms fits in
     then_read (length ms) m (spelling m ++ spellings ms) (spellings ms) ms (front_plain m (spellings ms) here) (rest_plain m (spellings ms) here) (read_row ms (All-tail IsSpellable m ms fits))
 
-read_both : (xs ys : List Message) (k : ℕ) → k % 8 ≡ 0 → k < 65536 → All IsSpellable (xs ++ ys) → messages_in (length (xs ++ ys)) ((spellings xs ++ pad_bytes k) ++ spellings ys) ≡ xs ++ ys
+read_both : (xs ys : List Message) (k : ℕ) → k % ALIGNMENT ≡ 0 → k < 2 ^ 16 → All IsSpellable (xs ++ ys) → messages_in (length (xs ++ ys)) ((spellings xs ++ pad_bytes k) ++ spellings ys) ≡ xs ++ ys
 read_both [] [] k whole short fits = refl
 read_both [] (y ∷ ys) k whole short fits =
     let here = All-head IsSpellable y ys fits in
@@ -85,8 +86,8 @@ none_long n h = grind (arith, nat_tests)
 goes_on : (m : Message) (more : List ℕ) → IsSpellable m → is_ended (spelling m ++ more) ≡ false
 unfolding is_ended
 goes_on m more fits =
-    or_false (length (spelling m ++ more) == 0) (number_at 2 2 (spelling m ++ more) == 9)
-    (none_long (length (spelling m ++ more)) (omega (arith, length-append (spelling m) more, (record_size m fits).least, ap length (record_is m))))
+    or_false (length (spelling m ++ more) == 0) (number_at KIND_AT 2 (spelling m ++ more) == PAD)
+    (none_long (length (spelling m ++ more)) (omega (arith, length-append (spelling m) more, (record_size m fits).least)))
     (message_kind m more)
 
 -- at most a PAD is left
@@ -94,8 +95,8 @@ ends_at : (k : ℕ) → (k ≡ 0) ⊎ (0 < k) → is_ended (pad_bytes k) ≡ tru
 unfolding is_ended
 ends_at k h =
     ⊎_elim
-    (λ z. ap (λ (t : List ℕ). (length t == 0) || (number_at 2 2 t == 9)) (pad_bytes_none k z))
-    (λ some. ap (λ (t : List ℕ). (length t == 0) || (number_at 2 2 t == 9)) (pad_bytes_some k some ∙ sym (append-nil (pad k))) ∙ or_right (length (pad k ++ []) == 0) (number_at 2 2 (pad k ++ []) == 9) (pad_kind k []))
+    (λ z. ap (λ (t : List ℕ). (length t == 0) || (number_at KIND_AT 2 t == PAD)) (pad_bytes_none k z))
+    (λ some. ap (λ (t : List ℕ). (length t == 0) || (number_at KIND_AT 2 t == PAD)) (pad_bytes_some k some ∙ sym (append-nil (pad k))) ∙ or_right (length (pad k ++ []) == 0) (number_at KIND_AT 2 (pad k ++ []) == PAD) (pad_kind k []))
     h
 
 -- where the next message begins, and what is behind it
@@ -122,7 +123,7 @@ in_second f s m ms back k all fits first second = record {
   rest = stands_row ms (All-tail IsSpellable m ms fits);
 }
 
-in_first : (f s : List ℕ) (m x : Message) (ms xs back : List Message) (k : ℕ) → m ∷ ms ≡ x ∷ (xs ++ back) → All IsSpellable (m ∷ ms) → k % 8 ≡ 0 → k < 65536
+in_first : (f s : List ℕ) (m x : Message) (ms xs back : List Message) (k : ℕ) → m ∷ ms ≡ x ∷ (xs ++ back) → All IsSpellable (m ∷ ms) → k % ALIGNMENT ≡ 0 → k < 2 ^ 16
     → f ≡ (spelling x ++ spellings xs) ++ pad_bytes k → s ≡ spellings back → InFirst f s m ms
 in_first f s m x ms xs back k all fits whole short first second =
     let p : m ≡ x = cc in
@@ -135,7 +136,7 @@ in_first f s m x ms xs back k all fits whole short first second =
       rest = record { front = xs; back = back; filler = k; all = q; spellable = All-tail IsSpellable m ms fits; whole = whole; short = short; first_is = refl; second_is = second };
     }
 
-next_by : (f s : List ℕ) (m : Message) (ms front back : List Message) (k : ℕ) → m ∷ ms ≡ front ++ back → All IsSpellable (m ∷ ms) → k % 8 ≡ 0 → k < 65536
+next_by : (f s : List ℕ) (m : Message) (ms front back : List Message) (k : ℕ) → m ∷ ms ≡ front ++ back → All IsSpellable (m ∷ ms) → k % ALIGNMENT ≡ 0 → k < 2 ^ 16
     → f ≡ spellings front ++ pad_bytes k → s ≡ spellings back → InSecond f s m ms ⊎ InFirst f s m ms
 next_by f s m ms [] back k all fits whole short first second = inl (in_second f s m ms back k all fits first second)
 next_by f s m ms (x ∷ xs) back k all fits whole short first second = inr (in_first f s m x ms xs back k all fits whole short first second)
@@ -144,16 +145,16 @@ pub next_in : (f s : List ℕ) (m : Message) (ms : List Message) → Stands f s 
 next_in f s m ms h = next_by f s m ms h.front h.back h.filler h.all h.spellable h.whole h.short h.first_is h.second_is
 
 -- a segment has no byte, or a kind
-wide_by : (front : List Message) (k : ℕ) → All IsSpellable front → k % 8 ≡ 0 → 0 < length (spellings front ++ pad_bytes k) → 4 ≤ length (spellings front ++ pad_bytes k)
+wide_by : (front : List Message) (k : ℕ) → All IsSpellable front → k % ALIGNMENT ≡ 0 → 0 < length (spellings front ++ pad_bytes k) → FRONT_LEN ≤ length (spellings front ++ pad_bytes k)
 wide_by [] k fits whole some = omega (arith, some, length-pad_bytes k whole)
 wide_by (m ∷ ms) k fits whole some =
-    omega (arith, length-append (spelling m ++ spellings ms) (pad_bytes k), length-append (spelling m) (spellings ms), (record_size m (All-head IsSpellable m ms fits)).least, ap length (record_is m))
+    omega (arith, length-append (spelling m ++ spellings ms) (pad_bytes k), length-append (spelling m) (spellings ms), (record_size m (All-head IsSpellable m ms fits)).least)
 
 All-front : (xs ys : List Message) → All IsSpellable (xs ++ ys) → All IsSpellable xs
 All-front [] ys fits = All-nil IsSpellable
 All-front (x ∷ xs) ys fits = All-cons IsSpellable x xs (All-head IsSpellable x (xs ++ ys) fits) (All-front xs ys (All-tail IsSpellable x (xs ++ ys) fits))
 
-pub has_kind : (f s : List ℕ) (ms : List Message) → Stands f s ms → 0 < length f → 4 ≤ length f
+pub has_kind : (f s : List ℕ) (ms : List Message) → Stands f s ms → 0 < length f → FRONT_LEN ≤ length f
 has_kind f s ms h some =
     let fits = All-front h.front h.back (subst (λ l. All IsSpellable l) h.all h.spellable) in
     let e = ap length h.first_is in

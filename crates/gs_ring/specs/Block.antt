@@ -3,7 +3,7 @@ use Rattle.std.specs.Prelude.{◌≡◌, ◌==◌, true, ℕ, zero, suc, ◌+◌
 use Rattle.gs_layout.specs.declared.message.Message.{Message}
 use Rattle.gs_layout.specs.Reading.{message_in, number_at}
 use Rattle.gs_layout.specs.Spelling.{IsSpellable, spelling}
-use Rattle.gs_ring.specs.declared.block.TheConstants.{ALIGNMENT}
+use Rattle.gs_layout.specs.declared.wire.TheConstants.{ALIGNMENT, FRONT_LEN, KIND_AT, LEN_AT, MOST_MESSAGE_LEN, MOST_PAD_LEN, PAD}
 use Rattle.gs_ring.specs.declared.ends.TheConstants.{MOST_POSTS}
 use Rattle.gs_ring.specs.declared.place.Place.{Place}
 use Rattle.gs_ring.specs.Places.{bytes, is_capacity, pad_bytes, place_behind, record_len}
@@ -16,7 +16,7 @@ seen block place (suc n) = slice_index block (place % length block) ∷ seen blo
 
 -- the bytes behind a PAD, if there is one
 unfoldable pub behind_pad : List ℕ → List ℕ
-behind_pad text = if number_at 2 2 text == 9 then drop (number_at 0 2 text) text else text
+behind_pad text = if number_at KIND_AT 2 text == PAD then drop (number_at LEN_AT 2 text) text else text
 
 -- the message at the front
 unfoldable pub front_message : List ℕ → Message
@@ -41,12 +41,12 @@ block_with block place pad m = put_at ((place + pad) % length block) (spelling m
 
 -- where the record begins in the block that is read at a place: behind its PAD, if there is one
 unfoldable pub record_index : List ℕ → ℕ → ℕ
-record_index block place = if number_at 2 2 (drop (place % length block) block) == 9 then 0 else place % length block
+record_index block place = if number_at KIND_AT 2 (drop (place % length block) block) == PAD then 0 else place % length block
 
 -- the record of this message lies whole in the block, and is read at this place
 pub record Lies (block : List ℕ) (place : ℕ) (m : Message) : Type 0 where
   pub spellable : IsSpellable m
-  pub room : place % length block + 4 ≤ length block
+  pub room : place % length block + FRONT_LEN ≤ length block
   pub more : List ℕ
   pub front : drop (record_index block place) block ≡ spelling m ++ more
   pub fits : record_index block place + record_len m ≤ length block
@@ -57,7 +57,7 @@ pub record IsRing (block : List ℕ) (read written taken posts : ℕ) : Type 0 w
   pub order : taken ≤ posts
   pub few : posts ≤ MOST_POSTS
   pub whole : read % ALIGNMENT ≡ 0
-  pub low : written ≤ 104 * posts
+  pub low : written ≤ (MOST_MESSAGE_LEN + MOST_PAD_LEN) * posts
   pub forward : read ≤ written
   pub room : written ≤ read + length block
   pub spellable : All IsSpellable (messages_in (posts - taken) (seen block read (written - read)))

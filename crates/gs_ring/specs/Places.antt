@@ -3,7 +3,8 @@ use Rattle.std.specs.Prelude.{Bool, ◌&&◌, ◌==◌, nat_le, ℕ, ◌+◌, �
 use Rattle.gs_layout.specs.declared.message.Message.{Message}
 use Rattle.gs_layout.specs.Pad.{pad}
 use Rattle.gs_layout.specs.Spelling.{spelling}
-use Rattle.gs_ring.specs.declared.block.TheConstants.{ALIGNMENT, LEAST_CAPACITY, MOST_CAPACITY}
+use Rattle.gs_layout.specs.declared.wire.TheConstants.{ALIGNMENT}
+use Rattle.gs_ring.specs.declared.block.TheConstants.{LEAST_CAPACITY, MOST_CAPACITY}
 
 -- the capacities that a ring may have, in bytes
 abbrev pub is_capacity : ℕ → Bool

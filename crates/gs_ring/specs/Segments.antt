@@ -3,7 +3,7 @@ use Rattle.std.specs.Prelude.{◌≡◌, ◌==◌, ◌||◌, Bool, ℕ, ◌%◌,
 use Rattle.gs_layout.specs.declared.message.Message.{Message}
 use Rattle.gs_layout.specs.Reading.{number_at}
 use Rattle.gs_layout.specs.Spelling.{IsSpellable, spelling}
-use Rattle.gs_ring.specs.declared.block.TheConstants.{ALIGNMENT}
+use Rattle.gs_layout.specs.declared.wire.TheConstants.{ALIGNMENT, KIND_AT, PAD}
 use Rattle.gs_ring.specs.Places.{pad_bytes}
 
 -- the spellings of messages, one behind the other
@@ -30,4 +30,4 @@ AreSegments first second n = (ms : List Message) × Stands first second ms × (l
 
 -- no message is left of a segment: at most a PAD is
 unfoldable pub is_ended : List ℕ → Bool
-is_ended text = length text == 0 || number_at 2 2 text == 9
+is_ended text = length text == 0 || number_at KIND_AT 2 text == PAD

@@ -11,17 +11,13 @@ ghost use Rattle.gs_ring.specs.Places.{is_capacity, need, pad_bytes, pad_len, re
 use crate::peeked::Peeked;
 use crate::place::Place;
 use byteorder::{ByteOrder, LittleEndian};
-use gs_layout::{KIND_AT, Message, PAD, u16_at};
+use gs_layout::{ALIGNMENT, FRONT_LEN, KIND_AT, Message, PAD, u16_at};
 
 /// The fewest bytes that a ring may have: an empty ring then takes any message, also behind a PAD.
 pub const LEAST_CAPACITY: usize = 128;
 
 /// The most bytes that a ring may have, so that the memory of one has a bound.
 pub const MOST_CAPACITY: usize = 1_048_576;
-
-/// A ring's capacity is a multiple of this, and so is the length of each message and PAD in it. So the rest
-/// of the block never has fewer bytes than the header of a PAD.
-pub const ALIGNMENT: usize = 8;
 
 /// Returns how many bytes of PAD stand before a record of so many bytes that is written at a place.
 #[tactic(auto, unfolding(crate::specs::Places::pad_len))]
@@ -44,14 +40,14 @@ pub(crate) fn record_len(message: &Message) -> usize
 
 /// Makes a PAD of all these bytes.
 fn fill_pad(out: &mut [u8])
-    requires least { 4 ≤ length out.old }
+    requires least { FRONT_LEN ≤ length out.old }
     requires most { length out.old ≤ u16.MAX }
     ensures { out.new ≡ pad (length out.old) }
 {
     let len = out.len();
     LittleEndian::write_u16(out, len as u16);
     LittleEndian::write_u16(&mut out[KIND_AT..], PAD);
-    out[4..].fill(0);
+    out[FRONT_LEN..].fill(0);
 }
 
 /// Writes a PAD of so many bytes at an index of the block, if it is to have any.
@@ -96,7 +92,7 @@ pub(crate) fn write(block: &mut [u8], place: Place, pad: usize, message: &Messag
 #[tactic(auto, unfolding(crate::specs::Block::record_index))]
 fn record_index(block: &[u8], place: Place) -> usize
     requires at { place.index ≡ place.count % length block.now }
-    requires room { place.count % length block.now + 4 ≤ length block.now }
+    requires room { place.count % length block.now + FRONT_LEN ≤ length block.now }
     ensures value { result ≡ record_index block.now place.count }
     ensures within { result < length block.now }
 {

@@ -1,7 +1,8 @@
 ghost use Rattle.std.specs.Prelude.{◌≡◌};
 ghost use Rattle.gs_ring.specs.declared.fault.RingFault.TheVariants.{OutOfMemory};
 
-use crate::block::{ALIGNMENT, LEAST_CAPACITY, MOST_CAPACITY};
+use crate::block::{LEAST_CAPACITY, MOST_CAPACITY};
+use gs_layout::ALIGNMENT;
 use std::alloc::AllocError;
 use thiserror::Error;
 

@@ -13,7 +13,7 @@ mod segments;
 mod waiting;
 
 pub use batch::Batch;
-pub use block::{ALIGNMENT, LEAST_CAPACITY, MOST_CAPACITY};
+pub use block::{LEAST_CAPACITY, MOST_CAPACITY};
 pub use ends::{Beside, MOST_POSTS, Poster, Ring, Taker};
 pub use fault::{Full, RingFault};
 pub use peeked::Peeked;

@@ -71,7 +71,7 @@ impl ByteRing {
         })
     }
 
-    /// Returns whether a ring may have so many bytes: a multiple of [`ALIGNMENT`] from [`LEAST_CAPACITY`] to
+    /// Returns whether a ring may have so many bytes: a multiple of [`ALIGNMENT`](gs_layout::ALIGNMENT) from [`LEAST_CAPACITY`] to
     /// [`MOST_CAPACITY`].
     pub fn is_capacity(capacity: usize) -> bool
         ensures { result ≡ is_capacity capacity }

@@ -5,13 +5,13 @@ ghost use Rattle.gs_layout.specs.declared.message.Message.{Message};
 ghost use Rattle.gs_layout.specs.Spelling.{IsSpellable, spelling};
 ghost use Rattle.gs_ring.specs.Segments.{Stands, is_ended};
 
-use gs_layout::{KIND_AT, PAD, u16_at};
+use gs_layout::{FRONT_LEN, KIND_AT, LEN_AT, PAD, u16_at};
 use gs_reader::MessageRef;
 
 /// Returns whether no message is left of a segment: it is at its end, or at a PAD.
 #[tactic(auto, unfolding(crate::specs::Segments::is_ended))]
 fn is_ended(segment: &[u8]) -> bool
-    requires { 0 < length segment.now → 4 ≤ length segment.now }
+    requires { 0 < length segment.now → FRONT_LEN ≤ length segment.now }
     ensures { result ≡ is_ended segment.now }
 {
     segment.is_empty() || u16_at(segment, KIND_AT) == PAD
@@ -22,7 +22,7 @@ fn cut(segment: &[u8]) -> (MessageRef<'_>, &[u8])
     requires { (m : Message) × (more : List ℕ) × IsSpellable m × (segment.now ≡ spelling m ++ more) }
     ensures { (m : Message) (more : List ℕ) → IsSpellable m → segment.now ≡ spelling m ++ more → (result.0 ≡ m) × (result.1.now ≡ more) }
 {
-    let len = u16_at(segment, 0) as usize;
+    let len = u16_at(segment, LEN_AT) as usize;
     let (record, rest) = segment.split_at(len);
     (MessageRef::spelled(record), rest)
 }

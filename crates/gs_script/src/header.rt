@@ -10,8 +10,9 @@ use gs_core::Config;
 use gs_kernel::{
     LEAST_CPUS, LEAST_GENERATION, LEAST_HISTORY, MOST_FIRST_TSEQ, MOST_GENERATION, MOST_HISTORY,
 };
+use gs_layout::ALIGNMENT;
 use gs_policy::{AnyPolicy, FirstCome, TwoClass};
-use gs_ring::{ALIGNMENT, LEAST_CAPACITY, MOST_CAPACITY};
+use gs_ring::{LEAST_CAPACITY, MOST_CAPACITY};
 use gs_status::MOST_CPUS;
 
 /// The fewest ticks after which a thread of class 1 may have to make way for another.

@@ -6,9 +6,11 @@ use Rattle.std.specs.Int.{bit_at, bit_not, w128}
 use Rattle.std.proofs.lemmas.Bool.{cases_eq, cases_lt, eqb-true, or_parts}
 use Rattle.std.proofs.lemmas.List.{length-replicate}
 use Rattle.std.proofs.lemmas.Nat.Bits.{bit_at-lt, bit_at_not, shr_and_one}
+use Rattle.gs_slots.specs.declared.wire.TheConstants.{SLOT_LEN}
+use Rattle.gs_status.specs.declared.mask.TheConstants.{MOST_CPUS}
 use Rattle.gs_layout.proofs.Laws.{IsBytes}
-use Rattle.gs_status.proofs.Laws.{least_is_all, least_passes, nobody}
-use Rattle.gs_status.specs.Masks.{found_or, has, least}
+use Rattle.gs_status.proofs.Laws.{least_before, least_passes, nobody}
+use Rattle.gs_status.specs.Masks.{has, least}
 use Rattle.gs_slots.specs.Busy.{CoversBusy, is_busy, is_busy_at, is_busy_if_any, is_flagged_at, is_flagged_if_any}
 use Rattle.gs_slots.specs.declared.state.SlotState.TheVariants.{Idle}
 use Rattle.gs_slots.specs.Reading.{is_flagged, state_in}
@@ -19,7 +21,7 @@ use Rattle.gs_slots.proofs.Filled.{all_left}
 use Rattle.gs_slots.proofs.States.{idle_read}
 
 -- the numbers of the bytes tell
-pub busy_by_test : (xs : List ℕ) → IsBytes xs → length xs ≡ 32 → not (is_idle xs) ≡ is_busy xs
+pub busy_by_test : (xs : List ℕ) → IsBytes xs → length xs ≡ SLOT_LEN → not (is_idle xs) ≡ is_busy xs
 unfolding is_busy
 busy_by_test xs fits size =
     ap not (same_tests (is_idle xs) (pointwise nat_eq xs idle_bytes) (λ e. (bytes_decides xs idle_bytes).1 (sym (idle_sound xs fits size e))) (λ e. ap is_idle ((bytes_decides xs idle_bytes).0 e)))
@@ -59,7 +61,7 @@ set_other (y ∷ ys) (suc k) zero x other = refl
 set_other (y ∷ ys) (suc k) (suc c) x other = set_other ys k c x (λ e. other (ap suc e))
 
 -- of the mask of all ones, each CPU is in it
-pub all_ones : (c : ℕ) → c < 128 → has (bit_not w128 0) c ≡ true
+pub all_ones : (c : ℕ) → c < MOST_CPUS → has (bit_not w128 0) c ≡ true
 all_ones c lt = ap (λ (k : ℕ). k == 1) (shr_and_one (bit_not w128 0) c) ∙ ap (λ (k : ℕ). k == 1) (bit_at_not w128 0 c (omega arith) lt ∙ flipped (bit_at 0 c) (bit_at-lt 0 c) none)
   where
     none : (bit_at 0 c == 1) ≡ false
@@ -79,33 +81,18 @@ all_covered xs c lt e = absurd (not_both (all_ones c lt) e)
 
 -- ---- a walk through the CPUs that may be busy
 
--- below the least number that passes none does
-pub none_before : (test : ℕ → Bool) (n c : ℕ) → least test n ≡ Some c → (k : ℕ) → k < c → test k ≡ false
-unfolding least
-none_before test zero c found k lt = absurd cc
-none_before test (suc n) c found k lt = by_place (none_before test n c) (least test n) refl (test n) refl found
-  where
-    is_below : k < c
-    is_below = lt
-
-    by_place : (least test n ≡ Some c → (k : ℕ) → k < c → test k ≡ false) → (o : Option ℕ) → least test n ≡ o → (b : Bool) → test n ≡ b
-        → found_or o b n ≡ Some c → test k ≡ false
-    by_place more (Some d) is b here e = more (is ∙ e) k is_below
-    by_place more None is true here e = let same : n ≡ c = cc in least_is_all test n is k (omega (arith, same, is_below))
-    by_place more None is false here e = absurd cc
-
 -- how far a walk has to go that has come to the least CPU of these
 abbrev pub ahead : ℕ → ℕ
-ahead left = 128 - unwrap_or (least (has left) 128) 128
+ahead left = MOST_CPUS - unwrap_or (least (has left) MOST_CPUS) MOST_CPUS
 
 -- the walk goes up, from the least CPU that is left to the next
-pub goes_up : (left left' k : ℕ) → least (has left) 128 ≡ Some k → k < 128 → has left' k ≡ false → ((c : ℕ) → c ≢ k → has left' c ≡ has left c) → ahead left' < ahead left
-goes_up left left' k found lt gone rest = subst (λ (o : Option ℕ). ahead left' < 128 - unwrap_or o 128) (sym found) (by_next (least (has left') 128) refl)
+pub goes_up : (left left' k : ℕ) → least (has left) MOST_CPUS ≡ Some k → k < MOST_CPUS → has left' k ≡ false → ((c : ℕ) → c ≢ k → has left' c ≡ has left c) → ahead left' < ahead left
+goes_up left left' k found lt gone rest = subst (λ (o : Option ℕ). ahead left' < MOST_CPUS - unwrap_or o MOST_CPUS) (sym found) (by_next (least (has left') MOST_CPUS) refl)
   where
-    found' : least (has left) 128 ≡ Some k
+    found' : least (has left) MOST_CPUS ≡ Some k
     found' = found
 
-    below : k < 128
+    below : k < MOST_CPUS
     below = lt
 
     gone' : has left' k ≡ false
@@ -123,15 +110,15 @@ goes_up left left' k found lt gone rest = subst (λ (o : Option ℕ). ahead left
       where
         by_place : (j ≡ k) ⊎ (j ≢ k) → k + 1 ≤ j
         by_place (inl e) = absurd (never j there (ap (has left') e ∙ gone'))
-        by_place (inr other) = let before : j < k = omega arith in absurd (never j there (rest' j other ∙ none_before (has left) 128 k found' j before))
+        by_place (inr other) = let before : j < k = omega arith in absurd (never j there (rest' j other ∙ least_before (has left) MOST_CPUS k found' j before))
 
-    by_next : (o : Option ℕ) → least (has left') 128 ≡ o → 128 - unwrap_or o 128 < 128 - k
+    by_next : (o : Option ℕ) → least (has left') MOST_CPUS ≡ o → MOST_CPUS - unwrap_or o MOST_CPUS < MOST_CPUS - k
     by_next None e = omega (arith, below)
-    by_next (Some j) e = let past : k + 1 ≤ j = later j (least_passes (has left') 128 j e) (cases_lt j (k + 1)) in omega (arith, below, past)
+    by_next (Some j) e = let past : k + 1 ≤ j = later j (least_passes (has left') MOST_CPUS j e) (cases_lt j (k + 1)) in omega (arith, below, past)
 
 -- those of the CPUs that the walk passed that are found are the busy ones; those that are left are all there
 pub record IsFound (slots : List (List ℕ)) (busy left : ℕ) : Type 0 where
-  pub right : (c : ℕ) → c < 128 → has left c ≡ false → has busy c ≡ is_busy_at slots c
+  pub right : (c : ℕ) → c < MOST_CPUS → has left c ≡ false → has busy c ≡ is_busy_at slots c
   pub kept : (c : ℕ) → has left c ≡ true → has busy c ≡ true
 
 pub found_first : (slots : List (List ℕ)) (lent : ℕ) → CoversBusy slots lent → IsFound slots lent lent
@@ -148,7 +135,7 @@ found_more slots busy busy' left left' k i here others gone rest = record { righ
     rest' : (c : ℕ) → c ≢ k → has left' c ≡ has left c
     rest' = rest
 
-    right' : (c : ℕ) → c < 128 → has left' c ≡ false → has busy' c ≡ is_busy_at slots c
+    right' : (c : ℕ) → c < MOST_CPUS → has left' c ≡ false → has busy' c ≡ is_busy_at slots c
     right' c below passed = at (cases_eq c k)
       where
         at : (c ≡ k) ⊎ (c ≢ k) → has busy' c ≡ is_busy_at slots c
@@ -179,7 +166,7 @@ none_flagged n c = quiet_flag (replicate n idle_bytes) c (none_busy n c)
 -- and of those that the walk passed none has the flag, unless one was seen
 pub record IsLooked (slots : List (List ℕ)) (busy : ℕ) (flagged : Bool) (left : ℕ) : Type 0 where
   pub found : IsFound slots busy left
-  pub single : flagged ≡ false → (c : ℕ) → c < 128 → has left c ≡ false → is_flagged_at slots c ≡ false
+  pub single : flagged ≡ false → (c : ℕ) → c < MOST_CPUS → has left c ≡ false → is_flagged_at slots c ≡ false
 
 pub looked_first : (slots : List (List ℕ)) (lent : ℕ) → CoversBusy slots lent → IsLooked slots lent false lent
 looked_first slots lent covers = record { found = found_first slots lent covers; single = λ e c lt free. quiet_flag slots c (covers c lt free) }
@@ -191,7 +178,7 @@ looked_more slots busy busy' flagged flagged' left left' k i found is rest = rec
     rest' : (c : ℕ) → c ≢ k → has left' c ≡ has left c
     rest' = rest
 
-    single' : flagged' ≡ false → (c : ℕ) → c < 128 → has left' c ≡ false → is_flagged_at slots c ≡ false
+    single' : flagged' ≡ false → (c : ℕ) → c < MOST_CPUS → has left' c ≡ false → is_flagged_at slots c ≡ false
     single' e c lt passed = by_place (cases_eq c k)
       where
         parts : (flagged ≡ false) × (is_flagged_at slots k ≡ false)

@@ -1,5 +1,5 @@
 -- Bytes are read as a state of a slot exactly if they are its spelling.
-use Rattle.std.proofs.Common.{◌≡◌, Bool, true, false, ℕ, zero, suc, ◌+◌, ◌*◌, ◌%◌, ◌^◌, ◌<◌, ◌≤◌, inl, inr, Option, None, Some, Ok, Err, IfOk, List, [], ◌∷◌, ◌++◌, length, drop, replicate, refl, ap, sym, subst, ◌∙◌, arith}
+use Rattle.std.proofs.Common.{◌-◌, ◌≡◌, Bool, true, false, ℕ, zero, suc, ◌+◌, ◌*◌, ◌%◌, ◌^◌, ◌<◌, ◌≤◌, inl, inr, Option, None, Some, Ok, Err, IfOk, List, [], ◌∷◌, ◌++◌, length, drop, replicate, refl, ap, sym, subst, ◌∙◌, arith}
 use Rattle.std.specs.Prelude.{◌==◌, ◌&&◌, nat_le, nat_lt, if◌then◌else◌, slice_index, unwrap_or}
 use Rattle.std.specs.Cmp.Lexicographic.{bytes_decides}
 use Rattle.std.proofs.Math.Seq.{drop-cons}
@@ -7,28 +7,32 @@ use Rattle.std.proofs.lemmas.Bool.{and_parts, cases_Bool, cond-false, cond-true,
 use Rattle.std.proofs.lemmas.List.{drop_all}
 use Rattle.byteorder.specs.Endian.{little_bytes, little_number}
 use Rattle.byteorder.specs.Numbers.{little_from-bytes}
+use Rattle.gs_layout.specs.declared.outcome.TheConstants.{OUTCOMES}
+use Rattle.gs_slots.specs.declared.wire.TheConstants.{CPU_AT, DONE, END_AT, FLAGS_AT, GENERATION_AT, OUTCOME_AT, PLACE_AT, SEEN_AT, SLOT_LEN, STAMPED, STATE_AT, TID_AT, TSEQ_AT, WORD_LEN}
+use Rattle.gs_status.specs.declared.mask.TheConstants.{MOST_CPUS}
 use Rattle.gs_layout.specs.declared.outcome.Outcome.{Outcome}
 use Rattle.gs_layout.specs.declared.outcome.Outcome.TheVariants as outcomes
 use Rattle.gs_layout.specs.Outcome.{outcome_number, outcome_numbered}
 use Rattle.gs_layout.specs.Reading.{cpu_numbered, number_at}
-use Rattle.gs_layout.specs.Spelling.{IsCpuOrNone, cpu_number}
-use Rattle.gs_layout.proofs.Laws.{IsBytes, at_2, at_4, at_8, cpu_again}
+use Rattle.gs_layout.specs.Spelling.{IsCpuOrNone, cpu_number, is_cpu_or_none}
+use Rattle.gs_layout.proofs.Laws.{IsBytes, at_place, cpu_again, cpu_passes, reads}
 use Rattle.gs_slots.specs.declared.state.SlotState.{SlotState}
 use Rattle.gs_slots.specs.declared.state.SlotState.TheVariants.{Idle, Stamped, Done}
 use Rattle.gs_slots.specs.declared.state.Stamp.{Stamp}
+use Rattle.gs_slots.specs.Flags.{are_flags}
 use Rattle.gs_slots.specs.Reading.{done_in, fields_in, is_spelt, outcome_in, stamp_in, state_in}
-use Rattle.gs_slots.specs.Spelling.{IsSpellableStamp, IsSpellableState, can_hold, done_bytes, is_blank, is_cpu_or_none, slot_spelling, stamp_bytes}
+use Rattle.gs_slots.specs.Spelling.{IsSpellableStamp, IsSpellableState, can_hold, done_bytes, is_blank, slot_spelling, stamp_bytes}
 use Rattle.gs_slots.specs.State.{Held, is_malformed, no_stamp, refused}
 use Rattle.gs_slots.specs.Tests.{is_done, is_idle, is_of, is_stamp, is_zero_at, passes}
-use Rattle.gs_slots.proofs.ReadBack.{read_back, reads}
+use Rattle.gs_slots.proofs.ReadBack.{read_back}
 
 -- ---- numbers in a place
 
 -- eight zeros, if the number there is zero
-zeros_at : (p : ℕ) (xs : List ℕ) → p + 8 ≤ length xs → IsBytes xs → is_zero_at p xs ≡ true → replicate 8 0 ++ drop (p + 8) xs ≡ drop p xs
-zeros_at p xs long fits e = ap (λ (n : ℕ). little_bytes 8 n ++ drop (p + 8) xs) (sym (eqb-true (number_at p 8 xs) 0 e)) ∙ at_8 p xs long fits
+zeros_at : (p : ℕ) (xs : List ℕ) → p + WORD_LEN ≤ length xs → IsBytes xs → is_zero_at p xs ≡ true → replicate WORD_LEN 0 ++ drop (p + WORD_LEN) xs ≡ drop p xs
+zeros_at p xs long fits e = ap (λ (n : ℕ). little_bytes WORD_LEN n ++ drop (p + WORD_LEN) xs) (sym (eqb-true (number_at p WORD_LEN xs) 0 e)) ∙ at_place WORD_LEN p xs long fits
 
-outcome_again : (n : ℕ) → n < 15 → outcome_number (unwrap_or (outcome_numbered n) outcomes.Malformed) ≡ n
+outcome_again : (n : ℕ) → n < OUTCOMES → outcome_number (unwrap_or (outcome_numbered n) outcomes.Malformed) ≡ n
 outcome_again zero lt = refl
 outcome_again (suc zero) lt = refl
 outcome_again (suc (suc zero)) lt = refl
@@ -56,61 +60,61 @@ flags_again (suc (suc (suc (suc f)))) lt = absurd (omega arith)
 -- ---- bytes that pass are the spelling of what their fields say
 
 -- behind the first byte and the flags: CPU, generation, thread and sequence number
-stamped_front : (k : ℕ) (xs : List ℕ) → IsBytes xs → length xs ≡ 32 → is_of k xs ≡ true → stamp_bytes (slice_index xs 0) k (stamp_in xs) ++ drop 16 xs ≡ xs
+stamped_front : (k : ℕ) (xs : List ℕ) → IsBytes xs → length xs ≡ SLOT_LEN → is_of k xs ≡ true → stamp_bytes (slice_index xs STATE_AT) k (stamp_in xs) ++ drop OUTCOME_AT xs ≡ xs
 stamped_front k xs fits size e =
-    let p = and_parts (nat_lt (slice_index xs 1) 4) (number_at 2 2 xs == k) e in
-    let cpu : number_at 2 2 xs ≡ k = eqb-true (number_at 2 2 xs) k p.1 in
-    let flags : slice_index xs 1 < 4 = ltb-true (slice_index xs 1) 4 p.0 in
-    let a = slice_index xs 0 in
-    let b = slice_index xs 1 in
-    let gen = little_bytes 4 (number_at 4 4 xs) in
-    let tid = little_bytes 4 (number_at 8 4 xs) in
-    (λ i. a ∷ (flags_again b flags i ∷ (little_bytes 2 (sym cpu i) ++ (gen ++ (tid ++ (little_bytes 4 (number_at 12 4 xs) ++ drop 16 xs))))))
-    ∙ ap (λ (r : List ℕ). a ∷ (b ∷ (little_bytes 2 (number_at 2 2 xs) ++ (gen ++ (tid ++ r))))) (at_4 12 xs (omega (arith, size)) fits)
-    ∙ ap (λ (r : List ℕ). a ∷ (b ∷ (little_bytes 2 (number_at 2 2 xs) ++ (gen ++ r)))) (at_4 8 xs (omega (arith, size)) fits)
-    ∙ ap (λ (r : List ℕ). a ∷ (b ∷ (little_bytes 2 (number_at 2 2 xs) ++ r))) (at_4 4 xs (omega (arith, size)) fits)
-    ∙ ap (λ (r : List ℕ). a ∷ (b ∷ r)) (at_2 2 xs (omega (arith, size)) fits)
-    ∙ ap (λ (r : List ℕ). a ∷ r) (sym (drop-cons xs 1 0 (omega (arith, size))))
-    ∙ sym (drop-cons xs 0 0 (omega (arith, size)))
+    let p = and_parts (are_flags (slice_index xs FLAGS_AT)) (number_at CPU_AT 2 xs == k) e in
+    let cpu : number_at CPU_AT 2 xs ≡ k = eqb-true (number_at CPU_AT 2 xs) k p.1 in
+    let flags : slice_index xs FLAGS_AT < 4 = ltb-true (slice_index xs FLAGS_AT) 4 p.0 in
+    let a = slice_index xs STATE_AT in
+    let b = slice_index xs FLAGS_AT in
+    let gen = little_bytes 4 (number_at GENERATION_AT 4 xs) in
+    let tid = little_bytes 4 (number_at TID_AT 4 xs) in
+    (λ i. a ∷ (flags_again b flags i ∷ (little_bytes 2 (sym cpu i) ++ (gen ++ (tid ++ (little_bytes 4 (number_at TSEQ_AT 4 xs) ++ drop OUTCOME_AT xs))))))
+    ∙ ap (λ (r : List ℕ). a ∷ (b ∷ (little_bytes 2 (number_at CPU_AT 2 xs) ++ (gen ++ (tid ++ r))))) (at_place 4 TSEQ_AT xs (omega (arith, size)) fits)
+    ∙ ap (λ (r : List ℕ). a ∷ (b ∷ (little_bytes 2 (number_at CPU_AT 2 xs) ++ (gen ++ r)))) (at_place 4 TID_AT xs (omega (arith, size)) fits)
+    ∙ ap (λ (r : List ℕ). a ∷ (b ∷ (little_bytes 2 (number_at CPU_AT 2 xs) ++ r))) (at_place 4 GENERATION_AT xs (omega (arith, size)) fits)
+    ∙ ap (λ (r : List ℕ). a ∷ (b ∷ r)) (at_place 2 CPU_AT xs (omega (arith, size)) fits)
+    ∙ ap (λ (r : List ℕ). a ∷ r) (sym (drop-cons xs FLAGS_AT 0 (omega (arith, size))))
+    ∙ sym (drop-cons xs STATE_AT 0 (omega (arith, size)))
 
-end_of : (xs : List ℕ) → length xs ≡ 32 → drop 32 xs ≡ []
-end_of xs size = drop_all 32 xs (omega (arith, size))
+end_of : (xs : List ℕ) → length xs ≡ SLOT_LEN → drop SLOT_LEN xs ≡ []
+end_of xs size = drop_all SLOT_LEN xs (omega (arith, size))
 
-last_zeros : (xs : List ℕ) → IsBytes xs → length xs ≡ 32 → is_zero_at 24 xs ≡ true → replicate 8 0 ≡ drop 24 xs
-last_zeros xs fits size e = ap (λ (r : List ℕ). replicate 8 0 ++ r) (sym (end_of xs size)) ∙ zeros_at 24 xs (omega (arith, size)) fits e
+last_zeros : (xs : List ℕ) → IsBytes xs → length xs ≡ SLOT_LEN → is_zero_at END_AT xs ≡ true → replicate WORD_LEN 0 ≡ drop END_AT xs
+last_zeros xs fits size e = ap (λ (r : List ℕ). replicate WORD_LEN 0 ++ r) (sym (end_of xs size)) ∙ zeros_at END_AT xs (omega (arith, size)) fits e
 
-pub idle_sound : (xs : List ℕ) → IsBytes xs → length xs ≡ 32 → is_idle xs ≡ true → replicate 32 0 ≡ xs
+pub idle_sound : (xs : List ℕ) → IsBytes xs → length xs ≡ SLOT_LEN → is_idle xs ≡ true → replicate SLOT_LEN 0 ≡ xs
 idle_sound xs fits size e =
-    let a = and_parts (is_zero_at 0 xs && is_zero_at 8 xs && is_zero_at 16 xs) (is_zero_at 24 xs) e in
-    let b = and_parts (is_zero_at 0 xs && is_zero_at 8 xs) (is_zero_at 16 xs) a.0 in
-    let c = and_parts (is_zero_at 0 xs) (is_zero_at 8 xs) b.0 in
-    let zeros : List ℕ = replicate 8 0 in
+    let a = and_parts (is_zero_at 0 xs && is_zero_at WORD_LEN xs && is_zero_at OUTCOME_AT xs) (is_zero_at END_AT xs) e in
+    let b = and_parts (is_zero_at 0 xs && is_zero_at WORD_LEN xs) (is_zero_at OUTCOME_AT xs) a.0 in
+    let c = and_parts (is_zero_at 0 xs) (is_zero_at WORD_LEN xs) b.0 in
+    let zeros : List ℕ = replicate WORD_LEN 0 in
     ap (λ (r : List ℕ). zeros ++ (zeros ++ (zeros ++ r))) (last_zeros xs fits size a.1)
-    ∙ ap (λ (r : List ℕ). zeros ++ (zeros ++ r)) (zeros_at 16 xs (omega (arith, size)) fits b.1)
-    ∙ ap (λ (r : List ℕ). zeros ++ r) (zeros_at 8 xs (omega (arith, size)) fits c.1)
+    ∙ ap (λ (r : List ℕ). zeros ++ (zeros ++ r)) (zeros_at OUTCOME_AT xs (omega (arith, size)) fits b.1)
+    ∙ ap (λ (r : List ℕ). zeros ++ r) (zeros_at WORD_LEN xs (omega (arith, size)) fits c.1)
     ∙ zeros_at 0 xs (omega (arith, size)) fits c.0
 
-stamp_sound : (k : ℕ) (xs : List ℕ) → IsBytes xs → length xs ≡ 32 → slice_index xs 0 ≡ 1 → is_stamp k xs ≡ true → slot_spelling k (Stamped (stamp_in xs)) ≡ xs
+stamp_sound : (k : ℕ) (xs : List ℕ) → IsBytes xs → length xs ≡ SLOT_LEN → slice_index xs STATE_AT ≡ STAMPED → is_stamp k xs ≡ true → slot_spelling k (Stamped (stamp_in xs)) ≡ xs
 stamp_sound k xs fits size kind e =
-    let a = and_parts (is_of k xs && is_zero_at 16 xs) (is_zero_at 24 xs) e in
-    let b = and_parts (is_of k xs) (is_zero_at 16 xs) a.0 in
+    let a = and_parts (is_of k xs && is_zero_at OUTCOME_AT xs) (is_zero_at END_AT xs) e in
+    let b = and_parts (is_of k xs) (is_zero_at OUTCOME_AT xs) a.0 in
     let s = stamp_in xs in
-    let zeros : replicate 16 0 ≡ drop 16 xs = ap (λ (r : List ℕ). replicate 8 0 ++ r) (last_zeros xs fits size a.1) ∙ zeros_at 16 xs (omega (arith, size)) fits b.1 in
+    let zeros : replicate (SLOT_LEN - OUTCOME_AT) 0 ≡ drop OUTCOME_AT xs = ap (λ (r : List ℕ). replicate WORD_LEN 0 ++ r) (last_zeros xs fits size a.1) ∙ zeros_at OUTCOME_AT xs (omega (arith, size)) fits b.1 in
     (λ i. stamp_bytes (sym kind i) k s ++ zeros i) ∙ stamped_front k xs fits size b.0
 
-done_sound : (k : ℕ) (xs : List ℕ) → IsBytes xs → length xs ≡ 32 → slice_index xs 0 ≡ 2 → is_done k xs ≡ true → slot_spelling k (done_in xs) ≡ xs
+done_sound : (k : ℕ) (xs : List ℕ) → IsBytes xs → length xs ≡ SLOT_LEN → slice_index xs STATE_AT ≡ DONE → is_done k xs ≡ true → slot_spelling k (done_in xs) ≡ xs
 done_sound k xs fits size kind e =
-    let a = and_parts (is_of k xs && nat_lt (number_at 16 2 xs) 15) (is_zero_at 24 xs) e in
-    let b = and_parts (is_of k xs) (nat_lt (number_at 16 2 xs) 15) a.0 in
+    let a = and_parts (is_of k xs && nat_lt (number_at OUTCOME_AT 2 xs) OUTCOMES) (is_zero_at END_AT xs) e in
+    let b = and_parts (is_of k xs) (nat_lt (number_at OUTCOME_AT 2 xs) OUTCOMES) a.0 in
     let s = stamp_in xs in
-    let known : number_at 16 2 xs < 15 = ltb-true (number_at 16 2 xs) 15 b.1 in
-    let n = number_at 16 2 xs in
-    let seen = little_bytes 4 (number_at 20 4 xs) in
-    let back : little_bytes 2 (outcome_number (outcome_in xs)) ++ (little_bytes 2 (cpu_number (cpu_numbered (number_at 18 2 xs))) ++ (seen ++ replicate 8 0)) ≡ drop 16 xs =
-    (λ i. little_bytes 2 (outcome_again n known i) ++ (little_bytes 2 (cpu_again (number_at 18 2 xs) i) ++ (seen ++ last_zeros xs fits size a.1 i)))
-    ∙ ap (λ (r : List ℕ). little_bytes 2 n ++ (little_bytes 2 (number_at 18 2 xs) ++ r)) (at_4 20 xs (omega (arith, size)) fits)
-    ∙ ap (λ (r : List ℕ). little_bytes 2 n ++ r) (at_2 18 xs (omega (arith, size)) fits)
-    ∙ at_2 16 xs (omega (arith, size)) fits
+    let known : number_at OUTCOME_AT 2 xs < OUTCOMES = ltb-true (number_at OUTCOME_AT 2 xs) OUTCOMES b.1 in
+    let n = number_at OUTCOME_AT 2 xs in
+    let seen = little_bytes 4 (number_at SEEN_AT 4 xs) in
+    let back : little_bytes 2 (outcome_number (outcome_in xs)) ++ (little_bytes 2 (cpu_number (cpu_numbered (number_at PLACE_AT 2 xs))) ++ (seen ++ replicate WORD_LEN 0)) ≡ drop OUTCOME_AT xs =
+    (λ i. little_bytes 2 (outcome_again n known i) ++ (little_bytes 2 (cpu_again (number_at PLACE_AT 2 xs) i) ++ (seen ++ last_zeros xs fits size a.1 i)))
+    ∙ ap (λ (r : List ℕ). little_bytes 2 n ++ (little_bytes 2 (number_at PLACE_AT 2 xs) ++ r)) (at_place 4 SEEN_AT xs (omega (arith, size)) fits)
+    ∙ ap (λ (r : List ℕ). little_bytes 2 n ++ r) (at_place 2 PLACE_AT xs (omega (arith, size)) fits)
+    ∙ at_place 2 OUTCOME_AT xs (omega (arith, size)) fits
     in
     (λ i. stamp_bytes (sym kind i) k s ++ back i) ∙ stamped_front k xs fits size b.0
 
@@ -122,7 +126,7 @@ flags_below true false = refl
 flags_below false true = refl
 flags_below false false = refl
 
-outcome_below : (o : Outcome) → nat_lt (little_number 2 (little_bytes 2 (outcome_number o) ++ [])) 15 ≡ true
+outcome_below : (o : Outcome) → nat_lt (little_number 2 (little_bytes 2 (outcome_number o) ++ [])) OUTCOMES ≡ true
 outcome_below outcomes.Placed = refl
 outcome_below outcomes.Gone = refl
 outcome_below outcomes.Displaced = refl
@@ -161,24 +165,24 @@ spelt_is : (k : ℕ) (xs : List ℕ) → is_spelt k xs ≡ true → xs ≡ slot_
 unfolding is_spelt
 spelt_is k xs e = (bytes_decides xs (slot_spelling k (fields_in xs))).0 e
 
-passes_sound : (k : ℕ) (xs : List ℕ) → IsBytes xs → length xs ≡ 32 → passes k xs ≡ true → slot_spelling k (fields_in xs) ≡ xs
+passes_sound : (k : ℕ) (xs : List ℕ) → IsBytes xs → length xs ≡ SLOT_LEN → passes k xs ≡ true → slot_spelling k (fields_in xs) ≡ xs
 passes_sound k xs fits size e =
-    elim (cases_Bool (slice_index xs 0 == 1)) [
+    elim (cases_Bool (slice_index xs STATE_AT == STAMPED)) [
       | inl one ↦
-          ap (slot_spelling k) (cond-true (slice_index xs 0 == 1) (Stamped (stamp_in xs)) _ one)
-          ∙ stamp_sound k xs fits size (eqb-true (slice_index xs 0) 1 one) (sym (cond-true (slice_index xs 0 == 1) (is_stamp k xs) _ one) ∙ e)
+          ap (slot_spelling k) (cond-true (slice_index xs STATE_AT == STAMPED) (Stamped (stamp_in xs)) _ one)
+          ∙ stamp_sound k xs fits size (eqb-true (slice_index xs STATE_AT) STAMPED one) (sym (cond-true (slice_index xs STATE_AT == STAMPED) (is_stamp k xs) _ one) ∙ e)
       | inr other ↦
-          elim (cases_Bool (slice_index xs 0 == 2)) [
+          elim (cases_Bool (slice_index xs STATE_AT == DONE)) [
             | inl two ↦
-                ap (slot_spelling k) (cond-false (slice_index xs 0 == 1) _ _ other ∙ cond-true (slice_index xs 0 == 2) (done_in xs) Idle two)
-                ∙ done_sound k xs fits size (eqb-true (slice_index xs 0) 2 two) (sym (cond-false (slice_index xs 0 == 1) (is_stamp k xs) _ other ∙ cond-true (slice_index xs 0 == 2) (is_done k xs) (is_idle xs) two) ∙ e)
+                ap (slot_spelling k) (cond-false (slice_index xs STATE_AT == STAMPED) _ _ other ∙ cond-true (slice_index xs STATE_AT == DONE) (done_in xs) Idle two)
+                ∙ done_sound k xs fits size (eqb-true (slice_index xs STATE_AT) DONE two) (sym (cond-false (slice_index xs STATE_AT == STAMPED) (is_stamp k xs) _ other ∙ cond-true (slice_index xs STATE_AT == DONE) (is_done k xs) (is_idle xs) two) ∙ e)
             | inr none ↦
-                ap (slot_spelling k) (cond-false (slice_index xs 0 == 1) _ _ other ∙ cond-false (slice_index xs 0 == 2) (done_in xs) Idle none)
-                ∙ idle_sound xs fits size (sym (cond-false (slice_index xs 0 == 1) (is_stamp k xs) _ other ∙ cond-false (slice_index xs 0 == 2) (is_done k xs) (is_idle xs) none) ∙ e)
+                ap (slot_spelling k) (cond-false (slice_index xs STATE_AT == STAMPED) _ _ other ∙ cond-false (slice_index xs STATE_AT == DONE) (done_in xs) Idle none)
+                ∙ idle_sound xs fits size (sym (cond-false (slice_index xs STATE_AT == STAMPED) (is_stamp k xs) _ other ∙ cond-false (slice_index xs STATE_AT == DONE) (is_done k xs) (is_idle xs) none) ∙ e)
           ]
     ]
 
-pub tests_exact : (k : ℕ) (xs : List ℕ) → IsBytes xs → length xs ≡ 32 → k < 2 ^ 16 → passes k xs ≡ is_spelt k xs
+pub tests_exact : (k : ℕ) (xs : List ℕ) → IsBytes xs → length xs ≡ SLOT_LEN → k < 2 ^ 16 → passes k xs ≡ is_spelt k xs
 tests_exact k xs fits size low =
     same_tests (passes k xs) (is_spelt k xs) (λ e. spelt_from k xs (passes_sound k xs fits size e)) (λ e. ap (passes k) (spelt_is k xs e) ∙ spelling_passes k (fields_in xs) low)
 
@@ -220,7 +224,7 @@ spelt_read k xs z fits e =
 
 -- ---- what the tests return is what is read
 
-pub read_by_tests : (k : ℕ) (xs : List ℕ) (z : SlotState) (a b : Bool) → IsBytes xs → length xs ≡ 32 → k < 2 ^ 16 → a ≡ passes k xs → z ≡ fields_in xs → b ≡ can_hold z → read_by a b z ≡ state_in k xs
+pub read_by_tests : (k : ℕ) (xs : List ℕ) (z : SlotState) (a b : Bool) → IsBytes xs → length xs ≡ SLOT_LEN → k < 2 ^ 16 → a ≡ passes k xs → z ≡ fields_in xs → b ≡ can_hold z → read_by a b z ≡ state_in k xs
 read_by_tests k xs z a b fits size low passed fields held =
     (λ i. read_by ((passed ∙ tests_exact k xs fits size low) i) ((held ∙ ap can_hold fields) i) (fields i)) ∙ sym (state_is k xs)
 
@@ -249,17 +253,13 @@ stamp_numbers k xs s e =
       tseq = subst (λ (n : ℕ). n < 2 ^ 32) tseq (written_below s.tseq);
     }
 
-is_cpu : (o : Option ℕ) → IsCpuOrNone o → is_cpu_or_none o ≡ true
-is_cpu None h = refl
-is_cpu (Some c) h = lt-ltb c 128 h
-
 -- a stamped slot after its transaction landed
 pub done_read : (k : ℕ) (old new : List ℕ) (s : Stamp) (o : Outcome) (at : Option ℕ) (seen : ℕ) → is_malformed o ≡ false → IsCpuOrNone at → seen < 2 ^ 32 → new ≡ done_bytes o at seen old → state_in k old ≡ Ok (Stamped s)
     → state_in k new ≡ Ok (Done s o at seen)
 done_read k old new s o at seen told within low e was =
     let p = read_fields k old (Stamped s) was in
     let numbers : IsSpellableStamp s = stamp_numbers k old s was in
-    let held : can_hold (Done s o at seen) ≡ true = cond-false (is_malformed o) (is_blank s at seen) (is_cpu_or_none at) told ∙ is_cpu at within in
+    let held : can_hold (Done s o at seen) ≡ true = cond-false (is_malformed o) (is_blank s at seen) (is_cpu_or_none at) told ∙ cpu_passes at within in
     spelt_read k new (Done s o at seen) (held, (numbers, low)) (e ∙ ap (done_bytes o at seen) (p.0 ∙ ap (slot_spelling k) p.2))
 
 -- a slot of which only that it was malformed is left

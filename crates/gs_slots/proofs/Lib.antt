@@ -4,6 +4,6 @@ mod Exact
 mod States
 mod Busy
 mod Filled
-mod Flags
+mod Flagged
 mod Rows
 pub mod Laws

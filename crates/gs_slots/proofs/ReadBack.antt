@@ -1,40 +1,31 @@
 -- What is spelt in the bytes of a slot is read back from them.
-use Rattle.std.proofs.Common.{◌≡◌, Bool, true, false, cond, ℕ, ◌+◌, ◌*◌, ◌%◌, ◌^◌, ◌<◌, Option, None, Some, List, [], ◌++◌, replicate, refl, ap, ◌∙◌, arith}
+use Rattle.std.proofs.Common.{◌-◌, ◌≡◌, Bool, true, false, cond, ℕ, ◌+◌, ◌*◌, ◌%◌, ◌^◌, ◌<◌, Option, None, Some, List, [], ◌++◌, replicate, refl, ap, ◌∙◌, arith}
 use Rattle.std.specs.Prelude.{◌==◌, ◌&&◌, not, nat_le, if◌then◌else◌, unwrap_or}
 use Rattle.std.proofs.lemmas.Bool.{and_parts, ltb-true}
 use Rattle.std.proofs.lemmas.Bool.Decides.{nat_tests}
 use Rattle.byteorder.specs.Endian.{little_bytes, little_number}
 use Rattle.byteorder.specs.Numbers.{little_number-reads_back}
+use Rattle.gs_layout.specs.declared.cpu.TheConstants.{NO_CPU}
+use Rattle.gs_slots.specs.declared.wire.TheConstants.{DONE, END_AT, OUTCOME_AT, SLOT_LEN, STAMPED, WORD_LEN}
+use Rattle.gs_status.specs.declared.mask.TheConstants.{MOST_CPUS}
 use Rattle.gs_layout.specs.declared.outcome.Outcome.{Outcome}
 use Rattle.gs_layout.specs.declared.outcome.Outcome.TheVariants as outcomes
 use Rattle.gs_layout.specs.Outcome.{outcome_number, outcome_numbered}
 use Rattle.gs_layout.specs.Reading.{cpu_numbered}
-use Rattle.gs_layout.specs.Spelling.{IsCpuOrNone, cpu_number}
+use Rattle.gs_layout.specs.Spelling.{IsCpuOrNone, is_cpu_or_none}
+use Rattle.gs_layout.proofs.Laws.{cpu_back, cpu_from, reads}
 use Rattle.gs_slots.specs.declared.state.SlotState.{SlotState}
 use Rattle.gs_slots.specs.declared.state.SlotState.TheVariants.{Idle, Stamped, Done}
 use Rattle.gs_slots.specs.declared.state.Stamp.{Stamp}
 use Rattle.gs_slots.specs.Reading.{fields_in, stamp_in}
 use Rattle.gs_slots.specs.State.{is_malformed}
-use Rattle.gs_slots.specs.Spelling.{IsSpellableState, IsSpellableStamp, is_blank, is_cpu_or_none, is_result, result_bytes, slot_spelling, stamp_bytes}
-
--- a number is read from its bytes
-pub reads : (n x : ℕ) → x < 256 ^ n → little_number n (little_bytes n x ++ []) ≡ x
-reads n x lt = little_number-reads_back n x [] lt
+use Rattle.gs_slots.specs.Spelling.{IsSpellableState, IsSpellableStamp, is_blank, is_result, result_bytes, slot_spelling, stamp_bytes}
 
 flags_back : (p g : Bool) → ((((if p then 1 else 0) + 2 * (if g then 1 else 0)) % 2 == 1) ≡ p) × (nat_le 2 ((if p then 1 else 0) + 2 * (if g then 1 else 0)) ≡ g)
 flags_back true true = (refl, refl)
 flags_back true false = (refl, refl)
 flags_back false true = (refl, refl)
 flags_back false false = (refl, refl)
-
-cpu_below : (c : ℕ) → c < 128 → cpu_numbered c ≡ Some c
-cpu_below c lt =
-    let other : (c == 65535) ≡ false = grind (arith, nat_tests) in
-    ap (λ (b : Bool). cond b None (Some c)) other
-
-cpu_back : (o : Option ℕ) → IsCpuOrNone o → cpu_numbered (little_number 2 (little_bytes 2 (cpu_number o) ++ [])) ≡ o
-cpu_back None fits = refl
-cpu_back (Some c) fits = ap cpu_numbered (reads 2 c (omega arith)) ∙ cpu_below c fits
 
 outcome_back : (o : Outcome) → unwrap_or (outcome_numbered (little_number 2 (little_bytes 2 (outcome_number o) ++ []))) outcomes.Malformed ≡ o
 outcome_back outcomes.Placed = refl
@@ -76,17 +67,13 @@ none_of_blank s (Some c) seen e = absurd (some_is_set (s.generation == 0) (s.tid
 pub cpu_of_result : (s : Stamp) (o : Outcome) (at : Option ℕ) (seen : ℕ) → is_result s o at seen ≡ true → IsCpuOrNone at
 cpu_of_result s o at seen e = by_outcome (is_malformed o) e
   where
-    of_cpu : (q : Option ℕ) → is_cpu_or_none q ≡ true → IsCpuOrNone q
-    of_cpu None e = tt
-    of_cpu (Some c) e = ltb-true c 128 e
-
     by_outcome : (b : Bool) → cond b (is_blank s at seen) (is_cpu_or_none at) ≡ true → IsCpuOrNone at
     by_outcome true e = none_of_blank s at seen e
-    by_outcome false e = of_cpu at e
+    by_outcome false e = cpu_from at e
 
 -- the fields of a state's spelling say that state
 pub read_back : (cpu : ℕ) (s : SlotState) → IsSpellableState s → fields_in (slot_spelling cpu s) ≡ s
 read_back cpu Idle fits = refl
-read_back cpu (Stamped s) fits = λ i. Stamped (stamp_back 1 cpu s (replicate 16 0) fits.1 i)
+read_back cpu (Stamped s) fits = λ i. Stamped (stamp_back STAMPED cpu s (replicate (SLOT_LEN - OUTCOME_AT) 0) fits.1 i)
 read_back cpu (Done s outcome at seen) fits =
-    λ i. Done (stamp_back 2 cpu s (result_bytes outcome at seen ++ replicate 8 0) fits.1.0 i) (outcome_back outcome i) (cpu_back at (cpu_of_result s outcome at seen fits.0) i) (reads 4 seen fits.1.1 i)
+    λ i. Done (stamp_back DONE cpu s (result_bytes outcome at seen ++ replicate (SLOT_LEN - END_AT) 0) fits.1.0 i) (outcome_back outcome i) (cpu_back at (cpu_of_result s outcome at seen fits.0) i) (reads 4 seen fits.1.1 i)

@@ -1,4 +1,5 @@
 pub mod State
+pub mod Flags
 pub mod Spelling
 pub mod Reading
 pub mod Busy

@@ -1,6 +1,7 @@
 -- What stands in the bytes of a slot.
 use Rattle.std.specs.Prelude.{Bool, ◌&&◌, ℕ, suc, ◌==◌, ◌%◌, nat_eq, nat_le, Ok, Err, List, [], ◌∷◌, map, slice_index, unwrap_or, if◌then◌else◌}
 use Rattle.std.specs.Cmp.Lexicographic.{pointwise}
+use Rattle.gs_slots.specs.declared.wire.TheConstants.{DONE, FLAGS_AT, GENERATION_AT, OUTCOME_AT, PLACE_AT, SEEN_AT, STAMPED, STATE_AT, TID_AT, TSEQ_AT}
 use Rattle.gs_layout.specs.declared.outcome.Outcome.{Outcome}
 use Rattle.gs_layout.specs.declared.outcome.Outcome.TheVariants.{Malformed}
 use Rattle.gs_layout.specs.Outcome.{outcome_numbered}
@@ -8,32 +9,33 @@ use Rattle.gs_layout.specs.Reading.{cpu_numbered, number_at}
 use Rattle.gs_slots.specs.declared.state.SlotState.{SlotState}
 use Rattle.gs_slots.specs.declared.state.SlotState.TheVariants.{Idle, Stamped, Done}
 use Rattle.gs_slots.specs.declared.state.Stamp.{Stamp}
+use Rattle.gs_slots.specs.Flags.{has_group, has_preempt}
 use Rattle.gs_slots.specs.State.{Held}
 use Rattle.gs_slots.specs.Spelling.{can_hold, idle_bytes, slot_spelling}
 
 -- whether these bytes have the flag of a group, if they are a slot's
 abbrev pub is_flagged : List ℕ → Bool
-is_flagged bytes = nat_le 2 (slice_index bytes 1)
+is_flagged bytes = has_group (slice_index bytes FLAGS_AT)
 
 abbrev pub stamp_in : List ℕ → Stamp
 stamp_in bytes = record {
-  generation = number_at 4 4 bytes;
-  tid = number_at 8 4 bytes;
-  tseq = number_at 12 4 bytes;
-  preempt = slice_index bytes 1 % 2 == 1;
+  generation = number_at GENERATION_AT 4 bytes;
+  tid = number_at TID_AT 4 bytes;
+  tseq = number_at TSEQ_AT 4 bytes;
+  preempt = has_preempt (slice_index bytes FLAGS_AT);
   group = is_flagged bytes;
 }
 
 abbrev pub outcome_in : List ℕ → Outcome
-outcome_in bytes = unwrap_or (outcome_numbered (number_at 16 2 bytes)) Malformed
+outcome_in bytes = unwrap_or (outcome_numbered (number_at OUTCOME_AT 2 bytes)) Malformed
 
 abbrev pub done_in : List ℕ → SlotState
-done_in bytes = Done (stamp_in bytes) (outcome_in bytes) (cpu_numbered (number_at 18 2 bytes)) (number_at 20 4 bytes)
+done_in bytes = Done (stamp_in bytes) (outcome_in bytes) (cpu_numbered (number_at PLACE_AT 2 bytes)) (number_at SEEN_AT 4 bytes)
 
 -- what the fields of a slot say by its first byte, whatever its other bytes are
 abbrev pub fields_in : List ℕ → SlotState
 fields_in bytes =
-    if slice_index bytes 0 == 1 then Stamped (stamp_in bytes) else if slice_index bytes 0 == 2 then done_in bytes else Idle
+    if slice_index bytes STATE_AT == STAMPED then Stamped (stamp_in bytes) else if slice_index bytes STATE_AT == DONE then done_in bytes else Idle
 
 -- whether these bytes are what the slot of CPU k is with the fields that they have. Its CPU is k, and its outcome is one. No other flag is set, and
 -- no byte between the fields or behind them

@@ -1,6 +1,6 @@
-//! A slot as 32 bytes.
+//! A slot as bytes.
 
-ghost use Rattle.std.specs.Prelude.{◌≡◌, ◌==◌, ◌+◌, ◌≤◌, ◌++◌, length, slice_index, drop, true, false, Ok};
+ghost use Rattle.std.specs.Prelude.{◌≡◌, ◌==◌, ◌+◌, ◌-◌, ◌≤◌, ◌++◌, length, slice_index, drop, true, false, Ok};
 ghost use Rattle.gs_layout.specs.Spelling.{IsCpuOrNone};
 ghost use Rattle.gs_slots.specs.declared.state.SlotState.{SlotState};
 ghost use Rattle.gs_slots.specs.declared.state.Stamp.{Stamp};
@@ -10,67 +10,59 @@ ghost use Rattle.gs_slots.specs.Busy.{is_busy};
 ghost use Rattle.gs_slots.specs.State.{has_stamp, is_malformed, refused};
 ghost use Rattle.gs_slots.specs.Tests.{is_done, is_idle, is_of, is_stamp, is_zero_at, passes};
 
+use crate::flags::{are_flags, flags_of, has_group, has_preempt};
 use crate::state::{Malformed, SlotState, Stamp};
+use crate::wire::{
+    CPU_AT, DONE, END_AT, FLAGS_AT, GENERATION_AT, OUTCOME_AT, PLACE_AT, SEEN_AT, SLOT_LEN,
+    STAMPED, STATE_AT, TID_AT, TSEQ_AT, WORD_LEN,
+};
 use byteorder::{ByteOrder, LittleEndian};
-use gs_layout::{Outcome, cpu_number, cpu_numbered, u16_at, u32_at, u64_at};
-use gs_status::MOST_CPUS;
-
-/// How many bytes a slot has.
-pub(crate) const SIZE: usize = 32;
-
-/// The first byte of a slot that is stamped, and of one that is done.
-const STAMPED: u8 = 1;
-
-const DONE: u8 = 2;
-
-/// The byte at which what became of a transaction begins.
-const RESULT: usize = 16;
-
-/// How many outcomes there are: their numbers are below it.
-const OUTCOMES: u16 = 15;
+use gs_layout::{
+    OUTCOMES, Outcome, cpu_number, cpu_numbered, is_cpu_or_none, u16_at, u32_at, u64_at,
+};
 
 /// Returns whether these bytes have the flag of a group, if they are a slot's.
 pub(crate) fn is_flagged(bytes: &[u8]) -> bool
-    requires { length bytes.now ≡ 32 }
+    requires { length bytes.now ≡ SLOT_LEN }
     ensures { result ≡ is_flagged bytes.now }
 {
-    2 <= bytes[1]
+    has_group(bytes[FLAGS_AT])
 }
 
 fn stamp_at(bytes: &[u8]) -> Stamp
-    requires { length bytes.now ≡ 32 }
+    requires { length bytes.now ≡ SLOT_LEN }
     ensures { result ≡ stamp_in bytes.now }
 {
     Stamp {
-        generation: u32_at(bytes, 4),
-        tid: u32_at(bytes, 8),
-        tseq: u32_at(bytes, 12),
-        preempt: bytes[1] % 2 == 1,
+        generation: u32_at(bytes, GENERATION_AT),
+        tid: u32_at(bytes, TID_AT),
+        tseq: u32_at(bytes, TSEQ_AT),
+        preempt: has_preempt(bytes[FLAGS_AT]),
         group: is_flagged(bytes),
     }
 }
 
 fn outcome_at(bytes: &[u8]) -> Outcome
-    requires { length bytes.now ≡ 32 }
+    requires { length bytes.now ≡ SLOT_LEN }
     ensures { result ≡ outcome_in bytes.now }
 {
-    Outcome::numbered(u16_at(bytes, 16)).unwrap_or(Outcome::Malformed)
+    Outcome::numbered(u16_at(bytes, OUTCOME_AT)).unwrap_or(Outcome::Malformed)
 }
 
 /// Returns what the fields of a slot say, whatever its other bytes are.
 fn fields_at(bytes: &[u8]) -> SlotState
-    requires { length bytes.now ≡ 32 }
+    requires { length bytes.now ≡ SLOT_LEN }
     ensures { result ≡ fields_in bytes.now }
 {
-    match bytes[0] {
+    match bytes[STATE_AT] {
         STAMPED => SlotState::Stamped {
             stamp: stamp_at(bytes),
         },
         DONE => SlotState::Done {
             stamp: stamp_at(bytes),
             outcome: outcome_at(bytes),
-            at: cpu_numbered(u16_at(bytes, 18)),
-            seen: u32_at(bytes, 20),
+            at: cpu_numbered(u16_at(bytes, PLACE_AT)),
+            seen: u32_at(bytes, SEEN_AT),
         },
         _ => SlotState::Idle,
     }
@@ -78,7 +70,7 @@ fn fields_at(bytes: &[u8]) -> SlotState
 
 /// Returns whether the eight bytes from a place on are zero.
 fn is_zero_at(place: usize, bytes: &[u8]) -> bool
-    requires { place + 8 ≤ length bytes.now }
+    requires { place + WORD_LEN ≤ length bytes.now }
     ensures { result ≡ is_zero_at place bytes.now }
 {
     u64_at(bytes, place) == 0
@@ -86,48 +78,51 @@ fn is_zero_at(place: usize, bytes: &[u8]) -> bool
 
 /// Returns whether no flag but the first two is set, and the CPU is this one.
 fn is_of(cpu: u16, bytes: &[u8]) -> bool
-    requires { length bytes.now ≡ 32 }
+    requires { length bytes.now ≡ SLOT_LEN }
     ensures { result ≡ is_of cpu bytes.now }
 {
-    bytes[1] < 4 && u16_at(bytes, 2) == cpu
+    are_flags(bytes[FLAGS_AT]) && u16_at(bytes, CPU_AT) == cpu
 }
 
 fn is_idle(bytes: &[u8]) -> bool
-    requires { length bytes.now ≡ 32 }
+    requires { length bytes.now ≡ SLOT_LEN }
     ensures { result ≡ is_idle bytes.now }
 {
-    is_zero_at(0, bytes) && is_zero_at(8, bytes) && is_zero_at(16, bytes) && is_zero_at(24, bytes)
+    is_zero_at(0, bytes)
+        && is_zero_at(WORD_LEN, bytes)
+        && is_zero_at(OUTCOME_AT, bytes)
+        && is_zero_at(END_AT, bytes)
 }
 
 /// Returns whether these are other bytes than those of an idle slot.
 #[tactic(auto, using(crate::proofs::Busy::busy_by_test))]
 pub(crate) fn is_busy(bytes: &[u8]) -> bool
-    requires { length bytes.now ≡ 32 }
+    requires { length bytes.now ≡ SLOT_LEN }
     ensures { result ≡ is_busy bytes.now }
 {
     !is_idle(bytes)
 }
 
 fn is_stamp(cpu: u16, bytes: &[u8]) -> bool
-    requires { length bytes.now ≡ 32 }
+    requires { length bytes.now ≡ SLOT_LEN }
     ensures { result ≡ is_stamp cpu bytes.now }
 {
-    is_of(cpu, bytes) && is_zero_at(16, bytes) && is_zero_at(24, bytes)
+    is_of(cpu, bytes) && is_zero_at(OUTCOME_AT, bytes) && is_zero_at(END_AT, bytes)
 }
 
 fn is_done(cpu: u16, bytes: &[u8]) -> bool
-    requires { length bytes.now ≡ 32 }
+    requires { length bytes.now ≡ SLOT_LEN }
     ensures { result ≡ is_done cpu bytes.now }
 {
-    is_of(cpu, bytes) && u16_at(bytes, 16) < OUTCOMES && is_zero_at(24, bytes)
+    is_of(cpu, bytes) && u16_at(bytes, OUTCOME_AT) < OUTCOMES && is_zero_at(END_AT, bytes)
 }
 
 /// Returns whether the fields of the slot of a CPU are right, and all other bytes zero.
 fn passes(cpu: u16, bytes: &[u8]) -> bool
-    requires { length bytes.now ≡ 32 }
+    requires { length bytes.now ≡ SLOT_LEN }
     ensures { result ≡ passes cpu bytes.now }
 {
-    match bytes[0] {
+    match bytes[STATE_AT] {
         STAMPED => is_stamp(cpu, bytes),
         DONE => is_done(cpu, bytes),
         _ => is_idle(bytes),
@@ -141,10 +136,7 @@ fn is_result(stamp: &Stamp, outcome: Outcome, at: Option<u16>, seen: u32) -> boo
     if outcome == Outcome::Malformed {
         return is_blank(stamp, at, seen);
     }
-    match at {
-        Some(cpu) => cpu < MOST_CPUS,
-        None => true,
-    }
+    is_cpu_or_none(at)
 }
 
 /// Returns whether the numbers of a transaction, and of what became of it, are all zero, and no CPU is named.
@@ -183,7 +175,7 @@ fn can_hold(state: &SlotState) -> bool
 // In line, as are those that hand it on, so that a caller's `match` takes the fields where they lie.
 #[inline(always)]
 pub(crate) fn state_at(cpu: u16, bytes: &[u8]) -> Result<SlotState, Malformed>
-    requires { length bytes.now ≡ 32 }
+    requires { length bytes.now ≡ SLOT_LEN }
     ensures { result ≡ state_in cpu bytes.now }
 {
     if !passes(cpu, bytes) {
@@ -197,31 +189,31 @@ pub(crate) fn state_at(cpu: u16, bytes: &[u8]) -> Result<SlotState, Malformed>
     }
 }
 
-/// Writes the first 16 bytes of a slot that is not idle.
+/// Writes what stands before the outcome in a slot that is not idle.
 fn write_stamp(kind: u8, cpu: u16, stamp: &Stamp, out: &mut [u8])
-    requires { 16 ≤ length out.old }
-    ensures { out.new ≡ stamp_bytes kind cpu stamp.now ++ drop 16 out.old }
+    requires { OUTCOME_AT ≤ length out.old }
+    ensures { out.new ≡ stamp_bytes kind cpu stamp.now ++ drop OUTCOME_AT out.old }
 {
-    out[..2].copy_from_slice(&[kind, u8::from(stamp.preempt) + 2 * u8::from(stamp.group)]);
-    LittleEndian::write_u16(&mut out[2..], cpu);
-    LittleEndian::write_u32(&mut out[4..], stamp.generation);
-    LittleEndian::write_u32(&mut out[8..], stamp.tid);
-    LittleEndian::write_u32(&mut out[12..], stamp.tseq);
+    out[..CPU_AT].copy_from_slice(&[kind, flags_of(stamp)]);
+    LittleEndian::write_u16(&mut out[CPU_AT..], cpu);
+    LittleEndian::write_u32(&mut out[GENERATION_AT..], stamp.generation);
+    LittleEndian::write_u32(&mut out[TID_AT..], stamp.tid);
+    LittleEndian::write_u32(&mut out[TSEQ_AT..], stamp.tseq);
 }
 
 /// Writes what became of a transaction.
 fn write_result(outcome: Outcome, at: Option<u16>, seen: u32, out: &mut [u8])
-    requires { 8 ≤ length out.old }
-    ensures { out.new ≡ result_bytes outcome at seen ++ drop 8 out.old }
+    requires { END_AT - OUTCOME_AT ≤ length out.old }
+    ensures { out.new ≡ result_bytes outcome at seen ++ drop (END_AT - OUTCOME_AT) out.old }
 {
     LittleEndian::write_u16(out, outcome.number());
-    LittleEndian::write_u16(&mut out[2..], cpu_number(at));
-    LittleEndian::write_u32(&mut out[4..], seen);
+    LittleEndian::write_u16(&mut out[PLACE_AT - OUTCOME_AT..], cpu_number(at));
+    LittleEndian::write_u32(&mut out[SEEN_AT - OUTCOME_AT..], seen);
 }
 
 /// Stamps a transaction into the slot of a CPU, whatever was in it.
 pub(crate) fn write_stamped(cpu: u16, stamp: &Stamp, out: &mut [u8])
-    requires { length out.old ≡ 32 }
+    requires { length out.old ≡ SLOT_LEN }
     ensures { out.new ≡ slot_spelling cpu (SlotState.Stamped stamp.now) }
 {
     out.fill(0);
@@ -230,16 +222,16 @@ pub(crate) fn write_stamped(cpu: u16, stamp: &Stamp, out: &mut [u8])
 
 /// Makes a slot done that is stamped, and leaves its transaction in it.
 fn write_done(outcome: Outcome, at: Option<u16>, seen: u32, out: &mut [u8])
-    requires { length out.old ≡ 32 }
+    requires { length out.old ≡ SLOT_LEN }
     ensures { out.new ≡ done_bytes outcome at seen out.old }
 {
-    out[0] = DONE;
-    write_result(outcome, at, seen, &mut out[RESULT..]);
+    out[STATE_AT] = DONE;
+    write_result(outcome, at, seen, &mut out[OUTCOME_AT..]);
 }
 
 /// Leaves in the slot of a CPU that it was malformed, and nothing else.
 fn write_refused(cpu: u16, out: &mut [u8])
-    requires { length out.old ≡ 32 }
+    requires { length out.old ≡ SLOT_LEN }
     ensures { out.new ≡ slot_spelling cpu refused }
 {
     write_stamped(cpu, &Stamp::NONE, out);
@@ -249,7 +241,7 @@ fn write_refused(cpu: u16, out: &mut [u8])
 /// Leaves in the slot of a CPU what became of the transaction that is stamped in it. With the outcome
 /// `Malformed` it leaves nothing but that, whatever was in the slot.
 pub(crate) fn finish(cpu: u16, outcome: Outcome, at: Option<u16>, seen: u32, out: &mut [u8])
-    requires size { length out.old ≡ 32 }
+    requires size { length out.old ≡ SLOT_LEN }
     requires stamped { is_malformed outcome ≡ false → has_stamp (state_in cpu out.old) ≡ true }
     requires at { IsCpuOrNone at }
     ensures done { (s : Stamp) → is_malformed outcome ≡ false → state_in cpu out.old ≡ Ok (SlotState.Stamped s) → state_in cpu out.new ≡ Ok (SlotState.Done s outcome at seen) }

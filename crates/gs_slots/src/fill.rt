@@ -6,6 +6,7 @@ ghost use Rattle.gs_slots.specs.Filling.{AreWithin, busy_slot, count_below, faul
 use crate::region::Region;
 use crate::slot::SlotMut;
 use crate::slots::Slots;
+use crate::wire::SLOT_LEN;
 use std::thread::{Threads, join_mut};
 use thiserror::Error;
 
@@ -77,10 +78,10 @@ fn answer_of(busy: Option<u16>) -> Result<(), FillFault>
 fn fill_both(
     rt: &impl Threads,
     first: u16,
-    low: &mut [[u8; 32]],
+    low: &mut [[u8; SLOT_LEN]],
     below: &[Fill],
     at: u16,
-    high: &mut [[u8; 32]],
+    high: &mut [[u8; SLOT_LEN]],
     above: &[Fill],
 ) -> (Option<u16>, Option<u16>)
     requires below { AreWithin first (first + length low.old) below.now }
@@ -110,7 +111,7 @@ fn from_cpu(cpu: u16, fills: &[Fill]) -> &[Fill]
 /// Stamps transactions into slots, the first of which is that of a CPU. Returns the first CPU whose slot was
 /// not idle.
 #[tactic(auto, using(crate::proofs::Filled::rest_within, crate::proofs::Filled::rest_busy))]
-fn fill_part(first: u16, slots: &mut [[u8; 32]], fills: &[Fill]) -> Option<u16>
+fn fill_part(first: u16, slots: &mut [[u8; SLOT_LEN]], fills: &[Fill]) -> Option<u16>
     requires { AreWithin first (first + length slots.old) fills.now }
     ensures slots { slots.new ≡ filled first fills.now slots.old }
     ensures busy { result ≡ first_busy first fills.now slots.old }
@@ -123,7 +124,7 @@ fn fill_part(first: u16, slots: &mut [[u8; 32]], fills: &[Fill]) -> Option<u16>
 
 /// Stamps a transaction into its slot. Returns its CPU if the slot was not idle.
 #[tactic(auto, using(crate::proofs::Filled::one_filled))]
-fn fill_one(fill: &Fill, bytes: &mut [u8; 32]) -> Option<u16>
+fn fill_one(fill: &Fill, bytes: &mut [u8; SLOT_LEN]) -> Option<u16>
     ensures slot { bytes.new ≡ filled_slot fill.now bytes.old }
     ensures busy { result ≡ busy_slot fill.now bytes.old }
 {

@@ -9,10 +9,12 @@
 
 mod bytes;
 mod fill;
+mod flags;
 mod region;
 mod slot;
 mod slots;
 mod state;
+mod wire;
 
 pub use fill::{Fill, FillFault, fill_halves};
 pub use region::Region;

@@ -9,20 +9,21 @@ ghost use Rattle.gs_slots.specs.SlotMut.{bytes_of, cpu_of};
 ghost use Rattle.gs_slots.specs.Spelling.{idle_bytes};
 ghost use Rattle.gs_slots.specs.State.{has_stamp};
 
-use crate::bytes::{SIZE, is_busy, is_flagged, state_at};
+use crate::bytes::{is_busy, is_flagged, state_at};
 use crate::slot::SlotMut;
 use crate::slots::Slots;
 use crate::state::{Malformed, SlotState};
+use crate::wire::SLOT_LEN;
 use gs_status::{MOST_CPUS, Mask};
 use std::alloc::{AllocError, Global};
 use std::marker::Model;
 
-/// The slots of all CPUs: one block of 32 bytes for each, that of CPU 0 first.
+/// The slots of all CPUs: one block of [`SLOT_LEN`] bytes for each, that of CPU 0 first.
 ///
 /// Which slots are not idle is found without a look at each: a slot that was idle and was not lent since still is.
 #[derive(Drop)]
 pub struct Region {
-    blocks: Vec<[u8; 32]>,
+    blocks: Vec<[u8; SLOT_LEN]>,
     /// The CPUs below [`MOST_CPUS`] whose slots were lent since they were last seen to be idle.
     lent: Mask,
     /// Whether a slot of a CPU below [`MOST_CPUS`] may have the flag of a group, as far as is known without a look.
@@ -51,7 +52,7 @@ impl Region {
     {
         let mut blocks = Vec::with_capacity(alloc, cpus as usize)?;
         for _ in 0..cpus {
-            blocks.push_reserved([0; SIZE]);
+            blocks.push_reserved([0; SLOT_LEN]);
         }
         Ok(Region {
             blocks,
@@ -68,7 +69,7 @@ impl Region {
     }
 
     /// Lends the bytes of the slot of a CPU.
-    pub fn bytes(&self, cpu: u16) -> &[u8; 32]
+    pub fn bytes(&self, cpu: u16) -> &[u8; SLOT_LEN]
         requires { cpu < length self.now }
         ensures { slice_get self.now cpu ≡ Some result.now }
     {
@@ -174,7 +175,7 @@ fn with_lent(lent: Mask, cpu: u16) -> Mask
 }
 
 /// Returns whether there is a slot of a CPU, and it is not idle.
-fn is_busy_at(blocks: &[[u8; 32]], cpu: u16) -> bool
+fn is_busy_at(blocks: &[[u8; SLOT_LEN]], cpu: u16) -> bool
     ensures { result ≡ is_busy_at blocks.now cpu }
 {
     match blocks.get(cpu as usize) {
@@ -184,7 +185,7 @@ fn is_busy_at(blocks: &[[u8; 32]], cpu: u16) -> bool
 }
 
 /// Returns whether this was so, or there is a slot of a CPU and it has the flag of a group.
-fn or_flagged(flagged: bool, blocks: &[[u8; 32]], cpu: u16) -> bool
+fn or_flagged(flagged: bool, blocks: &[[u8; SLOT_LEN]], cpu: u16) -> bool
     ensures { result ≡ (flagged || is_flagged_at blocks.now cpu) }
 {
     match blocks.get(cpu as usize) {
@@ -197,7 +198,7 @@ fn or_flagged(flagged: bool, blocks: &[[u8; 32]], cpu: u16) -> bool
 /// group. All that are not idle are among those that were lent.
 // In line, since with few CPUs a call costs as much as the walk.
 #[inline(always)]
-fn busy_of(lent: Mask, blocks: &[[u8; 32]]) -> (Mask, bool)
+fn busy_of(lent: Mask, blocks: &[[u8; SLOT_LEN]]) -> (Mask, bool)
     requires { CoversBusy blocks.now lent }
     ensures busy { (c : ℕ) → c < MOST_CPUS → has result.0 c ≡ is_busy_at blocks.now c }
     ensures single { result.1 ≡ false → HasNoFlag blocks.now }
@@ -217,7 +218,7 @@ fn busy_of(lent: Mask, blocks: &[[u8; 32]]) -> (Mask, bool)
 
 /// Returns whether one of these slots has a transaction that did not land yet. The first of them is that of a
 /// CPU.
-fn any_stamped(first: u16, blocks: &[[u8; 32]]) -> bool
+fn any_stamped(first: u16, blocks: &[[u8; SLOT_LEN]]) -> bool
     requires { first + length blocks.now < 2 ^ 16 }
     ensures { result ≡ list_any has_stamp (states_in first blocks.now) }
 {
@@ -231,11 +232,11 @@ fn any_stamped(first: u16, blocks: &[[u8; 32]]) -> bool
 }
 
 /// Makes each of these slots idle.
-fn clear_all(blocks: &mut [[u8; 32]])
+fn clear_all(blocks: &mut [[u8; SLOT_LEN]])
     ensures { blocks.new ≡ replicate (length blocks.old) idle_bytes }
 {
     if let Some((first, rest)) = blocks.split_first_mut() {
-        *first = [0; SIZE];
+        *first = [0; SLOT_LEN];
         clear_all(rest);
     }
 }

@@ -9,21 +9,22 @@ ghost use Rattle.gs_slots.specs.Spelling.{idle_bytes, slot_spelling};
 ghost use Rattle.gs_slots.specs.State.{has_stamp, is_malformed, refused, told_in};
 ghost use Rattle.gs_slots.specs.SlotMut.{bytes_of, cpu_of, left_in, reference_of, state_of};
 
-use crate::bytes::{SIZE, finish, is_busy, state_at, write_stamped};
+use crate::bytes::{finish, is_busy, state_at, write_stamped};
 use crate::state::{Malformed, SlotBusy, SlotState, Stamp};
+use crate::wire::SLOT_LEN;
 use gs_layout::Outcome;
 
-/// The slot of one CPU, lent: its 32 bytes, read and written where they lie.
+/// The slot of one CPU, lent: its bytes, read and written where they lie.
 #[derive(Drop)]
 pub struct SlotMut<'a> {
-    bytes: &'a mut [u8; 32],
+    bytes: &'a mut [u8; SLOT_LEN],
     cpu: u16,
 }
 
 impl<'a> SlotMut<'a> {
     /// Makes the slot of a CPU from its bytes. They may be any: bytes that spell no state of this CPU's slot
     /// are malformed.
-    pub fn over(cpu: u16, bytes: &'a mut [u8; 32]) -> SlotMut<'a>
+    pub fn over(cpu: u16, bytes: &'a mut [u8; SLOT_LEN]) -> SlotMut<'a>
         ensures same_reference { reference_of result ≡ bytes.entry.ghost_name }
         ensures bytes { bytes_of result ≡ bytes.old }
         ensures cpu { cpu_of result ≡ cpu }
@@ -39,7 +40,7 @@ impl<'a> SlotMut<'a> {
     }
 
     /// Lends its bytes, to read or to write any into it.
-    pub fn bytes(&mut self) -> &mut [u8; 32]
+    pub fn bytes(&mut self) -> &mut [u8; SLOT_LEN]
         ensures* writes_back { sem 𝓛 (LendsBytes self.entry result) }
         ensures bytes { result.now ≡ bytes_of self.old }
     {
@@ -120,6 +121,6 @@ impl<'a> SlotMut<'a> {
         ensures { left_in self.exit ≡ idle_bytes }
     {
         let SlotMut { bytes, cpu: _ } = self;
-        *bytes = [0; SIZE];
+        *bytes = [0; SLOT_LEN];
     }
 }

@@ -2,6 +2,7 @@
 use Rattle.std.proofs.Common.{◌≡◌, ◌≢◌, refl, ap, sym, ◌∙◌, ℕ, zero, suc, ◌+◌, ◌-◌, ◌*◌, ◌<◌, ◌≤◌, ◌⊎◌, inl, inr, true, false, Some, slice_get, List, [], ◌∷◌, ◌++◌, length, get_or, set, arith, length-append, length-set, get_or-set_same, get_or-set_other}
 use Rattle.std.proofs.lemmas.Bool.{cases_lt}
 use Rattle.std.proofs.lemmas.Option.{slice_get-get_or, slice_get_past}
+use Rattle.gs_sets.specs.declared.bits.TheConstants.{WORD}
 use Rattle.gs_sets.specs.Bits.{is_in}
 use Rattle.gs_threads.specs.declared.row.ThreadRow.{ThreadRow}
 use Rattle.gs_threads.specs.Live.{lives, row_lives, IsOfRows}
@@ -95,7 +96,7 @@ row_last (row' ∷ rows) row = row_last rows row
 
 -- the set follows if a row of a live thread was added
 pub created : (words words' : List ℕ) (rows : List ThreadRow) (row : ThreadRow) → IsOfRows words rows → is_live row.record ≡ true
-    → length rows + 1 < 64 * length words → is_in words' (length rows + 1) ≡ true
+    → length rows + 1 < WORD * length words → is_in words' (length rows + 1) ≡ true
     → ((u : ℕ) → u ≢ length rows + 1 → is_in words' u ≡ is_in words u) → length words' ≡ length words
     → IsOfRows words' (rows ++ row ∷ [])
 unfolding lives row_of

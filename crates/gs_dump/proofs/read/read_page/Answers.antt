@@ -1,6 +1,7 @@
 use Rattle.std.proofs.Common.{◌≡◌, true, ℕ, ◌+◌, ◌-◌, ◌*◌, ◌<◌, ◌≤◌, Some, List, length, map, take, drop, sym, subst, ◌∙◌, arith}
 use Rattle.std.proofs.lemmas.List.{length-drop, take_all}
 use Rattle.std.proofs.lemmas.Result.{err_from_is_err_and}
+use Rattle.gs_dump.specs.declared.wire.TheConstants.{HEADER_LEN}
 use Rattle.gs_dump.specs.declared.fault.PageFault.TheVariants.{Short, Trailing}
 use Rattle.gs_dump.specs.declared.version.Version.{Version}
 use Rattle.gs_dump.specs.Page.{IsPage}
@@ -17,8 +18,8 @@ pub returns-in-Err-clause-fault : goal.returns-in-Err-clause-fault
 returns-in-Err-clause-fault c = is_fault c.args.bytes.now c.in-Err.fault (λ i. omega (arith, c.type_inv.bytes i)) c.in-Err.ensures.fault
 
 -- how many bytes the page has, as it is reckoned
-size_is : (v : Version) (bytes : List ℕ) (len count : ℕ) → len ≡ record_len v → count ≡ count_in bytes → 8 + len * count ≡ size_in v bytes
-size_is v bytes len count a b = λ i. 8 + a i * b i
+size_is : (v : Version) (bytes : List ℕ) (len count : ℕ) → len ≡ record_len v → count ≡ count_in bytes → HEADER_LEN + len * count ≡ size_in v bytes
+size_is v bytes len count a b = λ i. HEADER_LEN + a i * b i
 
 pub returns-then-bytes-size-clause-only : goal.returns-then-bytes-size-clause-only
 returns-then-bytes-size-clause-only c = λ p h.
@@ -36,8 +37,8 @@ returns-then-bytes-size-2-clause-only c = λ p h.
     let lt : size_in v bytes < length bytes = subst (λ (n : ℕ). n < length bytes) size c.if-bytes-size-2.true in
     none_found Trailing (page_fault bytes) (of_version v bytes c.in-Ok.ensures.head c.in-Ok.ensures.version ∙ long_page v bytes lt) (spelled_back bytes p h).0
 
-behind : (bytes : List ℕ) → take (length bytes - 8) (drop 8 bytes) ≡ drop 8 bytes
-behind bytes = take_all (length bytes - 8) (drop 8 bytes) (omega (arith, length-drop 8 bytes))
+behind : (bytes : List ℕ) → take (length bytes - HEADER_LEN) (drop HEADER_LEN bytes) ≡ drop HEADER_LEN bytes
+behind bytes = take_all (length bytes - HEADER_LEN) (drop HEADER_LEN bytes) (omega (arith, length-drop HEADER_LEN bytes))
 
 -- the fault that the pass over the records found is the page's
 found : (c : goal.After-from_residual) → Faults c.in_err-records.field-0.0 (page_fault c.args.bytes.now)
@@ -47,7 +48,7 @@ found c =
     let size = size_is v bytes c.record_len.result c.u16_at-count.result c.record_len.ensures c.u16_at-count.ensures in
     let least : size_in v bytes ≤ length bytes = subst (λ (n : ℕ). n ≤ length bytes) size c.if-bytes-size.false in
     let most : length bytes ≤ size_in v bytes = subst (λ (n : ℕ). length bytes ≤ n) size c.if-bytes-size-2.false in
-    let same : field_fault v c.end_fits.result true 0 c.next_at-next.result (texts v c.u16_at-count.result (take (length bytes - 8) (drop 8 bytes))) ≡ page_fault bytes =
+    let same : field_fault v c.end_fits.result true 0 c.next_at-next.result (texts v c.u16_at-count.result (take (length bytes - HEADER_LEN) (drop HEADER_LEN bytes))) ≡ page_fault bytes =
     (λ i. field_fault v (c.end_fits.ensures i) true 0 (c.next_at-next.ensures i) (texts v (c.u16_at-count.ensures i) (behind bytes i)))
     ∙ sym (of_version v bytes c.in-Ok.ensures.head c.in-Ok.ensures.version ∙ sized_page v bytes least most) in
     subst (Faults c.in_err-records.field-0.0) same c.in_err-records.ensures
@@ -76,7 +77,7 @@ read c =
     let size = size_is v bytes c.record_len.result c.u16_at-count.result c.record_len.ensures c.u16_at-count.ensures in
     let least : size_in v bytes ≤ length bytes = subst (λ (n : ℕ). n ≤ length bytes) size c.if-bytes-size.false in
     let most : length bytes ≤ size_in v bytes = subst (λ (n : ℕ). length bytes ≤ n) size c.if-bytes-size-2.false in
-    sound_in v bytes (λ i. omega (arith, c.type_inv.bytes i)) c.if-bytes-lt-HEADER.false
+    sound_in v bytes (λ i. omega (arith, c.type_inv.bytes i)) c.if-bytes-lt-HEADER_LEN.false
     (sized_page v bytes least most
     ∙ sym (λ i. field_fault v (c.end_fits.ensures i) true 0 (c.next_at-next.ensures i) (texts v (c.u16_at-count.ensures i) (behind bytes i)))
     ∙ c.in_ok-records.ensures.0)

@@ -6,7 +6,7 @@ use Rattle.gs_layout.specs.Spelling.{spelling}
 use Rattle.gs_ring.specs.Block.{Lies, record_index}
 use Rattle.gs_ring.specs.Places.{record_len}
 use Rattle.gs_ring.proofs.Next.{names_length}
-use Rattle.gs_ring.proofs.Pads.{record_is, record_size}
+use Rattle.gs_ring.proofs.Pads.{record_size}
 use Rattle.gs_ring.proofs.block.message_at.Goals as goal
 
 -- the length that the block names
@@ -16,7 +16,7 @@ names b place start len m h e f = f ∙ ap (λ k. number_at k 2 b) e ∙ names_l
 -- the bytes of the record
 spells : (b : List ℕ) (place start len : ℕ) (m : Message) → Lies b place m → start ≡ record_index b place → len ≡ number_at start 2 b → take (start + len - start) (drop start b) ≡ spelling m
 spells b place start len m h e f =
-    let n : start + len - start ≡ length (spelling m) = omega (arith, names b place start len m h e f, ap length (record_is m)) in
+    let n : start + len - start ≡ length (spelling m) = omega (arith, names b place start len m h e f) in
     ap (λ k. take k (drop start b)) n ∙ ap (λ k. take (length (spelling m)) (drop k b)) e ∙ ap (λ t. take (length (spelling m)) t) h.front ∙ take_at (spelling m) h.more (length (spelling m)) (let r : length (spelling m) ≡ length (spelling m) = omega arith in r)
 
 pub record_index-start-requires-clause-room : goal.record_index-start-requires-clause-room

@@ -1,18 +1,19 @@
 use Rattle.std.proofs.Common.{◌≡◌, ℕ, ◌≤◌, List, ◌++◌, length, take, drop, ap, sym, ◌∙◌, arith, length-append}
 use Rattle.std.proofs.lemmas.List.{drop_at, take_at}
+use Rattle.gs_layout.specs.declared.wire.TheConstants.{HEADER_LEN, LEN_AT}
 use Rattle.gs_layout.specs.declared.message.Message.{Message}
 use Rattle.gs_layout.specs.Reading.{number_at}
 use Rattle.gs_layout.specs.Spelling.{IsSpellable, spelling}
-use Rattle.gs_ring.proofs.Pads.{record_is, record_size}
+use Rattle.gs_ring.proofs.Pads.{record_size}
 use Rattle.gs_ring.proofs.ReadAgain.{length_named}
 use Rattle.gs_ring.proofs.segments.cut.Goals as goal
 
 -- the length that the segment names
-names : (text : List ℕ) (len : ℕ) (m : Message) (more : List ℕ) → IsSpellable m → text ≡ spelling m ++ more → len ≡ number_at 0 2 text → length (spelling m) ≡ len
-names text len m more fits e is = ap length (record_is m) ∙ sym (is ∙ ap (λ t. number_at 0 2 t) e ∙ length_named m more fits)
+names : (text : List ℕ) (len : ℕ) (m : Message) (more : List ℕ) → IsSpellable m → text ≡ spelling m ++ more → len ≡ number_at LEN_AT 2 text → length (spelling m) ≡ len
+names text len m more fits e is = sym (is ∙ ap (λ t. number_at LEN_AT 2 t) e ∙ length_named m more fits)
 
-long : (text : List ℕ) (m : Message) (more : List ℕ) → IsSpellable m → text ≡ spelling m ++ more → 16 ≤ length text
-long text m more fits e = omega (arith, ap length e, length-append (spelling m) more, ap length (record_is m), (record_size m fits).least)
+long : (text : List ℕ) (m : Message) (more : List ℕ) → IsSpellable m → text ≡ spelling m ++ more → HEADER_LEN ≤ length text
+long text m more fits e = omega (arith, ap length e, length-append (spelling m) more, (record_size m fits).least)
 
 pub u16_at-len-requires : goal.u16_at-len-requires
 u16_at-len-requires c = omega (arith, long c.args.segment.now c.requires.0 c.requires.1 c.requires.2 c.requires.3)

@@ -2,6 +2,7 @@ use Rattle.std.proofs.Common.{◌≡◌, ℕ, ◌+◌, ◌%◌, ◌^◌, ◌<◌
 use Rattle.std.proofs.lemmas.Bool.{false≢true}
 use Rattle.std.proofs.lemmas.List.{with_items_is}
 use Rattle.std.specs.Vec.{vec_len, with_items}
+use Rattle.gs_ring.specs.declared.ends.TheConstants.{MOST_POSTS}
 use Rattle.gs_layout.specs.declared.message.Message.{Message}
 use Rattle.gs_layout.specs.Spelling.{IsSpellable}
 use Rattle.gs_ring.specs.declared.ring.ByteRing.TheInside.{Inside}
@@ -72,7 +73,7 @@ record Done (i : Inside) (v : RingState) (m : Message) (k len : ℕ) (new : List
   pub state : ring_of (with_items i.block new).items i.read.count (i.written.count + (k + len)) i.taken (i.posts + 1) ≡ record { capacity = v.capacity; taken = v.taken; read = v.read; unread = v.unread ++ m ∷ [] }
 
 done : (i : Inside) (v : RingState) (m : Message) (k len : ℕ) (old new : List ℕ) → Known i v m k → IsRing i.block.items i.read.count i.written.count i.taken i.posts
-    → ring_of i.block.items i.read.count i.written.count i.taken i.posts ≡ v → IsSpellable m → posts v < 2 ^ 24 → len ≡ record_len m → k + len ≤ free v
+    → ring_of i.block.items i.read.count i.written.count i.taken i.posts ≡ v → IsSpellable m → posts v < MOST_POSTS → len ≡ record_len m → k + len ≤ free v
     → old ≡ i.block.items → new ≡ block_with old i.written.count k m → Done i v m k len new
 done i v m k len old new x h view fits few is_len room is_old is_new =
     let b = block_with i.block.items i.written.count k m in

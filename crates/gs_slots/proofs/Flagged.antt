@@ -2,6 +2,7 @@
 use Rattle.std.proofs.Common.{◌≡◌, Bool, true, false, ℕ, zero, suc, ◌+◌, ◌⊎◌, inl, inr, Option, None, Some, Ok, Err, List, [], ◌∷◌, cond, slice_get, refl, ap, sym, ◌∙◌, arith}
 use Rattle.std.specs.Prelude.{◌&&◌, ◌==◌, slice_index}
 use Rattle.std.specs.Option.{option_map}
+use Rattle.gs_slots.specs.declared.wire.TheConstants.{DONE, STAMPED, STATE_AT}
 use Rattle.gs_slots.specs.declared.state.SlotState.{SlotState}
 use Rattle.gs_slots.specs.declared.state.SlotState.TheVariants.{Idle, Stamped, Done}
 use Rattle.gs_slots.specs.Reading.{by_cpu, collected_in, done_in, fields_in, idle_if_done, is_flagged, is_spelt, stamp_in, state_in, state_or_idle}
@@ -11,7 +12,7 @@ use Rattle.gs_slots.specs.State.{Held, is_grouped}
 -- what is read of a slot is idle, or its transaction is one of a group as the flag says
 pub flag_is : (k : ℕ) (b : List ℕ) → (state_or_idle (state_in k b) ≡ Idle) ⊎ (is_grouped (state_or_idle (state_in k b)) ≡ is_flagged b)
 unfolding state_in
-flag_is k b = by_test (is_spelt k b && can_hold (fields_in b)) (slice_index b 0 == 1) (slice_index b 0 == 2)
+flag_is k b = by_test (is_spelt k b && can_hold (fields_in b)) (slice_index b STATE_AT == STAMPED) (slice_index b STATE_AT == DONE)
   where
     read : Bool → Bool → Bool → SlotState
     read t p q = state_or_idle (cond t (Ok (cond p (Stamped (stamp_in b)) (cond q (done_in b) Idle))) (Err (record {})))
