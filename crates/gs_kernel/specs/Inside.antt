@@ -2,10 +2,12 @@
 use Rattle.std.specs.Prelude.{Bool, true, ℕ, ◌<◌, ◌≤◌, ◌≡◌, Option, None, Some, List, [], ◌∷◌, ◌++◌, length, slice_get, slice_set, if◌then◌else◌, unwrap_or}
 use Rattle.gs_layout.specs.declared.facts.Facts.{Facts}
 use Rattle.gs_layout.specs.declared.message.Change.{Change}
-use Rattle.gs_layout.specs.declared.message.Change.TheVariants.{Created, Blocked, Wakeup, Preempted, Yield, Dead, Affinity}
+use Rattle.gs_layout.specs.declared.message.Change.TheVariants.{Created}
 use Rattle.gs_layout.specs.declared.message.TheConstants.{MOST_TIDS}
 use Rattle.gs_layout.specs.declared.message.Message.{Message}
 use Rattle.gs_layout.specs.declared.message.Message.TheVariants.{Thread, TimerTick}
+use Rattle.gs_layout.specs.Message.{takes_off_cpu}
+use Rattle.gs_layout.specs.Spelling.{cpu_of_change}
 use Rattle.gs_journal.specs.declared.entry.Entry.{Entry}
 use Rattle.gs_journal.specs.declared.entry.Entry.TheVariants.{Posted, Placed, Role, Begin, Left, Taken, Given, Torn}
 use Rattle.gs_threads.specs.declared.row.ThreadRow.{ThreadRow}
@@ -53,13 +55,7 @@ created_in _ = None
 
 -- the CPU that a change takes its thread off, if it does
 abbrev pub left_in : Change → Option ℕ
-left_in (Created f) = None
-left_in (Blocked c) = Some c
-left_in Wakeup = None
-left_in (Preempted c) = Some c
-left_in (Yield c) = Some c
-left_in (Dead o) = o
-left_in (Affinity o off mask) = if off then o else None
+left_in c = if takes_off_cpu c then cpu_of_change c else None
 
 abbrev pub left_by : Message → Option ℕ
 left_by (TimerTick c) = None
