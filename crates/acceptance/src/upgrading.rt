@@ -2,8 +2,8 @@
 
 use gs_agent::{Drained, Role};
 use gs_core::{Config, Event, Machine, Reply};
+use gs_dump::DumpRecord;
 use gs_journal::Entry;
-use gs_kernel::LiveThread;
 use gs_layout::Refusal;
 use gs_policy::AnyPolicy;
 use gs_script::read_script;
@@ -153,7 +153,7 @@ fn most_replies(has_agent: bool, living: usize, max: u16) -> usize {
 }
 
 /// Whether an agent knows just these threads, each as it is.
-fn knows(role: &Role<AnyPolicy>, living: &[LiveThread]) -> bool {
+fn knows(role: &Role<AnyPolicy>, living: &[DumpRecord]) -> bool {
     let mut walk = role.view().walk();
     for thread in living {
         let Some((tid, known)) = walk.next() else {

@@ -17,9 +17,8 @@ use Rattle.gs_journal.specs.History.{History, created, messages, at}
 use Rattle.gs_journal.specs.State.{state, Numbered, IsNumbered, Was}
 use Rattle.gs_journal.proofs.Laws.{known_live}
 use Rattle.gs_kernel.specs.declared.settings.Settings.{Settings}
-use Rattle.gs_kernel.specs.declared.live_thread.LiveThread.{LiveThread}
 use Rattle.gs_kernel.specs.Shown.{live_from, live_thread}
-use Rattle.gs_kernel.specs.Dumped.{dumped, first_tid, record_of}
+use Rattle.gs_kernel.specs.Dumped.{dumped, first_tid}
 use Rattle.gs_view.specs.Loaded.{loaded, or_known, told_of}
 use Rattle.gs_core.specs.declared.transaction.Transaction.{Transaction}
 use Rattle.gs_core.specs.Safe.{is_given}
@@ -29,7 +28,7 @@ use Rattle.gs_core.proofs.Gaps.{number_of}
 use Rattle.gs_core.proofs.Told.{parted, state_is, state_nothing, state_of, told_none}
 
 -- the threads that live among so many from one on
-abbrev pub live_among : Settings → History → ℕ → ℕ → List LiveThread
+abbrev pub live_among : Settings → History → ℕ → ℕ → List DumpRecord
 live_among s h a n = filter_map (live_thread s h) (range_with_len a n)
 
 -- how many threads a page can tell of that begins at one
@@ -37,18 +36,18 @@ abbrev pub from_on : History → ℕ → ℕ
 from_on h a = suc (length (created h)) - a
 
 -- a thread that lives
-abbrev pub living_thread : Settings → History → ℕ → Known → LiveThread
+abbrev pub living_thread : Settings → History → ℕ → Known → DumpRecord
 living_thread s h t k = record { tid = t; known = k; cpu = at s.cpus h t }
 
 -- the records of a page among those, and where the next page begins
 abbrev pub records_among : Settings → History → ℕ → ℕ → ℕ → List DumpRecord
-records_among s h a n max = map record_of (take max (live_among s h a n))
+records_among s h a n max = take max (live_among s h a n)
 
 abbrev pub next_among : Settings → History → ℕ → ℕ → ℕ → Option ℕ
 next_among s h a n max = first_tid (drop max (live_among s h a n))
 
 -- the first of the threads lives, or does not
-abbrev first_then : Settings → History → ℕ → ℕ → Option Known → List LiveThread
+abbrev first_then : Settings → History → ℕ → ℕ → Option Known → List DumpRecord
 first_then s h a n o = cons_option (option_map (λ k. living_thread s h a k) o) (live_among s h (a + 1) n)
 
 -- the next page begins behind all that this one tells of, and among the threads that it can tell of
@@ -83,7 +82,7 @@ wider s h a n next t k x = record { low = omega (arith, x.low); high = omega (ar
 
 -- so it is of each of them
 abbrev OfEach : (DumpRecord → Type 0) → Settings → History → ℕ → ℕ → Option ℕ → Type 0
-OfEach P s h a n next = (t : ℕ) (k : Known) → IsOnPage s h a n next t k → P (record_of (living_thread s h t k))
+OfEach P s h a n next = (t : ℕ) (k : Known) → IsOnPage s h a n next t k → P (living_thread s h t k)
 
 -- what holds of these holds of the page's records
 pub each_record : (P : DumpRecord → Type 0) (s : Settings) (h : History) (a n max : ℕ) → OfEach P s h a n (next_among s h a n max)
@@ -94,7 +93,7 @@ each_record P s h a (suc n) max all = by_state (state s.first_tseq h a) refl max
   where
     by_state : (o : Option Known) → state s.first_tseq h a ≡ o → (max : ℕ)
         → ((k : ℕ) → OfEach P s h (a + 1) n (next_among s h (a + 1) n k) → AllByRecursion P (records_among s h (a + 1) n k))
-        → OfEach P s h a (suc n) (first_tid (drop max (first_then s h a n o))) → AllByRecursion P (map record_of (take max (first_then s h a n o)))
+        → OfEach P s h a (suc n) (first_tid (drop max (first_then s h a n o))) → AllByRecursion P (take max (first_then s h a n o))
     by_state None is max rest all = rest max (λ t k x. all t k (wider s h a n (next_among s h (a + 1) n max) t k x))
     by_state (Some k) is zero rest all = tt
     by_state (Some k) is (suc max) rest all =
@@ -109,12 +108,12 @@ abbrev pub IsPassed : ℕ → History → ℕ → ℕ → Option ℕ → ℕ →
 IsPassed first h a n next t = a ≤ t → t < a + n → is_given next t ≡ true → state first h t ≡ None
 
 -- a page says of a thread what the kernel knows, or nothing: then it lies below the page, or is not given by it, or does not live
-abbrev pub Tells : Settings → History → ℕ → ℕ → ℕ → ℕ → List LiveThread → Type 0
+abbrev pub Tells : Settings → History → ℕ → ℕ → ℕ → ℕ → List DumpRecord → Type 0
 Tells s h a n t max ls =
-    ((told_of (map record_of (take max ls)) t ≡ state s.first_tseq h t) × ((k : Known) × (state s.first_tseq h t ≡ Some k)) × (a ≤ t))
-    ⊎ ((told_of (map record_of (take max ls)) t ≡ None) × IsPassed s.first_tseq h a n (first_tid (drop max ls)) t)
+    ((told_of (take max ls) t ≡ state s.first_tseq h t) × ((k : Known) × (state s.first_tseq h t ≡ Some k)) × (a ≤ t))
+    ⊎ ((told_of (take max ls) t ≡ None) × IsPassed s.first_tseq h a n (first_tid (drop max ls)) t)
 
-tells_later : (s : Settings) (h : History) (a n t max : ℕ) (ls : List LiveThread) → state s.first_tseq h a ≡ None → Tells s h (a + 1) n t max ls
+tells_later : (s : Settings) (h : History) (a n t max : ℕ) (ls : List DumpRecord) → state s.first_tseq h a ≡ None → Tells s h (a + 1) n t max ls
     → Tells s h a (suc n) t max ls
 tells_later s h a n t max ls none (inl p) = inl (p.0, p.1, omega (arith, p.2))
 tells_later s h a n t max ls none (inr p) = inr (p.0, by_place (a == t) refl)
@@ -123,13 +122,13 @@ tells_later s h a n t max ls none (inr p) = inr (p.0, by_place (a == t) refl)
     by_place true e le lt g = let same : t ≡ a = grind (arith, nat_tests) in ap (state s.first_tseq h) same ∙ none
     by_place false e le lt g = let more : a + 1 ≤ t = grind (arith, nat_tests) in p.1 more (omega arith) g
 
-tells_first : (s : Settings) (h : History) (a n t max : ℕ) (k : Known) (ls : List LiveThread) → state s.first_tseq h a ≡ Some k
+tells_first : (s : Settings) (h : History) (a n t max : ℕ) (k : Known) (ls : List DumpRecord) → state s.first_tseq h a ≡ Some k
     → ((j : ℕ) → Tells s h (a + 1) n t j ls) → Tells s h a (suc n) t max (living_thread s h a k ∷ ls)
 tells_first s h a n t zero k ls live rest = inr (refl, λ le lt g. let no : ⊥ = grind (arith, nat_tests, g) in absurd no)
 tells_first s h a n t (suc max) k ls live rest = by_place (a == t) refl (rest max)
   where
     later : Option Known
-    later = told_of (map record_of (take max ls)) t
+    later = told_of (take max ls) t
 
     by_place : (b : Bool) → (a == t) ≡ b → Tells s h (a + 1) n t max ls
         → ((cond b (Some k) later ≡ state s.first_tseq h t) × ((j : Known) × (state s.first_tseq h t ≡ Some j)) × (a ≤ t))
@@ -212,7 +211,7 @@ among_loaded s xs h n v a max g f =
     c : ℕ
     c = from_on h a
 
-    ls : List LiveThread
+    ls : List DumpRecord
     ls = live_among s h a c
 
     rs : List DumpRecord

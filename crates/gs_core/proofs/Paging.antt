@@ -45,11 +45,11 @@ thinks_told t n (Some c) s slots k = record { count = count_places c t n s ∙ k
 
 thinks_records : (rs : List DumpRecord) (p : Picture) (slots : List SlotState) → Thinks p.cpus slots → Thinks (after_records rs p).cpus slots
 thinks_records [] p slots k = k
-thinks_records (r ∷ rs) p slots k = thinks_records rs (after_record r p) slots (thinks_told r.tid r.tseq r.cpu p.cpus slots k)
+thinks_records (r ∷ rs) p slots k = thinks_records rs (after_record r p) slots (thinks_told r.tid r.known.tseq r.cpu p.cpus slots k)
 
 -- a record backs what it tells, if the thread is where it says
 abbrev BacksTold : History → ℕ → Look → Option ℕ → DumpRecord → Type 0
-BacksTold h n v page r = (c : ℕ) → r.cpu ≡ Some c → Backs h n v page c (running r.tid r.tseq)
+BacksTold h n v page r = (c : ℕ) → r.cpu ≡ Some c → Backs h n v page c (running r.tid r.known.tseq)
 
 trusted_told : (h : History) (n : ℕ) (v : Look) (page : Option ℕ) (t q : ℕ) (o : Option ℕ) (s : Cpus)
     → ((c : ℕ) → o ≡ Some c → Backs h n v page c (running t q)) → Trusted h n v page s → Trusted h n v page (told_on t q o s)
@@ -60,7 +60,7 @@ trusted_records : (h : History) (n : ℕ) (v : Look) (page : Option ℕ) (rs : L
     → Trusted h n v page p.cpus → Trusted h n v page (after_records rs p).cpus
 trusted_records h n v page [] p backs trust = trust
 trusted_records h n v page (r ∷ rs) p backs trust =
-    trusted_records h n v page rs (after_record r p) backs.1 (trusted_told h n v page r.tid r.tseq r.cpu p.cpus backs.0 trust)
+    trusted_records h n v page rs (after_record r p) backs.1 (trusted_told h n v page r.tid r.known.tseq r.cpu p.cpus backs.0 trust)
 
 -- of a page that tells of so many threads from one on
 trusted_among : (s : Settings) (h : History) (n : ℕ) (p : Picture) (a k max : ℕ) → Trusted h n p.view (Some a) p.cpus

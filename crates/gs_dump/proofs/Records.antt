@@ -30,38 +30,40 @@ length-mask versions.One m = refl
 length-mask versions.Two m = refl
 
 -- behind the mask stands the name
-name_stands : (v : Version) (r : DumpRecord) → drop (name_at v) (record_spelling v r) ≡ name_field r.facts.name
+name_stands : (v : Version) (r : DumpRecord) → drop (name_at v) (record_spelling v r) ≡ name_field r.known.facts.name
 name_stands v r =
-    sym (drop-drop (mask_len v) MASK_AT (record_spelling v r)) ∙ drop_at (little_bytes (mask_len v) r.facts.mask) (name_field r.facts.name) (mask_len v) (length-mask v r.facts.mask)
+    sym (drop-drop (mask_len v) MASK_AT (record_spelling v r)) ∙ drop_at (little_bytes (mask_len v) r.known.facts.mask) (name_field r.known.facts.name) (mask_len v) (length-mask v r.known.facts.mask)
 
-mask_back : (v : Version) (r : DumpRecord) → FitsIn v r → mask_in v (record_spelling v r) ≡ r.facts.mask
-mask_back v r f = little_number-reads_back (mask_len v) r.facts.mask (name_field r.facts.name) f
+mask_back : (v : Version) (r : DumpRecord) → FitsIn v r → mask_in v (record_spelling v r) ≡ r.known.facts.mask
+mask_back v r f = little_number-reads_back (mask_len v) r.known.facts.mask (name_field r.known.facts.name) f
 
-name_back : (v : Version) (r : DumpRecord) → name_in v (record_spelling v r) ≡ r.facts.name
+name_back : (v : Version) (r : DumpRecord) → name_in v (record_spelling v r) ≡ r.known.facts.name
 name_back v r =
-    let name = r.facts.name in
+    let name = r.known.facts.name in
     ap (take (length name)) (name_stands v r) ∙ take_at name (replicate (MOST_NAME_LEN - length name) 0) (length name) refl
 
 -- a record is read back from its spelling
 pub record_back : (v : Version) (r : DumpRecord) → IsLive r → FitsIn v r → record_in v (record_spelling v r) ≡ r
 record_back v r h f = λ i. record {
   tid = reads 4 r.tid (omega (arith, h.numbers.tid_high)) i;
-  tseq = reads 4 r.tseq h.numbers.tseq_high i;
-  facts = record {
-    runnable = flag_back r.facts.runnable i;
-    mask = mask_back v r f i;
-    class = class_back r.facts.class i;
-    name = name_back v r i;
+  known = record {
+    facts = record {
+      runnable = flag_back r.known.facts.runnable i;
+      mask = mask_back v r f i;
+      class = class_back r.known.facts.class i;
+      name = name_back v r i;
+    };
+    tseq = reads 4 r.known.tseq h.numbers.tseq_high i;
   };
   cpu = cpu_back r.cpu h.cpu i;
 }
 
 pub length-record_spelling : (v : Version) (r : DumpRecord) → IsLive r → length (record_spelling v r) ≡ record_len v
 length-record_spelling v r h =
-    let name = r.facts.name in
+    let name = r.known.facts.name in
     let short = name_short name h.name in
-    let mask = length-mask v r.facts.mask in
-    let behind = length-append (little_bytes (mask_len v) r.facts.mask) (name_field name) in
+    let mask = length-mask v r.known.facts.mask in
+    let behind = length-append (little_bytes (mask_len v) r.known.facts.mask) (name_field name) in
     omega (arith, mask, behind, length-append name (replicate (MOST_NAME_LEN - length name) 0), length-replicate {A = ℕ} (MOST_NAME_LEN - length name) 0, short)
 
 -- ---- the fields of a spelling fit
@@ -69,21 +71,21 @@ length-record_spelling v r h =
 numbers_again : (v : Version) (r : DumpRecord) → IsLive r → numbers_fit (record_spelling v r) ≡ true
 numbers_again v r h =
     let a : tid_in (record_spelling v r) ≡ r.tid = reads 4 r.tid (omega (arith, h.numbers.tid_high)) in
-    let b : tseq_in (record_spelling v r) ≡ r.tseq = reads 4 r.tseq h.numbers.tseq_high in
-    (λ i. are_numbers (a i) (b i)) ∙ numbers_pass r.tid r.tseq h.numbers
+    let b : tseq_in (record_spelling v r) ≡ r.known.tseq = reads 4 r.known.tseq h.numbers.tseq_high in
+    (λ i. are_numbers (a i) (b i)) ∙ numbers_pass r.tid r.known.tseq h.numbers
 
 facts_again : (v : Version) (r : DumpRecord) → IsLive r → FitsIn v r → facts_fit v (record_spelling v r) ≡ true
 facts_again v r h f =
     let text = record_spelling v r in
     let a = nat_lt (slice_index text CLASS_AT) 2 in
     let b = nat_lt (flags_in text) 2 in
-    and_from (a && b) (not (mask_in v text == 0)) (and_from a b (class_passes r.facts.class) (flag_passes r.facts.runnable))
-    (mask_passes (mask_len v) r.facts.mask (name_field r.facts.name) h.mask.0 f)
+    and_from (a && b) (not (mask_in v text == 0)) (and_from a b (class_passes r.known.facts.class) (flag_passes r.known.facts.runnable))
+    (mask_passes (mask_len v) r.known.facts.mask (name_field r.known.facts.name) h.mask.0 f)
 
 name_again : (v : Version) (r : DumpRecord) → IsLive r → name_fits v (record_spelling v r) ≡ true
 name_again v r h =
     let text = record_spelling v r in
-    let name = r.facts.name in
+    let name = r.known.facts.name in
     let n = length name in
     let a = nat_le (name_len_in text) MOST_NAME_LEN in
     let b = is_name (name_in v text) in
@@ -109,8 +111,8 @@ cpu_low (Some c) fits = omega (arith, fits)
 
 cpu_again_in : (v : Version) (r : DumpRecord) → IsLive r → FitsIn v r → cpu_fits v (record_spelling v r) ≡ true
 cpu_again_in v r h f =
-    (λ i. cpu_test (reads 2 (cpu_number r.cpu) (cpu_low r.cpu h.cpu) i) (flag_back r.facts.runnable i) (mask_back v r f i))
-    ∙ cpu_tested r.cpu r.facts.runnable r.facts.mask h.cpu h.runs
+    (λ i. cpu_test (reads 2 (cpu_number r.cpu) (cpu_low r.cpu h.cpu) i) (flag_back r.known.facts.runnable i) (mask_back v r f i))
+    ∙ cpu_tested r.cpu r.known.facts.runnable r.known.facts.mask h.cpu h.runs
 
 pub record_again : (v : Version) (r : DumpRecord) → IsLive r → FitsIn v r → record_fits v (record_spelling v r) ≡ true
 record_again v r h f =

@@ -10,7 +10,7 @@ use Rattle.gs_dump.specs.Reading.{page_fault, page_in, record_fits, texts}
 
 -- thread 1, named "web", is runnable and on no CPU, may run on CPUs 0 and 1, and has class 0
 abbrev web : DumpRecord
-web = record { tid = 1; tseq = 1; facts = record { runnable = true; mask = 3; class = Zero; name = 0x77 ∷ 0x65 ∷ 0x62 ∷ [] }; cpu = None }
+web = record { tid = 1; known = record { facts = record { runnable = true; mask = 3; class = Zero; name = 0x77 ∷ 0x65 ∷ 0x62 ∷ [] }; tseq = 1 }; cpu = None }
 
 abbrev web_bytes : List ℕ
 web_bytes =
@@ -36,7 +36,7 @@ last_right = refl
 
 -- the last thread, on the last CPU, of class 1
 abbrev high : DumpRecord
-high = record { tid = 65535; tseq = 4294967295; facts = record { runnable = true; mask = 2 ^ 127; class = One; name = [] }; cpu = Some 127 }
+high = record { tid = 65535; known = record { facts = record { runnable = true; mask = 2 ^ 127; class = One; name = [] }; tseq = 4294967295 }; cpu = Some 127 }
 
 high_spelled : record_spelling versions.Two high
     ≡ (0x02 ∷ 0x00 ∷ 0x01 ∷ 0x00 ∷ 0xff ∷ 0xff ∷ 0x00 ∷ 0x00 ∷ 0xff ∷ 0xff ∷ 0xff ∷ 0xff ∷ 0x7f ∷ 0x00 ∷ 0x01 ∷ 0x00 ∷ []) ++ replicate 15 0 ++ 0x80 ∷ replicate 16 0
@@ -90,7 +90,7 @@ unfolding texts
 trailing = refl
 
 -- a thread on a CPU is runnable, and the CPU is in its mask
-blocked_on_a_cpu : record_fits versions.Two (record_spelling versions.Two (record high { facts = record high.facts { runnable = false } })) ≡ false
+blocked_on_a_cpu : record_fits versions.Two (record_spelling versions.Two (record high { known = record high.known { facts = record high.known.facts { runnable = false } } })) ≡ false
 blocked_on_a_cpu = refl
 
 off_its_mask : record_fits versions.Two (record_spelling versions.Two (record high { cpu = Some 126 })) ≡ false

@@ -47,12 +47,14 @@ name_in v text = take (name_len_in text) (drop (name_at v) text)
 abbrev pub record_in : Version → List ℕ → DumpRecord
 record_in v text = record {
   tid = tid_in text;
-  tseq = tseq_in text;
-  facts = record {
-    runnable = flags_in text == 1;
-    mask = mask_in v text;
-    class = class_numbered (slice_index text CLASS_AT);
-    name = name_in v text;
+  known = record {
+    facts = record {
+      runnable = flags_in text == 1;
+      mask = mask_in v text;
+      class = class_numbered (slice_index text CLASS_AT);
+      name = name_in v text;
+    };
+    tseq = tseq_in text;
   };
   cpu = cpu_numbered (cpu_number_in text);
 }

@@ -12,20 +12,20 @@ use Rattle.gs_dump.specs.Version.{mask_len, version_number}
 
 -- the ranges of a record: a thread on a CPU is runnable, and the CPU is in its mask
 pub record IsLive (r : DumpRecord) : Type 0 where
-  pub numbers : AreNumbers r.tid r.tseq
-  pub mask : IsMask r.facts.mask
-  pub name : is_name r.facts.name ≡ true
+  pub numbers : AreNumbers r.tid r.known.tseq
+  pub mask : IsMask r.known.facts.mask
+  pub name : is_name r.known.facts.name ≡ true
   pub cpu : IsCpuOrNone r.cpu
-  pub runs : IfSome r.cpu (λ c. (r.facts.runnable ≡ true) × (has r.facts.mask c ≡ true))
+  pub runs : IfSome r.cpu (λ c. (r.known.facts.runnable ≡ true) × (has r.known.facts.mask c ≡ true))
 
 -- the version, class, the name's length, tid, sequence number, CPU, and the flags. Bit 0 of these says that the thread is runnable
 abbrev pub front_bytes : Version → DumpRecord → List ℕ
 front_bytes v r =
-    little_bytes 2 (version_number v) ++ (class_number r.facts.class ∷ length r.facts.name ∷ []) ++ little_bytes 4 r.tid ++ little_bytes 4 r.tseq ++ little_bytes 2 (cpu_number r.cpu) ++ little_bytes 2 (if r.facts.runnable then 1 else 0)
+    little_bytes 2 (version_number v) ++ (class_number r.known.facts.class ∷ length r.known.facts.name ∷ []) ++ little_bytes 4 r.tid ++ little_bytes 4 r.known.tseq ++ little_bytes 2 (cpu_number r.cpu) ++ little_bytes 2 (if r.known.facts.runnable then 1 else 0)
 
 -- whether a version can spell a record: its mask has no more bytes than the version gives it
 abbrev pub FitsIn : Version → DumpRecord → Type 0
-FitsIn v r = r.facts.mask < 256 ^ mask_len v
+FitsIn v r = r.known.facts.mask < 256 ^ mask_len v
 
 -- a name in 16 bytes: behind it are zeros
 abbrev pub name_field : List ℕ → List ℕ
@@ -33,4 +33,4 @@ name_field name = name ++ replicate (MOST_NAME_LEN - length name) 0
 
 -- the bytes of a record in a version
 abbrev pub record_spelling : Version → DumpRecord → List ℕ
-record_spelling v r = front_bytes v r ++ little_bytes (mask_len v) r.facts.mask ++ name_field r.facts.name
+record_spelling v r = front_bytes v r ++ little_bytes (mask_len v) r.known.facts.mask ++ name_field r.known.facts.name

@@ -13,7 +13,7 @@ use crate::wire::{
     TSEQ_AT, VERSION_AT,
 };
 use gs_layout::{
-    Class, Facts, MOST_NAME_LEN, NO_CPU, Name, are_numbers, are_zeros, cpu_numbered, is_tid,
+    Class, Facts, Known, MOST_NAME_LEN, NO_CPU, Name, are_numbers, are_zeros, cpu_numbered, is_tid,
     u16_at, u32_at, u64_at, u128_at,
 };
 use gs_status::{MOST_CPUS, Mask};
@@ -86,7 +86,7 @@ fn facts_at(version: Version, text: &[u8]) -> Facts
     requires size { length text.now ≡ record_len version }
     requires len { slice_index text.now NAME_LEN_AT ≤ MOST_NAME_LEN }
     requires name { is_name (name_in version text.now) ≡ true }
-    ensures { result ≡ (record_in version text.now).facts }
+    ensures { result ≡ (record_in version text.now).known.facts }
 {
     Facts {
         runnable: u16_at(text, FLAGS_AT) == 1,
@@ -109,8 +109,10 @@ pub(crate) fn read_record(version: Version, text: &[u8]) -> Result<DumpRecord, P
     }
     Ok(DumpRecord {
         tid: u32_at(text, TID_AT),
-        tseq: u32_at(text, TSEQ_AT),
-        facts: facts_at(version, text),
+        known: Known {
+            facts: facts_at(version, text),
+            tseq: u32_at(text, TSEQ_AT),
+        },
         cpu: cpu_numbered(u16_at(text, CPU_AT)),
     })
 }

@@ -27,13 +27,13 @@ fn write_front(thread: &DumpRecord, out: &mut [u8])
 {
     LittleEndian::write_u16(out, Version::Two.number());
     out[CLASS_AT..TID_AT].copy_from_slice(&[
-        thread.facts.class.number(),
-        thread.facts.name.as_bytes().len() as u8,
+        thread.known.facts.class.number(),
+        thread.known.facts.name.as_bytes().len() as u8,
     ]);
     LittleEndian::write_u32(&mut out[TID_AT..], thread.tid);
-    LittleEndian::write_u32(&mut out[TSEQ_AT..], thread.tseq);
+    LittleEndian::write_u32(&mut out[TSEQ_AT..], thread.known.tseq);
     LittleEndian::write_u16(&mut out[CPU_AT..], cpu_number(thread.cpu));
-    LittleEndian::write_u16(&mut out[FLAGS_AT..], u16::from(thread.facts.runnable));
+    LittleEndian::write_u16(&mut out[FLAGS_AT..], u16::from(thread.known.facts.runnable));
 }
 
 /// Writes a name, and zeros up to [`MOST_NAME_LEN`] bytes.
@@ -51,8 +51,8 @@ fn record_bytes(thread: &DumpRecord) -> [u8; RECORD_LEN]
 {
     let mut bytes = [0; RECORD_LEN];
     write_front(thread, &mut bytes);
-    LittleEndian::write_u128(&mut bytes[MASK_AT..], thread.facts.mask.bits());
-    write_name(thread.facts.name.as_bytes(), &mut bytes[NAME_AT..]);
+    LittleEndian::write_u128(&mut bytes[MASK_AT..], thread.known.facts.mask.bits());
+    write_name(thread.known.facts.name.as_bytes(), &mut bytes[NAME_AT..]);
     bytes
 }
 

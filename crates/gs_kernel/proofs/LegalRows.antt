@@ -173,11 +173,11 @@ not_yet = (refl, refl)
 both : History
 both = opened ++ Posted (Thread 1 1 (Created facts)) ∷ Posted (Thread 2 1 (Created facts)) ∷ []
 
-first_page : dumped two both 1 1 ≡ record { records = record { tid = 1; tseq = 1; facts = facts; cpu = None } ∷ []; next = Some 2 }
+first_page : dumped two both 1 1 ≡ record { records = record { tid = 1; known = record { facts = facts; tseq = 1 }; cpu = None } ∷ []; next = Some 2 }
 unfolding two both opened facts live_from created posted messages seq record_in record_of latest on at standing last_of state
 first_page = refl
 
-last_page : dumped two both 2 1 ≡ record { records = record { tid = 2; tseq = 1; facts = facts; cpu = None } ∷ []; next = None }
+last_page : dumped two both 2 1 ≡ record { records = record { tid = 2; known = record { facts = facts; tseq = 1 }; cpu = None } ∷ []; next = None }
 unfolding two both opened facts live_from created posted messages seq record_in record_of latest on at standing last_of state
 last_page = refl
 

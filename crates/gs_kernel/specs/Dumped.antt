@@ -1,5 +1,5 @@
 -- The pages that tell an agent of the threads that live.
-use Rattle.std.specs.Prelude.{Bool, ◌||◌, ◌<◌, ◌≤◌, ◌≡◌, true, ℕ, Option, None, Some, IfSome, List, [], ◌∷◌, is_none, map, take, drop}
+use Rattle.std.specs.Prelude.{Bool, ◌||◌, ◌<◌, ◌≤◌, ◌≡◌, true, ℕ, Option, None, Some, IfSome, List, [], ◌∷◌, is_none, take, drop}
 use Rattle.gs_layout.specs.declared.message.TheConstants.{MOST_TIDS}
 use Rattle.gs_layout.specs.Spelling.{IsCpuOrNone}
 use Rattle.gs_status.specs.Masks.{has}
@@ -7,28 +7,23 @@ use Rattle.gs_dump.specs.declared.record.DumpRecord.{DumpRecord}
 use Rattle.gs_dump.specs.Page.{Contents}
 use Rattle.gs_journal.specs.History.{History}
 use Rattle.gs_kernel.specs.declared.settings.Settings.{Settings}
-use Rattle.gs_kernel.specs.declared.live_thread.LiveThread.{LiveThread}
 pub use Rattle.gs_kernel.specs.Shown.{live_from}
 
--- the record of a page that tells of a thread
-abbrev pub record_of : LiveThread → DumpRecord
-record_of l = record { tid = l.tid; tseq = l.known.tseq; facts = l.known.facts; cpu = l.cpu }
-
 -- the tid of the first of them
-abbrev pub first_tid : List LiveThread → Option ℕ
+abbrev pub first_tid : List DumpRecord → Option ℕ
 first_tid [] = None
 first_tid (l ∷ ls) = Some l.tid
 
 -- the page that begins at a tid, of so many threads at most: the first that live from there on, and where the next page begins
 abbrev pub dumped : Settings → History → ℕ → ℕ → Contents
-dumped s h a max = record { records = map record_of (take max (live_from s h a)); next = first_tid (drop max (live_from s h a)) }
+dumped s h a max = record { records = take max (live_from s h a); next = first_tid (drop max (live_from s h a)) }
 
 -- whether the last page was given, once this one was too: the last one is that behind which no next one begins
 abbrev pub paged_after : Contents → Bool → Bool
 paged_after p given = is_none p.next || given
 
 -- what a page asks of a thread: a tid, a number and a CPU in its mask, and that it may be where it is
-pub record IsTold (l : LiveThread) : Type 0 where
+pub record IsTold (l : DumpRecord) : Type 0 where
   pub tid_low : 1 ≤ l.tid
   pub tid_high : l.tid ≤ MOST_TIDS
   pub tseq : 1 ≤ l.known.tseq

@@ -20,7 +20,6 @@ mod head;
 mod kernel;
 mod land;
 mod landing;
-mod live_thread;
 mod other_class;
 mod page;
 mod post;
@@ -41,7 +40,6 @@ pub use fate::Fate;
 pub use head::Head;
 pub use kernel::Kernel;
 pub use landing::Landing;
-pub use live_thread::LiveThread;
 pub use settings::{
     LAST_TSEQ, LEAST_CPUS, LEAST_GENERATION, LEAST_HISTORY, MOST_FIRST_TSEQ, MOST_GENERATION,
     MOST_HISTORY, Settings,

@@ -3,11 +3,10 @@
 ghost use Rattle.std.specs.Prelude.{◌≡◌, IfErr, IfOk, None, OnErr};
 ghost use Rattle.gs_dump.specs.Record.{IsLive};
 ghost use Rattle.gs_kernel.specs.Attaching.{page_refusal};
-ghost use Rattle.gs_kernel.specs.Dumped.{IsTold, dumped, paged_after, record_of};
+ghost use Rattle.gs_kernel.specs.Dumped.{IsTold, dumped, paged_after};
 ghost use Rattle.gs_kernel.specs.Kernel.{IsRefusal, unless_torn};
 
 use crate::kernel::Kernel;
-use crate::live_thread::LiveThread;
 use crate::shown::by_row;
 use gs_dump::{DumpRecord, Page};
 use gs_layout::Refusal;
@@ -92,7 +91,8 @@ impl<P: Poster> Kernel<P> {
                     next: Some(thread.tid),
                 });
             }
-            records.push(record_of(thread))?;
+            state_live(&thread);
+            records.push(thread)?;
         }
         Ok(Page {
             records,
@@ -101,18 +101,13 @@ impl<P: Poster> Kernel<P> {
     }
 }
 
-/// Returns the record of a page that tells of a thread.
-fn record_of(thread: LiveThread) -> DumpRecord
-    requires { IsTold thread }
-    ensures value { result ≡ record_of thread }
-    ensures live { IsLive result }
+/// States that a page can tell of a thread. It does nothing when it runs.
+fn state_live(thread: &DumpRecord)
+    requires { IsTold thread.now }
+    ensures { IsLive thread.now }
 {
-    // A look at the name, by which the proof has what it keeps.
+    // A look at each part, by which the proof has what it keeps.
+    let _tseq = thread.known.tseq;
+    let _mask = thread.known.facts.mask.bits();
     let _name = thread.known.facts.name.as_bytes();
-    DumpRecord {
-        tid: thread.tid,
-        tseq: thread.known.tseq,
-        facts: thread.known.facts,
-        cpu: thread.cpu,
-    }
 }

@@ -20,7 +20,7 @@ use Rattle.gs_layout.specs.Spelling.{kind_of, tid_of, cpu_of}
 use Rattle.gs_journal.specs.declared.entry.Entry.{Entry}
 use Rattle.gs_journal.specs.declared.entry.Entry.TheVariants.{Posted, Placed, Role, Begin, Left, Taken, Given, Torn}
 use Rattle.gs_kernel.specs.declared.landing.Landing.{Landing}
-use Rattle.gs_kernel.specs.declared.live_thread.LiveThread.{LiveThread}
+use Rattle.gs_dump.specs.declared.record.DumpRecord.{DumpRecord}
 use Rattle.gs_agent.specs.declared.drained.Drained.{Drained}
 use Rattle.gs_agent.specs.declared.drained.Stop.{Stop}
 use Rattle.gs_agent.specs.declared.drained.Stop.TheVariants as stops
@@ -223,11 +223,11 @@ abbrev pub view_lines : List (ℕ × Known) → List ℕ
 view_lines known = flat_map (λ p. line (view_text p)) known
 
 -- a thread that lives
-abbrev pub live_text : LiveThread → List ℕ
+abbrev pub live_text : DumpRecord → List ℕ
 live_text a = codes "state " ++ known_text a.tid a.known ++ codes " cpu " ++ cpu_text a.cpu
 
 -- the lines of threads that live, one for each
-abbrev pub live_lines : List LiveThread → List ℕ
+abbrev pub live_lines : List DumpRecord → List ℕ
 live_lines threads = flat_map (λ a. line (live_text a)) threads
 
 -- the lines of a reply. A commit has one for each landing, and a look one for each thread or message that it shows. A decision has

@@ -3,7 +3,7 @@ ghost use Rattle.gs_lines.specs.Lines.{class_text, facts_text, known_text, line,
 
 use crate::message_line::write_cpu;
 use crate::text::{MOST_WORD_LEN, Text};
-use gs_kernel::LiveThread;
+use gs_dump::DumpRecord;
 use gs_layout::{Class, Facts, Known, Name};
 use std::alloc::AllocError;
 
@@ -89,7 +89,7 @@ pub(crate) fn write_view(out: &mut Text, view: &[(u32, Known)]) -> Result<(), Al
 }
 
 /// Adds the line of a thread that lives.
-fn write_live(out: &mut Text, thread: &LiveThread) -> Result<(), AllocError>
+fn write_live(out: &mut Text, thread: &DumpRecord) -> Result<(), AllocError>
     ensures { OnOk result (out.new ≡ out.old ++ line (live_text thread.now)) }
 {
     write_known(out, "state", thread.tid, &thread.known)?;
@@ -99,7 +99,7 @@ fn write_live(out: &mut Text, thread: &LiveThread) -> Result<(), AllocError>
 }
 
 /// Adds the lines of threads that live, in increasing order of tid.
-pub(crate) fn write_threads(out: &mut Text, threads: &[LiveThread]) -> Result<(), AllocError>
+pub(crate) fn write_threads(out: &mut Text, threads: &[DumpRecord]) -> Result<(), AllocError>
     ensures { OnOk result (out.new ≡ out.old ++ live_lines threads.now) }
 {
     for thread in threads {

@@ -13,7 +13,7 @@ use Rattle.gs_beliefs.specs.Cpus.{Cpus, is_believed, is_just, is_named}
 use Rattle.gs_beliefs.specs.Belief.{after_outcome}
 use Rattle.gs_runq.specs.Queue.{IsTid, Queue, is_in, order}
 use Rattle.gs_runq.proofs.Laws.{not_left, not_right}
-use Rattle.gs_view.specs.Loaded.{known_in, loaded, or_known, told_of}
+use Rattle.gs_view.specs.Loaded.{loaded, or_known, told_of}
 use Rattle.gs_mind.specs.Held.{HasRoom}
 use Rattle.gs_mind.specs.Mind.{bare}
 use Rattle.gs_mind.specs.Pages.{after_page, after_record, after_records, told_on}
@@ -38,8 +38,8 @@ bared p = record p { queue = bare p.queue }
 
 bared_record : (r : DumpRecord) (p : Picture) → bared (after_record r p) ≡ after_record r (bared p)
 bared_record r p =
-    ap (λ (q : Queue). parts p.view (told_on r.tid r.tseq r.cpu p.cpus) q)
-    (bare_settled_all p.view (told_on r.tid r.tseq r.cpu p.cpus) (r.tid ∷ option_to_list (displaced p.cpus r.cpu)) p.queue)
+    ap (λ (q : Queue). parts p.view (told_on r.tid r.known.tseq r.cpu p.cpus) q)
+    (bare_settled_all p.view (told_on r.tid r.known.tseq r.cpu p.cpus) (r.tid ∷ option_to_list (displaced p.cpus r.cpu)) p.queue)
 
 pub bared_records : (rs : List DumpRecord) (p : Picture) → bared (after_records rs p) ≡ after_records rs (bared p)
 bared_records [] p = refl
@@ -61,13 +61,13 @@ holds_settled v s (t ∷ ts) us q h = holds_settled v s ts us (settled v s t q) 
 
 -- who waits is the same of all but a record's thread and whom it displaces
 waits_told : (v : Look) (s : Cpus) (r : DumpRecord) (u : ℕ) → is_in u (r.tid ∷ option_to_list (displaced s r.cpu)) ≡ false
-    → waits v (told_on r.tid r.tseq r.cpu s) u ≡ waits v s u
+    → waits v (told_on r.tid r.known.tseq r.cpu s) u ≡ waits v s u
 waits_told v s r u out =
     let both = or_parts (r.tid == u) (is_in u (option_to_list (displaced s r.cpu))) out in
-    let placed = as_placed r.tid r.tseq r.cpu s in
-    waits_alike v v s (told_on r.tid r.tseq r.cpu s) u refl
-    (ap (λ (x : Cpus). is_believed x u) placed ∙ believed_outcome Placed r.cpu r.tid r.tseq u s both.0 (displaced_out s r.cpu u both.1))
-    (ap (λ (x : Cpus). is_named x u) placed ∙ ap (λ (xs : List (Option ℕ)). list_any (is_just u) xs) (stamped_outcome Placed r.cpu r.tid r.tseq s))
+    let placed = as_placed r.tid r.known.tseq r.cpu s in
+    waits_alike v v s (told_on r.tid r.known.tseq r.cpu s) u refl
+    (ap (λ (x : Cpus). is_believed x u) placed ∙ believed_outcome Placed r.cpu r.tid r.known.tseq u s both.0 (displaced_out s r.cpu u both.1))
+    (ap (λ (x : Cpus). is_named x u) placed ∙ ap (λ (xs : List (Option ℕ)). list_any (is_just u) xs) (stamped_outcome Placed r.cpu r.tid r.known.tseq s))
 
 -- all threads but those of the records wait where they are in the queue, and then all do
 pub holds_records : (rs : List DumpRecord) (p : Picture) → HoldsBut p.view p.cpus (tids_of rs) p.queue
@@ -76,7 +76,7 @@ holds_records [] p h = λ u. h u refl
 holds_records (r ∷ rs) p h = holds_records rs (after_record r p) (holds_settled p.view s ts (tids_of rs) p.queue before)
   where
     s : Cpus
-    s = told_on r.tid r.tseq r.cpu p.cpus
+    s = told_on r.tid r.known.tseq r.cpu p.cpus
 
     ts : List ℕ
     ts = r.tid ∷ option_to_list (displaced p.cpus r.cpu)
@@ -93,7 +93,7 @@ untold : (rs : List DumpRecord) (u : ℕ) → is_in u (tids_of rs) ≡ false →
 untold [] u out = refl
 untold (r ∷ rs) u out =
     let both = or_parts (r.tid == u) (is_in u (tids_of rs)) out in
-    ap (λ (b : Bool). cond b (Some (known_in r)) (told_of rs u)) both.0 ∙ untold rs u both.1
+    ap (λ (b : Bool). cond b (Some r.known) (told_of rs u)) both.0 ∙ untold rs u both.1
 
 -- a page was loaded, for which there is room
 pub holds_loaded : (rs : List DumpRecord) (v v' : Look) (s : Cpus) (q q' : Queue) → ((t : ℕ) → v' t ≡ loaded rs v t) → bare q' ≡ bare q → HoldsWaiting v s q
@@ -118,7 +118,7 @@ told_or_known (r ∷ rs) v t live e = by_test (r.tid == t) refl e (told_or_known
     longer (inl x) = inl x
     longer (inr x) = inr (x.0, some)
 
-    by_test : (b : Bool) → (r.tid == t) ≡ b → is_some (or_known (cond b (Some (known_in r)) (told_of rs t)) (v t)) ≡ true
+    by_test : (b : Bool) → (r.tid == t) ≡ b → is_some (or_known (cond b (Some r.known) (told_of rs t)) (v t)) ≡ true
         → (is_some (loaded rs v t) ≡ true → (is_some (v t) ≡ true) ⊎ (IsTid t × (0 < length rs))) → Either
     by_test true same k later = inr (subst IsTid (eqb-true r.tid t same) (live.0.numbers.tid_low, live.0.numbers.tid_high), some)
     by_test false other k later = longer (later k)
@@ -145,13 +145,13 @@ room_loaded rs v v' q q' live h known more fits = record { least = λ t e. (tid 
     room t e = room_by t (which t e)
 
 -- the beliefs and the queue after a record
-record_picture : (v : Look) (s s' : Cpus) (q q' : Queue) (r : DumpRecord) → s' ≡ told_on r.tid r.tseq r.cpu s
+record_picture : (v : Look) (s s' : Cpus) (q q' : Queue) (r : DumpRecord) → s' ≡ told_on r.tid r.known.tseq r.cpu s
     → q' ≡ settled_all v s' (r.tid ∷ option_to_list (displaced s r.cpu)) q → parts v s' q' ≡ after_record r (parts v s q)
 record_picture v s s' q q' r a b = ap (parts v s') b ∙ ap (λ (x : Cpus). parts v x (settled_all v x (r.tid ∷ option_to_list (displaced s r.cpu)) q)) a
 
 -- a page's records were taken in up to one, and then that one
 pub records_more : (xs ys : List DumpRecord) (r : DumpRecord) (v : Look) (s s' : Cpus) (q q' : Queue) (p : Picture) → ys ≡ xs ++ r ∷ []
-    → parts v s q ≡ after_records xs p → s' ≡ told_on r.tid r.tseq r.cpu s
+    → parts v s q ≡ after_records xs p → s' ≡ told_on r.tid r.known.tseq r.cpu s
     → q' ≡ settled_all v s' (r.tid ∷ option_to_list (displaced s r.cpu)) q → parts v s' q' ≡ after_records ys p
 records_more xs ys r v s s' q q' p more before a b =
     record_picture v s s' q q' r a b ∙ (ap (after_record r) before ∙ (sym (records_push xs r p) ∙ ap (λ (zs : List DumpRecord). after_records zs p) (sym more)))

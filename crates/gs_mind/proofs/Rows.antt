@@ -30,7 +30,7 @@ at t n ticks = Some (record { tid = t; tseq = n; ticks = ticks })
 
 -- what a page tells of a thread, at number 6
 abbrev told : ℕ → Class → Bool → Option ℕ → DumpRecord
-told t class runnable c = record { tid = t; tseq = 6; facts = (known class runnable 6).facts; cpu = c }
+told t class runnable c = record { tid = t; known = known class runnable 6; cpu = c }
 
 -- these beliefs and stamps on CPUs 1 and 2
 abbrev cpus : Option Running → Option Running → Option ℕ → Option ℕ → Cpus

@@ -14,7 +14,7 @@ told_on t n (Some c) s = places c t n s
 -- the picture after a page's record, whose thread is known already: it is believed to run where the record says. It, and whom it
 -- displaces there, begin to wait or wait no more
 abbrev pub after_record : DumpRecord → Picture → Picture
-after_record r p = believes (told_on r.tid r.tseq r.cpu p.cpus) (r.tid ∷ option_to_list (displaced p.cpus r.cpu)) p
+after_record r p = believes (told_on r.tid r.known.tseq r.cpu p.cpus) (r.tid ∷ option_to_list (displaced p.cpus r.cpu)) p
 
 -- the picture after records, in order
 abbrev pub after_records : List DumpRecord → Picture → Picture

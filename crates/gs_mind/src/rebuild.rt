@@ -53,13 +53,13 @@ pub(crate) fn take_records(
 /// says. It, and whoever was believed to run there, begins to wait, goes on or stops.
 fn take_record(view: &AgentView, cpus: &mut CpuBeliefs, queue: &mut RunQueue, thread: &DumpRecord)
     requires { HasRoom (look_up view.now) queue.old }
-    ensures cpus { cpus.new ≡ told_on thread.now.tid thread.now.tseq thread.now.cpu cpus.old }
+    ensures cpus { cpus.new ≡ told_on thread.now.tid thread.now.known.tseq thread.now.cpu cpus.old }
     ensures queue { queue.new ≡ settled_all (look_up view.now) cpus.new (thread.now.tid ∷ option_to_list (displaced cpus.old thread.now.cpu)) queue.old }
     ensures room { HasRoom (look_up view.now) queue.new }
 {
     let displaced = running_on(cpus, thread.cpu);
     if let Some(cpu) = thread.cpu {
-        cpus.place(cpu, thread.tid, thread.tseq);
+        cpus.place(cpu, thread.tid, thread.known.tseq);
     }
     settle(view, cpus, queue, thread.tid);
     settle_if_any(view, cpus, queue, displaced);

@@ -7,7 +7,7 @@ use Rattle.gs_layout.specs.declared.known.Known.{Known}
 use Rattle.gs_layout.specs.View.{Look}
 use Rattle.gs_dump.specs.declared.record.DumpRecord.{DumpRecord}
 use Rattle.gs_dump.specs.Page.{rises}
-use Rattle.gs_view.specs.Loaded.{known_in, loaded, or_known, told_of}
+use Rattle.gs_view.specs.Loaded.{loaded, or_known, told_of}
 use Rattle.gs_view.specs.Records.{with_known}
 
 -- no record before the one at a place is of its thread, and each is above the number that the tids begin above
@@ -25,7 +25,7 @@ above_earlier last (x ∷ xs) next up zero r e = (refl, by_first (nat_lt last x.
 above_earlier last (x ∷ xs) next up (suc i) r e =
     let both = and_parts (nat_lt last x.tid) (rises x.tid xs next) up in
     let later = above_earlier x.tid xs next both.1 i r e in
-    (ap (λ (b : Bool). cond b (Some (known_in x)) (told_of (take i xs) r.tid)) (apart x.tid r.tid later.1) ∙ later.0, above both.0 later.1)
+    (ap (λ (b : Bool). cond b (Some x.known) (told_of (take i xs) r.tid)) (apart x.tid r.tid later.1) ∙ later.0, above both.0 later.1)
   where
     apart : (a b : ℕ) → a < b → (a == b) ≡ false
     apart a b lt = grind (arith, nat_tests)
@@ -38,7 +38,7 @@ told_push [] r t = refl
 told_push (x ∷ xs) r t = by_test (x.tid == t) (told_push xs r t)
   where
     by_test : (b : Bool) → told_of (xs ++ r ∷ []) t ≡ or_known (told_of xs t) (told_of (r ∷ []) t)
-        → cond b (Some (known_in x)) (told_of (xs ++ r ∷ []) t) ≡ or_known (cond b (Some (known_in x)) (told_of xs t)) (told_of (r ∷ []) t)
+        → cond b (Some x.known) (told_of (xs ++ r ∷ []) t) ≡ or_known (cond b (Some x.known) (told_of xs t)) (told_of (r ∷ []) t)
     by_test true later = refl
     by_test false later = later
 
@@ -52,9 +52,9 @@ loaded_push rs r v none t = ap (λ (o : Option Known). or_known o (v t)) (told_p
     joined (Some k) = refl
 
     by_test : (b : Bool) → (r.tid == t) ≡ b
-        → or_known (or_known (told_of rs t) (cond b (Some (known_in r)) None)) (v t) ≡ or_known (cond b (Some (known_in r)) None)
+        → or_known (or_known (told_of rs t) (cond b (Some r.known) None)) (v t) ≡ or_known (cond b (Some r.known) None)
         (or_known (told_of rs t) (v t))
-    by_test true e = ap (λ (o : Option Known). or_known (or_known o (Some (known_in r))) (v t)) untold ∙ refl
+    by_test true e = ap (λ (o : Option Known). or_known (or_known o (Some r.known)) (v t)) untold ∙ refl
       where
         untold : told_of rs t ≡ None
         untold = ap (told_of rs) (sym (eqb-true r.tid t e)) ∙ none
@@ -87,9 +87,9 @@ upto_later last (x ∷ xs) next up (suc i) (suc j) r s le e f =
     upto_later x.tid xs next both.1 i j r s (omega (arith, le)) e f
 
 -- a record is loaded if what it says is made known
-pub loaded_one : (r : DumpRecord) (v : Look) (t : ℕ) → with_known r.tid (Some (known_in r)) v t ≡ loaded (r ∷ []) v t
+pub loaded_one : (r : DumpRecord) (v : Look) (t : ℕ) → with_known r.tid (Some r.known) v t ≡ loaded (r ∷ []) v t
 loaded_one r v t = by_test (r.tid == t)
   where
-    by_test : (b : Bool) → cond b (Some (known_in r)) (v t) ≡ or_known (cond b (Some (known_in r)) None) (v t)
+    by_test : (b : Bool) → cond b (Some r.known) (v t) ≡ or_known (cond b (Some r.known) None) (v t)
     by_test true = refl
     by_test false = refl

@@ -4,14 +4,10 @@ use Rattle.gs_layout.specs.declared.known.Known.{Known}
 use Rattle.gs_layout.specs.View.{Look}
 use Rattle.gs_dump.specs.declared.record.DumpRecord.{DumpRecord}
 
--- what a page's record says of its thread
-abbrev pub known_in : DumpRecord → Known
-known_in r = record { facts = r.facts; tseq = r.tseq }
-
 -- what records say of a thread: nothing, if none is of it
 abbrev pub told_of : List DumpRecord → ℕ → Option Known
 told_of [] t = None
-told_of (r ∷ rs) t = if r.tid == t then Some (known_in r) else told_of rs t
+told_of (r ∷ rs) t = if r.tid == t then Some r.known else told_of rs t
 
 -- one of two, the first if there is one
 abbrev pub or_known : Option Known → Option Known → Option Known

@@ -2,11 +2,10 @@
 
 ghost use Rattle.std.specs.Prelude.{◌≡◌, ℕ, OnErr, OnOk};
 ghost use Rattle.gs_layout.specs.View.{look_up};
-ghost use Rattle.gs_view.specs.Loaded.{known_in, loaded};
+ghost use Rattle.gs_view.specs.Loaded.{loaded};
 
 use crate::records::Records;
-use gs_dump::{DumpRecord, Page};
-use gs_layout::Known;
+use gs_dump::Page;
 use std::alloc::AllocError;
 
 /// Loads a page's records in increasing order of tid. Room is made for all of them first.
@@ -23,17 +22,7 @@ pub(crate) fn load_page(records: &mut Records, page: &Page) -> Result<(), AllocE
     };
     records.reserve(last.tid, page.records.len())?;
     for thread in &page.records {
-        records.put(thread.tid, known_in(thread));
+        records.put(thread.tid, thread.known);
     }
     Ok(())
-}
-
-/// Returns what a page's record says of its thread.
-fn known_in(thread: &DumpRecord) -> Known
-    ensures { result ≡ known_in thread.now }
-{
-    Known {
-        facts: thread.facts,
-        tseq: thread.tseq,
-    }
 }

@@ -41,12 +41,12 @@ fn write_first(line: &mut String, bytes: &[u8]) -> Result<(), AllocError> {
 /// Adds the fields of a record.
 fn write_record(line: &mut String, record: &DumpRecord) -> Result<(), AllocError> {
     let tid = record.tid;
-    let tseq = record.tseq;
+    let tseq = record.known.tseq;
     let cpu = record.cpu;
-    let runnable = record.facts.runnable;
-    let mask = record.facts.mask.bits();
-    let class = record.facts.class.number();
-    let name = record.facts.name.as_bytes();
+    let runnable = record.known.facts.runnable;
+    let mask = record.known.facts.mask.bits();
+    let class = record.known.facts.class.number();
+    let name = record.known.facts.name.as_bytes();
     write!(
         line,
         "{tid} {tseq} {cpu:?} {runnable} {mask} {class} {name:?} "

@@ -3,7 +3,7 @@ ghost use Rattle.std.specs.Prelude.{◌<◌, ◌≤◌, IfSome};
 
 use crate::messages::Tried;
 use gs_dump::{DumpRecord, Page, PageFault, read_page, write_page};
-use gs_layout::{Class, Facts, MOST_TIDS, Name};
+use gs_layout::{Class, Facts, Known, MOST_TIDS, Name};
 use gs_status::{MOST_CPUS, Mask};
 use std::alloc::{AllocError, Global};
 use std::test::Fail;
@@ -293,23 +293,27 @@ fn threads_of_two(last: u16) -> Option<[DumpRecord; 2]>
     Some([
         DumpRecord {
             tid: 2,
-            tseq: 4_294_967_294,
-            facts: Facts {
-                mask: alone,
-                runnable: false,
-                class: Class::One,
-                name: Name::new(b"sixteenbyteslong".as_slice())?,
+            known: Known {
+                facts: Facts {
+                    mask: alone,
+                    runnable: false,
+                    class: Class::One,
+                    name: Name::new(b"sixteenbyteslong".as_slice())?,
+                },
+                tseq: 4_294_967_294,
             },
             cpu: None,
         },
         DumpRecord {
             tid: 5,
-            tseq: 7,
-            facts: Facts {
-                mask: alone.with(1),
-                runnable: true,
-                class: Class::Zero,
-                name: Name::new(b"".as_slice())?,
+            known: Known {
+                facts: Facts {
+                    mask: alone.with(1),
+                    runnable: true,
+                    class: Class::Zero,
+                    name: Name::new(b"".as_slice())?,
+                },
+                tseq: 7,
             },
             cpu: Some(last),
         },

@@ -328,9 +328,9 @@ fn is_page(page: &Page, threads: &[Shown], next: Option<u32>) -> bool {
         let Some(record) = records.next() else {
             return false;
         };
-        let facts = &record.facts;
+        let facts = &record.known.facts;
         let named = facts.mask == Mask::new(7) && facts.name.as_bytes() == b"web".as_slice();
-        if !named || (record.tid, record.tseq, record.cpu) != *thread {
+        if !named || (record.tid, record.known.tseq, record.cpu) != *thread {
             return false;
         }
     }

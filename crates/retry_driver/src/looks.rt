@@ -4,8 +4,9 @@ use crate::mind::Mind;
 use crate::told::tell_all;
 use gs_agent::Drained;
 use gs_core::{Machine, Transaction};
+use gs_dump::DumpRecord;
 use gs_journal::Entry;
-use gs_kernel::{Kernel, LiveThread};
+use gs_kernel::Kernel;
 use gs_layout::{Known, Message};
 use gs_policy::AnyPolicy;
 use gs_ring::ByteRing;
@@ -93,7 +94,7 @@ struct Pages {
 /// All that a machine shows.
 #[derive(Drop)]
 pub(crate) struct Looks {
-    pub(crate) state: Vec<LiveThread>,
+    pub(crate) state: Vec<DumpRecord>,
     pub(crate) view: Vec<(u32, Known)>,
     pub(crate) unread: Vec<Message>,
     journal: Vec<Entry>,

@@ -52,7 +52,7 @@ loop-thread-preserved c =
       room = omega (arith, c.loop-thread.invariant.room, c.put.ensures.room);
       known = loaded_more all c.args.page.now.next up i here found more (look_up c.reserve.new.self.entries) before
           (look_up c.put.new.self.entries) c.loop-thread.invariant.known
-          (λ t. c.put.ensures.known t ∙ (ap (λ (k : Known). with_known here.tid (Some k) before t) c.known_in.ensures ∙ loaded_one here before t));
+          (λ t. c.put.ensures.known t ∙ loaded_one here before t);
     }
 
 pub returns-clause-known : goal.returns-clause-known

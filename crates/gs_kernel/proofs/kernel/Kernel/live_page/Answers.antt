@@ -3,8 +3,7 @@ use Rattle.std.proofs.lemmas.Grind.{common_steps}
 use Rattle.std.specs.List.{AllByRecursion, filter_map}
 use Rattle.gs_dump.specs.declared.record.DumpRecord.{DumpRecord}
 use Rattle.gs_dump.specs.Record.{IsLive}
-use Rattle.gs_kernel.specs.declared.live_thread.LiveThread.{LiveThread}
-use Rattle.gs_kernel.specs.Dumped.{dumped, record_of}
+use Rattle.gs_kernel.specs.Dumped.{dumped}
 use Rattle.gs_kernel.specs.Shown.{by_row, live_from}
 use Rattle.gs_kernel.proofs.Living.{living_from}
 use Rattle.gs_kernel.proofs.Paging.{all_push, live_told, next_told, page_edge, page_end, page_made, records_more}
@@ -13,13 +12,13 @@ use Rattle.gs_kernel.proofs.kernel.Kernel.live_page.Goals as goal
 pub loop-tid-init : goal.loop-tid-init
 loop-tid-init g c =
     let k = c.self.inside in
-    let ls : List LiveThread = live_from c.args.self.now.settings c.args.self.now.history c.args.from in
+    let ls : List DumpRecord = live_from c.args.self.now.settings c.args.self.now.history c.args.from in
     let all = living_from k.settings k.journal.entries k.threads k.running.items k.taken k.agents k.torn c.args.from c.self.invariant.kept in
     let same = ap (λ v. live_from v.settings v.history c.args.from) c.self.view_is in
     let left = c.into_iter-tid-iterator.ensures.into_iter_gives ∙ c.live_from-tid-items.ensures in
     let none = c.new-records.ensures.items in
     record {
-      told = none ∙ sym (ap (λ (xs : List DumpRecord). map record_of (take (length xs) ls)) none);
+      told = none ∙ sym (ap (λ (xs : List DumpRecord). take (length xs) ls) none);
       left = ap (filter_map by_row) left ∙ (all ∙ (same ∙ sym (ap (λ (xs : List DumpRecord). drop (length xs) ls) none)));
       live = subst (AllByRecursion IsLive) (sym none) tt;
       few = omega (arith, ap length none);
@@ -35,8 +34,8 @@ invariant_of-result g c =
     page_made k.settings k.journal.entries k.threads k.running.items k.taken k.agents k.torn c.args.from c.args.max c.loop-tid.records.items (Some c.in-Some-by_row.thread.tid) (omega (arith, c.self.invariant.in_range.most_cpus)) c.self.invariant.kept
     c.ranges.max.fits i.live (ap (λ v. dumped v.settings v.history c.args.from c.args.max) c.self.view_is ∙ is)
 
-pub record_of-requires : goal.record_of-requires
-record_of-requires g c =
+pub state_live-requires : goal.state_live-requires
+state_live-requires g c =
     let k = c.self.inside in
     let all : filter_map by_row c.loop-tid.tid-iterator ≡ c.in-Some-by_row.thread ∷ filter_map by_row c.next.new.self = grind (arith, common_steps) in
     let told = live_told k.settings k.journal.entries k.threads k.running.items k.taken k.agents k.torn c.args.from (omega (arith, c.self.invariant.in_range.most_cpus)) c.self.invariant.kept in
@@ -47,13 +46,12 @@ pub loop-tid-preserved : goal.loop-tid-preserved
 loop-tid-preserved g c =
     let i = c.loop-tid.invariant in
     let all : filter_map by_row c.loop-tid.tid-iterator ≡ c.in-Some-by_row.thread ∷ filter_map by_row c.next.new.self = grind (arith, common_steps) in
-    let pushed : c.push.new.self.items ≡ c.loop-tid.records.items ++ c.record_of.result ∷ [] = grind (arith, common_steps) in
-    let more : c.push.new.self.items ≡ c.loop-tid.records.items ++ record_of c.in-Some-by_row.thread ∷ [] = pushed ∙ ap (λ (r : DumpRecord). c.loop-tid.records.items ++ r ∷ []) c.record_of.ensures.value in
-    let r = records_more _ c.loop-tid.records.items c.push.new.self.items c.in-Some-by_row.thread (filter_map by_row c.next.new.self) i.told (sym all ∙ i.left) more in
+    let pushed : c.push.new.self.items ≡ c.loop-tid.records.items ++ c.in-Some-by_row.thread ∷ [] = grind (arith, common_steps) in
+    let r = records_more _ c.loop-tid.records.items c.push.new.self.items c.in-Some-by_row.thread (filter_map by_row c.next.new.self) i.told (sym all ∙ i.left) pushed in
     record {
       told = r.0;
       left = r.1;
-      live = subst (AllByRecursion IsLive) (sym pushed) (all_push IsLive c.loop-tid.records.items c.record_of.result i.live c.record_of.ensures.live);
+      live = subst (AllByRecursion IsLive) (sym pushed) (all_push IsLive c.loop-tid.records.items c.in-Some-by_row.thread i.live c.state_live.ensures);
       few = grind (arith, common_steps);
     }
 

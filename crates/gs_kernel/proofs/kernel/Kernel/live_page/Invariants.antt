@@ -1,7 +1,6 @@
 use Rattle.std.proofs.Common.{◌≡◌, ◌≤◌, length, map, take, drop}
 use Rattle.std.specs.List.{AllByRecursion, filter_map}
 use Rattle.gs_dump.specs.Record.{IsLive}
-use Rattle.gs_kernel.specs.Dumped.{record_of}
 use Rattle.gs_kernel.specs.Shown.{by_row, live_from}
 use Rattle.gs_kernel.proofs.kernel.Kernel.live_page.Given as goal
 
@@ -9,7 +8,7 @@ use Rattle.gs_kernel.proofs.kernel.Kernel.live_page.Given as goal
 abbrev pub invariant-loop-tid : goal.invariant-loop-tid
 invariant-loop-tid g l =
     record {
-      told : l.records.items ≡ map record_of (take (length l.records.items) (live_from l.self.settings l.self.history l.from));
+      told : l.records.items ≡ take (length l.records.items) (live_from l.self.settings l.self.history l.from);
       left : filter_map by_row l.tid-iterator ≡ drop (length l.records.items) (live_from l.self.settings l.self.history l.from);
       live : AllByRecursion IsLive l.records.items;
       few : length l.records.items ≤ l.max;

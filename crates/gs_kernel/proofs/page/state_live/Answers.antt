@@ -1,9 +1,9 @@
 use Rattle.std.proofs.Common.{arith}
 use Rattle.std.proofs.lemmas.Grind.{common_steps}
-use Rattle.gs_kernel.proofs.page.record_of.Goals as goal
+use Rattle.gs_kernel.proofs.page.state_live.Goals as goal
 
-pub returns-clause-live : goal.returns-clause-live
-returns-clause-live c =
+pub returns : goal.returns
+returns c =
     record {
       numbers = record { tid_low = c.requires.tid_low; tid_high = c.requires.tid_high; tseq_low = c.requires.tseq; tseq_high = grind (arith, common_steps) };
       mask = (c.requires.mask, grind (arith, common_steps));
