@@ -35,7 +35,7 @@ fn cpu_for(view: &AgentView, left: Mask, tid: u32) -> Option<u16>
     ensures cpu { result ≡ cpu_for (has left) (look_up view.now tid) }
     ensures within { IfSome result (λ c. c < MOST_CPUS) }
 {
-    let facts = &view.get(tid)?.facts;
+    let (facts, _) = view.get(tid)?;
     let open = left.both(facts.mask);
     match facts.class {
         Class::Zero => open.lowest(),

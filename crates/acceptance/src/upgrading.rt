@@ -156,10 +156,11 @@ fn most_replies(has_agent: bool, living: usize, max: u16) -> usize {
 fn knows(role: &Role<AnyPolicy>, living: &[DumpRecord]) -> bool {
     let mut walk = role.view().walk();
     for thread in living {
-        let Some((tid, known)) = walk.next() else {
+        let Some((tid, facts, tseq)) = walk.next() else {
             return false;
         };
-        if tid != thread.tid || *known != thread.known {
+        let known = &thread.known;
+        if tid != thread.tid || *facts != known.facts || tseq != known.tseq {
             return false;
         }
     }

@@ -249,7 +249,11 @@ impl<P> Role<P> {
         ensures unchanged { OnErr result (left_in slot.exit ≡ bytes_of slot.entry) }
         ensures as_before { OnErr result (self.new ≡ self.old) }
     {
-        let known = *self.mind.view().get(tid).ok_or(Refusal::NoThread)?;
+        let (facts, tseq) = self.mind.view().get(tid).ok_or(Refusal::NoThread)?;
+        let known = Known {
+            facts: *facts,
+            tseq,
+        };
         let cpu = slot.cpu();
         match slot.stamp(self.generation, tid, known.tseq, preempt, group) {
             Ok(()) => {

@@ -54,7 +54,7 @@ fn waiting_class(view: &AgentView, cpus: &CpuBeliefs, tid: u32) -> Option<Class>
     if cpus.runs(tid) || cpus.names(tid) {
         return None;
     }
-    let facts = &view.get(tid)?.facts;
+    let (facts, _) = view.get(tid)?;
     facts.runnable.then_some(facts.class)
 }
 

@@ -89,16 +89,15 @@ impl Candidates {
         ensures pick { option_to_list result ≡ picked self (look_up view.now) tid }
         ensures below { IfSome result (λ x. x.cpu < MOST_CPUS) }
     {
-        let known = view.get(tid)?;
-        let mask = known.facts.mask;
-        if let Some(cpu) = least_of(self.free, mask) {
+        let (facts, _) = view.get(tid)?;
+        if let Some(cpu) = least_of(self.free, facts.mask) {
             return Some(Choice {
                 cpu,
                 tid,
                 preempt: false,
             });
         }
-        let cpu = least_of(self.busy_for(known.facts.class), mask)?;
+        let cpu = least_of(self.busy_for(facts.class), facts.mask)?;
         Some(Choice {
             cpu,
             tid,

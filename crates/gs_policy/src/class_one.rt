@@ -14,10 +14,10 @@ use gs_view::AgentView;
 fn is_class_one(view: &AgentView, tid: u32) -> bool
     ensures { result ≡ is_known_one (look_up view.now tid) }
 {
-    let Some(known) = view.get(tid) else {
+    let Some((facts, _)) = view.get(tid) else {
         return false;
     };
-    known.facts.class == Class::One
+    facts.class == Class::One
 }
 
 /// Returns whether a CPU is believed to run a thread of class 1 that has had so many ticks. The view is asked

@@ -8,23 +8,23 @@ ghost use Rattle.gs_runner.specs.Settles.{AreKnown, AreSame};
 
 use crate::same::same_facts;
 use gs_kernel::Kernel;
-use gs_layout::Known;
+use gs_layout::{Facts, Known};
 use gs_link::RtrbPoster;
 use gs_view::AgentView;
 
-/// Returns whether the same is known.
-fn same_known(one: &Known, other: &Known) -> bool
-    ensures { IsTrue result ↔ (one.now ≡ other.now) }
+/// Returns whether these facts, at this number, are what is known.
+fn is_that(known: &Known, facts: &Facts, tseq: u32) -> bool
+    ensures { IsTrue result ↔ (known.now ≡ record { facts = facts.now; tseq = tseq }) }
 {
-    one.tseq == other.tseq && same_facts(&one.facts, &other.facts)
+    known.tseq == tseq && same_facts(&known.facts, facts)
 }
 
-/// Returns whether the kernel knows this of a thread.
-fn is_known(kernel: &Kernel<RtrbPoster>, tid: u32, known: &Known) -> bool
-    ensures { IsTrue result ↔ (state kernel.now.settings.first_tseq kernel.now.history tid ≡ Some known.now) }
+/// Returns whether the kernel knows of a thread these facts, at this number.
+fn is_known(kernel: &Kernel<RtrbPoster>, tid: u32, facts: &Facts, tseq: u32) -> bool
+    ensures { IsTrue result ↔ (state kernel.now.settings.first_tseq kernel.now.history tid ≡ Some (record { facts = facts.now; tseq = tseq })) }
 {
     match kernel.known(tid) {
-        Some(now) => same_known(&now, known),
+        Some(known) => is_that(&known, facts, tseq),
         None => false,
     }
 }
@@ -33,7 +33,10 @@ fn is_known(kernel: &Kernel<RtrbPoster>, tid: u32, known: &Known) -> bool
 fn is_same(view: &AgentView, kernel: &Kernel<RtrbPoster>, tid: u32) -> bool
     ensures { IsTrue result ↔ (look_up view.now tid ≡ state kernel.now.settings.first_tseq kernel.now.history tid) }
 {
-    view.get(tid).copied() == kernel.known(tid)
+    match view.get(tid) {
+        Some((facts, tseq)) => is_known(kernel, tid, facts, tseq),
+        None => kernel.known(tid).is_none(),
+    }
 }
 
 /// Returns whether the kernel knows all that a view knows.
@@ -41,8 +44,8 @@ fn are_known(view: &AgentView, kernel: &Kernel<RtrbPoster>) -> bool
     ensures exact { IsTrue result ↔ AreKnown (state kernel.now.settings.first_tseq kernel.now.history) view.now }
     ensures listed { AreKnown (look_up view.now) view.now }
 {
-    for (tid, known) in view.walk() {
-        if !is_known(kernel, tid, known) {
+    for (tid, facts, tseq) in view.walk() {
+        if !is_known(kernel, tid, facts, tseq) {
             return false;
         }
     }

@@ -1,10 +1,10 @@
-ghost use Rattle.std.specs.Prelude.{◌≡◌, ◌≢◌, ◌↔◌, ◌==◌, ℕ, true, false, [], length, All, IfOk, OnOk, OnErr, option_copied};
+ghost use Rattle.std.specs.Prelude.{◌≡◌, ◌≢◌, ◌↔◌, ◌==◌, ℕ, true, false, [], length, All, IfOk, OnOk, OnErr};
 ghost use Rattle.std.specs.List.Sorted.{IsStrictlyIncreasing};
 ghost use Rattle.gs_layout.specs.Spelling.{kind_of, tid_of};
 ghost use Rattle.gs_layout.specs.View.{apply, is_gap, look_up, word};
 ghost use Rattle.gs_view.specs.Begins.{begins};
 ghost use Rattle.gs_view.specs.Loaded.{loaded};
-ghost use Rattle.gs_view.specs.Shown.{tids};
+ghost use Rattle.gs_view.specs.Shown.{if_shown, tids};
 ghost use Rattle.gs_view.specs.Taken.{word_of};
 
 use crate::fault::ApplyFault;
@@ -13,7 +13,7 @@ use crate::records::Records;
 use crate::taken::Taken;
 use crate::walk::Walk;
 use gs_dump::Page;
-use gs_layout::{Change, Kind, Known, Message};
+use gs_layout::{Change, Facts, Kind, Known, Message};
 use gs_reader::MessageRef;
 use std::alloc::{AllocError, Global};
 use std::marker::Model;
@@ -61,16 +61,17 @@ impl AgentView {
         self.records.len() == 0
     }
 
-    /// Lends what is known of a thread, its facts and the sequence number at which they were so, or returns
-    /// `None` if nothing is known. It does not allocate.
-    pub fn get(&self, tid: u32) -> Option<&Known>
-        ensures { option_copied result ≡ look_up self.now tid }
+    /// Lends the facts of a thread and returns the sequence number at which they were so, or `None` if nothing
+    /// is known. It does not allocate.
+    pub fn get(&self, tid: u32) -> Option<(&Facts, u32)>
+        ensures { if_shown result ≡ look_up self.now tid }
     {
-        self.records.get(tid)
+        let known = self.records.get(tid)?;
+        Some((&known.facts, known.tseq))
     }
 
-    /// Walks all that is known, in increasing order of tid: of each thread its tid and what is known of it.
-    /// It does not allocate.
+    /// Walks all that is known, in increasing order of tid: of each thread its tid, its facts, and the sequence
+    /// number at which they were so. It does not allocate.
     pub fn walk(&self) -> Walk<'_>
         ensures whole { result ≡ self.now }
         ensures rising { IsStrictlyIncreasing (tids self.now) }

@@ -3,11 +3,11 @@ ghost use Rattle.std.specs.Iterator.{YieldsFirstBy, item_count};
 ghost use Rattle.gs_view.specs.Shown.{record_shown, shown_from};
 
 use crate::records::Records;
-use gs_layout::Known;
+use gs_layout::Facts;
 use std::marker::Model;
 
-/// The records of a view that a walk has still to show, in increasing order of tid: of each thread its tid
-/// and what is known of it.
+/// The records of a view that a walk has still to show, in increasing order of tid: of each thread its tid,
+/// its facts, and the sequence number at which they were so.
 #[derive(Drop)]
 pub struct Walk<'a> {
     records: &'a Records,
@@ -35,16 +35,16 @@ impl<'a> Walk<'a> {
 }
 
 impl<'a> Iterator for Walk<'a> {
-    type Item = (u32, &'a Known);
+    type Item = (u32, &'a Facts, u32);
 
     ghost next_gives = { YieldsFirstBy record_shown (λ walk. walk) };
 
     ghost remaining = { item_count (λ walk. walk) };
 
-    fn next(&mut self) -> Option<(u32, &'a Known)> {
+    fn next(&mut self) -> Option<(u32, &'a Facts, u32)> {
         let tid = self.records.next_from(self.from)?;
         self.from = tid + 1;
         let known = self.records.get(tid as u32)?;
-        Some((tid as u32, known))
+        Some((tid as u32, &known.facts, known.tseq))
     }
 }

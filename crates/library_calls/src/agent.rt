@@ -284,7 +284,7 @@ fn counted<P: Counted>(role: &Role<P>, taken: Mask) -> usize {
 
 /// The number that is known of thread 7.
 fn seventh(role: &Role<Idler>) -> Option<u32> {
-    Some(role.view().get(7)?.tseq)
+    Some(role.view().get(7)?.1)
 }
 
 /// The first drain of a ring that a role does not take as a row says, or after which it knows something else.

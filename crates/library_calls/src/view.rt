@@ -191,9 +191,8 @@ pub(crate) fn send(view: &mut AgentView, message: &Message) -> Result<Taken, App
 
 /// What is known of a thread.
 fn seen(view: &AgentView, tid: u32) -> Seen {
-    let known = view.get(tid)?;
-    let facts = &known.facts;
-    Some((facts.runnable, facts.mask.bits(), known.tseq))
+    let (facts, tseq) = view.get(tid)?;
+    Some((facts.runnable, facts.mask.bits(), tseq))
 }
 
 /// Whether the view returns what a row says, and knows then what it says.
@@ -222,10 +221,10 @@ fn first_wrong(view: &mut AgentView, rows: &[Row]) -> Option<usize> {
 pub(crate) fn shows(view: &AgentView, expected: &[(u32, bool, u32)]) -> bool {
     let mut walk = view.walk();
     for row in expected {
-        let Some((tid, known)) = walk.next() else {
+        let Some((tid, facts, tseq)) = walk.next() else {
             return false;
         };
-        if (tid, known.facts.runnable, known.tseq) != *row {
+        if (tid, facts.runnable, tseq) != *row {
             return false;
         }
     }
@@ -242,11 +241,11 @@ fn is_web(facts: &Facts) -> bool {
 
 /// Whether the view knows thread 7, at number 5 and by all facts of its creation, and no neighbour of it.
 fn knows_seventh_alone(view: &AgentView) -> bool {
-    let Some(known) = view.get(7) else {
+    let Some((facts, tseq)) = view.get(7) else {
         return false;
     };
     let mut neighbours = [0, 6, 8, u32::MAX].iter();
-    is_web(&known.facts) && known.tseq == 5 && neighbours.all(|tid| view.get(*tid).is_none())
+    is_web(facts) && tseq == 5 && neighbours.all(|tid| view.get(*tid).is_none())
 }
 
 /// Whether nothing is known yet.

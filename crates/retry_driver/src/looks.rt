@@ -111,8 +111,9 @@ pub(crate) struct Looks {
 fn view_of(alloc: Global, machine: &Machine<AnyPolicy>) -> Result<Vec<(u32, Known)>, AllocError> {
     let mut view = Vec::new(alloc);
     if let Some(role) = machine.role() {
-        for (tid, known) in role.view().walk() {
-            view.push((tid, *known))?;
+        for (tid, facts, tseq) in role.view().walk() {
+            let facts = *facts;
+            view.push((tid, Known { facts, tseq }))?;
         }
     }
     Ok(view)

@@ -44,10 +44,10 @@ impl RoundRobin {
         let Some(running) = shown.cpus.believed(cpu) else {
             return false;
         };
-        let Some(known) = shown.view.get(running.tid) else {
+        let Some((facts, _)) = shown.view.get(running.tid) else {
             return false;
         };
-        self.slice_of(known.facts.class) <= running.ticks
+        self.slice_of(facts.class) <= running.ticks
     }
 
     /// Returns the CPUs whose threads have had their slices.

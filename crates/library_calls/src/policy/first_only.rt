@@ -15,9 +15,9 @@ pub(super) struct FirstOnly;
 fn free_for(shown: &Shown<'_>, tid: u32) -> Option<u16>
     ensures { result ≡ free_for (shows shown.now) ((shows shown.now).view tid) }
 {
-    let known = shown.view.get(tid)?;
+    let (facts, _) = shown.view.get(tid)?;
     let free = shown.cpus.free(shown.taken);
-    free.both(known.facts.mask).lowest()
+    free.both(facts.mask).lowest()
 }
 
 impl Policy for FirstOnly {
