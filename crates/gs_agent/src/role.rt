@@ -14,14 +14,14 @@ ghost use Rattle.gs_mind.specs.Picture.{HoldsWaiting, after_all, after_stamp};
 ghost use Rattle.gs_policy.specs.Safe.{IsSafePlan};
 ghost use Rattle.gs_runq.specs.Queue.{Apart, order};
 ghost use Rattle.gs_status.specs.Masks.{has};
-ghost use Rattle.gs_agent.specs.Role.{stamp_refusal};
+ghost use Rattle.gs_agent.specs.Role.{number_of, stamp_refusal};
 
 use crate::collect::collect_all;
 use crate::drain::drain_into;
 use crate::drained::Drained;
 use gs_beliefs::Running;
 use gs_dump::Page;
-use gs_layout::{Known, Refusal};
+use gs_layout::Refusal;
 use gs_mind::Mind;
 use gs_policy::{Choice, Counted, Policy};
 use gs_ring::Taker;
@@ -224,7 +224,7 @@ impl<P> Role<P> {
     /// Stamps a transaction into an idle slot: the thread is to run on the slot's CPU, if its sequence
     /// number is then still the one that the view has. `preempt` says that a thread that is on the CPU
     /// is to give way, and `group` that it is placed only if all others of a commit that say so are. Returns
-    /// what the view has of the thread. It does not allocate.
+    /// the sequence number that it stamped. It does not allocate.
     ///
     /// The role remembers the stamp until the slot is collected: until then the thread does not wait,
     /// and the CPU is not one to use. If it still remembered another stamp on that CPU, the thread which that
@@ -240,25 +240,47 @@ impl<P> Role<P> {
         tid: u32,
         preempt: bool,
         group: bool,
-    ) -> Result<Known, Refusal>
-        ensures ok { IfOk result (λ _. stamp_refusal (look_up self.old.mind.records tid) (state_of slot.entry) ≡ None) }
-        ensures known { IfOk result (λ known. look_up self.old.mind.records tid ≡ Some known) }
-        ensures stamped { IfOk result (λ known. state_in (cpu_of slot.entry) (left_in slot.exit) ≡ Ok (SlotState.Stamped (record { generation = self.old.generation; tid = tid; tseq = known.tseq; preempt = preempt; group = group }))) }
+    ) -> Result<u32, Refusal>
+        ensures ok { OnOk result (stamp_refusal (look_up self.old.mind.records tid) (state_of slot.entry) ≡ None) }
+        ensures number { IfOk result (λ tseq. number_of (look_up self.old.mind.records tid) ≡ Some tseq) }
+        ensures stamped { IfOk result (λ tseq. state_in (cpu_of slot.entry) (left_in slot.exit) ≡ Ok (SlotState.Stamped (record { generation = self.old.generation; tid = tid; tseq = tseq; preempt = preempt; group = group }))) }
         ensures role { OnOk result (self.new ≡ record self.old { mind = thinks self.old.mind (after_stamp (cpu_of slot.entry) tid (picture_of self.old.mind)) }) }
         ensures refused { IfErr result (λ refusal. stamp_refusal (look_up self.old.mind.records tid) (state_of slot.entry) ≡ Some refusal) }
         ensures unchanged { OnErr result (left_in slot.exit ≡ bytes_of slot.entry) }
         ensures as_before { OnErr result (self.new ≡ self.old) }
     {
-        let (facts, tseq) = self.mind.view().get(tid).ok_or(Refusal::NoThread)?;
-        let known = Known {
-            facts: *facts,
-            tseq,
-        };
+        let (_, tseq) = self.mind.view().get(tid).ok_or(Refusal::NoThread)?;
+        self.stamp_at(slot, tid, tseq, preempt, group)?;
+        Ok(tseq)
+    }
+
+    /// Stamps a thread as [`Role::stamp`] does, at the sequence number that the view has of it. It is for a
+    /// caller who looked the thread up already, and does not look it up again. It does not allocate.
+    ///
+    /// # Errors
+    ///
+    /// `SlotOpen` if the slot is not idle, malformed too. Slot and role stay as they were.
+    pub fn stamp_at(
+        &mut self,
+        slot: SlotMut<'_>,
+        tid: u32,
+        tseq: u32,
+        preempt: bool,
+        group: bool,
+    ) -> Result<(), Refusal>
+        requires { number_of (look_up self.old.mind.records tid) ≡ Some tseq }
+        ensures ok { OnOk result (stamp_refusal (look_up self.old.mind.records tid) (state_of slot.entry) ≡ None) }
+        ensures stamped { OnOk result (state_in (cpu_of slot.entry) (left_in slot.exit) ≡ Ok (SlotState.Stamped (record { generation = self.old.generation; tid = tid; tseq = tseq; preempt = preempt; group = group }))) }
+        ensures role { OnOk result (self.new ≡ record self.old { mind = thinks self.old.mind (after_stamp (cpu_of slot.entry) tid (picture_of self.old.mind)) }) }
+        ensures refused { IfErr result (λ refusal. stamp_refusal (look_up self.old.mind.records tid) (state_of slot.entry) ≡ Some refusal) }
+        ensures unchanged { OnErr result (left_in slot.exit ≡ bytes_of slot.entry) }
+        ensures as_before { OnErr result (self.new ≡ self.old) }
+    {
         let cpu = slot.cpu();
-        match slot.stamp(self.generation, tid, known.tseq, preempt, group) {
+        match slot.stamp(self.generation, tid, tseq, preempt, group) {
             Ok(()) => {
                 self.mind.stamp(cpu, tid);
-                Ok(known)
+                Ok(())
             }
             Err(SlotBusy) => Err(Refusal::SlotOpen),
         }

@@ -85,20 +85,20 @@ get_below (y ∷ ys) (suc k) x e = omega (arith, get_below ys k x e)
 -- ---- a stamp
 
 -- what a stamp leaves of the states: in the slot what was stamped, if it was
-abbrev pub stamped_slots : Result Known Refusal → (Known → Stamp) → ℕ → List SlotState → List SlotState
-stamped_slots (Ok k) stamp c zs = slice_set zs c (Stamped (stamp k))
+abbrev pub stamped_slots : Result (Unit {0}) Refusal → Stamp → ℕ → List SlotState → List SlotState
+stamped_slots (Ok k) stamp c zs = slice_set zs c (Stamped stamp)
 stamped_slots (Err f) stamp c zs = zs
 
-pub stamp_read : (r : Result Known Refusal) (stamp : Known → Stamp) (c : ℕ) (bs : List (List ℕ)) (b left : List ℕ) (zs : List SlotState) → AreRead bs zs → slice_get bs c ≡ Some b
-    → IfOk r (λ k. state_in c left ≡ Ok (Stamped (stamp k))) → OnErr r (left ≡ b) → AreRead (slice_set bs c left) (stamped_slots r stamp c zs)
-stamp_read (Ok k) stamp c bs b left zs e is ok same = slot_set bs zs c left (Stamped (stamp k)) e ok
+pub stamp_read : (r : Result (Unit {0}) Refusal) (stamp : Stamp) (c : ℕ) (bs : List (List ℕ)) (b left : List ℕ) (zs : List SlotState) → AreRead bs zs → slice_get bs c ≡ Some b
+    → OnOk r (state_in c left ≡ Ok (Stamped stamp)) → OnErr r (left ≡ b) → AreRead (slice_set bs c left) (stamped_slots r stamp c zs)
+stamp_read (Ok k) stamp c bs b left zs e is ok same = slot_set bs zs c left (Stamped stamp) e ok
 stamp_read (Err f) stamp c bs b left zs e is ok same = ap (states_in 0) (ap (slice_set bs c) same ∙ set_as_it_was bs c b is) ∙ e
 
-pub slots_stamped : (r : Result Known Refusal) (stamp : Known → Stamp) (c : ℕ) (zs xs : List SlotState) → xs ≡ stamped_slots r stamp c zs → IfOk r (λ k. xs ≡ slice_set zs c (Stamped (stamp k)))
+pub slots_stamped : (r : Result (Unit {0}) Refusal) (stamp : Stamp) (c : ℕ) (zs xs : List SlotState) → xs ≡ stamped_slots r stamp c zs → OnOk r (xs ≡ slice_set zs c (Stamped stamp))
 slots_stamped (Ok k) stamp c zs xs e = e
 slots_stamped (Err f) stamp c zs xs e = tt
 
-pub slots_kept : (r : Result Known Refusal) (stamp : Known → Stamp) (c : ℕ) (zs xs : List SlotState) → xs ≡ stamped_slots r stamp c zs → OnErr r (xs ≡ zs)
+pub slots_kept : (r : Result (Unit {0}) Refusal) (stamp : Stamp) (c : ℕ) (zs xs : List SlotState) → xs ≡ stamped_slots r stamp c zs → OnErr r (xs ≡ zs)
 slots_kept (Ok k) stamp c zs xs e = tt
 slots_kept (Err f) stamp c zs xs e = e
 
@@ -113,14 +113,14 @@ idle_only (Some k) (Stamped t) e = absurd cc
 idle_only (Some k) (Done t outcome at seen) e = absurd cc
 
 -- only an idle slot is stamped
-pub idle_there : (r : Result Known Refusal) (o : Option Known) (h : Held) (zs : List SlotState) (c : ℕ) → Reads zs c h → c < length zs → IfOk r (λ _. stamp_refusal o h ≡ None) → OnOk r (slice_get zs c ≡ Some Idle)
+pub idle_there : (r : Result (Unit {0}) Refusal) (o : Option Known) (h : Held) (zs : List SlotState) (c : ℕ) → Reads zs c h → c < length zs → OnOk r (stamp_refusal o h ≡ None) → OnOk r (slice_get zs c ≡ Some Idle)
 idle_there (Ok k) o h zs c reads lt none =
     let there = slice_get-get_or zs c Idle lt in
     let z = get_or zs c Idle in
     there ∙ ap Some (idle_only o z (ap (stamp_refusal o) (sym (reads z there)) ∙ none))
 idle_there (Err f) o h zs c reads lt none = tt
 
-pub why_refused : (r : Result Known Refusal) (o : Option Known) (h : Held) (zs : List SlotState) (c : ℕ) → Reads zs c h → IfErr r (λ f. stamp_refusal o h ≡ Some f)
+pub why_refused : (r : Result (Unit {0}) Refusal) (o : Option Known) (h : Held) (zs : List SlotState) (c : ℕ) → Reads zs c h → IfErr r (λ f. stamp_refusal o h ≡ Some f)
     → IfErr r (λ f. (z : SlotState) → slice_get zs c ≡ Some z → stamp_refusal o (Ok z) ≡ Some f)
 why_refused (Ok k) o h zs c reads q = tt
 why_refused (Err f) o h zs c reads q = λ z is. ap (stamp_refusal o) (sym (reads z is)) ∙ q

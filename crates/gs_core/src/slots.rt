@@ -6,7 +6,7 @@ ghost use Rattle.gs_layout.specs.View.{look_up};
 ghost use Rattle.gs_slots.specs.declared.state.SlotState.{SlotState};
 ghost use Rattle.gs_slots.specs.Reading.{states_in};
 ghost use Rattle.gs_slots.specs.State.{collected, is_stamped};
-ghost use Rattle.gs_agent.specs.Role.{stamp_refusal};
+ghost use Rattle.gs_agent.specs.Role.{number_of, stamp_refusal};
 ghost use Rattle.gs_mind.specs.Mind.{picture_of, thinks};
 ghost use Rattle.gs_mind.specs.Picture.{after_all, after_stamp};
 ghost use Rattle.gs_kernel.specs.Commit.{commit_refusal};
@@ -14,11 +14,10 @@ ghost use Rattle.gs_kernel.specs.Kernel.{IsRefusal};
 ghost use Rattle.gs_kernel.specs.Legal.{Frame, RoomOf};
 ghost use Rattle.gs_kernel.specs.Lands.{Adds};
 ghost use Rattle.gs_kernel.specs.Group.{LandsCommit};
-ghost use Rattle.gs_core.specs.Machine.{stamp_of};
 
 use gs_agent::Role;
 use gs_kernel::{Kernel, Landing};
-use gs_layout::{Known, Refusal};
+use gs_layout::Refusal;
 use gs_ring::Poster;
 use gs_slots::{Region, SlotState};
 use gs_status::Mask;
@@ -91,29 +90,30 @@ impl MachineSlots {
         self.region.clear();
     }
 
-    /// Lets a role stamp what it knows of a thread into the slot of a CPU. Returns what that is.
+    /// Lets a role stamp a thread, at the number that it knows of it, into the slot of a CPU.
     ///
     /// # Errors
     ///
-    /// As of `Role::stamp`.
+    /// As of `Role::stamp_at`.
     pub(crate) fn stamp<P>(
         &mut self,
         role: &mut Role<P>,
         cpu: u16,
         tid: u32,
+        tseq: u32,
         preempt: bool,
         group: bool,
-    ) -> Result<Known, Refusal>
-        requires { cpu < length self.old }
-        ensures known { IfOk result (λ known. look_up role.old.mind.records tid ≡ Some known) }
+    ) -> Result<(), Refusal>
+        requires cpu { cpu < length self.old }
+        requires number { number_of (look_up role.old.mind.records tid) ≡ Some tseq }
         ensures idle { OnOk result (slice_get self.old cpu ≡ Some SlotState.Idle) }
-        ensures slots { IfOk result (λ known. self.new ≡ slice_set self.old cpu (SlotState.Stamped (stamp_of tid preempt group (role.old.generation, cpu) known))) }
+        ensures slots { OnOk result (self.new ≡ slice_set self.old cpu (SlotState.Stamped (record { generation = role.old.generation; tid = tid; tseq = tseq; preempt = preempt; group = group }))) }
         ensures role { OnOk result (role.new ≡ record role.old { mind = thinks role.old.mind (after_stamp cpu tid (picture_of role.old.mind)) }) }
         ensures refused { IfErr result (λ refusal. (state : SlotState) → slice_get self.old cpu ≡ Some state → stamp_refusal (look_up role.old.mind.records tid) (Ok state) ≡ Some refusal) }
         ensures slots_stay { OnErr result (self.new ≡ self.old) }
         ensures role_stays { OnErr result (role.new ≡ role.old) }
     {
-        role.stamp(self.region.slot(cpu), tid, preempt, group)
+        role.stamp_at(self.region.slot(cpu), tid, tseq, preempt, group)
     }
 
     /// Lets the kernel land the slots of a mask, as `Kernel::txns_commit` says.

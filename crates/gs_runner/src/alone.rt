@@ -8,7 +8,7 @@ use crate::site::Site;
 use crate::step::Step;
 use gs_agent::{Drained, Role};
 use gs_board::{Board, BoardSeat};
-use gs_layout::{Known, Refusal};
+use gs_layout::Refusal;
 use gs_link::RtrbTaker;
 use gs_policy::{Choice, Policy};
 use gs_slots::Region;
@@ -26,7 +26,8 @@ fn drain<P>(role: &mut Option<Role<P>>, taker: &mut RtrbTaker, max: u32) -> Opti
     }
 }
 
-/// Stamps what the role knows of a thread into the slot of a CPU, if there is such a CPU.
+/// Stamps what the role knows of a thread into the slot of a CPU, if there is such a CPU. Returns the number
+/// that it stamped.
 fn stamp<P>(
     role: &mut Role<P>,
     region: &mut Region,
@@ -34,7 +35,7 @@ fn stamp<P>(
     tid: u32,
     preempt: bool,
     group: bool,
-) -> Result<Known, Refusal>
+) -> Result<u32, Refusal>
     ensures role { OnErr result (role.new ≡ role.old) }
     ensures others { role.new ≡ record role.old { mind = role.new.mind } }
     ensures slots { length region.new ≡ length region.old }

@@ -1,6 +1,5 @@
 -- Laws for those who stamp and collect slots.
 use Rattle.std.proofs.Common.{◌≡◌, false, ℕ, suc, ◌+◌, None, Result, Ok, Err, IfOk, OnOk, slice_set, List, [], ◌∷◌, ◌++◌, length, refl, ap, sym, ◌∙◌, arith}
-use Rattle.gs_layout.specs.declared.known.Known.{Known}
 use Rattle.gs_layout.specs.declared.outcome.Outcome.TheVariants.{Stale}
 use Rattle.gs_layout.specs.declared.refusal.Refusal.{Refusal}
 use Rattle.gs_slots.specs.declared.state.SlotBusy.{SlotBusy}
@@ -44,9 +43,9 @@ pub set_stamped : (r : Result (Unit {0}) SlotBusy) (xs : List (List ℕ)) (k n :
 set_stamped (Ok u) xs k n x z is e = ap (slice_set xs k) (read_bytes k x z (ap (λ (m : ℕ). state_in m x) (sym is) ∙ e))
 set_stamped (Err f) xs k n x z is e = tt
 
-pub set_known : (r : Result Known Refusal) (xs : List (List ℕ)) (k n : ℕ) (x : List ℕ) (z : Known → SlotState) → n ≡ k → IfOk r (λ t. state_in n x ≡ Ok (z t)) → IfOk r (λ t. slice_set xs k x ≡ slice_set xs k (slot_spelling k (z t)))
-set_known (Ok t) xs k n x z is e = ap (slice_set xs k) (read_bytes k x (z t) (ap (λ (m : ℕ). state_in m x) (sym is) ∙ e))
-set_known (Err f) xs k n x z is e = tt
+pub set_numbered : (r : Result ℕ Refusal) (xs : List (List ℕ)) (k n : ℕ) (x : List ℕ) (z : ℕ → SlotState) → n ≡ k → IfOk r (λ t. state_in n x ≡ Ok (z t)) → IfOk r (λ t. slice_set xs k x ≡ slice_set xs k (slot_spelling k (z t)))
+set_numbered (Ok t) xs k n x z is e = ap (slice_set xs k) (read_bytes k x (z t) (ap (λ (m : ℕ). state_in m x) (sym is) ∙ e))
+set_numbered (Err f) xs k n x z is e = tt
 
 stale_by : (k : ℕ) (b x : List ℕ) (h : Held) → state_in k b ≡ h → ((s : Stamp) → state_in k b ≡ Ok (Stamped s) → state_in k x ≡ Ok (Done s Stale None 7)) → (has_stamp (state_in k b) ≡ false → x ≡ b) → x ≡ stale_if_stamped h k b
 stale_by k b x (Ok (Stamped s)) e stale other = read_bytes k x (Done s Stale None 7) (stale s e)

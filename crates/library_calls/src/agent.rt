@@ -14,7 +14,7 @@ use crate::messages::Tried;
 use crate::owned::let_go;
 use crate::plans::{Plan, is_order, is_plan};
 use gs_agent::{Drained, Role, Stop};
-use gs_layout::{Change, Class, Known, Outcome, Refusal};
+use gs_layout::{Change, Class, Outcome, Refusal};
 use gs_policy::{Choice, Counted, FirstCome, Policy, TwoClass};
 use gs_ring::{ByteRing, Poster};
 use gs_slots::{Region, SlotMut, SlotState, Stamp};
@@ -313,20 +313,15 @@ fn stamp_one(
     region: &mut Region,
     cpu: u16,
     tid: u32,
-) -> Result<Known, Refusal>
+) -> Result<u32, Refusal>
     requires { cpu < length region.old }
-    ensures ok { IfOk result (λ known. region.new ≡ slice_set region.old cpu (slot_spelling cpu (SlotState.Stamped (record { generation = role.old.generation; tid = tid; tseq = known.tseq; preempt = true; group = false })))) }
+    ensures ok { IfOk result (λ tseq. region.new ≡ slice_set region.old cpu (slot_spelling cpu (SlotState.Stamped (record { generation = role.old.generation; tid = tid; tseq = tseq; preempt = true; group = false })))) }
     ensures role { OnOk result (role.new ≡ record role.old { mind = thinks role.old.mind (after_stamp cpu tid (picture_of role.old.mind)) }) }
     ensures refused { IfErr result (λ refusal. (bytes : List ℕ) → slice_get region.old cpu ≡ Some bytes → stamp_refusal (look_up role.old.mind.records tid) (state_in cpu bytes) ≡ Some refusal) }
     ensures unchanged { OnErr result (region.new ≡ region.old) }
     ensures as_before { OnErr result (role.new ≡ role.old) }
 {
     role.stamp(region.slot(cpu), tid, true, false)
-}
-
-/// The number of what a stamp returns.
-fn number_of(answer: Result<Known, Refusal>) -> Result<u32, Refusal> {
-    Ok(answer?.tseq)
 }
 
 /// Says of a stamped slot that its transaction was placed on CPU 0: whether it was stamped.
@@ -342,7 +337,7 @@ fn place(slot: SlotMut<'_>) -> bool {
 fn is_answered(role: &mut Role<Idler>, region: &mut Region, deed: &Deed) -> bool {
     match deed {
         Deed::Stamped(cpu, tid, answer) => {
-            *cpu < region.cpus() && number_of(stamp_one(role, region, *cpu, *tid)) == *answer
+            *cpu < region.cpus() && stamp_one(role, region, *cpu, *tid) == *answer
         }
         Deed::Land(cpu) => *cpu < region.cpus() && place(region.slot(*cpu)),
         Deed::Collect => {
