@@ -6,8 +6,10 @@ ghost use Rattle.gs_status.specs.Masks.{has};
 ghost use Rattle.acceptance.specs.BothEnds.{cpu_for};
 ghost use Rattle.acceptance.specs.Greatest.{greatest};
 
+use gs_beliefs::CpuBeliefs;
 use gs_layout::Class;
-use gs_policy::{Choice, Policy, Shown};
+use gs_policy::{Choice, Policy};
+use gs_runq::RunQueue;
 use gs_status::{MOST_CPUS, Mask};
 use gs_view::AgentView;
 use std::alloc::{AllocError, Global};
@@ -49,11 +51,17 @@ impl Policy for BothEnds {
     ghost chosen = { λ p. both_ends };
 
     #[tactic(auto, using(crate::proofs::Ends::planning_start, crate::proofs::Ends::planning_end))]
-    fn plan(&self, alloc: Global, shown: &Shown<'_>) -> Result<Vec<Choice>, AllocError> {
+    fn plan(
+        &self,
+        alloc: Global,
+        view: &AgentView,
+        cpus: &CpuBeliefs<'_>,
+        queue: &RunQueue,
+    ) -> Result<Vec<Choice>, AllocError> {
         let mut choices = Vec::new(alloc);
-        let mut left = shown.cpus.free(shown.taken);
-        for tid in shown.queue.walk() {
-            let Some(cpu) = cpu_for(shown.view, left, tid) else {
+        let mut left = cpus.free();
+        for tid in queue.walk() {
+            let Some(cpu) = cpu_for(view, left, tid) else {
                 continue;
             };
             choices.push(Choice {

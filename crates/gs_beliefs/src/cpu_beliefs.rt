@@ -1,40 +1,21 @@
-ghost use Rattle.std.specs.Prelude.{◌≡◌, ◌≤◌, ◌&&◌, not, nat_lt, ℕ, is_some, IfOk, length};
+ghost use Rattle.std.specs.Prelude.{◌≡◌, ◌≤◌, ◌&&◌, not, nat_lt, ℕ, is_some, length};
 ghost use Rattle.gs_status.specs.Masks.{has};
-ghost use Rattle.gs_beliefs.specs.Cpus.{believed_on, clears, is_believed, is_free, is_just, is_named, is_usable, places, raises, stamp_on, stamps, ticks, unknown, unstamps};
-ghost use Rattle.gs_beliefs.specs.Belief.{after_outcome, hears};
+ghost use Rattle.gs_beliefs.specs.Cpus.{believed_on, is_free, is_just, is_usable, stamp_on};
 
-use crate::by_thread::ByThread;
-use crate::running::{Running, raise_at, ticked};
-use gs_layout::{Kind, Outcome};
-use gs_reader::MessageRef;
+use crate::beliefs::Beliefs;
+use crate::running::Running;
 use gs_status::{MOST_CPUS, Mask};
-use std::alloc::{AllocError, Global};
-use std::marker::Model;
 
-/// What an agent believes of each CPU. It says who runs there, at which sequence number and for how many
-/// ticks, and which thread an uncollected stamp names. Beside that it keeps the agent's own CPU.
+/// What a policy is shown of CPUs: what an agent believes of them, and which of them the other class holds.
 ///
-/// A belief lags behind the kernel by the messages that were not read yet. There are at most [`MOST_CPUS`]
-/// CPUs, and a call that names a CPU past the last one changes nothing. No call but [`CpuBeliefs::new`]
-/// allocates or looks at every CPU. The CPUs of a thread are found by its tid, and a call that asks for many
-/// CPUs returns a mask.
-#[derive(Drop)]
-pub struct CpuBeliefs {
-    beliefs: Vec<Option<Running>>,
-    running: ByThread,
-    stamps: ByThread,
-    agent: Option<u16>,
-}
-
-impl Model for CpuBeliefs {
-    ghost use Rattle.gs_beliefs.specs.Cpus.{Cpus};
-    ghost use Rattle.gs_beliefs.specs.Held.{IsCpus};
-
-    ghost Value = { Cpus };
-
-    ghost view = { λ s. record { believed = s.beliefs.items; stamped = s.stamps; agent = s.agent } };
-
-    ghost invariant = { λ s. IsCpus s.beliefs.items s.running s.stamps };
+/// It borrows the beliefs and changes nothing of them. No call allocates or looks at every CPU, and one that
+/// asks for many CPUs returns a mask.
+#[derive(Clone, Copy)]
+pub struct CpuBeliefs<'a> {
+    /// Who is believed to run on each CPU, which CPUs have a stamp that was not collected, and the agent's own.
+    pub beliefs: &'a Beliefs,
+    /// The CPUs that the other class holds. None of them is usable.
+    pub taken: Mask,
 }
 
 /// Returns the CPUs that are not in a set.
@@ -58,209 +39,77 @@ fn without_any(mask: Mask, cpu: Option<u16>) -> Mask
     }
 }
 
-impl CpuBeliefs {
-    /// Makes the beliefs of so many CPUs, at most [`MOST_CPUS`], of which nothing is believed yet: nobody
-    /// runs, and there is no stamp. `agent` is the agent's own CPU, `None` while it attaches.
-    ///
-    /// # Errors
-    ///
-    /// `AllocError` if out of memory.
-    pub fn new(alloc: Global, cpus: u16, agent: Option<u16>) -> Result<CpuBeliefs, AllocError>
-        requires { cpus ≤ MOST_CPUS }
-        ensures { IfOk result (λ made. made ≡ unknown cpus agent) }
-    {
-        Ok(CpuBeliefs {
-            beliefs: vec![in alloc; None; cpus as usize]?,
-            running: ByThread::new(alloc, cpus)?,
-            stamps: ByThread::new(alloc, cpus)?,
-            agent,
-        })
-    }
-
+impl CpuBeliefs<'_> {
     /// Returns how many CPUs there are, at most [`MOST_CPUS`].
     pub fn cpus(&self) -> u16
-        ensures count { result ≡ length self.now.believed }
-        ensures stamps { result ≡ length self.now.stamped }
+        ensures count { result ≡ length self.now.beliefs.now.believed }
         ensures most { result ≤ MOST_CPUS }
     {
-        self.beliefs.len() as u16
+        self.beliefs.cpus()
     }
 
     /// Returns the agent's own CPU, `None` while it attaches.
     pub fn agent(&self) -> Option<u16>
-        ensures { result ≡ self.now.agent }
+        ensures { result ≡ self.now.beliefs.now.agent }
     {
-        self.agent
+        self.beliefs.agent()
     }
 
     /// Returns who is believed to run on a CPU, `None` for nobody and past the last CPU.
     pub fn believed(&self, cpu: u16) -> Option<Running>
-        ensures { result ≡ believed_on self.now cpu }
+        ensures { result ≡ believed_on self.now.beliefs.now cpu }
     {
-        *self.beliefs.get(cpu as usize)?
+        self.beliefs.believed(cpu)
     }
 
     /// Returns the thread that an uncollected stamp on a CPU names, `None` if there is no such stamp and past
     /// the last CPU.
     pub fn stamp_on(&self, cpu: u16) -> Option<u32>
-        ensures { result ≡ stamp_on self.now cpu }
+        ensures { result ≡ stamp_on self.now.beliefs.now cpu }
     {
-        self.stamps.on(cpu)
+        self.beliefs.stamp_on(cpu)
     }
 
-    /// Returns whether some CPU is believed to run a thread.
-    pub fn runs(&self, tid: u32) -> bool
-        ensures { result ≡ is_believed self.now tid }
-    {
-        self.running.has(tid)
-    }
-
-    /// Returns whether some uncollected stamp names a thread.
-    pub fn names(&self, tid: u32) -> bool
-        ensures { result ≡ is_named self.now tid }
-    {
-        self.stamps.has(tid)
-    }
-
-    /// Returns whether the agent may use a CPU while the other class holds those of `taken`. It may if there
-    /// is such a CPU, it is neither the agent's own nor taken, and it has no uncollected stamp.
-    pub fn is_usable(&self, taken: Mask, cpu: u16) -> bool
-        ensures { result ≡ is_usable self.now (has taken) cpu }
+    /// Returns whether the agent may use a CPU. It may if there is such a CPU, it is neither the agent's own
+    /// nor taken, and it has no uncollected stamp.
+    pub fn is_usable(&self, cpu: u16) -> bool
+        ensures { result ≡ is_usable self.now.beliefs.now (has self.now.taken) cpu }
     {
         cpu < self.cpus()
-            && self.agent != Some(cpu)
-            && !taken.has(cpu)
+            && self.agent() != Some(cpu)
+            && !self.taken.has(cpu)
             && self.stamp_on(cpu).is_none()
     }
 
-    /// Returns whether a CPU is usable, while the other class holds those of `taken`, and nobody is believed
-    /// to run there.
-    pub fn is_free(&self, taken: Mask, cpu: u16) -> bool
-        ensures { result ≡ is_free self.now (has taken) cpu }
+    /// Returns whether a CPU is usable and nobody is believed to run there.
+    pub fn is_free(&self, cpu: u16) -> bool
+        ensures { result ≡ is_free self.now.beliefs.now (has self.now.taken) cpu }
     {
-        self.is_usable(taken, cpu) && self.believed(cpu).is_none()
+        self.is_usable(cpu) && self.believed(cpu).is_none()
     }
 
-    /// Returns the CPUs that the agent may use while the other class holds those of `taken`.
-    pub fn usable(&self, taken: Mask) -> Mask
-        ensures { (c : ℕ) → has result c ≡ is_usable self.now (has taken) c }
+    /// Returns the CPUs that the agent may use.
+    pub fn usable(&self) -> Mask
+        ensures { (c : ℕ) → has result c ≡ is_usable self.now.beliefs.now (has self.now.taken) c }
     {
-        without_any(self.stamps.vacant().both(others(taken)), self.agent)
+        // There are at most MOST_CPUS, so that a mask has them all.
+        let _most = self.cpus();
+        let open = self.beliefs.unstamped().both(others(self.taken));
+        without_any(open, self.agent())
     }
 
-    /// Returns the CPUs that the agent may use, while the other class holds those of `taken`, and on which
-    /// nobody is believed to run.
-    pub fn free(&self, taken: Mask) -> Mask
-        ensures { (c : ℕ) → has result c ≡ is_free self.now (has taken) c }
+    /// Returns the CPUs that the agent may use and on which nobody is believed to run.
+    pub fn free(&self) -> Mask
+        ensures { (c : ℕ) → has result c ≡ is_free self.now.beliefs.now (has self.now.taken) c }
     {
-        self.usable(taken).both(self.running.vacant())
+        self.usable().both(self.beliefs.vacant())
     }
 
-    /// Returns the CPUs that the agent may use, while the other class holds those of `taken`, and on which
-    /// somebody is believed to run.
-    pub fn busy(&self, taken: Mask) -> Mask
-        ensures { (c : ℕ) → has result c ≡ (is_usable self.now (has taken) c && is_some (believed_on self.now c)) }
+    /// Returns the CPUs that the agent may use and on which somebody is believed to run.
+    pub fn busy(&self) -> Mask
+        ensures { (c : ℕ) → has result c ≡ (is_usable self.now.beliefs.now (has self.now.taken) c && is_some (believed_on self.now.beliefs.now c)) }
     {
-        self.usable(taken).both(others(self.running.vacant()))
-    }
-
-    /// Sets the agent's own CPU, or `None` while it attaches.
-    pub fn set_agent(&mut self, agent: Option<u16>)
-        ensures { self.new ≡ record self.old { agent = agent } }
-    {
-        self.agent = agent;
-    }
-
-    /// Clears the belief of a thread, so that it is believed to run nowhere.
-    pub fn clear(&mut self, tid: u32)
-        ensures { self.new ≡ clears tid self.old }
-    {
-        if let Some(cpu) = self.running.first_of(tid) {
-            self.beliefs[cpu as usize] = None;
-            self.running.set(cpu, None);
-        }
-    }
-
-    /// Gives a thread this sequence number, if it is believed to run.
-    pub fn raise(&mut self, tid: u32, tseq: u32)
-        ensures { self.new ≡ raises tid tseq self.old }
-    {
-        if let Some(cpu) = self.running.first_of(tid) {
-            raise_at(&mut self.beliefs[cpu as usize], tid, tseq);
-        }
-    }
-
-    /// Counts a tick of a CPU's timer for whoever is believed to run there, up to
-    /// [`MOST_TICKS`](crate::MOST_TICKS).
-    pub fn tick(&mut self, cpu: u16)
-        ensures { self.new ≡ ticks cpu self.old }
-    {
-        let at = cpu as usize;
-        if at >= self.beliefs.len() {
-            return;
-        }
-        self.beliefs[at] = ticked(self.beliefs[at]);
-    }
-
-    /// Takes in a message that applied to the view. A tick counts for its CPU. A message that takes its
-    /// thread off a CPU clears the thread's belief, and any other gives it the message's number.
-    pub fn hear(&mut self, message: &MessageRef<'_>)
-        ensures { self.new ≡ hears message.now self.old }
-    {
-        match message.kind() {
-            Kind::TimerTick => {
-                if let Some(cpu) = message.cpu() {
-                    self.tick(cpu);
-                }
-            }
-            _ => {
-                if message.takes_off_cpu() {
-                    self.clear(message.tid());
-                } else {
-                    self.raise(message.tid(), message.tseq());
-                }
-            }
-        }
-    }
-
-    /// Begins the belief that a thread runs on a CPU, at this sequence number and with no tick yet, and
-    /// nowhere else. Whoever was believed to run there does so no more.
-    pub fn place(&mut self, cpu: u16, tid: u32, tseq: u32)
-        ensures { self.new ≡ places cpu tid tseq self.old }
-    {
-        if cpu < self.cpus() {
-            self.clear(tid);
-            self.beliefs[cpu as usize] = Some(Running {
-                tid,
-                tseq,
-                ticks: 0,
-            });
-            self.running.set(cpu, Some(tid));
-        }
-    }
-
-    /// Notes that an uncollected stamp on a CPU names a thread.
-    pub fn stamp(&mut self, cpu: u16, tid: u32)
-        ensures { self.new ≡ stamps cpu tid self.old }
-    {
-        self.stamps.set(cpu, Some(tid));
-    }
-
-    /// Notes that a CPU has no uncollected stamp.
-    pub fn unstamp(&mut self, cpu: u16)
-        ensures { self.new ≡ unstamps cpu self.old }
-    {
-        self.stamps.set(cpu, None);
-    }
-
-    /// Takes in what became of a stamp: the outcome, the CPU that the thread was then on, the thread, and the
-    /// sequence number that was stamped. `Placed` and `AlreadyPlaced` say that the thread is on that CPU; any
-    /// other outcome changes nothing.
-    pub fn learn(&mut self, outcome: Outcome, at: Option<u16>, tid: u32, tseq: u32)
-        ensures { self.new ≡ after_outcome outcome at tid tseq self.old }
-    {
-        if let (Outcome::Placed | Outcome::AlreadyPlaced, Some(cpu)) = (outcome, at) {
-            self.place(cpu, tid, tseq);
-        }
+        let _most = self.cpus();
+        self.usable().both(others(self.beliefs.vacant()))
     }
 }

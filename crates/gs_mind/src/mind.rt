@@ -2,7 +2,6 @@ ghost use Rattle.std.specs.Prelude.{◌≡◌, ◌↔◌, ◌≤◌, Err, IfOk, 
 ghost use Rattle.gs_beliefs.specs.Cpus.{believed_on};
 ghost use Rattle.gs_layout.specs.View.{is_gap, look_up, word};
 ghost use Rattle.gs_policy.specs.Safe.{IsSafePlan};
-ghost use Rattle.gs_policy.specs.Shown.{shows};
 ghost use Rattle.gs_status.specs.Masks.{has};
 ghost use Rattle.gs_view.specs.declared.fault.ApplyFault.{ApplyFault};
 ghost use Rattle.gs_view.specs.Begins.{begins};
@@ -14,9 +13,9 @@ ghost use Rattle.gs_mind.specs.Picture.{HoldsWaiting, after_slot, after_stamp, t
 
 use crate::rebuild::{make_room_for_page, take_records};
 use crate::waiting::{make_room, other_than, requeue, running_on, settle, settle_if_any};
-use gs_beliefs::{CpuBeliefs, Running};
+use gs_beliefs::{Beliefs, CpuBeliefs, Running};
 use gs_dump::Page;
-use gs_policy::{Choice, Counted, Policy, Shown};
+use gs_policy::{Choice, Counted, Policy};
 use gs_reader::MessageRef;
 use gs_runq::{RunQueue, Walk};
 use gs_slots::SlotState;
@@ -36,7 +35,7 @@ use std::marker::Model;
 #[derive(Drop)]
 pub struct Mind {
     view: AgentView,
-    cpus: CpuBeliefs,
+    cpus: Beliefs,
     queue: RunQueue,
 }
 
@@ -64,7 +63,7 @@ impl Mind {
         requires { cpus ≤ MOST_CPUS }
         ensures { IfOk result (λ mind. mind ≡ nothing cpus agent) }
     {
-        let cpus = CpuBeliefs::new(alloc, cpus, agent)?;
+        let cpus = Beliefs::new(alloc, cpus, agent)?;
         Ok(Mind {
             view: AgentView::new(alloc),
             cpus,
@@ -80,7 +79,7 @@ impl Mind {
     }
 
     /// Returns what is believed of each CPU. It does not allocate.
-    pub fn beliefs(&self) -> &CpuBeliefs
+    pub fn beliefs(&self) -> &Beliefs
         ensures { result.now ≡ self.now.cpus }
     {
         &self.cpus
@@ -209,7 +208,11 @@ impl Mind {
         ensures safe { IfOk result (λ r. IsSafePlan (shown_in self.now (has taken)) r.items) }
     {
         let _each_once = self.waiting();
-        policy.plan(alloc, &self.shown(taken))
+        let cpus = CpuBeliefs {
+            beliefs: &self.cpus,
+            taken,
+        };
+        policy.plan(alloc, &self.view, &cpus, &self.queue)
     }
 
     /// Returns how many choices a policy's plan has by all that the agent has in mind, if the other class
@@ -218,18 +221,10 @@ impl Mind {
     pub fn count<P: Counted>(&self, policy: &P, taken: Mask) -> usize
         ensures { result ≡ length (P.chosen policy.now (shown_in self.now (has taken))) }
     {
-        policy.count(&self.shown(taken))
-    }
-
-    /// Returns what a policy is shown if the other class holds the CPUs of `taken` and no other.
-    fn shown(&self, taken: Mask) -> Shown<'_>
-        ensures { shows result ≡ shown_in self.now (has taken) }
-    {
-        Shown {
-            view: &self.view,
-            cpus: &self.cpus,
+        let cpus = CpuBeliefs {
+            beliefs: &self.cpus,
             taken,
-            queue: &self.queue,
-        }
+        };
+        policy.count(&self.view, &cpus, &self.queue)
     }
 }

@@ -9,7 +9,7 @@ ghost use Rattle.gs_mind.specs.Pages.{after_records, told_on};
 ghost use Rattle.gs_mind.specs.Picture.{displaced, parts, settled_all};
 
 use crate::waiting::{running_on, settle, settle_if_any};
-use gs_beliefs::CpuBeliefs;
+use gs_beliefs::Beliefs;
 use gs_dump::{DumpRecord, Page};
 use gs_layout::MOST_TIDS;
 use gs_runq::RunQueue;
@@ -36,7 +36,7 @@ pub(crate) fn make_room_for_page(queue: &mut RunQueue, page: &Page) -> Result<()
 /// Takes in the records of threads that the view knows, in order. It does not allocate.
 pub(crate) fn take_records(
     view: &AgentView,
-    cpus: &mut CpuBeliefs,
+    cpus: &mut Beliefs,
     queue: &mut RunQueue,
     threads: &[DumpRecord],
 )
@@ -51,7 +51,7 @@ pub(crate) fn take_records(
 
 /// Takes in the record of a thread that the view knows: the thread is believed to run where the record
 /// says. It, and whoever was believed to run there, begins to wait, goes on or stops.
-fn take_record(view: &AgentView, cpus: &mut CpuBeliefs, queue: &mut RunQueue, thread: &DumpRecord)
+fn take_record(view: &AgentView, cpus: &mut Beliefs, queue: &mut RunQueue, thread: &DumpRecord)
     requires { HasRoom (look_up view.now) queue.old }
     ensures cpus { cpus.new ≡ told_on thread.now.tid thread.now.known.tseq thread.now.cpu cpus.old }
     ensures queue { queue.new ≡ settled_all (look_up view.now) cpus.new (thread.now.tid ∷ option_to_list (displaced cpus.old thread.now.cpu)) queue.old }

@@ -10,7 +10,7 @@ ghost use Rattle.gs_mind.specs.Mind.{bare};
 ghost use Rattle.gs_mind.specs.Picture.{displaced, ends_own_turn, other_than, requeued, settled, settled_all, waits};
 ghost use Rattle.std.specs.Option.{option_to_list};
 
-use gs_beliefs::CpuBeliefs;
+use gs_beliefs::Beliefs;
 use gs_layout::{Class, Kind, MOST_TIDS};
 use gs_reader::MessageRef;
 use gs_runq::RunQueue;
@@ -48,7 +48,7 @@ fn is_begun_by(view: &AgentView, message: &MessageRef<'_>) -> bool
 
 /// Returns the class of a thread that waits, `None` if it does not. The CPUs are asked first, of which there
 /// are few.
-fn waiting_class(view: &AgentView, cpus: &CpuBeliefs, tid: u32) -> Option<Class>
+fn waiting_class(view: &AgentView, cpus: &Beliefs, tid: u32) -> Option<Class>
     ensures { result ≡ (if waits (look_up view.now) cpus.now tid then option_map (λ (k : Known). k.facts.class) (look_up view.now tid) else None) }
 {
     if cpus.runs(tid) || cpus.names(tid) {
@@ -61,7 +61,7 @@ fn waiting_class(view: &AgentView, cpus: &CpuBeliefs, tid: u32) -> Option<Class>
 /// Puts a thread that begins to wait last of its class, and takes one that does not wait out. One that
 /// waits already keeps its place. It does not allocate.
 #[tactic(auto, using(crate::proofs::Rooms::room_settled))]
-pub(crate) fn settle(view: &AgentView, cpus: &CpuBeliefs, queue: &mut RunQueue, tid: u32)
+pub(crate) fn settle(view: &AgentView, cpus: &Beliefs, queue: &mut RunQueue, tid: u32)
     requires { HasRoom (look_up view.now) queue.old }
     ensures settled { queue.new ≡ settled (look_up view.now) cpus.now tid queue.old }
     ensures room { HasRoom (look_up view.now) queue.new }
@@ -79,7 +79,7 @@ pub(crate) fn settle(view: &AgentView, cpus: &CpuBeliefs, queue: &mut RunQueue, 
 /// Does the same of a thread, if there is one.
 pub(crate) fn settle_if_any(
     view: &AgentView,
-    cpus: &CpuBeliefs,
+    cpus: &Beliefs,
     queue: &mut RunQueue,
     tid: Option<u32>,
 )
@@ -93,7 +93,7 @@ pub(crate) fn settle_if_any(
 }
 
 /// Returns the thread that is believed to run on a CPU, if there is one.
-pub(crate) fn running_on(cpus: &CpuBeliefs, cpu: Option<u16>) -> Option<u32>
+pub(crate) fn running_on(cpus: &Beliefs, cpu: Option<u16>) -> Option<u32>
     ensures { result ≡ displaced cpus.now cpu }
 {
     let running = cpus.believed(cpu?)?;
@@ -111,7 +111,7 @@ pub(crate) fn other_than(tid: u32, found: Option<u32>) -> Option<u32>
 /// goes last anew if its turn ended.
 pub(crate) fn requeue(
     view: &AgentView,
-    cpus: &CpuBeliefs,
+    cpus: &Beliefs,
     queue: &mut RunQueue,
     message: &MessageRef<'_>,
 )

@@ -41,6 +41,10 @@ picked l v t = choice MOST_CPUS (has l.free) (takes_in l) [] t (v t)
 abbrev pub planned_of : Candidates → Look → List Choice → List ℕ → List Choice
 planned_of l v xs ts = planned MOST_CPUS (has l.free) (takes_in l) v xs ts
 
+-- the choices of threads among these, one after another
+abbrev pub choices_of : Candidates → Look → List ℕ → List Choice
+choices_of l v ts = planned_of l v [] ts
+
 -- the choices of the threads that wait
 abbrev pub plan_among : Candidates → Shown → List Choice
-plan_among l s = planned_of l s.view [] s.queue
+plan_among l s = choices_of l s.view s.queue

@@ -2,8 +2,10 @@ use crate::choice::Choice;
 use crate::counted::Counted;
 use crate::first_come::FirstCome;
 use crate::policy::Policy;
-use crate::shown::Shown;
 use crate::two_class::TwoClass;
+use gs_beliefs::CpuBeliefs;
+use gs_runq::RunQueue;
+use gs_view::AgentView;
 use std::alloc::{AllocError, Global};
 
 /// Either policy, of which the program knows only as it runs which one it is.
@@ -20,10 +22,16 @@ impl Policy for AnyPolicy {
 
     ghost chosen = { λ p. plan (any_takes p) };
 
-    fn plan(&self, alloc: Global, shown: &Shown<'_>) -> Result<Vec<Choice>, AllocError> {
+    fn plan(
+        &self,
+        alloc: Global,
+        view: &AgentView,
+        cpus: &CpuBeliefs<'_>,
+        queue: &RunQueue,
+    ) -> Result<Vec<Choice>, AllocError> {
         match self {
-            AnyPolicy::FirstCome(policy) => policy.plan(alloc, shown),
-            AnyPolicy::TwoClass(policy) => policy.plan(alloc, shown),
+            AnyPolicy::FirstCome(policy) => policy.plan(alloc, view, cpus, queue),
+            AnyPolicy::TwoClass(policy) => policy.plan(alloc, view, cpus, queue),
         }
     }
 
@@ -31,10 +39,10 @@ impl Policy for AnyPolicy {
 }
 
 impl Counted for AnyPolicy {
-    fn count(&self, shown: &Shown<'_>) -> usize {
+    fn count(&self, view: &AgentView, cpus: &CpuBeliefs<'_>, queue: &RunQueue) -> usize {
         match self {
-            AnyPolicy::FirstCome(policy) => policy.count(shown),
-            AnyPolicy::TwoClass(policy) => policy.count(shown),
+            AnyPolicy::FirstCome(policy) => policy.count(view, cpus, queue),
+            AnyPolicy::TwoClass(policy) => policy.count(view, cpus, queue),
         }
     }
 }

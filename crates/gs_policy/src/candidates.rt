@@ -1,7 +1,9 @@
-ghost use Rattle.std.specs.Prelude.{◌≡◌, ◌<◌, ◌&&◌, ◌==◌, not, ℕ, IfSome};
+ghost use Rattle.std.specs.Prelude.{◌≡◌, ◌<◌, ◌&&◌, ◌==◌, not, ℕ, List, IfSome};
 ghost use Rattle.std.specs.Option.{option_to_list};
 ghost use Rattle.gs_layout.specs.declared.facts.Class.{Class as ClassOf};
+ghost use Rattle.gs_layout.specs.declared.known.Known.{Known as KnownOf};
 ghost use Rattle.gs_layout.specs.View.{look_up};
+ghost use Rattle.gs_runq.specs.Queue.{Queue};
 ghost use Rattle.gs_status.specs.Masks.{has, least};
 ghost use Rattle.gs_policy.specs.Candidates.{AreLeft, AreTakenBy, are_spent, busy_for, picked, plan_among, takes_in};
 ghost use Rattle.gs_policy.specs.Plan.{Taking, plan};
@@ -9,7 +11,7 @@ ghost use Rattle.gs_policy.specs.Safety.{IsTaking};
 ghost use Rattle.gs_policy.specs.Shown.{shows};
 
 use crate::choice::Choice;
-use crate::shown::Shown;
+use gs_beliefs::CpuBeliefs;
 use gs_layout::Class;
 use gs_status::{MOST_CPUS, Mask};
 use gs_view::AgentView;
@@ -36,18 +38,18 @@ fn least_of(one: Mask, other: Mask) -> Option<u16>
 }
 
 impl Candidates {
-    /// Gathers the free CPUs of what is shown, and these, which a thread of class 0 and one of class 1 may
-    /// take from somebody. It does not allocate.
+    /// Gathers the free CPUs, and these, which a thread of class 0 and one of class 1 may take from somebody.
+    /// It does not allocate.
     ///
     /// What is planned among them is the plan by any test that has them so, if it has only usable CPUs
-    /// on which somebody is believed to run.
-    pub fn new(shown: &Shown<'_>, zero_class: Mask, one_class: Mask) -> Candidates
-        ensures { (may_take : Taking) → IsTaking (shows shown.now) (may_take (shows shown.now)) → AreTakenBy (may_take (shows shown.now)) zero_class one_class → plan_among result (shows shown.now) ≡ plan may_take (shows shown.now) }
+    /// on which somebody is believed to run, whatever is known of threads and whoever waits.
+    pub fn new(cpus: &CpuBeliefs<'_>, zero_class: Mask, one_class: Mask) -> Candidates
+        ensures { (may_take : Taking) (records : List (ℕ × KnownOf)) (queue : Queue) → IsTaking (shows records cpus.now queue) (may_take (shows records cpus.now queue)) → AreTakenBy (may_take (shows records cpus.now queue)) zero_class one_class → plan_among result (shows records cpus.now queue) ≡ plan may_take (shows records cpus.now queue) }
     {
         // There are at most MOST_CPUS, so that a mask has them all.
-        let _most = shown.cpus.cpus();
+        let _most = cpus.cpus();
         Candidates {
-            free: shown.cpus.free(shown.taken),
+            free: cpus.free(),
             zero_class,
             one_class,
         }

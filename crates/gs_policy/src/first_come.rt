@@ -1,15 +1,19 @@
-ghost use Rattle.std.specs.Prelude.{◌≡◌};
+ghost use Rattle.std.specs.Prelude.{◌≡◌, ℕ, List};
+ghost use Rattle.gs_layout.specs.declared.known.Known.{Known as KnownOf};
 ghost use Rattle.gs_policy.specs.Candidates.{plan_among};
 ghost use Rattle.gs_policy.specs.Plan.{nobody, plan};
 ghost use Rattle.gs_policy.specs.Shown.{shows};
+ghost use Rattle.gs_runq.specs.Queue.{Queue};
 
 use crate::candidates::Candidates;
 use crate::choice::Choice;
 use crate::counted::Counted;
 use crate::policy::Policy;
-use crate::shown::Shown;
 use crate::walk::{count_among, plan_among};
+use gs_beliefs::CpuBeliefs;
+use gs_runq::RunQueue;
 use gs_status::Mask;
+use gs_view::AgentView;
 use std::alloc::{AllocError, Global};
 
 /// The waiting threads, in order, take the free CPUs. Each takes the least one of its mask that the plan has
@@ -18,10 +22,10 @@ use std::alloc::{AllocError, Global};
 pub struct FirstCome;
 
 /// Returns the free CPUs alone: the plan among them is this policy's.
-pub(crate) fn free_alone(shown: &Shown<'_>) -> Candidates
-    ensures { plan_among result (shows shown.now) ≡ plan nobody (shows shown.now) }
+pub(crate) fn free_alone(cpus: &CpuBeliefs<'_>) -> Candidates
+    ensures { (records : List (ℕ × KnownOf)) (queue : Queue) → plan_among result (shows records cpus.now queue) ≡ plan nobody (shows records cpus.now queue) }
 {
-    Candidates::new(shown, Mask::none(), Mask::none())
+    Candidates::new(cpus, Mask::none(), Mask::none())
 }
 
 impl Policy for FirstCome {
@@ -30,15 +34,21 @@ impl Policy for FirstCome {
 
     ghost chosen = { λ p. plan nobody };
 
-    fn plan(&self, alloc: Global, shown: &Shown<'_>) -> Result<Vec<Choice>, AllocError> {
-        plan_among(alloc, shown, free_alone(shown))
+    fn plan(
+        &self,
+        alloc: Global,
+        view: &AgentView,
+        cpus: &CpuBeliefs<'_>,
+        queue: &RunQueue,
+    ) -> Result<Vec<Choice>, AllocError> {
+        plan_among(alloc, view, cpus, queue, free_alone(cpus))
     }
 
     ghost safe = { λ p. nobody-safe };
 }
 
 impl Counted for FirstCome {
-    fn count(&self, shown: &Shown<'_>) -> usize {
-        count_among(shown, free_alone(shown))
+    fn count(&self, view: &AgentView, cpus: &CpuBeliefs<'_>, queue: &RunQueue) -> usize {
+        count_among(view, queue, free_alone(cpus))
     }
 }

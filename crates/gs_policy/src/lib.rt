@@ -9,7 +9,6 @@ mod counted;
 mod first_come;
 mod law;
 mod policy;
-mod shown;
 mod two_class;
 mod walk;
 
@@ -21,6 +20,5 @@ pub use counted::Counted;
 pub use first_come::FirstCome;
 pub use law::{leaves_none, plans_in_order};
 pub use policy::Policy;
-pub use shown::Shown;
 pub use two_class::TwoClass;
 pub use walk::{count_among, plan_among};

@@ -2,7 +2,9 @@ ghost use Rattle.std.specs.Prelude.{◌≡◌, IfOk};
 ghost use Rattle.gs_policy.specs.Shown.{shows};
 
 use crate::choice::Choice;
-use crate::shown::Shown;
+use gs_beliefs::CpuBeliefs;
+use gs_runq::RunQueue;
+use gs_view::AgentView;
 use std::alloc::{AllocError, Global};
 
 /// How an agent chooses who runs where.
@@ -20,13 +22,21 @@ pub trait Policy {
     /// The plan: what it chooses by what it is shown.
     ghost chosen: { Self → Shown → List Choice };
 
-    /// Returns the choices, in the order in which they were made. It changes nothing.
+    /// Returns the choices, in the order in which they were made. `view` is what the agent knows of each thread,
+    /// `cpus` what it believes of each CPU and which ones the other class holds, and `queue` who waits: class 0
+    /// before class 1, each thread once. It changes nothing.
     ///
     /// # Errors
     ///
     /// `AllocError` if out of memory for the choices.
-    fn plan(&self, alloc: Global, shown: &Shown<'_>) -> Result<Vec<Choice>, AllocError>
-        ensures { IfOk result (λ r. r.items ≡ chosen self.now (shows shown.now)) };
+    fn plan(
+        &self,
+        alloc: Global,
+        view: &AgentView,
+        cpus: &CpuBeliefs<'_>,
+        queue: &RunQueue,
+    ) -> Result<Vec<Choice>, AllocError>
+        ensures { IfOk result (λ r. r.items ≡ chosen self.now (shows view.now cpus.now queue.now)) };
 
     /// Law: of threads that wait, each once, the plan is safe to stamp.
     ghost safe: { (p : Self) (s : Shown) → Apart s.queue → IsSafePlan s (chosen p s) };

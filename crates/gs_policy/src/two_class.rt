@@ -9,8 +9,10 @@ use crate::class_one::{class_one_cpus, those_that_have_had};
 use crate::counted::Counted;
 use crate::first_come::free_alone;
 use crate::policy::Policy;
-use crate::shown::Shown;
 use crate::walk::{count_among, plan_among, serve_all};
+use gs_beliefs::CpuBeliefs;
+use gs_runq::RunQueue;
+use gs_view::AgentView;
 use std::alloc::{AllocError, Global};
 
 /// The waiting threads, in order, take the free CPUs as under [`FirstCome`](crate::FirstCome). If none is
@@ -24,15 +26,15 @@ pub struct TwoClass {
 impl TwoClass {
     /// Returns the free CPUs, and those that a thread of each class may take from one of class 1: the plan
     /// among them is this policy's. If the free CPUs serve all that wait, no other CPU is looked at.
-    fn candidates(&self, shown: &Shown<'_>) -> Candidates
-        ensures { plan_among result (shows shown.now) ≡ plan (class_one_after self.now.slice) (shows shown.now) }
+    fn candidates(&self, view: &AgentView, cpus: &CpuBeliefs<'_>, queue: &RunQueue) -> Candidates
+        ensures { plan_among result (shows view.now cpus.now queue.now) ≡ plan (class_one_after self.now.slice) (shows view.now cpus.now queue.now) }
     {
-        if serve_all(shown, free_alone(shown)) {
-            return free_alone(shown);
+        if serve_all(view, queue, free_alone(cpus)) {
+            return free_alone(cpus);
         }
-        let zero_class = class_one_cpus(shown, 0);
-        let one_class = those_that_have_had(shown, self.slice, zero_class);
-        Candidates::new(shown, zero_class, one_class)
+        let zero_class = class_one_cpus(view, cpus, 0);
+        let one_class = those_that_have_had(view, cpus, self.slice, zero_class);
+        Candidates::new(cpus, zero_class, one_class)
     }
 }
 
@@ -42,15 +44,22 @@ impl Policy for TwoClass {
 
     ghost chosen = { λ p. plan (class_one_after p.slice) };
 
-    fn plan(&self, alloc: Global, shown: &Shown<'_>) -> Result<Vec<Choice>, AllocError> {
-        plan_among(alloc, shown, self.candidates(shown))
+    fn plan(
+        &self,
+        alloc: Global,
+        view: &AgentView,
+        cpus: &CpuBeliefs<'_>,
+        queue: &RunQueue,
+    ) -> Result<Vec<Choice>, AllocError> {
+        let among = self.candidates(view, cpus, queue);
+        plan_among(alloc, view, cpus, queue, among)
     }
 
     ghost safe = { λ p. class_one_after-safe p.slice };
 }
 
 impl Counted for TwoClass {
-    fn count(&self, shown: &Shown<'_>) -> usize {
-        count_among(shown, self.candidates(shown))
+    fn count(&self, view: &AgentView, cpus: &CpuBeliefs<'_>, queue: &RunQueue) -> usize {
+        count_among(view, queue, self.candidates(view, cpus, queue))
     }
 }

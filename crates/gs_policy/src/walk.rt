@@ -1,12 +1,14 @@
 ghost use Rattle.std.specs.Prelude.{◌≡◌, ◌≤◌, true, IfOk, length};
 ghost use Rattle.std.specs.Iterator.{YieldsFirst, item_count};
-ghost use Rattle.gs_policy.specs.Candidates.{plan_among};
+ghost use Rattle.gs_layout.specs.View.{look_up};
+ghost use Rattle.gs_runq.specs.Queue.{order};
+ghost use Rattle.gs_policy.specs.Candidates.{choices_of, plan_among};
 ghost use Rattle.gs_policy.specs.Shown.{shows};
 
 use crate::candidates::Candidates;
 use crate::choice::Choice;
-use crate::shown::Shown;
-use gs_runq::Walk;
+use gs_beliefs::CpuBeliefs;
+use gs_runq::{RunQueue, Walk};
 use gs_status::MOST_CPUS;
 use gs_view::AgentView;
 use std::alloc::{AllocError, Global};
@@ -52,13 +54,13 @@ impl<'a> Iterator for Choices<'a> {
 
 /// Walks the choices of all that wait. There are no more of them than threads.
 #[tactic(auto, using(crate::proofs::Left::planned_few))]
-fn choose<'a>(shown: &Shown<'a>, all: Candidates) -> Choices<'a>
-    ensures choices { result ≡ plan_among all (shows shown.now) }
-    ensures few { length result ≤ length (shows shown.now).queue }
+fn choose<'a>(view: &'a AgentView, queue: &'a RunQueue, all: Candidates) -> Choices<'a>
+    ensures choices { result ≡ choices_of all (look_up view.now) (order queue.now) }
+    ensures few { length result ≤ length (order queue.now) }
 {
     Choices {
-        view: shown.view,
-        threads: shown.queue.walk(),
+        view,
+        threads: queue.walk(),
         left: all,
     }
 }
@@ -75,34 +77,36 @@ fn choose<'a>(shown: &Shown<'a>, all: Candidates) -> Choices<'a>
 /// `AllocError` if out of memory for the choices.
 pub fn plan_among(
     alloc: Global,
-    shown: &Shown<'_>,
+    view: &AgentView,
+    cpus: &CpuBeliefs<'_>,
+    queue: &RunQueue,
     all: Candidates,
 ) -> Result<Vec<Choice>, AllocError>
-    ensures { IfOk result (λ r. r.items ≡ plan_among all (shows shown.now)) }
+    ensures { IfOk result (λ r. r.items ≡ plan_among all (shows view.now cpus.now queue.now)) }
 {
-    let most = shown.queue.len().min(shown.cpus.cpus() as usize);
+    let most = queue.len().min(cpus.cpus() as usize);
     let mut plan = Vec::with_capacity(alloc, most)?;
-    plan.extend(choose(shown, all))?;
+    plan.extend(choose(view, queue, all))?;
     Ok(plan)
 }
 
 /// Returns how many choices [`plan_among`] makes of these CPUs. It does not allocate.
-pub fn count_among(shown: &Shown<'_>, all: Candidates) -> usize
-    ensures { result ≡ length (plan_among all (shows shown.now)) }
+pub fn count_among(view: &AgentView, queue: &RunQueue, all: Candidates) -> usize
+    ensures { result ≡ length (choices_of all (look_up view.now) (order queue.now)) }
 {
     // No more choices than threads that wait, so that their number fits.
-    let _most = shown.queue.len();
-    choose(shown, all).count()
+    let _most = queue.len();
+    choose(view, queue, all).count()
 }
 
 /// Returns whether these CPUs serve all that wait: each has a choice among them. It does not allocate, and
 /// goes through no more threads than there may be CPUs.
-pub(crate) fn serve_all(shown: &Shown<'_>, all: Candidates) -> bool
-    ensures { result ≡ true → length (plan_among all (shows shown.now)) ≡ length (shows shown.now).queue }
+pub(crate) fn serve_all(view: &AgentView, queue: &RunQueue, all: Candidates) -> bool
+    ensures { result ≡ true → length (choices_of all (look_up view.now) (order queue.now)) ≡ length (order queue.now) }
 {
-    let waiting = shown.queue.len();
+    let waiting = queue.len();
     if waiting > MOST_CPUS as usize {
         return false;
     }
-    count_among(shown, all) == waiting
+    count_among(view, queue, all) == waiting
 }

@@ -4,7 +4,7 @@ ghost use Rattle.gs_layout.specs.Spelling.{IsSpellable};
 
 use crate::messages::Told::{self, Thread, Tick};
 use crate::messages::Tried;
-use gs_beliefs::CpuBeliefs;
+use gs_beliefs::{Beliefs, CpuBeliefs};
 use gs_layout::{Change, Message, Outcome, Parcel};
 use gs_reader::MessageRef;
 use gs_status::Mask;
@@ -135,7 +135,7 @@ const STAMPED: [MaskRow; 4] = [
 ];
 
 /// The beliefs hear a message.
-fn hear(beliefs: &mut CpuBeliefs, message: &Message)
+fn hear(beliefs: &mut Beliefs, message: &Message)
     requires { IsSpellable message.now }
 {
     let parcel = Parcel::new(message);
@@ -143,7 +143,7 @@ fn hear(beliefs: &mut CpuBeliefs, message: &Message)
 }
 
 /// Does what a row says. It returns whether that could be done: what is heard has to be a message.
-fn is_done(beliefs: &mut CpuBeliefs, deed: &Deed) -> bool {
+fn is_done(beliefs: &mut Beliefs, deed: &Deed) -> bool {
     match deed {
         Deed::Place(cpu, tid, tseq) => beliefs.place(*cpu, *tid, *tseq),
         Deed::Ticks(cpu, count) => {
@@ -168,13 +168,13 @@ fn is_done(beliefs: &mut CpuBeliefs, deed: &Deed) -> bool {
 }
 
 /// Who is believed to run on a CPU.
-fn runner(beliefs: &CpuBeliefs, cpu: u16) -> Runner {
+fn runner(beliefs: &Beliefs, cpu: u16) -> Runner {
     let running = beliefs.believed(cpu)?;
     Some((running.tid, running.tseq, running.ticks))
 }
 
 /// The first row after which something else is believed than it says.
-fn first_wrong_belief(beliefs: &mut CpuBeliefs, rows: &[BeliefRow]) -> Option<usize> {
+fn first_wrong_belief(beliefs: &mut Beliefs, rows: &[BeliefRow]) -> Option<usize> {
     for (index, row) in rows.iter().enumerate() {
         let (deed, first, second, runs) = row;
         let well = is_done(beliefs, deed)
@@ -190,19 +190,34 @@ fn first_wrong_belief(beliefs: &mut CpuBeliefs, rows: &[BeliefRow]) -> Option<us
 
 /// Whether just these of the three CPUs are usable, and just these are free, by each call that says so. The
 /// other class holds those of a mask.
-fn has_masks(beliefs: &CpuBeliefs, taken: Mask, usable: u128, free: u128) -> bool {
-    beliefs.usable(taken).bits() == usable
-        && beliefs.free(taken).bits() == free
-        && (0..4).all(|cpu| beliefs.is_usable(taken, cpu) == Mask::new(usable).has(cpu))
-        && (0..4).all(|cpu| beliefs.is_free(taken, cpu) == Mask::new(free).has(cpu))
+fn has_masks(beliefs: &Beliefs, taken: Mask, usable: u128, free: u128) -> bool {
+    let cpus = CpuBeliefs { beliefs, taken };
+    cpus.usable().bits() == usable
+        && cpus.free().bits() == free
+        && cpus.busy().bits() == usable & !free
+        && (0..4).all(|cpu| cpus.is_usable(cpu) == Mask::new(usable).has(cpu))
+        && (0..4).all(|cpu| cpus.is_free(cpu) == Mask::new(free).has(cpu))
+}
+
+/// Whether a policy is shown of each CPU what is believed there.
+fn are_shown(beliefs: &Beliefs) -> bool {
+    let cpus = CpuBeliefs {
+        beliefs,
+        taken: Mask::none(),
+    };
+    cpus.cpus() == beliefs.cpus()
+        && cpus.agent() == beliefs.agent()
+        && (0..4).all(|cpu| cpus.believed(cpu) == beliefs.believed(cpu))
+        && (0..4).all(|cpu| cpus.stamp_on(cpu) == beliefs.stamp_on(cpu))
 }
 
 /// The first row after which other CPUs may be used than it says.
-fn first_wrong_mask(beliefs: &mut CpuBeliefs, rows: &[MaskRow]) -> Option<usize> {
+fn first_wrong_mask(beliefs: &mut Beliefs, rows: &[MaskRow]) -> Option<usize> {
     for (index, row) in rows.iter().enumerate() {
         let (deed, taken, usable, free, stamp, agent) = row;
         let well = is_done(beliefs, deed)
             && has_masks(beliefs, Mask::new(*taken), *usable, *free)
+            && are_shown(beliefs)
             && beliefs.stamp_on(2) == *stamp
             && beliefs.names(9) == stamp.is_some()
             && !beliefs.names(7)
@@ -216,7 +231,7 @@ fn first_wrong_mask(beliefs: &mut CpuBeliefs, rows: &[MaskRow]) -> Option<usize>
 
 /// Tries rows on what is believed at the beginning.
 fn tried_beliefs(alloc: Global, rows: &[BeliefRow]) -> Tried {
-    match CpuBeliefs::new(alloc, 3, Some(0)) {
+    match Beliefs::new(alloc, 3, Some(0)) {
         Ok(mut beliefs) => Tried::with(first_wrong_belief(&mut beliefs, rows)),
         Err(_) => Tried::NotMade,
     }
@@ -224,7 +239,7 @@ fn tried_beliefs(alloc: Global, rows: &[BeliefRow]) -> Tried {
 
 /// The same of rows of masks.
 fn tried_masks(alloc: Global, rows: &[MaskRow]) -> Tried {
-    match CpuBeliefs::new(alloc, 3, Some(0)) {
+    match Beliefs::new(alloc, 3, Some(0)) {
         Ok(mut beliefs) => Tried::with(first_wrong_mask(&mut beliefs, rows)),
         Err(_) => Tried::NotMade,
     }
@@ -260,17 +275,17 @@ fn try_stamped(alloc: Global) -> Tried {
 }
 
 /// Whether nothing is believed yet of 128 CPUs, while the agent attaches.
-fn is_blank(beliefs: &CpuBeliefs) -> bool {
+fn is_blank(beliefs: &Beliefs) -> bool {
     beliefs.cpus() == 128
         && beliefs.agent().is_none()
         && beliefs.believed(127).is_none()
         && beliefs.stamp_on(127).is_none()
-        && beliefs.free(Mask::none()).bits() == u128::MAX
+        && has_masks(beliefs, Mask::none(), u128::MAX, u128::MAX)
 }
 
 /// Whether that is so at the beginning.
 fn begins_blank(alloc: Global) -> bool {
-    match CpuBeliefs::new(alloc, 128, None) {
+    match Beliefs::new(alloc, 128, None) {
         Ok(beliefs) => is_blank(&beliefs),
         Err(_) => false,
     }

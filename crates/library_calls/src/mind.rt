@@ -6,6 +6,7 @@ use crate::messages::Told::{self, Creation, Thread, Tick};
 use crate::messages::Tried;
 use crate::owned::let_go;
 use crate::plans::{Plan, is_order, is_plan};
+use gs_beliefs::CpuBeliefs;
 use gs_layout::{Change, Class, Message, Outcome, Parcel};
 use gs_mind::Mind;
 use gs_policy::{Counted, FirstCome, TwoClass};
@@ -254,11 +255,15 @@ fn first_unplanned<P: Counted>(
 
 /// Whether nothing is known or believed yet, and just these CPUs are free.
 fn is_blank(mind: &Mind, free: u128) -> bool {
+    let cpus = CpuBeliefs {
+        beliefs: mind.beliefs(),
+        taken: Mask::none(),
+    };
     mind.view().is_empty()
         && is_order(mind.waiting(), &[])
         && runner(mind, 1).is_none()
-        && mind.beliefs().cpus() == 3
-        && mind.beliefs().free(Mask::none()).bits() == free
+        && cpus.cpus() == 3
+        && cpus.free().bits() == free
 }
 
 /// Whether the mind of an agent on this CPU of three, `None` while it attaches, begins blank.

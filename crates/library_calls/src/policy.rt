@@ -9,10 +9,10 @@ use crate::messages::Told::Creation;
 use crate::plans::{Plan, is_plan};
 use crate::policy::first_only::FirstOnly;
 use crate::policy::zero_preempts::ZeroPreempts;
-use gs_beliefs::CpuBeliefs;
+use gs_beliefs::{Beliefs, CpuBeliefs};
 use gs_layout::{Class, MOST_TIDS, Parcel};
 use gs_policy::{
-    AnyPolicy, Choice, Counted, FirstCome, Policy, Shown, TwoClass, leaves_none, plans_in_order,
+    AnyPolicy, Choice, Counted, FirstCome, Policy, TwoClass, leaves_none, plans_in_order,
 };
 use gs_reader::MessageRef;
 use gs_runq::RunQueue;
@@ -204,19 +204,17 @@ const ROWS: [Row; 11] = [
 #[derive(Drop)]
 struct Situation {
     view: AgentView,
-    cpus: CpuBeliefs,
+    cpus: Beliefs,
     taken: Mask,
     queue: RunQueue,
 }
 
 impl Situation {
-    /// What a policy is shown of it.
-    fn shown(&self) -> Shown<'_> {
-        Shown {
-            view: &self.view,
-            cpus: &self.cpus,
+    /// What a policy is shown of its CPUs.
+    fn shown(&self) -> CpuBeliefs<'_> {
+        CpuBeliefs {
+            beliefs: &self.cpus,
             taken: self.taken,
-            queue: &self.queue,
         }
     }
 }
@@ -257,11 +255,11 @@ fn waiting(alloc: Global, row: &Row) -> Option<RunQueue> {
 }
 
 /// What is believed of the CPUs of a row.
-fn believed(alloc: Global, row: &Row) -> Option<CpuBeliefs> {
+fn believed(alloc: Global, row: &Row) -> Option<Beliefs> {
     if row.cpus > MOST_CPUS {
         return None;
     }
-    let mut cpus = CpuBeliefs::new(alloc, row.cpus, Some(0)).ok()?;
+    let mut cpus = Beliefs::new(alloc, row.cpus, Some(0)).ok()?;
     if let Some(ticks) = row.ticks {
         cpus.place(1, 1, 1);
         for _ in 0..ticks {
@@ -290,12 +288,12 @@ fn planned<P: Policy>(
     policy: &P,
     situation: &Situation,
 ) -> Result<Vec<Choice>, AllocError> {
-    policy.plan(alloc, &situation.shown())
+    policy.plan(alloc, &situation.view, &situation.shown(), &situation.queue)
 }
 
 /// How many choices a policy counts, by its trait alone.
 fn counted<P: Counted>(policy: &P, situation: &Situation) -> usize {
-    policy.count(&situation.shown())
+    policy.count(&situation.view, &situation.shown(), &situation.queue)
 }
 
 /// Whether a policy plans this.

@@ -8,7 +8,7 @@ use Rattle.gs_layout.specs.declared.known.Known.{Known}
 use Rattle.gs_layout.specs.View.{Look}
 use Rattle.gs_runq.specs.Queue.{Apart}
 use Rattle.gs_beliefs.specs.declared.running.Running.{Running}
-use Rattle.gs_beliefs.specs.Cpus.{believed_on, is_usable}
+use Rattle.gs_beliefs.specs.Cpus.{Cpus, believed_on, is_usable}
 use Rattle.gs_policy.specs.declared.choice.Choice.{Choice}
 use Rattle.gs_policy.specs.Plan.{Taking, plan}
 use Rattle.gs_policy.specs.Safe.{IsSafePlan}
@@ -32,12 +32,12 @@ has_had_its_slice p v None = false
 has_had_its_slice p v (Some r) = is_slice p (v r.tid) r.ticks
 
 -- whether a CPU is usable, and whoever is believed to run there has had its slice
-abbrev pub turn_is_over : RoundRobin → Shown → ℕ → Bool
-turn_is_over p s c = is_usable s.cpus s.taken c && has_had_its_slice p s.view (believed_on s.cpus c)
+abbrev pub turn_is_over : RoundRobin → Look → Cpus → (ℕ → Bool) → ℕ → Bool
+turn_is_over p v cpus taken c = is_usable cpus taken c && has_had_its_slice p v (believed_on cpus c)
 
 -- a thread of either class may take such a CPU
 abbrev pub turn_takes : RoundRobin → Taking
-turn_takes p s class c = turn_is_over p s c
+turn_takes p s class c = turn_is_over p s.view s.cpus s.taken c
 
 -- the plan: the waiting threads, in order, each on the least free CPU of its mask, or else on the least that it may take
 abbrev pub round_robin : RoundRobin → Shown → List Choice

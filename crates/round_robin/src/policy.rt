@@ -3,11 +3,16 @@ ghost use Rattle.gs_status.specs.Masks.{has};
 ghost use Rattle.gs_policy.specs.Candidates.{plan_among};
 ghost use Rattle.gs_policy.specs.Plan.{plan};
 ghost use Rattle.gs_policy.specs.Shown.{shows};
+ghost use Rattle.gs_layout.specs.View.{look_up};
+ghost use Rattle.gs_runq.specs.Queue.{Queue};
 ghost use Rattle.round_robin.specs.RoundRobin.{slice_of, turn_is_over, turn_takes};
 
+use gs_beliefs::CpuBeliefs;
 use gs_layout::Class;
-use gs_policy::{Candidates, Choice, Counted, Policy, Shown, count_among, plan_among};
+use gs_policy::{Candidates, Choice, Counted, Policy, count_among, plan_among};
+use gs_runq::RunQueue;
 use gs_status::Mask;
+use gs_view::AgentView;
 use std::alloc::{AllocError, Global};
 
 /// Weighted round robin. The waiting threads, in order, take the least free CPUs of their masks. If none is
@@ -35,16 +40,16 @@ impl RoundRobin {
     }
 
     /// Tells whether a CPU is usable and believed to run a known thread that has had its slice.
-    fn turn_is_over(&self, shown: &Shown<'_>, cpu: u16) -> bool
-        ensures { result ≡ turn_is_over self.now (shows shown.now) cpu }
+    fn turn_is_over(&self, view: &AgentView, cpus: &CpuBeliefs<'_>, cpu: u16) -> bool
+        ensures { result ≡ turn_is_over self.now (look_up view.now) cpus.now.beliefs.now (has cpus.now.taken) cpu }
     {
-        if !shown.cpus.is_usable(shown.taken, cpu) {
+        if !cpus.is_usable(cpu) {
             return false;
         }
-        let Some(running) = shown.cpus.believed(cpu) else {
+        let Some(running) = cpus.believed(cpu) else {
             return false;
         };
-        let Some((facts, _)) = shown.view.get(running.tid) else {
+        let Some((facts, _)) = view.get(running.tid) else {
             return false;
         };
         self.slice_of(facts.class) <= running.ticks
@@ -52,23 +57,23 @@ impl RoundRobin {
 
     /// Returns the CPUs whose threads have had their slices.
     #[tactic(auto, using(gs_status::proofs::Laws::marked_if))]
-    fn spent_cpus(&self, shown: &Shown<'_>) -> Mask
-        ensures { (c : ℕ) → has result c ≡ turn_is_over self.now (shows shown.now) c }
+    fn spent_cpus(&self, view: &AgentView, cpus: &CpuBeliefs<'_>) -> Mask
+        ensures { (c : ℕ) → has result c ≡ turn_is_over self.now (look_up view.now) cpus.now.beliefs.now (has cpus.now.taken) c }
     {
         let mut mask = Mask::none();
-        for cpu in 0..shown.cpus.cpus() {
-            mask = mask.with_if(cpu, self.turn_is_over(shown, cpu));
+        for cpu in 0..cpus.cpus() {
+            mask = mask.with_if(cpu, self.turn_is_over(view, cpus, cpu));
         }
         mask
     }
 
     /// Returns the free CPUs, and those that a thread of either class may take: the plan among them is this
     /// policy's.
-    fn candidates(&self, shown: &Shown<'_>) -> Candidates
-        ensures { plan_among result (shows shown.now) ≡ plan (turn_takes self.now) (shows shown.now) }
+    fn candidates(&self, view: &AgentView, cpus: &CpuBeliefs<'_>) -> Candidates
+        ensures { (queue : Queue) → plan_among result (shows view.now cpus.now queue) ≡ plan (turn_takes self.now) (shows view.now cpus.now queue) }
     {
-        let spent = self.spent_cpus(shown);
-        Candidates::new(shown, spent, spent)
+        let spent = self.spent_cpus(view, cpus);
+        Candidates::new(cpus, spent, spent)
     }
 }
 
@@ -77,15 +82,21 @@ impl Policy for RoundRobin {
 
     ghost chosen = { round_robin };
 
-    fn plan(&self, alloc: Global, shown: &Shown<'_>) -> Result<Vec<Choice>, AllocError> {
-        plan_among(alloc, shown, self.candidates(shown))
+    fn plan(
+        &self,
+        alloc: Global,
+        view: &AgentView,
+        cpus: &CpuBeliefs<'_>,
+        queue: &RunQueue,
+    ) -> Result<Vec<Choice>, AllocError> {
+        plan_among(alloc, view, cpus, queue, self.candidates(view, cpus))
     }
 
     ghost safe = { round_robin-safe };
 }
 
 impl Counted for RoundRobin {
-    fn count(&self, shown: &Shown<'_>) -> usize {
-        count_among(shown, self.candidates(shown))
+    fn count(&self, view: &AgentView, cpus: &CpuBeliefs<'_>, queue: &RunQueue) -> usize {
+        count_among(view, queue, self.candidates(view, cpus))
     }
 }

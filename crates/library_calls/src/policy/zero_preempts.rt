@@ -4,12 +4,14 @@ ghost use Rattle.std.specs.Prelude.{◌≡◌};
 ghost use Rattle.gs_policy.specs.Candidates.{plan_among};
 ghost use Rattle.gs_policy.specs.Plan.{plan};
 ghost use Rattle.gs_policy.specs.Shown.{shows};
+ghost use Rattle.gs_runq.specs.Queue.{Queue};
 ghost use Rattle.library_calls.specs.ZeroPreempts.{zero_takes};
 
-use gs_policy::{
-    Candidates, Choice, Counted, Policy, Shown, class_one_cpus, count_among, plan_among,
-};
+use gs_beliefs::CpuBeliefs;
+use gs_policy::{Candidates, Choice, Counted, Policy, class_one_cpus, count_among, plan_among};
+use gs_runq::RunQueue;
 use gs_status::Mask;
+use gs_view::AgentView;
 use std::alloc::{AllocError, Global};
 
 /// The waiting threads, in order, take the least free CPUs of their masks. If none is left for a thread of
@@ -17,10 +19,10 @@ use std::alloc::{AllocError, Global};
 pub(super) struct ZeroPreempts;
 
 /// The free CPUs, and those that a thread of class 0 may take: the plan among them is this policy's.
-fn candidates(shown: &Shown<'_>) -> Candidates
-    ensures { plan_among result (shows shown.now) ≡ plan zero_takes (shows shown.now) }
+fn candidates(view: &AgentView, cpus: &CpuBeliefs<'_>) -> Candidates
+    ensures { (queue : Queue) → plan_among result (shows view.now cpus.now queue) ≡ plan zero_takes (shows view.now cpus.now queue) }
 {
-    Candidates::new(shown, class_one_cpus(shown, 0), Mask::none())
+    Candidates::new(cpus, class_one_cpus(view, cpus, 0), Mask::none())
 }
 
 impl Policy for ZeroPreempts {
@@ -29,15 +31,21 @@ impl Policy for ZeroPreempts {
 
     ghost chosen = { λ p. plan zero_takes };
 
-    fn plan(&self, alloc: Global, shown: &Shown<'_>) -> Result<Vec<Choice>, AllocError> {
-        plan_among(alloc, shown, candidates(shown))
+    fn plan(
+        &self,
+        alloc: Global,
+        view: &AgentView,
+        cpus: &CpuBeliefs<'_>,
+        queue: &RunQueue,
+    ) -> Result<Vec<Choice>, AllocError> {
+        plan_among(alloc, view, cpus, queue, candidates(view, cpus))
     }
 
     ghost safe = { λ p. zero_preempts-safe };
 }
 
 impl Counted for ZeroPreempts {
-    fn count(&self, shown: &Shown<'_>) -> usize {
-        count_among(shown, candidates(shown))
+    fn count(&self, view: &AgentView, cpus: &CpuBeliefs<'_>, queue: &RunQueue) -> usize {
+        count_among(view, queue, candidates(view, cpus))
     }
 }

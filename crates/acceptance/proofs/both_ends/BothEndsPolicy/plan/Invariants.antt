@@ -1,4 +1,5 @@
 use Rattle.gs_policy.specs.Shown.{shows}
+use Rattle.gs_runq.specs.Queue.{order}
 use Rattle.acceptance.proofs.Ends.{IsPlanning}
 use Rattle.acceptance.proofs.both_ends.BothEndsPolicy.plan.Given as goal
 
@@ -6,4 +7,4 @@ abbrev pub invariant-loop-tid : goal.invariant-loop-tid
 invariant-loop-tid l =
     (goal.iterator-loop-tid).can_next l.tid-iterator ×
     (goal.iterator-loop-tid).is_finite l.tid-iterator ×
-    IsPlanning (shows l.shown) l.left l.choices.items l.tid-iterator (shows l.shown).queue
+    IsPlanning (shows l.view l.cpus l.queue) l.left l.choices.items l.tid-iterator (order l.queue)

@@ -3,4 +3,5 @@ use Rattle.library_calls.specs.ZeroPreempts.{zero_takes, zero_taking}
 use Rattle.library_calls.proofs.policy.zero_preempts.candidates.Goals as goal
 
 pub returns : goal.returns
-returns c = c.new.ensures zero_takes (zero_taking (shows c.args.shown.now)) (record { by_zero = c.class_one_cpus.ensures; by_one = c.none.ensures.empty })
+returns c = λ queue.
+    c.new.ensures zero_takes c.args.view.now queue (zero_taking (shows c.args.view.now c.args.cpus.now queue)) (record { by_zero = c.class_one_cpus.ensures; by_one = c.none.ensures.empty })

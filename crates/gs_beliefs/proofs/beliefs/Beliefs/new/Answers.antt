@@ -1,6 +1,6 @@
 use Rattle.std.proofs.Common.{◌≡◌, None, replicate, rules}
 use Rattle.gs_beliefs.proofs.Found.{cpus_unknown}
-use Rattle.gs_beliefs.proofs.cpu_beliefs.CpuBeliefs.new.Goals as goal
+use Rattle.gs_beliefs.proofs.beliefs.Beliefs.new.Goals as goal
 
 pub invariant_of-result : goal.invariant_of-result
 invariant_of-result c =

@@ -2,7 +2,7 @@ use Rattle.std.proofs.Common.{◌≡◌, ◌<◌, None, length, get_or, ap, arit
 use Rattle.std.proofs.lemmas.List.{get_or_default}
 use Rattle.gs_beliefs.specs.Cpus.{ticked}
 use Rattle.gs_beliefs.proofs.Found.{cpus_ticked}
-use Rattle.gs_beliefs.proofs.cpu_beliefs.CpuBeliefs.tick.Goals as goal
+use Rattle.gs_beliefs.proofs.beliefs.Beliefs.tick.Goals as goal
 
 pub invariant_of-self : goal.invariant_of-self
 invariant_of-self c =

@@ -1,7 +1,7 @@
 use Rattle.std.proofs.Common.{ap, ◌∙◌}
 use Rattle.gs_beliefs.specs.Cpus.{Cpus}
 use Rattle.gs_beliefs.proofs.Found.{cpus_placed}
-use Rattle.gs_beliefs.proofs.cpu_beliefs.CpuBeliefs.place.Goals as goal
+use Rattle.gs_beliefs.proofs.beliefs.Beliefs.place.Goals as goal
 
 pub invariant_of-self : goal.invariant_of-self
 invariant_of-self c =

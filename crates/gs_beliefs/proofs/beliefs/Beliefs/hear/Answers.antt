@@ -1,6 +1,6 @@
 use Rattle.std.proofs.Common.{sym, ◌∙◌}
 use Rattle.gs_beliefs.proofs.Believed.{hears_number}
-use Rattle.gs_beliefs.proofs.cpu_beliefs.CpuBeliefs.hear.Goals as goal
+use Rattle.gs_beliefs.proofs.beliefs.Beliefs.hear.Goals as goal
 
 pub returns-else-takes_off_cpu : goal.returns-else-takes_off_cpu
 returns-else-takes_off_cpu c =

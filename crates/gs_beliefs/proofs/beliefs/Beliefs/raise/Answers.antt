@@ -2,7 +2,7 @@ use Rattle.std.proofs.Common.{◌≡◌, ◌<◌, None, length, get_or, ap, sym,
 use Rattle.std.proofs.lemmas.List.{get_or_default}
 use Rattle.gs_beliefs.specs.Cpus.{raised_at, raises}
 use Rattle.gs_beliefs.proofs.Found.{cpus_raised, raises_nobody, raises_one, within_beliefs}
-use Rattle.gs_beliefs.proofs.cpu_beliefs.CpuBeliefs.raise.Goals as goal
+use Rattle.gs_beliefs.proofs.beliefs.Beliefs.raise.Goals as goal
 
 pub invariant_of-self : goal.invariant_of-self
 invariant_of-self c =

@@ -1,7 +1,7 @@
 use Rattle.std.proofs.Common.{ap, ◌∙◌}
 use Rattle.gs_beliefs.specs.Cpus.{Cpus, is_believed}
 use Rattle.gs_beliefs.proofs.Found.{runs_found}
-use Rattle.gs_beliefs.proofs.cpu_beliefs.CpuBeliefs.runs.Goals as goal
+use Rattle.gs_beliefs.proofs.beliefs.Beliefs.runs.Goals as goal
 
 pub returns : goal.returns
 returns c =
