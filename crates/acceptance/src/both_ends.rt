@@ -34,7 +34,7 @@ fn highest(mask: Mask) -> Option<u16>
 
 /// The CPU for a thread, among those that are left.
 fn cpu_for(view: &AgentView, left: Mask, tid: u32) -> Option<u16>
-    ensures cpu { result ≡ cpu_for (has left) (look_up view.now tid) }
+    ensures cpu { result ≡ cpu_for (has left) (look_up view.now.entries tid) }
     ensures within { IfSome result (λ c. c < MOST_CPUS) }
 {
     let (facts, _) = view.get(tid)?;

@@ -145,7 +145,7 @@ impl<P> Role<P> {
 
     /// Returns what the agent knows of each thread.
     pub fn view(&self) -> &AgentView
-        ensures { result.now ≡ self.now.mind.records }
+        ensures { result.now.entries ≡ self.now.mind.records }
     {
         self.mind.view()
     }
@@ -174,9 +174,10 @@ impl<P> Role<P> {
         self.next
     }
 
-    /// Takes a page in, of threads that live. What it tells of them is known then, each of them is believed
-    /// to run where the page says, and who waits follows. The next page begins where this one says, and after
-    /// the last page none is needed.
+    /// Takes a page in, of threads that live, one record at a time, in increasing order of tid. What a record
+    /// tells of its thread is known then, the thread is believed to run where it says, and who waits follows.
+    /// That is so of every page: two records may name one CPU, and threads may have been known before. The
+    /// next page begins where this one says, and after the last page none is needed.
     ///
     /// # Errors
     ///

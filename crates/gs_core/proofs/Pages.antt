@@ -20,6 +20,7 @@ use Rattle.gs_kernel.specs.declared.settings.Settings.{Settings}
 use Rattle.gs_kernel.specs.Shown.{live_from, live_thread}
 use Rattle.gs_kernel.specs.Dumped.{dumped, first_tid}
 use Rattle.gs_view.specs.Loaded.{loaded, or_known, told_of}
+use Rattle.gs_view.proofs.Laws.{or_none}
 use Rattle.gs_core.specs.declared.transaction.Transaction.{Transaction}
 use Rattle.gs_core.specs.Safe.{is_given}
 use Rattle.gs_core.specs.Good.{Faces, GoodHistory, IsMissed, IsTold, told, read_of, unread_of}
@@ -131,14 +132,15 @@ tells_first s h a n t (suc max) k ls live rest = by_place (a == t) refl (rest ma
     later = told_of (take max ls) t
 
     by_place : (b : Bool) → (a == t) ≡ b → Tells s h (a + 1) n t max ls
-        → ((cond b (Some k) later ≡ state s.first_tseq h t) × ((j : Known) × (state s.first_tseq h t ≡ Some j)) × (a ≤ t))
-        ⊎ ((cond b (Some k) later ≡ None) × IsPassed s.first_tseq h a (suc n) (first_tid (drop max ls)) t)
-    by_place true e p =
+        → ((or_known later (cond b (Some k) None) ≡ state s.first_tseq h t) × ((j : Known) × (state s.first_tseq h t ≡ Some j)) × (a ≤ t))
+        ⊎ ((or_known later (cond b (Some k) None) ≡ None) × IsPassed s.first_tseq h a (suc n) (first_tid (drop max ls)) t)
+    by_place true e (inl p) = let same : t ≡ a = grind (arith, nat_tests) in absurd (omega (arith, p.2, same))
+    by_place true e (inr p) =
         let same : t ≡ a = grind (arith, nat_tests) in
         let here : state s.first_tseq h t ≡ Some k = ap (state s.first_tseq h) same ∙ live in
-        inl (sym here, (k, here), omega (arith, same))
-    by_place false e (inl p) = inl (p.0, p.1, omega (arith, p.2))
-    by_place false e (inr p) = inr (p.0, λ le lt g. p.1 (let more : a + 1 ≤ t = grind (arith, nat_tests) in more) (omega arith) g)
+        inl (ap (λ (o : Option Known). or_known o (Some k)) p.0 ∙ sym here, (k, here), omega (arith, same))
+    by_place false e (inl p) = inl (or_none later ∙ p.0, p.1, omega (arith, p.2))
+    by_place false e (inr p) = inr (or_none later ∙ p.0, λ le lt g. p.1 (let more : a + 1 ≤ t = grind (arith, nat_tests) in more) (omega arith) g)
 
 pub tells : (s : Settings) (h : History) (a n t max : ℕ) → Tells s h a n t max (live_among s h a n)
 tells s h a zero t zero = inr (refl, λ le lt g. absurd (omega arith))

@@ -18,9 +18,9 @@ use Rattle.gs_beliefs.specs.Cpus.{Cpus, running}
 use Rattle.gs_beliefs.proofs.Laws.{count_places}
 use Rattle.gs_view.specs.Loaded.{loaded, told_of}
 use Rattle.gs_mind.specs.Mind.{MindState, picture_of}
-use Rattle.gs_mind.specs.Pages.{after_page, after_record, after_records, told_on}
+use Rattle.gs_mind.specs.Pages.{after_page, after_record, told_on}
 use Rattle.gs_mind.specs.Picture.{Picture}
-use Rattle.gs_mind.proofs.Laws.{stamped_outcome}
+use Rattle.gs_mind.proofs.Laws.{stamped_outcome, view_paged}
 use Rattle.gs_core.specs.Machine.{Agent, State}
 use Rattle.gs_core.specs.Good.{Faces, Good}
 use Rattle.gs_core.specs.Held.{Kept}
@@ -30,20 +30,12 @@ use Rattle.gs_core.proofs.Collecting.{at_is_on, trusted_places}
 use Rattle.gs_core.proofs.OneAgent.{not_both}
 use Rattle.gs_core.proofs.Pages.{IsOnPage, Tells, after_told, each_record, faces_loaded, from_on, given_below, live_among, next_above, next_among, records_among, tells}
 
--- what is known stays as records are taken in
-view_records : (rs : List DumpRecord) (p : Picture) → (after_records rs p).view ≡ p.view
-view_records [] p = refl
-view_records (r ∷ rs) p = view_records rs (after_record r p)
-
-pub view_paged : (rs : List DumpRecord) (p : Picture) → (after_page rs p).view ≡ loaded rs p.view
-view_paged rs p = view_records rs (record p { view = loaded rs p.view })
-
 -- there is a belief of each CPU still, and no stamp more or less
 thinks_told : (t n : ℕ) (o : Option ℕ) (s : Cpus) (slots : List SlotState) → Thinks s slots → Thinks (told_on t n o s) slots
 thinks_told t n None s slots k = k
 thinks_told t n (Some c) s slots k = record { count = count_places c t n s ∙ k.count; named = stamped_outcome outcomes.Placed (Some c) t n s ∙ k.named }
 
-thinks_records : (rs : List DumpRecord) (p : Picture) (slots : List SlotState) → Thinks p.cpus slots → Thinks (after_records rs p).cpus slots
+thinks_records : (rs : List DumpRecord) (p : Picture) (slots : List SlotState) → Thinks p.cpus slots → Thinks (after_page rs p).cpus slots
 thinks_records [] p slots k = k
 thinks_records (r ∷ rs) p slots k = thinks_records rs (after_record r p) slots (thinks_told r.tid r.known.tseq r.cpu p.cpus slots k)
 
@@ -57,7 +49,7 @@ trusted_told h n v page t q None s backs trust = trust
 trusted_told h n v page t q (Some c) s backs trust = trusted_places h n v page c t q s (backs c refl) trust
 
 trusted_records : (h : History) (n : ℕ) (v : Look) (page : Option ℕ) (rs : List DumpRecord) (p : Picture) → AllByRecursion (BacksTold h n v page) rs
-    → Trusted h n v page p.cpus → Trusted h n v page (after_records rs p).cpus
+    → Trusted h n v page p.cpus → Trusted h n v page (after_page rs p).cpus
 trusted_records h n v page [] p backs trust = trust
 trusted_records h n v page (r ∷ rs) p backs trust =
     trusted_records h n v page rs (after_record r p) backs.1 (trusted_told h n v page r.tid r.known.tseq r.cpu p.cpus backs.0 trust)
@@ -66,7 +58,7 @@ trusted_records h n v page (r ∷ rs) p backs trust =
 trusted_among : (s : Settings) (h : History) (n : ℕ) (p : Picture) (a k max : ℕ) → Trusted h n p.view (Some a) p.cpus
     → Trusted h n (loaded (records_among s h a k max) p.view) (next_among s h a k max) (after_page (records_among s h a k max) p).cpus
 trusted_among s h n p a k max trust =
-    trusted_records h n v' next rs (record p { view = v' }) (each_record (BacksTold h n v' next) s h a k max told) (λ c x is. before c x (trust c x is))
+    trusted_records h n v' next rs p (each_record (BacksTold h n v' next) s h a k max told) (λ c x is. before c x (trust c x is))
   where
     rs : List DumpRecord
     rs = records_among s h a k max
@@ -128,7 +120,7 @@ kept_paged m a from max mind there page attaches is k =
       };
       knows = record {
         thinks = λ some. subst (λ (q : Picture). Thinks q.cpus m.slots) (sym is)
-            (thinks_records rs (record old { view = loaded rs old.view }) m.slots (knows.thinks refl));
+            (thinks_records rs old m.slots (knows.thinks refl));
         own_cpu = λ x e. absurd (not_both h (ap (λ o. is_some o) e) attaches);
         idle = knows.idle;
       };

@@ -179,6 +179,21 @@ page_displaces_row = refl
 page_on_none_row : (after_page (told 7 Zero true None ∷ []) (knows (cpus (at 7 5 2) None None None) (queue (8 ∷ []) (9 ∷ [])))).cpus ≡ cpus (at 7 5 2) None None None
 page_on_none_row = refl
 
+-- of two records on one CPU the later thread is believed to run there, and the earlier one waits
+page_twice_row : after_page (told 7 Zero true (Some 1) ∷ told 8 Zero true (Some 1) ∷ []) all_wait
+    ≡ record { view = (after_page (told 7 Zero true (Some 1) ∷ told 8 Zero true (Some 1) ∷ []) all_wait).view; cpus = cpus (at 8 6 0) None None None; queue = queue (7 ∷ []) (9 ∷ []) }
+page_twice_row = refl
+
+-- whom a record displaces begins to wait by what is known so far, and keeps that place at its own record, which says another class
+page_one_at_a_time_row : (after_page (told 7 Zero true (Some 1) ∷ told 9 Zero true None ∷ []) (knows (cpus (at 9 5 2) None None None) (queue (7 ∷ 8 ∷ []) []))).queue
+    ≡ queue (8 ∷ []) (9 ∷ [])
+page_one_at_a_time_row = refl
+
+-- a thread that was known as blocked waits from its own record on
+page_blocked_before_row : (after_page (told 7 Zero true (Some 1) ∷ told 8 Zero true None ∷ told 9 Zero true None ∷ [])
+    (record { view = look_up ((9, known Zero false 5) ∷ []); cpus = cpus (at 9 5 2) None None None; queue = queue [] [] })).queue ≡ queue (8 ∷ 9 ∷ []) []
+page_blocked_before_row = refl
+
 -- past the last CPU no belief is noted
 page_past_row : (after_page (told 7 Zero true (Some 3) ∷ []) all_wait).queue ≡ queue (7 ∷ 8 ∷ []) (9 ∷ [])
 page_past_row = refl

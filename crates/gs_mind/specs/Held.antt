@@ -21,8 +21,8 @@ pub record IsKept (v : Look) (s : Cpus) (q : Queue) : Type 0 where
 
 -- what a mind is to its callers
 abbrev pub mind_view : Inside → MindState
-mind_view i = record { records = i.view; cpus = i.cpus; queue = bare i.queue }
+mind_view i = record { records = i.view.entries; cpus = i.cpus; queue = bare i.queue }
 
 -- what a mind keeps
 abbrev pub IsMind : Inside → Type 0
-IsMind i = IsKept (look_up i.view) i.cpus i.queue
+IsMind i = IsKept (look_up i.view.entries) i.cpus i.queue

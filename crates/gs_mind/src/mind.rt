@@ -73,7 +73,7 @@ impl Mind {
 
     /// Returns what is known of each thread. It does not allocate.
     pub fn view(&self) -> &AgentView
-        ensures { result.now ≡ self.now.records }
+        ensures { result.now.entries ≡ self.now.records }
     {
         &self.view
     }
@@ -129,9 +129,9 @@ impl Mind {
         Ok(taken)
     }
 
-    /// Takes a page in, of threads that live: what it tells of them is known then, whatever was known of
-    /// them before. In increasing order of tid, each of them is believed to run where the page says, and
-    /// begins to wait, goes on or stops. So does whoever was believed to run there.
+    /// Takes a page in, of threads that live, one record at a time, in increasing order of tid. What a record
+    /// tells of its thread is known then, whatever was known of it before. The thread is believed to run where
+    /// the record says, and begins to wait, goes on or stops. So does whoever was believed to run there.
     ///
     /// # Errors
     ///
@@ -142,8 +142,13 @@ impl Mind {
         ensures unchanged { OnErr result (self.new ≡ self.old) }
     {
         make_room_for_page(&mut self.queue, page)?;
-        self.view.load(page)?;
-        take_records(&self.view, &mut self.cpus, &mut self.queue, &page.records);
+        self.view.reserve(page)?;
+        take_records(
+            &mut self.view,
+            &mut self.cpus,
+            &mut self.queue,
+            &page.records,
+        );
         Ok(())
     }
 

@@ -1,11 +1,14 @@
-//! Taking in a page's records, once the view has loaded them.
+//! Taking in a page's records, one at a time.
 
-ghost use Rattle.std.specs.Prelude.{◌≡◌, ◌<◌, ◌≤◌, ◌∷◌, length, OnErr, OnOk};
+ghost use Rattle.std.specs.Prelude.{◌≡◌, ◌<◌, ◌≤◌, ◌+◌, ◌∷◌, ℕ, Some, length, slice_get, OnErr, OnOk};
 ghost use Rattle.std.specs.Option.{option_to_list};
 ghost use Rattle.gs_layout.specs.View.{look_up};
+ghost use Rattle.gs_dump.specs.declared.record.DumpRecord.{DumpRecord as DumpRecordOf};
+ghost use Rattle.gs_view.specs.Loaded.{HasRoomFor, with_record};
+ghost use Rattle.gs_runq.specs.Queue.{IsTid};
 ghost use Rattle.gs_mind.specs.Held.{HasRoom};
 ghost use Rattle.gs_mind.specs.Mind.{bare};
-ghost use Rattle.gs_mind.specs.Pages.{after_records, told_on};
+ghost use Rattle.gs_mind.specs.Pages.{after_page, told_on};
 ghost use Rattle.gs_mind.specs.Picture.{displaced, parts, settled_all};
 
 use crate::waiting::{running_on, settle, settle_if_any};
@@ -33,31 +36,49 @@ pub(crate) fn make_room_for_page(queue: &mut RunQueue, page: &Page) -> Result<()
     Ok(())
 }
 
-/// Takes in the records of threads that the view knows, in order. It does not allocate.
-pub(crate) fn take_records(
-    view: &AgentView,
+/// Takes in the records of a page, one at a time. There is room for them, and it does not allocate.
+pub(crate) fn follow_records(
+    view: &mut AgentView,
     cpus: &mut Beliefs,
     queue: &mut RunQueue,
     threads: &[DumpRecord],
 )
-    requires { HasRoom (look_up view.now) queue.old }
-    ensures picture { parts (look_up view.now) cpus.new queue.new ≡ after_records threads.now (parts (look_up view.now) cpus.old queue.old) }
-    ensures room { HasRoom (look_up view.now) queue.new }
+    requires view_room { HasRoomFor threads.now view.old }
+    requires queue_room { 0 < length threads.now → MOST_TIDS ≤ queue.old.room }
+    requires tids { (i : ℕ) (r : DumpRecordOf) → slice_get threads.now i ≡ Some r → IsTid r.tid }
+    requires room { HasRoom (look_up view.old.entries) queue.old }
+    ensures picture { parts (look_up view.new.entries) cpus.new queue.new ≡ after_page threads.now (parts (look_up view.old.entries) cpus.old queue.old) }
+    ensures room { HasRoom (look_up view.new.entries) queue.new }
 {
     for thread in threads {
-        take_record(view, cpus, queue, thread);
+        follow_record(view, cpus, queue, thread);
     }
 }
 
-/// Takes in the record of a thread that the view knows: the thread is believed to run where the record
+/// Takes in a page's record: what it tells of its thread is known, and the thread is believed to run where it
 /// says. It, and whoever was believed to run there, begins to wait, goes on or stops.
-fn take_record(view: &AgentView, cpus: &mut Beliefs, queue: &mut RunQueue, thread: &DumpRecord)
-    requires { HasRoom (look_up view.now) queue.old }
+#[tactic(auto, using(crate::proofs::Paged::room_set, crate::proofs::Paged::room_told))]
+fn follow_record(
+    view: &mut AgentView,
+    cpus: &mut Beliefs,
+    queue: &mut RunQueue,
+    thread: &DumpRecord,
+)
+    requires place { thread.now.tid < view.old.tids }
+    requires view_room { 0 < view.old.room }
+    requires queue_room { MOST_TIDS ≤ queue.old.room }
+    requires tid { IsTid thread.now.tid }
+    requires room { HasRoom (look_up view.old.entries) queue.old }
+    ensures known { (t : ℕ) → look_up view.new.entries t ≡ with_record thread.now (look_up view.old.entries) t }
+    ensures places { view.new.tids ≡ view.old.tids }
+    ensures view_room { view.old.room ≤ view.new.room + 1 }
     ensures cpus { cpus.new ≡ told_on thread.now.tid thread.now.known.tseq thread.now.cpu cpus.old }
-    ensures queue { queue.new ≡ settled_all (look_up view.now) cpus.new (thread.now.tid ∷ option_to_list (displaced cpus.old thread.now.cpu)) queue.old }
-    ensures room { HasRoom (look_up view.now) queue.new }
+    ensures queue { queue.new ≡ settled_all (look_up view.new.entries) cpus.new (thread.now.tid ∷ option_to_list (displaced cpus.old thread.now.cpu)) queue.old }
+    ensures queue_room { MOST_TIDS ≤ queue.new.room }
+    ensures room { HasRoom (look_up view.new.entries) queue.new }
 {
     let displaced = running_on(cpus, thread.cpu);
+    view.set(thread);
     if let Some(cpu) = thread.cpu {
         cpus.place(cpu, thread.tid, thread.known.tseq);
     }

@@ -27,10 +27,10 @@ pub(crate) fn make_room(
     queue: &mut RunQueue,
     message: &MessageRef<'_>,
 ) -> Result<(), ApplyFault>
-    ensures begun { OnOk result (begins (look_up view.now) message.now ≡ true → MOST_TIDS ≤ queue.new.room) }
+    ensures begun { OnOk result (begins (look_up view.now.entries) message.now ≡ true → MOST_TIDS ≤ queue.new.room) }
     ensures waiting { bare queue.new ≡ bare queue.old }
     ensures room { queue.old.room ≤ queue.new.room }
-    ensures memory { OnErr result (begins (look_up view.now) message.now ≡ true) }
+    ensures memory { OnErr result (begins (look_up view.now.entries) message.now ≡ true) }
     ensures fault { IfErr result (λ fault. fault ≡ ApplyFault.OutOfMemory) }
 {
     if queue.room() < MOST_TIDS && is_begun_by(view, message) {
@@ -41,7 +41,7 @@ pub(crate) fn make_room(
 
 /// Tells whether a message begins a record of the view: it creates a thread of which nothing is known.
 fn is_begun_by(view: &AgentView, message: &MessageRef<'_>) -> bool
-    ensures { result ≡ begins (look_up view.now) message.now }
+    ensures { result ≡ begins (look_up view.now.entries) message.now }
 {
     matches!(message.kind(), Kind::Created) && view.get(message.tid()).is_none()
 }
@@ -49,7 +49,7 @@ fn is_begun_by(view: &AgentView, message: &MessageRef<'_>) -> bool
 /// Returns the class of a thread that waits, `None` if it does not. The CPUs are asked first, of which there
 /// are few.
 fn waiting_class(view: &AgentView, cpus: &Beliefs, tid: u32) -> Option<Class>
-    ensures { result ≡ (if waits (look_up view.now) cpus.now tid then option_map (λ (k : Known). k.facts.class) (look_up view.now tid) else None) }
+    ensures { result ≡ (if waits (look_up view.now.entries) cpus.now tid then option_map (λ (k : Known). k.facts.class) (look_up view.now.entries tid) else None) }
 {
     if cpus.runs(tid) || cpus.names(tid) {
         return None;
@@ -62,9 +62,9 @@ fn waiting_class(view: &AgentView, cpus: &Beliefs, tid: u32) -> Option<Class>
 /// waits already keeps its place. It does not allocate.
 #[tactic(auto, using(crate::proofs::Rooms::room_settled))]
 pub(crate) fn settle(view: &AgentView, cpus: &Beliefs, queue: &mut RunQueue, tid: u32)
-    requires { HasRoom (look_up view.now) queue.old }
-    ensures settled { queue.new ≡ settled (look_up view.now) cpus.now tid queue.old }
-    ensures room { HasRoom (look_up view.now) queue.new }
+    requires { HasRoom (look_up view.now.entries) queue.old }
+    ensures settled { queue.new ≡ settled (look_up view.now.entries) cpus.now tid queue.old }
+    ensures room { HasRoom (look_up view.now.entries) queue.new }
 {
     match waiting_class(view, cpus, tid) {
         None => queue.remove(tid),
@@ -83,9 +83,9 @@ pub(crate) fn settle_if_any(
     queue: &mut RunQueue,
     tid: Option<u32>,
 )
-    requires { HasRoom (look_up view.now) queue.old }
-    ensures settled { queue.new ≡ settled_all (look_up view.now) cpus.now (option_to_list tid) queue.old }
-    ensures room { HasRoom (look_up view.now) queue.new }
+    requires { HasRoom (look_up view.now.entries) queue.old }
+    ensures settled { queue.new ≡ settled_all (look_up view.now.entries) cpus.now (option_to_list tid) queue.old }
+    ensures room { HasRoom (look_up view.now.entries) queue.new }
 {
     if let Some(tid) = tid {
         settle(view, cpus, queue, tid);
@@ -115,9 +115,9 @@ pub(crate) fn requeue(
     queue: &mut RunQueue,
     message: &MessageRef<'_>,
 )
-    requires { HasRoom (look_up view.now) queue.old }
-    ensures requeued { queue.new ≡ requeued (look_up view.now) cpus.now message.now queue.old }
-    ensures room { HasRoom (look_up view.now) queue.new }
+    requires { HasRoom (look_up view.now.entries) queue.old }
+    ensures requeued { queue.new ≡ requeued (look_up view.now.entries) cpus.now message.now queue.old }
+    ensures room { HasRoom (look_up view.now.entries) queue.new }
 {
     if matches!(message.kind(), Kind::TimerTick) {
         return;

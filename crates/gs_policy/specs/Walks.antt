@@ -7,4 +7,4 @@ use Rattle.gs_policy.specs.Candidates.{planned_of}
 
 -- the choices of the threads that come next, among the CPUs that are left
 abbrev pub choices_left : Inside → List Choice
-choices_left s = planned_of s.left (look_up s.view.now) [] s.threads
+choices_left s = planned_of s.left (look_up s.view.now.entries) [] s.threads

@@ -88,7 +88,7 @@ impl Candidates {
     /// Returns the choice of a thread among them, if it has one.
     #[tactic(auto, using(crate::proofs::Left::picked_unknown, crate::proofs::Left::picked_free, crate::proofs::Left::picked_busy))]
     fn pick(self, view: &AgentView, tid: u32) -> Option<Choice>
-        ensures pick { option_to_list result ≡ picked self (look_up view.now) tid }
+        ensures pick { option_to_list result ≡ picked self (look_up view.now.entries) tid }
         ensures below { IfSome result (λ x. x.cpu < MOST_CPUS) }
     {
         let (facts, _) = view.get(tid)?;
@@ -110,8 +110,8 @@ impl Candidates {
     /// Takes out the CPU that a thread chooses among them, and returns the choice, or `None` if it has none.
     /// It does not allocate.
     pub fn take(&mut self, view: &AgentView, tid: u32) -> Option<Choice>
-        ensures choice { option_to_list result ≡ picked self.old (look_up view.now) tid }
-        ensures left { AreLeft self.old self.new (picked self.old (look_up view.now) tid) }
+        ensures choice { option_to_list result ≡ picked self.old (look_up view.now.entries) tid }
+        ensures left { AreLeft self.old self.new (picked self.old (look_up view.now.entries) tid) }
     {
         let choice = self.pick(view, tid)?;
         *self = self.without(choice.cpu);

@@ -11,7 +11,7 @@ use gs_view::AgentView;
 
 /// Returns whether a thread is known, and of class 1.
 fn is_class_one(view: &AgentView, tid: u32) -> bool
-    ensures { result ≡ is_known_one (look_up view.now tid) }
+    ensures { result ≡ is_known_one (look_up view.now.entries tid) }
 {
     let Some((facts, _)) = view.get(tid) else {
         return false;
@@ -22,7 +22,7 @@ fn is_class_one(view: &AgentView, tid: u32) -> bool
 /// Returns whether a CPU is believed to run a thread of class 1 that has had so many ticks. The view is asked
 /// last, since that is a search.
 fn has_had(view: &AgentView, cpus: &CpuBeliefs<'_>, ticks: u16, cpu: u16) -> bool
-    ensures { result ≡ has_had ticks (look_up view.now) (believed_on cpus.now.beliefs.now cpu) }
+    ensures { result ≡ has_had ticks (look_up view.now.entries) (believed_on cpus.now.beliefs.now cpu) }
 {
     let Some(running) = cpus.believed(cpu) else {
         return false;
@@ -39,7 +39,7 @@ pub(crate) fn those_that_have_had(
     ticks: u16,
     among: Mask,
 ) -> Mask
-    ensures { (c : ℕ) → has result c ≡ (has among c && has_had ticks (look_up view.now) (believed_on cpus.now.beliefs.now c)) }
+    ensures { (c : ℕ) → has result c ≡ (has among c && has_had ticks (look_up view.now.entries) (believed_on cpus.now.beliefs.now c)) }
 {
     let mut found = Mask::none();
     let mut left = among;
@@ -53,7 +53,7 @@ pub(crate) fn those_that_have_had(
 /// Returns the usable CPUs that are believed to run a thread of class 1 that has had at least so many ticks.
 /// It does not allocate.
 pub fn class_one_cpus(view: &AgentView, cpus: &CpuBeliefs<'_>, ticks: u16) -> Mask
-    ensures { (c : ℕ) → has result c ≡ (is_usable cpus.now.beliefs.now (has cpus.now.taken) c && has_had ticks (look_up view.now) (believed_on cpus.now.beliefs.now c)) }
+    ensures { (c : ℕ) → has result c ≡ (is_usable cpus.now.beliefs.now (has cpus.now.taken) c && has_had ticks (look_up view.now.entries) (believed_on cpus.now.beliefs.now c)) }
 {
     those_that_have_had(view, cpus, ticks, cpus.busy())
 }

@@ -13,5 +13,5 @@ use gs_view::AgentView;
 pub trait Counted: Policy {
     /// Returns how many choices the plan has. It does not allocate, and changes nothing.
     fn count(&self, view: &AgentView, cpus: &CpuBeliefs<'_>, queue: &RunQueue) -> usize
-        ensures { result ≡ length (Self.chosen self.now (shows view.now cpus.now queue.now)) };
+        ensures { result ≡ length (Self.chosen self.now (shows view.now.entries cpus.now queue.now)) };
 }

@@ -36,7 +36,7 @@ pub trait Policy {
         cpus: &CpuBeliefs<'_>,
         queue: &RunQueue,
     ) -> Result<Vec<Choice>, AllocError>
-        ensures { IfOk result (λ r. r.items ≡ chosen self.now (shows view.now cpus.now queue.now)) };
+        ensures { IfOk result (λ r. r.items ≡ chosen self.now (shows view.now.entries cpus.now queue.now)) };
 
     /// Law: of threads that wait, each once, the plan is safe to stamp.
     ghost safe: { (p : Self) (s : Shown) → Apart s.queue → IsSafePlan s (chosen p s) };

@@ -27,7 +27,7 @@ impl TwoClass {
     /// Returns the free CPUs, and those that a thread of each class may take from one of class 1: the plan
     /// among them is this policy's. If the free CPUs serve all that wait, no other CPU is looked at.
     fn candidates(&self, view: &AgentView, cpus: &CpuBeliefs<'_>, queue: &RunQueue) -> Candidates
-        ensures { plan_among result (shows view.now cpus.now queue.now) ≡ plan (class_one_after self.now.slice) (shows view.now cpus.now queue.now) }
+        ensures { plan_among result (shows view.now.entries cpus.now queue.now) ≡ plan (class_one_after self.now.slice) (shows view.now.entries cpus.now queue.now) }
     {
         if serve_all(view, queue, free_alone(cpus)) {
             return free_alone(cpus);

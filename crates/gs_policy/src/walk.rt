@@ -55,7 +55,7 @@ impl<'a> Iterator for Choices<'a> {
 /// Walks the choices of all that wait. There are no more of them than threads.
 #[tactic(auto, using(crate::proofs::Left::planned_few))]
 fn choose<'a>(view: &'a AgentView, queue: &'a RunQueue, all: Candidates) -> Choices<'a>
-    ensures choices { result ≡ choices_of all (look_up view.now) (order queue.now) }
+    ensures choices { result ≡ choices_of all (look_up view.now.entries) (order queue.now) }
     ensures few { length result ≤ length (order queue.now) }
 {
     Choices {
@@ -82,7 +82,7 @@ pub fn plan_among(
     queue: &RunQueue,
     all: Candidates,
 ) -> Result<Vec<Choice>, AllocError>
-    ensures { IfOk result (λ r. r.items ≡ plan_among all (shows view.now cpus.now queue.now)) }
+    ensures { IfOk result (λ r. r.items ≡ plan_among all (shows view.now.entries cpus.now queue.now)) }
 {
     let most = queue.len().min(cpus.cpus() as usize);
     let mut plan = Vec::with_capacity(alloc, most)?;
@@ -92,7 +92,7 @@ pub fn plan_among(
 
 /// Returns how many choices [`plan_among`] makes of these CPUs. It does not allocate.
 pub fn count_among(view: &AgentView, queue: &RunQueue, all: Candidates) -> usize
-    ensures { result ≡ length (choices_of all (look_up view.now) (order queue.now)) }
+    ensures { result ≡ length (choices_of all (look_up view.now.entries) (order queue.now)) }
 {
     // No more choices than threads that wait, so that their number fits.
     let _most = queue.len();
@@ -102,7 +102,7 @@ pub fn count_among(view: &AgentView, queue: &RunQueue, all: Candidates) -> usize
 /// Returns whether these CPUs serve all that wait: each has a choice among them. It does not allocate, and
 /// goes through no more threads than there may be CPUs.
 pub(crate) fn serve_all(view: &AgentView, queue: &RunQueue, all: Candidates) -> bool
-    ensures { result ≡ true → length (choices_of all (look_up view.now) (order queue.now)) ≡ length (order queue.now) }
+    ensures { result ≡ true → length (choices_of all (look_up view.now.entries) (order queue.now)) ≡ length (order queue.now) }
 {
     let waiting = queue.len();
     if waiting > MOST_CPUS as usize {

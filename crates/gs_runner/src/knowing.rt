@@ -31,7 +31,7 @@ fn is_known(kernel: &Kernel<RtrbPoster>, tid: u32, facts: &Facts, tseq: u32) -> 
 
 /// Returns whether a view knows of a thread what the kernel knows.
 fn is_same(view: &AgentView, kernel: &Kernel<RtrbPoster>, tid: u32) -> bool
-    ensures { IsTrue result ↔ (look_up view.now tid ≡ state kernel.now.settings.first_tseq kernel.now.history tid) }
+    ensures { IsTrue result ↔ (look_up view.now.entries tid ≡ state kernel.now.settings.first_tseq kernel.now.history tid) }
 {
     match view.get(tid) {
         Some((facts, tseq)) => is_known(kernel, tid, facts, tseq),
@@ -41,8 +41,8 @@ fn is_same(view: &AgentView, kernel: &Kernel<RtrbPoster>, tid: u32) -> bool
 
 /// Returns whether the kernel knows all that a view knows.
 fn are_known(view: &AgentView, kernel: &Kernel<RtrbPoster>) -> bool
-    ensures exact { IsTrue result ↔ AreKnown (state kernel.now.settings.first_tseq kernel.now.history) view.now }
-    ensures listed { AreKnown (look_up view.now) view.now }
+    ensures exact { IsTrue result ↔ AreKnown (state kernel.now.settings.first_tseq kernel.now.history) view.now.entries }
+    ensures listed { AreKnown (look_up view.now.entries) view.now.entries }
 {
     for (tid, facts, tseq) in view.walk() {
         if !is_known(kernel, tid, facts, tseq) {
@@ -54,7 +54,7 @@ fn are_known(view: &AgentView, kernel: &Kernel<RtrbPoster>) -> bool
 
 /// Returns whether a view knows of each thread that ever was what the kernel knows.
 fn are_same(view: &AgentView, kernel: &Kernel<RtrbPoster>) -> bool
-    ensures exact { IsTrue result ↔ AreSame (state kernel.now.settings.first_tseq kernel.now.history) (look_up view.now) (length (created kernel.now.history)) }
+    ensures exact { IsTrue result ↔ AreSame (state kernel.now.settings.first_tseq kernel.now.history) (look_up view.now.entries) (length (created kernel.now.history)) }
     ensures others { (t : ℕ) → (t ≡ 0) ⊎ (length (created kernel.now.history) < t) → state kernel.now.settings.first_tseq kernel.now.history t ≡ None }
 {
     let count = kernel.created() as u32;
@@ -70,7 +70,7 @@ fn are_same(view: &AgentView, kernel: &Kernel<RtrbPoster>) -> bool
 
 /// Returns whether a view is what the kernel knows of the threads that live. It does not allocate.
 pub(crate) fn knows_all(view: &AgentView, kernel: &Kernel<RtrbPoster>) -> bool
-    ensures { IsTrue result ↔ (look_up view.now ≡ state kernel.now.settings.first_tseq kernel.now.history) }
+    ensures { IsTrue result ↔ (look_up view.now.entries ≡ state kernel.now.settings.first_tseq kernel.now.history) }
 {
     are_known(view, kernel) && are_same(view, kernel)
 }

@@ -5,3 +5,4 @@ mod Loading
 mod Rows
 mod Showing
 mod Steps
+pub mod Laws

@@ -7,69 +7,66 @@ use Rattle.gs_layout.specs.declared.known.Known.{Known}
 use Rattle.gs_layout.specs.View.{Look}
 use Rattle.gs_dump.specs.declared.record.DumpRecord.{DumpRecord}
 use Rattle.gs_dump.specs.Page.{rises}
-use Rattle.gs_view.specs.Loaded.{loaded, or_known, told_of}
-use Rattle.gs_view.specs.Records.{with_known}
+use Rattle.gs_view.specs.Loaded.{loaded, or_known, told_of, with_record}
 
--- no record before the one at a place is of its thread, and each is above the number that the tids begin above
-above_earlier : (last : ℕ) (rs : List DumpRecord) (next : Option ℕ) → rises last rs next ≡ true → (i : ℕ) (r : DumpRecord) → slice_get rs i ≡ Some r
-    → (told_of (take i rs) r.tid ≡ None) × (last < r.tid)
-above_earlier last [] next up i r e = absurd cc
-above_earlier last (x ∷ xs) next up zero r e = (refl, by_first (nat_lt last x.tid) refl)
-  where
-    same : x ≡ r
-    same = cc
-
-    by_first : (b : Bool) → nat_lt last x.tid ≡ b → last < r.tid
-    by_first true f = let below : last < x.tid = grind (arith, nat_tests) in omega (arith, below, ap (λ (y : DumpRecord). y.tid) same)
-    by_first false f = absurd (let both = and_parts (nat_lt last x.tid) (rises x.tid xs next) up in cc)
-above_earlier last (x ∷ xs) next up (suc i) r e =
+-- each record's tid is above the number that the tids begin above
+above_first : (last : ℕ) (rs : List DumpRecord) (next : Option ℕ) → rises last rs next ≡ true → (i : ℕ) (r : DumpRecord) → slice_get rs i ≡ Some r → last < r.tid
+above_first last [] next up i r e = absurd cc
+above_first last (x ∷ xs) next up zero r e =
     let both = and_parts (nat_lt last x.tid) (rises x.tid xs next) up in
-    let later = above_earlier x.tid xs next both.1 i r e in
-    (ap (λ (b : Bool). cond b (Some x.known) (told_of (take i xs) r.tid)) (apart x.tid r.tid later.1) ∙ later.0, above both.0 later.1)
+    let below : last < x.tid = grind (arith, nat_tests, both.0) in
+    let same : x ≡ r = cc in
+    omega (arith, below, ap (λ (y : DumpRecord). y.tid) same)
+above_first last (x ∷ xs) next up (suc i) r e =
+    let both = and_parts (nat_lt last x.tid) (rises x.tid xs next) up in
+    let below : last < x.tid = grind (arith, nat_tests, both.0) in
+    omega (arith, below, above_first x.tid xs next both.1 i r e)
+
+pub or_none : (o : Option Known) → or_known o None ≡ o
+or_none None = refl
+or_none (Some k) = refl
+
+or_or : (a b c : Option Known) → or_known (or_known a b) c ≡ or_known a (or_known b c)
+or_or None b c = refl
+or_or (Some k) b c = refl
+
+-- what one record says of a thread
+abbrev own : DumpRecord → ℕ → Option Known
+own r t = cond (r.tid == t) (Some r.known) None
+
+told_push : (rs : List DumpRecord) (r : DumpRecord) (t : ℕ) → told_of (rs ++ r ∷ []) t ≡ or_known (own r t) (told_of rs t)
+told_push [] r t = sym (or_none (own r t))
+told_push (x ∷ xs) r t = ap (λ (o : Option Known). or_known o (own x t)) (told_push xs r t) ∙ or_or (own r t) (told_of xs t) (own x t)
+
+-- a record that is set: of its thread what it says, of all others what was known
+pub set_own : (r : DumpRecord) (v : Look) (t : ℕ) → with_record r v t ≡ or_known (own r t) (v t)
+set_own r v t = by_test (r.tid == t)
   where
-    apart : (a b : ℕ) → a < b → (a == b) ≡ false
-    apart a b lt = grind (arith, nat_tests)
+    by_test : (b : Bool) → cond b (Some r.known) (v t) ≡ or_known (cond b (Some r.known) None) (v t)
+    by_test true = refl
+    by_test false = refl
 
-    above : nat_lt last x.tid ≡ true → x.tid < r.tid → last < r.tid
-    above first lt = let below : last < x.tid = grind (arith, nat_tests) in omega (arith, below, lt)
+-- one record more
+loaded_push : (rs : List DumpRecord) (r : DumpRecord) (v : Look) (t : ℕ) → loaded (rs ++ r ∷ []) v t ≡ with_record r (loaded rs v) t
+loaded_push rs r v t =
+    ap (λ (o : Option Known). or_known o (v t)) (told_push rs r t) ∙ (or_or (own r t) (told_of rs t) (v t) ∙ sym (set_own r (loaded rs v) t))
 
-told_push : (rs : List DumpRecord) (r : DumpRecord) (t : ℕ) → told_of (rs ++ r ∷ []) t ≡ or_known (told_of rs t) (told_of (r ∷ []) t)
-told_push [] r t = refl
-told_push (x ∷ xs) r t = by_test (x.tid == t) (told_push xs r t)
+-- records are loaded one after another
+pub loaded_first : (r : DumpRecord) (rs : List DumpRecord) (v : Look) → loaded rs (with_record r v) ≡ loaded (r ∷ rs) v
+loaded_first r rs v = λ i. λ t. at t i
   where
-    by_test : (b : Bool) → told_of (xs ++ r ∷ []) t ≡ or_known (told_of xs t) (told_of (r ∷ []) t)
-        → cond b (Some x.known) (told_of (xs ++ r ∷ []) t) ≡ or_known (cond b (Some x.known) (told_of xs t)) (told_of (r ∷ []) t)
-    by_test true later = refl
-    by_test false later = later
-
--- one record more, whose thread none of those before is of
-loaded_push : (rs : List DumpRecord) (r : DumpRecord) (v : Look) → told_of rs r.tid ≡ None → (t : ℕ)
-    → loaded (rs ++ r ∷ []) v t ≡ loaded (r ∷ []) (loaded rs v) t
-loaded_push rs r v none t = ap (λ (o : Option Known). or_known o (v t)) (told_push rs r t) ∙ by_test (r.tid == t) refl
-  where
-    joined : (o : Option Known) → or_known (or_known o None) (v t) ≡ or_known o (v t)
-    joined None = refl
-    joined (Some k) = refl
-
-    by_test : (b : Bool) → (r.tid == t) ≡ b
-        → or_known (or_known (told_of rs t) (cond b (Some r.known) None)) (v t) ≡ or_known (cond b (Some r.known) None)
-        (or_known (told_of rs t) (v t))
-    by_test true e = ap (λ (o : Option Known). or_known (or_known o (Some r.known)) (v t)) untold ∙ refl
-      where
-        untold : told_of rs t ≡ None
-        untold = ap (told_of rs) (sym (eqb-true r.tid t e)) ∙ none
-    by_test false e = joined (told_of rs t)
+    at : (t : ℕ) → loaded rs (with_record r v) t ≡ loaded (r ∷ rs) v t
+    at t = ap (λ (o : Option Known). or_known (told_of rs t) o) (set_own r v t) ∙ sym (or_or (told_of rs t) (own r t) (v t))
 
 -- a page's records are loaded up to one, and then that one
-pub loaded_more : (rs : List DumpRecord) (next : Option ℕ) → rises 0 rs next ≡ true → (i : ℕ) (r : DumpRecord) → slice_get rs i ≡ Some r
-    → take (i + 1) rs ≡ take i rs ++ r ∷ [] → (v v' v'' : Look) → v' ≡ loaded (take i rs) v → ((t : ℕ) → v'' t ≡ loaded (r ∷ []) v' t)
-    → v'' ≡ loaded (take (i + 1) rs) v
-loaded_more rs next up i r found more v v' v'' before here = λ j. λ t. at t j
+pub loaded_more : (rs : List DumpRecord) (i : ℕ) (r : DumpRecord) → take (i + 1) rs ≡ take i rs ++ r ∷ [] → (v v' v'' : Look)
+    → v' ≡ loaded (take i rs) v → ((t : ℕ) → v'' t ≡ with_record r v' t) → v'' ≡ loaded (take (i + 1) rs) v
+loaded_more rs i r more v v' v'' before here = λ j. λ t. at t j
   where
     at : (t : ℕ) → v'' t ≡ loaded (take (i + 1) rs) v t
     at t =
-        here t ∙ (ap (λ (x : Look). loaded (r ∷ []) x t) before
-        ∙ (sym (loaded_push (take i rs) r v (above_earlier 0 rs next up i r found).0 t) ∙ ap (λ (xs : List DumpRecord). loaded xs v t) (sym more)))
+        here t ∙ (ap (λ (x : Look). with_record r x t) before
+        ∙ (sym (loaded_push (take i rs) r v t) ∙ ap (λ (xs : List DumpRecord). loaded xs v t) (sym more)))
 
 -- no record's tid is above that of a later one
 pub upto_later : (last : ℕ) (rs : List DumpRecord) (next : Option ℕ) → rises last rs next ≡ true → (i j : ℕ) (r s : DumpRecord) → i ≤ j
@@ -78,18 +75,10 @@ upto_later last [] next up i j r s le e f = absurd cc
 upto_later last (x ∷ xs) next up zero zero r s le e f = let same : r ≡ s = cc in omega (arith, ap (λ (y : DumpRecord). y.tid) same)
 upto_later last (x ∷ xs) next up zero (suc j) r s le e f =
     let both = and_parts (nat_lt last x.tid) (rises x.tid xs next) up in
-    let later = above_earlier x.tid xs next both.1 j s f in
+    let later = above_first x.tid xs next both.1 j s f in
     let same : x ≡ r = cc in
-    omega (arith, ap (λ (y : DumpRecord). y.tid) same, later.1)
+    omega (arith, ap (λ (y : DumpRecord). y.tid) same, later)
 upto_later last (x ∷ xs) next up (suc i) zero r s le e f = absurd (omega (arith, le))
 upto_later last (x ∷ xs) next up (suc i) (suc j) r s le e f =
     let both = and_parts (nat_lt last x.tid) (rises x.tid xs next) up in
     upto_later x.tid xs next both.1 i j r s (omega (arith, le)) e f
-
--- a record is loaded if what it says is made known
-pub loaded_one : (r : DumpRecord) (v : Look) (t : ℕ) → with_known r.tid (Some r.known) v t ≡ loaded (r ∷ []) v t
-loaded_one r v t = by_test (r.tid == t)
-  where
-    by_test : (b : Bool) → cond b (Some r.known) (v t) ≡ or_known (cond b (Some r.known) None) (v t)
-    by_test true = refl
-    by_test false = refl

@@ -1,25 +1,25 @@
-ghost use Rattle.std.specs.Prelude.{◌≡◌, ◌≢◌, ◌↔◌, ◌==◌, ℕ, true, false, [], length, All, IfOk, OnOk, OnErr};
+ghost use Rattle.std.specs.Prelude.{◌≡◌, ◌≢◌, ◌↔◌, ◌==◌, ◌<◌, ◌≤◌, ◌+◌, ℕ, true, false, [], length, All, IfOk, OnOk, OnErr};
 ghost use Rattle.std.specs.List.Sorted.{IsStrictlyIncreasing};
 ghost use Rattle.gs_layout.specs.Spelling.{kind_of, tid_of};
 ghost use Rattle.gs_layout.specs.View.{apply, is_gap, look_up, word};
 ghost use Rattle.gs_view.specs.Begins.{begins};
-ghost use Rattle.gs_view.specs.Loaded.{loaded};
+ghost use Rattle.gs_view.specs.Loaded.{HasRoomFor, loaded, with_record};
 ghost use Rattle.gs_view.specs.Shown.{if_shown, tids};
 ghost use Rattle.gs_view.specs.Taken.{word_of};
 
 use crate::fault::ApplyFault;
-use crate::load::load_page;
+use crate::load::{known_in, load_page, reserve_for};
 use crate::records::Records;
 use crate::taken::Taken;
 use crate::walk::Walk;
-use gs_dump::Page;
+use gs_dump::{DumpRecord, Page};
 use gs_layout::{Change, Facts, Kind, Known, Message};
 use gs_reader::MessageRef;
 use std::alloc::{AllocError, Global};
 use std::marker::Model;
 
 /// What the agent knows of each thread: its facts, at a sequence number. Clauses see the records in
-/// increasing order of tid.
+/// increasing order of tid (`entries`), and how much room there is.
 ///
 /// A look-up, and the taking in of a message, take the same time for any number of records. It allocates the
 /// records, and a place for each tid up to the greatest that was seen.
@@ -29,18 +29,17 @@ pub struct AgentView {
 }
 
 impl Model for AgentView {
-    ghost use Rattle.std.specs.Prelude.{List, ℕ};
-    ghost use Rattle.gs_layout.specs.declared.known.Known.{Known};
+    ghost use Rattle.gs_view.specs.Records.{RecordsState};
 
-    ghost Value = { List (ℕ × Known) };
+    ghost Value = { RecordsState };
 
-    ghost view = { λ v. v.records.entries };
+    ghost view = { λ v. v.records };
 }
 
 impl AgentView {
     /// Makes a view that knows nothing. It does not allocate.
     pub fn new(alloc: Global) -> AgentView
-        ensures { result ≡ [] }
+        ensures { result.entries ≡ [] }
     {
         AgentView {
             records: Records::new(alloc),
@@ -49,14 +48,14 @@ impl AgentView {
 
     /// Returns of how many threads something is known.
     pub fn len(&self) -> usize
-        ensures { result ≡ length self.now }
+        ensures { result ≡ length self.now.entries }
     {
         self.records.len()
     }
 
     /// Returns whether nothing is known of any thread.
     pub fn is_empty(&self) -> bool
-        ensures { result ≡ (length self.now == 0) }
+        ensures { result ≡ (length self.now.entries == 0) }
     {
         self.records.len() == 0
     }
@@ -64,7 +63,7 @@ impl AgentView {
     /// Lends the facts of a thread and returns the sequence number at which they were so, or `None` if nothing
     /// is known. It does not allocate.
     pub fn get(&self, tid: u32) -> Option<(&Facts, u32)>
-        ensures { if_shown result ≡ look_up self.now tid }
+        ensures { if_shown result ≡ look_up self.now.entries tid }
     {
         let known = self.records.get(tid)?;
         Some((&known.facts, known.tseq))
@@ -73,9 +72,9 @@ impl AgentView {
     /// Walks all that is known, in increasing order of tid: of each thread its tid, its facts, and the sequence
     /// number at which they were so. It does not allocate.
     pub fn walk(&self) -> Walk<'_>
-        ensures whole { result ≡ self.now }
-        ensures rising { IsStrictlyIncreasing (tids self.now) }
-        ensures found { All (λ entry. look_up self.now entry.0 ≡ Some entry.1) self.now }
+        ensures whole { result ≡ self.now.entries }
+        ensures rising { IsStrictlyIncreasing (tids self.now.entries) }
+        ensures found { All (λ entry. look_up self.now.entries entry.0 ≡ Some entry.1) self.now.entries }
     {
         self.records.walk()
     }
@@ -89,11 +88,11 @@ impl AgentView {
     /// between are missing. `OutOfMemory` if out of memory for the record of a thread that the message
     /// creates and of which nothing is known. Then nothing changes, and the message can be taken in later.
     pub fn apply(&mut self, message: MessageRef<'_>) -> Result<Taken, ApplyFault>
-        ensures word { IfOk result (λ taken. word (look_up self.old) message.entry ≡ word_of taken) }
-        ensures known { OnOk result ((t : ℕ) → look_up self.new t ≡ apply (look_up self.old) message.entry t) }
-        ensures unchanged { OnErr result (self.new ≡ self.old) }
-        ensures gap { (result ≡ Err ApplyFault.Gap) ↔ (is_gap (word (look_up self.old) message.entry) ≡ true) }
-        ensures memory { result ≡ Err ApplyFault.OutOfMemory → begins (look_up self.old) message.entry ≡ true }
+        ensures word { IfOk result (λ taken. word (look_up self.old.entries) message.entry ≡ word_of taken) }
+        ensures known { OnOk result ((t : ℕ) → look_up self.new.entries t ≡ apply (look_up self.old.entries) message.entry t) }
+        ensures unchanged { OnErr result (self.new.entries ≡ self.old.entries) }
+        ensures gap { (result ≡ Err ApplyFault.Gap) ↔ (is_gap (word (look_up self.old.entries) message.entry) ≡ true) }
+        ensures memory { result ≡ Err ApplyFault.OutOfMemory → begins (look_up self.old.entries) message.entry ≡ true }
     {
         let kind = message.kind();
         if kind == Kind::TimerTick {
@@ -118,6 +117,30 @@ impl AgentView {
         Ok(Taken::Applied)
     }
 
+    /// Makes room for the records of a page, so that [`AgentView::set`] can set each of them.
+    ///
+    /// # Errors
+    ///
+    /// `AllocError` if out of memory. Either way what is known stays.
+    pub fn reserve(&mut self, page: &Page) -> Result<(), AllocError>
+        ensures room { OnOk result (HasRoomFor page.now.records self.new) }
+        ensures same { self.new.entries ≡ self.old.entries }
+    {
+        reserve_for(&mut self.records, page)
+    }
+
+    /// Sets a page's record: what it tells of its thread is known then, whatever was known of it before. There
+    /// is room, so it does not allocate.
+    pub fn set(&mut self, thread: &DumpRecord)
+        requires place { thread.now.tid < self.old.tids }
+        requires room { 0 < self.old.room }
+        ensures known { (t : ℕ) → look_up self.new.entries t ≡ with_record thread.now (look_up self.old.entries) t }
+        ensures places { self.new.tids ≡ self.old.tids }
+        ensures room { self.old.room ≤ self.new.room + 1 }
+    {
+        self.records.put(thread.tid, known_in(thread));
+    }
+
     /// Loads a page: what it tells of its threads is known then, whatever was known of them before. Of all
     /// other threads nothing changes. It takes as many look-ups as the page has records.
     ///
@@ -125,8 +148,8 @@ impl AgentView {
     ///
     /// `AllocError` if out of memory for its records. Then nothing changes.
     pub fn load(&mut self, page: &Page) -> Result<(), AllocError>
-        ensures known { OnOk result ((t : ℕ) → look_up self.new t ≡ loaded page.now.records (look_up self.old) t) }
-        ensures unchanged { OnErr result (self.new ≡ self.old) }
+        ensures known { OnOk result ((t : ℕ) → look_up self.new.entries t ≡ loaded page.now.records (look_up self.old.entries) t) }
+        ensures unchanged { OnErr result (self.new.entries ≡ self.old.entries) }
     {
         load_page(&mut self.records, page)
     }
@@ -134,11 +157,11 @@ impl AgentView {
     /// Takes in a message about a thread of which nothing is known.
     fn begin(&mut self, message: &MessageRef<'_>) -> Result<Taken, ApplyFault>
         requires thread { kind_of message.now ≢ Kind.TimerTick }
-        requires unknown { look_up self.old (tid_of message.now) ≡ None }
-        ensures word { IfOk result (λ taken. word (look_up self.old) message.now ≡ word_of taken) }
-        ensures known { OnOk result ((t : ℕ) → look_up self.new t ≡ apply (look_up self.old) message.now t) }
-        ensures unchanged { OnErr result (self.new ≡ self.old) }
-        ensures memory { OnErr result (begins (look_up self.old) message.now ≡ true) }
+        requires unknown { look_up self.old.entries (tid_of message.now) ≡ None }
+        ensures word { IfOk result (λ taken. word (look_up self.old.entries) message.now ≡ word_of taken) }
+        ensures known { OnOk result ((t : ℕ) → look_up self.new.entries t ≡ apply (look_up self.old.entries) message.now t) }
+        ensures unchanged { OnErr result (self.new.entries ≡ self.old.entries) }
+        ensures memory { OnErr result (begins (look_up self.old.entries) message.now ≡ true) }
         ensures no_gap { result ≢ Err ApplyFault.Gap }
     {
         if message.kind() != Kind::Created {

@@ -41,7 +41,7 @@ impl RoundRobin {
 
     /// Tells whether a CPU is usable and believed to run a known thread that has had its slice.
     fn turn_is_over(&self, view: &AgentView, cpus: &CpuBeliefs<'_>, cpu: u16) -> bool
-        ensures { result ≡ turn_is_over self.now (look_up view.now) cpus.now.beliefs.now (has cpus.now.taken) cpu }
+        ensures { result ≡ turn_is_over self.now (look_up view.now.entries) cpus.now.beliefs.now (has cpus.now.taken) cpu }
     {
         if !cpus.is_usable(cpu) {
             return false;
@@ -58,7 +58,7 @@ impl RoundRobin {
     /// Returns the CPUs whose threads have had their slices.
     #[tactic(auto, using(gs_status::proofs::Laws::marked_if))]
     fn spent_cpus(&self, view: &AgentView, cpus: &CpuBeliefs<'_>) -> Mask
-        ensures { (c : ℕ) → has result c ≡ turn_is_over self.now (look_up view.now) cpus.now.beliefs.now (has cpus.now.taken) c }
+        ensures { (c : ℕ) → has result c ≡ turn_is_over self.now (look_up view.now.entries) cpus.now.beliefs.now (has cpus.now.taken) c }
     {
         let mut mask = Mask::none();
         for cpu in 0..cpus.cpus() {
@@ -70,7 +70,7 @@ impl RoundRobin {
     /// Returns the free CPUs, and those that a thread of either class may take: the plan among them is this
     /// policy's.
     fn candidates(&self, view: &AgentView, cpus: &CpuBeliefs<'_>) -> Candidates
-        ensures { (queue : Queue) → plan_among result (shows view.now cpus.now queue) ≡ plan (turn_takes self.now) (shows view.now cpus.now queue) }
+        ensures { (queue : Queue) → plan_among result (shows view.now.entries cpus.now queue) ≡ plan (turn_takes self.now) (shows view.now.entries cpus.now queue) }
     {
         let spent = self.spent_cpus(view, cpus);
         Candidates::new(cpus, spent, spent)

@@ -17,7 +17,7 @@ pub(super) struct FirstOnly;
 /// The least free CPU of a thread's mask.
 #[tactic(auto, using(gs_status::proofs::Laws::least_same))]
 fn free_for(view: &AgentView, cpus: &CpuBeliefs<'_>, tid: u32) -> Option<u16>
-    ensures { result ≡ free_for cpus.now.beliefs.now (has cpus.now.taken) (look_up view.now tid) }
+    ensures { result ≡ free_for cpus.now.beliefs.now (has cpus.now.taken) (look_up view.now.entries tid) }
 {
     let (facts, _) = view.get(tid)?;
     cpus.free().both(facts.mask).lowest()

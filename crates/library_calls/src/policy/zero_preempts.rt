@@ -20,7 +20,7 @@ pub(super) struct ZeroPreempts;
 
 /// The free CPUs, and those that a thread of class 0 may take: the plan among them is this policy's.
 fn candidates(view: &AgentView, cpus: &CpuBeliefs<'_>) -> Candidates
-    ensures { (queue : Queue) → plan_among result (shows view.now cpus.now queue) ≡ plan zero_takes (shows view.now cpus.now queue) }
+    ensures { (queue : Queue) → plan_among result (shows view.now.entries cpus.now queue) ≡ plan zero_takes (shows view.now.entries cpus.now queue) }
 {
     Candidates::new(cpus, class_one_cpus(view, cpus, 0), Mask::none())
 }

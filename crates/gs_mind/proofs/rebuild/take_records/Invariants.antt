@@ -1,13 +1,19 @@
-use Rattle.std.proofs.Common.{◌≡◌, take}
+use Rattle.std.proofs.Common.{◌≡◌, ◌+◌, ◌<◌, ◌≤◌, ℕ, Some, length, slice_get, take}
+use Rattle.gs_layout.specs.declared.message.TheConstants.{MOST_TIDS}
 use Rattle.gs_layout.specs.View.{look_up}
+use Rattle.gs_dump.specs.declared.record.DumpRecord.{DumpRecord}
 use Rattle.gs_mind.specs.Held.{HasRoom}
-use Rattle.gs_mind.specs.Pages.{after_records}
+use Rattle.gs_mind.specs.Pages.{after_page}
 use Rattle.gs_mind.specs.Picture.{parts}
 use Rattle.gs_mind.proofs.rebuild.take_records.Given as goal
 
 abbrev pub invariant-loop-thread : goal.invariant-loop-thread
 invariant-loop-thread l =
     record {
-      picture : parts (look_up l.view) l.cpus l.queue ≡ after_records (take l.thread-index l.threads) (parts (look_up l.view) l.initial.cpus l.initial.queue);
-      room : HasRoom (look_up l.view) l.queue;
+      places : (i : ℕ) (r : DumpRecord) → slice_get l.threads i ≡ Some r → r.tid < l.view.tids;
+      view_room : length l.threads ≤ l.view.room + l.thread-index;
+      queue_room : 0 < length l.threads → MOST_TIDS ≤ l.queue.room;
+      picture : parts (look_up l.view.entries) l.cpus l.queue
+          ≡ after_page (take l.thread-index l.threads) (parts (look_up l.initial.view.entries) l.initial.cpus l.initial.queue);
+      room : HasRoom (look_up l.view.entries) l.queue;
     }

@@ -11,7 +11,7 @@ returns-clause-requeued c =
     let q = c.args.queue.now in
     let turn = λ (b : Bool). cond b (removed c.tid-tid.result q) q in
     let no_tick : c.kind.result ≢ kinds.TimerTick = elim c.match-matches.branch [ in-TimerTick w ↦ absurd cc | in_default w ↦ w.in_default.not-TimerTick ] in
-    requeued_by (look_up c.args.view.now) c.args.cpus.now q c.if-ends_turn.queue c.settle.new.queue c.args.message.now c.kind.result c.tid-tid.result c.kind.ensures no_tick c.tid-tid.ensures
+    requeued_by (look_up c.args.view.now.entries) c.args.cpus.now q c.if-ends_turn.queue c.settle.new.queue c.args.message.now c.kind.result c.tid-tid.result c.kind.ensures no_tick c.tid-tid.ensures
     (elim c.if-ends_turn.branch [
       | then-ends_turn w ↦ w.queue-is ∙ (w.remove.ensures ∙ ap turn (sym w.if-ends_turn.true ∙ c.ends_turn.ensures))
       | else-ends_turn w ↦ w.queue-is ∙ ap turn (sym w.if-ends_turn.false ∙ c.ends_turn.ensures)

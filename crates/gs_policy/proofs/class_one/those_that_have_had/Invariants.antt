@@ -7,7 +7,7 @@ use Rattle.gs_policy.proofs.Gathered.{IsGathered}
 use Rattle.gs_policy.proofs.class_one.those_that_have_had.Given as goal
 
 abbrev pub invariant-loop-cpu : goal.invariant-loop-cpu
-invariant-loop-cpu l = IsGathered (λ c. has_had l.ticks (look_up l.view) (believed_on l.cpus.beliefs.now c)) (has l.fn.among) l.left l.found
+invariant-loop-cpu l = IsGathered (λ c. has_had l.ticks (look_up l.view.entries) (believed_on l.cpus.beliefs.now c)) (has l.fn.among) l.left l.found
 
 abbrev pub decreases-loop-cpu : goal.decreases-loop-cpu
 decreases-loop-cpu l = remaining l.left

@@ -7,5 +7,5 @@ use Rattle.gs_policy.proofs.walk.plan_among.Goals as goal
 
 pub returns : goal.returns
 returns c =
-    let all = plan_among c.args.all (shows c.args.view.now c.args.cpus.now c.args.queue.now) in
+    let all = plan_among c.args.all (shows c.args.view.now.entries c.args.cpus.now c.args.queue.now) in
     let h = items_from_extend c.extend.result c.extend.ensures.ran (YieldsList-from_first (λ x. x) (λ xs. xs) all c.choose.ensures.choices) in search rules

@@ -5,7 +5,7 @@ use Rattle.gs_runner.specs.Settles.{AreSame}
 use Rattle.gs_runner.proofs.knowing.are_same.Given as goal
 
 abbrev pub invariant-walk : goal.invariant-walk
-invariant-walk l = (l.tid ≤ l.count) × AreSame (state l.kernel.settings.first_tseq l.kernel.history) (look_up l.view) l.tid
+invariant-walk l = (l.tid ≤ l.count) × AreSame (state l.kernel.settings.first_tseq l.kernel.history) (look_up l.view.entries) l.tid
 
 abbrev pub decreases-walk : goal.decreases-walk
 decreases-walk l = l.count - l.tid

@@ -7,4 +7,4 @@ abbrev pub invariant-loop-tid : goal.invariant-loop-tid
 invariant-loop-tid l =
     (goal.iterator-loop-tid).can_next l.tid-iterator ×
     (goal.iterator-loop-tid).is_finite l.tid-iterator ×
-    IsPlanning (shows l.view l.cpus l.queue) l.left l.choices.items l.tid-iterator (order l.queue)
+    IsPlanning (shows l.view.entries l.cpus l.queue) l.left l.choices.items l.tid-iterator (order l.queue)

@@ -9,8 +9,8 @@ use Rattle.gs_policy.proofs.two_class.TwoClass.candidates.Goals as goal
 pub returns : goal.returns
 returns c =
     let slice = c.args.self.now.slice in
-    let s = shows c.args.view.now c.args.cpus.now c.args.queue.now in
-    c.new.ensures (class_one_after slice) c.args.view.now c.args.queue.now (class_one_taking slice s)
+    let s = shows c.args.view.now.entries c.args.cpus.now c.args.queue.now in
+    c.new.ensures (class_one_after slice) c.args.view.now.entries c.args.queue.now (class_one_taking slice s)
     (record {
       by_zero = c.class_one_cpus-zero_class.ensures;
       by_one = λ cpu. c.those_that_have_had-one_class.ensures cpu ∙ runs_slice s slice cpu _ (c.class_one_cpus-zero_class.ensures cpu);
@@ -18,5 +18,5 @@ returns c =
 
 pub returns-then-serve_all : goal.returns-then-serve_all
 returns-then-serve_all c =
-    let s = shows c.args.view.now c.args.cpus.now c.args.queue.now in
-    c.free_alone-then-serve_all.ensures c.args.view.now c.args.queue.now ∙ plan_served (class_one_after c.args.self.now.slice) s (sym (ap length (c.free_alone.ensures c.args.view.now c.args.queue.now)) ∙ c.serve_all.ensures c.if-serve_all.true)
+    let s = shows c.args.view.now.entries c.args.cpus.now c.args.queue.now in
+    c.free_alone-then-serve_all.ensures c.args.view.now.entries c.args.queue.now ∙ plan_served (class_one_after c.args.self.now.slice) s (sym (ap length (c.free_alone.ensures c.args.view.now.entries c.args.queue.now)) ∙ c.serve_all.ensures c.if-serve_all.true)

@@ -5,4 +5,4 @@ use Rattle.round_robin.specs.RoundRobin.{turn_is_over}
 use Rattle.round_robin.proofs.policy.RoundRobin.spent_cpus.Given as goal
 
 abbrev pub invariant-loop-cpu : goal.invariant-loop-cpu
-invariant-loop-cpu l = IsMarked (turn_is_over l.self (look_up l.view) l.cpus.beliefs.now (has l.cpus.taken)) l.mask l.cpu
+invariant-loop-cpu l = IsMarked (turn_is_over l.self (look_up l.view.entries) l.cpus.beliefs.now (has l.cpus.taken)) l.mask l.cpu
