@@ -9,9 +9,9 @@ use Rattle.gs_layout.specs.declared.message.Message.{Message}
 use Rattle.gs_layout.specs.declared.known.Word.{Word}
 use Rattle.gs_layout.specs.View.{Look, look_up, apply, catch_up, is_gap, is_orphan, is_skipped, word, words}
 use Rattle.gs_view.specs.Begins.{begins}
-use Rattle.gs_view.specs.declared.taken.Taken.{Taken}
-use Rattle.gs_view.specs.declared.taken.Taken.TheVariants.{Applied, Skipped, Orphan}
-use Rattle.gs_view.specs.Taken.{word_of}
+use Rattle.gs_view.specs.declared.news.News.{News}
+use Rattle.gs_view.specs.declared.news.News.TheVariants.{Applied, Skipped, Orphan}
+use Rattle.gs_view.specs.News.{word_of}
 use Rattle.gs_agent.specs.declared.drained.Drained.{Drained}
 use Rattle.gs_agent.specs.declared.drained.Stop.{Stop}
 use Rattle.gs_agent.specs.declared.drained.Stop.TheVariants as stops
@@ -39,7 +39,7 @@ at_most_one true = omega arith
 at_most_one false = omega arith
 
 -- what a view took in was no gap
-pub no_gap_taken : (taken : Taken) → is_gap (word_of taken) ≡ false
+pub no_gap_taken : (news : News) → is_gap (word_of news) ≡ false
 no_gap_taken Applied = refl
 no_gap_taken Skipped = refl
 no_gap_taken Orphan = refl

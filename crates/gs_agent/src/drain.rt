@@ -4,7 +4,7 @@ ghost use Rattle.std.specs.Prelude.{◌≡◌, ◌^◌, ◌<◌, ◌≤◌, List
 ghost use Rattle.gs_layout.specs.declared.message.Message.{Message};
 ghost use Rattle.gs_layout.specs.View.{is_gap, look_up, word};
 ghost use Rattle.gs_view.specs.Begins.{begins};
-ghost use Rattle.gs_view.specs.Taken.{word_of};
+ghost use Rattle.gs_view.specs.News.{word_of};
 ghost use Rattle.gs_ring.specs.Batches.{messages_of};
 ghost use Rattle.gs_agent.specs.Drains.{TookFirst, Took, count_word, stop_of};
 ghost use Rattle.gs_mind.specs.Mind.{picture_of};
@@ -12,7 +12,7 @@ ghost use Rattle.gs_mind.specs.Mind.{picture_of};
 use crate::drained::{Drained, Stop};
 use gs_mind::Mind;
 use gs_ring::{Batch, Taker};
-use gs_view::{ApplyFault, Taken};
+use gs_view::{ApplyFault, News};
 
 /// Takes in messages, at most `max` of them, up to a gap or until out of memory. They are read where they
 /// lie, batch by batch, and those that were taken in then pass.
@@ -33,7 +33,7 @@ pub(crate) fn drain_into<T: Taker>(mind: &mut Mind, taker: &mut T, max: u32) -> 
     };
     'taking: while drained.count < max {
         let before = drained.count;
-        drained = take_in_first(mind, taker.batch(), max, drained);
+        drained = follow_first(mind, taker.batch(), max, drained);
         let taken = drained.count - before;
         if taken == 0 {
             break;
@@ -48,7 +48,7 @@ pub(crate) fn drain_into<T: Taker>(mind: &mut Mind, taker: &mut T, max: u32) -> 
 
 /// Takes in the first messages of a batch. It stops at a gap, if out of memory, or once `max` messages were
 /// drained in all. They are counted beside those that were drained before.
-fn take_in_first(mind: &mut Mind, batch: Batch<'_>, max: usize, drained: Drained) -> Drained
+fn follow_first(mind: &mut Mind, batch: Batch<'_>, max: usize, drained: Drained) -> Drained
     requires most { max < 2 ^ 32 }
     requires count { drained.count ≤ max }
     requires skipped { drained.skipped ≤ drained.count }
@@ -61,8 +61,8 @@ fn take_in_first(mind: &mut Mind, batch: Batch<'_>, max: usize, drained: Drained
         if drained.count == max {
             break;
         }
-        match mind.take_in(message) {
-            Ok(taken) => drained = counted(drained, taken),
+        match mind.follow(message) {
+            Ok(news) => drained = counted(drained, news),
             Err(fault) => {
                 drained.stop = Some(stop_of(fault));
                 break;
@@ -73,16 +73,16 @@ fn take_in_first(mind: &mut Mind, batch: Batch<'_>, max: usize, drained: Drained
 }
 
 /// Counts one message more, which was this to the view.
-fn counted(drained: Drained, taken: Taken) -> Drained
+fn counted(drained: Drained, news: News) -> Drained
     requires count { drained.count < 2 ^ 63 }
     requires skipped { drained.skipped < 2 ^ 63 }
     requires orphans { drained.orphans < 2 ^ 63 }
-    ensures { result ≡ count_word drained (word_of taken) }
+    ensures { result ≡ count_word drained (word_of news) }
 {
     Drained {
         count: drained.count + 1,
-        skipped: drained.skipped + usize::from(matches!(taken, Taken::Skipped)),
-        orphans: drained.orphans + usize::from(matches!(taken, Taken::Orphan)),
+        skipped: drained.skipped + usize::from(matches!(news, News::Skipped)),
+        orphans: drained.orphans + usize::from(matches!(news, News::Orphan)),
         stop: drained.stop,
     }
 }

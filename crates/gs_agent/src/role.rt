@@ -25,7 +25,7 @@ use gs_layout::Refusal;
 use gs_mind::Mind;
 use gs_policy::{Choice, Counted, Policy};
 use gs_ring::Taker;
-use gs_runq::Walk;
+use gs_runq::QueueWalk;
 use gs_slots::{Region, SlotBusy, SlotMut};
 use gs_status::{MOST_CPUS, Mask};
 use gs_view::AgentView;
@@ -159,7 +159,7 @@ impl<P> Role<P> {
 
     /// Walks over the tids of those who wait, each once: those of class 0 in the order in which they began to
     /// wait, then those of class 1. It does not allocate.
-    pub fn waiting(&self) -> Walk<'_>
+    pub fn waiting(&self) -> QueueWalk<'_>
         ensures order { result ≡ order self.now.mind.queue }
         ensures apart { Apart (order self.now.mind.queue) }
         ensures waits { HoldsWaiting (look_up self.now.mind.records) self.now.mind.cpus self.now.mind.queue }

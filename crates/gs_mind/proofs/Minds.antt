@@ -19,9 +19,9 @@ use Rattle.gs_beliefs.specs.Cpus.{Cpus, stamp_on, stamps}
 use Rattle.gs_beliefs.specs.Belief.{hears}
 use Rattle.gs_runq.specs.Queue.{IsTid, Queue, is_in, order, removed}
 use Rattle.gs_view.specs.Begins.{begins}
-use Rattle.gs_view.specs.declared.taken.Taken.{Taken}
-use Rattle.gs_view.specs.declared.taken.Taken.TheVariants as taken
-use Rattle.gs_view.specs.Taken.{word_of}
+use Rattle.gs_view.specs.declared.news.News.{News}
+use Rattle.gs_view.specs.declared.news.News.TheVariants as news
+use Rattle.gs_view.specs.News.{word_of}
 use Rattle.gs_mind.specs.Held.{HasRoom}
 use Rattle.gs_mind.specs.Mind.{MindState, bare}
 use Rattle.gs_mind.specs.Picture.{HoldsWaiting, Picture, displaced, ends_own_turn, ends_turn, other_than, parts, requeued, settled, settled_all, takes_in, takes_in_by, waits}
@@ -109,10 +109,10 @@ old_picture v v' s q q' m e known b =
     same_picture v' v s s (bare q') (bare q) (λ t. known t ∙ old_news v m e t) refl b ∙ sym (leaves (word v m) m (parts v s (bare q)) e)
 
 -- what was taken in and did not apply
-pub not_applied : (t : Taken) → t ≢ taken.Applied → is_applied (word_of t) ≡ false
-not_applied taken.Applied n = absurd (n refl)
-not_applied taken.Skipped n = refl
-not_applied taken.Orphan n = refl
+pub not_applied : (t : News) → t ≢ news.Applied → is_applied (word_of t) ≡ false
+not_applied news.Applied n = absurd (n refl)
+not_applied news.Skipped n = refl
+not_applied news.Orphan n = refl
 
 -- of whom something is known after a message, of those it was known before, or the message begins it
 begun : (o : Option Known) (u s : ℕ) (c : Change) → is_some (next_known o (Thread u s c)) ≡ true → (is_some o ≡ true) ⊎ ((is_creation (Thread u s c) && not (is_some o)) ≡ true)

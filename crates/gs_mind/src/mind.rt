@@ -5,22 +5,22 @@ ghost use Rattle.gs_policy.specs.Safe.{IsSafePlan};
 ghost use Rattle.gs_status.specs.Masks.{has};
 ghost use Rattle.gs_view.specs.declared.fault.ApplyFault.{ApplyFault};
 ghost use Rattle.gs_view.specs.Begins.{begins};
-ghost use Rattle.gs_view.specs.Taken.{word_of};
+ghost use Rattle.gs_view.specs.News.{word_of};
 ghost use Rattle.gs_mind.specs.Mind.{moved, nothing, picture_of, shown_in, thinks};
 ghost use Rattle.gs_mind.specs.Pages.{after_page};
 ghost use Rattle.gs_runq.specs.Queue.{Apart, order};
 ghost use Rattle.gs_mind.specs.Picture.{HoldsWaiting, after_slot, after_stamp, takes_in};
 
-use crate::rebuild::{make_room_for_page, take_records};
+use crate::rebuild::{follow_records, make_room_for_page};
 use crate::waiting::{make_room, other_than, requeue, running_on, settle, settle_if_any};
 use gs_beliefs::{Beliefs, CpuBeliefs, Running};
 use gs_dump::Page;
 use gs_policy::{Choice, Counted, Policy};
 use gs_reader::MessageRef;
-use gs_runq::{RunQueue, Walk};
+use gs_runq::{QueueWalk, RunQueue};
 use gs_slots::SlotState;
 use gs_status::{MOST_CPUS, Mask};
-use gs_view::{AgentView, ApplyFault, Taken};
+use gs_view::{AgentView, ApplyFault, News};
 use std::alloc::{AllocError, Global};
 use std::marker::Model;
 
@@ -87,7 +87,7 @@ impl Mind {
 
     /// Walks over the tids of those who wait, each once: those of class 0 in the order in which they began to
     /// wait, then those of class 1. It does not allocate.
-    pub fn waiting(&self) -> Walk<'_>
+    pub fn waiting(&self) -> QueueWalk<'_>
         ensures order { result ≡ order self.now.queue }
         ensures apart { Apart (order self.now.queue) }
         ensures waits { HoldsWaiting (look_up self.now.records) self.now.cpus self.now.queue }
@@ -111,8 +111,8 @@ impl Mind {
     /// [`ApplyFault::Gap`] if messages about its thread are missing before it. [`ApplyFault::OutOfMemory`] if
     /// it creates a thread of which nothing is known, and memory for its record or for the queue runs out.
     /// Nothing changes then, and the message can be taken in later. No other message allocates.
-    pub fn take_in(&mut self, message: MessageRef<'_>) -> Result<Taken, ApplyFault>
-        ensures word { IfOk result (λ taken. word (look_up self.old.records) message.entry ≡ word_of taken) }
+    pub fn follow(&mut self, message: MessageRef<'_>) -> Result<News, ApplyFault>
+        ensures word { IfOk result (λ news. word (look_up self.old.records) message.entry ≡ word_of news) }
         ensures picture { OnOk result (picture_of self.new ≡ takes_in message.entry (picture_of self.old)) }
         ensures unchanged { OnErr result (self.new ≡ self.old) }
         ensures gap { (result ≡ Err ApplyFault.Gap) ↔ (is_gap (word (look_up self.old.records) message.entry) ≡ true) }
@@ -120,13 +120,13 @@ impl Mind {
     {
         let _spelled = message.as_bytes();
         make_room(&self.view, &mut self.queue, &message)?;
-        let taken = self.view.apply(message.again())?;
-        let Taken::Applied = taken else {
-            return Ok(taken);
+        let news = self.view.apply(message.again())?;
+        let News::Applied = news else {
+            return Ok(news);
         };
         self.cpus.hear(&message);
         requeue(&self.view, &self.cpus, &mut self.queue, &message);
-        Ok(taken)
+        Ok(news)
     }
 
     /// Takes a page in, of threads that live, one record at a time, in increasing order of tid. What a record
@@ -143,7 +143,7 @@ impl Mind {
     {
         make_room_for_page(&mut self.queue, page)?;
         self.view.reserve(page)?;
-        take_records(
+        follow_records(
             &mut self.view,
             &mut self.cpus,
             &mut self.queue,

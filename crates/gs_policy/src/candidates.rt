@@ -109,7 +109,7 @@ impl Candidates {
 
     /// Takes out the CPU that a thread chooses among them, and returns the choice, or `None` if it has none.
     /// It does not allocate.
-    pub fn take(&mut self, view: &AgentView, tid: u32) -> Option<Choice>
+    pub fn choose(&mut self, view: &AgentView, tid: u32) -> Option<Choice>
         ensures choice { option_to_list result ≡ picked self.old (look_up view.now.entries) tid }
         ensures left { AreLeft self.old self.new (picked self.old (look_up view.now.entries) tid) }
     {

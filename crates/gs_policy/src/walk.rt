@@ -8,7 +8,7 @@ ghost use Rattle.gs_policy.specs.Shown.{shows};
 use crate::candidates::Candidates;
 use crate::choice::Choice;
 use gs_beliefs::CpuBeliefs;
-use gs_runq::{RunQueue, Walk};
+use gs_runq::{QueueWalk, RunQueue};
 use gs_status::MOST_CPUS;
 use gs_view::AgentView;
 use std::alloc::{AllocError, Global};
@@ -19,7 +19,7 @@ use std::marker::Model;
 #[derive(Drop)]
 struct Choices<'a> {
     view: &'a AgentView,
-    threads: Walk<'a>,
+    threads: QueueWalk<'a>,
     left: Candidates,
 }
 
@@ -44,7 +44,7 @@ impl<'a> Iterator for Choices<'a> {
     fn next(&mut self) -> Option<Choice> {
         while !self.left.are_spent() {
             let tid = self.threads.next()?;
-            if let Some(choice) = self.left.take(self.view, tid) {
+            if let Some(choice) = self.left.choose(self.view, tid) {
                 return Some(choice);
             }
         }

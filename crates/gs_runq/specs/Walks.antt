@@ -2,7 +2,7 @@
 use Rattle.std.specs.Prelude.{ℕ, List, ◌++◌, length, slice_index}
 use Rattle.gs_runq.specs.Linked.{walked, Within}
 use Rattle.gs_runq.specs.declared.walk.LineWalk.TheInside as line
-use Rattle.gs_runq.specs.declared.walk.Walk.TheInside as whole
+use Rattle.gs_runq.specs.declared.walk.QueueWalk.TheInside as whole
 
 -- the threads that a walk of a line has still to show
 abbrev pub line_rest : line.Inside → List ℕ

@@ -6,4 +6,4 @@ mod queue;
 mod walk;
 
 pub use queue::RunQueue;
-pub use walk::Walk;
+pub use walk::QueueWalk;

@@ -3,7 +3,7 @@ ghost use Rattle.gs_layout.specs.declared.facts.Class.{Class as ClassOf};
 ghost use Rattle.gs_runq.specs.Queue.{IsTid, is_in, empty, order, class_of, put, removed, Apart};
 
 use crate::line::Line;
-use crate::walk::{Walk, both};
+use crate::walk::{QueueWalk, both};
 use gs_layout::{Class, MOST_TIDS};
 use std::alloc::{AllocError, Global};
 use std::marker::Model;
@@ -119,7 +119,7 @@ impl RunQueue {
     }
 
     /// Walks the tids of those who wait, in order, each once. It does not allocate.
-    pub fn walk(&self) -> Walk<'_>
+    pub fn walk(&self) -> QueueWalk<'_>
         ensures order { result ≡ order self.now }
         ensures apart { Apart (order self.now) }
         ensures tids { All IsTid (order self.now) }

@@ -53,12 +53,12 @@ impl<'a> Iterator for LineWalk<'a> {
 /// The tids that a walk of the queue has still to show: those of class 0, then those of class 1, each
 /// class in order.
 #[derive(Drop)]
-pub struct Walk<'a> {
+pub struct QueueWalk<'a> {
     first: LineWalk<'a>,
     later: LineWalk<'a>,
 }
 
-impl<'a> Model for Walk<'a> {
+impl<'a> Model for QueueWalk<'a> {
     ghost use Rattle.std.specs.Prelude.{List, ℕ};
 
     ghost Value = { List ℕ };
@@ -69,13 +69,13 @@ impl<'a> Model for Walk<'a> {
 }
 
 /// Joins two walks, one after another.
-pub fn both<'a>(first: LineWalk<'a>, later: LineWalk<'a>) -> Walk<'a>
+pub fn both<'a>(first: LineWalk<'a>, later: LineWalk<'a>) -> QueueWalk<'a>
     ensures { result ≡ first.entry ++ later.entry }
 {
-    Walk { first, later }
+    QueueWalk { first, later }
 }
 
-impl<'a> Iterator for Walk<'a> {
+impl<'a> Iterator for QueueWalk<'a> {
     type Item = u32;
 
     ghost next_gives = { YieldsFirst (λ s. s) };

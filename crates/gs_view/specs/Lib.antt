@@ -4,4 +4,4 @@ pub mod Listed
 pub mod Loaded
 pub mod Records
 pub mod Shown
-pub mod Taken
+pub mod News

@@ -5,12 +5,12 @@
 mod fault;
 mod index;
 mod load;
+mod news;
 mod records;
-mod taken;
 mod view;
 mod walk;
 
 pub use fault::ApplyFault;
-pub use taken::Taken;
+pub use news::News;
 pub use view::AgentView;
-pub use walk::Walk;
+pub use walk::ViewWalk;

@@ -7,7 +7,7 @@ ghost use Rattle.gs_sets.specs.Bits.{IsFirst, IsNone};
 ghost use Rattle.gs_view.specs.Shown.{is_known, tids};
 
 use crate::index::KeyIndex;
-use crate::walk::Walk;
+use crate::walk::ViewWalk;
 use gs_layout::{Change, Kind, Known, Message};
 use gs_reader::MessageRef;
 use slab::Slab;
@@ -61,14 +61,14 @@ impl Records {
     }
 
     /// Walks all that is known, in increasing order of tid.
-    pub(crate) fn walk(&self) -> Walk<'_>
+    pub(crate) fn walk(&self) -> ViewWalk<'_>
         ensures whole { result ≡ self.now.entries }
         ensures rising { IsStrictlyIncreasing (tids self.now.entries) }
         ensures found { All (λ entry. look_up self.now.entries entry.0 ≡ Some entry.1) self.now.entries }
     {
         // A look at a field, by which the proof has what the records keep.
         let _index = &self.index;
-        Walk::over(self)
+        ViewWalk::over(self)
     }
 
     /// Returns the first tid, not below `from`, of a thread of which something is known.

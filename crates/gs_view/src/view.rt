@@ -5,13 +5,13 @@ ghost use Rattle.gs_layout.specs.View.{apply, is_gap, look_up, word};
 ghost use Rattle.gs_view.specs.Begins.{begins};
 ghost use Rattle.gs_view.specs.Loaded.{HasRoomFor, loaded, with_record};
 ghost use Rattle.gs_view.specs.Shown.{if_shown, tids};
-ghost use Rattle.gs_view.specs.Taken.{word_of};
+ghost use Rattle.gs_view.specs.News.{word_of};
 
 use crate::fault::ApplyFault;
 use crate::load::{known_in, load_page, reserve_for};
+use crate::news::News;
 use crate::records::Records;
-use crate::taken::Taken;
-use crate::walk::Walk;
+use crate::walk::ViewWalk;
 use gs_dump::{DumpRecord, Page};
 use gs_layout::{Change, Facts, Kind, Known, Message};
 use gs_reader::MessageRef;
@@ -71,7 +71,7 @@ impl AgentView {
 
     /// Walks all that is known, in increasing order of tid: of each thread its tid, its facts, and the sequence
     /// number at which they were so. It does not allocate.
-    pub fn walk(&self) -> Walk<'_>
+    pub fn walk(&self) -> ViewWalk<'_>
         ensures whole { result ≡ self.now.entries }
         ensures rising { IsStrictlyIncreasing (tids self.now.entries) }
         ensures found { All (λ entry. look_up self.now.entries entry.0 ≡ Some entry.1) self.now.entries }
@@ -87,8 +87,8 @@ impl AgentView {
     /// `Gap` if the message's number is more than one above the one that is known of its thread: messages
     /// between are missing. `OutOfMemory` if out of memory for the record of a thread that the message
     /// creates and of which nothing is known. Then nothing changes, and the message can be taken in later.
-    pub fn apply(&mut self, message: MessageRef<'_>) -> Result<Taken, ApplyFault>
-        ensures word { IfOk result (λ taken. word (look_up self.old.entries) message.entry ≡ word_of taken) }
+    pub fn apply(&mut self, message: MessageRef<'_>) -> Result<News, ApplyFault>
+        ensures word { IfOk result (λ news. word (look_up self.old.entries) message.entry ≡ word_of news) }
         ensures known { OnOk result ((t : ℕ) → look_up self.new.entries t ≡ apply (look_up self.old.entries) message.entry t) }
         ensures unchanged { OnErr result (self.new.entries ≡ self.old.entries) }
         ensures gap { (result ≡ Err ApplyFault.Gap) ↔ (is_gap (word (look_up self.old.entries) message.entry) ≡ true) }
@@ -96,7 +96,7 @@ impl AgentView {
     {
         let kind = message.kind();
         if kind == Kind::TimerTick {
-            return Ok(Taken::Applied);
+            return Ok(News::Applied);
         }
         let tid = message.tid();
         let tseq = message.tseq();
@@ -104,7 +104,7 @@ impl AgentView {
             return self.begin(&message);
         };
         if tseq <= known.tseq {
-            return Ok(Taken::Skipped);
+            return Ok(News::Skipped);
         }
         if tseq - known.tseq > 1 {
             return Err(ApplyFault::Gap);
@@ -114,7 +114,7 @@ impl AgentView {
         } else {
             self.records.renew(tid, &message);
         }
-        Ok(Taken::Applied)
+        Ok(News::Applied)
     }
 
     /// Makes room for the records of a page, so that [`AgentView::set`] can set each of them.
@@ -155,17 +155,17 @@ impl AgentView {
     }
 
     /// Takes in a message about a thread of which nothing is known.
-    fn begin(&mut self, message: &MessageRef<'_>) -> Result<Taken, ApplyFault>
+    fn begin(&mut self, message: &MessageRef<'_>) -> Result<News, ApplyFault>
         requires thread { kind_of message.now ≢ Kind.TimerTick }
         requires unknown { look_up self.old.entries (tid_of message.now) ≡ None }
-        ensures word { IfOk result (λ taken. word (look_up self.old.entries) message.now ≡ word_of taken) }
+        ensures word { IfOk result (λ news. word (look_up self.old.entries) message.now ≡ word_of news) }
         ensures known { OnOk result ((t : ℕ) → look_up self.new.entries t ≡ apply (look_up self.old.entries) message.now t) }
         ensures unchanged { OnErr result (self.new.entries ≡ self.old.entries) }
         ensures memory { OnErr result (begins (look_up self.old.entries) message.now ≡ true) }
         ensures no_gap { result ≢ Err ApplyFault.Gap }
     {
         if message.kind() != Kind::Created {
-            return Ok(Taken::Orphan);
+            return Ok(News::Orphan);
         }
         let Message::Thread {
             tid,
@@ -177,6 +177,6 @@ impl AgentView {
         };
         self.records.reserve(tid, 1)?;
         self.records.put(tid, Known { facts, tseq });
-        Ok(Taken::Applied)
+        Ok(News::Applied)
     }
 }

@@ -9,13 +9,13 @@ use std::marker::Model;
 /// The records of a view that a walk has still to show, in increasing order of tid: of each thread its tid,
 /// its facts, and the sequence number at which they were so.
 #[derive(Drop)]
-pub struct Walk<'a> {
+pub struct ViewWalk<'a> {
     records: &'a Records,
     /// The least tid that the walk may still show.
     from: usize,
 }
 
-impl<'a> Model for Walk<'a> {
+impl<'a> Model for ViewWalk<'a> {
     ghost use Rattle.std.specs.Prelude.{List, ℕ};
     ghost use Rattle.gs_layout.specs.declared.known.Known.{Known};
     ghost use Rattle.gs_view.specs.Shown.{shown_from};
@@ -25,16 +25,16 @@ impl<'a> Model for Walk<'a> {
     ghost view = { λ w. shown_from w.from w.records.now };
 }
 
-impl<'a> Walk<'a> {
+impl<'a> ViewWalk<'a> {
     /// Makes the walk over all records.
-    pub(crate) fn over(records: &'a Records) -> Walk<'a>
+    pub(crate) fn over(records: &'a Records) -> ViewWalk<'a>
         ensures { result ≡ shown_from 0 records.now }
     {
-        Walk { records, from: 0 }
+        ViewWalk { records, from: 0 }
     }
 }
 
-impl<'a> Iterator for Walk<'a> {
+impl<'a> Iterator for ViewWalk<'a> {
     type Item = (u32, &'a Facts, u32);
 
     ghost next_gives = { YieldsFirstBy record_shown (λ walk. walk) };

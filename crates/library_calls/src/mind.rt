@@ -13,14 +13,14 @@ use gs_policy::{Counted, FirstCome, TwoClass};
 use gs_reader::MessageRef;
 use gs_slots::{SlotState, Stamp};
 use gs_status::Mask;
-use gs_view::{ApplyFault, Taken};
+use gs_view::{ApplyFault, News};
 use std::alloc::{AllocError, Global};
 
 /// What is done to a mind.
 #[derive(Clone, Copy)]
 enum Deed {
     /// It is told a message, and returns this.
-    Tell(Told, Result<Taken, ApplyFault>),
+    Tell(Told, Result<News, ApplyFault>),
     /// A thread is stamped for a CPU: the CPU, the thread.
     Stamped(u16, u32),
     /// The idle slot of a CPU is collected.
@@ -41,13 +41,13 @@ type Row = (Deed, &'static [u32], Runner, Option<u32>);
 /// The mask of the CPUs that the other class holds, and what is planned then.
 type PlanRow = (u128, Plan);
 
-const APPLIED: Result<Taken, ApplyFault> = Ok(Taken::Applied);
+const APPLIED: Result<News, ApplyFault> = Ok(News::Applied);
 
-const SKIPPED: Result<Taken, ApplyFault> = Ok(Taken::Skipped);
+const SKIPPED: Result<News, ApplyFault> = Ok(News::Skipped);
 
-const ORPHAN: Result<Taken, ApplyFault> = Ok(Taken::Orphan);
+const ORPHAN: Result<News, ApplyFault> = Ok(News::Orphan);
 
-const GAP: Result<Taken, ApplyFault> = Err(ApplyFault::Gap);
+const GAP: Result<News, ApplyFault> = Err(ApplyFault::Gap);
 
 /// Threads 7 and 8 of class 0 wait, and thread 9 of class 1.
 const THREE_WAIT: [Row; 3] = [
@@ -176,11 +176,11 @@ const TWO_CLASS: [PlanRow; 1] = [(0b100, &[(1, 7, true)])];
 const FIRST_COME_WAITS: [PlanRow; 1] = [(0b100, &[])];
 
 /// What a mind returns for a message.
-fn send(mind: &mut Mind, message: &Message) -> Result<Taken, ApplyFault>
+fn send(mind: &mut Mind, message: &Message) -> Result<News, ApplyFault>
     requires { IsSpellable message.now }
 {
     let parcel = Parcel::new(message);
-    mind.take_in(MessageRef::in_parcel(&parcel))
+    mind.follow(MessageRef::in_parcel(&parcel))
 }
 
 /// A transaction of a thread that landed.

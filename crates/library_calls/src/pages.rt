@@ -14,8 +14,8 @@ use gs_layout::{Class, Message, Parcel};
 use gs_mind::Mind;
 use gs_policy::TwoClass;
 use gs_reader::MessageRef;
-use gs_runq::Walk;
-use gs_view::{AgentView, ApplyFault, Taken};
+use gs_runq::QueueWalk;
+use gs_view::{AgentView, ApplyFault, News};
 use std::alloc::Global;
 
 /// Those who are believed to run on CPUs 0 and 127, by their tids, their numbers and their ticks.
@@ -124,11 +124,11 @@ fn page_of(alloc: Global, bytes: &[u8]) -> Option<Page> {
 }
 
 /// What a mind returns for a message.
-fn tell(mind: &mut Mind, message: &Message) -> Result<Taken, ApplyFault>
+fn tell(mind: &mut Mind, message: &Message) -> Result<News, ApplyFault>
     requires { IsSpellable message.now }
 {
     let parcel = Parcel::new(message);
-    mind.take_in(MessageRef::in_parcel(&parcel))
+    mind.follow(MessageRef::in_parcel(&parcel))
 }
 
 /// Tells a view of threads 5 and 9: whether it took them in.
@@ -186,7 +186,7 @@ fn role_runner(role: &Role<TwoClass>, cpu: u16) -> Option<(u32, u32, u16)> {
 }
 
 /// Whether what is known, who waits and who runs is as a row says.
-fn is_so(view: &AgentView, waiting: Walk<'_>, runs: Runners, row: &Row) -> bool {
+fn is_so(view: &AgentView, waiting: QueueWalk<'_>, runs: Runners, row: &Row) -> bool {
     let (_, _, known, waits, runners) = row;
     shows(view, known) && is_order(waiting, waits) && runs == *runners
 }

@@ -1,7 +1,7 @@
 //! Plans as tables have them.
 
 use gs_policy::Choice;
-use gs_runq::Walk;
+use gs_runq::QueueWalk;
 
 /// The choices of a plan, in order: the CPU and the thread of each, and whether it preempts.
 pub(crate) type Plan = &'static [(u16, u32, bool)];
@@ -18,7 +18,7 @@ pub(crate) fn is_plan(choices: &[Choice], expected: &[(u16, u32, bool)]) -> bool
 }
 
 /// Whether a walk over those who wait shows just these, in this order.
-pub(crate) fn is_order(mut waiting: Walk<'_>, tids: &[u32]) -> bool {
+pub(crate) fn is_order(mut waiting: QueueWalk<'_>, tids: &[u32]) -> bool {
     for tid in tids {
         if waiting.next() != Some(*tid) {
             return false;

@@ -6,7 +6,7 @@ use crate::messages::Told::{self, Creation, Thread, Tick};
 use gs_layout::{Change, Class, Facts, Message, Parcel};
 use gs_reader::MessageRef;
 use gs_status::Mask;
-use gs_view::{AgentView, ApplyFault, Taken};
+use gs_view::{AgentView, ApplyFault, News};
 use std::alloc::Global;
 use std::test::Fail;
 
@@ -15,15 +15,15 @@ type Seen = Option<(bool, u128, u32)>;
 
 /// A message, what the view returns for it, a thread and what is then known of it, and of how many threads
 /// something is known.
-type Row = (Told, Result<Taken, ApplyFault>, u32, Seen, usize);
+type Row = (Told, Result<News, ApplyFault>, u32, Seen, usize);
 
-const APPLIED: Result<Taken, ApplyFault> = Ok(Taken::Applied);
+const APPLIED: Result<News, ApplyFault> = Ok(News::Applied);
 
-const SKIPPED: Result<Taken, ApplyFault> = Ok(Taken::Skipped);
+const SKIPPED: Result<News, ApplyFault> = Ok(News::Skipped);
 
-const ORPHAN: Result<Taken, ApplyFault> = Ok(Taken::Orphan);
+const ORPHAN: Result<News, ApplyFault> = Ok(News::Orphan);
 
-const GAP: Result<Taken, ApplyFault> = Err(ApplyFault::Gap);
+const GAP: Result<News, ApplyFault> = Err(ApplyFault::Gap);
 
 /// Thread 7 from its creation to its death, with messages between that do not come next.
 fn life() -> [Row; 15] {
@@ -182,7 +182,7 @@ const SEVERAL: [Row; 7] = [
 const SHOWN: [(u32, bool, u32); 4] = [(1, true, 2), (7, true, 5), (9, false, 3), (65_536, true, 2)];
 
 /// What the view returns for a message.
-pub(crate) fn send(view: &mut AgentView, message: &Message) -> Result<Taken, ApplyFault>
+pub(crate) fn send(view: &mut AgentView, message: &Message) -> Result<News, ApplyFault>
     requires { IsSpellable message.now }
 {
     let parcel = Parcel::new(message);

@@ -1,4 +1,4 @@
-use Rattle.std.proofs.Common.{◌≡◌, ◌∙◌, List, true, ℕ, ap}
+use Rattle.std.proofs.Common.{◌∙◌, List, true, ℕ, ap}
 use Rattle.gs_slots.specs.Reading.{by_cpu}
 use Rattle.gs_mind.specs.Mind.{picture_of, thinks}
 use Rattle.gs_mind.specs.Picture.{after_slots}

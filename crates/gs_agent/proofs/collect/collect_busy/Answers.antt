@@ -1,4 +1,4 @@
-use Rattle.std.proofs.Common.{◌≡◌, ◌<◌, ◌≤◌, List, ℕ, Some, arith, length, subst, sym}
+use Rattle.std.proofs.Common.{◌≡◌, ◌<◌, List, ℕ, Some, subst, sym}
 use Rattle.gs_status.specs.Masks.{has, least}
 use Rattle.gs_slots.proofs.Laws.{goes_up}
 use Rattle.gs_agent.proofs.Collecting.{collected_length, collected_one, walk_begins, walk_comes, walk_ends, walk_more}

@@ -1,4 +1,4 @@
-use Rattle.std.proofs.Common.{◌≡◌, ◌∙◌, Bool, List, ℕ, ap, cond, slice_set, sym}
+use Rattle.std.proofs.Common.{◌∙◌, Bool, List, ℕ, ap, cond, slice_set, sym}
 use Rattle.gs_slots.specs.Reading.{collected_in}
 use Rattle.gs_slots.proofs.Laws.{set_as_it_was}
 use Rattle.gs_agent.proofs.collect.collect_one.Goals as goal

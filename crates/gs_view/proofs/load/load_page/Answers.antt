@@ -1,6 +1,6 @@
-use Rattle.std.proofs.Common.{true, ◌≡◌, ◌+◌, ◌-◌, ◌++◌, ◌∷◌, ap, sym, ◌∙◌, ℕ, List, [], Some, arith, length, refl, take, get_or, slice_get}
+use Rattle.std.proofs.Common.{◌≡◌, ◌+◌, ◌++◌, ◌∷◌, ap, sym, ◌∙◌, ℕ, List, [], Some, arith, length, refl, take, get_or}
 use Rattle.std.proofs.lemmas.List.{take_all, take_more}
-use Rattle.std.proofs.lemmas.Option.{slice_get_read, slice_get_within}
+use Rattle.std.proofs.lemmas.Option.{slice_get_read}
 use Rattle.gs_layout.specs.declared.known.Known.{Known}
 use Rattle.gs_layout.specs.View.{Look, look_up}
 use Rattle.gs_dump.specs.declared.record.DumpRecord.{DumpRecord}

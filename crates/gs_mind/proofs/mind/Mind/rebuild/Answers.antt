@@ -14,8 +14,8 @@ use Rattle.gs_mind.specs.Picture.{parts}
 use Rattle.gs_mind.proofs.Paged.{page_picture, page_waiting, room_more, tid_at}
 use Rattle.gs_mind.proofs.mind.Mind.rebuild.Goals as goal
 
-pub take_records-requires : goal.take_records-requires
-take_records-requires c =
+pub follow_records-requires : goal.follow_records-requires
+follow_records-requires c =
     let all = c.args.page.now.records in
     let queue = c.make_room_for_page.new.queue in
     let same : c.deref.result.now ≡ all = c.deref.ensures.value ∙ ap (λ (p : Contents). p.records) c.page.view_is in
@@ -29,27 +29,27 @@ take_records-requires c =
     }
 
 -- the records that are taken in are the page's, on what was known before
-after_all : (c : goal.After-take_records)
-    → parts (look_up c.take_records.new.view.entries) c.take_records.new.cpus c.take_records.new.queue
+after_all : (c : goal.After-follow_records)
+    → parts (look_up c.follow_records.new.view.entries) c.follow_records.new.cpus c.follow_records.new.queue
     ≡ after_page c.args.page.now.records (parts (look_up c.self.inside.view.entries) c.self.inside.cpus c.make_room_for_page.new.queue)
 after_all c =
     let same : c.deref.result.now ≡ c.args.page.now.records = c.deref.ensures.value ∙ ap (λ (p : Contents). p.records) c.page.view_is in
     let queue = c.make_room_for_page.new.queue in
-    c.take_records.ensures.picture
+    c.follow_records.ensures.picture
     ∙ (ap (λ (rs : List DumpRecord). after_page rs (parts (look_up c.reserve.new.self.entries) c.self.inside.cpus queue)) same
     ∙ ap (λ (es : List (ℕ × Known)). after_page c.args.page.now.records (parts (look_up es) c.self.inside.cpus queue)) c.reserve.ensures.same)
 
 pub invariant_of-self-2 : goal.invariant_of-self-2
 invariant_of-self-2 c =
     record {
-      waiting = page_waiting c.args.page.now.records (look_up c.self.inside.view.entries) (look_up c.take_records.new.view.entries) c.self.inside.cpus
-          c.take_records.new.cpus c.self.inside.queue c.make_room_for_page.new.queue c.take_records.new.queue c.make_room_for_page.ensures.waiting
+      waiting = page_waiting c.args.page.now.records (look_up c.self.inside.view.entries) (look_up c.follow_records.new.view.entries) c.self.inside.cpus
+          c.follow_records.new.cpus c.self.inside.queue c.make_room_for_page.new.queue c.follow_records.new.queue c.make_room_for_page.ensures.waiting
           (after_all c) c.self.invariant.waiting;
-      room = c.take_records.ensures.room;
+      room = c.follow_records.ensures.room;
     }
 
 pub returns-clause-picture : goal.returns-clause-picture
 returns-clause-picture c =
-    page_picture c.args.page.now.records (look_up c.self.inside.view.entries) (look_up c.take_records.new.view.entries) c.self.inside.cpus
-    c.take_records.new.cpus c.self.inside.queue c.make_room_for_page.new.queue c.take_records.new.queue c.make_room_for_page.ensures.waiting (after_all c)
+    page_picture c.args.page.now.records (look_up c.self.inside.view.entries) (look_up c.follow_records.new.view.entries) c.self.inside.cpus
+    c.follow_records.new.cpus c.self.inside.queue c.make_room_for_page.new.queue c.follow_records.new.queue c.make_room_for_page.ensures.waiting (after_all c)
     ∙ ap (λ (x : MindState). after_page c.args.page.now.records (picture_of x)) c.self.view_is

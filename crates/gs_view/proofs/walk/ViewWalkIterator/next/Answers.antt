@@ -1,7 +1,7 @@
 use Rattle.std.proofs.Common.{◌∙◌, ◌+◌, ◌<◌, length, ap, sym, arith, rules}
 use Rattle.gs_view.specs.Shown.{shown_from}
 use Rattle.gs_view.proofs.Showing.{first_shown, spent_shown}
-use Rattle.gs_view.proofs.walk.WalkIterator.next.Goals as goal
+use Rattle.gs_view.proofs.walk.ViewWalkIterator.next.Goals as goal
 
 pub returns-in_err-tid-clause-steps : goal.returns-in_err-tid-clause-steps
 returns-in_err-tid-clause-steps c =

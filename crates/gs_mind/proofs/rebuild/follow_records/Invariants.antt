@@ -5,7 +5,7 @@ use Rattle.gs_dump.specs.declared.record.DumpRecord.{DumpRecord}
 use Rattle.gs_mind.specs.Held.{HasRoom}
 use Rattle.gs_mind.specs.Pages.{after_page}
 use Rattle.gs_mind.specs.Picture.{parts}
-use Rattle.gs_mind.proofs.rebuild.take_records.Given as goal
+use Rattle.gs_mind.proofs.rebuild.follow_records.Given as goal
 
 abbrev pub invariant-loop-thread : goal.invariant-loop-thread
 invariant-loop-thread l =

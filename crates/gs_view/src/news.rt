@@ -1,6 +1,6 @@
-/// What a message was to a view that took it in.
+/// What a message was to a view.
 #[derive(Clone, Copy, PartialEq, Eq, Debug)]
-pub enum Taken {
+pub enum News {
     /// It was news: the view knows now what it says. A timer tick says nothing of any thread.
     Applied,
     /// It was not above the number that the view has of its thread. Nothing changed.

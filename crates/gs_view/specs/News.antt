@@ -1,11 +1,11 @@
 -- What was taken in, in the words of the definitions.
 use Rattle.gs_layout.specs.declared.known.Word.{Word}
 use Rattle.gs_layout.specs.declared.known.Word.TheVariants as words
-use Rattle.gs_view.specs.declared.taken.Taken.{Taken}
-use Rattle.gs_view.specs.declared.taken.Taken.TheVariants.{Applied, Skipped, Orphan}
+use Rattle.gs_view.specs.declared.news.News.{News}
+use Rattle.gs_view.specs.declared.news.News.TheVariants.{Applied, Skipped, Orphan}
 
 -- the word of a message that was taken in so
-abbrev pub word_of : Taken → Word
+abbrev pub word_of : News → Word
 word_of Applied = words.Applied
 word_of Skipped = words.Skipped
 word_of Orphan = words.Orphan
