@@ -10,7 +10,7 @@ use Rattle.gs_layout.specs.Message.{takes_off_cpu}
 use Rattle.gs_journal.specs.declared.entry.Entry.{Entry}
 use Rattle.gs_journal.specs.declared.entry.Entry.TheVariants.{Posted, Placed, Role, Begin, Left, Taken, Given, Torn}
 use Rattle.gs_journal.specs.Standing.{then_latest}
-use Rattle.gs_journal.specs.History.{History, attaching, is_torn, on, at, seq, taken, last_taken, taken_by, posted}
+use Rattle.gs_journal.specs.History.{History, attaching, is_torn, on, at, record_in, seq, taken, last_taken, taken_by, posted}
 use Rattle.gs_journal.proofs.Laws.{last_taken-push, posted-push, same_posted, taken_is}
 use Rattle.gs_status.specs.Masks.{has}
 use Rattle.gs_threads.specs.Mirrors.{is_quiet}
@@ -22,6 +22,7 @@ use Rattle.gs_kernel.specs.declared.thread_event.ThreadEvent.{ThreadEvent}
 use Rattle.gs_kernel.specs.declared.thread_event.ThreadEvent.TheVariants as happens
 use Rattle.gs_kernel.specs.declared.command.Command.{Command}
 use Rattle.gs_kernel.specs.declared.command.Command.TheVariants as commands
+use Rattle.gs_kernel.specs.Threads.{is_runnable}
 use Rattle.gs_kernel.specs.Kernel.{change_by, happening, must_leave, next_about, next_generation, event_refusal, preemption}
 use Rattle.gs_kernel.specs.declared.effect.Effect.{Effect}
 use Rattle.gs_kernel.specs.declared.effect.Effect.TheVariants.{Post, Append}
@@ -113,7 +114,7 @@ refuses_not true x e = refl
 refuses_not false x e = absurd cc
 
 -- the CPU that it takes the thread off is the one that it is on
-left_there : (s : Settings) (h : History) (u : ℕ) (e : ThreadEvent) (d : ℕ) → event_refusal s h u e ≡ None → left_in (change_by (at s.cpus h u) e) ≡ Some d → at s.cpus h u ≡ Some d
+left_there : (s : Settings) (h : History) (u : ℕ) (e : ThreadEvent) (d : ℕ) → event_refusal s (at s.cpus h u) (is_runnable (record_in h u)) e ≡ None → left_in (change_by (at s.cpus h u) e) ≡ Some d → at s.cpus h u ≡ Some d
 left_there s h u happens.Block d own q = on_it (at s.cpus h u) (refuses_not _ _ own) q
   where
     on_it : (o : Option ℕ) → is_some o ≡ true → Some (unwrap_or o 0) ≡ Some d → o ≡ Some d
@@ -133,7 +134,7 @@ left_there s h u (happens.Affinity mask) d own q = by_off (at s.cpus h u) (must_
     by_off o false q = absurd cc
 
 -- the CPU that an event takes its thread off is the one that it is on, if it takes it off
-left_seat : (s : Settings) (h : History) (u : ℕ) (e : ThreadEvent) → event_refusal s h u e ≡ None
+left_seat : (s : Settings) (h : History) (u : ℕ) (e : ThreadEvent) → event_refusal s (at s.cpus h u) (is_runnable (record_in h u)) e ≡ None
     → left_in (change_by (at s.cpus h u) e) ≡ cond (takes_off_cpu (change_by (at s.cpus h u) e)) (at s.cpus h u) None
 left_seat s h u happens.Block own = on_it (at s.cpus h u) (refuses_not _ _ own)
   where

@@ -63,13 +63,13 @@ lives h t = is_live (record_in h t)
 abbrev pub is_spent : Settings → History → ℕ → Bool
 is_spent s h t = nat_le LAST_TSEQ (seq s.first_tseq h t)
 
--- the refusal that one kind of event has of its own
-abbrev pub event_refusal : Settings → History → ℕ → ThreadEvent → Option Refusal
-event_refusal s h t happens.Block = if is_some (at s.cpus h t) then None else Some refusals.NotRunning
-event_refusal s h t happens.Wake = if is_runnable (record_in h t) then Some refusals.NotBlocked else None
-event_refusal s h t happens.Yield = if is_some (at s.cpus h t) then None else Some refusals.NotRunning
-event_refusal s h t happens.Die = None
-event_refusal s h t (happens.Affinity mask) = if is_bad_mask s mask then Some refusals.EmptyMask else None
+-- the refusal that one kind of event has of its own, of a thread that is on this CPU, if any, and may run or not
+abbrev pub event_refusal : Settings → Option ℕ → Bool → ThreadEvent → Option Refusal
+event_refusal s there runs happens.Block = if is_some there then None else Some refusals.NotRunning
+event_refusal s there runs happens.Wake = if runs then Some refusals.NotBlocked else None
+event_refusal s there runs happens.Yield = if is_some there then None else Some refusals.NotRunning
+event_refusal s there runs happens.Die = None
+event_refusal s there runs (happens.Affinity mask) = if is_bad_mask s mask then Some refusals.EmptyMask else None
 
 -- whether the active agent is on a CPU
 abbrev pub is_agent_on : ℕ → Option (ℕ × ℕ) → Bool
@@ -89,7 +89,7 @@ or_else None later = later
 unfoldable pub thread_refusal : Settings → History → ℕ → ThreadEvent → Option Refusal
 thread_refusal s h t e =
     first_that ((not (lives h t), Some refusals.NoThread) ∷ [])
-    (or_else (event_refusal s h t e) (first_that ((is_spent s h t, Some refusals.SeqSpent) ∷ []) None))
+    (or_else (event_refusal s (at s.cpus h t) (is_runnable (record_in h t)) e) (first_that ((is_spent s h t, Some refusals.SeqSpent) ∷ []) None))
 
 -- whether a thread on this CPU, if any, has to leave it under a new mask
 abbrev pub must_leave : Option ℕ → ℕ → Bool

@@ -8,7 +8,7 @@ ghost use Rattle.gs_kernel.specs.Threads.{NamesMask};
 use crate::kernel::Kernel;
 use crate::settings::LAST_TSEQ;
 use crate::thread_event::ThreadEvent;
-use gs_layout::{Change, Message, Refusal};
+use gs_layout::{Change, Message, Record, Refusal};
 use gs_ring::Poster;
 
 impl<P: Poster> Kernel<P> {
@@ -20,10 +20,11 @@ impl<P: Poster> Kernel<P> {
     {
         // A look at a field, by which the proof has what the kernel keeps.
         let _settings = &self.settings;
+        let (tseq, there) = self.number_and_place(tid);
         Message::Thread {
             tid,
-            tseq: self.seq(tid) + 1,
-            change: change_by(self.at(tid), event),
+            tseq: tseq + 1,
+            change: change_by(there, event),
         }
     }
 
@@ -32,45 +33,36 @@ impl<P: Poster> Kernel<P> {
     pub(crate) fn thread_refusal(&self, tid: u32, event: ThreadEvent) -> Option<Refusal>
         ensures { result ≡ thread_refusal self.now.settings self.now.history tid event }
     {
-        if !self.is_live(tid) {
+        let Some(row) = self.row(tid) else {
             return Some(Refusal::NoThread);
-        }
-        if let Some(refusal) = self.event_refusal(tid, event) {
+        };
+        let Record::Live { facts } = &row.record else {
+            return Some(Refusal::NoThread);
+        };
+        if let Some(refusal) = self.event_refusal(row.cpu, facts.runnable, event) {
             return Some(refusal);
         }
-        if self.seq(tid) == LAST_TSEQ {
+        if row.tseq == LAST_TSEQ {
             return Some(Refusal::SeqSpent);
         }
         None
     }
 
-    /// Returns the refusal that this kind of event has of its own.
-    fn event_refusal(&self, tid: u32, event: ThreadEvent) -> Option<Refusal>
-        ensures { result ≡ event_refusal self.now.settings self.now.history tid event }
+    /// Returns the refusal that this kind of event has of its own, of a thread that is on this CPU, if any, and
+    /// may run or not.
+    fn event_refusal(
+        &self,
+        there: Option<u16>,
+        runnable: bool,
+        event: ThreadEvent,
+    ) -> Option<Refusal>
+        ensures { result ≡ event_refusal self.now.settings there runnable event }
     {
         match event {
-            ThreadEvent::Block | ThreadEvent::Yield => {
-                if self.at(tid).is_some() {
-                    None
-                } else {
-                    Some(Refusal::NotRunning)
-                }
-            }
-            ThreadEvent::Wake => {
-                if self.is_runnable(tid) {
-                    Some(Refusal::NotBlocked)
-                } else {
-                    None
-                }
-            }
-            ThreadEvent::Die => None,
-            ThreadEvent::Affinity { mask } => {
-                if self.is_bad_mask(mask) {
-                    Some(Refusal::EmptyMask)
-                } else {
-                    None
-                }
-            }
+            ThreadEvent::Block | ThreadEvent::Yield if there.is_none() => Some(Refusal::NotRunning),
+            ThreadEvent::Wake if runnable => Some(Refusal::NotBlocked),
+            ThreadEvent::Affinity { mask } if self.is_bad_mask(mask) => Some(Refusal::EmptyMask),
+            _ => None,
         }
     }
 }

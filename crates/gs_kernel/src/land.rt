@@ -15,7 +15,7 @@ use crate::effect::Effect;
 use crate::kernel::Kernel;
 use crate::landing::Landing;
 use gs_journal::Entry;
-use gs_layout::Outcome;
+use gs_layout::{Outcome, Record};
 use gs_ring::Poster;
 use gs_slots::{SlotMut, SlotState, Stamp};
 use std::alloc::AllocError;
@@ -34,19 +34,22 @@ impl<P: Poster> Kernel<P> {
         if !is_generation(slot.generation, self.agents.active) {
             return Outcome::Displaced;
         }
-        if !self.is_live(slot.tid) {
+        let Some(row) = self.row(slot.tid) else {
             return Outcome::NoThread;
-        }
-        if slot.tseq != self.seq(slot.tid) {
+        };
+        let Record::Live { facts } = &row.record else {
+            return Outcome::NoThread;
+        };
+        if slot.tseq != row.tseq {
             return Outcome::Stale;
         }
-        if !self.is_runnable(slot.tid) {
+        if !facts.runnable {
             return Outcome::NotRunnable;
         }
-        if self.at(slot.tid).is_some() {
+        if row.cpu.is_some() {
             return Outcome::AlreadyPlaced;
         }
-        if !self.may_run_on(cpu, slot.tid) {
+        if !facts.mask.has(cpu) {
             return Outcome::NotAllowed;
         }
         self.cpu_verdict(cpu, slot.preempt)

@@ -39,7 +39,7 @@ impl<P: Poster> Kernel<P> {
             return false;
         }
         append(&mut self.journal, effect);
-        take_in(&mut self.threads, &mut self.running, effect);
+        update(&mut self.threads, &mut self.running, effect);
         self.taken = hold(self.taken, effect);
         self.agents = lead(self.agents, effect);
         true
@@ -104,7 +104,7 @@ fn append(journal: &mut Journal, effect: &Effect)
 }
 
 /// Changes the rows and the seats by all that a step adds.
-fn take_in(threads: &mut ThreadTable, running: &mut [Option<u32>], effect: &Effect)
+fn update(threads: &mut ThreadTable, running: &mut [Option<u32>], effect: &Effect)
     requires room { IfSome (message_in effect.now) (λ m. is_some (created_in m) ≡ true → 0 < threads.old.room) }
     requires seats { IfSome (message_in effect.now) (λ m. (c : ℕ) → left_by m ≡ Some c → c < length running.old) }
     requires seated { IfSome (behind effect.now) (SeatsBelow (length running.old)) }

@@ -17,8 +17,8 @@ send-requires-clause-few g c =
     let due : ComesNext k.settings k.journal.entries c.args.effect.now = subst (λ v. ComesNext v.settings v.history c.args.effect.now) (sym c.self.view_is) c.requires.due in
     omega (arith, due_room _ _ _ due, i.in_range.most_history, posted-length k.journal.entries, g.met.P.Poster.counted _ _ i.told)
 
-pub take_in-requires-clause-seats : goal.take_in-requires-clause-seats
-take_in-requires-clause-seats g c =
+pub update-requires-clause-seats : goal.update-requires-clause-seats
+update-requires-clause-seats g c =
     let k = c.self.inside in
     let due : ComesNext k.settings k.journal.entries c.args.effect.now = subst (λ v. ComesNext v.settings v.history c.args.effect.now) (sym c.self.view_is) c.requires.due in
     due_left k.settings k.journal.entries k.threads k.running.items c.deref_mut.result.now k.taken k.agents k.torn _ due c.self.invariant.kept c.deref_mut.ensures.value
@@ -29,8 +29,8 @@ hold-self-inside-requires g c =
     let due : ComesNext k.settings k.journal.entries c.args.effect.now = subst (λ v. ComesNext v.settings v.history c.args.effect.now) (sym c.self.view_is) c.requires.due in
     due_near _ _ _ due (omega (arith, c.self.invariant.in_range.most_cpus))
 
-pub take_in-requires-clause-seated : goal.take_in-requires-clause-seated
-take_in-requires-clause-seated g c =
+pub update-requires-clause-seated : goal.update-requires-clause-seated
+update-requires-clause-seated g c =
     let k = c.self.inside in
     let due : ComesNext k.settings k.journal.entries c.args.effect.now = subst (λ v. ComesNext v.settings v.history c.args.effect.now) (sym c.self.view_is) c.requires.due in
     due_seats k.settings k.journal.entries _ (length c.deref_mut.result.now) due (ap length c.deref_mut.ensures.value ∙ c.self.invariant.kept.count)
@@ -44,17 +44,17 @@ invariant_of-self-2 g c =
     let due : ComesNext k.settings h x = subst (λ v. ComesNext v.settings v.history c.args.effect.now) (sym c.self.view_is) c.requires.due in
     let sent : c.send.new.journal.entries ≡ h ++ listed_message (message_in x) = grind (arith, common_steps) in
     let now : c.append.new.journal.entries ≡ h ++ entries_in x = c.append.ensures.entries ∙ (ap (λ (y : History). y ++ listed_entry (behind x)) sent ∙ told_both h x) in
-    let new = c.take_in.new.running in
-    let seats : new ≡ seats_seated (seats_told k.running.items (message_in x)) (behind x) = c.take_in.ensures.seats ∙ ap (λ (y : List (Option ℕ)). seats_seated (seats_told y (message_in x)) (behind x)) c.deref_mut.ensures.value in
+    let new = c.update.new.running in
+    let seats : new ≡ seats_seated (seats_told k.running.items (message_in x)) (behind x) = c.update.ensures.seats ∙ ap (λ (y : List (Option ℕ)). seats_seated (seats_told y (message_in x)) (behind x)) c.deref_mut.ensures.value in
     let count : length new ≡ k.running.len = ap length seats ∙ (seated_length (seats_told k.running.items (message_in x)) (behind x) ∙ (length_told k.running.items (message_in x) ∙ sym k.running.ok.0)) in
     record {
       in_range = i.in_range;
       limit = grind (arith, common_steps);
       first = grind (arith, common_steps);
       told = subst (g.P.Poster.posted c.send.new.poster) (sym (ap posted c.append.ensures.entries ∙ due_quiet k.settings h c.send.new.journal.entries x due)) (c.send.ensures.told i.told);
-      kept = subst (λ (y : History). IsKept k.settings y c.take_in.new.threads (with_items k.running new).items c.hold-self-inside.result c.lead-self-inside.result k.torn) (sym now)
-          (kept_next k.settings h k.threads c.take_in.new.threads k.running.items (with_items k.running new).items k.taken c.hold-self-inside.result k.agents c.lead-self-inside.result k.torn x due i.kept
-          c.take_in.ensures.rows c.take_in.ensures.first_tseq (with_items_is k.running new count ∙ seats) c.hold-self-inside.ensures c.lead-self-inside.ensures);
+      kept = subst (λ (y : History). IsKept k.settings y c.update.new.threads (with_items k.running new).items c.hold-self-inside.result c.lead-self-inside.result k.torn) (sym now)
+          (kept_next k.settings h k.threads c.update.new.threads k.running.items (with_items k.running new).items k.taken c.hold-self-inside.result k.agents c.lead-self-inside.result k.torn x due i.kept
+          c.update.ensures.rows c.update.ensures.first_tseq (with_items_is k.running new count ∙ seats) c.hold-self-inside.ensures c.lead-self-inside.ensures);
     }
 
 pub returns-clause-frame : goal.returns-clause-frame
