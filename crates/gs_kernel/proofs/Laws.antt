@@ -4,6 +4,7 @@ pub use Rattle.gs_kernel.proofs.Entries.{SameBeside, active_none, active_now, at
 pub use Rattle.gs_kernel.proofs.Groups.{AllOf, IsKeptBy, commit_alone, commit_map, group_keeps, own_placed}
 pub use Rattle.gs_kernel.proofs.Kernels.{posted_new}
 pub use Rattle.gs_kernel.proofs.Landings.{Entails, HasLanded, HasStayed, IsLeft, IsPut, all_keep, all_map, all_map_by, bytes_map, if_cases, landing_keeps, lands_map, settles_cases, tells_map}
+pub use Rattle.gs_kernel.proofs.Lasts.{last_added, last_told}
 pub use Rattle.gs_kernel.proofs.OneAgent.{active_begun, active_left, attaching_left, one_agent}
 pub use Rattle.gs_kernel.proofs.OtherClass.{begins_when, hands_off_when}
 pub use Rattle.gs_kernel.proofs.Regions.{Same, commit_read}

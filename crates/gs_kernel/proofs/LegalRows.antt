@@ -1,5 +1,5 @@
 -- What commands add, and rows of a legal step, computed.
-use Rattle.std.proofs.Common.{◌≡◌, [], ◌∷◌, ◌++◌, None, Some, true, false, refl}
+use Rattle.std.proofs.Common.{◌≡◌, [], ◌∷◌, ◌++◌, None, Some, Ok, Err, true, false, refl}
 use Rattle.gs_layout.specs.declared.facts.Facts.{Facts}
 use Rattle.gs_layout.specs.declared.facts.Class.TheVariants.{Zero}
 use Rattle.gs_layout.specs.declared.message.Change.TheVariants as changes
@@ -13,7 +13,7 @@ use Rattle.gs_journal.specs.Standing.{standing, latest, last_of}
 use Rattle.gs_journal.specs.State.{state}
 use Rattle.gs_kernel.specs.declared.settings.Settings.{Settings}
 use Rattle.gs_kernel.specs.declared.command.Command.TheVariants as commands
-use Rattle.gs_kernel.specs.declared.answer.Answer.TheVariants as answers
+use Rattle.gs_kernel.specs.declared.executed.Executed.TheVariants as executed
 use Rattle.gs_kernel.specs.declared.thread_event.ThreadEvent.TheVariants as threads
 use Rattle.gs_kernel.specs.declared.effect.Effect.TheVariants.{Post}
 use Rattle.gs_kernel.specs.Attaching.{activate_refusal, begin_refusal, leave_refusal, page_refusal}
@@ -41,43 +41,43 @@ facts = record { runnable = true; mask = 3; class = Zero; name = [] }
 runs : History
 runs = opened ++ Posted (Thread 1 1 (Created facts)) ∷ Placed 1 1 1 1 ∷ []
 
-tick_done : Legal never two opened false (commands.Tick 1) (answers.Done (Posted (TimerTick 1))) (opened ++ Posted (TimerTick 1) ∷ [])
+tick_done : Legal never two opened false (commands.Tick 1) (Ok executed.Done) (opened ++ Posted (TimerTick 1) ∷ [])
 unfolding never two opened tick_refusal torn
-tick_done = (refl, record { free = refl; tells = (tt, refl) })
+tick_done = record { free = refl; tells = (tt, refl) }
 
-tick_torn : Legal always two opened false (commands.Tick 1) answers.Torn (opened ++ Torn ∷ [])
+tick_torn : Legal always two opened false (commands.Tick 1) (Ok executed.Torn) (opened ++ Torn ∷ [])
 unfolding always two opened tick_refusal torn
 tick_torn = record { free = refl; tells = ((TimerTick 1, refl, tt), refl) }
 
-tick_refused : Legal always two opened false (commands.Tick 2) (answers.Refused refusals.BadCpu) opened
+tick_refused : Legal always two opened false (commands.Tick 2) (Err refusals.BadCpu) opened
 unfolding never two opened tick_refusal torn
 tick_refused = (refl, refl)
 
-tick_short : Legal always two opened false (commands.Tick 1) (answers.Refused refusals.OutOfMemory) opened
+tick_short : Legal always two opened false (commands.Tick 1) (Err refusals.OutOfMemory) opened
 unfolding never two opened tick_refusal torn
 tick_short = (refl, refl)
 
-create_done : Legal never two opened false (commands.Create facts) (answers.Done (Posted (Thread 1 1 (Created facts)))) (opened ++ Posted (Thread 1 1 (Created facts)) ∷ [])
+create_done : Legal never two opened false (commands.Create facts) (Ok executed.Done) (opened ++ Posted (Thread 1 1 (Created facts)) ∷ [])
 unfolding never two opened facts create_refusal torn created posted
-create_done = (refl, record { free = refl; tells = (tt, refl) })
+create_done = record { free = refl; tells = (tt, refl) }
 
-take_free : Legal never two opened false (commands.Take 1) (answers.Done (Taken 1)) (opened ++ Taken 1 ∷ [])
+take_free : Legal never two opened false (commands.Take 1) (Ok executed.Done) (opened ++ Taken 1 ∷ [])
 unfolding never two opened take_refusal torn active taken last_taken on standing latest last_of
-take_free = (refl, record { free = refl; tells = (tt, refl) })
+take_free = record { free = refl; tells = (tt, refl) }
 
-take_over : Legal never two runs false (commands.Take 1) (answers.Done (Taken 1)) (runs ++ Posted (Thread 1 2 (Preempted 1)) ∷ Taken 1 ∷ [])
+take_over : Legal never two runs false (commands.Take 1) (Ok executed.Done) (runs ++ Posted (Thread 1 2 (Preempted 1)) ∷ Taken 1 ∷ [])
 unfolding never two opened runs facts take_refusal torn active taken last_taken on standing latest last_of seq messages posted
-take_over = (refl, record { free = refl; tells = (tt, refl) })
+take_over = record { free = refl; tells = (tt, refl) }
 
-take_torn : Legal always two runs false (commands.Take 1) answers.Torn (runs ++ Torn ∷ [])
+take_torn : Legal always two runs false (commands.Take 1) (Ok executed.Torn) (runs ++ Torn ∷ [])
 unfolding always two opened runs facts take_refusal torn active taken last_taken on standing latest last_of seq messages posted
 take_torn = record { free = refl; tells = ((Thread 1 2 (Preempted 1), refl, tt), refl) }
 
-take_refused : Legal always two runs false (commands.Take 0) (answers.Refused refusals.AgentThere) runs
+take_refused : Legal always two runs false (commands.Take 0) (Err refusals.AgentThere) runs
 unfolding never two opened runs facts take_refusal torn active standing last_of
 take_refused = (refl, refl)
 
-give_refused : Legal always two opened false (commands.Give 1) (answers.Refused refusals.NotTaken) opened
+give_refused : Legal always two opened false (commands.Give 1) (Err refusals.NotTaken) opened
 unfolding never two opened give_refusal torn taken last_taken standing latest last_of
 give_refused = (refl, refl)
 
@@ -114,19 +114,19 @@ no_room : (refusal (record two { history = 4 }) runs false (commands.Take 1) ∷
 unfolding two opened runs facts take_refusal tick_refusal torn active taken last_taken on standing latest last_of seq messages posted
 no_room = refl
 
-hands_over : Legal never two opened false (commands.HandOff 1) (answers.Done (Role 2 1)) (opened ++ Role 2 1 ∷ [])
+hands_over : Legal never two opened false (commands.HandOff 1) (Ok executed.Done) (opened ++ Role 2 1 ∷ [])
 unfolding never two opened hand_off_refusal take_refusal torn active taken last_taken on standing latest last_of generation
-hands_over = (refl, record { free = refl; tells = (tt, refl) })
+hands_over = record { free = refl; tells = (tt, refl) }
 
-hands_over_preempting : Legal never two runs false (commands.HandOff 1) (answers.Done (Role 2 1)) (runs ++ Posted (Thread 1 2 (Preempted 1)) ∷ Role 2 1 ∷ [])
+hands_over_preempting : Legal never two runs false (commands.HandOff 1) (Ok executed.Done) (runs ++ Posted (Thread 1 2 (Preempted 1)) ∷ Role 2 1 ∷ [])
 unfolding never two opened runs facts hand_off_refusal take_refusal torn active taken last_taken on standing latest last_of seq messages posted generation
-hands_over_preempting = (refl, record { free = refl; tells = (tt, refl) })
+hands_over_preempting = record { free = refl; tells = (tt, refl) }
 
-hands_over_torn : Legal always two runs false (commands.HandOff 1) answers.Torn (runs ++ Torn ∷ [])
+hands_over_torn : Legal always two runs false (commands.HandOff 1) (Ok executed.Torn) (runs ++ Torn ∷ [])
 unfolding always two opened runs facts hand_off_refusal take_refusal torn active taken last_taken on standing latest last_of seq messages posted generation
 hands_over_torn = record { free = refl; tells = ((Thread 1 2 (Preempted 1), refl, tt), refl) }
 
-agent_there : Legal always two opened false (commands.HandOff 0) (answers.Refused refusals.AgentThere) opened
+agent_there : Legal always two opened false (commands.HandOff 0) (Err refusals.AgentThere) opened
 unfolding always two opened hand_off_refusal take_refusal torn active standing last_of
 agent_there = (refl, refl)
 
@@ -134,7 +134,7 @@ agent_there = (refl, refl)
 last_generation : History
 last_generation = Role 4294967295 0 ∷ []
 
-no_more_generations : Legal always two last_generation false (commands.HandOff 1) (answers.Refused refusals.GenSpent) last_generation
+no_more_generations : Legal always two last_generation false (commands.HandOff 1) (Err refusals.GenSpent) last_generation
 unfolding always two last_generation hand_off_refusal take_refusal torn active taken last_taken on standing latest last_of generation
 no_more_generations = (refl, refl)
 
@@ -145,27 +145,27 @@ alone = opened ++ Left ∷ []
 begun : History
 begun = runs ++ Left ∷ Begin 2 ∷ []
 
-leaves : Legal never two opened false commands.Leave (answers.Done Left) (opened ++ Left ∷ [])
+leaves : Legal never two opened false commands.Leave (Ok executed.Done) (opened ++ Left ∷ [])
 unfolding never two opened leave_refusal torn active attaching standing last_of
-leaves = (refl, record { free = refl; tells = (tt, refl) })
+leaves = record { free = refl; tells = (tt, refl) }
 
-nobody_leaves : Legal never two alone false commands.Leave (answers.Refused refusals.NotActive) alone
+nobody_leaves : Legal never two alone false commands.Leave (Err refusals.NotActive) alone
 unfolding never two alone opened leave_refusal torn active attaching standing last_of
 nobody_leaves = (refl, refl)
 
-begins : Legal never two alone true commands.Begin (answers.Done (Begin 2)) (alone ++ Begin 2 ∷ [])
+begins : Legal never two alone true commands.Begin (Ok executed.Done) (alone ++ Begin 2 ∷ [])
 unfolding never two alone opened begin_refusal torn active attaching generation latest standing last_of
-begins = (refl, record { free = refl; tells = (tt, refl) })
+begins = record { free = refl; tells = (tt, refl) }
 
-still_there : Legal never two begun true commands.Begin (answers.Refused refusals.StillAttached) begun
+still_there : Legal never two begun true commands.Begin (Err refusals.StillAttached) begun
 unfolding never two begun runs facts opened begin_refusal torn active attaching generation latest standing last_of
 still_there = (refl, refl)
 
-activates : Legal never two begun true (commands.Activate 1) (answers.Done (Role 2 1)) (begun ++ Posted (Thread 1 2 (Preempted 1)) ∷ Role 2 1 ∷ [])
+activates : Legal never two begun true (commands.Activate 1) (Ok executed.Done) (begun ++ Posted (Thread 1 2 (Preempted 1)) ∷ Role 2 1 ∷ [])
 unfolding never two begun opened runs facts activate_refusal take_refusal torn active attaching taken last_taken on standing latest last_of seq messages posted
-activates = (refl, record { free = refl; tells = (tt, refl) })
+activates = record { free = refl; tells = (tt, refl) }
 
-not_yet : Legal never two begun false (commands.Activate 1) (answers.Refused refusals.NotAttaching) begun
+not_yet : Legal never two begun false (commands.Activate 1) (Err refusals.NotAttaching) begun
 unfolding never two begun opened runs facts activate_refusal torn attaching standing last_of
 not_yet = (refl, refl)
 

@@ -1,5 +1,5 @@
 -- What the kernel returns, and what it leaves.
-use Rattle.std.specs.Prelude.{Bool, false, not, ◌||◌, ℕ, ◌+◌, ◌≡◌, ◌==◌, nat_le, Option, None, Some, List, [], ◌∷◌, length, if◌then◌else◌, is_none, is_some, unwrap_or}
+use Rattle.std.specs.Prelude.{Bool, false, not, ◌||◌, ℕ, ◌+◌, ◌-◌, ◌≡◌, ◌==◌, nat_le, Option, None, Some, List, [], ◌∷◌, length, slice_get, if◌then◌else◌, is_none, is_some, unwrap_or}
 use Rattle.std.specs.Option.{option_map}
 use Rattle.gs_layout.specs.declared.facts.Facts.{Facts}
 use Rattle.gs_layout.specs.declared.message.Change.{Change}
@@ -10,6 +10,7 @@ use Rattle.gs_layout.specs.declared.message.Message.TheVariants.{Thread}
 use Rattle.gs_layout.specs.declared.refusal.Refusal.{Refusal}
 use Rattle.gs_layout.specs.declared.refusal.Refusal.TheVariants as refusals
 use Rattle.gs_journal.specs.declared.entry.Entry.{Entry}
+use Rattle.gs_journal.specs.declared.entry.Entry.TheVariants.{Torn}
 use Rattle.gs_status.specs.Masks.{has, has_past, has_none}
 use Rattle.gs_journal.specs.History.{History, created, seq, record_in, on, at, active, attaching, generation, taken, torn}
 use Rattle.gs_kernel.specs.declared.settings.Settings.{Settings}
@@ -37,6 +38,10 @@ pub record SameKernel {P : Type 0} (a b : KernelOf P) : Type 0 where
   pub room : b.room ≡ a.room
   pub rows : b.rows ≡ a.rows
   pub pages : b.paged ≡ a.paged
+
+-- the last thing that happened
+abbrev pub last_entry : History → Entry
+last_entry h = unwrap_or (slice_get h (length h - 1)) Torn
 
 -- a mask that names no CPU, or one past the last
 abbrev pub is_bad_mask : Settings → ℕ → Bool

@@ -1,5 +1,5 @@
 -- A legal step of the kernel, over histories alone.
-use Rattle.std.specs.Prelude.{Bool, true, false, ℕ, ◌≡◌, Option, None, Some, IfSome, List, [], ◌++◌, ◌∷◌, unwrap_or}
+use Rattle.std.specs.Prelude.{Bool, true, false, ℕ, ◌≡◌, Option, None, Some, IfSome, Result, Ok, Err, OnErr, List, [], ◌++◌, ◌∷◌, unwrap_or}
 use Rattle.gs_layout.specs.declared.message.Message.{Message}
 use Rattle.gs_layout.specs.declared.message.Message.TheVariants.{TimerTick}
 use Rattle.gs_layout.specs.declared.refusal.Refusal.{Refusal}
@@ -13,8 +13,9 @@ use Rattle.gs_kernel.specs.declared.command.Command.{Command}
 use Rattle.gs_kernel.specs.declared.command.Command.TheVariants as commands
 use Rattle.gs_kernel.specs.declared.effect.Effect.{Effect}
 use Rattle.gs_kernel.specs.declared.effect.Effect.TheVariants.{Post, Append}
-use Rattle.gs_kernel.specs.declared.answer.Answer.{Answer}
-use Rattle.gs_kernel.specs.declared.answer.Answer.TheVariants as answers
+use Rattle.gs_kernel.specs.declared.executed.Executed.{Executed}
+use Rattle.gs_kernel.specs.declared.executed.Executed.TheVariants as executed
+use Rattle.gs_kernel.specs.declared.executed.Executed.TheVariants.{Done}
 use Rattle.gs_kernel.specs.Kernel.{KernelOf, IsRefusal, or_else, unless_torn, is_full, create_refusal, thread_refusal, take_refusal, give_refusal, tick_refusal, hand_off_refusal, next_generation, creation, happening, preemption}
 use Rattle.gs_kernel.specs.Attaching.{leave_refusal, begin_refusal, activate_refusal}
 
@@ -93,22 +94,20 @@ abbrev pub Tells : Room → History → Effect → Bool → History → Type 0
 Tells room h x true h' = IfSome (message_in x) (room h true) × (h' ≡ h ++ entries_in x)
 Tells room h x false h' = ((m : Message) × (message_in x ≡ Some m) × room h false m) × (h' ≡ h ++ Torn ∷ [])
 
--- the answer if this was told: the last of it, or that the enclave was torn down
-abbrev pub IsAnswered : Room → History → Effect → Answer → History → Type 0
-IsAnswered room h x (answers.Refused r) h' = ⊥
-IsAnswered room h x (answers.Done e) h' = (e ≡ last_in x) × Tells room h x true h'
-IsAnswered room h x answers.Torn h' = Tells room h x false h'
-
 -- a command that nothing refuses, and what it adds
 pub record Serves (room : Room) (s : Settings) (h : History) (given : Bool) (c : Command) (fits : Bool) (h' : History) : Type 0 where
   pub free : refusal s h given c ≡ None
   pub tells : Tells room h (effect s h c) fits h'
 
+-- whether all was done, with no tear-down in place of it
+abbrev pub is_done : Executed → Bool
+is_done Done = true
+is_done executed.Torn = false
+
 -- refused by the first refusal that holds, or as out of memory if none does, and nothing changed; or done; or torn down
-abbrev pub Legal : Room → Settings → History → Bool → Command → Answer → History → Type 0
-Legal room s h given c (answers.Refused r) h' = IsRefusal (refusal s h given c) r × (h' ≡ h)
-Legal room s h given c (answers.Done e) h' = (e ≡ last_in (effect s h c)) × Serves room s h given c true h'
-Legal room s h given c answers.Torn h' = Serves room s h given c false h'
+abbrev pub Legal : Room → Settings → History → Bool → Command → Result Executed Refusal → History → Type 0
+Legal room s h given c (Err r) h' = IsRefusal (refusal s h given c) r × (h' ≡ h)
+Legal room s h given c (Ok x) h' = Serves room s h given c (is_done x) h'
 
 -- What no call touches: the ring and what was taken from it, the numbers, and whether the last page was given. What was sent is what the
 -- journal says was posted.
@@ -119,20 +118,14 @@ pub record Frame {P : Type 0} (same : P → P → Type 0) (taken : P → ℕ) (s
   pub settings : b.settings ≡ a.settings
   pub pages : b.paged ≡ a.paged
 
--- an answer that refuses
-abbrev pub Refuses : Answer → Type 0
-Refuses (answers.Refused r) = Unit {0}
-Refuses (answers.Done e) = ⊥
-Refuses answers.Torn = ⊥
-
--- whether the last page was given since the last begin, after an answer: it was not if that was a begin that was done
-abbrev pub paged_by : Answer → Bool → Bool
-paged_by (answers.Done (Begin g)) p = false
-paged_by _ p = p
+-- whether the last page was given since the last begin, after what came of a command: it was not once a begin was done
+abbrev pub paged_by : Result Executed Refusal → Command → Bool → Bool
+paged_by (Ok Done) commands.Begin p = false
+paged_by _ _ p = p
 
 -- A call that tells a kernel to do something: the step is legal. If it is refused, all is as before, but that more threads may find room. The frame
 -- stays, but that once a begin was done no page was given since.
-pub record IsServed {P : Type 0} (same : P → P → Type 0) (taken : P → ℕ) (sent : P → List Message → Type 0) (tight : P → Message → Type 0) (a : KernelOf P) (c : Command) (r : Answer) (b : KernelOf P) : Type 0 where
+pub record IsServed {P : Type 0} (same : P → P → Type 0) (taken : P → ℕ) (sent : P → List Message → Type 0) (tight : P → Message → Type 0) (a : KernelOf P) (c : Command) (r : Result Executed Refusal) (b : KernelOf P) : Type 0 where
   pub legal : Legal (RoomOf same taken sent tight a.poster) a.settings a.history a.paged c r b.history
-  pub refused : Refuses r → b ≡ record a { rows = b.rows }
-  pub frame : Frame same taken sent (record a { paged = paged_by r a.paged }) b
+  pub refused : OnErr r (b ≡ record a { rows = b.rows })
+  pub frame : Frame same taken sent (record a { paged = paged_by r c a.paged }) b

@@ -2,8 +2,7 @@ ghost use Rattle.std.specs.Prelude.{◌≡◌, ℕ, ◌-◌, ◌≤◌, ◌∷�
 ghost use Rattle.gs_journal.specs.History.{posted, active, attaching, taken, torn};
 ghost use Rattle.gs_status.specs.Masks.{has};
 ghost use Rattle.gs_kernel.specs.Settings.{IsInRange};
-ghost use Rattle.gs_kernel.specs.Fate.{last_entry};
-ghost use Rattle.gs_kernel.specs.Kernel.{has_agent, is_bad_mask, is_full};
+ghost use Rattle.gs_kernel.specs.Kernel.{has_agent, is_bad_mask, is_full, last_entry};
 
 use crate::agents::Agents;
 use crate::settings::Settings;

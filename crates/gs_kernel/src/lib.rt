@@ -3,15 +3,15 @@
 #![tactic(auto)]
 
 mod agents;
-mod answer;
+mod apply;
 mod attach;
 mod beside;
-mod carry_out;
 mod command;
 mod commit;
 mod create;
 mod effect;
-mod fate;
+mod execute;
+mod executed;
 mod generations;
 mod group;
 mod hand_off;
@@ -24,7 +24,6 @@ mod other_class;
 mod page;
 mod post;
 mod repeated;
-mod serve;
 mod settings;
 mod shown;
 mod tear;
@@ -33,10 +32,9 @@ mod thread_event;
 mod threads;
 mod tick;
 
-pub use answer::Answer;
 pub use command::Command;
 pub use effect::Effect;
-pub use fate::Fate;
+pub use executed::Executed;
 pub use head::Head;
 pub use kernel::Kernel;
 pub use landing::Landing;

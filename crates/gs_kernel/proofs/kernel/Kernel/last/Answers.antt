@@ -1,6 +1,6 @@
 use Rattle.std.proofs.Common.{arith}
 use Rattle.std.proofs.lemmas.Grind.{common_steps}
-use Rattle.gs_kernel.proofs.Fates.{nonempty}
+use Rattle.gs_kernel.proofs.Lasts.{nonempty}
 use Rattle.gs_kernel.proofs.kernel.Kernel.last.Goals as goal
 
 pub unreachable-requires : goal.unreachable-requires

@@ -1,14 +1,13 @@
-//! Commands are served.
+//! Commands are executed.
 
-ghost use Rattle.std.specs.Prelude.{◌≡◌, ◌<◌, ◌≤◌, OnErr, OnOk, None, true};
+ghost use Rattle.std.specs.Prelude.{◌≡◌, ◌<◌, ◌≤◌, Ok, OnErr, OnOk, None, true};
 ghost use Rattle.gs_kernel.specs.declared.command.Command.{Command};
+ghost use Rattle.gs_kernel.specs.declared.executed.Executed.{Executed};
 ghost use Rattle.gs_kernel.specs.declared.thread_event.ThreadEvent.{ThreadEvent};
-ghost use Rattle.gs_kernel.specs.Fate.{answer_by, last_entry, paged_after};
-ghost use Rattle.gs_kernel.specs.Legal.{IsServed, creates, most_entries, own_refusal, refusal};
+ghost use Rattle.gs_kernel.specs.Legal.{IsServed, creates, most_entries, own_refusal, paged_by, refusal};
 
-use crate::answer::Answer;
 use crate::command::Command;
-use crate::fate::Fate;
+use crate::executed::Executed;
 use crate::kernel::Kernel;
 use crate::thread_event::ThreadEvent;
 use gs_layout::{Facts, Refusal};
@@ -17,34 +16,27 @@ use gs_status::Mask;
 use std::alloc::AllocError;
 
 impl<P: Poster> Kernel<P> {
-    /// Serves a command. It is refused by the first refusal that applies, and then nothing changes. Or it is
-    /// done, or its message does not fit, which tears the enclave down. It is refused `OutOfMemory` only if
-    /// no other refusal applies and it is out of memory.
-    pub fn serve(&mut self, command: &Command) -> Answer
-        ensures { IsServed P.same P.taken P.posted P.tight self.old command.now result self.new }
-    {
-        let fate = self.obey(command);
-        fate.answer(self.last())
-    }
-
-    /// Serves a command as [`Kernel::serve`] does, and returns what became of it. If it was done, the last entry that
+    /// Executes a command. Or its message does not fit, which tears the enclave down. If it was done, the last entry that
     /// it added is [`Kernel::last`].
-    pub fn obey(&mut self, command: &Command) -> Fate
-        ensures { IsServed P.same P.taken P.posted P.tight self.old command.now (answer_by result (last_entry self.new.history)) self.new }
+    ///
+    /// # Errors
+    ///
+    /// The first refusal that applies ([`Kernel::refusal`]), and then nothing changes. It is `OutOfMemory` only if no
+    /// other applies and it is out of memory.
+    pub fn execute(&mut self, command: &Command) -> Result<Executed, Refusal>
+        ensures { IsServed P.same P.taken P.posted P.tight self.old command.now result self.new }
     {
         // A look at a field, by which the proof has what the kernel keeps.
         let _settings = &self.settings;
         if let Some(refusal) = self.refusal(command) {
-            return Fate::Refused { refusal };
+            return Err(refusal);
         }
-        if self.make_room(command).is_err() {
-            return Fate::Refused {
-                refusal: Refusal::OutOfMemory,
-            };
+        self.make_room(command)?;
+        if !self.apply(command) {
+            return Ok(Executed::Torn);
         }
-        let fits = self.carry_out(command);
-        self.paged = paged_after(command, fits, self.paged);
-        Fate::told(fits)
+        self.paged = paged_after(command, self.paged);
+        Ok(Executed::Done)
     }
 
     /// Returns why a command is refused, apart from `OutOfMemory`: the first refusal that applies. It does
@@ -115,119 +107,116 @@ impl<P: Poster> Kernel<P> {
         }
     }
 
-    /// Creates a thread: [`Kernel::serve`] of this one command, as each of the calls below.
-    pub fn create(&mut self, facts: &Facts) -> Answer
+    /// Creates a thread: [`Kernel::execute`] of this one command, as each of the calls below.
+    pub fn create(&mut self, facts: &Facts) -> Result<Executed, Refusal>
         ensures { IsServed P.same P.taken P.posted P.tight self.old (Command.Create facts.now) result self.new }
     {
-        self.serve(&Command::Create { facts: *facts })
+        self.execute(&Command::Create { facts: *facts })
     }
 
     /// Blocks a thread, on its CPU.
-    pub fn block(&mut self, tid: u32) -> Answer
+    pub fn block(&mut self, tid: u32) -> Result<Executed, Refusal>
         ensures { IsServed P.same P.taken P.posted P.tight self.old (Command.Thread tid ThreadEvent.Block) result self.new }
     {
-        self.serve(&Command::Thread {
+        self.execute(&Command::Thread {
             tid,
             event: ThreadEvent::Block,
         })
     }
 
     /// Wakes a thread, which may run again.
-    pub fn wake(&mut self, tid: u32) -> Answer
+    pub fn wake(&mut self, tid: u32) -> Result<Executed, Refusal>
         ensures { IsServed P.same P.taken P.posted P.tight self.old (Command.Thread tid ThreadEvent.Wake) result self.new }
     {
-        self.serve(&Command::Thread {
+        self.execute(&Command::Thread {
             tid,
             event: ThreadEvent::Wake,
         })
     }
 
     /// Gives up a thread's CPU. The thread may run on.
-    pub fn yield_cpu(&mut self, tid: u32) -> Answer
+    pub fn yield_cpu(&mut self, tid: u32) -> Result<Executed, Refusal>
         ensures { IsServed P.same P.taken P.posted P.tight self.old (Command.Thread tid ThreadEvent.Yield) result self.new }
     {
-        self.serve(&Command::Thread {
+        self.execute(&Command::Thread {
             tid,
             event: ThreadEvent::Yield,
         })
     }
 
     /// Ends a thread.
-    pub fn die(&mut self, tid: u32) -> Answer
+    pub fn die(&mut self, tid: u32) -> Result<Executed, Refusal>
         ensures { IsServed P.same P.taken P.posted P.tight self.old (Command.Thread tid ThreadEvent.Die) result self.new }
     {
-        self.serve(&Command::Thread {
+        self.execute(&Command::Thread {
             tid,
             event: ThreadEvent::Die,
         })
     }
 
     /// Sets the mask of a thread: from now on it may run on the CPUs of the mask.
-    pub fn affinity(&mut self, tid: u32, mask: Mask) -> Answer
+    pub fn affinity(&mut self, tid: u32, mask: Mask) -> Result<Executed, Refusal>
         ensures { IsServed P.same P.taken P.posted P.tight self.old (Command.Thread tid (ThreadEvent.Affinity mask)) result self.new }
     {
-        self.serve(&Command::Thread {
+        self.execute(&Command::Thread {
             tid,
             event: ThreadEvent::Affinity { mask },
         })
     }
 
     /// Takes a CPU for the other scheduling class.
-    pub fn take(&mut self, cpu: u16) -> Answer
+    pub fn take(&mut self, cpu: u16) -> Result<Executed, Refusal>
         ensures { IsServed P.same P.taken P.posted P.tight self.old (Command.Take cpu) result self.new }
     {
-        self.serve(&Command::Take { cpu })
+        self.execute(&Command::Take { cpu })
     }
 
     /// Gives a CPU back that the other scheduling class holds.
-    pub fn give(&mut self, cpu: u16) -> Answer
+    pub fn give(&mut self, cpu: u16) -> Result<Executed, Refusal>
         ensures { IsServed P.same P.taken P.posted P.tight self.old (Command.Give cpu) result self.new }
     {
-        self.serve(&Command::Give { cpu })
+        self.execute(&Command::Give { cpu })
     }
 
     /// Ticks the timer of a CPU.
-    pub fn tick(&mut self, cpu: u16) -> Answer
+    pub fn tick(&mut self, cpu: u16) -> Result<Executed, Refusal>
         ensures { IsServed P.same P.taken P.posted P.tight self.old (Command.Tick cpu) result self.new }
     {
-        self.serve(&Command::Tick { cpu })
+        self.execute(&Command::Tick { cpu })
     }
 
     /// Hands the active agent over to a CPU.
-    pub fn hand_off(&mut self, cpu: u16) -> Answer
+    pub fn hand_off(&mut self, cpu: u16) -> Result<Executed, Refusal>
         ensures { IsServed P.same P.taken P.posted P.tight self.old (Command.HandOff cpu) result self.new }
     {
-        self.serve(&Command::HandOff { cpu })
+        self.execute(&Command::HandOff { cpu })
     }
 
     /// Ends the agent, which leaves or crashed.
-    pub fn leave(&mut self) -> Answer
+    pub fn leave(&mut self) -> Result<Executed, Refusal>
         ensures { IsServed P.same P.taken P.posted P.tight self.old Command.Leave result self.new }
     {
-        self.serve(&Command::Leave)
+        self.execute(&Command::Leave)
     }
 
     /// Begins a new agent, which attaches then.
-    pub fn begin(&mut self) -> Answer
+    pub fn begin(&mut self) -> Result<Executed, Refusal>
         ensures { IsServed P.same P.taken P.posted P.tight self.old Command.Begin result self.new }
     {
-        self.serve(&Command::Begin)
+        self.execute(&Command::Begin)
     }
 
     /// Activates the agent that attaches, on a CPU.
-    pub fn activate(&mut self, cpu: u16) -> Answer
+    pub fn activate(&mut self, cpu: u16) -> Result<Executed, Refusal>
         ensures { IsServed P.same P.taken P.posted P.tight self.old (Command.Activate cpu) result self.new }
     {
-        self.serve(&Command::Activate { cpu })
+        self.execute(&Command::Activate { cpu })
     }
 }
 
-/// Returns whether the last page was given since the last begin, after a command whose message fits or not.
-fn paged_after(command: &Command, fits: bool, paged: bool) -> bool
-    ensures { result ≡ paged_after command.now fits paged }
+/// Returns whether the last page was given since the last begin, once a command was done.
+fn paged_after(command: &Command, paged: bool) -> bool
+    ensures { result ≡ paged_by (Ok Executed.Done) command.now paged }
 {
-    match command {
-        Command::Begin => paged && !fits,
-        _ => paged,
-    }
+    paged && !matches!(command, Command::Begin)
 }

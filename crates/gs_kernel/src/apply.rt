@@ -1,4 +1,4 @@
-//! Commands that nothing refuses are carried out.
+//! Commands that nothing refuses are applied.
 
 ghost use Rattle.std.specs.Prelude.{◌≡◌, ◌+◌, ◌<◌, ◌≤◌, IfSome, None, length, true};
 ghost use Rattle.std.specs.Option.{is_some};
@@ -20,7 +20,7 @@ use gs_ring::Poster;
 impl<P: Poster> Kernel<P> {
     /// Does a command that nothing refuses, and returns whether its message fits. There is room for all that it adds. If
     /// the message does not fit, the call tears the enclave down in place of all this.
-    pub(crate) fn carry_out(&mut self, command: &Command) -> bool
+    pub(crate) fn apply(&mut self, command: &Command) -> bool
         requires free { refusal self.old.settings self.old.history self.old.paged command.now ≡ None }
         requires room { most_entries command.now ≤ self.old.room }
         requires rows { creates command.now ≡ true → 0 < self.old.rows }
