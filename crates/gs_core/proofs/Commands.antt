@@ -11,19 +11,22 @@ use Rattle.gs_journal.specs.declared.entry.Entry.TheVariants.{Posted, Role, Take
 use Rattle.gs_journal.specs.History.{History, active, attaching, on}
 use Rattle.gs_kernel.specs.declared.settings.Settings.{Settings}
 use Rattle.gs_kernel.specs.Attaching.{activate_refusal}
-use Rattle.gs_kernel.specs.Kernel.{creation, happening, next_about, next_generation, preemption, take_refusal}
+use Rattle.gs_kernel.specs.Kernel.{creation, happening, last_entry, next_about, next_generation, preemption, take_refusal}
 use Rattle.gs_kernel.specs.declared.command.Command.{Command}
 use Rattle.gs_kernel.specs.declared.command.Command.TheVariants as commands
 use Rattle.gs_kernel.specs.declared.effect.Effect.{Effect}
 use Rattle.gs_kernel.specs.declared.effect.Effect.TheVariants.{Append}
-use Rattle.gs_kernel.specs.Legal.{Room, Tells, effect, entries_in, last_in, refusal}
-use Rattle.gs_kernel.proofs.Laws.{active_now, first_passed, free_when, hands_off_when}
+use Rattle.gs_kernel.specs.declared.executed.Executed.{Executed}
+use Rattle.gs_kernel.specs.declared.executed.Executed.TheVariants as executed
+use Rattle.gs_kernel.specs.declared.executed.Executed.TheVariants.{Done}
+use Rattle.gs_kernel.specs.Legal.{Room, Tells, effect, entries_in, is_done, last_in, refusal}
+use Rattle.gs_kernel.proofs.Laws.{active_now, first_passed, free_when, hands_off_when, last_added, last_told}
 use Rattle.gs_core.specs.Machine.{Agent, State, freed_by, is_given_all, led, page_of, promoted}
 use Rattle.gs_core.specs.Good.{Good, GoodHistory}
 use Rattle.gs_core.specs.Held.{Kept}
 use Rattle.gs_core.proofs.Grows.{Grows, grown_kept, grows_posted, grows_quiet, grows_then, grows_torn}
 use Rattle.gs_core.proofs.Happens.{both_about, both_happening}
-use Rattle.gs_core.proofs.Leads.{freed_by_none, leads_kept, led_by_none}
+use Rattle.gs_core.proofs.Leads.{leads_kept}
 use Rattle.gs_core.proofs.Roles.{roles_given, roles_taken}
 use Rattle.gs_core.proofs.Steps.{both_creation, both_ticked, grown_good}
 use Rattle.gs_core.proofs.Vacant.{kept_begun, kept_left}
@@ -73,12 +76,12 @@ needs_none s h o c e = by_page o (first_passed (not (is_some (attaching h) && is
     by_page None p = refl
     by_page (Some t) p = absurd (false≢true (sym p ∙ both (is_some (attaching h))))
 
--- a machine once an effect was told, or tore the enclave down
-abbrev pub left_by : State → Effect → Bool → History → State
-left_by m x fit h = record m { history = h; agent = led m.settings.cpus (last_in x) fit m.agent; slots = freed_by m.settings.cpus (last_in x) fit m.slots }
+-- a machine whose agent and slots follow an entry
+abbrev pub left_by : State → Entry → History → State
+left_by m e h = record m { history = h; agent = led m.settings.cpus e m.agent; slots = freed_by m.settings.cpus e m.slots }
 
 -- what a command leaves that nothing refuses
-kept_command : (m : State) (c : Command) → refusal m.settings m.history (is_given_all m) c ≡ None → Kept m → Kept (left_by m (effect m.settings m.history c) true (m.history ++ entries_in (effect m.settings m.history c)))
+kept_command : (m : State) (c : Command) → refusal m.settings m.history (is_given_all m) c ≡ None → Kept m → Kept (left_by m (last_in (effect m.settings m.history c)) (m.history ++ entries_in (effect m.settings m.history c)))
 kept_command m (commands.Create f) none k = grown_kept m _ (grows_posted m (creation m.settings.first_tseq m.history f) k.good (both_creation m f k.good)) k
 kept_command m (commands.Thread t e) none k = grown_kept m _ (grows_posted m (happening m.settings m.history t e) k.good (both_happening m t e (free_when m.settings m.history (is_given_all m) (commands.Thread t e) none).own k.good)) k
 kept_command m (commands.Take c) none k = grown_kept m _ (grows_taken m c k.good) k
@@ -92,16 +95,14 @@ kept_command m commands.Begin none k = kept_begun m (next_generation m.history) 
 kept_command m (commands.Activate c) none k =
     kept_promoted m (unwrap_or (attaching m.history) 0) c (needs_none m.settings m.history (page_of m.agent) c (free_when m.settings m.history (is_given_all m) (commands.Activate c) none).own) k
 
--- so is a command that is told, or tears the enclave down
-pub kept_told : (m : State) (room : Room) (c : Command) (fit : Bool) (h : History) → refusal m.settings m.history (is_given_all m) c ≡ None → Tells room m.history (effect m.settings m.history c) fit h → Kept m
-    → Kept (left_by m (effect m.settings m.history c) fit h)
-kept_told m room c true h none t k = subst (λ (y : History). Kept (left_by m (effect m.settings m.history c) true y)) (sym t.1) (kept_command m c none k)
-kept_told m room c false h none t k =
-    let torn : Kept (record m { history = m.history ++ Torn ∷ [] }) = grown_kept m _ (grows_torn m k.good) k in
-    let e : Entry = last_in (effect m.settings m.history c) in
-    let same : record m { history = m.history ++ Torn ∷ [] } ≡ left_by m (effect m.settings m.history c) false h =
-    λ i. record m { history = sym t.1 i; agent = sym (led_by_none m.settings.cpus e m.agent) i; slots = sym (freed_by_none m.settings.cpus e m.slots) i } in
-    subst Kept same torn
+-- so is a command that is done, or tears the enclave down
+pub kept_told : (m : State) (room : Room) (c : Command) (x : Executed) (h : History) → refusal m.settings m.history (is_given_all m) c ≡ None → Tells room m.history (effect m.settings m.history c) (is_done x) h → Kept m → Kept (left_by m (last_entry h) h)
+kept_told m room c Done h none t k =
+    subst (λ (e : Entry). Kept (left_by m e h)) (sym (ap last_entry t.1 ∙ last_told m.history (effect m.settings m.history c)))
+    (subst (λ (y : History). Kept (left_by m (last_in (effect m.settings m.history c)) y)) (sym t.1) (kept_command m c none k))
+kept_told m room c executed.Torn h none t k =
+    subst (λ (e : Entry). Kept (left_by m e h)) (sym (ap last_entry t.1 ∙ last_added m.history Torn))
+    (subst (λ (y : History). Kept (left_by m Torn y)) (sym t.1) (grown_kept m _ (grows_torn m k.good) k))
 
 -- a role that is added is the active one
 pub role_last : (h : History) (o : Option Message) (g c : ℕ) → active (h ++ entries_in (Append o (Role g c))) ≡ Some (g, c)

@@ -61,24 +61,3 @@ leads_kept m g c last k = by_agent m.agent last k
     by_agent : (o : Option Agent) → page_of o ≡ None → Kept (record m { agent = o }) → Kept (record m { history = m.history ++ Role g c ∷ []; agent = option_map (promoted c) o })
     by_agent None last k = absurd cc
     by_agent (Some a) last k = promoted_kept m a g c last k
-
--- a tear-down leaves the agent and the slots as they were
-pub led_by_none : (cpus : ℕ) (e : Entry) (o : Option Agent) → led cpus e false o ≡ o
-led_by_none cpus (Posted k) o = refl
-led_by_none cpus (Placed t q c g) o = refl
-led_by_none cpus (Role g c) o = refl
-led_by_none cpus (Begin g) o = refl
-led_by_none cpus Left o = refl
-led_by_none cpus (Taken c) o = refl
-led_by_none cpus (Given c) o = refl
-led_by_none cpus Torn o = refl
-
-pub freed_by_none : (cpus : ℕ) (e : Entry) (slots : List SlotState) → freed_by cpus e false slots ≡ slots
-freed_by_none cpus (Posted k) slots = refl
-freed_by_none cpus (Placed t q c g) slots = refl
-freed_by_none cpus (Role g c) slots = refl
-freed_by_none cpus (Begin g) slots = refl
-freed_by_none cpus Left slots = refl
-freed_by_none cpus (Taken c) slots = refl
-freed_by_none cpus (Given c) slots = refl
-freed_by_none cpus Torn slots = refl

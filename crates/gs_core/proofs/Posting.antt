@@ -1,10 +1,10 @@
 -- Whether a message fits, by the ring as it is.
-use Rattle.std.proofs.Common.{ℕ, ◌≡◌, ◌<◌, ◌≤◌, Bool, true, false, not, ◌&&◌, cond, inl, inr, unwrap_or, Option, None, Some, List, [], ◌∷◌, ◌++◌, refl, ap, sym, subst, ◌∙◌, arith}
+use Rattle.std.proofs.Common.{ℕ, ◌≡◌, ◌<◌, ◌≤◌, Bool, true, false, not, ◌&&◌, cond, inl, inr, Option, None, Some, Result, Ok, Err, IfOk, IfErr, OnOk, OnErr, List, [], ◌∷◌, ◌++◌, refl, ap, sym, subst, ◌∙◌, arith}
 use Rattle.std.proofs.lemmas.Bool.{false≢true}
 use Rattle.std.proofs.lemmas.Bool.Decides.{nat_tests}
 use Rattle.std.specs.Option.{is_some, option_map}
 use Rattle.gs_layout.specs.declared.message.Message.{Message}
-use Rattle.gs_journal.specs.declared.entry.Entry.TheVariants.{Posted}
+use Rattle.gs_journal.specs.declared.entry.Entry.TheVariants.{Posted, Placed, Role, Begin, Left, Taken, Given, Torn}
 use Rattle.gs_journal.specs.History.{History, attaching, posted, torn}
 use Rattle.gs_slots.specs.declared.state.SlotState.{SlotState}
 use Rattle.gs_journal.proofs.Laws.{posted-push}
@@ -17,23 +17,24 @@ use Rattle.gs_journal.specs.declared.entry.Entry.{Entry}
 use Rattle.gs_kernel.specs.declared.settings.Settings.{Settings}
 use Rattle.gs_kernel.specs.Attaching.{activate_refusal}
 use Rattle.gs_kernel.specs.First.{first_that}
-use Rattle.gs_kernel.specs.Kernel.{IsRefusal, is_full, next_generation, or_else, take_refusal, unless_torn}
+use Rattle.gs_kernel.specs.Kernel.{IsRefusal, is_full, last_entry, or_else, take_refusal, unless_torn}
 use Rattle.gs_kernel.specs.declared.command.Command.{Command}
 use Rattle.gs_kernel.specs.declared.command.Command.TheVariants as commands
-use Rattle.gs_kernel.specs.declared.answer.Answer.{Answer}
-use Rattle.gs_kernel.specs.declared.answer.Answer.TheVariants as answers
-use Rattle.gs_kernel.specs.Legal.{Legal, Room, RoomOf, Tells, effect, last_in, refusal as kernel_refuses}
+use Rattle.gs_kernel.specs.declared.executed.Executed.{Executed}
+use Rattle.gs_kernel.specs.declared.executed.Executed.TheVariants as executed
+use Rattle.gs_kernel.specs.declared.executed.Executed.TheVariants.{Done}
+use Rattle.gs_kernel.specs.declared.effect.Effect.TheVariants.{Append}
+use Rattle.gs_kernel.specs.Legal.{Legal, Room, RoomOf, Tells, effect, is_done, last_in, refusal as kernel_refuses}
 use Rattle.gs_core.specs.declared.event.Event.{Event}
 use Rattle.gs_core.specs.declared.event.Event.TheVariants as events
 use Rattle.gs_replies.specs.declared.reply.Reply.{Reply}
 use Rattle.gs_replies.specs.declared.reply.Reply.TheVariants as replies
-use Rattle.gs_kernel.proofs.Laws.{Entails, tells_map}
+use Rattle.gs_kernel.proofs.Laws.{Entails, last_added, last_told, tells_map}
 use Rattle.gs_agent.specs.Role.{RoleOf}
-use Rattle.gs_core.specs.Answers.{answered, follows, on_cpu}
-use Rattle.gs_replies.specs.Replies.{reply_of}
-use Rattle.gs_core.specs.Machine.{Agent, Carries, Plan, State, IsFit, fits_into, freed_by, is_given_all, kernel_refusal, led, promoted, refusal, standing_refusal, stays_with, told_refusal, Does, IsShort, Serves, Step}
+use Rattle.gs_core.specs.Follows.{follows, on_cpu}
+use Rattle.gs_replies.specs.Replies.{replied, reply_of}
+use Rattle.gs_core.specs.Machine.{Agent, Carries, Plan, State, StateOf, IsFit, fits_into, freed_by, is_given_all, kernel_refusal, led, planned_by, planning, promoted, refusal, standing_refusal, stays_with, told_refusal, Does, IsShort, Serves, Step}
 use Rattle.gs_core.specs.Held.{agent_of}
-use Rattle.gs_core.proofs.Leads.{freed_by_none, led_by_none}
 
 -- the ring that a machine shows
 pub record IsRingAt (bytes n : ℕ) (h : List Entry) (r : RingState) : Type 0 where
@@ -97,17 +98,6 @@ pub room_fits : (ring n : ℕ) (r : RingState) → r.capacity ≡ ring → r.tak
 room_fits ring n r is_ring is_n h true k x = fits_then ring n h x.0 x.4 k (record { ring = x.1 ∙ is_ring; consumed = x.2 ∙ is_n; told = x.3 }) x.5 x.6 (subst (Sent x.4) (sym (posted-push h (Posted k))) x.7)
 room_fits ring n r is_ring is_n h false k x = fits_not ring n h x.0 k (record { ring = x.1 ∙ is_ring; consumed = x.2 ∙ is_n; told = x.3 }) x.4
 
--- agent and slots after an answer
-abbrev pub led_by : ℕ → Answer → Option Agent → Option Agent
-led_by cpus (answers.Refused f) o = o
-led_by cpus answers.Torn o = o
-led_by cpus (answers.Done e) o = led cpus e true o
-
-abbrev pub freed_after : ℕ → Answer → List SlotState → List SlotState
-freed_after cpus (answers.Refused f) slots = slots
-freed_after cpus answers.Torn slots = slots
-freed_after cpus (answers.Done e) slots = freed_by cpus e true slots
-
 -- whether the last page was given matters while an agent attaches alone
 same_pages : (s : Settings) (h : History) (b b' : Bool) (c : ℕ) → (is_some (attaching h) ≡ true → b ≡ b') → activate_refusal s h b c ≡ activate_refusal s h b' c
 unfolding activate_refusal
@@ -128,98 +118,56 @@ same_given s h b b' commands.Leave same = refl
 same_given s h b b' commands.Begin same = refl
 same_given s h b b' (commands.Activate c) same = ap (λ o. unless_torn h (or_else o (first_that ((is_full s h 2, Some refusals.HistoryFull) ∷ []) None))) (same_pages s h b b' c same)
 
--- a legal step of the kernel as the machine says it
-pub record Told (m : State) (c : Command) (a : Answer) (m' : State) : Type 0 where
-  pub refused : (f : Refusal) → a ≡ answers.Refused f → IsRefusal (kernel_refuses m.settings m.history (is_given_all m) c) f × (m' ≡ m)
-  pub carried : ((f : Refusal) → a ≡ answers.Refused f → ⊥) → (kernel_refuses m.settings m.history (is_given_all m) c ≡ None) × Carries m c (reply_of a) m'
+-- a command that was not refused, as the machine says it
+pub legal_told : (m : State) (given : Bool) (c : Command) (x : Executed) (s : Settings) (r0 r1 : RingState) (h : List Entry) → r0.capacity ≡ m.ring → r0.taken ≡ m.consumed → SameCapacity r0 r1 → r1.taken ≡ r0.taken → s ≡ m.settings
+    → (is_some (attaching m.history) ≡ true → given ≡ is_given_all m) → Legal (RingRoom r0) m.settings m.history given c (Ok x) h
+    → (kernel_refuses m.settings m.history (is_given_all m) c ≡ None) × Carries m c (reply_of (Ok x) (last_entry h)) (record (with_kernel m s r1 h) { agent = led m.settings.cpus (last_entry h) m.agent; slots = freed_by m.settings.cpus (last_entry h) m.slots })
+legal_told m given c x s r0 r1 h is_ring is_n same stays is_s knows l = (
+  sym (same_given m.settings m.history given (is_given_all m) c knows) ∙ l.free,
+  record {
+    executed = x;
+    reply = refl;
+    tells = tells_map (RingRoom r0) (IsFit m.ring m.consumed) m.history (effect m.settings m.history c) (is_done x) h (room_fits m.ring m.consumed r0 is_ring is_n) l.tells;
+    others = λ i. record {
+      settings = is_s i;
+      ring = (same ∙ is_ring) i;
+      history = h;
+      consumed = (stays ∙ is_n) i;
+      agent = led m.settings.cpus (last_entry h) m.agent;
+      policy = m.policy;
+      slots = freed_by m.settings.cpus (last_entry h) m.slots;
+      transactions = m.transactions;
+    };
+  },
+)
 
-pub legal_told : (m : State) (given : Bool) (c : Command) (a : Answer) (s : Settings) (r0 r1 : RingState) (h : List Entry) → r0.capacity ≡ m.ring → r0.taken ≡ m.consumed → SameCapacity r0 r1 → r1.taken ≡ r0.taken → s ≡ m.settings
-    → (is_some (attaching m.history) ≡ true → given ≡ is_given_all m) → Legal (RingRoom r0) m.settings m.history given c a h
-    → Told m c a (record (with_kernel m s r1 h) { agent = led_by m.settings.cpus a m.agent; slots = freed_after m.settings.cpus a m.slots })
-legal_told m given c a s r0 r1 h is_ring is_n same stays is_s knows l = by_answer a l
-  where
-    cpus : ℕ
-    cpus = m.settings.cpus
-
-    e : Entry
-    e = last_in (effect m.settings m.history c)
-
-    left : Option Agent → List SlotState → State
-    left o zs = record (with_kernel m s r1 h) { agent = o; slots = zs }
-
-    beside : (h' : List Entry) (o o' : Option Agent) (zs zs' : List SlotState) → h ≡ h' → o ≡ o' → zs ≡ zs' → left o zs ≡ record m { history = h'; agent = o'; slots = zs' }
-    beside h' o o' zs zs' e f g = λ i. record { settings = is_s i; ring = (same ∙ is_ring) i; history = e i; consumed = (stays ∙ is_n) i; agent = f i; policy = m.policy; slots = g i; transactions = m.transactions }
-
-    fits_as : (b : Bool) → Tells (RingRoom r0) m.history (effect m.settings m.history c) b h → Tells (IsFit m.ring m.consumed) m.history (effect m.settings m.history c) b h
-    fits_as b t = tells_map (RingRoom r0) (IsFit m.ring m.consumed) m.history (effect m.settings m.history c) b h (room_fits m.ring m.consumed r0 is_ring is_n) t
-
-    pages : kernel_refuses m.settings m.history given c ≡ kernel_refuses m.settings m.history (is_given_all m) c
-    pages = same_given m.settings m.history given (is_given_all m) c knows
-
-    by_answer : (a : Answer) → Legal (RingRoom r0) m.settings m.history given c a h → Told m c a (left (led_by cpus a m.agent) (freed_after cpus a m.slots))
-    by_answer (answers.Refused f) l =
-        record {
-          refused = λ g is. let one : f ≡ g = cc in (subst (IsRefusal (kernel_refuses m.settings m.history (is_given_all m) c)) one (subst (λ o. IsRefusal o f) pages l.0), beside m.history m.agent m.agent m.slots m.slots l.1 refl refl);
-          carried = λ none. absurd (none f refl);
-        }
-    by_answer (answers.Done k) l =
-        record {
-          refused = λ g is. absurd cc;
-          carried = λ none. (
-            sym pages ∙ l.1.free,
-            record { fit = true; reply = ap replies.Done l.0; tells = fits_as true l.1.tells; others = beside h (led cpus k true m.agent) _ (freed_by cpus k true m.slots) _ refl (ap (λ (x : Entry). led cpus x true m.agent) l.0) (ap (λ (x : Entry). freed_by cpus x true m.slots) l.0) },
-          );
-        }
-    by_answer answers.Torn l =
-        record {
-          refused = λ g is. absurd cc;
-          carried = λ none. (
-            sym pages ∙ l.free,
-            record { fit = false; reply = refl; tells = fits_as false l.tells; others = beside h m.agent _ m.slots _ refl (sym (led_by_none cpus e m.agent)) (sym (freed_by_none cpus e m.slots)) },
-          );
-        }
+-- and one that was refused
+pub legal_refused : (m : State) (room : Room) (given : Bool) (c : Command) (f : Refusal) (h : List Entry) → (is_some (attaching m.history) ≡ true → given ≡ is_given_all m) → Legal room m.settings m.history given c (Err f) h
+    → IsRefusal (kernel_refuses m.settings m.history (is_given_all m) c) f
+legal_refused m room given c f h knows l = subst (λ o. IsRefusal o f) (same_given m.settings m.history given (is_given_all m) c knows) l.0
 
 -- by which no agent goes and none begins: it is one of the machine
-pub told_step : (m : State) (c : Command) (a : Answer) (m' : State) → stays_with c ≡ true → Told m c a m' → Step m (events.Kernel c) (reply_of a) m'
-told_step m c a m' there t = by_answer a t
+told_mine : (m : State) (c : Command) → stays_with c ≡ true → refusal m (events.Kernel c) ≡ kernel_refuses m.settings m.history (is_given_all m) c
+told_mine m c there = ap (unless_torn m.history) (told_alone m c there)
+
+pub told_step : (m : State) (c : Command) (r : Reply) (m' : State) → stays_with c ≡ true → (kernel_refuses m.settings m.history (is_given_all m) c ≡ None) × Carries m c r m' → Step m (events.Kernel c) r m'
+told_step m c r m' there t = done (refusal m (events.Kernel c)) m (events.Kernel c) r m' (told_mine m c there ∙ t.0) t.1
+
+pub told_refused : (m : State) (c : Command) (f : Refusal) (m' : State) → stays_with c ≡ true → IsRefusal (kernel_refuses m.settings m.history (is_given_all m) c) f → m' ≡ m → Step m (events.Kernel c) (replies.Refused f) m'
+told_refused m c f m' there is same = refused (refusal m (events.Kernel c)) f m (events.Kernel c) (replies.Refused f) m' (subst (λ o. IsRefusal o f) (sym (told_mine m c there)) is) refl (λ p. p) same
+
+-- whether an entry leaves it to the agent that is there: it does not go, and none begins
+is_staying : Entry → Bool
+is_staying (Begin g) = false
+is_staying Left = false
+is_staying _ = true
+
+-- the last one of such a command does
+last_stays : (room : Room) (s : Settings) (h h' : List Entry) (c : Command) (x : Executed) → stays_with c ≡ true → Tells room h (effect s h c) (is_done x) h' → is_staying (last_entry h') ≡ true
+unfolding is_staying
+last_stays room s h h' c Done there t = subst (λ (e : Entry). is_staying e ≡ true) (sym (ap last_entry t.1 ∙ last_told h (effect s h c))) (by_command c there)
   where
-    mine : refusal m (events.Kernel c) ≡ kernel_refuses m.settings m.history (is_given_all m) c
-    mine = ap (unless_torn m.history) (told_alone m c there)
-
-    by_answer : (a : Answer) → Told m c a m' → Step m (events.Kernel c) (reply_of a) m'
-    by_answer (answers.Refused f) t = let x = t.refused f refl in refused (refusal m (events.Kernel c)) f m (events.Kernel c) (replies.Refused f) m' (subst (λ o. IsRefusal o f) (sym mine) x.0) refl (λ p. p) x.1
-    by_answer (answers.Done k) t = let x = t.carried (λ f is. absurd cc) in done (refusal m (events.Kernel c)) m (events.Kernel c) (replies.Done k) m' (mine ∙ x.0) x.1
-    by_answer answers.Torn t = let x = t.carried (λ f is. absurd cc) in done (refusal m (events.Kernel c)) m (events.Kernel c) replies.Torn m' (mine ∙ x.0) x.1
-
--- agent and slots follow an answer as the role does
-led_as : {P : Type 0} (g d : ℕ) (o : Option (RoleOf P)) → option_map (promoted d) (option_map agent_of o) ≡ option_map agent_of (option_map (on_cpu g d) o)
-led_as g d None = refl
-led_as g d (Some r) = refl
-
-pub answered_agent : {P : Type 0} (cpus : ℕ) (room : Room) (s : Settings) (h h' : List Entry) (given : Bool) (c : Command) (a : Answer) (o : Option (RoleOf P)) → stays_with c ≡ true → Legal room s h given c a h'
-    → led_by cpus a (option_map agent_of o) ≡ option_map agent_of (answered a o)
-answered_agent cpus room s h h' given c (answers.Refused f) o there l = refl
-answered_agent cpus room s h h' given c answers.Torn o there l = refl
-answered_agent cpus room s h h' given c (answers.Done e) o there l =
-    subst (λ (x : Entry). led cpus x true (option_map agent_of o) ≡ option_map agent_of (follows x o)) (sym l.0) (by_command c there)
-  where
-    by_command : (c : Command) → stays_with c ≡ true → led cpus (last_in (effect s h c)) true (option_map agent_of o) ≡ option_map agent_of (follows (last_in (effect s h c)) o)
-    by_command (commands.Create f) there = refl
-    by_command (commands.Thread t x) there = refl
-    by_command (commands.Take d) there = refl
-    by_command (commands.Give d) there = refl
-    by_command (commands.Tick d) there = refl
-    by_command (commands.HandOff d) there = led_as (next_generation h) d o
-    by_command (commands.Activate d) there = led_as (unwrap_or (attaching h) 0) d o
-    by_command commands.Leave there = absurd (false≢true there)
-    by_command commands.Begin there = absurd (false≢true there)
-
-pub answered_slots : (cpus : ℕ) (room : Room) (s : Settings) (h h' : List Entry) (given : Bool) (c : Command) (a : Answer) (slots : List SlotState) → stays_with c ≡ true → Legal room s h given c a h' → freed_after cpus a slots ≡ slots
-answered_slots cpus room s h h' given c (answers.Refused f) slots there l = refl
-answered_slots cpus room s h h' given c answers.Torn slots there l = refl
-answered_slots cpus room s h h' given c (answers.Done e) slots there l = subst (λ (x : Entry). freed_by cpus x true slots ≡ slots) (sym l.0) (by_command c there)
-  where
-    by_command : (c : Command) → stays_with c ≡ true → freed_by cpus (last_in (effect s h c)) true slots ≡ slots
+    by_command : (c : Command) → stays_with c ≡ true → is_staying (last_in (effect s h c)) ≡ true
     by_command (commands.Create f) there = refl
     by_command (commands.Thread t x) there = refl
     by_command (commands.Take d) there = refl
@@ -229,3 +177,63 @@ answered_slots cpus room s h h' given c (answers.Done e) slots there l = subst (
     by_command (commands.Activate d) there = refl
     by_command commands.Leave there = absurd (false≢true there)
     by_command commands.Begin there = absurd (false≢true there)
+last_stays room s h h' c executed.Torn there t = subst (λ (e : Entry). is_staying e ≡ true) (sym (ap last_entry t.1 ∙ last_added h Torn)) refl
+
+-- then agent and slots follow it as the role does
+led_as : {P : Type 0} (g d : ℕ) (o : Option (RoleOf P)) → option_map (promoted d) (option_map agent_of o) ≡ option_map agent_of (option_map (on_cpu g d) o)
+led_as g d None = refl
+led_as g d (Some r) = refl
+
+led_follows : {P : Type 0} (cpus : ℕ) (e : Entry) (o : Option (RoleOf P)) → is_staying e ≡ true → led cpus e (option_map agent_of o) ≡ option_map agent_of (follows e o)
+unfolding is_staying
+led_follows cpus (Posted k) o stays = refl
+led_follows cpus (Placed t q c g) o stays = refl
+led_follows cpus (Role g c) o stays = led_as g c o
+led_follows cpus (Begin g) o stays = absurd (false≢true stays)
+led_follows cpus Left o stays = absurd (false≢true stays)
+led_follows cpus (Taken c) o stays = refl
+led_follows cpus (Given c) o stays = refl
+led_follows cpus Torn o stays = refl
+
+freed_not : (cpus : ℕ) (e : Entry) (slots : List SlotState) → is_staying e ≡ true → freed_by cpus e slots ≡ slots
+unfolding is_staying
+freed_not cpus (Posted k) slots stays = refl
+freed_not cpus (Placed t q c g) slots stays = refl
+freed_not cpus (Role g c) slots stays = refl
+freed_not cpus (Begin g) slots stays = absurd (false≢true stays)
+freed_not cpus Left slots stays = absurd (false≢true stays)
+freed_not cpus (Taken c) slots stays = refl
+freed_not cpus (Given c) slots stays = refl
+freed_not cpus Torn slots stays = refl
+
+pub told_agent : {P : Type 0} (cpus : ℕ) (room : Room) (s : Settings) (h h' : List Entry) (c : Command) (x : Executed) (o : Option (RoleOf P)) → stays_with c ≡ true → Tells room h (effect s h c) (is_done x) h'
+    → led cpus (last_entry h') (option_map agent_of o) ≡ option_map agent_of (follows (last_entry h') o)
+told_agent cpus room s h h' c x o there t = led_follows cpus (last_entry h') o (last_stays room s h h' c x there t)
+
+pub told_slots : (cpus : ℕ) (room : Room) (s : Settings) (h h' : List Entry) (c : Command) (x : Executed) (slots : List SlotState) → stays_with c ≡ true → Tells room h (effect s h c) (is_done x) h' → freed_by cpus (last_entry h') slots ≡ slots
+told_slots cpus room s h h' c x slots there t = freed_not cpus (last_entry h') slots (last_stays room s h h' c x there t)
+
+-- an entry without a message is added
+pub done_alone : (room : Room) (h h' : List Entry) (e : Entry) (x : Executed) → Tells room h (Append None e) (is_done x) h' → (x ≡ Done) × (h' ≡ h ++ e ∷ [])
+done_alone room h h' e Done t = (refl, t.1)
+done_alone room h h' e executed.Torn t = let none : None ≡ Some t.0.0 = t.0.1 in absurd cc
+
+-- an event whose call returned a reply, or the refusal
+pub step_of : (m : State) (e : Event Plan) (x : Result Reply Refusal) (m' : State) → torn m.history ≡ false → IfOk x (λ _. standing_refusal m e ≡ None) → IfOk x (λ r. Does m e r m') → IfErr x (IsRefusal (standing_refusal m e)) → OnErr x (m' ≡ m)
+    → ((r : Reply) → r ≡ replies.Refused refusals.OutOfMemory → IsShort e r) → Step m e (replied x) m'
+step_of m e (Ok r) m' up free does is same short = done (refusal m e) m e r m' (while_standing m e up ∙ free) does
+step_of m e (Err f) m' up free does is same short = refused (refusal m e) f m e (replies.Refused f) m' (subst (λ o. IsRefusal o f) (sym (while_standing m e up)) is) refl (short (replies.Refused f)) same
+
+pub begun_step : (m : State) (p : Plan) (x : Result Executed Refusal) (e : Entry) (m' : State) → torn m.history ≡ false → IfOk x (λ _. kernel_refusal m commands.Begin ≡ None) → IfOk x (λ y. Carries (planned_by p m) commands.Begin (reply_of (Ok y) e) m')
+    → IfErr x (IsRefusal (kernel_refusal m commands.Begin)) → OnErr x (m' ≡ m) → Step m (events.Begin p) (reply_of x e) m'
+begun_step m p (Ok y) e m' up free does is same = done (refusal m (events.Begin p)) m (events.Begin p) (reply_of (Ok y) e) m' (while_standing m (events.Begin p) up ∙ free) does
+begun_step m p (Err f) e m' up free does is same =
+    refused (refusal m (events.Begin p)) f m (events.Begin p) (replies.Refused f) m' (subst (λ o. IsRefusal o f) (sym (while_standing m (events.Begin p) up)) is) refl (λ q. q) same
+
+pub same_planning : {P A E : Type 0} (chosen : P → Plan) (x : Result A E) (a b : StateOf P) → OnErr x (b ≡ a) → OnErr x (planning chosen b ≡ planning chosen a)
+same_planning chosen (Ok r) a b e = tt
+same_planning chosen (Err f) a b e = ap (planning chosen) e
+
+pub both_of : {A E : Type 0} (x : Result A E) (X : A → Type 0) (Y : Type 0) → IfOk x X → OnOk x Y → IfOk x (λ a. X a × Y)
+both_of (Ok a) X Y p q = (p, q)
+both_of (Err f) X Y p q = tt

@@ -1,26 +1,31 @@
 -- A replacement comes to its end, and how many events it has at most.
-use Rattle.std.proofs.Common.{◌≡◌, refl, ap, sym, ◌∙◌, subst, ℕ, ◌+◌, ◌/◌, ◌<◌, ◌≤◌, inl, inr, Bool, true, false, Option, None, Some, List, [], ◌∷◌, ◌++◌, length, unwrap_or, arith}
+use Rattle.std.proofs.Common.{◌≡◌, refl, ap, sym, ◌∙◌, subst, ℕ, ◌+◌, ◌/◌, ◌<◌, ◌≤◌, inl, inr, Bool, true, false, Option, None, Some, Ok, List, [], ◌∷◌, ◌++◌, length, unwrap_or, arith}
 use Rattle.std.proofs.Math.Nat.{add-mul, div-mul-le_self}
 use Rattle.std.proofs.lemmas.Nat.{le-div}
 use Rattle.gs_layout.specs.declared.message.Message.{Message}
 use Rattle.gs_layout.specs.declared.refusal.Refusal.{Refusal}
 use Rattle.gs_layout.specs.declared.refusal.Refusal.TheVariants.{OutOfMemory}
 use Rattle.gs_dump.specs.Page.{page_spelling}
+use Rattle.gs_journal.specs.declared.entry.Entry.{Entry}
 use Rattle.gs_journal.specs.declared.entry.Entry.TheVariants.{Left, Begin as BeginEntry}
 use Rattle.gs_journal.specs.History.{History, created}
 use Rattle.gs_journal.proofs.Laws.{same_created}
 use Rattle.gs_kernel.specs.declared.command.Command.TheVariants as commands
 use Rattle.gs_kernel.specs.declared.settings.Settings.{Settings}
 use Rattle.gs_kernel.specs.Dumped.{dumped}
-use Rattle.gs_kernel.specs.Kernel.{next_generation}
-use Rattle.gs_kernel.specs.Legal.{Tells, effect}
+use Rattle.gs_kernel.specs.declared.executed.Executed.{Executed}
+use Rattle.gs_kernel.specs.declared.executed.Executed.TheVariants as executed
+use Rattle.gs_kernel.specs.Kernel.{last_entry, next_generation}
+use Rattle.gs_kernel.specs.Legal.{Tells, effect, is_done}
+use Rattle.gs_kernel.proofs.Laws.{last_added}
 use Rattle.gs_kernel.specs.Shown.{live_from}
 use Rattle.gs_core.specs.declared.event.Event.{Event}
+use Rattle.gs_replies.specs.Replies.{reply_of}
 use Rattle.gs_replies.specs.declared.reply.Reply.{Reply}
 use Rattle.gs_replies.specs.declared.reply.Reply.TheVariants as replies
 use Rattle.gs_core.specs.declared.stage.Stage.{Stage}
 use Rattle.gs_core.specs.declared.stage.Stage.TheVariants.{Crash, Begin, Page, Activate}
-use Rattle.gs_core.specs.Machine.{Does, IsShort, Plan, Serves, State, Step, carried, crashed, fits, led, next_dump, page_of, planned, refusal}
+use Rattle.gs_core.specs.Machine.{Does, IsShort, Plan, Serves, State, Step, crashed, fits, led, next_dump, page_of, planned, refusal}
 use Rattle.gs_core.specs.Policies.{policy_after}
 use Rattle.gs_core.specs.Replacing.{GoesOn, stage_after, stage_event}
 use Rattle.gs_core.proofs.Pages.{from_on, next_far}
@@ -96,29 +101,30 @@ crash_left max r m m' e left =
     omega (arith, is, ap (λ (h : List Message). length h / max) (same_created m.history Left refl))
 
 -- a new one began
-begin_left : (max : ℕ) (r : Reply) (m m' : State) (fit : Bool) → r ≡ carried m commands.Begin fit → page_of m'.agent ≡ page_of (led m.settings.cpus (BeginEntry (next_generation m.history)) fit m.agent)
-    → Tells (fits m) m.history (effect m.settings m.history commands.Begin) fit m'.history → events_left max (stage_after Begin r) m' < events_left max (Some Begin) m
-begin_left max r m m' false e page tells = ended max Begin r m m' (ap (stage_after Begin) e)
-begin_left max r m m' true e page tells =
+begin_left : (max : ℕ) (r : Reply) (m m' : State) (x : Executed) → r ≡ reply_of (Ok x) (last_entry m'.history) → page_of m'.agent ≡ page_of (led m.settings.cpus (last_entry m'.history) m.agent)
+    → Tells (fits m) m.history (effect m.settings m.history commands.Begin) (is_done x) m'.history → events_left max (stage_after Begin r) m' < events_left max (Some Begin) m
+begin_left max r m m' executed.Torn e page tells = ended max Begin r m m' (ap (stage_after Begin) e)
+begin_left max r m m' executed.Done e page tells =
+    let last : last_entry m'.history ≡ BeginEntry (next_generation m.history) = ap last_entry tells.1 ∙ last_added m.history (BeginEntry (next_generation m.history)) in
+    let next : page_of m'.agent ≡ Some 1 = page ∙ ap (λ (x : Entry). page_of (led m.settings.cpus x m.agent)) last in
     let is : events_left max (stage_after Begin r) m' ≡ from_on (m.history ++ BeginEntry (next_generation m.history) ∷ []) 1 / max + 2 =
-    ap (λ o. events_left max o m') (ap (stage_after Begin) e) ∙ (λ i. from_on (tells.1 i) (unwrap_or (page i) 0) / max + 2) in
+    ap (λ o. events_left max o m') (ap (stage_after Begin) e) ∙ (λ i. from_on (tells.1 i) (unwrap_or (next i) 0) / max + 2) in
     let first : from_on (m.history ++ BeginEntry (next_generation m.history) ∷ []) 1 ≡ length (created m.history) =
     omega (arith, ap length (same_created m.history (BeginEntry (next_generation m.history)) refl)) in
     omega (arith, is, ap (λ k. k / max) first)
 
-activate_left : (max cpu : ℕ) (r : Reply) (m m' : State) (fit : Bool) → r ≡ carried m (commands.Activate cpu) fit
-    → events_left max (stage_after Activate r) m' < events_left max (Some Activate) m
-activate_left max cpu r m m' false e = ended max Activate r m m' (ap (stage_after Activate) e)
-activate_left max cpu r m m' true e = ended max Activate r m m' (ap (stage_after Activate) e)
+activate_left : (max : ℕ) (r : Reply) (m m' : State) (x : Executed) → r ≡ reply_of (Ok x) (last_entry m'.history) → events_left max (stage_after Activate r) m' < events_left max (Some Activate) m
+activate_left max r m m' executed.Torn e = ended max Activate r m m' (ap (stage_after Activate) e)
+activate_left max r m m' executed.Done e = ended max Activate r m m' (ap (stage_after Activate) e)
 
 -- what was not refused
 done : (max cpu : ℕ) (s : Stage) (r : Reply) (m m' : State) → 0 < max → Does m (stage_event cpu max s) r m' → events_left max (stage_after s r) m' < events_left max (Some s) m
 done max cpu Crash r m m' some x = crash_left max r m m' x.0 x.1
-done max cpu Begin r m m' some x = begin_left max r m m' x.fit x.reply (ap (λ (s : State). page_of s.agent) x.others) x.tells
+done max cpu Begin r m m' some x = begin_left max r m m' x.executed x.reply (ap (λ (s : State). page_of s.agent) x.others) x.tells
 done max cpu Page r m m' some x =
     subst (λ z. events_left max (stage_after Page z) m' < events_left max (Some Page) m) (sym x.reply)
     (after_page max (length (next_dump m max).records) m m' (next_dump m max).next (page_spelling (next_dump m max)) some refl x.page (ap (λ (s : State). s.history) x.others))
-done max cpu Activate r m m' some x = activate_left max cpu r m m' x.fit x.reply
+done max cpu Activate r m m' some x = activate_left max r m m' x.executed x.reply
 
 short_is : (cpu max : ℕ) (s : Stage) (r : Reply) → IsShort {P = Plan} (stage_event cpu max s) r → r ≡ replies.Refused OutOfMemory
 short_is cpu max Crash r x = x

@@ -1,24 +1,25 @@
 -- The role of a machine suits it, whatever happens.
-use Rattle.std.proofs.Common.{◌≡◌, refl, ap, sym, subst, ◌∙◌, ℕ, Bool, true, false, Option, None, Some, [], ◌∷◌, ◌++◌, append_assoc, unwrap_or}
+use Rattle.std.proofs.Common.{◌≡◌, refl, ap, sym, subst, ◌∙◌, ℕ, Bool, true, false, Option, None, Some, Ok, [], ◌∷◌, ◌++◌, append_assoc, unwrap_or}
 use Rattle.std.proofs.lemmas.Bool.{false≢true}
 use Rattle.std.specs.Option.{is_none, option_map}
 use Rattle.gs_layout.specs.declared.message.Message.{Message}
 use Rattle.gs_layout.specs.declared.message.Message.TheVariants.{TimerTick}
-use Rattle.gs_journal.specs.declared.entry.Entry.TheVariants.{Posted, Role, Begin, Left, Taken}
+use Rattle.gs_journal.specs.declared.entry.Entry.TheVariants.{Posted, Role, Begin, Left, Taken, Torn}
 use Rattle.gs_journal.specs.declared.entry.Entry.{Entry}
 use Rattle.gs_journal.specs.History.{History, active, attaching}
 use Rattle.gs_journal.proofs.Laws.{attaching-push}
 use Rattle.gs_kernel.specs.declared.settings.Settings.{Settings}
-use Rattle.gs_kernel.specs.Kernel.{creation, happening, next_generation, preemption}
+use Rattle.gs_kernel.specs.Kernel.{creation, happening, last_entry, next_generation, preemption}
 use Rattle.gs_kernel.specs.declared.command.Command.{Command}
 use Rattle.gs_kernel.specs.declared.command.Command.TheVariants as commands
-use Rattle.gs_kernel.specs.declared.answer.Answer.{Answer}
-use Rattle.gs_kernel.specs.declared.answer.Answer.TheVariants as answers
+use Rattle.gs_kernel.specs.declared.executed.Executed.{Executed}
+use Rattle.gs_kernel.specs.declared.executed.Executed.TheVariants as executed
+use Rattle.gs_kernel.specs.declared.executed.Executed.TheVariants.{Done}
 use Rattle.gs_kernel.specs.declared.effect.Effect.TheVariants.{Append}
-use Rattle.gs_kernel.specs.Legal.{Legal, Room, effect, entries_in, last_in, paged_by}
-use Rattle.gs_kernel.proofs.Laws.{active_begun, attaching_ended, attaching_left}
+use Rattle.gs_kernel.specs.Legal.{Room, Tells, effect, entries_in, is_done, last_in, paged_by}
+use Rattle.gs_kernel.proofs.Laws.{active_begun, attaching_ended, attaching_left, last_added, last_told}
 use Rattle.gs_agent.specs.Role.{RoleOf}
-use Rattle.gs_core.specs.Answers.{answered, follows, on_cpu}
+use Rattle.gs_core.specs.Follows.{follows, on_cpu}
 use Rattle.gs_core.specs.Machine.{stays_with}
 use Rattle.gs_core.specs.Held.{Suits}
 use Rattle.gs_core.proofs.Commands.{role_last}
@@ -77,7 +78,7 @@ suits_led p h b (Some r) x g c s =
 
 -- the role that follows what a command adds suits
 suits_command : {P : Type 0} (p : P) (s : Settings) (h : History) (c : Command) (b : Bool) (o : Option (RoleOf P)) → stays_with c ≡ true → Suits p h b o
-    → Suits p (h ++ entries_in (effect s h c)) (paged_by (answers.Done (last_in (effect s h c))) b) (follows (last_in (effect s h c)) o)
+    → Suits p (h ++ entries_in (effect s h c)) (paged_by (Ok Done) c b) (follows (last_in (effect s h c)) o)
 suits_command p s h (commands.Create f) b o there k = suits_on p h _ b b o (roles_posted h (creation s.first_tseq h f)) refl k
 suits_command p s h (commands.Thread t e) b o there k = suits_on p h _ b b o (roles_posted h (happening s h t e)) refl k
 suits_command p s h (commands.Take c) b o there k = suits_on p h _ b b o (entry_roles h (preemption s h c) (Taken c) (λ x. roles_taken x c)) refl k
@@ -88,12 +89,12 @@ suits_command p s h (commands.Activate c) b o there k = suits_led p h b o (preem
 suits_command p s h commands.Leave b o there k = absurd (false≢true there)
 suits_command p s h commands.Begin b o there k = absurd (false≢true there)
 
--- and so does the one that follows the kernel's answer
-pub suits_answered : {P : Type 0} (p : P) (room : Room) (s : Settings) (h h' : History) (given : Bool) (c : Command) (x : Answer) (b b' : Bool) (o : Option (RoleOf P)) → stays_with c ≡ true → Legal room s h given c x h' → b' ≡ paged_by x b
-    → Suits p h b o → Suits p h' b' (answered x o)
-suits_answered p room s h h' given c (answers.Refused f) b b' o there l is k = suits_on p h h' b b' o (same_history h h' l.1) is k
-suits_answered p room s h h' given c answers.Torn b b' o there l is k = suits_on p h h' b b' o (subst (NoNewRole h) (sym l.tells.1) (roles_torn h)) is k
-suits_answered p room s h h' given c (answers.Done e) b b' o there l is k =
-    let done = suits_command p s h c b o there k in
-    let grown = subst (λ (y : History). Suits p y (paged_by (answers.Done (last_in (effect s h c))) b) (follows (last_in (effect s h c)) o)) (sym l.1.tells.1) done in
-    subst (λ (z : Bool). Suits p h' z (follows e o)) (sym is) (subst (λ (y : Entry). Suits p h' (paged_by (answers.Done y) b) (follows y o)) (sym l.0) grown)
+-- and so does the one that follows the last entry of a command that was not refused
+pub suits_told : {P : Type 0} (p : P) (room : Room) (s : Settings) (h h' : History) (c : Command) (x : Executed) (b b' : Bool) (o : Option (RoleOf P)) → stays_with c ≡ true → Tells room h (effect s h c) (is_done x) h' → b' ≡ paged_by (Ok x) c b
+    → Suits p h b o → Suits p h' b' (follows (last_entry h') o)
+suits_told p room s h h' c executed.Torn b b' o there t is k =
+    subst (λ (e : Entry). Suits p h' b' (follows e o)) (sym (ap last_entry t.1 ∙ last_added h Torn)) (suits_on p h h' b b' o (subst (NoNewRole h) (sym t.1) (roles_torn h)) is k)
+suits_told p room s h h' c Done b b' o there t is k =
+    let grown = subst (λ (y : History). Suits p y (paged_by (Ok Done) c b) (follows (last_in (effect s h c)) o)) (sym t.1) (suits_command p s h c b o there k) in
+    subst (λ (z : Bool). Suits p h' z (follows (last_entry h') o)) (sym is)
+    (subst (λ (e : Entry). Suits p h' (paged_by (Ok Done) c b) (follows e o)) (sym (ap last_entry t.1 ∙ last_told h (effect s h c))) grown)

@@ -1,5 +1,5 @@
 -- The machine: the reply to each event, and what it leaves.
-use Rattle.std.specs.Prelude.{Bool, true, false, not, ◌||◌, ◌&&◌, ℕ, zero, suc, ◌+◌, ◌-◌, ◌<◌, ◌≤◌, ◌≡◌, ◌⊎◌, nat_le, nat_lt, min, Option, None, Some, IsSome, List, [], ◌∷◌, ◌++◌, length, take, drop, slice_get, slice_set, map, replicate, is_some, is_none, option_map, unwrap_or}
+use Rattle.std.specs.Prelude.{Bool, true, false, not, ◌||◌, ◌&&◌, ℕ, zero, suc, ◌+◌, ◌-◌, ◌<◌, ◌≤◌, ◌≡◌, ◌⊎◌, nat_le, nat_lt, min, Option, None, Some, IsSome, Ok, List, [], ◌∷◌, ◌++◌, length, take, drop, slice_get, slice_set, map, replicate, is_some, is_none, option_map, unwrap_or}
 use Rattle.std.specs.List.{list_any, count_by}
 use Rattle.gs_layout.specs.declared.message.Message.{Message}
 use Rattle.gs_layout.specs.declared.known.Known.{Known}
@@ -19,11 +19,12 @@ use Rattle.gs_kernel.specs.Commit.{standing_commit_refusal}
 use Rattle.gs_kernel.specs.declared.landing.Landing.{Landing}
 use Rattle.gs_kernel.specs.declared.command.Command.{Command}
 use Rattle.gs_kernel.specs.declared.command.Command.TheVariants as commands
-use Rattle.gs_kernel.specs.Legal.{Room, Tells, effect, last_in, standing_refusal as command_refusal}
+use Rattle.gs_kernel.specs.declared.executed.Executed.{Executed}
+use Rattle.gs_kernel.specs.Legal.{Room, Tells, effect, is_done, standing_refusal as command_refusal}
 use Rattle.gs_kernel.specs.Lands.{Landings, Lands}
 use Rattle.gs_kernel.specs.Group.{LandsCommit}
 use Rattle.gs_kernel.specs.First.{first_that}
-use Rattle.gs_kernel.specs.Kernel.{has_agent, unless_torn}
+use Rattle.gs_kernel.specs.Kernel.{has_agent, last_entry, unless_torn}
 use Rattle.gs_kernel.specs.Shown.{live_threads}
 use Rattle.gs_kernel.specs.Attaching.{page_refusal}
 use Rattle.gs_kernel.specs.Dumped.{dumped}
@@ -45,7 +46,7 @@ use Rattle.gs_core.specs.declared.event.Event.{Event}
 use Rattle.gs_core.specs.declared.event.Event.TheVariants as events
 use Rattle.gs_replies.specs.declared.reply.Reply.{Reply}
 use Rattle.gs_replies.specs.declared.reply.Reply.TheVariants as replies
-use Rattle.gs_replies.specs.Replies.{page_reply}
+use Rattle.gs_replies.specs.Replies.{page_reply, reply_of}
 use Rattle.gs_core.specs.declared.transaction.Transaction.{Transaction}
 
 -- what an agent keeps: what it has in mind, and the tid where its next page begins, none if it needs no more pages
@@ -132,18 +133,18 @@ promoted c a = record a { mind = moved c a.mind }
 abbrev pub newcomer : ℕ → Agent
 newcomer cpus = record { mind = nothing cpus None; next = Some 1 }
 
--- the agent after a command, in an enclave of so many CPUs, by the last entry that the command adds and whether that was added. A
--- role moves it to the role's CPU, one that left is gone, and if one begins, it is a new one
-abbrev pub led : ℕ → Entry → Bool → Option Agent → Option Agent
-led cpus (Role g c) true o = option_map (promoted c) o
-led cpus (Begin g) true o = Some (newcomer cpus)
-led cpus Left true o = None
-led cpus _ _ o = o
+-- the agent after a command, in an enclave of so many CPUs, by the last thing that happened. A role moves it to the role's CPU, one that left is
+-- gone, and if one begins, it is a new one
+abbrev pub led : ℕ → Entry → Option Agent → Option Agent
+led cpus (Role g c) o = option_map (promoted c) o
+led cpus (Begin g) o = Some (newcomer cpus)
+led cpus Left o = None
+led cpus _ o = o
 
 -- the slots after it: if an agent begins, they are idle
-abbrev pub freed_by : ℕ → Entry → Bool → List SlotState → List SlotState
-freed_by cpus (Begin g) true slots = replicate cpus Idle
-freed_by cpus _ _ slots = slots
+abbrev pub freed_by : ℕ → Entry → List SlotState → List SlotState
+freed_by cpus (Begin g) slots = replicate cpus Idle
+freed_by cpus _ slots = slots
 
 -- the messages that were posted and not yet consumed
 abbrev pub unread : State → List Message
@@ -236,20 +237,16 @@ IsFit ring consumed h b k = fits_into ring consumed h k ≡ b
 abbrev pub fits : State → Room
 fits m = IsFit m.ring m.consumed
 
--- the reply to a command that was carried out, or tore the enclave down
-abbrev pub carried : State → Command → Bool → Reply
-carried m c true = replies.Done (last_in (effect m.settings m.history c))
-carried m c false = replies.Torn
-
--- a command is carried out, or tears the enclave down, as its message fits or does not; agent and slots follow it, and all else stays
+-- a command is done, or tears the enclave down, as its message fits or does not; agent and slots follow the last thing that happened, and all
+-- else stays
 pub record Carries (m : State) (c : Command) (r : Reply) (m' : State) : Type 0 where
-  pub fit : Bool
-  pub reply : r ≡ carried m c fit
-  pub tells : Tells (fits m) m.history (effect m.settings m.history c) fit m'.history
+  pub executed : Executed
+  pub reply : r ≡ reply_of (Ok executed) (last_entry m'.history)
+  pub tells : Tells (fits m) m.history (effect m.settings m.history c) (is_done executed) m'.history
   pub others : m' ≡ record m {
     history = m'.history;
-    agent = led m.settings.cpus (last_in (effect m.settings m.history c)) fit m.agent;
-    slots = freed_by m.settings.cpus (last_in (effect m.settings m.history c)) fit m.slots;
+    agent = led m.settings.cpus (last_entry m'.history) m.agent;
+    slots = freed_by m.settings.cpus (last_entry m'.history) m.slots;
   }
 
 -- what is stamped: the active generation, the record's sequence number, whether a thread on the CPU is to be taken off, and whether it is

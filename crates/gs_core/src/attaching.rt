@@ -1,24 +1,24 @@
 //! How an agent goes, and how the next one attaches.
 
-ghost use Rattle.std.specs.Prelude.{◌≡◌, IfOk, IfErr, OnOk, OnErr, None, false, true};
+ghost use Rattle.std.specs.Prelude.{◌≡◌, Ok, IfOk, IfErr, OnOk, OnErr, None, false, true};
 ghost use Rattle.gs_layout.specs.declared.refusal.Refusal.{Refusal};
 ghost use Rattle.gs_dump.specs.Page.{page_spelling};
 ghost use Rattle.gs_journal.specs.declared.entry.Entry.{Entry};
 ghost use Rattle.gs_journal.specs.History.{torn};
 ghost use Rattle.gs_kernel.specs.declared.command.Command.{Command};
-ghost use Rattle.gs_kernel.specs.Kernel.{IsRefusal};
-ghost use Rattle.gs_kernel.specs.Fate.{last_entry};
-ghost use Rattle.gs_core.specs.Fates.{reply_by};
+ghost use Rattle.gs_kernel.specs.Kernel.{IsRefusal, last_entry};
+ghost use Rattle.gs_kernel.specs.declared.executed.Executed.{Executed};
+ghost use Rattle.gs_replies.specs.Replies.{replied, reply_of};
 ghost use Rattle.gs_core.specs.declared.event.Event.{Event};
 ghost use Rattle.gs_replies.specs.declared.reply.Reply.{Reply};
 ghost use Rattle.gs_core.specs.Machine.{Attaches, Carries, Step, crashed, kernel_refusal, next_dump, planned_by, planning, standing_refusal, stays_with};
 ghost use Rattle.gs_core.specs.Policies.{policy_after};
 
-use crate::answers::follow_fate;
+use crate::follow::follow;
 use crate::machine::Machine;
 use gs_agent::Role;
 use gs_dump::{Page, read_page, write_page};
-use gs_kernel::{Command, Fate};
+use gs_kernel::{Command, Executed};
 use gs_layout::Refusal;
 use gs_policy::Counted;
 use gs_replies::{Items, Reply};
@@ -26,62 +26,54 @@ use std::alloc::Global;
 
 impl<P: Counted + Copy> Machine<P> {
     /// Tells the kernel a command, and lets agent and slots follow it.
-    pub(crate) fn tell(&mut self, command: &Command) -> Fate
+    pub(crate) fn execute_command(&mut self, command: &Command) -> Result<Executed, Refusal>
         requires { torn self.old.history ≡ false }
-        ensures step { Step (planning P.chosen self.old) (Event.Kernel command.now) (reply_by result self.new.history) (planning P.chosen self.new) }
+        ensures step { Step (planning P.chosen self.old) (Event.Kernel command.now) (reply_of result (last_entry self.new.history)) (planning P.chosen self.new) }
         ensures policy { self.new.policy ≡ self.old.policy }
     {
         match command {
             Command::Leave => self.leave(),
             Command::Begin => self.begin(self.policy),
-            _ => self.serve(command),
+            _ => self.tell(command),
         }
     }
 
     /// Tells the kernel a command by which no agent goes and none begins.
-    fn serve(&mut self, command: &Command) -> Fate
+    fn tell(&mut self, command: &Command) -> Result<Executed, Refusal>
         requires stands { torn self.old.history ≡ false }
         requires stays { stays_with command.now ≡ true }
-        ensures step { Step (planning P.chosen self.old) (Event.Kernel command.now) (reply_by result self.new.history) (planning P.chosen self.new) }
+        ensures step { Step (planning P.chosen self.old) (Event.Kernel command.now) (reply_of result (last_entry self.new.history)) (planning P.chosen self.new) }
         ensures policy { self.new.policy ≡ self.old.policy }
     {
-        let fate = self.kernel.obey(command);
-        follow_fate(&mut self.role, fate, self.kernel.last());
-        fate
+        let executed = self.kernel.execute(command)?;
+        follow(&mut self.role, self.kernel.last());
+        Ok(executed)
     }
 
     /// Lets the agent crash.
-    pub(crate) fn crash(&mut self) -> Reply
+    pub(crate) fn crash(&mut self) -> Result<Reply, Refusal>
         requires { torn self.old.history ≡ false }
-        ensures step { Step (planning P.chosen self.old) Event.Crash result (planning P.chosen self.new) }
+        ensures step { Step (planning P.chosen self.old) Event.Crash (replied result) (planning P.chosen self.new) }
         ensures policy { self.new.policy ≡ self.old.policy }
     {
-        match self.drop_agent() {
-            Ok(_) => Reply::Crashed,
-            Err(refusal) => Reply::Refused(refusal),
-        }
+        self.drop_agent()?;
+        Ok(Reply::Crashed)
     }
 
     /// Lets the agent leave, if no slot is stamped.
-    fn leave(&mut self) -> Fate
+    fn leave(&mut self) -> Result<Executed, Refusal>
         requires { torn self.old.history ≡ false }
-        ensures step { Step (planning P.chosen self.old) (Event.Kernel Command.Leave) (reply_by result self.new.history) (planning P.chosen self.new) }
+        ensures step { Step (planning P.chosen self.old) (Event.Kernel Command.Leave) (reply_of result (last_entry self.new.history)) (planning P.chosen self.new) }
         ensures policy { self.new.policy ≡ self.old.policy }
     {
         if !self.kernel.has_agent() {
-            return Fate::Refused {
-                refusal: Refusal::NotActive,
-            };
+            return Err(Refusal::NotActive);
         }
         if self.region.has_stamped() {
-            return Fate::Refused {
-                refusal: Refusal::SlotOpen,
-            };
+            return Err(Refusal::SlotOpen);
         }
-        match self.drop_agent() {
-            Ok(()) => Fate::Done,
-            Err(refusal) => Fate::Refused { refusal },
-        }
+        self.drop_agent()?;
+        Ok(Executed::Done)
     }
 
     /// Tells the kernel that the agent is gone, and drops its role.
@@ -94,65 +86,32 @@ impl<P: Counted + Copy> Machine<P> {
         ensures unchanged { OnErr result (self.new ≡ self.old) }
         ensures policy { self.new.policy ≡ self.old.policy }
     {
-        match self.kernel.obey(&Command::Leave) {
-            Fate::Done => {
-                self.role = None;
-                Ok(())
-            }
-            Fate::Refused { refusal } => Err(refusal),
-            Fate::Torn => unreachable!(),
-        }
+        self.kernel.execute(&Command::Leave)?;
+        self.role = None;
+        Ok(())
     }
 
     /// Lets a new agent begin to attach, which plans by this policy.
-    pub(crate) fn begin(&mut self, policy: P) -> Fate
-        requires { torn self.old.history ≡ false }
-        ensures step { Step (planning P.chosen self.old) (Event.Begin (P.chosen policy)) (reply_by result self.new.history) (planning P.chosen self.new) }
-        ensures policy { self.new.policy ≡ policy_after (Event.Begin policy) (reply_by result self.new.history) self.old.policy }
-    {
-        match self.try_begin(policy) {
-            Ok(()) => Fate::Done,
-            Err(refusal) => Fate::Refused { refusal },
-        }
-    }
-
-    /// Allocates for the role of a new agent, and begins.
-    fn try_begin(&mut self, policy: P) -> Result<(), Refusal>
+    pub(crate) fn begin(&mut self, policy: P) -> Result<Executed, Refusal>
         requires { torn self.old.history ≡ false }
         ensures fits { IfOk result (λ _. kernel_refusal (planning P.chosen self.old) Command.Begin ≡ None) }
-        ensures begun { OnOk result (Carries (planned_by (P.chosen policy) (planning P.chosen self.old)) Command.Begin (Reply.Done (last_entry self.new.history)) (planning P.chosen self.new)) }
+        ensures begun { IfOk result (λ executed. Carries (planned_by (P.chosen policy) (planning P.chosen self.old)) Command.Begin (reply_of (Ok executed) (last_entry self.new.history)) (planning P.chosen self.new)) }
+        ensures done { IfOk result (λ executed. executed ≡ Executed.Done) }
         ensures policy { OnOk result (self.new.policy ≡ policy) }
         ensures refused { IfErr result (IsRefusal (kernel_refusal (planning P.chosen self.old) Command.Begin)) }
         ensures unchanged { OnErr result (self.new ≡ self.old) }
     {
-        if let Some(refusal) = self.kernel.refusal(&Command::Begin) {
-            return Err(refusal);
-        }
-        let generation = self.kernel.generation() + 1;
         let cpus = self.kernel.settings().cpus;
-        let role = Role::attach(self.alloc, policy, cpus, generation)?;
-        match self.kernel.obey(&Command::Begin) {
-            Fate::Done => {
-                self.region.clear();
-                self.policy = policy;
-                self.role = Some(role);
-                Ok(())
-            }
-            Fate::Refused { refusal } => Err(refusal),
-            Fate::Torn => unreachable!(),
-        }
-    }
-
-    /// Tells the agent that attaches of the next threads that live, at most `max`.
-    pub(crate) fn page(&mut self, max: u16) -> Reply
-        requires { torn self.old.history ≡ false }
-        ensures step { Step (planning P.chosen self.old) (Event.Page max) result (planning P.chosen self.new) }
-        ensures policy { self.new.policy ≡ self.old.policy }
-    {
-        match self.try_page(max) {
-            Ok(reply) => reply,
-            Err(refusal) => Reply::Refused(refusal),
-        }
+        let generation = self.kernel.generation().saturating_add(1);
+        let Ok(role) = Role::attach(self.alloc, policy, cpus, generation) else {
+            let refusal = self.kernel.refusal(&Command::Begin);
+            return Err(refusal.unwrap_or(Refusal::OutOfMemory));
+        };
+        let executed = self.kernel.execute(&Command::Begin)?;
+        self.region.clear();
+        self.policy = policy;
+        self.role = Some(role);
+        Ok(executed)
     }
 
     /// Returns the page that begins where the agent's next one does.
@@ -169,8 +128,9 @@ impl<P: Counted + Copy> Machine<P> {
         self.kernel.dump(self.alloc, from, max)
     }
 
-    /// Hands the next page over as bytes, and loads it. Returns the reply.
-    fn try_page(&mut self, max: u16) -> Result<Reply, Refusal>
+    /// Tells the agent that attaches of the next threads that live, at most `max`: hands the page over as bytes, and
+    /// loads it.
+    pub(crate) fn page(&mut self, max: u16) -> Result<Reply, Refusal>
         requires { torn self.old.history ≡ false }
         ensures fits { IfOk result (λ _. standing_refusal (planning P.chosen self.old) (Event.Page max) ≡ None) }
         ensures attaches { IfOk result (λ r. Attaches (planning P.chosen self.old) max r (planning P.chosen self.new)) }

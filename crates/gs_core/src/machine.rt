@@ -1,13 +1,13 @@
 ghost use Rattle.std.specs.Prelude.{◌≡◌, ◌+◌, ◌≤◌, ℕ, None, Some, Ok, IfOk, IfErr, IfSome, OnOk, OnErr, is_some, length, map, true, false};
 ghost use Rattle.std.specs.Option.{option_map};
-ghost use Rattle.gs_kernel.specs.Kernel.{IsRefusal};
+ghost use Rattle.gs_kernel.specs.Kernel.{IsRefusal, last_entry};
 ghost use Rattle.gs_kernel.specs.declared.settings.TheConstants.{MOST_HISTORY};
 ghost use Rattle.gs_replies.specs.Config.{config_fault, IsFault};
+ghost use Rattle.gs_replies.specs.Replies.{replied, reply_of};
 ghost use denote.Ref.{Bor};
 ghost use Rattle.gs_agent.specs.Role.{RoleOf};
 ghost use Rattle.gs_core.specs.Held.{agent_of};
 ghost use Rattle.gs_core.specs.Machine.{Step, decides, mind_of, plan_of, planned, planning, standing_refusal, start, stamps, transaction_of, unread, without_agent};
-ghost use Rattle.gs_core.specs.Fates.{reply_by};
 ghost use Rattle.gs_core.specs.Policies.{policy_after, policy_after_all};
 ghost use Rattle.gs_core.specs.Desk.{AreBelow, AreStampable};
 ghost use Rattle.gs_journal.specs.History.{active, attaching, posted, torn};
@@ -23,7 +23,7 @@ use crate::transaction::Transaction;
 use crate::transactions::Transactions;
 use crate::unread::waiting;
 use gs_agent::Role;
-use gs_kernel::{Command, Fate, Kernel};
+use gs_kernel::{Command, Executed, Kernel};
 use gs_layout::Refusal;
 use gs_policy::{Choice, Counted};
 use gs_replies::{Config, ConfigFault, Items, Reply};
@@ -156,56 +156,50 @@ impl<P: Counted + Copy> Machine<P> {
         Some((transaction.cpu, transaction.slot))
     }
 
-    fn drain(&mut self, max: u32) -> Reply
+    fn drain(&mut self, max: u32) -> Result<Reply, Refusal>
         requires { torn self.old.history ≡ false }
-        ensures step { Step (planning P.chosen self.old) (Event.Drain max) result (planning P.chosen self.new) }
+        ensures step { Step (planning P.chosen self.old) (Event.Drain max) (replied result) (planning P.chosen self.new) }
         ensures policy { self.new.policy ≡ self.old.policy }
     {
         if !self.kernel.has_agent() {
-            return Reply::Refused(Refusal::NotActive);
+            return Err(Refusal::NotActive);
         }
         let Some(role) = &mut self.role else {
             unreachable!()
         };
         let mut head = self.kernel.taker();
-        Reply::Drained(role.drain(&mut head, max))
+        Ok(Reply::Drained(role.drain(&mut head, max)))
     }
 
-    fn view(&self) -> Reply
+    fn view(&self) -> Result<Reply, Refusal>
         requires { torn self.now.history ≡ false }
-        ensures { Step (planning P.chosen self.now) Event.View result (planning P.chosen self.now) }
+        ensures { Step (planning P.chosen self.now) Event.View (replied result) (planning P.chosen self.now) }
     {
         let has_agent = self.kernel.has_agent();
         if !has_agent {
-            return Reply::Refused(Refusal::NotActive);
+            return Err(Refusal::NotActive);
         }
         let Some(role) = &self.role else {
             unreachable!()
         };
-        match known_threads(self.alloc, role.view()) {
-            Ok(threads) => Reply::View(Items::new(threads)),
-            Err(_) => Reply::Refused(Refusal::OutOfMemory),
-        }
+        let threads = known_threads(self.alloc, role.view())?;
+        Ok(Reply::View(Items::new(threads)))
     }
 
-    fn state(&self) -> Reply
+    fn state(&self) -> Result<Reply, Refusal>
         requires { torn self.now.history ≡ false }
-        ensures { Step (planning P.chosen self.now) Event.State result (planning P.chosen self.now) }
+        ensures { Step (planning P.chosen self.now) Event.State (replied result) (planning P.chosen self.now) }
     {
-        match self.kernel.live_threads(self.alloc) {
-            Ok(threads) => Reply::State(Items::new(threads)),
-            Err(_) => Reply::Refused(Refusal::OutOfMemory),
-        }
+        let threads = self.kernel.live_threads(self.alloc)?;
+        Ok(Reply::State(Items::new(threads)))
     }
 
-    fn unread(&self) -> Reply
+    fn unread(&self) -> Result<Reply, Refusal>
         requires { torn self.now.history ≡ false }
-        ensures { Step (planning P.chosen self.now) Event.Unread result (planning P.chosen self.now) }
+        ensures { Step (planning P.chosen self.now) Event.Unread (replied result) (planning P.chosen self.now) }
     {
-        match waiting(self.alloc, self.kernel.poster()) {
-            Ok(messages) => Reply::Unread(Items::new(messages)),
-            Err(_) => Reply::Refused(Refusal::OutOfMemory),
-        }
+        let messages = waiting(self.alloc, self.kernel.poster())?;
+        Ok(Reply::Unread(Items::new(messages)))
     }
 
     /// Tests that an agent is active, and else returns the refusal of whatever takes one.
@@ -219,21 +213,10 @@ impl<P: Counted + Copy> Machine<P> {
         Ok(())
     }
 
-    fn stamp(&mut self, cpu: u16, tid: u32, preempt: bool, group: bool) -> Reply
-        requires { torn self.old.history ≡ false }
-        ensures step { Step (planning P.chosen self.old) (Event.Stamp cpu tid preempt group) result (planning P.chosen self.new) }
-        ensures policy { self.new.policy ≡ self.old.policy }
-    {
-        match self.try_stamp(cpu, tid, preempt, group) {
-            Ok(number) => Reply::Stamped { number },
-            Err(refusal) => Reply::Refused(refusal),
-        }
-    }
-
-    /// Stamps what the view has of a thread into the slot of a CPU. Returns the transaction's number.
-    fn try_stamp(&mut self, cpu: u16, tid: u32, preempt: bool, group: bool) -> Result<u32, Refusal>
+    /// Stamps what the view has of a thread into the slot of a CPU.
+    fn stamp(&mut self, cpu: u16, tid: u32, preempt: bool, group: bool) -> Result<Reply, Refusal>
         ensures fits { IfOk result (λ _. standing_refusal (planning P.chosen self.old) (Event.Stamp cpu tid preempt group) ≡ None) }
-        ensures number { IfOk result (λ n. Reply.Stamped n ≡ (stamps (planning P.chosen self.old) cpu tid preempt group).0) }
+        ensures reply { IfOk result (λ reply. reply ≡ (stamps (planning P.chosen self.old) cpu tid preempt group).0) }
         ensures ok { OnOk result (planning P.chosen self.new ≡ (stamps (planning P.chosen self.old) cpu tid preempt group).1) }
         ensures refused { IfErr result (IsRefusal (standing_refusal (planning P.chosen self.old) (Event.Stamp cpu tid preempt group))) }
         ensures policy { self.new.policy ≡ self.old.policy }
@@ -258,27 +241,15 @@ impl<P: Counted + Copy> Machine<P> {
             choice,
             group,
         )?;
-        Ok(self.transactions.len())
+        Ok(Reply::Stamped {
+            number: self.transactions.len(),
+        })
     }
 
-    fn decide(&mut self) -> Reply
-        requires { torn self.old.history ≡ false }
-        ensures step { Step (planning P.chosen self.old) Event.Decide result (planning P.chosen self.new) }
-        ensures policy { self.new.policy ≡ self.old.policy }
-    {
-        match self.try_decide() {
-            Ok((first, choices)) => Reply::Decided {
-                first,
-                choices: Items::new(choices),
-            },
-            Err(refusal) => Reply::Refused(refusal),
-        }
-    }
-
-    /// Stamps what the policy plans. Returns the number of the first transaction, and the choices.
-    fn try_decide(&mut self) -> Result<(u32, Vec<Choice>), Refusal>
+    /// Stamps what the policy plans.
+    fn decide(&mut self) -> Result<Reply, Refusal>
         ensures fits { IfOk result (λ _. standing_refusal (planning P.chosen self.old) Event.Decide ≡ None) }
-        ensures reply { IfOk result (λ r. Reply.Decided r.0 r.1.items ≡ (decides (planning P.chosen self.old)).0) }
+        ensures reply { IfOk result (λ reply. reply ≡ (decides (planning P.chosen self.old)).0) }
         ensures ok { OnOk result (planning P.chosen self.new ≡ (decides (planning P.chosen self.old)).1) }
         ensures refused { IfErr result (IsRefusal (standing_refusal (planning P.chosen self.old) Event.Decide)) }
         ensures policy { self.new.policy ≡ self.old.policy }
@@ -296,7 +267,10 @@ impl<P: Counted + Copy> Machine<P> {
             &mut self.transactions,
             choices.as_slice(),
         );
-        Ok((first, choices))
+        Ok(Reply::Decided {
+            first,
+            choices: Items::new(choices),
+        })
     }
 
     /// Returns what the policy plans, if there is room for its transactions.
@@ -328,9 +302,9 @@ impl<P: Counted + Copy> Machine<P> {
         }
     }
 
-    fn commit(&mut self, mask: Mask) -> Reply
+    fn commit(&mut self, mask: Mask) -> Result<Reply, Refusal>
         requires { torn self.old.history ≡ false }
-        ensures step { Step (planning P.chosen self.old) (Event.Commit mask) result (planning P.chosen self.new) }
+        ensures step { Step (planning P.chosen self.old) (Event.Commit mask) (replied result) (planning P.chosen self.new) }
         ensures policy { self.new.policy ≡ self.old.policy }
     {
         match self.region.commit(self.alloc, &mut self.kernel, mask) {
@@ -339,30 +313,30 @@ impl<P: Counted + Copy> Machine<P> {
                     unreachable!()
                 };
                 self.region.collect(role);
-                Reply::Landed {
+                Ok(Reply::Landed {
                     landings: Items::new(landings),
                     torn: self.kernel.is_torn(),
-                }
+                })
             }
-            Err(refusal) => Reply::Refused(refusal),
+            Err(refusal) => Err(refusal),
         }
     }
 
-    fn late(&mut self, number: u32) -> Reply
+    fn late(&mut self, number: u32) -> Result<Reply, Refusal>
         requires { torn self.old.history ≡ false }
-        ensures step { Step (planning P.chosen self.old) (Event.Late number) result (planning P.chosen self.new) }
+        ensures step { Step (planning P.chosen self.old) (Event.Late number) (replied result) (planning P.chosen self.new) }
         ensures policy { self.new.policy ≡ self.old.policy }
     {
         let Some((cpu, slot)) = self.stamped(number) else {
-            return Reply::Refused(Refusal::NoSuchTransaction);
+            return Err(Refusal::NoSuchTransaction);
         };
         match self.kernel.land_stamp(cpu, &slot) {
-            Ok(landing) => Reply::Late {
+            Ok(landing) => Ok(Reply::Late {
                 number,
                 landing,
                 torn: self.kernel.is_torn(),
-            },
-            Err(_) => Reply::Refused(Refusal::OutOfMemory),
+            }),
+            Err(_) => Err(Refusal::OutOfMemory),
         }
     }
 
@@ -375,50 +349,71 @@ impl<P: Counted + Copy> Machine<P> {
         ensures no_gap { (max : ℕ) → event.now ≡ Event.Drain max → StopsForNoGap result }
         ensures policy { self.new.policy ≡ policy_after event.now result self.old.policy }
     {
-        // A look at a field, by which the proof has what the machine keeps.
-        if self.kernel.is_torn() {
-            return Reply::Refused(Refusal::Gone);
+        match self.execute(event) {
+            Ok(reply) => reply,
+            Err(refusal) => Reply::Refused(refusal),
         }
-        let reply = self.standing_step(event);
-        // The same.
-        let _region = &self.region;
-        reply
     }
 
-    /// Tells the kernel a command, as [`Machine::step`] does at the event of it, and returns its fate. The reply is
-    /// [`Reply::by`] that and the kernel's last entry.
-    pub fn command(&mut self, command: &Command) -> Fate
-        ensures step { Step (planning P.chosen self.old) (Event.Kernel command.now) (reply_by result self.new.history) (planning P.chosen self.new) }
+    /// Lets one event happen, and returns the reply, as [`Machine::step`] does.
+    ///
+    /// # Errors
+    ///
+    /// The first refusal that applies, and then nothing changes.
+    fn execute(&mut self, event: &Event<P>) -> Result<Reply, Refusal>
+        ensures step { Step (planning P.chosen self.old) (planned P.chosen event.now) (replied result) (planning P.chosen self.new) }
+        ensures safe { Safe (planning P.chosen self.new) }
+        ensures faithful { IsFaithful (planning P.chosen self.new) }
+        ensures no_gap { (max : ℕ) → event.now ≡ Event.Drain max → StopsForNoGap (replied result) }
+        ensures policy { self.new.policy ≡ policy_after event.now (replied result) self.old.policy }
+    {
+        // A look at a field, by which the proof has what the machine keeps.
+        if self.kernel.is_torn() {
+            return Err(Refusal::Gone);
+        }
+        let came = self.execute_standing(event);
+        // The same.
+        let _region = &self.region;
+        came
+    }
+
+    /// Tells the kernel a command, as [`Machine::step`] does at the event of it. The reply is [`Reply::executed`] of what
+    /// this returns and the kernel's last entry, or the refusal.
+    ///
+    /// # Errors
+    ///
+    /// The first refusal that applies, and then nothing changes.
+    pub fn command(&mut self, command: &Command) -> Result<Executed, Refusal>
+        ensures step { Step (planning P.chosen self.old) (Event.Kernel command.now) (reply_of result (last_entry self.new.history)) (planning P.chosen self.new) }
         ensures safe { Safe (planning P.chosen self.new) }
         ensures faithful { IsFaithful (planning P.chosen self.new) }
         ensures policy { self.new.policy ≡ self.old.policy }
     {
-        if self.kernel.is_torn() {
-            return Fate::Refused {
-                refusal: Refusal::Gone,
-            };
+        let is_gone = self.kernel.is_torn();
+        if is_gone {
+            return Err(Refusal::Gone);
         }
-        let fate = self.tell(command);
+        let came = self.execute_command(command);
         // A look at a field, by which the proof has what the machine keeps.
         let _region = &self.region;
-        fate
+        came
     }
 
     /// Lets one event happen while the enclave stands.
-    fn standing_step(&mut self, event: &Event<P>) -> Reply
+    fn execute_standing(&mut self, event: &Event<P>) -> Result<Reply, Refusal>
         requires { torn self.old.history ≡ false }
-        ensures step { Step (planning P.chosen self.old) (planned P.chosen event.now) result (planning P.chosen self.new) }
-        ensures policy { self.new.policy ≡ policy_after event.now result self.old.policy }
+        ensures step { Step (planning P.chosen self.old) (planned P.chosen event.now) (replied result) (planning P.chosen self.new) }
+        ensures policy { self.new.policy ≡ policy_after event.now (replied result) self.old.policy }
     {
         match event {
             Event::Kernel { command } => {
-                let fate = self.tell(command);
-                Reply::by(fate, self.kernel.last())
+                let executed = self.execute_command(command)?;
+                Ok(Reply::executed(executed, self.kernel.last()))
             }
             Event::Crash => self.crash(),
             Event::Begin { policy } => {
-                let fate = self.begin(*policy);
-                Reply::by(fate, self.kernel.last())
+                let executed = self.begin(*policy)?;
+                Ok(Reply::executed(executed, self.kernel.last()))
             }
             Event::Page { max } => self.page(*max),
             Event::Drain { max } => self.drain(*max),

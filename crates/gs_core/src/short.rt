@@ -1,12 +1,11 @@
 ghost use Rattle.std.specs.Prelude.{◌≡◌};
 ghost use Rattle.std.specs.List.{list_any};
 ghost use Rattle.gs_journal.specs.declared.entry.Entry.{Entry};
-ghost use Rattle.gs_kernel.specs.Fate.{answer_by};
 ghost use Rattle.gs_replies.specs.Replies.{reply_of};
 ghost use Rattle.gs_core.specs.Short.{wants_memory};
 
 use gs_agent::Stop;
-use gs_kernel::Fate;
+use gs_kernel::Executed;
 use gs_layout::Refusal;
 use gs_replies::Reply;
 
@@ -21,13 +20,13 @@ fn wants_memory(reply: &Reply) -> bool
     }
 }
 
-/// Tells whether the reply to a command of this fate says that memory ran out.
-pub fn is_short_fate(fate: Fate) -> bool
-    ensures { (e : Entry) → result ≡ wants_memory (reply_of (answer_by fate e)) }
+/// Tells whether what came of a command says that memory ran out.
+pub fn is_short_command(came: Result<Executed, Refusal>) -> bool
+    ensures { (e : Entry) → result ≡ wants_memory (reply_of came e) }
 {
-    match fate {
-        Fate::Refused { refusal } => refusal == Refusal::OutOfMemory,
-        Fate::Torn | Fate::Done => false,
+    match came {
+        Ok(_) => false,
+        Err(refusal) => refusal == Refusal::OutOfMemory,
     }
 }
 

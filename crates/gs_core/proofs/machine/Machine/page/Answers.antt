@@ -18,7 +18,7 @@ use Rattle.gs_core.proofs.Keeping.{needs_page}
 use Rattle.gs_core.proofs.Paging.{kept_paged}
 use Rattle.gs_core.proofs.Serving.{role_there}
 use Rattle.gs_core.proofs.Suiting.{suits_paged}
-use Rattle.gs_core.proofs.machine.Machine.try_page.Goals as goal
+use Rattle.gs_core.proofs.machine.Machine.page.Goals as goal
 
 or_none : (b : Bool) → (b || false) ≡ b
 or_none true = refl

@@ -1,9 +1,7 @@
--- What the kernel's answer to a command makes of the agent's role.
+-- What a command makes of the agent's role.
 use Rattle.std.specs.Prelude.{ℕ, Option, option_map}
 use Rattle.gs_journal.specs.declared.entry.Entry.{Entry}
 use Rattle.gs_journal.specs.declared.entry.Entry.TheVariants.{Role}
-use Rattle.gs_kernel.specs.declared.answer.Answer.{Answer}
-use Rattle.gs_kernel.specs.declared.answer.Answer.TheVariants as answers
 use Rattle.gs_mind.specs.Mind.{moved}
 use Rattle.gs_agent.specs.Role.{RoleOf}
 
@@ -15,9 +13,3 @@ on_cpu g c r = record r { mind = moved c r.mind; generation = g }
 abbrev pub follows : {P : Type 0} → Entry → Option (RoleOf P) → Option (RoleOf P)
 follows (Role g c) o = option_map (on_cpu g c) o
 follows _ o = o
-
--- after an answer, by the last entry that was added, if any was
-abbrev pub answered : {P : Type 0} → Answer → Option (RoleOf P) → Option (RoleOf P)
-answered (answers.Refused f) o = o
-answered answers.Torn o = o
-answered (answers.Done e) o = follows e o

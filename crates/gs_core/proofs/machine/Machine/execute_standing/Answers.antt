@@ -1,0 +1,37 @@
+use Rattle.std.proofs.Common.{◌≡◌, Ok, ap, sym, subst, ◌∙◌}
+use Rattle.gs_journal.specs.declared.entry.Entry.{Entry}
+use Rattle.gs_kernel.specs.Kernel.{last_entry}
+use Rattle.gs_core.specs.declared.event.Event.{Event}
+use Rattle.gs_core.specs.declared.event.Event.TheVariants as events
+use Rattle.gs_replies.specs.Replies.{replied, reply_of}
+use Rattle.gs_core.specs.Machine.{StateOf, Step, decides, planned, planning, stamps}
+use Rattle.gs_core.proofs.Posting.{begun_step, both_of, same_planning, step_of}
+use Rattle.gs_core.proofs.machine.Machine.execute_standing.Goals as goal
+
+pub returns-in-Stamp-clause-step : goal.returns-in-Stamp-clause-step
+returns-in-Stamp-clause-step g c =
+    let chosen = g.P.Policy.chosen in
+    let a = c.args.self.now in
+    let b = c.stamp in
+    let e = b.ensures in
+    let event = events.Stamp c.in-Stamp.cpu c.in-Stamp.tid c.in-Stamp.preempt c.in-Stamp.group in
+    subst (λ (x : Event _). Step (planning chosen a) (planned chosen x) (replied b.result) (planning chosen b.new.self)) (sym c.in-Stamp.is)
+    (step_of (planning chosen a) event b.result (planning chosen b.new.self) c.requires e.fits (both_of b.result _ _ e.reply e.ok) e.refused (same_planning chosen b.result a b.new.self e.unchanged) (λ r p. p))
+
+pub returns-in-Decide-clause-step : goal.returns-in-Decide-clause-step
+returns-in-Decide-clause-step g c =
+    let chosen = g.P.Policy.chosen in
+    let a = c.args.self.now in
+    let b = c.decide in
+    let e = b.ensures in
+    subst (λ (x : Event _). Step (planning chosen a) (planned chosen x) (replied b.result) (planning chosen b.new.self)) (sym c.in-Decide.is)
+    (step_of (planning chosen a) events.Decide b.result (planning chosen b.new.self) c.requires e.fits (both_of b.result _ _ e.reply e.ok) e.refused (same_planning chosen b.result a b.new.self e.unchanged) (λ r p. p))
+
+pub returns-in-Page-clause-step : goal.returns-in-Page-clause-step
+returns-in-Page-clause-step g c =
+    let chosen = g.P.Policy.chosen in
+    let a = c.args.self.now in
+    let b = c.page in
+    let e = b.ensures in
+    subst (λ (x : Event _). Step (planning chosen a) (planned chosen x) (replied b.result) (planning chosen b.new.self)) (sym c.in-Page.is)
+    (step_of (planning chosen a) (events.Page c.in-Page.max) b.result (planning chosen b.new.self) c.requires e.fits e.attaches e.refused (same_planning chosen b.result a b.new.self e.unchanged) (λ r p. p))
