@@ -1,5 +1,4 @@
 ghost use Rattle.std.specs.Prelude.{◌≡◌, ◌≤◌, ◌++◌, IfOk, OnOk, codes, decimal, length};
-ghost use Rattle.gs_kernel.specs.Fate.{answer_by};
 ghost use Rattle.gs_replies.specs.Replies.{reply_of};
 ghost use Rattle.gs_lines.specs.Lines.{refusal_text, outcome_text, drained_text, unless_zero, stop_text, line, landed_text, landing_text, landing_lines, late_text, next_text, page_text, torn_line, reply_lines, lines};
 
@@ -10,7 +9,7 @@ use crate::thread_line::{write_threads, write_view};
 use gs_agent::{Drained, Stop};
 use gs_core::Reply;
 use gs_journal::Entry;
-use gs_kernel::{Fate, Landing};
+use gs_kernel::{Executed, Landing};
 use gs_layout::{Outcome, Refusal};
 use std::alloc::{AllocError, Global};
 
@@ -213,14 +212,18 @@ pub fn write_reply(out: &mut Text, reply: &Reply) -> Result<(), AllocError>
     }
 }
 
-/// Adds the line of the reply to a command by its fate and the kernel's last entry. It fails only if out of memory.
-pub fn write_fate(out: &mut Text, fate: Fate, last: &Entry) -> Result<(), AllocError>
-    ensures { OnOk result (out.new ≡ out.old ++ reply_lines (reply_of (answer_by fate last.now))) }
+/// Adds the line of the reply to a command by what came of it and the kernel's last entry. It fails only if out of memory.
+pub fn write_executed(
+    out: &mut Text,
+    came: Result<Executed, Refusal>,
+    last: &Entry,
+) -> Result<(), AllocError>
+    ensures { OnOk result (out.new ≡ out.old ++ reply_lines (reply_of came last.now)) }
 {
-    match fate {
-        Fate::Refused { refusal } => write_refused(out, refusal),
-        Fate::Torn => out.push_str("torn\n"),
-        Fate::Done => write_entry(out, last),
+    match came {
+        Ok(Executed::Done) => write_entry(out, last),
+        Ok(Executed::Torn) => out.push_str("torn\n"),
+        Err(refusal) => write_refused(out, refusal),
     }
 }
 
