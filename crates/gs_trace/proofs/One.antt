@@ -13,7 +13,7 @@ use Rattle.gs_dump.specs.Page.{Contents}
 use Rattle.gs_kernel.specs.Attaching.{page_refusal}
 use Rattle.gs_kernel.specs.Dumped.{dumped}
 use Rattle.gs_kernel.specs.First.{first_that}
-use Rattle.gs_kernel.specs.Kernel.{unless_torn}
+use Rattle.gs_kernel.specs.Kernel.{last_entry, unless_torn}
 use Rattle.gs_agent.specs.declared.drained.Drained.{Drained}
 use Rattle.gs_agent.specs.declared.drained.Stop.{Stop}
 use Rattle.gs_agent.specs.declared.drained.Stop.TheVariants.{Gap, Memory}
@@ -27,15 +27,17 @@ use Rattle.gs_runq.specs.Queue.{order}
 use Rattle.gs_mind.specs.Mind.{picture_of}
 use Rattle.gs_mind.specs.Pages.{after_page}
 use Rattle.gs_mind.specs.Picture.{Picture, after_all, after_stamp, takes_in_all}
-use Rattle.gs_core.specs.Machine.{Attaches, Plan, State, Agent, crashed, freed_by, led, next_dump, page_of, planned, planned_by, mind_of, picture, thinking, committed, fits, view, unread, is_idle, refusal, Serves, Step, Does, IsShort, Takes, Drains, carried, stamps, stamps_with, stamps_all, plan_of}
-use Rattle.gs_replies.specs.Replies.{page_reply}
+use Rattle.gs_core.specs.Machine.{Attaches, Plan, State, Agent, crashed, freed_by, led, next_dump, page_of, planned, planned_by, mind_of, picture, thinking, committed, fits, view, unread, is_idle, refusal, Serves, Step, Does, IsShort, Takes, Drains, stamps, stamps_with, stamps_all, plan_of}
+use Rattle.gs_replies.specs.Replies.{page_reply, reply_of}
 use Rattle.gs_core.specs.declared.transaction.Transaction.{Transaction}
 use Rattle.gs_core.specs.Safe.{IsFaithful, Run}
 use Rattle.gs_journal.specs.declared.entry.Entry.{Entry}
 use Rattle.gs_journal.specs.declared.entry.Entry.TheVariants.{Posted, Placed, Role, Begin, Left, Taken, Given, Torn}
 use Rattle.gs_kernel.specs.declared.command.Command.{Command}
 use Rattle.gs_kernel.specs.declared.command.Command.TheVariants as commands
-use Rattle.gs_kernel.specs.Legal.{effect, last_in, refusal as kernel_refuses}
+use Rattle.gs_kernel.specs.declared.executed.Executed.{Executed}
+use Rattle.gs_kernel.specs.declared.executed.Executed.TheVariants as executed
+use Rattle.gs_kernel.specs.Legal.{effect, is_done, refusal as kernel_refuses}
 use Rattle.gs_kernel.specs.Lands.{Lands}
 use Rattle.gs_core.proofs.Laws.{commit_one, drop_drop, lands_one, tells_one}
 use Rattle.gs_script.specs.declared.fault.ScriptFault.{ScriptFault}
@@ -249,29 +251,32 @@ one_commit m a same mask r r' m' n' x y =
     }
 
 -- agents that are the same follow a command alike
-same_led : (cpus : ℕ) (e : Entry) (fit : Bool) (a b : Option Agent) → Same a b → Same (led cpus e fit a) (led cpus e fit b)
-same_led cpus (Role g c) true a b same = same_thinks (λ p. record p { cpus = record p.cpus { agent = Some c } }) a b same
-same_led cpus (Role g c) false a b same = same
-same_led cpus (Posted k) fit a b same = same
-same_led cpus (Placed t s c g) fit a b same = same
-same_led cpus (Begin g) true a b same = record { pictured = refl; there = refl; page = refl }
-same_led cpus (Begin g) false a b same = same
-same_led cpus Left true a b same = record { pictured = refl; there = refl; page = refl }
-same_led cpus Left false a b same = same
-same_led cpus (Taken c) fit a b same = same
-same_led cpus (Given c) fit a b same = same
-same_led cpus Torn fit a b same = same
+same_led : (cpus : ℕ) (e : Entry) (a b : Option Agent) → Same a b → Same (led cpus e a) (led cpus e b)
+same_led cpus (Role g c) a b same = same_thinks (λ p. record p { cpus = record p.cpus { agent = Some c } }) a b same
+same_led cpus (Posted k) a b same = same
+same_led cpus (Placed t s c g) a b same = same
+same_led cpus (Begin g) a b same = record { pictured = refl; there = refl; page = refl }
+same_led cpus Left a b same = record { pictured = refl; there = refl; page = refl }
+same_led cpus (Taken c) a b same = same
+same_led cpus (Given c) a b same = same
+same_led cpus Torn a b same = same
+
+same_executed : (x y : Executed) → is_done x ≡ is_done y → x ≡ y
+same_executed executed.Done executed.Done e = refl
+same_executed executed.Torn executed.Torn e = refl
+same_executed executed.Done executed.Torn e = absurd cc
+same_executed executed.Torn executed.Done e = absurd cc
 
 -- one command
 one_command : (m : State) (a : Option Agent) → Same a m.agent → (c : Command) (r r' : Reply) (m' n' : State) → Does m (Kernel c) r m' → Does (record m { agent = a }) (Kernel c) r' n' → One r r' m' n'
 one_command m a same c r r' m' n' x y =
-    let last : Entry = last_in (effect m.settings m.history c) in
     let cpus : ℕ = m.settings.cpus in
-    let one = tells_one m.ring m.consumed m.history (effect m.settings m.history c) x.fit y.fit m'.history n'.history x.tells y.tells in
+    let last : Entry = last_entry m'.history in
+    let one = tells_one m.ring m.consumed m.history (effect m.settings m.history c) (is_done x.executed) (is_done y.executed) m'.history n'.history x.tells y.tells in
     record {
-      reply = x.reply ∙ (ap (carried m c) one.0 ∙ sym y.reply);
-      left = alike_at m' n' (record m { history = m'.history; agent = led cpus last x.fit m.agent; slots = freed_by cpus last x.fit m.slots }) (led cpus last x.fit a) x.others
-          (y.others ∙ (λ i. record m { history = sym one.1 i; agent = led cpus last (sym one.0 i) a; slots = freed_by cpus last (sym one.0 i) m.slots })) (same_led cpus last x.fit a m.agent same);
+      reply = x.reply ∙ ((λ i. reply_of (Ok (same_executed x.executed y.executed one.0 i)) (last_entry (one.1 i))) ∙ sym y.reply);
+      left = alike_at m' n' (record m { history = m'.history; agent = led cpus last m.agent; slots = freed_by cpus last m.slots }) (led cpus last a) x.others
+          (y.others ∙ (λ i. record m { history = sym one.1 i; agent = led cpus (last_entry (sym one.1 i)) a; slots = freed_by cpus (last_entry (sym one.1 i)) m.slots })) (same_led cpus last a m.agent same);
     }
 
 -- one page

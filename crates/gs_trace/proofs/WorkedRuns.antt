@@ -11,6 +11,7 @@ use Rattle.gs_journal.specs.declared.entry.Entry.TheVariants.{Posted, Role, Torn
 use Rattle.gs_journal.specs.History.{posted, created, torn}
 use Rattle.gs_kernel.specs.Kernel.{create_refusal, tick_refusal}
 use Rattle.gs_kernel.specs.declared.command.Command.TheVariants as commands
+use Rattle.gs_kernel.specs.declared.executed.Executed.TheVariants as executed
 use Rattle.gs_ring.specs.Places.{need, pad_len}
 use Rattle.gs_policy.specs.declared.any.AnyPolicy.TheVariants as policies
 use Rattle.gs_policy.specs.declared.any.AnyPolicy.{AnyPolicy}
@@ -49,7 +50,7 @@ seen = replies.Done (Posted (TimerTick 1)) ∷ replies.Unread (TimerTick 1 ∷ [
 
 seen_tick : Step (planning any_plans (start two)) (events.Kernel (commands.Tick 1)) (replies.Done (Posted (TimerTick 1))) (after (TimerTick 1 ∷ []))
 unfolding two torn tick_refusal posted need pad_len
-seen_tick = inl (record { fit = true; reply = refl; tells = (refl, refl); others = refl })
+seen_tick = inl (record { executed = executed.Done; reply = refl; tells = (refl, refl); others = refl })
 
 seen_look : Step (after (TimerTick 1 ∷ [])) events.Unread (replies.Unread (TimerTick 1 ∷ [])) (after (TimerTick 1 ∷ []))
 unfolding two torn posted
@@ -73,23 +74,23 @@ torn_replies = replies.Done (Posted (made 1 (codes "a"))) ∷ replies.Done (Post
 
 first : Step (planning any_plans (start two)) (events.Kernel (commands.Create (facts (codes "a")))) (replies.Done (Posted (made 1 (codes "a")))) (after (take 1 four))
 unfolding two facts made torn create_refusal created posted need pad_len
-first = inl (record { fit = true; reply = refl; tells = (refl, refl); others = refl })
+first = inl (record { executed = executed.Done; reply = refl; tells = (refl, refl); others = refl })
 
 second : Step (after (take 1 four)) (events.Kernel (commands.Create (facts (codes "b")))) (replies.Done (Posted (made 2 (codes "b")))) (after (take 2 four))
 unfolding two facts made torn create_refusal created posted need pad_len
-second = inl (record { fit = true; reply = refl; tells = (refl, refl); others = refl })
+second = inl (record { executed = executed.Done; reply = refl; tells = (refl, refl); others = refl })
 
 third : Step (after (take 2 four)) (events.Kernel (commands.Create (facts (codes "c")))) (replies.Done (Posted (made 3 (codes "c")))) (after (take 3 four))
 unfolding two facts made torn create_refusal created posted need pad_len
-third = inl (record { fit = true; reply = refl; tells = (refl, refl); others = refl })
+third = inl (record { executed = executed.Done; reply = refl; tells = (refl, refl); others = refl })
 
 fourth : Step (after (take 3 four)) (events.Kernel (commands.Create (facts (codes "d")))) (replies.Done (Posted (made 4 (codes "d")))) (after four)
 unfolding two facts made torn create_refusal created posted need pad_len
-fourth = inl (record { fit = true; reply = refl; tells = (refl, refl); others = refl })
+fourth = inl (record { executed = executed.Done; reply = refl; tells = (refl, refl); others = refl })
 
 tears : Step (after four) (events.Kernel (commands.Tick 1)) replies.Torn (torn_after four)
 unfolding two facts made torn tick_refusal posted need pad_len
-tears = inl (record { fit = false; reply = refl; tells = ((TimerTick 1, refl, refl), refl); others = refl })
+tears = inl (record { executed = executed.Torn; reply = refl; tells = ((TimerTick 1, refl, refl), refl); others = refl })
 
 gone : Step (torn_after four) (events.Drain 1) (replies.Refused refusals.Gone) (torn_after four)
 unfolding two facts made torn

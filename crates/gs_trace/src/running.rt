@@ -1,7 +1,6 @@
 //! A run whose replies are taken in one by one, none of which is kept.
 
 ghost use Rattle.std.specs.Prelude.{◌≡◌, List, [], ◌∷◌, ◌++◌, IfOk, OnOk, map};
-ghost use Rattle.gs_kernel.specs.Fate.{answer_by};
 ghost use Rattle.gs_replies.specs.Replies.{reply_of};
 ghost use Rattle.gs_core.specs.Machine.{planned, planning};
 ghost use Rattle.gs_replies.specs.declared.reply.Reply as replies;
@@ -10,10 +9,11 @@ ghost use Rattle.gs_report.specs.Report.{ReportsOn};
 ghost use Rattle.gs_trace.specs.Output.{any_plans};
 ghost use Rattle.gs_trace.specs.Taking.{TakenSoFar, TakesOne};
 
-use gs_core::{Event, Machine, Reply, is_short, is_short_fate};
+use gs_core::{Event, Machine, Reply, is_short, is_short_command};
 use gs_journal::Entry;
-use gs_kernel::Fate;
-use gs_lines::{Text, write_fate, write_reply};
+use gs_kernel::Executed;
+use gs_layout::Refusal;
+use gs_lines::{Text, write_executed, write_reply};
 use gs_policy::AnyPolicy;
 use gs_report::Report;
 use std::alloc::AllocError;
@@ -28,9 +28,13 @@ pub(crate) trait Taker: Drop {
     fn take(&mut self, reply: &Reply) -> Result<(), AllocError>
         ensures { OnOk result ((rs : List replies.Reply) → has self.old rs → has self.new (rs ++ reply.now ∷ [])) };
 
-    /// Takes in the reply to a command by its fate and the kernel's last entry. It fails only if out of memory.
-    fn take_fate(&mut self, fate: Fate, last: &Entry) -> Result<(), AllocError>
-        ensures { OnOk result ((rs : List replies.Reply) → has self.old rs → has self.new (rs ++ reply_of (answer_by fate last.now) ∷ [])) };
+    /// Takes in the reply to a command by what came of it and the kernel's last entry. It fails only if out of memory.
+    fn take_executed(
+        &mut self,
+        came: Result<Executed, Refusal>,
+        last: &Entry,
+    ) -> Result<(), AllocError>
+        ensures { OnOk result ((rs : List replies.Reply) → has self.old rs → has self.new (rs ++ reply_of came last.now ∷ [])) };
 }
 
 /// The lines of the replies.
@@ -43,8 +47,12 @@ impl Taker for Text {
     }
 
     #[tactic(auto, using(crate::proofs::Taking::text_more))]
-    fn take_fate(&mut self, fate: Fate, last: &Entry) -> Result<(), AllocError> {
-        write_fate(self, fate, last)
+    fn take_executed(
+        &mut self,
+        came: Result<Executed, Refusal>,
+        last: &Entry,
+    ) -> Result<(), AllocError> {
+        write_executed(self, came, last)
     }
 }
 
@@ -55,8 +63,15 @@ impl Taker for Report {
         self.add(reply)
     }
 
-    fn take_fate(&mut self, fate: Fate, last: &Entry) -> Result<(), AllocError> {
-        self.add(&Reply::by(fate, last))
+    fn take_executed(
+        &mut self,
+        came: Result<Executed, Refusal>,
+        last: &Entry,
+    ) -> Result<(), AllocError> {
+        match came {
+            Ok(executed) => self.add(&Reply::executed(executed, last)),
+            Err(refusal) => self.add(&Reply::Refused(refusal)),
+        }
     }
 }
 
@@ -71,7 +86,11 @@ impl Taker for Nothing {
         Ok(())
     }
 
-    fn take_fate(&mut self, _fate: Fate, _last: &Entry) -> Result<(), AllocError> {
+    fn take_executed(
+        &mut self,
+        _came: Result<Executed, Refusal>,
+        _last: &Entry,
+    ) -> Result<(), AllocError> {
         Ok(())
     }
 }
@@ -85,11 +104,11 @@ fn run_one<T: Taker>(
     ensures { OnOk result (TakesOne T.has (planning any_plans machine.old) (planned any_plans event.now) (planning any_plans machine.new) taker.old taker.new) }
 {
     if let Event::Kernel { command } = event {
-        let fate = machine.command(command);
-        if is_short_fate(fate) {
+        let came = machine.command(command);
+        if is_short_command(came) {
             return Err(AllocError);
         }
-        return taker.take_fate(fate, machine.kernel().last());
+        return taker.take_executed(came, machine.kernel().last());
     }
     let reply = machine.step(event);
     if is_short(slice::from_ref(&reply)) {

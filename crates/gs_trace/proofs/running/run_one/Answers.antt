@@ -1,6 +1,6 @@
 use Rattle.std.proofs.Common.{◌≡◌, ◌∙◌, ◌||◌, ap, subst, sym, false, ◌++◌, ◌∷◌, [], Bool, Result, Ok, Err, OnOk}
 use Rattle.gs_journal.specs.declared.entry.Entry.{Entry}
-use Rattle.gs_kernel.specs.Fate.{answer_by, last_entry}
+use Rattle.gs_kernel.specs.Kernel.{last_entry}
 use Rattle.gs_core.specs.declared.event.Event.{Event}
 use Rattle.gs_replies.specs.declared.reply.Reply.{Reply}
 use Rattle.gs_replies.specs.Replies.{reply_of}
@@ -16,18 +16,18 @@ where_ok (Err e) X Y f x = x
 pub returns-in-Kernel : goal.returns-in-Kernel
 returns-in-Kernel g c =
     let m = planning any_plans c.args.machine.now in
-    let next = c.command-fate.new.self in
-    let fate = c.command-fate.result in
-    let reply : Reply = reply_of (answer_by fate (last_entry next.history)) in
-    let fine : wants_memory reply ≡ false = sym (c.is_short_fate.ensures (last_entry next.history)) ∙ c.if-is_short_fate.false in
-    where_ok c.take_fate.result _ _
+    let next = c.command-came.new.self in
+    let came = c.command-came.result in
+    let reply : Reply = reply_of came (last_entry next.history) in
+    let fine : wants_memory reply ≡ false = sym (c.is_short_command.ensures (last_entry next.history)) ∙ c.if-is_short_command.false in
+    where_ok c.take_executed.result _ _
     (λ grows. record {
       reply = reply;
-      step = subst (λ (e : Event _). Step m (planned any_plans e) reply (planning any_plans next)) (sym c.in-Kernel.is) c.command-fate.ensures.step;
-      safe = c.command-fate.ensures.safe;
-      faithful = c.command-fate.ensures.faithful;
+      step = subst (λ (e : Event _). Step m (planned any_plans e) reply (planning any_plans next)) (sym c.in-Kernel.is) c.command-came.ensures.step;
+      safe = c.command-came.ensures.safe;
+      faithful = c.command-came.ensures.faithful;
       sufficed = ap (λ (b : Bool). b || false) fine;
       grows =
           λ rs has.
-          subst (λ (e : Entry). g.T.Taker.has c.take_fate.new.self (rs ++ reply_of (answer_by fate e) ∷ [])) (c.last.ensures ∙ ap last_entry c.kernel.ensures.history) (grows rs has);
-    }) c.take_fate.ensures
+          subst (λ (e : Entry). g.T.Taker.has c.take_executed.new.self (rs ++ reply_of came e ∷ [])) (c.last.ensures ∙ ap last_entry c.kernel.ensures.history) (grows rs has);
+    }) c.take_executed.ensures
