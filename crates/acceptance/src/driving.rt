@@ -3,7 +3,7 @@
 
 use crate::BothEnds;
 use gs_agent::Role;
-use gs_kernel::{Answer, Kernel, Landing, Settings};
+use gs_kernel::{Executed, Kernel, Landing, Settings};
 use gs_layout::{Class, Facts, Name, Outcome};
 use gs_policy::{Choice, Policy};
 use gs_ring::ByteRing;
@@ -59,7 +59,7 @@ fn create(kernel: &mut Kernel<ByteRing>, classes: &[Class]) -> bool {
         let Some(facts) = facts(*class) else {
             return false;
         };
-        if !matches!(kernel.create(&facts), Answer::Done { .. }) {
+        if !matches!(kernel.create(&facts), Ok(Executed::Done)) {
             return false;
         }
     }

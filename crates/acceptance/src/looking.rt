@@ -1,7 +1,7 @@
 //! What a machine and a kernel show to those who call them, beyond the lines of their replies.
 
 use gs_core::{Config, ConfigFault, Event, Machine, Reply};
-use gs_kernel::{Answer, Command, Kernel, Landing, Settings, ThreadEvent};
+use gs_kernel::{Command, Executed, Kernel, Landing, Settings, ThreadEvent};
 use gs_layout::{Class, Facts, Name, Outcome};
 use gs_policy::{AnyPolicy, FirstCome, TwoClass};
 use gs_ring::ByteRing;
@@ -366,7 +366,7 @@ fn with_one(alloc: Global) -> Option<Kernel<ByteRing>> {
     };
     let ring = ByteRing::new(alloc, 128).ok()?;
     let mut kernel = Kernel::new(alloc, settings, ring).ok()?;
-    if matches!(kernel.create(&facts), Answer::Done { .. }) {
+    if matches!(kernel.create(&facts), Ok(Executed::Done)) {
         Some(kernel)
     } else {
         None

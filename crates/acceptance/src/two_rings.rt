@@ -1,6 +1,7 @@
 //! The same calls over two rings: one of bytes, and one of fixed places.
 
-ghost use Rattle.std.specs.Prelude.{◌≡◌, ◌≤◌, List, map, None, IfOk};
+ghost use Rattle.std.specs.Prelude.{◌≡◌, ◌≤◌, List, map, None, Ok, IfOk};
+ghost use Rattle.gs_kernel.specs.declared.executed.Executed.{Executed};
 ghost use Rattle.acceptance.specs.FixedPlaces.{IsFull, unused};
 ghost use Rattle.gs_journal.specs.History.{posted};
 ghost use Rattle.gs_layout.specs.Spelling.{IsSpellable, tid_of};
@@ -8,7 +9,7 @@ ghost use Rattle.gs_layout.specs.declared.message.Message.{Message};
 
 use crate::fixed_places::FixedPlaces;
 use gs_journal::Entry;
-use gs_kernel::{Answer, Kernel, Settings};
+use gs_kernel::{Executed, Kernel, Settings};
 use gs_layout::{Change, Class, Facts, MOST_TIDS, Message, Name, Refusal};
 use gs_ring::{ByteRing, Poster, Ring, Taker};
 use gs_status::Mask;
@@ -45,20 +46,22 @@ fn woken(tid: u32) -> Message
     }
 }
 
-/// What a kernel returned for creations and then for a tick.
+/// What came of creations and then of a tick.
 #[derive(Clone, Copy)]
 struct Answers {
-    created: [Answer; 4],
-    ticked: Answer,
+    created: [Result<Option<(u32, u32)>, Refusal>; 4],
+    ticked: Result<Option<(u32, u32)>, Refusal>,
 }
 
-/// What an answer says: the thread and the number of the message that was posted, `None` if it did not fit,
+/// What came of a command: the thread and the number of the message that was posted, `None` if it did not fit,
 /// or the refusal.
-fn said(answer: &Answer) -> Result<Option<(u32, u32)>, Refusal> {
-    match answer {
-        Answer::Refused { refusal } => Err(*refusal),
-        Answer::Torn => Ok(None),
-        Answer::Done { entry } => Ok(numbers(entry)),
+fn said<P: Poster>(
+    kernel: &Kernel<P>,
+    came: Result<Executed, Refusal>,
+) -> Result<Option<(u32, u32)>, Refusal> {
+    match came? {
+        Executed::Torn => Ok(None),
+        Executed::Done => Ok(numbers(kernel.last())),
     }
 }
 
@@ -85,12 +88,22 @@ fn take_tids<T: Taker>(alloc: Global, taker: &mut T, max: usize) -> Result<Vec<u
 }
 
 /// Creates a thread. If its message did not fit, every place was used.
-fn create(kernel: &mut Kernel<FixedPlaces>, facts: &Facts) -> Answer
-    ensures { result ≡ Answer.Torn → IsFull kernel.old.poster }
+fn create(kernel: &mut Kernel<FixedPlaces>, facts: &Facts) -> Result<Executed, Refusal>
+    ensures { result ≡ Ok Executed.Torn → IsFull kernel.old.poster }
 {
     // A look at the ring, by which the proof has what was posted to it.
     let _ring = kernel.poster();
     kernel.create(facts)
+}
+
+/// Creates a thread, and returns what came of it.
+fn created<P: Poster>(kernel: &mut Kernel<P>, facts: &Facts) -> Result<Option<(u32, u32)>, Refusal>
+    ensures ring { P.same kernel.old.poster kernel.new.poster }
+    ensures stays { P.taken kernel.new.poster ≡ P.taken kernel.old.poster }
+    ensures told { P.posted kernel.new.poster (posted kernel.new.history) }
+{
+    let came = kernel.create(facts);
+    said(kernel, came)
 }
 
 /// Creates threads until the ring is full, and one more, and ticks.
@@ -99,14 +112,16 @@ fn fill<P: Poster>(kernel: &mut Kernel<P>, facts: &Facts) -> Answers
     ensures stays { P.taken kernel.new.poster ≡ P.taken kernel.old.poster }
     ensures told { P.posted kernel.new.poster (posted kernel.new.history) }
 {
+    let created = [
+        created(kernel, facts),
+        created(kernel, facts),
+        created(kernel, facts),
+        created(kernel, facts),
+    ];
+    let ticked = kernel.tick(0);
     Answers {
-        created: [
-            kernel.create(facts),
-            kernel.create(facts),
-            kernel.create(facts),
-            kernel.create(facts),
-        ],
-        ticked: kernel.tick(0),
+        created,
+        ticked: said(kernel, ticked),
     }
 }
 
@@ -148,7 +163,8 @@ const CREATIONS: [(Result<Option<(u32, u32)>, Refusal>, bool, bool); 4] = [
 /// The first creation that comes out otherwise, or leaves another state.
 fn first_wrong(kernel: &mut Kernel<FixedPlaces>, facts: &Facts) -> Option<usize> {
     for (i, (created, is_full, is_torn)) in CREATIONS.iter().enumerate() {
-        let is_so = said(&create(kernel, facts)) == *created;
+        let came = create(kernel, facts);
+        let is_so = said(kernel, came) == *created;
         if !is_so || kernel.poster().is_full() != *is_full || kernel.is_torn() != *is_torn {
             return Some(i);
         }
@@ -163,7 +179,8 @@ fn tears_down_at_the_last_place(rt: HostRuntime) -> Result<(), Fail> {
     let ring = FixedPlaces::new(rt.alloc(), 2)?;
     let mut kernel = Kernel::new(rt.alloc(), SETTINGS, ring)?;
     let wrong = first_wrong(&mut kernel, &facts);
-    assert_eq!(rt; (wrong, said(&kernel.tick(0))), (None, Err(Refusal::Gone)));
+    let ticked = kernel.tick(0);
+    assert_eq!(rt; (wrong, said(&kernel, ticked)), (None, Err(Refusal::Gone)));
     Ok(())
 }
 
@@ -175,11 +192,11 @@ fn answers_so<P: Ring>(
 ) -> Result<bool, AllocError> {
     let Answers { created, ticked } = fill(kernel, facts);
     for (answer, (wanted, _, _)) in created.iter().zip(&CREATIONS) {
-        if said(answer) != *wanted {
+        if answer != wanted {
             return Ok(false);
         }
     }
-    Ok(said(&ticked) == Err(Refusal::Gone) && takes(alloc, &mut kernel.taker(), &[1, 2])?)
+    Ok(ticked == Err(Refusal::Gone) && takes(alloc, &mut kernel.taker(), &[1, 2])?)
 }
 
 /// A kernel over a ring of bytes that has room for two such messages.

@@ -77,7 +77,7 @@ impl Enclave {
             name,
         };
         for number in 0..threads {
-            self.kernel.create(&facts);
+            let _ = self.kernel.create(&facts);
             if number % CREATIONS == 0 {
                 self.drain();
             }
@@ -125,13 +125,13 @@ impl Enclave {
 
     /// A thread blocks and wakes.
     pub(crate) fn block_and_wake(&mut self, tid: u32) {
-        self.kernel.block(tid);
-        self.kernel.wake(tid);
+        let _ = self.kernel.block(tid);
+        let _ = self.kernel.wake(tid);
     }
 
     /// A thread is told its mask anew.
     pub(crate) fn tell_mask(&mut self, tid: u32) {
-        self.kernel.affinity(tid, self.mask);
+        let _ = self.kernel.affinity(tid, self.mask);
     }
 
     /// What the policy plans is stamped and committed, and all that were placed yield: how many slots landed.
@@ -144,7 +144,7 @@ impl Enclave {
         }
         let landed = self.commit();
         for choice in &choices {
-            self.kernel.yield_cpu(choice.tid);
+            let _ = self.kernel.yield_cpu(choice.tid);
         }
         landed
     }
@@ -152,8 +152,8 @@ impl Enclave {
     /// A new agent takes the place of the one before: how many threads it was told of. `None` if out of
     /// memory.
     pub(crate) fn attach(&mut self, threads: u32) -> Option<usize> {
-        self.kernel.leave();
-        self.kernel.begin();
+        let _ = self.kernel.leave();
+        let _ = self.kernel.begin();
         let generation = self.kernel.attaching()?;
         let cpus = self.kernel.settings().cpus;
         self.role = Role::attach(self.alloc, FirstCome, cpus, generation).ok()?;
@@ -161,7 +161,7 @@ impl Enclave {
         for _ in 0..=threads / PAGE as u32 {
             told = told.wrapping_add(self.load_page()?);
         }
-        self.kernel.activate(0);
+        let _ = self.kernel.activate(0);
         self.role.promote(generation, 0);
         Some(told)
     }

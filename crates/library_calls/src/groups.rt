@@ -204,7 +204,7 @@ fn create(kernel: &mut Kernel<ByteRing>) -> Option<()> {
         class: Class::Zero,
         name: Name::new(b"a")?,
     };
-    kernel.create(&facts);
+    kernel.create(&facts).ok()?;
     Some(())
 }
 
@@ -235,7 +235,7 @@ fn begin(kernel: &mut Kernel<ByteRing>, ticks: u16) -> Option<()> {
         .land_stamp(2, &stamp_of(&(2, 2, 1, false, false)))
         .ok()?;
     for _ in 0..ticks {
-        kernel.serve(&Command::Tick { cpu: 0 });
+        kernel.execute(&Command::Tick { cpu: 0 }).ok()?;
     }
     Some(())
 }

@@ -3,7 +3,7 @@
 use crate::messages::Tried;
 use gs_dump::Page;
 use gs_journal::Entry;
-use gs_kernel::{Answer, Command, Kernel, Landing, Settings, ThreadEvent};
+use gs_kernel::{Command, Executed, Kernel, Landing, Settings, ThreadEvent};
 use gs_layout::{Change, Class, Facts, Message, Name, Outcome, Refusal};
 use gs_ring::ByteRing;
 use gs_slots::{Region, SlotMut, Stamp};
@@ -269,11 +269,11 @@ fn posted(message: &Message) -> Came {
     }
 }
 
-fn came_of(answer: &Answer) -> Came {
-    match answer {
-        Answer::Refused { refusal } => Refused(*refusal),
-        Answer::Torn => Torn,
-        Answer::Done { entry } => entry_of(entry),
+fn came_of(kernel: &Kernel<ByteRing>, came: Result<Executed, Refusal>) -> Came {
+    match came {
+        Ok(Executed::Done) => entry_of(kernel.last()),
+        Ok(Executed::Torn) => Torn,
+        Err(refusal) => Refused(refusal),
     }
 }
 
@@ -284,22 +284,24 @@ fn create(kernel: &mut Kernel<ByteRing>, mask: u128) -> Option<Came> {
         class: Class::Zero,
         name: Name::new(b"web")?,
     };
-    Some(came_of(&kernel.create(&facts)))
+    let came = kernel.create(&facts);
+    Some(came_of(kernel, came))
 }
 
-/// A command served by its own call, or by the one for all.
-fn serve(kernel: &mut Kernel<ByteRing>, command: &Command) -> Came {
-    let answer = match command {
+/// A command executed by its own call, or by the one for all.
+fn execute(kernel: &mut Kernel<ByteRing>, command: &Command) -> Came {
+    let came = match command {
         Command::Leave => kernel.leave(),
         Command::Begin => kernel.begin(),
-        _ => kernel.serve(command),
+        Command::Activate { cpu } => kernel.activate(*cpu),
+        _ => kernel.execute(command),
     };
-    came_of(&answer)
+    came_of(kernel, came)
 }
 
 /// Something happens to a thread, which the kernel is told as a command.
 fn happen(kernel: &mut Kernel<ByteRing>, tid: u32, event: ThreadEvent) -> Came {
-    came_of(&kernel.serve(&Command::Thread { tid, event }))
+    execute(kernel, &Command::Thread { tid, event })
 }
 
 fn run(kernel: &mut Kernel<ByteRing>, cpu: u16, tid: u32, tseq: u32) -> Option<Came> {
@@ -363,8 +365,8 @@ fn came_to(alloc: Global, kernel: &mut Kernel<ByteRing>, deed: &Deed) -> Option<
     match deed {
         Deed::Create(mask) => create(kernel, *mask),
         Deed::Thread(tid, event) => Some(happen(kernel, *tid, *event)),
-        Deed::Activate(cpu) => Some(came_of(&kernel.activate(*cpu))),
-        Deed::Serve(command) => Some(serve(kernel, command)),
+        Deed::Activate(cpu) => Some(execute(kernel, &Command::Activate { cpu: *cpu })),
+        Deed::Serve(command) => Some(execute(kernel, command)),
         Deed::Run(cpu, tid, tseq) => run(kernel, *cpu, *tid, *tseq),
         Deed::Page(from, max, threads, next) => {
             told(kernel.page(alloc, *from, *max), threads, *next)

@@ -1,22 +1,22 @@
 //! A kernel by itself: without lock, ledger, board and list of calls.
 
 use crate::events::{CPUS, THREADS, creation, event, parcels};
-use gs_kernel::{Fate, Kernel, LEAST_GENERATION, MOST_HISTORY, Settings};
+use gs_kernel::{Executed, Kernel, LEAST_GENERATION, MOST_HISTORY, Settings};
 use gs_link::{RtrbPoster, make_ring};
 use std::alloc::Global;
 
 /// Creates the threads.
 fn create_all(kernel: &mut Kernel<RtrbPoster>) {
     for _ in 0..THREADS {
-        kernel.obey(&creation());
+        let _ = kernel.execute(&creation());
     }
 }
 
 /// Tells the kernel so many events, and returns how many it did.
-fn obey_all(kernel: &mut Kernel<RtrbPoster>, calls: u32) -> u64 {
+fn execute_all(kernel: &mut Kernel<RtrbPoster>, calls: u32) -> u64 {
     let mut done: u64 = 0;
     for turn in 0..calls {
-        if let Fate::Done = kernel.obey(&event(turn)) {
+        if let Ok(Executed::Done) = kernel.execute(&event(turn)) {
             done = done.wrapping_add(1);
         }
     }
@@ -35,5 +35,5 @@ pub(crate) fn run_alone(alloc: Global, calls: u32) -> Option<u64> {
     let (poster, _taker) = make_ring(alloc, parcels(1, calls)? as usize).ok()?;
     let mut kernel = Kernel::new(alloc, settings, poster).ok()?;
     create_all(&mut kernel);
-    Some(obey_all(&mut kernel, calls))
+    Some(execute_all(&mut kernel, calls))
 }
