@@ -14,7 +14,6 @@ use Rattle.gs_kernel.specs.Attaching.{activate_refusal}
 use Rattle.gs_kernel.specs.Kernel.{creation, happening, last_entry, next_about, next_generation, preemption, take_refusal}
 use Rattle.gs_kernel.specs.declared.command.Command.{Command}
 use Rattle.gs_kernel.specs.declared.command.Command.TheVariants as commands
-use Rattle.gs_kernel.specs.declared.effect.Effect.{Effect}
 use Rattle.gs_kernel.specs.declared.effect.Effect.TheVariants.{Append}
 use Rattle.gs_kernel.specs.declared.executed.Executed.{Executed}
 use Rattle.gs_kernel.specs.declared.executed.Executed.TheVariants as executed

@@ -1,14 +1,12 @@
 -- A role that is added moves the agent, and keeps what the machine keeps.
-use Rattle.std.proofs.Common.{◌≡◌, refl, ap, sym, ◌∙◌, ℕ, false, Option, None, Some, List, [], ◌∷◌, ◌++◌}
+use Rattle.std.proofs.Common.{◌≡◌, refl, ap, sym, ◌∙◌, ℕ, Option, None, Some, [], ◌∷◌, ◌++◌}
 use Rattle.std.specs.Option.{option_map}
-use Rattle.gs_slots.specs.declared.state.SlotState.{SlotState}
-use Rattle.gs_journal.specs.declared.entry.Entry.{Entry}
-use Rattle.gs_journal.specs.declared.entry.Entry.TheVariants.{Posted, Placed, Role, Begin, Left, Taken, Given, Torn}
+use Rattle.gs_journal.specs.declared.entry.Entry.TheVariants.{Role}
 use Rattle.gs_journal.specs.History.{History, active, attaching}
 use Rattle.gs_journal.proofs.Laws.{same_posted}
 use Rattle.gs_threads.proofs.Laws.{on_quiet}
 use Rattle.gs_kernel.proofs.Laws.{active_now, attaching_ended}
-use Rattle.gs_core.specs.Machine.{Agent, freed_by, led, page_of, promoted, State, view}
+use Rattle.gs_core.specs.Machine.{Agent, page_of, promoted, State, view}
 use Rattle.gs_core.specs.Good.{Good}
 use Rattle.gs_core.specs.Thinks.{Knows, Thinks}
 use Rattle.gs_core.specs.Trust.{Trusts}

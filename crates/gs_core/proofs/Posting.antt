@@ -33,7 +33,7 @@ use Rattle.gs_kernel.proofs.Laws.{Entails, last_added, last_told, tells_map}
 use Rattle.gs_agent.specs.Role.{RoleOf}
 use Rattle.gs_core.specs.Follows.{follows, on_cpu}
 use Rattle.gs_replies.specs.Replies.{replied, reply_of}
-use Rattle.gs_core.specs.Machine.{Agent, Carries, Plan, State, StateOf, IsFit, fits_into, freed_by, is_given_all, kernel_refusal, led, planned_by, planning, promoted, refusal, standing_refusal, stays_with, told_refusal, Does, IsShort, Serves, Step}
+use Rattle.gs_core.specs.Machine.{Carries, Plan, State, StateOf, IsFit, fits_into, freed_by, is_given_all, kernel_refusal, led, planned_by, planning, promoted, refusal, standing_refusal, stays_with, told_refusal, Does, IsShort, Serves, Step}
 use Rattle.gs_core.specs.Held.{agent_of}
 
 -- the ring that a machine shows

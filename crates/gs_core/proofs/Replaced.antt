@@ -1,5 +1,5 @@
 -- A replacement comes to its end, and how many events it has at most.
-use Rattle.std.proofs.Common.{◌≡◌, refl, ap, sym, ◌∙◌, subst, ℕ, ◌+◌, ◌/◌, ◌<◌, ◌≤◌, inl, inr, Bool, true, false, Option, None, Some, Ok, List, [], ◌∷◌, ◌++◌, length, unwrap_or, arith}
+use Rattle.std.proofs.Common.{◌≡◌, refl, ap, sym, ◌∙◌, subst, ℕ, ◌+◌, ◌/◌, ◌<◌, ◌≤◌, inl, inr, Option, None, Some, Ok, List, [], ◌∷◌, ◌++◌, length, unwrap_or, arith}
 use Rattle.std.proofs.Math.Nat.{add-mul, div-mul-le_self}
 use Rattle.std.proofs.lemmas.Nat.{le-div}
 use Rattle.gs_layout.specs.declared.message.Message.{Message}

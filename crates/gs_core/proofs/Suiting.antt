@@ -24,7 +24,7 @@ use Rattle.gs_core.specs.Machine.{stays_with}
 use Rattle.gs_core.specs.Held.{Suits}
 use Rattle.gs_core.proofs.Commands.{role_last}
 use Rattle.gs_core.proofs.OneAgent.{none_there}
-use Rattle.gs_core.proofs.Roles.{NoNewRole, acts_on, entry_roles, roles_given, roles_posted, roles_taken, roles_torn, same_history}
+use Rattle.gs_core.proofs.Roles.{NoNewRole, acts_on, entry_roles, roles_given, roles_posted, roles_taken, roles_torn}
 use Rattle.gs_core.proofs.Steps.{was_role}
 
 -- if nobody new is active or attaches, a role that differs in its mind alone suits on

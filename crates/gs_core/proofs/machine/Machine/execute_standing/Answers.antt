@@ -1,11 +1,9 @@
-use Rattle.std.proofs.Common.{◌≡◌, Ok, ap, sym, subst, ◌∙◌}
-use Rattle.gs_journal.specs.declared.entry.Entry.{Entry}
-use Rattle.gs_kernel.specs.Kernel.{last_entry}
+use Rattle.std.proofs.Common.{sym, subst}
 use Rattle.gs_core.specs.declared.event.Event.{Event}
 use Rattle.gs_core.specs.declared.event.Event.TheVariants as events
-use Rattle.gs_replies.specs.Replies.{replied, reply_of}
-use Rattle.gs_core.specs.Machine.{StateOf, Step, decides, planned, planning, stamps}
-use Rattle.gs_core.proofs.Posting.{begun_step, both_of, same_planning, step_of}
+use Rattle.gs_replies.specs.Replies.{replied}
+use Rattle.gs_core.specs.Machine.{Step, planned, planning}
+use Rattle.gs_core.proofs.Posting.{both_of, same_planning, step_of}
 use Rattle.gs_core.proofs.machine.Machine.execute_standing.Goals as goal
 
 pub returns-in-Stamp-clause-step : goal.returns-in-Stamp-clause-step
