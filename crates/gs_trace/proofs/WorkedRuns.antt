@@ -1,5 +1,5 @@
 -- Whole scripts, and what is written for them.
-use Rattle.std.proofs.Common.{refl, inl, ℕ, true, false, List, [], ◌∷◌, ◌++◌, map, take, codes}
+use Rattle.std.proofs.Common.{refl, inl, ℕ, true, List, [], ◌∷◌, ◌++◌, map, take, codes}
 use Rattle.std.specs.Fmt.{digits}
 use Rattle.gs_layout.specs.declared.facts.Class.TheVariants.{Zero}
 use Rattle.gs_layout.specs.declared.facts.Facts.{Facts}

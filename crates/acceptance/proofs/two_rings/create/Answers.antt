@@ -1,4 +1,4 @@
-use Rattle.std.proofs.Common.{◌≡◌, Result, ap, length, sym, subst, ◌∙◌, arith}
+use Rattle.std.proofs.Common.{Result, ap, length, sym, subst, ◌∙◌, arith}
 use Rattle.gs_layout.specs.declared.refusal.Refusal.{Refusal}
 use Rattle.gs_kernel.specs.declared.executed.Executed.{Executed}
 use Rattle.gs_kernel.specs.declared.command.Command.TheVariants as commands
