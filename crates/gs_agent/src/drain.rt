@@ -1,6 +1,6 @@
 //! A drain, over any end that messages are taken from.
 
-ghost use Rattle.std.specs.Prelude.{◌≡◌, ◌^◌, ◌<◌, ◌≤◌, List, [], ◌∷◌, None, Some, IsSome, true};
+ghost use Rattle.std.specs.Prelude.{◌≡◌, ◌^◌, ◌<◌, ◌≤◌, List, [], ◌∷◌, IfNone, IfSome, None, Some, IsSome, true};
 ghost use Rattle.gs_layout.specs.declared.message.Message.{Message};
 ghost use Rattle.gs_layout.specs.View.{is_gap, look_up, word};
 ghost use Rattle.gs_view.specs.Begins.{begins};
@@ -11,8 +11,10 @@ ghost use Rattle.gs_mind.specs.Mind.{picture_of};
 
 use crate::drained::{Drained, Stop};
 use gs_mind::Mind;
-use gs_ring::{Batch, Taker};
+use gs_reader::MessageRef;
+use gs_ring::{Batch, Taker, Waiting};
 use gs_view::{ApplyFault, News};
+use std::marker::Model;
 
 /// Takes in messages, at most `max` of them, up to a gap or until out of memory. They are read where they
 /// lie, batch by batch, and those that were taken in then pass.
@@ -46,6 +48,54 @@ pub(crate) fn drain_into<T: Taker>(mind: &mut Mind, taker: &mut T, max: u32) -> 
     drained
 }
 
+/// The messages of a batch that are left, each where it lies. Clauses see the list of them.
+#[derive(Drop)]
+struct Left<'a> {
+    /// The message of a batch of one. It is read once, not by a walk that reads it anew.
+    one: Option<MessageRef<'a>>,
+    /// The messages of any other batch.
+    others: Waiting<'a>,
+}
+
+impl<'a> Model for Left<'a> {
+    ghost use Rattle.std.specs.Prelude.{◌++◌, List, option_to_list};
+    ghost use Rattle.gs_layout.specs.declared.message.Message.{Message};
+
+    ghost Value = { List Message };
+
+    ghost view = { λ l. option_to_list l.one ++ l.others };
+}
+
+impl<'a> Left<'a> {
+    /// All messages of a batch are left.
+    fn new(batch: Batch<'a>) -> Left<'a>
+        ensures { result ≡ messages_of batch.entry }
+    {
+        match batch {
+            Batch::One(peeked) => Left {
+                one: Some(peeked.message()),
+                others: Batch::Empty.messages(),
+            },
+            _ => Left {
+                one: None,
+                others: batch.messages(),
+            },
+        }
+    }
+
+    /// Lends the first one, behind which the others are left.
+    #[inline(always)]
+    fn next(&mut self) -> Option<MessageRef<'a>>
+        ensures some { IfSome result (λ m. self.old ≡ m ∷ self.new) }
+        ensures none { IfNone result (self.old ≡ []) }
+    {
+        match self.one.take() {
+            Some(message) => Some(message),
+            None => self.others.next(),
+        }
+    }
+}
+
 /// Takes in the first messages of a batch. It stops at a gap, if out of memory, or once `max` messages were
 /// drained in all. They are counted beside those that were drained before.
 fn follow_first(mind: &mut Mind, batch: Batch<'_>, max: usize, drained: Drained) -> Drained
@@ -57,10 +107,11 @@ fn follow_first(mind: &mut Mind, batch: Batch<'_>, max: usize, drained: Drained)
     ensures { TookFirst (messages_of batch.entry) max drained mind.old result mind.new }
 {
     let mut drained = drained;
-    for message in batch.messages() {
-        if drained.count == max {
+    let mut left = Left::new(batch);
+    'messages: while drained.count < max {
+        let Some(message) = left.next() else {
             break;
-        }
+        };
         match mind.follow(message) {
             Ok(news) => drained = counted(drained, news),
             Err(fault) => {
