@@ -27,6 +27,7 @@ impl Poster for RtrbPoster {
 
     ghost same = { SameEnd };
 
+    #[inline(always)]
     fn post(&mut self, message: &Message) -> Result<(), Full> {
         match self.producer.push(Parcel::new(message)) {
             Ok(()) => Ok(()),

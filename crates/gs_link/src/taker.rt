@@ -28,6 +28,7 @@ impl Taker for RtrbTaker {
         let _ = self.consumer.pop_known();
     }
 
+    #[inline(always)]
     fn batch(&mut self) -> Batch<'_> {
         match self.consumer.peek() {
             Ok(parcel) => Batch::One(Peeked::new(parcel.as_bytes())),
@@ -35,6 +36,7 @@ impl Taker for RtrbTaker {
         }
     }
 
+    #[inline(always)]
     fn pass(&mut self, n: usize) {
         for _ in 0..n {
             let _ = self.consumer.pop_known();
