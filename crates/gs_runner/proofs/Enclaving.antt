@@ -1,7 +1,10 @@
 -- What a call under the lock keeps.
-use Rattle.std.proofs.Common.{◌≡◌, ℕ, ◌+◌, ◌≤◌, Bool, false, true≢false, List, [], ◌∷◌, ◌++◌, length, refl, ap, sym, subst, ◌∙◌, arith, append-nil, length-append}
+use Rattle.std.proofs.Common.{◌≡◌, ℕ, ◌+◌, ◌≤◌, Bool, false, true≢false, List, [], ◌∷◌, ◌++◌, length, refl, ap, sym, subst, ◌∙◌, arith, append-nil, length-append, unwrap_or}
+use Rattle.std.specs.Prelude.{option_map}
 use Rattle.gs_board.specs.declared.rule.Words.{Words}
-use Rattle.gs_board.specs.Words.{MayFollow}
+use Rattle.gs_board.specs.Words.{EndsIn, MayFollow}
+use Rattle.gs_board.specs.declared.words.TheConstants.{NOBODY}
+use Rattle.gs_layout.specs.declared.message.Message.{Message}
 use Rattle.gs_layout.specs.declared.refusal.Refusal.{Refusal}
 use Rattle.gs_link.specs.declared.poster.RtrbPoster.{RtrbPoster}
 use Rattle.gs_link.specs.Between.{SameEnd}
@@ -11,6 +14,9 @@ use Rattle.gs_kernel.specs.declared.fate.Fate.{Fate}
 use Rattle.gs_kernel.specs.declared.fate.Fate.TheVariants as fates
 use Rattle.gs_kernel.specs.Fate.{answer_by}
 use Rattle.gs_journal.specs.declared.entry.Entry.{Entry}
+use Rattle.gs_journal.specs.declared.entry.Entry.TheVariants.{Posted}
+use Rattle.gs_journal.specs.History.{History}
+use Rattle.gs_kernel.proofs.Laws.{beside_posted}
 use Rattle.gs_replies.specs.declared.reply.Reply.{Reply}
 use Rattle.gs_replies.specs.declared.reply.Reply.TheVariants as replies
 use Rattle.gs_replies.specs.Replies.{reply_of}
@@ -23,7 +29,9 @@ use Rattle.gs_runner.specs.Calls.{GoesOnBy, IsCall, IsLegalHistory, LegalCall, T
 use Rattle.gs_runner.specs.Told.{IsTold, parcels_of}
 use Rattle.gs_runner.specs.Serving.{Serves}
 use Rattle.gs_runner.specs.Enclaves.{EnclaveOf, IsEnclave, IsShown, enclave_of, generation_number, role_of}
+use Rattle.gs_runner.specs.Quiet.{PostsOne}
 use Rattle.gs_runner.proofs.Callings.{leads_more}
+use Rattle.gs_runner.proofs.Generations.{quiet}
 use Rattle.gs_runner.proofs.Growths.{GoesOn, call_goes, goes_longer}
 
 pub accepted : (r : Reply) → ((x : Refusal) → r ≡ replies.Refused x → ⊥) → is_refused r ≡ false
@@ -62,6 +70,22 @@ told_on a b c r at more t is longer =
 -- the generation that is published next is not below the last
 pub may_publish : (a b : KernelOf RtrbPoster) (c : Called) (r : Reply) (published : Words) → IsTold a c r b → IsShown published a.history → MayFollow published.roles (generation_number b.history)
 may_publish a b c r published t shown = (role_of a.history, shown.role, (told_goes a b c r t).rises)
+
+-- behind a message alone the board still shows what is so
+pub shown_posted : (w : Words) (h h' : History) → PostsOne h h' → IsShown w h → IsShown w h'
+shown_posted w h h' p shown =
+    let m : Message = p.0 in
+    let beside = beside_posted h m in
+    let number : generation_number (h ++ Posted m ∷ []) ≡ generation_number h = quiet h (Posted m) refl in
+    let role : role_of (h ++ Posted m ∷ []) ≡ role_of h = λ i. (number i, unwrap_or (option_map (λ (a : ℕ × ℕ). a.1) (beside.active i)) NOBODY) in
+    let after : IsShown w (h ++ Posted m ∷ []) = record {
+      role = subst (EndsIn w.roles) (sym role) shown.role;
+      mask = shown.mask;
+      low = shown.low;
+      high = shown.high;
+      holds = λ c. shown.holds c ∙ sym (beside.taken c);
+    } in
+    subst (IsShown w) (sym p.1) after
 
 -- what is kept whenever the lock is got, is kept by an accepted call
 pub told_kept : (is_ring : RtrbPoster → Type 0) (parcels parts : ℕ) (a b : KernelOf RtrbPoster) (calls calls' : List Call) (total total' : ℕ) (published published' : Words) (c : Call)

@@ -6,7 +6,10 @@ use Rattle.std.proofs.lemmas.List.Elements.{All-head, All-push, All-tail, All-we
 use Rattle.std.proofs.Math.ListN.{get_or-append}
 use Rattle.std.proofs.Math.Seq.{get_or-append_seam, take-length}
 use Rattle.gs_board.specs.declared.rule.Words.{Words}
+use Rattle.gs_layout.specs.declared.message.Message.{Message}
+use Rattle.gs_layout.specs.declared.message.Message.TheVariants.{TimerTick}
 use Rattle.gs_journal.specs.declared.entry.Entry.{Entry}
+use Rattle.gs_journal.specs.declared.entry.Entry.TheVariants.{Posted}
 use Rattle.gs_journal.specs.History.{History, at}
 use Rattle.gs_kernel.specs.declared.settings.Settings.{Settings}
 use Rattle.gs_kernel.specs.declared.thread_event.ThreadEvent.{ThreadEvent}
@@ -16,8 +19,8 @@ use Rattle.gs_kernel.specs.declared.command.Command.TheVariants as told
 use Rattle.gs_kernel.specs.declared.fate.Fate.{Fate}
 use Rattle.gs_kernel.specs.declared.fate.Fate.TheVariants as fates
 use Rattle.gs_kernel.specs.Fate.{answer_by, last_entry}
-use Rattle.gs_kernel.specs.Kernel.{KernelOf, change_by}
-use Rattle.gs_kernel.specs.Legal.{effect, last_in}
+use Rattle.gs_kernel.specs.Kernel.{KernelOf, change_by, creation, happening}
+use Rattle.gs_kernel.specs.Legal.{effect, entries_in, last_in}
 use Rattle.gs_link.specs.declared.poster.RtrbPoster.{RtrbPoster}
 use Rattle.gs_replies.specs.declared.reply.Reply.{Reply}
 use Rattle.gs_runner.specs.declared.call.Call.{Call}
@@ -26,6 +29,7 @@ use Rattle.gs_runner.specs.declared.kept.Kept.{Kept}
 use Rattle.gs_runner.specs.declared.kept.Kept.TheVariants as kept
 use Rattle.gs_runner.specs.Kept.{AllWithin, IsWithin, call_kept, calls_kept, command_by, command_by_change, done_call, entry_before, is_told_by_entry, no_call, told_call}
 use Rattle.gs_runner.specs.Enclaves.{enclave_of}
+use Rattle.gs_runner.specs.Quiet.{PostsOne, posts_alone}
 use Rattle.gs_runner.specs.Told.{IsTold}
 use Rattle.gs_runner.proofs.Enclaving.{told_goes, told_longer}
 use Rattle.gs_runner.proofs.Tellings.{HasServed}
@@ -53,6 +57,23 @@ pub obeyed_follows : (a b : KernelOf RtrbPoster) (c : Command) (f : Fate) → Ha
 obeyed_follows a b c (fates.Refused r) t e k = absurd cc
 obeyed_follows a b c fates.Torn t e k = absurd cc
 obeyed_follows a b c fates.Done t e k = ap command_by t.legal.0 ∙ told_follows a.settings a.history c k
+
+-- what posts a message alone
+posts_one : (s : Settings) (h : History) (c : Command) → posts_alone c ≡ true → (m : Message) × (entries_in (effect s h c) ≡ Posted m ∷ [])
+posts_one s h (told.Create f) e = (creation s.first_tseq h f, refl)
+posts_one s h (told.Thread t x) e = (happening s h t x, refl)
+posts_one s h (told.Tick c) e = (TimerTick c, refl)
+posts_one s h (told.Take c) e = absurd (false≢true e)
+posts_one s h (told.Give c) e = absurd (false≢true e)
+posts_one s h (told.HandOff c) e = absurd (false≢true e)
+posts_one s h told.Leave e = absurd (false≢true e)
+posts_one s h told.Begin e = absurd (false≢true e)
+posts_one s h (told.Activate c) e = absurd (false≢true e)
+
+pub obeyed_quiet : (a b : KernelOf RtrbPoster) (c : Command) (f : Fate) → HasServed a c (answer_by f (last_entry b.history)) b → f ≡ fates.Done → posts_alone c ≡ true → PostsOne a.history b.history
+obeyed_quiet a b c (fates.Refused r) t e k = absurd cc
+obeyed_quiet a b c fates.Torn t e k = absurd cc
+obeyed_quiet a b c fates.Done t e k = let one = posts_one a.settings a.history c k in (one.0, t.legal.1.tells.1 ∙ ap (λ (l : History). a.history ++ l) one.1)
 
 -- a call stays what it was as the history goes on, and as others are appended
 kept_on : (h more : History) (o : List Call) (k : Kept) (m : ℕ) → IsWithin (length h) m k → call_kept (h ++ more) o k ≡ call_kept h o k

@@ -1,5 +1,5 @@
 -- The calls that were made when the journal had so many entries.
-use Rattle.std.proofs.Common.{◌≡◌, ℕ, zero, suc, ◌+◌, ◌≤◌, ◌<◌, Bool, true, false, List, [], ◌∷◌, ◌++◌, Option, None, Some, unwrap_or, length, slice_get, refl, ap, sym, subst, ◌∙◌, arith}
+use Rattle.std.proofs.Common.{◌≡◌, ℕ, zero, suc, ◌+◌, ◌≤◌, ◌<◌, Bool, true, false, IsTrue, List, [], ◌∷◌, ◌++◌, Option, None, Some, unwrap_or, length, slice_get, refl, ap, sym, subst, ◌∙◌, arith}
 use Rattle.std.specs.Prelude.{◌↔◌, ◌&&◌, All, drop, get_or, leb, ltb, take}
 use Rattle.std.specs.List.{list_all}
 use Rattle.std.specs.List.Sorted.{IsNonDecreasingBy}
@@ -7,7 +7,7 @@ use Rattle.std.specs.List.Sorted.{IsPartitionPoint}
 use Rattle.std.proofs.lemmas.Bool.{false≢true}
 use Rattle.std.proofs.lemmas.Bool.Decides.{nat_tests}
 use Rattle.std.proofs.lemmas.List.{get_or-drop, get_or-take, length-drop, length-take-le, map-append, take-append-drop}
-use Rattle.std.proofs.lemmas.List.Elements.{All-cons, All-head, All-map, All-nil, All-tail, All-weaker}
+use Rattle.std.proofs.lemmas.List.Elements.{All-cons, All-head, All-map, All-more, All-nil, All-tail, All-weaker}
 use Rattle.std.proofs.lemmas.List.Folds.{list_all-append, list_all-map}
 use Rattle.std.proofs.Math.ListN.{get_or-map}
 use Rattle.std.proofs.lemmas.List.{length-map}
@@ -20,7 +20,7 @@ use Rattle.gs_runner.specs.declared.kept.Kept.{Kept}
 use Rattle.gs_runner.specs.declared.kept.Kept.TheVariants as kept
 use Rattle.gs_runner.specs.Calls.{Leads, ThreadRoom, given_by}
 use Rattle.gs_runner.specs.Holds.{Stands, answers_command, call_of}
-use Rattle.gs_runner.specs.Kept.{AllWithin, AreMadeAt, IsWithin, call_kept, calls_kept, kept_at}
+use Rattle.gs_runner.specs.Kept.{AreBefore, call_kept, calls_kept, kept_at}
 use Rattle.gs_runner.proofs.Growths.{call_goes, goes_longer}
 
 -- the place of a call that is kept so
@@ -75,84 +75,72 @@ none_later : (ys : List Call) (c : Command) (r : Receipt) → All (λ (y : Call)
 none_later [] c r all t = none_at t.1
 none_later (y ∷ ys) c r all t = later_place y ys c r (All-head (λ (z : Call). r.at < z.at) y ys all) (none_later ys c r (All-tail (λ (z : Call). r.at < z.at) y ys all)) t.0 t.1
 
--- one call before both
-both_to : (m : Call) (xs ys : List Call) (c : Command) (r : Receipt) → (Stands xs c r → Stands ys c r) → (k : ℕ) → slice_get (m ∷ xs) k ≡ Some (call_of c r) → Stands (m ∷ ys) c r
-both_to m xs ys c r f zero e = (zero, e)
-both_to m xs ys c r f (suc k) e = let t = f (k, e) in (suc t.0, t.1)
-
-before_those : (ms ys : List Call) (c : Command) (r : Receipt) → All (λ (y : Call). r.at < y.at) ys → Stands ms c r ↔ Stands (ms ++ ys) c r
-before_those [] ys c r all = ((λ t. absurd (none_at t.1)), (λ t. absurd (none_later ys c r all t)))
-before_those (m ∷ ms) ys c r all =
-    let later : Stands ms c r ↔ Stands (ms ++ ys) c r = before_those ms ys c r all in
-    ((λ t. both_to m ms (ms ++ ys) c r later.0 t.0 t.1), (λ t. both_to m (ms ++ ys) ms c r later.1 t.0 t.1))
-
 behind_place : (x : Call) (xs ms : List Call) (c : Command) (r : Receipt) → x.at < r.at → (Stands xs c r → Stands ms c r) → (k : ℕ) → slice_get (x ∷ xs) k ≡ Some (call_of c r) → Stands ms c r
 behind_place x xs ms c r below f zero e = let is : x.at ≡ r.at = same_place c r x e in absurd (omega (arith, is, below))
 behind_place x xs ms c r below f (suc k) e = f (k, e)
 
-pub stands_among : (xs ms ys : List Call) (c : Command) (r : Receipt) → All (λ (x : Call). x.at < r.at) xs → All (λ (y : Call). r.at < y.at) ys → Stands ms c r ↔ Stands (xs ++ (ms ++ ys)) c r
-stands_among [] ms ys c r below above = before_those ms ys c r above
-stands_among (x ∷ xs) ms ys c r below above =
-    let later : Stands ms c r ↔ Stands (xs ++ (ms ++ ys)) c r = stands_among xs ms ys c r (All-tail (λ (z : Call). z.at < r.at) x xs below) above in
-    ((λ t. let u = later.0 t in (suc u.0, u.1)), (λ t. behind_place x (xs ++ (ms ++ ys)) ms c r (All-head (λ (z : Call). z.at < r.at) x xs below) later.1 t.0 t.1))
+stands_after : (xs ys : List Call) (c : Command) (r : Receipt) → All (λ (x : Call). x.at < r.at) xs → Stands ys c r ↔ Stands (xs ++ ys) c r
+stands_after [] ys c r below = ((λ t. t), (λ t. t))
+stands_after (x ∷ xs) ys c r below =
+    let later : Stands ys c r ↔ Stands (xs ++ ys) c r = stands_after xs ys c r (All-tail (λ (z : Call). z.at < r.at) x xs below) in
+    ((λ t. let u = later.0 t in (suc u.0, u.1)), (λ t. behind_place x (xs ++ ys) ys c r (All-head (λ (z : Call). z.at < r.at) x xs below) later.1 t.0 t.1))
 
--- so of calls that are kept
-pub stands_made : (h : History) (o : List Call) (ks ms : List Kept) (c : Command) (r : Receipt) → AreMadeAt o r.at ks ms → Stands (calls_kept h o ms) c r ↔ Stands (calls_kept h o ks) c r
-stands_made h o ks ms c r m =
+-- behind calls that were made before, just those stand that stand among all
+pub stands_past : (h : History) (o : List Call) (ks : List Kept) (n : ℕ) (c : Command) (r : Receipt) → AreBefore o r.at ks n → Stands (calls_kept h o (drop n ks)) c r ↔ Stands (calls_kept h o ks) c r
+stands_past h o ks n c r b =
     let f : Kept → Call = call_kept h o in
-    let below : All (λ (x : Call). x.at < r.at) (calls_kept h o m.before) = All-map (λ (x : Call). x.at < r.at) f m.before (All-weaker (λ (k : Kept). kept_at o k < r.at) (λ (k : Kept). (f k).at < r.at) (λ k p. omega (arith, at_of h o k, p)) m.before m.fewer) in
-    let above : All (λ (x : Call). r.at < x.at) (calls_kept h o m.behind) = All-map (λ (x : Call). r.at < x.at) f m.behind (All-weaker (λ (k : Kept). r.at < kept_at o k) (λ (k : Kept). r.at < (f k).at) (λ k p. omega (arith, at_of h o k, p)) m.behind m.more) in
-    let all : calls_kept h o ks ≡ calls_kept h o m.before ++ (calls_kept h o ms ++ calls_kept h o m.behind) = ap (calls_kept h o) m.all ∙ (map-append f m.before (ms ++ m.behind) ∙ ap (λ (l : List Call). calls_kept h o m.before ++ l) (map-append f ms m.behind)) in
-    subst (λ (l : List Call). Stands (calls_kept h o ms) c r ↔ Stands l c r) (sym all) (stands_among (calls_kept h o m.before) (calls_kept h o ms) (calls_kept h o m.behind) c r below above)
+    let below : All (λ (x : Call). x.at < r.at) (calls_kept h o (take n ks)) = All-map (λ (x : Call). x.at < r.at) f (take n ks) (All-weaker (λ (k : Kept). kept_at o k < r.at) (λ (k : Kept). (f k).at < r.at) (λ k p. omega (arith, at_of h o k, p)) (take n ks) b.1) in
+    let all : calls_kept h o (take n ks) ++ calls_kept h o (drop n ks) ≡ calls_kept h o ks = sym (map-append f (take n ks) (drop n ks)) ∙ ap (calls_kept h o) (take-append-drop n ks) in
+    subst (λ (l : List Call). Stands (calls_kept h o (drop n ks)) c r ↔ Stands l c r) all (stands_after (calls_kept h o (take n ks)) (calls_kept h o (drop n ks)) c r below)
 
-all_back : (P : Kept → Type 0) (xs ys : List Kept) → All P (xs ++ ys) → All P ys
-all_back P [] ys a = a
-all_back P (x ∷ xs) ys a = all_back P xs ys (All-tail P x (xs ++ ys) a)
-
-all_front : (P : Kept → Type 0) (xs ys : List Kept) → All P (xs ++ ys) → All P xs
-all_front P [] ys a = All-nil P
-all_front P (x ∷ xs) ys a = All-cons P x xs (All-head P x (xs ++ ys) a) (all_front P xs ys (All-tail P x (xs ++ ys) a))
-
--- those that were made there are some of all
-pub made_within : (n k at : ℕ) (o : List Call) (ks ms : List Kept) → AreMadeAt o at ks ms → AllWithin n k ks → AllWithin n k ms
-made_within n k at o ks ms m w = all_front (IsWithin n k) ms m.behind (all_back (IsWithin n k) m.before (ms ++ m.behind) (subst (AllWithin n k) m.all w))
-
-pub made_answered : (h : History) (at : ℕ) (o : List Call) (ks ms : List Kept) → AreMadeAt o at ks ms → list_all answers_command (calls_kept h o ks) ≡ true → list_all answers_command (calls_kept h o ms) ≡ true
-made_answered h at o ks ms m e =
+-- the calls behind so many have replies of commands too, and their places never fall
+pub answered_past : (h : History) (o : List Call) (ks : List Kept) (n : ℕ) → list_all answers_command (calls_kept h o ks) ≡ true → list_all answers_command (calls_kept h o (drop n ks)) ≡ true
+answered_past h o ks n e =
     let p : Kept → Bool = λ k. answers_command (call_kept h o k) in
-    let all : list_all p (m.before ++ (ms ++ m.behind)) ≡ true = sym (ap (λ (l : List Kept). list_all p l) m.all) ∙ (sym (list_all-map answers_command (call_kept h o) ks) ∙ e) in
-    let back : list_all p (ms ++ m.behind) ≡ true = and_right (list_all p m.before) (list_all p (ms ++ m.behind)) (sym (list_all-append p m.before (ms ++ m.behind)) ∙ all) in
-    list_all-map answers_command (call_kept h o) ms ∙ and_left (list_all p ms) (list_all p m.behind) (sym (list_all-append p ms m.behind) ∙ back)
+    let all : list_all p (take n ks ++ drop n ks) ≡ true = ap (λ (l : List Kept). list_all p l) (take-append-drop n ks) ∙ (sym (list_all-map answers_command (call_kept h o) ks) ∙ e) in
+    list_all-map answers_command (call_kept h o) (drop n ks) ∙ and_right (list_all p (take n ks)) (list_all p (drop n ks)) (sym (list_all-append p (take n ks) (drop n ks)) ∙ all)
   where
     and_right : (a b : Bool) → (a && b) ≡ true → b ≡ true
     and_right true b e = e
     and_right false b e = absurd (false≢true e)
 
-    and_left : (a b : Bool) → (a && b) ≡ true → a ≡ true
-    and_left true b e = refl
-    and_left false b e = absurd (false≢true e)
+pub rises_past : (o : List Call) (ks : List Kept) (n : ℕ) → IsNonDecreasingBy (kept_at o) ks → IsNonDecreasingBy (kept_at o) (drop n ks)
+rises_past o ks n rises = rest_rises o (take n ks) (drop n ks) (subst (λ (l : List Kept). IsNonDecreasingBy (kept_at o) l) (sym (take-append-drop n ks)) rises)
+
+-- if the first is made later, so are all, and none stands there
+pub none_past : (h : History) (o : List Call) (k : Kept) (ks : List Kept) (c : Command) (r : Receipt) → IsNonDecreasingBy (kept_at o) (k ∷ ks) → r.at < kept_at o k → Stands (calls_kept h o (k ∷ ks)) c r → ⊥
+none_past h o k ks c r rises above = none_later (calls_kept h o (k ∷ ks)) c r (All-map (λ (x : Call). r.at < x.at) (call_kept h o) (k ∷ ks) after)
+  where
+    after : All (λ (x : Kept). r.at < (call_kept h o x).at) (k ∷ ks)
+    after j d lt = let one = rises 0 j d (omega arith) lt in let place = at_of h o (get_or (k ∷ ks) j d) in omega (arith, one, place, above)
+
+pub none_exactly : (h : History) (o : List Call) (k : Kept) (ks all : List Kept) (c : Command) (r : Receipt) (p : ℕ) → all ≡ k ∷ ks → IsNonDecreasingBy (kept_at o) all → p ≡ kept_at o k → r.at < p → IsTrue (leb p r.at) ↔ Stands (calls_kept h o all) c r
+none_exactly h o k ks all c r p whole rises is above =
+    let behind : r.at < kept_at o k = omega (arith, is, above) in
+    ((λ yes. absurd (never p r.at yes above)), (λ t. absurd (none_past h o k ks c r (subst (λ (l : List Kept). IsNonDecreasingBy (kept_at o) l) whole rises) behind (subst (λ (l : List Kept). Stands (calls_kept h o l) c r) whole t))))
+  where
+    upto : (m n : ℕ) → leb m n ≡ true → m ≤ n
+    upto m n e = grind (arith, nat_tests)
+
+    never : (m n : ℕ) → leb m n ≡ true → n < m → ⊥
+    never m n e lt = let le = upto m n e in omega (arith, le, lt)
 
 -- where the places pass one
-pub made_there : (o : List Call) (at before there : ℕ) (ks : List Kept)
-    → before ≤ length ks → IsPartitionPoint (λ (k : Kept). ltb (kept_at o k) at ≡ true) (λ (k : Kept). ltb (kept_at o k) at ≡ false) ks before
-    → there ≤ length (drop before ks) → IsPartitionPoint (λ (k : Kept). leb (kept_at o k) at ≡ true) (λ (k : Kept). leb (kept_at o k) at ≡ false) (drop before ks) there
-    → AreMadeAt o at ks (take there (drop before ks))
-made_there o at before there ks fits first fits' second = record {
-  before = take before ks;
-  behind = drop there (drop before ks);
-  all = sym (ap (λ (l : List Kept). take before ks ++ l) (take-append-drop there (drop before ks)) ∙ take-append-drop before ks);
-  fewer = λ k d lt. by_ltb (kept_at o (get_or (take before ks) k d)) (subst (λ (x : Kept). ltb (kept_at o x) at ≡ true) (sym (get_or-take before ks k d (fewer_of k lt))) (first.0 k d (omega arith) (fewer_of k lt)));
-  more = λ k d lt. by_leb (kept_at o (get_or (drop there (drop before ks)) k d)) (subst (λ (x : Kept). leb (kept_at o x) at ≡ false) (sym (get_or-drop there (drop before ks) k d)) (second.1 (there + k) d (omega arith) (more_of k lt)));
-}
+pub before_there : (o : List Call) (at n : ℕ) (ks : List Kept) → n ≤ length ks → IsPartitionPoint (λ (k : Kept). ltb (kept_at o k) at ≡ true) (λ (k : Kept). ltb (kept_at o k) at ≡ false) ks n → AreBefore o at ks n
+before_there o at n ks fits point = (fits, λ k d lt. by_ltb (kept_at o (get_or (take n ks) k d)) (subst (λ (x : Kept). ltb (kept_at o x) at ≡ true) (sym (get_or-take n ks k d (fewer_of k lt))) (point.0 k d (omega arith) (fewer_of k lt))))
   where
-    fewer_of : (k : ℕ) → k < length (take before ks) → k < before
-    fewer_of k lt = let n : length (take before ks) ≡ before = length-take-le before ks fits in omega (arith, n, lt)
+    fewer_of : (k : ℕ) → k < length (take n ks) → k < n
+    fewer_of k lt = let m : length (take n ks) ≡ n = length-take-le n ks fits in omega (arith, m, lt)
 
-    more_of : (k : ℕ) → k < length (drop there (drop before ks)) → there + k < length (drop before ks)
-    more_of k lt = let n = length-drop there (drop before ks) in omega (arith, n, lt, fits')
+    by_ltb : (m : ℕ) → ltb m at ≡ true → m < at
+    by_ltb m e = grind (arith, nat_tests)
 
-    by_ltb : (n : ℕ) → ltb n at ≡ true → n < at
-    by_ltb n e = grind (arith, nat_tests)
+-- those that were made before a place were made before a later one, and so was the next if it was
+pub before_later : (o : List Call) (at later : ℕ) (ks : List Kept) (n : ℕ) → at ≤ later → AreBefore o at ks n → AreBefore o later ks n
+before_later o at later ks n le b = (b.0, All-weaker (λ (k : Kept). kept_at o k < at) (λ (k : Kept). kept_at o k < later) (λ k p. omega (arith, le, p)) (take n ks) b.1)
 
-    by_leb : (n : ℕ) → leb n at ≡ false → at < n
-    by_leb n e = grind (arith, nat_tests)
+pub before_next : (o : List Call) (at n : ℕ) (ks : List Kept) (k : Kept) → n < length ks → get_or ks n k ≡ k → kept_at o k < at → AreBefore o at ks n → AreBefore o at ks (n + 1)
+before_next o at n ks k lt is here b = (omega (arith, lt), All-more (λ (x : Kept). kept_at o x < at) ks n k lt b.1 (subst (λ (x : Kept). kept_at o x < at) (sym is) here))
+
+pub none_before : (o : List Call) (at : ℕ) (ks : List Kept) → AreBefore o at ks 0
+none_before o at ks = (omega arith, All-nil (λ (k : Kept). kept_at o k < at))

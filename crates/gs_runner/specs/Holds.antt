@@ -33,3 +33,8 @@ is_answered (Committed xs) r = true
 -- whether a call that has a command has such a reply
 abbrev pub answers_command : Call → Bool
 answers_command c = is_answered c.called c.reply
+
+-- a search of calls for one receipt after another, the last of which was at this place
+pub record SearchOf : Type 0 where
+  pub calls : List Call
+  pub at : ℕ

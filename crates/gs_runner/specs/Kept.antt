@@ -1,5 +1,5 @@
 -- How the calls are kept. What the kernel was told, and did, follows from the journal, and is kept nowhere else.
-use Rattle.std.specs.Prelude.{◌≡◌, ℕ, ◌≤◌, ◌<◌, ◌-◌, Bool, true, false, List, ◌++◌, map, take, get_or, All}
+use Rattle.std.specs.Prelude.{◌≡◌, ℕ, ◌≤◌, ◌<◌, ◌-◌, Bool, true, false, List, length, map, take, get_or, All}
 use Rattle.gs_layout.specs.declared.message.Change.{Change}
 use Rattle.gs_layout.specs.declared.message.Change.TheVariants.{Created, Blocked, Wakeup, Preempted, Yield, Dead, Affinity}
 use Rattle.gs_layout.specs.declared.message.Message.{Message}
@@ -88,11 +88,6 @@ abbrev pub kept_at : List Call → Kept → ℕ
 kept_at others (kept.Told at end) = at
 kept_at others (kept.Other k) = (get_or others k no_call).at
 
--- just those of these calls that were made when the journal had so many entries: those before them were made when it had fewer, and those behind when it
--- had more
-pub record AreMadeAt (others : List Call) (at : ℕ) (ks ms : List Kept) : Type 0 where
-  pub before : List Kept
-  pub behind : List Kept
-  pub all : ks ≡ before ++ (ms ++ behind)
-  pub fewer : All (λ k. kept_at others k < at) before
-  pub more : All (λ k. at < kept_at others k) behind
+-- the first so many of these calls were made when the journal had fewer entries
+abbrev pub AreBefore : List Call → ℕ → List Kept → ℕ → Type 0
+AreBefore others at ks n = (n ≤ length ks) × All (λ k. kept_at others k < at) (take n ks)

@@ -3,6 +3,7 @@ pub mod Told
 pub mod Kept
 pub mod Shown
 pub mod Enclaves
+pub mod Quiet
 pub mod Serving
 pub mod Closing
 pub mod Holds

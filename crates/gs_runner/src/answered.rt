@@ -1,6 +1,6 @@
 //! Whether the receipts of a run stand in its calls.
 
-ghost use Rattle.std.specs.Prelude.{◌≡◌, ◌↔◌, IsTrue, false};
+ghost use Rattle.std.specs.Prelude.{◌≡◌, ◌↔◌, ◌≤◌, IsTrue, false};
 ghost use Rattle.gs_runner.specs.Calls.{is_refused};
 ghost use Rattle.gs_runner.specs.Holds.{Stands};
 ghost use Rattle.gs_runner.specs.Receipts.{AllAnswered, Answered};
@@ -8,15 +8,19 @@ ghost use Rattle.gs_runner.specs.Receipts.{AllAnswered, Answered};
 use crate::call::Receipt;
 use crate::closed::Closed;
 use crate::command::Command;
+use crate::search::Search;
 use gs_replies::Reply;
 
-/// Returns whether a receipt was refused, or stands in the calls.
-fn is_kept(closed: &Closed, command: &Command, receipt: &Receipt) -> bool
-    ensures { IsTrue result ↔ (is_refused receipt.now.reply ≡ false → Stands closed.now.calls command.now receipt.now) }
+/// Returns whether a receipt was refused, or stands in the calls. Its place is not before that of the receipt before.
+fn is_kept(search: &mut Search<'_>, command: &Command, receipt: &Receipt) -> bool
+    requires order { search.old.at ≤ receipt.now.at }
+    ensures exact { IsTrue result ↔ (is_refused receipt.now.reply ≡ false → Stands search.old.calls command.now receipt.now) }
+    ensures calls { search.new.calls ≡ search.old.calls }
+    ensures at { search.new.at ≤ receipt.now.at }
 {
     match &receipt.reply {
         Reply::Refused(_) => true,
-        _ => closed.holds(command, receipt),
+        _ => search.holds(command, receipt),
     }
 }
 
@@ -25,6 +29,7 @@ fn is_kept(closed: &Closed, command: &Command, receipt: &Receipt) -> bool
 fn is_answered(closed: &Closed, commands: &[Command], receipts: &[Receipt]) -> bool
     ensures { IsTrue result ↔ Answered closed.now.calls 0 commands.now receipts.now }
 {
+    let mut search = closed.search();
     let mut commands = commands;
     let mut receipts = receipts;
     let mut from = 0;
@@ -32,7 +37,7 @@ fn is_answered(closed: &Closed, commands: &[Command], receipts: &[Receipt]) -> b
         let Some((receipt, rest)) = receipts.split_first() else {
             return false;
         };
-        if receipt.at < from || !is_kept(closed, command, receipt) {
+        if receipt.at < from || !is_kept(&mut search, command, receipt) {
             return false;
         }
         from = receipt.at;

@@ -6,14 +6,14 @@ ghost use Rattle.std.specs.List.Sorted.{IsNonDecreasingBy};
 ghost use Rattle.gs_replies.specs.declared.reply.Reply.{Reply};
 ghost use Rattle.gs_runner.specs.declared.command.Command.{Command as Commands};
 ghost use Rattle.gs_runner.specs.Shown.{shown_call};
-ghost use Rattle.gs_runner.specs.Kept.{AllWithin, AreMadeAt, IsWithin, call_kept, calls_kept, command_by, entry_before, kept_at};
+ghost use Rattle.gs_runner.specs.Kept.{AllWithin, AreBefore, IsWithin, call_kept, calls_kept, command_by, entry_before, kept_at};
 ghost use Rattle.gs_runner.specs.Holds.{Stands, answers_command, call_of};
 
 use crate::call::{Call, Called, Receipt};
 use crate::command::Command;
 use crate::kept::{CallList, Kept, command_by};
-use crate::same::same_reply;
-use crate::same_command::same_command;
+use crate::same::{same_entry, same_reply};
+use crate::same_command::{same_command, same_told};
 use gs_journal::{Entry, Journal};
 use gs_kernel::Command as Told;
 use gs_replies::Reply;
@@ -99,8 +99,15 @@ impl<'a> Calls<'a> {
         requires order { IsNonDecreasingBy (λ c. c.at) self.now }
         ensures { IsTrue result ↔ Stands self.now command.now receipt.now }
     {
-        let made = made_at(self.others, self.kept, receipt.at);
-        stands(self.journal, self.others, made, command, receipt)
+        let before = count_before(self.others, self.kept, receipt.at);
+        stands_behind(
+            self.journal,
+            self.others,
+            self.kept,
+            before,
+            command,
+            receipt,
+        )
     }
 }
 
@@ -137,7 +144,7 @@ fn show<'a>(journal: &[Entry], others: &'a [Call], kept: &Kept) -> CallRef<'a>
 }
 
 /// Returns how many entries the journal had before a call that is kept so.
-fn place(others: &[Call], kept: &Kept) -> u32
+pub(crate) fn place(others: &[Call], kept: &Kept) -> u32
     ensures { result ≡ kept_at others.now kept.now }
 {
     match kept {
@@ -149,26 +156,24 @@ fn place(others: &[Call], kept: &Kept) -> u32
     }
 }
 
-/// Returns those calls that were made when the journal had so many entries. The places of all never fall.
-fn made_at<'k>(others: &[Call], kept: &'k [Kept], at: u32) -> &'k [Kept]
+/// Returns how many calls were made when the journal had fewer entries. The places of all never fall.
+fn count_before(others: &[Call], kept: &[Kept], at: u32) -> usize
     requires { IsNonDecreasingBy (kept_at others.now) kept.now }
-    ensures { AreMadeAt others.now at kept.now result.now }
+    ensures { AreBefore others.now at kept.now result }
 {
-    let before = kept.partition_point(|kept| place(others, kept) < at);
-    let (_, later) = kept.split_at(before);
-    let there = later.partition_point(|kept| place(others, kept) <= at);
-    let (made, _) = later.split_at(there);
-    made
+    kept.partition_point(|kept| place(others, kept) < at)
 }
 
 /// Returns whether the kernel was told this command if this is the last entry that it added, and this the reply.
 fn is_done(last: &Entry, command: &Command, reply: &Reply) -> bool
     ensures { IsTrue result ↔ (Commands.Kernel (command_by last.now) ≡ command.now) × (Reply.Done last.now ≡ reply.now) }
 {
-    let told = Command::Kernel {
-        command: command_by(last),
-    };
-    same_command(&told, command) && same_reply(&Reply::Done(*last), reply)
+    match (command, reply) {
+        (Command::Kernel { command }, Reply::Done(entry)) => {
+            same_entry(last, entry) && same_told(&command_by(last), command)
+        }
+        _ => false,
+    }
 }
 
 /// Returns whether a call has this command, and the receipt's place, count of entries and reply.
@@ -208,6 +213,7 @@ fn is_call(
 }
 
 /// Returns whether one of the calls that are kept so has this command, and the receipt's place, count of entries and reply.
+/// Their places never fall, so it looks no further than the receipt's.
 fn stands(
     journal: &[Entry],
     others: &[Call],
@@ -217,13 +223,34 @@ fn stands(
 ) -> bool
     requires within { AllWithin (length journal.now) (length others.now) kept.now }
     requires answered { list_all answers_command (calls_kept journal.now others.now kept.now) ≡ true }
+    requires order { IsNonDecreasingBy (kept_at others.now) kept.now }
     ensures { IsTrue result ↔ Stands (calls_kept journal.now others.now kept.now) command.now receipt.now }
 {
     match kept.split_first() {
         Some((first, rest)) => {
             is_call(journal, others, first, command, receipt)
-                || stands(journal, others, rest, command, receipt)
+                || (place(others, first) <= receipt.at
+                    && stands(journal, others, rest, command, receipt))
         }
         None => false,
     }
+}
+
+/// Returns the same, if the first so many of these calls were made before the receipt's.
+pub(crate) fn stands_behind(
+    journal: &[Entry],
+    others: &[Call],
+    kept: &[Kept],
+    before: usize,
+    command: &Command,
+    receipt: &Receipt,
+) -> bool
+    requires within { AllWithin (length journal.now) (length others.now) kept.now }
+    requires answered { list_all answers_command (calls_kept journal.now others.now kept.now) ≡ true }
+    requires order { IsNonDecreasingBy (kept_at others.now) kept.now }
+    requires before { AreBefore others.now receipt.now.at kept.now before }
+    ensures { IsTrue result ↔ Stands (calls_kept journal.now others.now kept.now) command.now receipt.now }
+{
+    let (_, later) = kept.split_at(before);
+    stands(journal, others, later, command, receipt)
 }

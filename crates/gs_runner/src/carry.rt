@@ -13,6 +13,7 @@ ghost use Rattle.gs_runner.specs.declared.command.Command.{Command};
 ghost use Rattle.gs_runner.specs.Calls.{LegalCall, ThreadRoom, call_page_refusal, call_refusal, crash_reply};
 ghost use Rattle.gs_runner.specs.Kept.{command_by, is_told_by_entry};
 ghost use Rattle.gs_runner.specs.Pages.{Reads};
+ghost use Rattle.gs_runner.specs.Quiet.{PostsOne, posts_alone};
 ghost use Rattle.gs_runner.specs.Serving.{is_told};
 ghost use Rattle.gs_runner.specs.Told.{IsTold};
 
@@ -56,11 +57,12 @@ pub(crate) fn short_refusal(kernel: &Kernel<RtrbPoster>, command: &Command) -> R
 }
 
 /// Tells the kernel a command, and returns what became of it. If it was done, the command, but for an activation, follows
-/// from the last entry.
+/// from the last entry. A creation, what happens to a thread, and a tick then posted a message and did nothing else.
 #[inline(always)]
 pub(crate) fn obey(kernel: &mut Kernel<RtrbPoster>, command: &Told) -> Fate
     ensures told { IsTold kernel.old (Called.Served (Command.Kernel command.now)) (reply_of (answer_by result (last_entry kernel.new.history))) kernel.new }
     ensures follows { result ≡ Fate.Done → is_told_by_entry command.now ≡ true → command_by (last_entry kernel.new.history) ≡ command.now }
+    ensures quiet { result ≡ Fate.Done → posts_alone command.now ≡ true → PostsOne kernel.old.history kernel.new.history }
 {
     kernel.obey(command)
 }

@@ -14,6 +14,7 @@ use crate::command::Command;
 use crate::enclave::Enclave;
 use crate::kept::CallList;
 use crate::log::Log;
+use crate::search::Search;
 use crate::site::Site;
 use gs_journal::Journal;
 use std::marker::Model;
@@ -30,7 +31,6 @@ pub struct Closed {
 impl Model for Closed {
     ghost use Rattle.std.specs.Prelude.{◌≡◌, length, true};
     ghost use Rattle.std.specs.List.{list_all};
-    ghost use Rattle.std.specs.List.Sorted.{IsNonDecreasingBy};
     ghost use Rattle.std.specs.List.Sorted.{IsNonDecreasingBy};
     ghost use Rattle.gs_runner.specs.Closing.{ClosedOf};
     ghost use Rattle.gs_runner.specs.Holds.{answers_command};
@@ -74,6 +74,13 @@ impl Closed {
         ensures { IsTrue result ↔ Stands self.now.calls command.now receipt.now }
     {
         Calls::new(&self.journal, &self.list).holds(command, receipt)
+    }
+
+    /// Begins a search of the calls for receipts whose places in the journal never fall.
+    pub(crate) fn search(&self) -> Search<'_>
+        ensures { result ≡ record { calls = self.now.calls; at = 0 } }
+    {
+        Search::new(&self.journal, &self.list)
     }
 }
 

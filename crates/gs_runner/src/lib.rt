@@ -30,6 +30,7 @@ mod reader;
 mod run;
 mod same;
 mod same_command;
+mod search;
 mod settling;
 mod share;
 mod sheet;

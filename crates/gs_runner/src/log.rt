@@ -5,6 +5,7 @@ ghost use Rattle.gs_board.specs.Words.{MayFollow};
 ghost use Rattle.gs_kernel.specs.declared.fate.Fate.{Fate};
 ghost use Rattle.gs_kernel.specs.Fate.{last_entry};
 ghost use Rattle.gs_runner.specs.Enclaves.{IsShown, generation_number};
+ghost use Rattle.gs_runner.specs.Quiet.{posts_alone};
 ghost use Rattle.gs_runner.specs.Kept.{AllWithin, calls_kept, command_by, is_told_by_entry, told_call};
 
 use crate::call::Call;
@@ -27,7 +28,7 @@ pub(crate) struct Log<L: Site> {
 
 impl<L: Site> Log<L> {
     /// Appends that the kernel was told a command, which was not refused and for which there is room. Counts it in share
-    /// and book, and publishes what the kernel is after it.
+    /// and book, and publishes what the kernel is after it, unless that cannot have changed.
     #[inline(always)]
     pub(crate) fn accept_told(
         &mut self,
@@ -45,6 +46,7 @@ impl<L: Site> Log<L> {
         requires end { end ≡ length kernel.now.history }
         requires follows { fate ≡ Fate.Done → is_told_by_entry command.now ≡ true → command_by (last_entry kernel.now.history) ≡ command.now }
         requires within { AllWithin end (length self.old.list.others.items) self.old.list.kept.items }
+        requires quiet { fate ≡ Fate.Done → posts_alone command.now ≡ true → IsShown self.old.seat kernel.now.history }
         requires rises { MayFollow self.old.seat.roles (generation_number kernel.now.history) }
         ensures calls { calls_kept kernel.now.history self.new.list.others.items self.new.list.kept.items ≡ calls_kept kernel.now.history self.old.list.others.items self.old.list.kept.items ++ told_call command.now fate (last_entry kernel.now.history) at end ∷ [] }
         ensures within { AllWithin end (length self.new.list.others.items) self.new.list.kept.items }
@@ -52,7 +54,11 @@ impl<L: Site> Log<L> {
         ensures shown { IsShown self.new.seat kernel.now.history }
     {
         self.list.push_told(command, fate, kernel.last(), at, end);
-        self.note(board, share, kernel);
+        share.count(&mut self.book);
+        match fate {
+            Fate::Done if posts_alone(command) => {}
+            _ => publish(board, &mut self.seat, kernel),
+        }
     }
 
     /// Appends a call, for which there is room, counts it in share and book, and publishes what the kernel is after it.
@@ -73,18 +79,17 @@ impl<L: Site> Log<L> {
         ensures shown { IsShown self.new.seat kernel.now.history }
     {
         self.list.push_other(call);
-        self.note(board, share, kernel);
-    }
-
-    /// Counts a call in share and book, and publishes what the kernel is after it.
-    #[inline(always)]
-    fn note(&mut self, board: &Board<L>, share: &mut Share<L>, kernel: &Kernel<RtrbPoster>)
-        requires { MayFollow self.old.seat.roles (generation_number kernel.now.history) }
-        ensures list { self.new.list ≡ self.old.list }
-        ensures counted { (self.new.book.total ≡ self.old.book.total + 1) × (share.new ≡ share.old + 1) }
-        ensures shown { IsShown self.new.seat kernel.now.history }
-    {
         share.count(&mut self.book);
         publish(board, &mut self.seat, kernel);
     }
+}
+
+/// Returns whether a command that is done posts a message and does nothing else.
+fn posts_alone(command: &Told) -> bool
+    ensures { result ≡ posts_alone command.now }
+{
+    matches!(
+        command,
+        Told::Create { .. } | Told::Thread { .. } | Told::Tick { .. }
+    )
 }

@@ -60,7 +60,7 @@ fn same_message(one: &Message, other: &Message) -> bool
 }
 
 /// Returns whether these are the same entries of a journal.
-fn same_entry(one: &Entry, other: &Entry) -> bool
+pub(crate) fn same_entry(one: &Entry, other: &Entry) -> bool
     ensures { IsTrue result ↔ (one.now ≡ other.now) }
 {
     match (one, other) {

@@ -23,7 +23,7 @@ fn same_event(one: &ThreadEvent, other: &ThreadEvent) -> bool
 }
 
 /// Returns whether the kernel is told the same.
-fn same_told(one: &Told, other: &Told) -> bool
+pub(crate) fn same_told(one: &Told, other: &Told) -> bool
     ensures { IsTrue result ↔ (one.now ≡ other.now) }
 {
     match (one, other) {

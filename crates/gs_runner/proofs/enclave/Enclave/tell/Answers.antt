@@ -11,7 +11,7 @@ use Rattle.gs_runner.specs.declared.call.Call.{Call}
 use Rattle.gs_runner.specs.Enclaves.{EnclaveOf, enclave_of}
 use Rattle.gs_runner.specs.Kept.{AllWithin, calls_kept, told_call}
 use Rattle.gs_runner.specs.Serving.{Serves}
-use Rattle.gs_runner.proofs.Enclaving.{fate_accepted, may_publish, serves_accepted, serves_refused, told_kept, told_longer}
+use Rattle.gs_runner.proofs.Enclaving.{fate_accepted, may_publish, shown_posted, serves_accepted, serves_refused, told_kept, told_longer}
 use Rattle.gs_runner.proofs.Keeping.{calls_then, roomier, within_then}
 use Rattle.gs_runner.proofs.enclave.Enclave.tell.Goals as goal
 
@@ -44,6 +44,9 @@ pub accept_told-requires-clause-rises : goal.accept_told-requires-clause-rises
 accept_told-requires-clause-rises g c =
     let b = c.obey-fate.new.kernel in
     may_publish c.self.inside.kernel b (Served (Kernel c.args.command.now)) (reply_of (answer_by c.obey-fate.result (last_entry b.history))) c.self.inside.log.seat c.obey-fate.ensures.told c.self.invariant.0.kept.shown
+
+pub accept_told-requires-clause-quiet : goal.accept_told-requires-clause-quiet
+accept_told-requires-clause-quiet g c = λ done alone. shown_posted c.self.inside.log.seat c.self.inside.kernel.history c.obey-fate.new.kernel.history (c.obey-fate.ensures.quiet done alone) c.self.invariant.0.kept.shown
 
 pub invariant_of-self-2 : goal.invariant_of-self-2
 invariant_of-self-2 g c =
