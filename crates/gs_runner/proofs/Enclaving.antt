@@ -1,5 +1,5 @@
 -- What a call under the lock keeps.
-use Rattle.std.proofs.Common.{◌≡◌, ℕ, ◌+◌, ◌≤◌, Bool, false, true≢false, List, [], ◌∷◌, ◌++◌, length, refl, ap, sym, subst, ◌∙◌, arith, append-nil, length-append, unwrap_or}
+use Rattle.std.proofs.Common.{◌≡◌, ℕ, ◌+◌, ◌≤◌, Bool, false, true≢false, Ok, List, [], ◌∷◌, ◌++◌, length, refl, ap, sym, subst, ◌∙◌, arith, append-nil, length-append, unwrap_or}
 use Rattle.std.specs.Prelude.{option_map}
 use Rattle.gs_board.specs.declared.rule.Words.{Words}
 use Rattle.gs_board.specs.Words.{EndsIn, MayFollow}
@@ -10,9 +10,8 @@ use Rattle.gs_link.specs.declared.poster.RtrbPoster.{RtrbPoster}
 use Rattle.gs_link.specs.Between.{SameEnd}
 use Rattle.gs_kernel.specs.declared.settings.Settings.{Settings}
 use Rattle.gs_kernel.specs.Kernel.{KernelOf}
-use Rattle.gs_kernel.specs.declared.fate.Fate.{Fate}
-use Rattle.gs_kernel.specs.declared.fate.Fate.TheVariants as fates
-use Rattle.gs_kernel.specs.Fate.{answer_by}
+use Rattle.gs_kernel.specs.declared.executed.Executed.{Executed}
+use Rattle.gs_kernel.specs.declared.executed.Executed.TheVariants as executed
 use Rattle.gs_journal.specs.declared.entry.Entry.{Entry}
 use Rattle.gs_journal.specs.declared.entry.Entry.TheVariants.{Posted}
 use Rattle.gs_journal.specs.History.{History}
@@ -144,8 +143,7 @@ serves_accepted parcels a b c r calls calls' total total' n n' at more published
   settings = t.settings;
 }
 
--- what became of a command that was not refused
-pub fate_accepted : (f : Fate) (e : Entry) → ((x : Refusal) → f ≡ fates.Refused x → ⊥) → is_refused (reply_of (answer_by f e)) ≡ false
-fate_accepted (fates.Refused x) e n = absurd (n x refl)
-fate_accepted fates.Torn e n = refl
-fate_accepted fates.Done e n = refl
+-- a command that was not refused
+pub executed_accepted : (x : Executed) (e : Entry) → is_refused (reply_of (Ok x) e) ≡ false
+executed_accepted executed.Torn e = refl
+executed_accepted executed.Done e = refl

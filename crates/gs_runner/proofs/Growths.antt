@@ -1,5 +1,5 @@
 -- What a call of a locked enclave adds to the history.
-use Rattle.std.proofs.Common.{◌≡◌, ℕ, suc, ◌≤◌, Bool, true, false, Option, None, Some, Ok, Err, List, [], ◌∷◌, ◌++◌, length, refl, ap, sym, subst, ◌∙◌, arith, append_assoc, append-nil, length-append, inl, inr, ◌⊎◌}
+use Rattle.std.proofs.Common.{◌≡◌, ℕ, suc, ◌≤◌, Bool, true, false, Option, None, Some, Result, Ok, Err, List, [], ◌∷◌, ◌++◌, length, refl, ap, sym, subst, ◌∙◌, arith, append_assoc, append-nil, length-append, inl, inr, ◌⊎◌}
 use Rattle.gs_layout.specs.declared.outcome.Outcome.{Outcome}
 use Rattle.gs_layout.specs.declared.message.Message.{Message}
 use Rattle.gs_slots.specs.Reading.{state_in, told_by}
@@ -13,8 +13,9 @@ use Rattle.gs_journal.specs.History.{History}
 use Rattle.gs_kernel.specs.declared.settings.Settings.{Settings}
 use Rattle.gs_kernel.specs.declared.landing.Landing.{Landing}
 use Rattle.gs_kernel.specs.declared.effect.Effect.TheVariants.{Append}
-use Rattle.gs_kernel.specs.declared.answer.Answer.{Answer}
-use Rattle.gs_kernel.specs.declared.answer.Answer.TheVariants as answers
+use Rattle.gs_layout.specs.declared.refusal.Refusal.{Refusal}
+use Rattle.gs_kernel.specs.declared.executed.Executed.{Executed}
+use Rattle.gs_kernel.specs.declared.executed.Executed.TheVariants as executed
 use Rattle.gs_kernel.specs.declared.command.Command.{Command}
 use Rattle.gs_kernel.specs.declared.command.Command.TheVariants as told
 use Rattle.gs_kernel.specs.Kernel.{preemption}
@@ -51,10 +52,10 @@ goes_then a b c p q = record { more = p.more ++ q.more; all = q.all ∙ ap (λ l
 tears : (h h' : History) → h' ≡ h ++ Torn ∷ [] → GoesOn h h'
 tears h h' e = record { more = Torn ∷ []; all = e; rises = subst (λ (k : History). generation_number h ≤ generation_number k) (sym e) (torn_rises h) }
 
-pub legal_goes : (room : Room) (s : Settings) (h : History) (given : Bool) (c : Command) (r : Answer) (h' : History) → Legal room s h given c r h' → GoesOn h h'
-legal_goes room s h given c (answers.Refused f) h' t = stays h h' t.1
-legal_goes room s h given c (answers.Done e) h' t = record { more = entries_in (effect s h c); all = t.1.tells.1; rises = subst (λ (k : History). generation_number h ≤ generation_number k) (sym t.1.tells.1) (told_rises s h given c t.1.free) }
-legal_goes room s h given c answers.Torn h' t = tears h h' t.tells.1
+pub legal_goes : (room : Room) (s : Settings) (h : History) (given : Bool) (c : Command) (r : Result Executed Refusal) (h' : History) → Legal room s h given c r h' → GoesOn h h'
+legal_goes room s h given c (Err f) h' t = stays h h' t.1
+legal_goes room s h given c (Ok executed.Done) h' t = record { more = entries_in (effect s h c); all = t.tells.1; rises = subst (λ (k : History). generation_number h ≤ generation_number k) (sym t.tells.1) (told_rises s h given c t.free) }
+legal_goes room s h given c (Ok executed.Torn) h' t = tears h h' t.tells.1
 
 -- a placing gives no generation
 places : (h : History) (o : Option Message) (k : ℕ) (b : Stamp) → generation_number h ≤ generation_number (h ++ entries_in (Append o (placing k b)))

@@ -1,5 +1,5 @@
 -- The calls as they are kept, behind one call more.
-use Rattle.std.proofs.Common.{◌≡◌, ℕ, ◌+◌, ◌≤◌, true, List, [], ◌∷◌, ◌++◌, Option, take, length, refl, ap, sym, subst, ◌∙◌, arith, length-append}
+use Rattle.std.proofs.Common.{◌≡◌, ℕ, ◌+◌, ◌≤◌, true, List, [], ◌∷◌, ◌++◌, Option, Result, Ok, Err, take, length, refl, ap, sym, subst, ◌∙◌, arith, length-append}
 use Rattle.std.proofs.lemmas.Bool.{false≢true}
 use Rattle.std.proofs.lemmas.List.{map-append, take-append-le}
 use Rattle.std.proofs.lemmas.List.Elements.{All-head, All-push, All-tail, All-weaker}
@@ -16,10 +16,11 @@ use Rattle.gs_kernel.specs.declared.thread_event.ThreadEvent.{ThreadEvent}
 use Rattle.gs_kernel.specs.declared.thread_event.ThreadEvent.TheVariants as events
 use Rattle.gs_kernel.specs.declared.command.Command.{Command}
 use Rattle.gs_kernel.specs.declared.command.Command.TheVariants as told
-use Rattle.gs_kernel.specs.declared.fate.Fate.{Fate}
-use Rattle.gs_kernel.specs.declared.fate.Fate.TheVariants as fates
-use Rattle.gs_kernel.specs.Fate.{answer_by, last_entry}
-use Rattle.gs_kernel.specs.Kernel.{KernelOf, change_by, creation, happening}
+use Rattle.gs_kernel.specs.declared.executed.Executed.{Executed}
+use Rattle.gs_kernel.specs.declared.executed.Executed.TheVariants as executed
+use Rattle.gs_kernel.specs.Kernel.{KernelOf, change_by, creation, happening, last_entry}
+use Rattle.gs_kernel.proofs.Laws.{last_told}
+use Rattle.gs_layout.specs.declared.refusal.Refusal.{Refusal}
 use Rattle.gs_kernel.specs.Legal.{effect, entries_in, last_in}
 use Rattle.gs_link.specs.declared.poster.RtrbPoster.{RtrbPoster}
 use Rattle.gs_replies.specs.declared.reply.Reply.{Reply}
@@ -53,10 +54,10 @@ told_follows s h told.Leave e = refl
 told_follows s h told.Begin e = refl
 told_follows s h (told.Activate c) e = absurd (false≢true e)
 
-pub obeyed_follows : (a b : KernelOf RtrbPoster) (c : Command) (f : Fate) → HasServed a c (answer_by f (last_entry b.history)) b → f ≡ fates.Done → is_told_by_entry c ≡ true → command_by (last_entry b.history) ≡ c
-obeyed_follows a b c (fates.Refused r) t e k = absurd cc
-obeyed_follows a b c fates.Torn t e k = absurd cc
-obeyed_follows a b c fates.Done t e k = ap command_by t.legal.0 ∙ told_follows a.settings a.history c k
+pub executed_follows : (a b : KernelOf RtrbPoster) (c : Command) (r : Result Executed Refusal) → HasServed a c r b → r ≡ Ok executed.Done → is_told_by_entry c ≡ true → command_by (last_entry b.history) ≡ c
+executed_follows a b c (Err f) t e k = absurd cc
+executed_follows a b c (Ok executed.Torn) t e k = absurd cc
+executed_follows a b c (Ok executed.Done) t e k = ap command_by (ap last_entry t.legal.tells.1 ∙ last_told a.history (effect a.settings a.history c)) ∙ told_follows a.settings a.history c k
 
 -- what posts a message alone
 posts_one : (s : Settings) (h : History) (c : Command) → posts_alone c ≡ true → (m : Message) × (entries_in (effect s h c) ≡ Posted m ∷ [])
@@ -70,10 +71,10 @@ posts_one s h told.Leave e = absurd (false≢true e)
 posts_one s h told.Begin e = absurd (false≢true e)
 posts_one s h (told.Activate c) e = absurd (false≢true e)
 
-pub obeyed_quiet : (a b : KernelOf RtrbPoster) (c : Command) (f : Fate) → HasServed a c (answer_by f (last_entry b.history)) b → f ≡ fates.Done → posts_alone c ≡ true → PostsOne a.history b.history
-obeyed_quiet a b c (fates.Refused r) t e k = absurd cc
-obeyed_quiet a b c fates.Torn t e k = absurd cc
-obeyed_quiet a b c fates.Done t e k = let one = posts_one a.settings a.history c k in (one.0, t.legal.1.tells.1 ∙ ap (λ (l : History). a.history ++ l) one.1)
+pub executed_quiet : (a b : KernelOf RtrbPoster) (c : Command) (r : Result Executed Refusal) → HasServed a c r b → r ≡ Ok executed.Done → posts_alone c ≡ true → PostsOne a.history b.history
+executed_quiet a b c (Err f) t e k = absurd cc
+executed_quiet a b c (Ok executed.Torn) t e k = absurd cc
+executed_quiet a b c (Ok executed.Done) t e k = let one = posts_one a.settings a.history c k in (one.0, t.legal.tells.1 ∙ ap (λ (l : History). a.history ++ l) one.1)
 
 -- a call stays what it was as the history goes on, and as others are appended
 kept_on : (h more : History) (o : List Call) (k : Kept) (m : ℕ) → IsWithin (length h) m k → call_kept (h ++ more) o k ≡ call_kept h o k
@@ -100,14 +101,14 @@ calls_beside h o x (k ∷ ks) n w =
 
 -- that the kernel was told something is appended
 pub told_pushed : (h : History) (o : List Call) (ks : List Kept) (c : Command) (last : Entry) (at end : ℕ) → end ≡ length h → last ≡ last_entry h → command_by last ≡ c
-    → calls_kept h o (ks ++ kept.Told at end ∷ []) ≡ calls_kept h o ks ++ told_call c fates.Done last at end ∷ []
+    → calls_kept h o (ks ++ kept.Told at end ∷ []) ≡ calls_kept h o ks ++ told_call c executed.Done last at end ∷ []
 told_pushed h o ks c last at end is e follows = map-append (call_kept h o) ks (kept.Told at end ∷ []) ∙ ap (λ (x : Call). calls_kept h o ks ++ x ∷ []) same
   where
     before : entry_before h end ≡ last
     before = ap last_entry (ap (λ (n : ℕ). take n h) is ∙ take-length h) ∙ sym e
 
-    same : done_call (entry_before h end) at end ≡ told_call c fates.Done last at end
-    same = ap (λ (x : Entry). done_call x at end) before ∙ ap (λ (d : Command). told_call d fates.Done last at end) follows
+    same : done_call (entry_before h end) at end ≡ told_call c executed.Done last at end
+    same = ap (λ (x : Entry). done_call x at end) before ∙ ap (λ (d : Command). told_call d executed.Done last at end) follows
 
 pub within_told : (m at end : ℕ) (ks : List Kept) → at ≤ end → AllWithin end m ks → AllWithin end m (ks ++ kept.Told at end ∷ [])
 within_told m at end ks order w = All-push (IsWithin end m) ks (kept.Told at end) w (order, omega arith)

@@ -1,5 +1,5 @@
 -- Calls that are refused, and pages.
-use Rattle.std.proofs.Common.{◌≡◌, ℕ, ◌<◌, Bool, true, false, nat_le, Option, None, Some, List, refl, ap, sym, subst, ◌∙◌, unwrap_or, arith}
+use Rattle.std.proofs.Common.{◌≡◌, ℕ, ◌<◌, Bool, true, false, nat_le, Option, None, Some, Err, List, refl, ap, sym, subst, ◌∙◌, unwrap_or, arith}
 use Rattle.std.specs.Prelude.{◌||◌, is_none, length}
 use Rattle.std.proofs.lemmas.Bool.Decides.{nat_tests}
 use Rattle.gs_layout.specs.declared.refusal.Refusal.{Refusal}
@@ -10,7 +10,6 @@ use Rattle.gs_journal.specs.History.{History, posted, torn}
 use Rattle.gs_link.specs.declared.poster.RtrbPoster.{RtrbPoster}
 use Rattle.gs_link.specs.Between.{Posted, SameEnd, SameEnd-refl}
 use Rattle.gs_kernel.specs.declared.settings.Settings.{Settings}
-use Rattle.gs_kernel.specs.declared.answer.Answer.TheVariants as answers
 use Rattle.gs_kernel.specs.Dumped.{dumped, paged_after}
 use Rattle.gs_kernel.specs.Kernel.{IsRefusal, KernelOf}
 use Rattle.gs_kernel.specs.Legal.{Room}
@@ -26,8 +25,8 @@ use Rattle.gs_runner.specs.Pages.{Reads}
 use Rattle.gs_runner.specs.Told.{IsTold, parcels_of}
 
 pub refused_call : (room : Room) (s : Settings) (h : History) (given : Bool) (c : Command) (r : Refusal) → IsRefusal (call_refusal s h given c) r → LegalCall room s h given (Served c) (replies.Refused r) h
-refused_call room s h given (commands.Kernel c) r is = (answers.Refused r, refl, (is, refl))
-refused_call room s h given commands.Crash r is = (answers.Refused r, refl, (is, refl))
+refused_call room s h given (commands.Kernel c) r is = (Err r, refl, (is, refl))
+refused_call room s h given commands.Crash r is = (Err r, refl, (is, refl))
 refused_call room s h given (commands.Page from max) r is = (is, refl)
 refused_call room s h given (commands.Land bytes) r is = (is, refl)
 

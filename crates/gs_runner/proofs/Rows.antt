@@ -1,5 +1,5 @@
 -- The definitions, computed.
-use Rattle.std.proofs.Common.{◌≡◌, ℕ, [], ◌∷◌, ◌++◌, List, None, Some, true, false, replicate, refl, arith}
+use Rattle.std.proofs.Common.{◌≡◌, ℕ, [], ◌∷◌, ◌++◌, List, None, Some, Ok, true, false, replicate, refl, arith}
 use Rattle.gs_layout.specs.declared.message.Message.TheVariants.{TimerTick}
 use Rattle.gs_layout.specs.declared.refusal.Refusal.TheVariants as refusals
 use Rattle.gs_slots.specs.Reading.{is_spelt, state_in}
@@ -8,7 +8,7 @@ use Rattle.gs_journal.specs.History.{History, active, attaching, generation, pos
 use Rattle.gs_journal.specs.Standing.{last_of, latest, standing}
 use Rattle.gs_kernel.specs.declared.settings.Settings.{Settings}
 use Rattle.gs_kernel.specs.declared.command.Command.TheVariants as kernel
-use Rattle.gs_kernel.specs.declared.answer.Answer.TheVariants as answers
+use Rattle.gs_kernel.specs.declared.executed.Executed.TheVariants as executed
 use Rattle.gs_kernel.specs.Attaching.{page_refusal}
 use Rattle.gs_kernel.specs.Kernel.{tick_refusal}
 use Rattle.gs_replies.specs.declared.reply.Reply.TheVariants as replies
@@ -118,7 +118,7 @@ unfolding two ticked torn_down tick_refusal torn posted
 one_then_torn = (
   Role 1 0 ∷ Posted (TimerTick 1) ∷ [],
   record {
-    legal = (answers.Done (Posted (TimerTick 1)), refl, (refl, record { free = refl; tells = (tt, refl) }));
+    legal = (Ok executed.Done, refl, record { free = refl; tells = (tt, refl) });
     at = refl;
     entries = (Posted (TimerTick 1) ∷ [], refl, refl);
     accepted = refl;
@@ -126,7 +126,7 @@ one_then_torn = (
   (
     Role 1 0 ∷ Posted (TimerTick 1) ∷ Torn ∷ [],
     record {
-      legal = (answers.Torn, refl, record { free = refl; tells = ((TimerTick 0, refl, omega arith), refl) });
+      legal = (Ok executed.Torn, refl, record { free = refl; tells = ((TimerTick 0, refl, omega arith), refl) });
       at = refl;
       entries = (Torn ∷ [], refl, refl);
       accepted = refl;

@@ -1,5 +1,5 @@
 -- The calls of a locked enclave, and which lists of them are legal histories.
-use Rattle.std.specs.Prelude.{◌≡◌, Bool, true, false, not, ◌&&◌, ℕ, suc, ◌≤◌, nat_le, Option, None, Some, Ok, Err, List, [], ◌∷◌, ◌++◌, length}
+use Rattle.std.specs.Prelude.{◌≡◌, Bool, true, false, not, ◌&&◌, ℕ, suc, ◌≤◌, nat_le, Option, None, Some, Result, Ok, Err, List, [], ◌∷◌, ◌++◌, length}
 use Rattle.gs_layout.specs.declared.refusal.Refusal.{Refusal}
 use Rattle.gs_layout.specs.declared.refusal.Refusal.TheVariants as refusals
 use Rattle.gs_layout.specs.Reading.{number_at}
@@ -13,10 +13,10 @@ use Rattle.gs_journal.specs.History.{History, posted, torn}
 use Rattle.gs_kernel.specs.declared.settings.Settings.{Settings}
 use Rattle.gs_kernel.specs.declared.landing.Landing.{Landing}
 use Rattle.gs_kernel.specs.declared.command.Command.TheVariants as told
-use Rattle.gs_kernel.specs.declared.answer.Answer.{Answer}
-use Rattle.gs_kernel.specs.declared.answer.Answer.TheVariants as answers
+use Rattle.gs_kernel.specs.declared.executed.Executed.{Executed}
+use Rattle.gs_kernel.specs.declared.executed.Executed.TheVariants as executed
 use Rattle.gs_kernel.specs.First.{first_that}
-use Rattle.gs_kernel.specs.Kernel.{IsRefusal, unless_torn}
+use Rattle.gs_kernel.specs.Kernel.{IsRefusal, last_entry, unless_torn}
 use Rattle.gs_kernel.specs.Attaching.{page_refusal}
 use Rattle.gs_kernel.specs.Commit.{commit_refusal}
 use Rattle.gs_kernel.specs.Dumped.{dumped}
@@ -53,11 +53,11 @@ GoesOnBy n h h' = (more : List Entry) × (h' ≡ h ++ more) × (length more ≡ 
 
 -- ---- crashes and pages
 
--- the reply to a crash, by the kernel's answer to a leaving
-abbrev pub crash_reply : Answer → Reply
-crash_reply (answers.Refused f) = replies.Refused f
-crash_reply answers.Torn = replies.Torn
-crash_reply (answers.Done e) = replies.Crashed
+-- the reply to a crash, by what became of a leaving
+abbrev pub crash_reply : Result Executed Refusal → Reply
+crash_reply (Err f) = replies.Refused f
+crash_reply (Ok executed.Torn) = replies.Torn
+crash_reply (Ok executed.Done) = replies.Crashed
 
 -- why no page is given, apart from memory
 abbrev pub call_page_refusal : History → Bool → Option Refusal
@@ -142,8 +142,8 @@ call_refusal s h given (commands.Land bytes) = land_refusal s h bytes
 
 -- a call with this reply is legal on this history, and leaves that
 abbrev pub LegalCall : Room → Settings → History → Bool → Called → Reply → History → Type 0
-LegalCall room s h given (Served (commands.Kernel c)) r h' = (a : Answer) × (r ≡ reply_of a) × Legal room s h given c a h'
-LegalCall room s h given (Served commands.Crash) r h' = (a : Answer) × (r ≡ crash_reply a) × Legal room s h given told.Leave a h'
+LegalCall room s h given (Served (commands.Kernel c)) r h' = (x : Result Executed Refusal) × (r ≡ reply_of x (last_entry h')) × Legal room s h given c x h'
+LegalCall room s h given (Served commands.Crash) r h' = (x : Result Executed Refusal) × (r ≡ crash_reply x) × Legal room s h given told.Leave x h'
 LegalCall room s h given (Served (commands.Page from max)) r h' = LegalPage s h given from max r h'
 LegalCall room s h given (Served (commands.Land bytes)) r h' = LegalLand room s h bytes r h'
 LegalCall room s h given (Committed xs) r h' = LegalCommit room s h xs r h'

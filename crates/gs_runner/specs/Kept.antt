@@ -1,5 +1,5 @@
 -- How the calls are kept. What the kernel was told, and did, follows from the journal, and is kept nowhere else.
-use Rattle.std.specs.Prelude.{◌≡◌, ℕ, ◌≤◌, ◌<◌, ◌-◌, Bool, true, false, List, length, map, take, get_or, All}
+use Rattle.std.specs.Prelude.{◌≡◌, ℕ, ◌≤◌, ◌<◌, ◌-◌, Bool, true, false, Ok, List, length, map, take, get_or, All}
 use Rattle.gs_layout.specs.declared.message.Change.{Change}
 use Rattle.gs_layout.specs.declared.message.Change.TheVariants.{Created, Blocked, Wakeup, Preempted, Yield, Dead, Affinity}
 use Rattle.gs_layout.specs.declared.message.Message.{Message}
@@ -10,8 +10,8 @@ use Rattle.gs_journal.specs.History.{History}
 use Rattle.gs_kernel.specs.declared.command.Command.{Command}
 use Rattle.gs_kernel.specs.declared.command.Command.TheVariants as told
 use Rattle.gs_kernel.specs.declared.thread_event.ThreadEvent.TheVariants as events
-use Rattle.gs_kernel.specs.declared.fate.Fate.{Fate}
-use Rattle.gs_kernel.specs.Fate.{answer_by, last_entry}
+use Rattle.gs_kernel.specs.declared.executed.Executed.{Executed}
+use Rattle.gs_kernel.specs.Kernel.{last_entry}
 use Rattle.gs_replies.specs.declared.reply.Reply.TheVariants as replies
 use Rattle.gs_replies.specs.Replies.{reply_of}
 use Rattle.gs_runner.specs.declared.command.Command.TheVariants as commands
@@ -51,8 +51,8 @@ command_by (Given c) = told.Give c
 command_by Torn = told.Leave
 
 -- the call that told the kernel this, when the journal had `at` entries and then `end`
-abbrev pub told_call : Command → Fate → Entry → ℕ → ℕ → Call
-told_call c f last at end = record { called = Served (commands.Kernel c); at = at; entries = end - at; reply = reply_of (answer_by f last) }
+abbrev pub told_call : Command → Executed → Entry → ℕ → ℕ → Call
+told_call c x last at end = record { called = Served (commands.Kernel c); at = at; entries = end - at; reply = reply_of (Ok x) last }
 
 -- the last of so many entries
 abbrev pub entry_before : History → ℕ → Entry

@@ -1,11 +1,10 @@
 //! What a command does to the kernel under the lock.
 
-ghost use Rattle.std.specs.Prelude.{◌≡◌, ℕ, IfErr, IfOk, OnErr, None, false, length, true};
+ghost use Rattle.std.specs.Prelude.{◌≡◌, ℕ, Ok, IfErr, IfOk, OnErr, None, false, length, true};
 ghost use Rattle.gs_dump.specs.Page.{page_spelling};
 ghost use Rattle.gs_journal.specs.declared.entry.Entry.{Entry};
-ghost use Rattle.gs_kernel.specs.declared.fate.Fate.{Fate};
-ghost use Rattle.gs_kernel.specs.Fate.{answer_by, last_entry};
-ghost use Rattle.gs_kernel.specs.Kernel.{IsRefusal};
+ghost use Rattle.gs_kernel.specs.declared.executed.Executed.{Executed};
+ghost use Rattle.gs_kernel.specs.Kernel.{IsRefusal, last_entry};
 ghost use Rattle.gs_replies.specs.declared.reply.Reply.{Reply};
 ghost use Rattle.gs_replies.specs.Replies.{page_reply, reply_of};
 ghost use Rattle.gs_runner.specs.declared.call.Called.{Called};
@@ -21,7 +20,7 @@ use crate::command::Command;
 use crate::land::{land, land_refusal};
 use crate::reader::PageReader;
 use gs_dump::{Page, write_page};
-use gs_kernel::{Command as Told, Fate, Kernel};
+use gs_kernel::{Command as Told, Executed, Kernel};
 use gs_layout::Refusal;
 use gs_link::RtrbPoster;
 use gs_replies::{Items, Reply};
@@ -59,12 +58,12 @@ pub(crate) fn short_refusal(kernel: &Kernel<RtrbPoster>, command: &Command) -> R
 /// Tells the kernel a command, and returns what became of it. If it was done, the command, but for an activation, follows
 /// from the last entry. A creation, what happens to a thread, and a tick then posted a message and did nothing else.
 #[inline(always)]
-pub(crate) fn obey(kernel: &mut Kernel<RtrbPoster>, command: &Told) -> Fate
-    ensures told { IsTold kernel.old (Called.Served (Command.Kernel command.now)) (reply_of (answer_by result (last_entry kernel.new.history))) kernel.new }
-    ensures follows { result ≡ Fate.Done → is_told_by_entry command.now ≡ true → command_by (last_entry kernel.new.history) ≡ command.now }
-    ensures quiet { result ≡ Fate.Done → posts_alone command.now ≡ true → PostsOne kernel.old.history kernel.new.history }
+pub(crate) fn execute(kernel: &mut Kernel<RtrbPoster>, command: &Told) -> Result<Executed, Refusal>
+    ensures told { IsTold kernel.old (Called.Served (Command.Kernel command.now)) (reply_of result (last_entry kernel.new.history)) kernel.new }
+    ensures follows { result ≡ Ok Executed.Done → is_told_by_entry command.now ≡ true → command_by (last_entry kernel.new.history) ≡ command.now }
+    ensures quiet { result ≡ Ok Executed.Done → posts_alone command.now ≡ true → PostsOne kernel.old.history kernel.new.history }
 {
-    kernel.obey(command)
+    kernel.execute(command)
 }
 
 /// Carries a command out of which the kernel is not told as it is, or refuses it. A page is read before it counts as
@@ -93,18 +92,18 @@ fn crash(kernel: &mut Kernel<RtrbPoster>) -> (Reply, Reply)
     ensures told { IsTold kernel.old (Called.Served Command.Crash) result.0 kernel.new }
     ensures same { result.1 ≡ result.0 }
 {
-    let fate = kernel.obey(&Told::Leave);
-    (crash_reply(fate), crash_reply(fate))
+    let executed = kernel.execute(&Told::Leave);
+    (crash_reply(executed), crash_reply(executed))
 }
 
-/// Returns the reply to a crash, by the fate of a leaving.
-fn crash_reply(fate: Fate) -> Reply
-    ensures { (e : Entry) → result ≡ crash_reply (answer_by fate e) }
+/// Returns the reply to a crash, by what became of a leaving.
+fn crash_reply(executed: Result<Executed, Refusal>) -> Reply
+    ensures { result ≡ crash_reply executed }
 {
-    match fate {
-        Fate::Refused { refusal } => Reply::Refused(refusal),
-        Fate::Torn => Reply::Torn,
-        Fate::Done => Reply::Crashed,
+    match executed {
+        Ok(Executed::Done) => Reply::Crashed,
+        Ok(Executed::Torn) => Reply::Torn,
+        Err(refusal) => Reply::Refused(refusal),
     }
 }
 

@@ -15,7 +15,7 @@ ghost use Rattle.gs_runner.specs.declared.pass.TheConstants.{PASSES};
 
 use crate::call::{Call, Called, Receipt};
 use crate::calls::Calls;
-use crate::carry::{carry_out, entries, obey, short_refusal};
+use crate::carry::{carry_out, entries, execute, short_refusal};
 use crate::command::Command;
 use crate::kept::CallList;
 use crate::log::Log;
@@ -23,7 +23,7 @@ use crate::reader::{Nobody, PageReader};
 use crate::share::Share;
 use crate::site::Site;
 use gs_board::{Board, WriterSeat};
-use gs_kernel::{Command as Told, Fate, Kernel};
+use gs_kernel::{Command as Told, Kernel};
 use gs_link::RtrbPoster;
 use gs_replies::Reply;
 use std::alloc::Global;
@@ -122,17 +122,17 @@ impl<L: Site> Enclave<L> {
             let command = Command::Kernel { command: *command };
             return Receipt::refused(at, short_refusal(&self.kernel, &command));
         }
-        let fate = obey(&mut self.kernel, command);
-        if let Fate::Refused { refusal } = fate {
-            return Receipt::refused(at, refusal);
-        }
+        let executed = match execute(&mut self.kernel, command) {
+            Ok(executed) => executed,
+            Err(refusal) => return Receipt::refused(at, refusal),
+        };
         let end = entries(&self.kernel);
         self.log
-            .accept_told(board, share, &self.kernel, command, fate, at, end);
+            .accept_told(board, share, &self.kernel, command, executed, at, end);
         Receipt {
             at,
             entries: end - at,
-            reply: Reply::by(fate, self.kernel.last()),
+            reply: Reply::executed(executed, self.kernel.last()),
         }
     }
 

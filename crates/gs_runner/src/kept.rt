@@ -2,14 +2,14 @@
 
 ghost use Rattle.std.specs.Prelude.{◌≡◌, ◌≤◌, ◌<◌, ◌++◌, ℕ, [], ◌∷◌, OnOk, length, true, vec_len, vec_capacity};
 ghost use Rattle.gs_journal.specs.History.{History};
-ghost use Rattle.gs_kernel.specs.declared.fate.Fate.{Fate};
-ghost use Rattle.gs_kernel.specs.Fate.{last_entry};
+ghost use Rattle.gs_kernel.specs.declared.executed.Executed.{Executed};
+ghost use Rattle.gs_kernel.specs.Kernel.{last_entry};
 ghost use Rattle.gs_runner.specs.Kept.{AllWithin, calls_kept, command_by, command_by_change, command_by_message, is_told_by_entry, told_call};
 
 use crate::call::{Call, Called};
 use crate::command::Command;
 use gs_journal::Entry;
-use gs_kernel::{Command as Told, Fate, ThreadEvent};
+use gs_kernel::{Command as Told, Executed, ThreadEvent};
 use gs_layout::{Change, Message};
 use gs_replies::Reply;
 use std::alloc::{AllocError, Global};
@@ -64,15 +64,22 @@ impl CallList {
 
     /// Appends that the kernel was told a command, which was not refused, by what became of it and the last entry.
     #[inline(always)]
-    pub(crate) fn push_told(&mut self, command: &Told, fate: Fate, last: &Entry, at: u32, end: u32)
+    pub(crate) fn push_told(
+        &mut self,
+        command: &Told,
+        executed: Executed,
+        last: &Entry,
+        at: u32,
+        end: u32,
+    )
         requires kept { vec_len self.old.kept < vec_capacity self.old.kept }
         requires others { vec_len self.old.others < vec_capacity self.old.others }
         requires order { at ≤ end }
-        requires follows { fate ≡ Fate.Done → is_told_by_entry command.now ≡ true → command_by last.now ≡ command.now }
-        ensures calls { (h : History) → end ≡ length h → last.now ≡ last_entry h → AllWithin end (length self.old.others.items) self.old.kept.items → calls_kept h self.new.others.items self.new.kept.items ≡ calls_kept h self.old.others.items self.old.kept.items ++ told_call command.now fate last.now at end ∷ [] }
+        requires follows { executed ≡ Executed.Done → is_told_by_entry command.now ≡ true → command_by last.now ≡ command.now }
+        ensures calls { (h : History) → end ≡ length h → last.now ≡ last_entry h → AllWithin end (length self.old.others.items) self.old.kept.items → calls_kept h self.new.others.items self.new.kept.items ≡ calls_kept h self.old.others.items self.old.kept.items ++ told_call command.now executed last.now at end ∷ [] }
         ensures within { AllWithin end (length self.old.others.items) self.old.kept.items → AllWithin end (length self.new.others.items) self.new.kept.items }
     {
-        if let Fate::Done = fate {
+        if let Executed::Done = executed {
             if is_told_by_entry(command) {
                 self.kept.push_reserved(Kept::Told { at, end });
                 return;
@@ -82,7 +89,7 @@ impl CallList {
             called: Called::Served(Command::Kernel { command: *command }),
             at,
             entries: end - at,
-            reply: Reply::by(fate, last),
+            reply: Reply::executed(executed, last),
         });
     }
 

@@ -2,8 +2,8 @@
 
 ghost use Rattle.std.specs.Prelude.{◌≡◌, ◌+◌, ◌≤◌, ◌<◌, ◌++◌, ◌∷◌, [], length, true, vec_len, vec_capacity};
 ghost use Rattle.gs_board.specs.Words.{MayFollow};
-ghost use Rattle.gs_kernel.specs.declared.fate.Fate.{Fate};
-ghost use Rattle.gs_kernel.specs.Fate.{last_entry};
+ghost use Rattle.gs_kernel.specs.declared.executed.Executed.{Executed};
+ghost use Rattle.gs_kernel.specs.Kernel.{last_entry};
 ghost use Rattle.gs_runner.specs.Enclaves.{IsShown, generation_number};
 ghost use Rattle.gs_runner.specs.Quiet.{posts_alone};
 ghost use Rattle.gs_runner.specs.Kept.{AllWithin, calls_kept, command_by, is_told_by_entry, told_call};
@@ -14,7 +14,7 @@ use crate::publish::publish;
 use crate::share::Share;
 use crate::site::Site;
 use gs_board::{Board, WriterSeat};
-use gs_kernel::{Command as Told, Fate, Kernel};
+use gs_kernel::{Command as Told, Executed, Kernel};
 use gs_link::RtrbPoster;
 use std::sync::ledger::Book;
 
@@ -36,7 +36,7 @@ impl<L: Site> Log<L> {
         share: &mut Share<L>,
         kernel: &Kernel<RtrbPoster>,
         command: &Told,
-        fate: Fate,
+        executed: Executed,
         at: u32,
         end: u32,
     )
@@ -44,19 +44,20 @@ impl<L: Site> Log<L> {
         requires others { vec_len self.old.list.others < vec_capacity self.old.list.others }
         requires order { at ≤ end }
         requires end { end ≡ length kernel.now.history }
-        requires follows { fate ≡ Fate.Done → is_told_by_entry command.now ≡ true → command_by (last_entry kernel.now.history) ≡ command.now }
+        requires follows { executed ≡ Executed.Done → is_told_by_entry command.now ≡ true → command_by (last_entry kernel.now.history) ≡ command.now }
         requires within { AllWithin end (length self.old.list.others.items) self.old.list.kept.items }
-        requires quiet { fate ≡ Fate.Done → posts_alone command.now ≡ true → IsShown self.old.seat kernel.now.history }
+        requires quiet { executed ≡ Executed.Done → posts_alone command.now ≡ true → IsShown self.old.seat kernel.now.history }
         requires rises { MayFollow self.old.seat.roles (generation_number kernel.now.history) }
-        ensures calls { calls_kept kernel.now.history self.new.list.others.items self.new.list.kept.items ≡ calls_kept kernel.now.history self.old.list.others.items self.old.list.kept.items ++ told_call command.now fate (last_entry kernel.now.history) at end ∷ [] }
+        ensures calls { calls_kept kernel.now.history self.new.list.others.items self.new.list.kept.items ≡ calls_kept kernel.now.history self.old.list.others.items self.old.list.kept.items ++ told_call command.now executed (last_entry kernel.now.history) at end ∷ [] }
         ensures within { AllWithin end (length self.new.list.others.items) self.new.list.kept.items }
         ensures counted { (self.new.book.total ≡ self.old.book.total + 1) × (share.new ≡ share.old + 1) }
         ensures shown { IsShown self.new.seat kernel.now.history }
     {
-        self.list.push_told(command, fate, kernel.last(), at, end);
+        self.list
+            .push_told(command, executed, kernel.last(), at, end);
         share.count(&mut self.book);
-        match fate {
-            Fate::Done if posts_alone(command) => {}
+        match executed {
+            Executed::Done if posts_alone(command) => {}
             _ => publish(board, &mut self.seat, kernel),
         }
     }

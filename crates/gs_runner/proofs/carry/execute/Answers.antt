@@ -1,0 +1,9 @@
+use Rattle.gs_runner.proofs.Keeping.{executed_follows}
+use Rattle.gs_runner.proofs.Tellings.{told_executed}
+use Rattle.gs_runner.proofs.carry.execute.Goals as goal
+
+pub returns-clause-told : goal.returns-clause-told
+returns-clause-told c = told_executed c.args.kernel.now c.execute.new.self c.args.command.now c.execute.result c.execute.ensures
+
+pub returns-clause-follows : goal.returns-clause-follows
+returns-clause-follows c = executed_follows c.args.kernel.now c.execute.new.self c.args.command.now c.execute.result c.execute.ensures
