@@ -1,0 +1,9 @@
+pub mod Place
+pub mod Sign
+pub mod Cause
+pub mod Because
+pub mod Entries
+pub mod Explains
+pub mod Marks
+pub mod Kept
+pub mod Group
