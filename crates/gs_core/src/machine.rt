@@ -148,6 +148,13 @@ impl<P: Counted + Copy> Machine<P> {
         self.transactions.get(number).copied()
     }
 
+    /// Lends all transactions, in the order in which they were stamped.
+    pub fn transactions(&self) -> &[Transaction]
+        ensures { result.now ≡ self.now.transactions }
+    {
+        self.transactions.as_slice()
+    }
+
     /// Returns the CPU of a transaction and the slot as it was stamped, by the transaction's number.
     fn stamped(&self, number: u32) -> Option<(u16, Stamp)>
         ensures { result ≡ option_map (λ (x : Transaction). (x.cpu, x.slot)) (transaction_of self.now.transactions number) }

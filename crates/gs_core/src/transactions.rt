@@ -55,6 +55,13 @@ impl Transactions {
         self.items.get((number as usize).checked_sub(1)?)
     }
 
+    /// Lends all of them, in order.
+    pub(crate) fn as_slice(&self) -> &[Transaction]
+        ensures { result.now ≡ self.now.items }
+    {
+        &self.items
+    }
+
     /// Makes room for so many more, so that `push` can add them.
     ///
     /// # Errors
