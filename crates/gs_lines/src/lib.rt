@@ -10,6 +10,8 @@ mod text;
 mod thread_line;
 
 pub use message_line::{change_name, write_cpu, write_placed};
-pub use reply_line::{text_of, write_executed, write_reply};
+pub use reply_line::{
+    outcome_name, text_of, write_executed, write_landing, write_late, write_reply, write_torn,
+};
 pub use text::{MOST_WORD_LEN, Text};
 pub use thread_line::{name_str, write_facts};

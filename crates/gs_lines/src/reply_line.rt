@@ -40,8 +40,8 @@ fn refusal_name(refusal: Refusal) -> &'static str
     }
 }
 
-/// The name of an outcome.
-fn outcome_name(outcome: Outcome) -> &'static str
+/// Returns the name of an outcome: one word, as `stale`.
+pub fn outcome_name(outcome: Outcome) -> &'static str
     ensures name { result.now ≡ outcome_text outcome }
     ensures short { length result.now ≤ 13 }
 {
@@ -72,8 +72,8 @@ fn write_landed(out: &mut Text, landing: &Landing) -> Result<(), AllocError>
     out.end_line()
 }
 
-/// Adds the line of a landing.
-fn write_landing(out: &mut Text, landing: &Landing) -> Result<(), AllocError>
+/// Adds the line of a landing. It fails only if out of memory.
+pub fn write_landing(out: &mut Text, landing: &Landing) -> Result<(), AllocError>
     ensures { OnOk result (out.new ≡ out.old ++ line (landing_text landing.now)) }
 {
     out.push_between("cpu ", landing.cpu as u64, " ")?;
@@ -90,16 +90,16 @@ fn write_landings(out: &mut Text, landings: &[Landing]) -> Result<(), AllocError
     Ok(())
 }
 
-/// Adds the line of a late landing.
-fn write_late(out: &mut Text, number: u32, landing: &Landing) -> Result<(), AllocError>
+/// Adds the line of a late landing, by the number of its transaction. It fails only if out of memory.
+pub fn write_late(out: &mut Text, number: u32, landing: &Landing) -> Result<(), AllocError>
     ensures { OnOk result (out.new ≡ out.old ++ line (late_text number landing.now)) }
 {
     out.push_between("late ", number as u64, " ")?;
     write_landed(out, landing)
 }
 
-/// Adds the line behind landings that tore the enclave down.
-fn write_torn(out: &mut Text, torn: bool) -> Result<(), AllocError>
+/// Adds the line behind landings that tore the enclave down, if they did. It fails only if out of memory.
+pub fn write_torn(out: &mut Text, torn: bool) -> Result<(), AllocError>
     ensures { OnOk result (out.new ≡ out.old ++ torn_line torn) }
 {
     if torn { out.push_str("torn\n") } else { Ok(()) }
