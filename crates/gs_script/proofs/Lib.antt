@@ -16,3 +16,4 @@ pub mod HeaderLines
 pub mod Fits
 pub mod Worked
 pub mod Corners
+pub mod Saying

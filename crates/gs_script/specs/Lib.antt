@@ -5,3 +5,4 @@ pub mod Header
 pub mod Script
 pub mod Plain
 pub mod Held
+pub mod Said

@@ -1,0 +1,90 @@
+-- The lines that say something, and the events that they say.
+use Rattle.std.proofs.Common.{◌≡◌, refl, ap, sym, subst, ◌∙◌, ℕ, ◌+◌, ◌==◌, ◌<◌, nat_lt, Bool, true, false, not, ◌&&◌, cond, Option, None, Some, Result, Ok, Err, List, [], ◌∷◌, ◌++◌, append_assoc, append-nil, filter, length, get_or, map, arith}
+use Rattle.std.specs.List.{onto_first, slice_split}
+use Rattle.std.proofs.lemmas.List.Splits.{slice_split-cons_no, slice_split-cons_yes}
+use denote.Ref.{Bor}
+use Rattle.gs_script.specs.Plain.{FirstLine, lines_left}
+use Rattle.gs_script.specs.declared.said_line.SaidLine.{SaidLine}
+use Rattle.std.proofs.lemmas.Bool.Decides.{nat_tests}
+use Rattle.gs_policy.specs.declared.any.AnyPolicy.{AnyPolicy}
+use Rattle.gs_replies.specs.declared.config.Config.{Config}
+use Rattle.gs_core.specs.declared.event.Event.{Event}
+use Rattle.gs_script.specs.declared.fault.Reason.{Reason}
+use Rattle.gs_script.specs.declared.fault.Reason.TheVariants.{BadByte, TooLong}
+use Rattle.gs_script.specs.declared.fault.ScriptFault.{ScriptFault}
+use Rattle.gs_script.specs.declared.script.TheConstants.{MOST_BYTES}
+use Rattle.gs_script.specs.Words.{is_text, is_word, lines_of, words_of}
+use Rattle.gs_script.specs.Rows.{event_of}
+use Rattle.gs_script.specs.Header.{header_of}
+use Rattle.gs_script.specs.Script.{Script, before, events_of, fault, headed, is_passed_over, says, script_from, script_of, some_of, with_config, with_event}
+use Rattle.gs_script.specs.Said.{SayEach, SayScript, line_if, line_of, said, said_in, says_something}
+
+-- a space in front changes no word
+pub words_behind : (line : List ℕ) → words_of (32 ∷ line) ≡ words_of line
+words_behind line = ap (filter is_word) (slice_split-cons_yes (λ b. b == 32) 32 line refl)
+
+word_begun : (b : ℕ) (p : List ℕ) → is_word (b ∷ p) ≡ true
+word_begun b p = let e : (length (b ∷ p) == 0) ≡ false = grind (arith, nat_tests) in ap not e
+
+first_word : (b : ℕ) (parts : List (List ℕ)) → is_passed_over (filter is_word (onto_first b parts)) ≡ (b == 35)
+first_word b [] = ap (λ t. is_passed_over (cond t ((b ∷ []) ∷ []) [])) (word_begun b [])
+first_word b (p ∷ ps) = ap (λ t. is_passed_over (cond t ((b ∷ p) ∷ filter is_word ps) (filter is_word ps))) (word_begun b p)
+
+-- a line that begins with another byte is passed over if that begins a comment
+pub passed_by : (b : ℕ) (line : List ℕ) → (b == 32) ≡ false → is_passed_over (words_of (b ∷ line)) ≡ (b == 35)
+passed_by b line other = ap (λ parts. is_passed_over (filter is_word parts)) (slice_split-cons_no (λ b. b == 32) b line other) ∙ first_word b (slice_split (λ b. b == 32) line)
+
+-- the lines behind the header
+each_said : (n k : ℕ) (lines : List (List ℕ)) (es : List (Event AnyPolicy)) → events_of n lines ≡ Ok es → SayEach (said k lines) es
+each_said n k [] es e = let same : [] ≡ es = cc in subst (SayEach []) same tt
+each_said n k (l ∷ ls) es e = by_tests (each_said (n + 1) (k + 1) ls) (is_text l) (is_passed_over (words_of l)) (event_of (words_of l)) refl e
+  where
+    by_rest : ((xs : List (Event AnyPolicy)) → events_of (n + 1) ls ≡ Ok xs → SayEach (said (k + 1) ls) xs) → (x : Event AnyPolicy) → event_of (words_of l) ≡ Ok x
+        → (o : Result (List (Event AnyPolicy)) ScriptFault) → events_of (n + 1) ls ≡ o → with_event x o ≡ Ok es → SayEach ((k, l) ∷ said (k + 1) ls) es
+    by_rest others x q (Err f) r e = absurd cc
+    by_rest others x q (Ok xs) r e = let same : x ∷ xs ≡ es = cc in subst (SayEach ((k, l) ∷ said (k + 1) ls)) same (q, others xs r)
+
+    by_tests : ((xs : List (Event AnyPolicy)) → events_of (n + 1) ls ≡ Ok xs → SayEach (said (k + 1) ls) xs) → (t p : Bool) (r : Result (Event AnyPolicy) Reason) → event_of (words_of l) ≡ r
+        → before n (cond (not t) (Err BadByte) (cond p (Ok None) (some_of r))) (events_of (n + 1) ls) ≡ Ok es → SayEach (line_if (t && not p) k l ++ said (k + 1) ls) es
+    by_tests others false p r q e = absurd cc
+    by_tests others true true r q e = others es e
+    by_tests others true false (Err x) q e = absurd cc
+    by_tests others true false (Ok x) q e = by_rest others x q (events_of (n + 1) ls) refl e
+
+nothing_said : (xs : List (ℕ × List ℕ)) (f : ScriptFault) → SayScript xs (Err f)
+nothing_said [] f = tt
+nothing_said (x ∷ xs) f = tt
+
+-- with the header's
+from_said : (n k : ℕ) (lines : List (List ℕ)) → SayScript (said k lines) (script_from n lines)
+from_said n k [] = tt
+from_said n k (l ∷ ls) = by_tests (from_said (n + 1) (k + 1) ls) (is_text l) (is_passed_over (words_of l)) (header_of (words_of l))
+  where
+    by_rest : (c : Config AnyPolicy) (o : Result (List (Event AnyPolicy)) ScriptFault) → events_of (n + 1) ls ≡ o → SayScript ((k, l) ∷ said (k + 1) ls) (with_config c o)
+    by_rest c (Err f) q = tt
+    by_rest c (Ok es) q = each_said (n + 1) (k + 1) ls es q
+
+    by_tests : SayScript (said (k + 1) ls) (script_from (n + 1) ls) → (t p : Bool) (r : Result (Config AnyPolicy) Reason)
+        → SayScript (line_if (t && not p) k l ++ said (k + 1) ls) (headed n (cond (not t) (Err BadByte) (cond p (Ok None) (some_of r))) (script_from (n + 1) ls) (events_of (n + 1) ls))
+    by_tests later false p r = nothing_said (said (k + 1) ls) (fault n BadByte)
+    by_tests later true true r = later
+    by_tests later true false (Err x) = tt
+    by_tests later true false (Ok c) = by_rest c (events_of (n + 1) ls) refl
+
+pub script_said : (bytes : List ℕ) → SayScript (said_in bytes) (script_of bytes)
+script_said bytes = by_len (nat_lt MOST_BYTES (length bytes))
+  where
+    by_len : (b : Bool) → SayScript (cond b [] (said 1 (lines_of bytes))) (cond b (Err (fault 0 TooLong)) (script_from 1 (lines_of bytes)))
+    by_len true = tt
+    by_len false = from_said 1 1 (lines_of bytes)
+
+-- one more line was looked at
+pub said_more : (n : ℕ) (old new : List SaidLine) (text : List ℕ) (left : Option (Bor (List ℕ))) (whole : List (ℕ × List ℕ)) → FirstLine (λ line. map line_of new ≡ map line_of old ++ line_if (says_something line) n line) text left
+    → map line_of old ++ said n (lines_of text) ≡ whole → map line_of new ++ said (n + 1) (lines_left left) ≡ whole
+said_more n old new text left whole f so_far =
+    ap (λ xs. xs ++ said (n + 1) (lines_left left)) f.is
+    ∙ (append_assoc (map line_of old) (line_if (says_something f.line) n f.line) (said (n + 1) (lines_left left)) ∙ (ap (λ ls. map line_of old ++ said n ls) (sym f.cut) ∙ so_far))
+
+-- one line fewer is left
+pub one_fewer : (text : List ℕ) (left : Option (Bor (List ℕ))) (P : List ℕ → Type 0) → FirstLine P text left → length (lines_of text) ≡ length (lines_left left) + 1
+one_fewer text left P f = let e = ap length f.cut in omega arith
