@@ -8,7 +8,7 @@ ghost use Rattle.gs_view.specs.Shown.{if_shown, tids};
 ghost use Rattle.gs_view.specs.News.{word_of};
 
 use crate::fault::ApplyFault;
-use crate::load::{known_in, load_page, reserve_for};
+use crate::load::{load_page, reserve_for};
 use crate::news::News;
 use crate::records::Records;
 use crate::walk::ViewWalk;
@@ -138,7 +138,7 @@ impl AgentView {
         ensures places { self.new.tids ≡ self.old.tids }
         ensures room { self.old.room ≤ self.new.room + 1 }
     {
-        self.records.put(thread.tid, known_in(thread));
+        self.records.put(thread.tid, thread.known);
     }
 
     /// Loads a page: what it tells of its threads is known then, whatever was known of them before. Of all
