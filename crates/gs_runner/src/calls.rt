@@ -176,6 +176,17 @@ fn is_done(last: &Entry, command: &Command, reply: &Reply) -> bool
     }
 }
 
+/// Returns the same of the last of so many entries, which is read where it lies.
+fn is_last(journal: &[Entry], end: u32, command: &Command, reply: &Reply) -> bool
+    requires { end ≤ length journal.now }
+    ensures { IsTrue result ↔ (Commands.Kernel (command_by (entry_before journal.now end)) ≡ command.now) × (Reply.Done (entry_before journal.now end) ≡ reply.now) }
+{
+    match journal[..end as usize].last() {
+        Some(last) => is_done(last, command, reply),
+        None => is_done(&Entry::Torn, command, reply),
+    }
+}
+
 /// Returns whether a call has this command, and the receipt's place, count of entries and reply.
 fn is_other(call: &Call, command: &Command, receipt: &Receipt) -> bool
     requires { answers_command call.now ≡ true }
@@ -206,7 +217,7 @@ fn is_call(
         Kept::Told { at, end } => {
             *at == receipt.at
                 && *end - *at == receipt.entries
-                && is_done(&entry_before(journal, *end), command, &receipt.reply)
+                && is_last(journal, *end, command, &receipt.reply)
         }
         Kept::Other { index } => is_other(&others[*index], command, receipt),
     }
