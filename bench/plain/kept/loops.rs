@@ -1,4 +1,4 @@
-//! Rounds of events without a script, so that each can be measured by itself: the same as those of the proved crate in_process.
+//! Rounds of events without a script, so that each can be measured by itself: the same as those of the proved crate bench_driver.
 
 use crate::event::{Choice, Facts, Name, Policy};
 use crate::kernel::{Kernel, Settings};

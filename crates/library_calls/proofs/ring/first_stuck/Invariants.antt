@@ -1,6 +1,0 @@
-use Rattle.std.proofs.Common.{◌≤◌}
-use Rattle.gs_ring.specs.RingState.{posts}
-use Rattle.library_calls.proofs.ring.first_stuck.Given as goal
-
-abbrev pub invariant-loop-tid : goal.invariant-loop-tid
-invariant-loop-tid l = posts l.ring ≤ l.tid
