@@ -17,7 +17,7 @@ use gs_agent::{Drained, Role, Stop};
 use gs_layout::{Change, Class, Outcome, Refusal};
 use gs_policy::{Choice, Counted, FirstCome, Policy, TwoClass};
 use gs_ring::{ByteRing, Poster};
-use gs_slots::{Region, SlotMut, SlotState, Stamp};
+use gs_slots::{Flags, Region, SlotMut, SlotState, Stamp};
 use gs_status::Mask;
 use std::alloc::{AllocError, Global};
 
@@ -144,8 +144,10 @@ const SEVENTH_STAMP: Stamp = Stamp {
     generation: 3,
     tid: 7,
     tseq: 5,
-    preempt: true,
-    group: false,
+    flags: Flags {
+        preempt: true,
+        ..Flags::NONE
+    },
 };
 
 const IDLE: SlotState = SlotState::Idle;
@@ -166,8 +168,10 @@ const NINTH_STAMPED: SlotState = SlotState::Stamped {
         generation: 3,
         tid: 9,
         tseq: 6,
-        preempt: true,
-        group: false,
+        flags: Flags {
+            preempt: true,
+            ..Flags::NONE
+        },
     },
 };
 
@@ -315,13 +319,13 @@ fn stamp_one(
     tid: u32,
 ) -> Result<u32, Refusal>
     requires { cpu < length region.old }
-    ensures ok { IfOk result (λ tseq. region.new ≡ slice_set region.old cpu (slot_spelling cpu (SlotState.Stamped (record { generation = role.old.generation; tid = tid; tseq = tseq; preempt = true; group = false })))) }
+    ensures ok { IfOk result (λ tseq. region.new ≡ slice_set region.old cpu (slot_spelling cpu (SlotState.Stamped (record { generation = role.old.generation; tid = tid; tseq = tseq; flags = single true })))) }
     ensures role { OnOk result (role.new ≡ record role.old { mind = thinks role.old.mind (after_stamp cpu tid (picture_of role.old.mind)) }) }
     ensures refused { IfErr result (λ refusal. (bytes : List ℕ) → slice_get region.old cpu ≡ Some bytes → stamp_refusal (look_up role.old.mind.records tid) (state_in cpu bytes) ≡ Some refusal) }
     ensures unchanged { OnErr result (region.new ≡ region.old) }
     ensures as_before { OnErr result (role.new ≡ role.old) }
 {
-    role.stamp(region.slot(cpu), tid, true, false)
+    role.stamp(region.slot(cpu), tid, Flags::single(true))
 }
 
 /// Says of a stamped slot that its transaction was placed on CPU 0: whether it was stamped.

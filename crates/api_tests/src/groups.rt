@@ -3,7 +3,7 @@
 use gs_kernel::{Command, Kernel, LEAST_HISTORY, Landing, MOST_HISTORY, Settings};
 use gs_layout::{Class, Facts, Name, Outcome};
 use gs_ring::ByteRing;
-use gs_slots::{Region, SlotState, Stamp};
+use gs_slots::{Flags, Region, SlotState, Stamp};
 use gs_status::Mask;
 use std::alloc::Global;
 
@@ -215,8 +215,10 @@ fn stamp_of(tried: &Wish) -> Stamp {
         generation: 1,
         tid,
         tseq,
-        preempt,
-        group,
+        flags: Flags {
+            group,
+            ..Flags::single(preempt)
+        },
     }
 }
 
@@ -246,10 +248,13 @@ fn stamp_all(region: &mut Region, tried: &[Wish]) -> Option<()> {
         if one.0 >= region.cpus() {
             return None;
         }
-        region
-            .slot(one.0)
-            .stamp(1, one.1, one.2, one.3, one.4)
-            .ok()?;
+        let Stamp {
+            generation,
+            tid,
+            tseq,
+            flags,
+        } = stamp_of(one);
+        region.slot(one.0).stamp(generation, tid, tseq, flags).ok()?;
     }
     Some(())
 }

@@ -6,7 +6,7 @@ use gs_journal::Entry;
 use gs_kernel::{Command, Executed, Kernel, Landing, Settings, ThreadEvent};
 use gs_layout::{Change, Class, Facts, Message, Name, Outcome, Refusal};
 use gs_ring::ByteRing;
-use gs_slots::{Region, SlotMut, Stamp};
+use gs_slots::{Flags, Region, SlotMut, Stamp};
 use gs_status::Mask;
 use std::alloc::Global;
 
@@ -313,8 +313,7 @@ fn run(kernel: &mut Kernel<ByteRing>, cpu: u16, tid: u32, tseq: u32) -> Option<C
         generation,
         tid,
         tseq,
-        preempt: false,
-        group: false,
+        flags: Flags::NONE,
     };
     match kernel.land_stamp(cpu, &stamp) {
         Ok(landing) if landing.outcome == Outcome::Placed => Some(Placed),

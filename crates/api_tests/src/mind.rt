@@ -11,7 +11,7 @@ use gs_layout::{Change, Class, Message, Outcome, Parcel};
 use gs_mind::Mind;
 use gs_policy::{Counted, FirstCome, TwoClass};
 use gs_reader::MessageRef;
-use gs_slots::{SlotState, Stamp};
+use gs_slots::{Flags, SlotState, Stamp};
 use gs_status::Mask;
 use gs_view::{ApplyFault, News};
 use std::alloc::{AllocError, Global};
@@ -190,8 +190,7 @@ fn landed(tid: u32, outcome: Outcome, at: Option<u16>) -> SlotState {
             generation: 3,
             tid,
             tseq: 5,
-            preempt: true,
-            group: false,
+            flags: Flags::single(true),
         },
         outcome,
         at,

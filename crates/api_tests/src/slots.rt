@@ -5,13 +5,15 @@ ghost use Rattle.gs_slots.specs.declared.state.SlotState.{SlotState};
 ghost use Rattle.gs_slots.specs.declared.state.Stamp.{Stamp};
 ghost use Rattle.gs_slots.specs.Reading.{all_collected, by_cpu, collected_in, state_in, states_in};
 ghost use Rattle.gs_slots.specs.Spelling.{slot_spelling};
+ghost use Rattle.gs_slots.specs.Flags.{single};
 ghost use Rattle.gs_slots.specs.State.{has_stamp};
 ghost use Rattle.gs_slots.specs.SlotMut.{bytes_of, cpu_of, left_in, left_in_all, state_of};
 ghost use Rattle.api_tests.specs.Stale.{stale_in};
 
 use gs_layout::Outcome;
 use gs_slots::{
-    Fill, FillFault, Malformed, Region, SlotBusy, SlotMut, SlotState, Slots, Stamp, fill_halves,
+    Fill, FillFault, Flags, Malformed, Region, SlotBusy, SlotMut, SlotState, Slots, Stamp,
+    fill_halves,
 };
 use gs_status::MOST_CPUS;
 use std::alloc::Global;
@@ -22,23 +24,23 @@ use std::thread::{Threads, join_mut};
 fn stamp_one(region: &mut Region, cpu: u16, tid: u32) -> Result<(), SlotBusy>
     requires { cpu < length region.old }
     ensures exact { (bytes : List ℕ) → slice_get region.old cpu ≡ Some bytes → state_in cpu bytes ≡ Ok SlotState.Idle → IsOk result }
-    ensures ok { OnOk result (region.new ≡ slice_set region.old cpu (slot_spelling cpu (SlotState.Stamped (record { generation = 1; tid = tid; tseq = 2; preempt = false; group = false })))) }
+    ensures ok { OnOk result (region.new ≡ slice_set region.old cpu (slot_spelling cpu (SlotState.Stamped (record { generation = 1; tid = tid; tseq = 2; flags = single false })))) }
     ensures busy { OnErr result (region.new ≡ region.old) }
 {
-    region.slot(cpu).stamp(1, tid, 2, false, false)
+    region.slot(cpu).stamp(1, tid, 2, Flags::NONE)
 }
 
 /// A transaction is stamped into a slot that is idle.
 fn stamp_in(cpu: u16, bytes: &mut [u8; 32], tid: u32)
-    ensures { state_in cpu bytes.old ≡ Ok SlotState.Idle → state_in cpu bytes.new ≡ Ok (SlotState.Stamped (record { generation = 1; tid = tid; tseq = 2; preempt = true; group = false })) }
+    ensures { state_in cpu bytes.old ≡ Ok SlotState.Idle → state_in cpu bytes.new ≡ Ok (SlotState.Stamped (record { generation = 1; tid = tid; tseq = 2; flags = single true })) }
 {
-    let _ = SlotMut::over(cpu, bytes).stamp(1, tid, 2, true, false);
+    let _ = SlotMut::over(cpu, bytes).stamp(1, tid, 2, Flags::single(true));
 }
 
 /// Lends two slots together, and writes the second before the first.
 #[tactic(auto, using(crate::proofs::Stamps::two_read))]
 fn stamp_two(region: &mut Region)
-    ensures { (a b : List ℕ) (rest : List (List ℕ)) → state_in 0 a ≡ Ok SlotState.Idle → state_in 1 b ≡ Ok SlotState.Idle → region.old ≡ a ∷ b ∷ rest → states_in 0 region.new ≡ Ok (SlotState.Stamped (record { generation = 1; tid = 8; tseq = 2; preempt = true; group = false })) ∷ Ok (SlotState.Stamped (record { generation = 1; tid = 9; tseq = 2; preempt = true; group = false })) ∷ states_in 2 rest }
+    ensures { (a b : List ℕ) (rest : List (List ℕ)) → state_in 0 a ≡ Ok SlotState.Idle → state_in 1 b ≡ Ok SlotState.Idle → region.old ≡ a ∷ b ∷ rest → states_in 0 region.new ≡ Ok (SlotState.Stamped (record { generation = 1; tid = 8; tseq = 2; flags = single true })) ∷ Ok (SlotState.Stamped (record { generation = 1; tid = 9; tseq = 2; flags = single true })) ∷ states_in 2 rest }
 {
     let Slots { rest, first: _ } = region.lend();
     if let Some((low, rest)) = Slots::next(rest) {
@@ -146,8 +148,7 @@ fn stamp_of(tid: u32, preempt: bool) -> Stamp {
         generation: 1,
         tid,
         tseq: 2,
-        preempt,
-        group: false,
+        flags: Flags::single(preempt),
     }
 }
 
@@ -349,8 +350,7 @@ const FIRST: Stamp = Stamp {
     generation: 1,
     tid: 1,
     tseq: 1,
-    preempt: false,
-    group: false,
+    flags: Flags::NONE,
 };
 
 /// [`FIRST`] in the slot of CPU 1.
@@ -363,13 +363,17 @@ const PLACED: [u8; 32] = [
     2, 0, 1, 0, 1, 0, 0, 0, 1, 0, 0, 0, 1, 0, 0, 0, 0, 0, 1, 0, 1, 0, 0, 0, 0, 0, 0, 0, 0, 0, 0, 0,
 ];
 
+const PREEMPTS: Flags = Flags {
+    preempt: true,
+    ..Flags::NONE
+};
+
 /// A transaction that preempts, of which no two numbers are alike.
 const UNLIKE: Stamp = Stamp {
     generation: 3,
     tid: 258,
     tseq: 5,
-    preempt: true,
-    group: false,
+    flags: PREEMPTS,
 };
 
 /// [`UNLIKE`] in the slot of CPU 1.
@@ -385,13 +389,18 @@ const UNLIKE_STALE: [u8; 32] = [
 
 /// The same of a group, without and with the flag that it preempts.
 const GROUPED: Stamp = Stamp {
-    preempt: false,
-    group: true,
+    flags: Flags {
+        group: true,
+        ..Flags::NONE
+    },
     ..UNLIKE
 };
 
 const BOTH: Stamp = Stamp {
-    group: true,
+    flags: Flags {
+        group: true,
+        ..PREEMPTS
+    },
     ..UNLIKE
 };
 
@@ -445,9 +454,7 @@ fn finish(slot: SlotMut<'_>, outcome: Outcome, at: Option<u16>, seen: u32) -> bo
 /// Makes a call. Returns whether it could be made, and was not refused.
 fn is_called(slot: SlotMut<'_>, call: &Call) -> bool {
     match call {
-        Call::Stamp(it) => slot
-            .stamp(it.generation, it.tid, it.tseq, it.preempt, it.group)
-            .is_ok(),
+        Call::Stamp(it) => slot.stamp(it.generation, it.tid, it.tseq, it.flags).is_ok(),
         Call::Finish { outcome, at, seen } => finish(slot, *outcome, *at, *seen),
         Call::Clear => {
             slot.clear();
@@ -732,8 +739,7 @@ fn fill_of(cpu: u16) -> Fill
         generation: 1,
         tid: 7,
         tseq: 2,
-        preempt: true,
-        group: false,
+        flags: Flags::single(true),
     }
 }
 

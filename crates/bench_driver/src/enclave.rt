@@ -9,7 +9,7 @@ use gs_kernel::{Kernel, LEAST_CPUS, LEAST_GENERATION, MOST_HISTORY, Settings};
 use gs_layout::{Class, Facts, Name};
 use gs_policy::{Choice, FirstCome};
 use gs_ring::ByteRing;
-use gs_slots::Region;
+use gs_slots::{Flags, Region};
 use gs_status::{MOST_CPUS, Mask};
 use std::alloc::Global;
 
@@ -97,7 +97,8 @@ impl Enclave {
     fn stamp(&mut self, choice: Choice) {
         if choice.cpu < self.region.cpus() {
             let slot = self.region.slot(choice.cpu);
-            let _ = self.role.stamp(slot, choice.tid, choice.preempt, false);
+            let flags = Flags::single(choice.preempt);
+            let _ = self.role.stamp(slot, choice.tid, flags);
         }
     }
 

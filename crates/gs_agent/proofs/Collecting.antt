@@ -366,7 +366,7 @@ untold c (Err x) p e = refl
 
 single_untold : (c : ℕ) (h : Held) (p : Picture) → told_in h ≡ None → after_slot c (if_single (state_or_idle h)) p ≡ p
 single_untold c (Ok Idle) p e = refl
-single_untold c (Ok (Stamped b)) p e = by_flag b.group
+single_untold c (Ok (Stamped b)) p e = by_flag b.flags.group
   where
     by_flag : (f : Bool) → after_slot c (cond f Idle (Stamped b)) p ≡ p
     by_flag true = refl

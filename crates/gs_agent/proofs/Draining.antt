@@ -38,7 +38,7 @@ at_most_one : (b : Bool) → cond b 1 0 ≤ 1
 at_most_one true = omega arith
 at_most_one false = omega arith
 
--- what a view took in was no gap
+-- what a view applied was no gap
 pub no_gap_taken : (news : News) → is_gap (word_of news) ≡ false
 no_gap_taken Applied = refl
 no_gap_taken Skipped = refl
@@ -76,7 +76,7 @@ pub took_stop : (p p' : Picture) (ms : List Message) (d : Drained) (s : Option S
 took_stop p p' ms d s t =
     record { count = t.count; none_gap = t.none_gap; skipped = t.skipped; orphans = t.orphans; picture = t.picture; view = t.view; few_skipped = t.few_skipped; few_orphans = t.few_orphans }
 
--- of a batch these messages were taken in so far, and these are left
+-- of a batch these messages were followed so far, and these are left
 pub record TakenSoFar (batch : List Message) (max : ℕ) (d : Drained) (v : MindState) (d' : Drained) (v' : MindState) (left : List Message) : Type 0 where
   pub done : List Message
   pub all : batch ≡ done ++ left
@@ -110,7 +110,7 @@ taken_one batch max d v d' v' m left w d'' v'' t lt counted is gap next =
           (took_more p (picture_of v') (picture_of v'') (ms ++ t.done) m w d' (t.took p ms h) (sym is) gap next));
     }
 
--- when the walk ends, all of a batch was taken in, or as many as might be
+-- when the walk ends, all of a batch was followed, or as many as might be
 pub took_all : (batch : List Message) (max : ℕ) (d : Drained) (v : MindState) (d' : Drained) (v' : MindState) (left : List Message) → TakenSoFar batch max d v d' v' left → (d'.count < max → left ≡ []) → TookFirst batch max d v d' v'
 took_all batch max d v d' v' left t ends = record {
   done = t.done;
@@ -145,7 +145,7 @@ took_to_stop batch max d v d' v' m left s v'' t lt same gap memory = record {
 pub left_ahead : (done left more : List Message) → done ++ more ≡ done ++ left → more ≡ left
 left_ahead done left more e = sym (drop_at done more (length done) refl) ∙ ap (λ l. drop (length done) l) e ∙ drop_at done left (length done) refl
 
--- as many as were taken in are those
+-- as many as were followed are those
 pub first_done : (all done left : List Message) (n : ℕ) → all ≡ done ++ left → length done ≡ n → take n all ≡ done
 first_done all done left n e count = ap (λ l. take n l) e ∙ take_at done left n count
 

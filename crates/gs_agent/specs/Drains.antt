@@ -1,4 +1,4 @@
--- What a drain took in.
+-- What a drain followed.
 use Rattle.std.specs.Prelude.{true, false, ℕ, ◌+◌, ◌<◌, ◌≤◌, ◌≡◌, List, [], ◌∷◌, ◌++◌, length, None, Some, IsSome, if◌then◌else◌}
 use Rattle.std.specs.List.{list_any, count_by}
 use Rattle.gs_layout.specs.declared.message.Message.{Message}
@@ -23,12 +23,12 @@ count_word d w =
       stop = d.stop;
     }
 
--- why a drain stops if a view did not take a message in
+-- why a drain stops if a view did not apply a message
 abbrev pub stop_of : ApplyFault → Stop
 stop_of faults.Gap = stops.Gap
 stop_of faults.OutOfMemory = stops.Memory
 
--- these messages were all taken in, from the first picture to the second, none of them a gap. Each is counted as what it was to the
+-- these messages were all followed, from the first picture to the second, none of them a gap. Each is counted as what it was to the
 -- view, and the view is then caught up over them
 pub record Took (p : Picture) (ms : List Message) (d : Drained) (p' : Picture) : Type 0 where
   pub count : d.count ≡ length ms
@@ -40,7 +40,7 @@ pub record Took (p : Picture) (ms : List Message) (d : Drained) (p' : Picture) :
   pub few_skipped : d.skipped ≤ d.count
   pub few_orphans : d.orphans ≤ d.count
 
--- the first messages of a batch were taken in, at most so many in all, and counted beside what was drained before. If the drain
+-- the first messages of a batch were followed, at most so many in all, and counted beside what was drained before. If the drain
 -- stopped, the next one is a gap, or begins a record
 pub record TookFirst (batch : List Message) (max : ℕ) (d : Drained) (v : MindState) (d' : Drained) (v' : MindState) : Type 0 where
   pub done : List Message

@@ -13,8 +13,9 @@ use gs_mind::Mind;
 use gs_slots::{Region, SlotMut, SlotState};
 use gs_status::{MOST_CPUS, Mask};
 
-/// Takes in what became of each done slot of a region, and makes it idle again: the slots of a group first, and
+/// Collects what became of each done slot of a region, and makes it idle again: the slots of a group first, and
 /// then the others, each in increasing order of CPU.
+#[inline(always)]
 pub(crate) fn collect_all(mind: &mut Mind, region: &mut Region)
     ensures region { region.new ≡ all_collected 0 region.old }
     ensures mind { mind.new ≡ thinks mind.old (after_all (told_by 0 region.old) (picture_of mind.old)) }
@@ -85,7 +86,7 @@ fn is_wanted(region: &Region, cpu: u16, group: bool) -> bool
     !group || region.is_flagged(cpu)
 }
 
-/// Takes in what became of a done slot, and makes it idle again. Any other slot, a malformed one too,
+/// Collects what became of a done slot, and makes it idle again. Any other slot, a malformed one too,
 /// changes nothing, and stays as it is.
 #[tactic(auto, using(crate::proofs::Collecting::slot_stays, crate::proofs::Collecting::nothing_learnt, crate::proofs::Collecting::slot_cleared))]
 fn collect_slot(mind: &mut Mind, slot: SlotMut<'_>)

@@ -1,4 +1,4 @@
-//! A drain, over any end that messages are taken from.
+//! A drain, over any end that messages are consumed from.
 
 ghost use Rattle.std.specs.Prelude.{◌≡◌, ◌^◌, ◌<◌, ◌≤◌, List, [], ◌∷◌, IfNone, IfSome, None, Some, IsSome, true};
 ghost use Rattle.gs_layout.specs.declared.message.Message.{Message};
@@ -16,8 +16,8 @@ use gs_ring::{Batch, Taker, Waiting};
 use gs_view::{ApplyFault, News};
 use std::marker::Model;
 
-/// Takes in messages, at most `max` of them, up to a gap or until out of memory. They are read where they
-/// lie, batch by batch, and those that were taken in then pass.
+/// Follows messages, at most `max` of them, up to a gap or until out of memory. They are read where they
+/// lie, batch by batch, and those that were followed then pass.
 pub(crate) fn drain_into<T: Taker>(mind: &mut Mind, taker: &mut T, max: u32) -> Drained
     ensures took { (ms : List Message) × T.passed taker.old ms taker.new × Took (picture_of mind.old) ms result (picture_of mind.new) }
     ensures most { result.count ≤ max }
@@ -96,8 +96,9 @@ impl<'a> Left<'a> {
     }
 }
 
-/// Takes in the first messages of a batch. It stops at a gap, if out of memory, or once `max` messages were
+/// Follows the first messages of a batch. It stops at a gap, if out of memory, or once `max` messages were
 /// drained in all. They are counted beside those that were drained before.
+#[inline(always)]
 fn follow_first(mind: &mut Mind, batch: Batch<'_>, max: usize, drained: Drained) -> Drained
     requires most { max < 2 ^ 32 }
     requires count { drained.count ≤ max }
@@ -138,7 +139,7 @@ fn counted(drained: Drained, news: News) -> Drained
     }
 }
 
-/// Returns why a drain stops at a message that the view did not take in.
+/// Returns why a drain stops at a message that the view did not apply.
 fn stop_of(fault: ApplyFault) -> Stop
     ensures { result ≡ stop_of fault }
 {

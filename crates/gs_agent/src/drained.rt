@@ -7,7 +7,7 @@ pub enum Stop {
     Memory,
 }
 
-/// What a drain took in.
+/// What a drain followed.
 #[derive(Clone, Copy, PartialEq, Eq, Debug)]
 pub struct Drained {
     /// How many messages it consumed.

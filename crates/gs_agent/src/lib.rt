@@ -1,4 +1,4 @@
-//! The agent's role. It takes messages and pages in, and keeps who waits and what it believes of each CPU. It
+//! The agent's role. It follows messages and pages, and keeps who waits and what it believes of each CPU. It
 //! stamps what it knows of threads into slots, and collects the slots of transactions that landed.
 #![tactic(auto)]
 

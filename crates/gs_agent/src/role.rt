@@ -26,7 +26,7 @@ use gs_mind::Mind;
 use gs_policy::{Choice, Counted, Policy};
 use gs_ring::Taker;
 use gs_runq::QueueWalk;
-use gs_slots::{Region, SlotBusy, SlotMut};
+use gs_slots::{Flags, Region, SlotBusy, SlotMut};
 use gs_status::{MOST_CPUS, Mask};
 use gs_view::AgentView;
 use std::alloc::{AllocError, Global};
@@ -181,7 +181,7 @@ impl<P> Role<P> {
     ///
     /// # Errors
     ///
-    /// If out of memory. Then nothing changes, and the page can be taken in later.
+    /// If out of memory. Then nothing changes, and the page can be followed later.
     pub fn rebuild(&mut self, page: &Page) -> Result<(), AllocError>
         ensures picture { OnOk result (picture_of self.new.mind ≡ after_page page.now.records (picture_of self.old.mind)) }
         ensures next { OnOk result (self.new.next ≡ page.now.next) }
@@ -203,9 +203,9 @@ impl<P> Role<P> {
         self.generation = generation;
     }
 
-    /// Takes messages in, at most `max` of them, in the order in which they were posted: view, beliefs
+    /// Follows messages, at most `max` of them, in the order in which they were posted: view, beliefs
     /// and queue follow each one that applies. The view is then what it was, caught up over them. Returns
-    /// what it took in, and why it stopped early, if it did.
+    /// what it followed, and why it stopped early, if it did.
     ///
     /// It stops early at a message whose number is more than one above the one that is known of its
     /// thread. It also stops at the creation of a thread of which nothing is known, if out of memory for its
@@ -223,9 +223,8 @@ impl<P> Role<P> {
     }
 
     /// Stamps a transaction into an idle slot: the thread is to run on the slot's CPU, if its sequence
-    /// number is then still the one that the view has. `preempt` says that a thread that is on the CPU
-    /// is to give way, and `group` that it is placed only if all others of a commit that say so are. Returns
-    /// the sequence number that it stamped. It does not allocate.
+    /// number is then still the one that the view has, and as the flags say. Returns the sequence number that it
+    /// stamped. It does not allocate.
     ///
     /// The role remembers the stamp until the slot is collected: until then the thread does not wait,
     /// and the CPU is not one to use. If it still remembered another stamp on that CPU, the thread which that
@@ -235,23 +234,17 @@ impl<P> Role<P> {
     ///
     /// The first that applies: `NoThread` if the view does not know the thread, `SlotOpen` if the slot is not
     /// idle, malformed too. Slot and role stay as they were.
-    pub fn stamp(
-        &mut self,
-        slot: SlotMut<'_>,
-        tid: u32,
-        preempt: bool,
-        group: bool,
-    ) -> Result<u32, Refusal>
+    pub fn stamp(&mut self, slot: SlotMut<'_>, tid: u32, flags: Flags) -> Result<u32, Refusal>
         ensures ok { OnOk result (stamp_refusal (look_up self.old.mind.records tid) (state_of slot.entry) ≡ None) }
         ensures number { IfOk result (λ tseq. number_of (look_up self.old.mind.records tid) ≡ Some tseq) }
-        ensures stamped { IfOk result (λ tseq. state_in (cpu_of slot.entry) (left_in slot.exit) ≡ Ok (SlotState.Stamped (record { generation = self.old.generation; tid = tid; tseq = tseq; preempt = preempt; group = group }))) }
+        ensures stamped { IfOk result (λ tseq. state_in (cpu_of slot.entry) (left_in slot.exit) ≡ Ok (SlotState.Stamped (record { generation = self.old.generation; tid = tid; tseq = tseq; flags = flags }))) }
         ensures role { OnOk result (self.new ≡ record self.old { mind = thinks self.old.mind (after_stamp (cpu_of slot.entry) tid (picture_of self.old.mind)) }) }
         ensures refused { IfErr result (λ refusal. stamp_refusal (look_up self.old.mind.records tid) (state_of slot.entry) ≡ Some refusal) }
         ensures unchanged { OnErr result (left_in slot.exit ≡ bytes_of slot.entry) }
         ensures as_before { OnErr result (self.new ≡ self.old) }
     {
         let (_, tseq) = self.mind.view().get(tid).ok_or(Refusal::NoThread)?;
-        self.stamp_at(slot, tid, tseq, preempt, group)?;
+        self.stamp_at(slot, tid, tseq, flags)?;
         Ok(tseq)
     }
 
@@ -266,19 +259,18 @@ impl<P> Role<P> {
         slot: SlotMut<'_>,
         tid: u32,
         tseq: u32,
-        preempt: bool,
-        group: bool,
+        flags: Flags,
     ) -> Result<(), Refusal>
         requires { number_of (look_up self.old.mind.records tid) ≡ Some tseq }
         ensures ok { OnOk result (stamp_refusal (look_up self.old.mind.records tid) (state_of slot.entry) ≡ None) }
-        ensures stamped { OnOk result (state_in (cpu_of slot.entry) (left_in slot.exit) ≡ Ok (SlotState.Stamped (record { generation = self.old.generation; tid = tid; tseq = tseq; preempt = preempt; group = group }))) }
+        ensures stamped { OnOk result (state_in (cpu_of slot.entry) (left_in slot.exit) ≡ Ok (SlotState.Stamped (record { generation = self.old.generation; tid = tid; tseq = tseq; flags = flags }))) }
         ensures role { OnOk result (self.new ≡ record self.old { mind = thinks self.old.mind (after_stamp (cpu_of slot.entry) tid (picture_of self.old.mind)) }) }
         ensures refused { IfErr result (λ refusal. stamp_refusal (look_up self.old.mind.records tid) (state_of slot.entry) ≡ Some refusal) }
         ensures unchanged { OnErr result (left_in slot.exit ≡ bytes_of slot.entry) }
         ensures as_before { OnErr result (self.new ≡ self.old) }
     {
         let cpu = slot.cpu();
-        match slot.stamp(self.generation, tid, tseq, preempt, group) {
+        match slot.stamp(self.generation, tid, tseq, flags) {
             Ok(()) => {
                 self.mind.stamp(cpu, tid);
                 Ok(())
@@ -287,7 +279,7 @@ impl<P> Role<P> {
         }
     }
 
-    /// Takes in what became of each done slot of a region, and makes it idle again: the slots of a group first,
+    /// Collects what became of each done slot of a region, and makes it idle again: the slots of a group first,
     /// and then the others, each in increasing order of CPU. A thread that was placed, or found placed already, is
     /// believed to run there, and who waits follows. Other slots, malformed ones too, stay as they are. It does not
     /// allocate.

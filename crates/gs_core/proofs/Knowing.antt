@@ -3,6 +3,8 @@ use Rattle.std.proofs.Common.{◌≡◌, refl, ap, sym, ◌∙◌, subst, ℕ, B
 use Rattle.std.specs.Option.{is_some, option_map}
 use Rattle.gs_layout.specs.declared.known.Known.{Known}
 use Rattle.gs_layout.specs.declared.message.Message.{Message}
+use Rattle.gs_slots.specs.declared.flags.Flags.{Flags}
+use Rattle.gs_slots.specs.Flags.{single}
 use Rattle.gs_slots.specs.declared.state.Stamp.{Stamp}
 use Rattle.gs_slots.specs.declared.state.SlotState.{SlotState}
 use Rattle.gs_slots.specs.declared.state.SlotState.TheVariants.{Stamped}
@@ -36,23 +38,23 @@ own_then f None same = refl
 own_then f (Some a) same = same (picture_of a.mind)
 
 -- a stamp, and several of them
-stamp_with : (m : State) (c t : ℕ) (p w : Bool) (a : Option (ℕ × ℕ)) (k : Option Known) → active m.history ≡ a → Knows m → Knows (stamps_with m c t p w a k).1
-stamp_with m c t p w None k is n = n
-stamp_with m c t p w (Some a) None is n = n
-stamp_with m c t p w (Some a) (Some k) is n =
-    let b : Stamp = stamp_of t p w a k in
+stamp_with : (m : State) (c t : ℕ) (w : Flags) (a : Option (ℕ × ℕ)) (k : Option Known) → active m.history ≡ a → Knows m → Knows (stamps_with m c t w a k).1
+stamp_with m c t w None k is n = n
+stamp_with m c t w (Some a) None is n = n
+stamp_with m c t w (Some a) (Some k) is n =
+    let b : Stamp = stamp_of t w a k in
     record {
       thinks = thinks_then (after_stamp c t) m.agent m.slots (slice_set m.slots c (Stamped b)) (λ q t. thinks_stamp q.cpus m.slots c b t) n.thinks;
       own_cpu = λ x e. own_then (after_stamp c t) m.agent (λ q. refl) ∙ n.own_cpu x e;
       idle = λ q. absurd (not_both m.history (ap (λ o. is_some o) is) q);
     }
 
-pub knows_stamp : (m : State) (c t : ℕ) (p w : Bool) → Knows m → Knows (stamps m c t p w).1
-knows_stamp m c t p w n = stamp_with m c t p w (active m.history) (view m t) refl n
+pub knows_stamp : (m : State) (c t : ℕ) (w : Flags) → Knows m → Knows (stamps m c t w).1
+knows_stamp m c t w n = stamp_with m c t w (active m.history) (view m t) refl n
 
 pub knows_choices : (m : State) (xs : List Choice) → Knows m → Knows (stamps_all m xs)
 knows_choices m [] n = n
-knows_choices m (x ∷ xs) n = knows_choices (stamps m x.cpu x.tid x.preempt false).1 xs (knows_stamp m x.cpu x.tid x.preempt false n)
+knows_choices m (x ∷ xs) n = knows_choices (stamps m x.cpu x.tid (single x.preempt)).1 xs (knows_stamp m x.cpu x.tid (single x.preempt) n)
 
 -- a drain
 drained : (m : State) (max c : ℕ) (d : Drained) (a : Option Agent) → Drains m max d (record m { consumed = c; agent = a }) → Knows m → Knows (record m { consumed = c; agent = a })

@@ -1,4 +1,4 @@
--- An agent that attaches takes in a page.
+-- An agent that attaches follows a page.
 use Rattle.std.proofs.Common.{◌≡◌, refl, ap, sym, ◌∙◌, subst, ℕ, ◌<◌, inl, inr, nat_lt, true, Option, None, Some, List, [], ◌∷◌, arith}
 use Rattle.std.specs.List.{AllByRecursion}
 use Rattle.std.specs.Option.{is_some}
@@ -96,7 +96,7 @@ pub trusted_paged : (s : Settings) (h : History) (n : ℕ) (p : Picture) (a max 
 unfolding live_from
 trusted_paged s h n p a max trust = trusted_among s h n p a (from_on h a) max trust
 
--- the agent that attaches takes in its next page
+-- the agent that attaches follows its next page
 pub kept_paged : (m : State) (a : Agent) (from max : ℕ) (mind : MindState) → m.agent ≡ Some a → a.next ≡ Some from → is_some (attaching m.history) ≡ true
     → picture_of mind ≡ after_page (dumped m.settings m.history from max).records (picture_of a.mind) → Kept m
     → Kept (record m { agent = Some (record { mind = mind; next = (dumped m.settings m.history from max).next }) })

@@ -39,13 +39,13 @@ use Rattle.gs_core.specs.Held.{agent_of}
 -- the ring that a machine shows
 pub record IsRingAt (bytes n : ℕ) (h : List Entry) (r : RingState) : Type 0 where
   pub ring : r.capacity ≡ bytes
-  pub consumed : r.taken ≡ n
+  pub consumed : r.consumed ≡ n
   pub told : Sent r (posted h)
 
 asked : (ring n : ℕ) (h : List Entry) (r : RingState) (k : Message) → IsRingAt ring n h r → need ring (written ring (posted h)) (record_len k) ≡ need r.capacity (written r.capacity (posted h)) (record_len k)
 asked ring n h r k i = ap (λ c. need c (written c (posted h)) (record_len k)) (sym i.ring)
 
-left : (ring n : ℕ) (h : List Entry) (r : RingState) → IsRingAt ring n h r → free_after ring (posted h) n ≡ free_after r.capacity (posted h) r.taken
+left : (ring n : ℕ) (h : List Entry) (r : RingState) → IsRingAt ring n h r → free_after ring (posted h) n ≡ free_after r.capacity (posted h) r.consumed
 left ring n h r i = ap (λ c. free_after c (posted h) n) (sym i.ring) ∙ ap (free_after r.capacity (posted h)) (sym i.consumed)
 
 pub fits_not : (ring n : ℕ) (h : List Entry) (r : RingState) (k : Message) → IsRingAt ring n h r → IsTight r k → fits_into ring n h k ≡ false
@@ -55,7 +55,7 @@ fits_not ring n h r k i tight =
     let lt : free_after ring (posted h) n < need ring (written ring (posted h)) (record_len k) = omega (arith, a, b, tight) in
     grind (arith, nat_tests)
 
-pub fits_then : (ring n : ℕ) (h : List Entry) (r r' : RingState) (k : Message) → IsRingAt ring n h r → SameCapacity r r' → r'.taken ≡ r.taken → Sent r' (posted (h ++ Posted k ∷ [])) → fits_into ring n h k ≡ true
+pub fits_then : (ring n : ℕ) (h : List Entry) (r r' : RingState) (k : Message) → IsRingAt ring n h r → SameCapacity r r' → r'.consumed ≡ r.consumed → Sent r' (posted (h ++ Posted k ∷ [])) → fits_into ring n h k ≡ true
 fits_then ring n h r r' k i same stays told =
     let le = Posted-fits r r' (posted h) k same stays i.told (subst (Sent r') (posted-push h (Posted k)) told) in
     let a = asked ring n h r k i in
@@ -65,7 +65,7 @@ fits_then ring n h r r' k i same stays told =
 
 -- what a call of the kernel left
 abbrev pub with_kernel : State → Settings → RingState → List Entry → State
-with_kernel m s r h = record m { settings = s; ring = r.capacity; history = h; consumed = r.taken }
+with_kernel m s r h = record m { settings = s; ring = r.capacity; history = h; consumed = r.consumed }
 
 pub done : (f : Option Refusal) (m : State) (e : Event Plan) (r : Reply) (m' : State) → f ≡ None → Does m e r m' → Serves f m e r m'
 done f m e r m' none does = subst (λ o. Serves o m e r m') (sym none) (inl does)
@@ -92,9 +92,9 @@ told_alone m commands.Begin there = absurd (false≢true there)
 
 -- the room that its ring tells of
 abbrev pub RingRoom : RingState → Room
-RingRoom r = RoomOf SameCapacity (λ (x : RingState). x.taken) Sent IsTight r
+RingRoom r = RoomOf SameCapacity (λ (x : RingState). x.consumed) Sent IsTight r
 
-pub room_fits : (ring n : ℕ) (r : RingState) → r.capacity ≡ ring → r.taken ≡ n → Entails (RingRoom r) (IsFit ring n)
+pub room_fits : (ring n : ℕ) (r : RingState) → r.capacity ≡ ring → r.consumed ≡ n → Entails (RingRoom r) (IsFit ring n)
 room_fits ring n r is_ring is_n h true k x = fits_then ring n h x.0 x.4 k (record { ring = x.1 ∙ is_ring; consumed = x.2 ∙ is_n; told = x.3 }) x.5 x.6 (subst (Sent x.4) (sym (posted-push h (Posted k))) x.7)
 room_fits ring n r is_ring is_n h false k x = fits_not ring n h x.0 k (record { ring = x.1 ∙ is_ring; consumed = x.2 ∙ is_n; told = x.3 }) x.4
 
@@ -119,7 +119,7 @@ same_given s h b b' commands.Begin same = refl
 same_given s h b b' (commands.Activate c) same = ap (λ o. unless_torn h (or_else o (first_that ((is_full s h 2, Some refusals.HistoryFull) ∷ []) None))) (same_pages s h b b' c same)
 
 -- a command that was not refused, as the machine says it
-pub legal_told : (m : State) (given : Bool) (c : Command) (x : Executed) (s : Settings) (r0 r1 : RingState) (h : List Entry) → r0.capacity ≡ m.ring → r0.taken ≡ m.consumed → SameCapacity r0 r1 → r1.taken ≡ r0.taken → s ≡ m.settings
+pub legal_told : (m : State) (given : Bool) (c : Command) (x : Executed) (s : Settings) (r0 r1 : RingState) (h : List Entry) → r0.capacity ≡ m.ring → r0.consumed ≡ m.consumed → SameCapacity r0 r1 → r1.consumed ≡ r0.consumed → s ≡ m.settings
     → (is_some (attaching m.history) ≡ true → given ≡ is_given_all m) → Legal (RingRoom r0) m.settings m.history given c (Ok x) h
     → (kernel_refuses m.settings m.history (is_given_all m) c ≡ None) × Carries m c (reply_of (Ok x) (last_entry h)) (record (with_kernel m s r1 h) { agent = led m.settings.cpus (last_entry h) m.agent; slots = freed_by m.settings.cpus (last_entry h) m.slots })
 legal_told m given c x s r0 r1 h is_ring is_n same stays is_s knows l = (

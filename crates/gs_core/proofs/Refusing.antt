@@ -5,6 +5,7 @@ use Rattle.gs_layout.specs.declared.known.Known.{Known}
 use Rattle.gs_layout.specs.declared.refusal.Refusal.{Refusal}
 use Rattle.gs_layout.specs.declared.refusal.Refusal.TheVariants as refusals
 use Rattle.gs_journal.specs.History.{active}
+use Rattle.gs_slots.specs.declared.flags.Flags.{Flags}
 use Rattle.gs_slots.specs.declared.state.SlotState.{SlotState}
 use Rattle.gs_slots.specs.declared.state.SlotState.TheVariants.{Idle, Stamped, Done}
 use Rattle.gs_agent.specs.Role.{stamp_refusal}
@@ -35,23 +36,23 @@ of_room false full (Some k) Idle f below e = e
 of_room false full (Some k) (Stamped t) f below e = refl
 of_room false full (Some k) (Done t outcome at seen) f below e = refl
 
-behind_agent : (m : State) (c t : ℕ) (p w : Bool) (z : SlotState) → is_some (active m.history) ≡ true → slice_get m.slots c ≡ Some z
-    → tests (nat_le m.settings.cpus c) (view m t) (Some z) (nat_le m.settings.history (length m.transactions)) ≡ standing_refusal m (events.Stamp c t p w)
-behind_agent m c t p w z is there =
+behind_agent : (m : State) (c t : ℕ) (w : Flags) (z : SlotState) → is_some (active m.history) ≡ true → slice_get m.slots c ≡ Some z
+    → tests (nat_le m.settings.cpus c) (view m t) (Some z) (nat_le m.settings.history (length m.transactions)) ≡ standing_refusal m (events.Stamp c t w)
+behind_agent m c t w z is there =
     ap (λ (s : Option SlotState). tests (nat_le m.settings.cpus c) (view m t) s (nat_le m.settings.history (length m.transactions))) (sym there)
     ∙ ap (λ (b : Bool). first_that ((not b, Some refusals.NotActive) ∷ []) (tests (nat_le m.settings.cpus c) (view m t) (slice_get m.slots c) (nat_le m.settings.history (length m.transactions)))) (sym is)
 
 -- the role refuses it
-pub role_refuses : (m : State) (c t : ℕ) (p w : Bool) (z : SlotState) (f : Refusal) → is_some (active m.history) ≡ true → nat_le m.settings.cpus c ≡ false → slice_get m.slots c ≡ Some z
-    → stamp_refusal (view m t) (Ok z) ≡ Some f → IsRefusal (standing_refusal m (events.Stamp c t p w)) f
-role_refuses m c t p w z f is below there e =
-    subst (λ (o : Option Refusal). IsRefusal o f) (sym (of_slot (nat_le m.settings.cpus c) (nat_le m.settings.history (length m.transactions)) (view m t) z f below e) ∙ behind_agent m c t p w z is there) refl
+pub role_refuses : (m : State) (c t : ℕ) (w : Flags) (z : SlotState) (f : Refusal) → is_some (active m.history) ≡ true → nat_le m.settings.cpus c ≡ false → slice_get m.slots c ≡ Some z
+    → stamp_refusal (view m t) (Ok z) ≡ Some f → IsRefusal (standing_refusal m (events.Stamp c t w)) f
+role_refuses m c t w z f is below there e =
+    subst (λ (o : Option Refusal). IsRefusal o f) (sym (of_slot (nat_le m.settings.cpus c) (nat_le m.settings.history (length m.transactions)) (view m t) z f below e) ∙ behind_agent m c t w z is there) refl
 
 -- there is no room for one more, and the role's own refusal goes first
-pub room_refuses : (m : State) (c t : ℕ) (p w : Bool) (z : SlotState) (o : Option Refusal) (f : Refusal) → is_some (active m.history) ≡ true → nat_le m.settings.cpus c ≡ false → slice_get m.slots c ≡ Some z
+pub room_refuses : (m : State) (c t : ℕ) (w : Flags) (z : SlotState) (o : Option Refusal) (f : Refusal) → is_some (active m.history) ≡ true → nat_le m.settings.cpus c ≡ false → slice_get m.slots c ≡ Some z
     → o ≡ stamp_refusal (view m t) (Ok z) → IsRefusal (first_that ((nat_le m.settings.history (length m.transactions), Some refusals.HistoryFull) ∷ []) None) f
-    → IsRefusal (standing_refusal m (events.Stamp c t p w)) (unwrap_or o f)
-room_refuses m c t p w z o f is below there same e =
-    subst (λ (r : Option Refusal). IsRefusal (standing_refusal m (events.Stamp c t p w)) (unwrap_or r f)) (sym same)
-    (subst (λ (r : Option Refusal). IsRefusal r (unwrap_or (stamp_refusal (view m t) (Ok z)) f)) (behind_agent m c t p w z is there)
+    → IsRefusal (standing_refusal m (events.Stamp c t w)) (unwrap_or o f)
+room_refuses m c t w z o f is below there same e =
+    subst (λ (r : Option Refusal). IsRefusal (standing_refusal m (events.Stamp c t w)) (unwrap_or r f)) (sym same)
+    (subst (λ (r : Option Refusal). IsRefusal r (unwrap_or (stamp_refusal (view m t) (Ok z)) f)) (behind_agent m c t w z is there)
     (of_room (nat_le m.settings.cpus c) (nat_le m.settings.history (length m.transactions)) (view m t) z f below e))

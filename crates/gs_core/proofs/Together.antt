@@ -55,7 +55,7 @@ one_more : (xs : List Transaction) (w : Bool) (k : ℕ) (z : SlotState) (g : Gro
 one_more xs false k z g one rest = rest
 one_more xs true k Idle g one rest = rest
 one_more xs true k (Done b o a n) g one rest = rest
-one_more xs true k (Stamped b) g one rest = by_test b.group
+one_more xs true k (Stamped b) g one rest = by_test b.flags.group
   where
     by_test : (p : Bool) → AllOf (IsOne xs) (cond p ((k, b) ∷ []) [] ++ g)
     by_test true = (one b refl, rest)
@@ -70,7 +70,7 @@ rises_more : (s : Settings) (w : Bool) (k : ℕ) (z : SlotState) (g : Group) →
 rises_more s false k z g below rest = rises_from s k (suc k) g (omega arith) rest
 rises_more s true k Idle g below rest = rises_from s k (suc k) g (omega arith) rest
 rises_more s true k (Done b o a n) g below rest = rises_from s k (suc k) g (omega arith) rest
-rises_more s true k (Stamped b) g below rest = by_test b.group
+rises_more s true k (Stamped b) g below rest = by_test b.flags.group
   where
     by_test : (p : Bool) → Rises k s.cpus (cond p ((k, b) ∷ []) [] ++ g)
     by_test true = (omega arith, below b refl, rest)
@@ -96,7 +96,7 @@ one_after : (l : ℕ → Stamp → Landing) (w : Bool) (k : ℕ) (z : SlotState)
 one_after l false k z zs xs rest = (inl refl, rest)
 one_after l true k Idle zs xs rest = (inl refl, rest)
 one_after l true k (Done b o a n) zs xs rest = (inl refl, rest)
-one_after l true k (Stamped b) zs xs rest = by_flag b.group
+one_after l true k (Stamped b) zs xs rest = by_flag b.flags.group
   where
     by_flag : (f : Bool) → AreAfter (Stamped b ∷ zs) (done_if f b (l k b) ∷ xs)
     by_flag true = (inr refl, rest)
@@ -216,7 +216,7 @@ one_shows : (s : Settings) (h h' : History) (g : Group) (fit : Bool) (n : ℕ) (
 one_shows s h h' g fit n v page false k z rest known given seen shows each = shows
 one_shows s h h' g fit n v page true k Idle rest known given seen shows each = tt
 one_shows s h h' g fit n v page true k (Done b o a q) rest known given seen shows each = shows
-one_shows s h h' g fit n v page true k (Stamped b) rest known given seen shows each = by_flag b.group each
+one_shows s h h' g fit n v page true k (Stamped b) rest known given seen shows each = by_flag b.flags.group each
   where
     has_seen : IsSeen h v b
     has_seen = seen b refl
@@ -235,7 +235,7 @@ rest_place : (p : ℕ × Stamp → Bool) (w : Bool) (k : ℕ) (z : SlotState) (r
 rest_place p false k z rest e = e
 rest_place p true k Idle rest e = e
 rest_place p true k (Done b o a n) rest e = e
-rest_place p true k (Stamped b) rest e = by_flag b.group e
+rest_place p true k (Stamped b) rest e = by_flag b.flags.group e
   where
     by_flag : (f : Bool) → list_all p (cond f ((k, b) ∷ []) [] ++ rest) ≡ true → list_all p rest ≡ true
     by_flag true q = (and_parts (p (k, b)) (list_all p rest) q).1

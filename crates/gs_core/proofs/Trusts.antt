@@ -6,6 +6,8 @@ use Rattle.gs_layout.specs.declared.known.Known.{Known}
 use Rattle.gs_layout.specs.declared.message.Message.{Message}
 use Rattle.gs_layout.specs.declared.outcome.Outcome.{Outcome}
 use Rattle.gs_layout.specs.View.{Look, catch_up, look_up}
+use Rattle.gs_slots.specs.declared.flags.Flags.{Flags}
+use Rattle.gs_slots.specs.Flags.{single}
 use Rattle.gs_slots.specs.declared.state.Stamp.{Stamp}
 use Rattle.gs_slots.specs.declared.state.SlotState.{SlotState}
 use Rattle.gs_slots.specs.declared.state.SlotState.TheVariants.{Idle, Stamped, Done}
@@ -43,10 +45,10 @@ seen_thought h f None slots seen = seen
 seen_thought h f (Some a) slots seen = seen
 
 -- a stamp, of what is known now
-stamp_with : (m : State) (c t : ℕ) (p w : Bool) (a : Option (ℕ × ℕ)) (k : Option Known) → view m t ≡ k → Trusts m → Trusts (stamps_with m c t p w a k).1
-stamp_with m c t p w None k is trusts = trusts
-stamp_with m c t p w (Some a) None is trusts = trusts
-stamp_with m c t p w (Some a) (Some k) is trusts =
+stamp_with : (m : State) (c t : ℕ) (w : Flags) (a : Option (ℕ × ℕ)) (k : Option Known) → view m t ≡ k → Trusts m → Trusts (stamps_with m c t w a k).1
+stamp_with m c t w None k is trusts = trusts
+stamp_with m c t w (Some a) None is trusts = trusts
+stamp_with m c t w (Some a) (Some k) is trusts =
     let f : Picture → Picture = after_stamp c t in
     record {
       trusted = λ up. thought m.history m.consumed f m.agent (λ q trust. trust) (trusts.trusted up);
@@ -55,7 +57,7 @@ stamp_with m c t p w (Some a) (Some k) is trusts =
     }
   where
     b : Stamp
-    b = stamp_of t p w a k
+    b = stamp_of t w a k
 
     by_slot : (i : ℕ) (z : Stamp) → AreSeen m.history (view m) m.slots → (slice_get m.slots i ≡ Some (Stamped z)) ⊎ ((i ≡ c) × (Stamped z ≡ Stamped b)) → IsSeen m.history (view m) z
     by_slot i z seen (inl e) = seen i z e
@@ -68,13 +70,13 @@ stamp_with m c t p w (Some a) (Some k) is trusts =
     none i z o there q (inl e) = trusts.none_done i z o there q e
     none i z o there q (inr e) = let no_way : Done z o there q ≡ Stamped b = e.1 in cc
 
-pub trusts_stamp : (m : State) (c t : ℕ) (p w : Bool) → Trusts m → Trusts (stamps m c t p w).1
-trusts_stamp m c t p w trusts = stamp_with m c t p w (active m.history) (view m t) refl trusts
+pub trusts_stamp : (m : State) (c t : ℕ) (w : Flags) → Trusts m → Trusts (stamps m c t w).1
+trusts_stamp m c t w trusts = stamp_with m c t w (active m.history) (view m t) refl trusts
 
 -- and several of them
 pub trusts_choices : (m : State) (xs : List Choice) → Trusts m → Trusts (stamps_all m xs)
 trusts_choices m [] t = t
-trusts_choices m (x ∷ xs) t = trusts_choices (stamps m x.cpu x.tid x.preempt false).1 xs (trusts_stamp m x.cpu x.tid x.preempt false t)
+trusts_choices m (x ∷ xs) t = trusts_choices (stamps m x.cpu x.tid (single x.preempt)).1 xs (trusts_stamp m x.cpu x.tid (single x.preempt) t)
 
 -- landings, collected
 pub committed_trusts : (m : State) (made : Landings) → AreAfter m.slots made.slots → AreLanded m.settings m.transactions m.consumed (view m) (page_of m.agent) m.history made → Trusts m → Trusts (committed m made)

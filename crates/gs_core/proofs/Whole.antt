@@ -23,6 +23,8 @@ use Rattle.gs_layout.specs.declared.known.Known.{Known}
 use Rattle.gs_policy.specs.declared.choice.Choice.{Choice}
 use Rattle.gs_kernel.proofs.Laws.{first_passed}
 use Rattle.gs_core.proofs.Steps.{stamp_good, idle}
+use Rattle.gs_slots.specs.declared.flags.Flags.{Flags}
+use Rattle.gs_slots.specs.Flags.{single}
 use Rattle.gs_slots.specs.declared.state.SlotState.TheVariants.{Idle}
 use Rattle.std.proofs.lemmas.List.{length-replicate}
 
@@ -30,25 +32,25 @@ pub below_count : (m : State) (c : ℕ) → nat_le m.settings.cpus c ≡ false �
 below_count m c e = grind (arith, nat_tests, e)
 
 -- a stamp that is not refused is of a CPU
-pub stamps_on_cpu : (m : State) (c t : ℕ) (p w : Bool) → refusal m (events.Stamp c t p w) ≡ None → nat_le m.settings.cpus c ≡ false
-stamps_on_cpu m c t p w none =
+pub stamps_on_cpu : (m : State) (c t : ℕ) (w : Flags) → refusal m (events.Stamp c t w) ≡ None → nat_le m.settings.cpus c ≡ false
+stamps_on_cpu m c t w none =
     let p1 = first_passed (torn m.history) refusals.Gone _ none in
     let p2 = first_passed (not (is_some (active m.history))) refusals.NotActive _ p1.1 in
     let p3 = first_passed (nat_le m.settings.cpus c) refusals.BadCpu _ p2.1 in
     p3.0
 
-stamps_settings : (m : State) (c t : ℕ) (p w : Bool) (a : Option (ℕ × ℕ)) (k : Option Known) → (stamps_with m c t p w a k).1.settings ≡ m.settings
-stamps_settings m c t p w None k = refl
-stamps_settings m c t p w (Some a) None = refl
-stamps_settings m c t p w (Some a) (Some k) = refl
+stamps_settings : (m : State) (c t : ℕ) (w : Flags) (a : Option (ℕ × ℕ)) (k : Option Known) → (stamps_with m c t w a k).1.settings ≡ m.settings
+stamps_settings m c t w None k = refl
+stamps_settings m c t w (Some a) None = refl
+stamps_settings m c t w (Some a) (Some k) = refl
 
 -- choices of CPUs that there are can be stamped
 pub choices_good : (m : State) (xs : List Choice) → AreBelow m.settings.cpus xs → Good m → Good (stamps_all m xs)
 choices_good m [] below g = g
 choices_good m (x ∷ xs) below g =
-    choices_good (stamps m x.cpu x.tid x.preempt false).1 xs
-    (subst (λ (s : Settings). AreBelow s.cpus xs) (sym (stamps_settings m x.cpu x.tid x.preempt false (active m.history) (view m x.tid))) below.1)
-    (stamp_good m x.cpu x.tid x.preempt false below.0 g)
+    choices_good (stamps m x.cpu x.tid (single x.preempt)).1 xs
+    (subst (λ (s : Settings). AreBelow s.cpus xs) (sym (stamps_settings m x.cpu x.tid (single x.preempt) (active m.history) (view m x.tid))) below.1)
+    (stamp_good m x.cpu x.tid (single x.preempt) below.0 g)
 
 -- what a decision plans is of CPUs that there are
 abbrev pub PlansBelow : State → Event Plan → Type 0

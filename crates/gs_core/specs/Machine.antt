@@ -3,7 +3,9 @@ use Rattle.std.specs.Prelude.{Bool, true, false, not, ◌||◌, ◌&&◌, ℕ, z
 use Rattle.std.specs.List.{list_any, count_by}
 use Rattle.gs_layout.specs.declared.message.Message.{Message}
 use Rattle.gs_layout.specs.declared.known.Known.{Known}
+use Rattle.gs_slots.specs.declared.flags.Flags.{Flags}
 use Rattle.gs_slots.specs.declared.state.Stamp.{Stamp}
+use Rattle.gs_slots.specs.Flags.{single}
 use Rattle.gs_slots.specs.declared.state.SlotState.{SlotState}
 use Rattle.gs_slots.specs.declared.state.SlotState.TheVariants.{Idle, Stamped, Done}
 use Rattle.gs_layout.specs.declared.refusal.Refusal.{Refusal}
@@ -95,7 +97,7 @@ planned f events.Crash = events.Crash
 planned f (events.Begin p) = events.Begin (f p)
 planned f (events.Page max) = events.Page max
 planned f (events.Drain max) = events.Drain max
-planned f (events.Stamp c t p g) = events.Stamp c t p g
+planned f (events.Stamp c t flags) = events.Stamp c t flags
 planned f events.Decide = events.Decide
 planned f (events.Commit mask) = events.Commit mask
 planned f (events.Late n) = events.Late n
@@ -202,7 +204,7 @@ standing_refusal m events.Crash = kernel_refusal m commands.Leave
 standing_refusal m (events.Begin p) = kernel_refusal m commands.Begin
 standing_refusal m (events.Page max) = page_refusal m.history (is_given_all m)
 standing_refusal m (events.Drain max) = first_that ((not (has_agent m.history), Some refusals.NotActive) ∷ []) None
-standing_refusal m (events.Stamp c t p g) =
+standing_refusal m (events.Stamp c t flags) =
     without_agent m (
     first_that (
     (nat_le m.settings.cpus c, Some refusals.BadCpu)
@@ -249,37 +251,36 @@ pub record Carries (m : State) (c : Command) (r : Reply) (m' : State) : Type 0 w
     slots = freed_by m.settings.cpus (last_entry m'.history) m.slots;
   }
 
--- what is stamped: the active generation, the record's sequence number, whether a thread on the CPU is to be taken off, and whether it is
--- one of a group
-abbrev pub stamp_of : ℕ → Bool → Bool → (ℕ × ℕ) → Known → Stamp
-stamp_of t p g a k = record { generation = a.0; tid = t; tseq = k.tseq; preempt = p; group = g }
+-- what is stamped: the active generation, the record's sequence number, and the flags
+abbrev pub stamp_of : ℕ → Flags → (ℕ × ℕ) → Known → Stamp
+stamp_of t flags a k = record { generation = a.0; tid = t; tseq = k.tseq; flags = flags }
 
 -- the record that the view has is stamped into the slot, and kept with the transaction, and the agent remembers the stamp
-abbrev pub stamps_with : State → ℕ → ℕ → Bool → Bool → Option (ℕ × ℕ) → Option Known → Reply × State
-stamps_with m c t p g (Some a) (Some k) = (
+abbrev pub stamps_with : State → ℕ → ℕ → Flags → Option (ℕ × ℕ) → Option Known → Reply × State
+stamps_with m c t flags (Some a) (Some k) = (
   replies.Stamped (length m.transactions + 1),
   record m {
     agent = option_map (thinking (after_stamp c t)) m.agent;
-    slots = slice_set m.slots c (Stamped (stamp_of t p g a k));
-    transactions = m.transactions ++ record { cpu = c; slot = stamp_of t p g a k; facts = k.facts } ∷ [];
+    slots = slice_set m.slots c (Stamped (stamp_of t flags a k));
+    transactions = m.transactions ++ record { cpu = c; slot = stamp_of t flags a k; facts = k.facts } ∷ [];
   },
 )
-stamps_with m c t p g None k = (replies.Refused refusals.NotActive, m)
-stamps_with m c t p g (Some a) None = (replies.Refused refusals.NoThread, m)
+stamps_with m c t flags None k = (replies.Refused refusals.NotActive, m)
+stamps_with m c t flags (Some a) None = (replies.Refused refusals.NoThread, m)
 
-abbrev pub stamps : State → ℕ → ℕ → Bool → Bool → Reply × State
-stamps m c t p g = stamps_with m c t p g (active m.history) (view m t)
+abbrev pub stamps : State → ℕ → ℕ → Flags → Reply × State
+stamps m c t flags = stamps_with m c t flags (active m.history) (view m t)
 
 -- choices are stamped one after another, each by itself
 abbrev pub stamps_all : State → List Choice → State
 stamps_all m [] = m
-stamps_all m (x ∷ xs) = stamps_all (stamps m x.cpu x.tid x.preempt false).1 xs
+stamps_all m (x ∷ xs) = stamps_all (stamps m x.cpu x.tid (single x.preempt)).1 xs
 
 -- what the policy plans is stamped, in the plan's order
 abbrev pub decides : State → Reply × State
 decides m = (replies.Decided (length m.transactions + 1) (plan_of m), stamps_all m (plan_of m))
 
--- after landings: the agent takes in what became of the slots, and what is done is idle then
+-- after landings: the agent collects what became of the slots, and what is done is idle then
 abbrev pub committed : State → Landings → State
 committed m made =
     record m { history = made.history; agent = option_map (thinking (after_all made.slots)) m.agent; slots = map collected made.slots }
@@ -305,7 +306,7 @@ abbrev pub begins_next : Look → List Message → Bool
 begins_next v [] = false
 begins_next v (m ∷ ms) = begins v m
 
--- of these messages the first count were taken in, none of them a gap. A drain stops early if the next one is a gap, or if it begins
+-- of these messages the first count were followed, none of them a gap. A drain stops early if the next one is a gap, or if it begins
 -- a record and memory for that runs out
 pub record Takes (p : Picture) (ms : List Message) (most : ℕ) (d : Drained) (p' : Picture) : Type 0 where
   pub count : d.count ≤ min most (length ms)
@@ -319,7 +320,7 @@ pub record Takes (p : Picture) (ms : List Message) (most : ℕ) (d : Drained) (p
   pub known : (t : ℕ) → p'.view t ≡ catch_up p.view (take d.count ms) t
   pub picture : p' ≡ takes_in_all p (take d.count ms)
 
--- a drain takes in unread messages, and changes nothing else
+-- a drain follows unread messages, and changes nothing else
 pub record Drains (m : State) (max : ℕ) (d : Drained) (m' : State) : Type 0 where
   pub takes : Takes (picture m) (unread m) max d (picture m')
   pub consumed : m'.consumed ≡ m.consumed + d.count
@@ -364,7 +365,7 @@ Does m events.Crash r m' = (r ≡ replies.Crashed) × (m' ≡ crashed m)
 Does m (events.Begin p) r m' = Carries (planned_by p m) commands.Begin r m'
 Does m (events.Page max) r m' = Attaches m max r m'
 Does m (events.Drain max) r m' = (d : Drained) × (r ≡ replies.Drained d) × Drains m max d m'
-Does m (events.Stamp c t p g) r m' = (r ≡ (stamps m c t p g).0) × (m' ≡ (stamps m c t p g).1)
+Does m (events.Stamp c t flags) r m' = (r ≡ (stamps m c t flags).0) × (m' ≡ (stamps m c t flags).1)
 Does m events.Decide r m' = (r ≡ (decides m).0) × (m' ≡ (decides m).1)
 Does m (events.Commit mask) r m' = Commits m mask r m'
 Does m (events.Late n) r m' = LandsLate m n r m'

@@ -26,6 +26,7 @@ use std::alloc::Global;
 
 impl<P: Counted + Copy> Machine<P> {
     /// Tells the kernel a command, and lets agent and slots follow it.
+    #[inline(always)]
     pub(crate) fn execute_command(&mut self, command: &Command) -> Result<Executed, Refusal>
         requires { torn self.old.history ≡ false }
         ensures step { Step (planning P.chosen self.old) (Event.Kernel command.now) (reply_of result (last_entry self.new.history)) (planning P.chosen self.new) }
@@ -101,12 +102,12 @@ impl<P: Counted + Copy> Machine<P> {
         ensures refused { IfErr result (IsRefusal (kernel_refusal (planning P.chosen self.old) Command.Begin)) }
         ensures unchanged { OnErr result (self.new ≡ self.old) }
     {
+        if let Some(refusal) = self.kernel.refusal(&Command::Begin) {
+            return Err(refusal);
+        }
         let cpus = self.kernel.settings().cpus;
         let generation = self.kernel.generation().saturating_add(1);
-        let Ok(role) = Role::attach(self.alloc, policy, cpus, generation) else {
-            let refusal = self.kernel.refusal(&Command::Begin);
-            return Err(refusal.unwrap_or(Refusal::OutOfMemory));
-        };
+        let role = Role::attach(self.alloc, policy, cpus, generation)?;
         let executed = self.kernel.execute(&Command::Begin)?;
         self.region.clear();
         self.policy = policy;

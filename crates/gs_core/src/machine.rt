@@ -1,5 +1,6 @@
 ghost use Rattle.std.specs.Prelude.{◌≡◌, ◌+◌, ◌≤◌, ℕ, None, Some, Ok, IfOk, IfErr, IfSome, OnOk, OnErr, is_some, length, map, true, false};
 ghost use Rattle.std.specs.Option.{option_map};
+ghost use Rattle.gs_layout.specs.declared.refusal.Refusal.{Refusal};
 ghost use Rattle.gs_kernel.specs.Kernel.{IsRefusal, last_entry};
 ghost use Rattle.gs_kernel.specs.declared.settings.TheConstants.{MOST_HISTORY};
 ghost use Rattle.gs_replies.specs.Config.{config_fault, IsFault};
@@ -18,7 +19,7 @@ ghost use Rattle.gs_core.specs.Safe.{Safe, StopsForNoGap, IsFaithful, Run};
 use crate::event::Event;
 use crate::known::known_threads;
 use crate::slots::MachineSlots;
-use crate::stamping::{stamp_all, stamp_choice, stamp_refusal};
+use crate::stamping::{stamp_all, stamp_refusal, stamp_thread};
 use crate::transaction::Transaction;
 use crate::transactions::Transactions;
 use crate::unread::waiting;
@@ -28,7 +29,7 @@ use gs_layout::Refusal;
 use gs_policy::{Choice, Counted};
 use gs_replies::{Config, ConfigFault, Items, Reply};
 use gs_ring::ByteRing;
-use gs_slots::{Region, SlotState, Stamp};
+use gs_slots::{Flags, Region, Stamp};
 use gs_status::Mask;
 use std::alloc::{AllocError, Global};
 use std::marker::Model;
@@ -133,7 +134,7 @@ impl<P: Counted + Copy> Machine<P> {
         ensures settings { result.now.settings ≡ self.now.settings }
         ensures history { result.now.history ≡ self.now.history }
         ensures ring { result.now.poster.capacity ≡ self.now.ring }
-        ensures consumed { result.now.poster.taken ≡ self.now.consumed }
+        ensures consumed { result.now.poster.consumed ≡ self.now.consumed }
         ensures unread { result.now.poster.unread ≡ unread (planning P.chosen self.now) }
         ensures posted { Posted result.now.poster (posted self.now.history) }
     {
@@ -220,12 +221,25 @@ impl<P: Counted + Copy> Machine<P> {
         Ok(())
     }
 
+    /// Tests that the enclave stands, and else returns the refusal of every event.
+    fn standing(&self) -> Result<(), Refusal>
+        ensures stands { OnOk result (torn self.now.history ≡ false) }
+        ensures gone { IfErr result (λ r. (torn self.now.history ≡ true) × (r ≡ Refusal.Gone)) }
+        ensures safe { Safe (planning P.chosen self.now) }
+        ensures faithful { IsFaithful (planning P.chosen self.now) }
+    {
+        if self.kernel.is_torn() {
+            return Err(Refusal::Gone);
+        }
+        Ok(())
+    }
+
     /// Stamps what the view has of a thread into the slot of a CPU.
-    fn stamp(&mut self, cpu: u16, tid: u32, preempt: bool, group: bool) -> Result<Reply, Refusal>
-        ensures fits { IfOk result (λ _. standing_refusal (planning P.chosen self.old) (Event.Stamp cpu tid preempt group) ≡ None) }
-        ensures reply { IfOk result (λ reply. reply ≡ (stamps (planning P.chosen self.old) cpu tid preempt group).0) }
-        ensures ok { OnOk result (planning P.chosen self.new ≡ (stamps (planning P.chosen self.old) cpu tid preempt group).1) }
-        ensures refused { IfErr result (IsRefusal (standing_refusal (planning P.chosen self.old) (Event.Stamp cpu tid preempt group))) }
+    fn stamp(&mut self, cpu: u16, tid: u32, flags: Flags) -> Result<Reply, Refusal>
+        ensures fits { IfOk result (λ _. standing_refusal (planning P.chosen self.old) (Event.Stamp cpu tid flags) ≡ None) }
+        ensures reply { IfOk result (λ reply. reply ≡ (stamps (planning P.chosen self.old) cpu tid flags).0) }
+        ensures ok { OnOk result (planning P.chosen self.new ≡ (stamps (planning P.chosen self.old) cpu tid flags).1) }
+        ensures refused { IfErr result (IsRefusal (standing_refusal (planning P.chosen self.old) (Event.Stamp cpu tid flags))) }
         ensures policy { self.new.policy ≡ self.old.policy }
         ensures unchanged { OnErr result (self.new ≡ self.old) }
     {
@@ -240,13 +254,13 @@ impl<P: Counted + Copy> Machine<P> {
         if let Err(refusal) = self.transactions.make_room(most) {
             return Err(stamp_refusal(role, &self.region, cpu, tid).unwrap_or(refusal));
         }
-        let choice = Choice { cpu, tid, preempt };
-        stamp_choice(
+        stamp_thread(
             role,
             &mut self.region,
             &mut self.transactions,
-            choice,
-            group,
+            cpu,
+            tid,
+            flags,
         )?;
         Ok(Reply::Stamped {
             number: self.transactions.len(),
@@ -314,19 +328,15 @@ impl<P: Counted + Copy> Machine<P> {
         ensures step { Step (planning P.chosen self.old) (Event.Commit mask) (replied result) (planning P.chosen self.new) }
         ensures policy { self.new.policy ≡ self.old.policy }
     {
-        match self.region.commit(self.alloc, &mut self.kernel, mask) {
-            Ok(landings) => {
-                let Some(role) = &mut self.role else {
-                    unreachable!()
-                };
-                self.region.collect(role);
-                Ok(Reply::Landed {
-                    landings: Items::new(landings),
-                    torn: self.kernel.is_torn(),
-                })
-            }
-            Err(refusal) => Err(refusal),
-        }
+        let landings = self.region.commit(self.alloc, &mut self.kernel, mask)?;
+        let Some(role) = &mut self.role else {
+            unreachable!()
+        };
+        self.region.collect(role);
+        Ok(Reply::Landed {
+            landings: Items::new(landings),
+            torn: self.kernel.is_torn(),
+        })
     }
 
     fn late(&mut self, number: u32) -> Result<Reply, Refusal>
@@ -337,14 +347,12 @@ impl<P: Counted + Copy> Machine<P> {
         let Some((cpu, slot)) = self.stamped(number) else {
             return Err(Refusal::NoSuchTransaction);
         };
-        match self.kernel.land_stamp(cpu, &slot) {
-            Ok(landing) => Ok(Reply::Late {
-                number,
-                landing,
-                torn: self.kernel.is_torn(),
-            }),
-            Err(_) => Err(Refusal::OutOfMemory),
-        }
+        let landing = self.kernel.land_stamp(cpu, &slot)?;
+        Ok(Reply::Late {
+            number,
+            landing,
+            torn: self.kernel.is_torn(),
+        })
     }
 
     /// Lets one event happen, and returns the reply. It is refused by the first refusal that applies, and
@@ -374,12 +382,9 @@ impl<P: Counted + Copy> Machine<P> {
         ensures no_gap { (max : ℕ) → event.now ≡ Event.Drain max → StopsForNoGap (replied result) }
         ensures policy { self.new.policy ≡ policy_after event.now (replied result) self.old.policy }
     {
-        // A look at a field, by which the proof has what the machine keeps.
-        if self.kernel.is_torn() {
-            return Err(Refusal::Gone);
-        }
+        self.standing()?;
         let came = self.execute_standing(event);
-        // The same.
+        // A look at a field, by which the proof has what the machine keeps.
         let _region = &self.region;
         came
     }
@@ -396,10 +401,7 @@ impl<P: Counted + Copy> Machine<P> {
         ensures faithful { IsFaithful (planning P.chosen self.new) }
         ensures policy { self.new.policy ≡ self.old.policy }
     {
-        let is_gone = self.kernel.is_torn();
-        if is_gone {
-            return Err(Refusal::Gone);
-        }
+        self.standing()?;
         let came = self.execute_command(command);
         // A look at a field, by which the proof has what the machine keeps.
         let _region = &self.region;
@@ -424,12 +426,7 @@ impl<P: Counted + Copy> Machine<P> {
             }
             Event::Page { max } => self.page(*max),
             Event::Drain { max } => self.drain(*max),
-            Event::Stamp {
-                cpu,
-                tid,
-                preempt,
-                group,
-            } => self.stamp(*cpu, *tid, *preempt, *group),
+            Event::Stamp { cpu, tid, flags } => self.stamp(*cpu, *tid, *flags),
             Event::Decide => self.decide(),
             Event::Commit { mask } => self.commit(*mask),
             Event::Late { number } => self.late(*number),

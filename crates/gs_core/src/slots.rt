@@ -19,7 +19,7 @@ use gs_agent::Role;
 use gs_kernel::{Kernel, Landing};
 use gs_layout::Refusal;
 use gs_ring::Poster;
-use gs_slots::{Region, SlotState};
+use gs_slots::{Flags, Region, SlotState};
 use gs_status::Mask;
 use std::alloc::{AllocError, Global};
 use std::marker::Model;
@@ -101,19 +101,18 @@ impl MachineSlots {
         cpu: u16,
         tid: u32,
         tseq: u32,
-        preempt: bool,
-        group: bool,
+        flags: Flags,
     ) -> Result<(), Refusal>
         requires cpu { cpu < length self.old }
         requires number { number_of (look_up role.old.mind.records tid) ≡ Some tseq }
         ensures idle { OnOk result (slice_get self.old cpu ≡ Some SlotState.Idle) }
-        ensures slots { OnOk result (self.new ≡ slice_set self.old cpu (SlotState.Stamped (record { generation = role.old.generation; tid = tid; tseq = tseq; preempt = preempt; group = group }))) }
+        ensures slots { OnOk result (self.new ≡ slice_set self.old cpu (SlotState.Stamped (record { generation = role.old.generation; tid = tid; tseq = tseq; flags = flags }))) }
         ensures role { OnOk result (role.new ≡ record role.old { mind = thinks role.old.mind (after_stamp cpu tid (picture_of role.old.mind)) }) }
         ensures refused { IfErr result (λ refusal. (state : SlotState) → slice_get self.old cpu ≡ Some state → stamp_refusal (look_up role.old.mind.records tid) (Ok state) ≡ Some refusal) }
         ensures slots_stay { OnErr result (self.new ≡ self.old) }
         ensures role_stays { OnErr result (role.new ≡ role.old) }
     {
-        role.stamp_at(self.region.slot(cpu), tid, tseq, preempt, group)
+        role.stamp_at(self.region.slot(cpu), tid, tseq, flags)
     }
 
     /// Lets the kernel land the slots of a mask, as `Kernel::txns_commit` says.
@@ -125,15 +124,15 @@ impl MachineSlots {
     ) -> Result<Vec<Landing>, Refusal>
         requires cpus { length self.old ≡ kernel.old.settings.cpus }
         ensures accepted { IfOk result (λ _. commit_refusal kernel.old.settings kernel.old.history mask ≡ None) }
-        ensures lands { IfOk result (λ l. Adds (LandsCommit (RoomOf P.same P.taken P.posted P.tight kernel.old.poster) kernel.old.settings mask self.old kernel.old.history) [] l.items self.new kernel.new.history) }
+        ensures lands { IfOk result (λ l. Adds (LandsCommit (RoomOf P.same P.consumed P.posted P.tight kernel.old.poster) kernel.old.settings mask self.old kernel.old.history) [] l.items self.new kernel.new.history) }
         ensures refused { IfErr result (IsRefusal (commit_refusal kernel.old.settings kernel.old.history mask)) }
         ensures unchanged { OnErr result ((kernel.new ≡ kernel.old) × (self.new ≡ self.old)) }
-        ensures frame { Frame P.same P.taken P.posted kernel.old kernel.new }
+        ensures frame { Frame P.same P.consumed P.posted kernel.old kernel.new }
     {
         kernel.txns_commit(alloc, &mut self.region, mask)
     }
 
-    /// Lets a role take in what became of the slots that are done, and makes these idle.
+    /// Lets a role collect what became of the slots that are done, and makes these idle.
     pub(crate) fn collect<P>(&mut self, role: &mut Role<P>)
         ensures slots { self.new ≡ map collected self.old }
         ensures role { role.new ≡ record role.old { mind = thinks role.old.mind (after_all self.old (picture_of role.old.mind)) } }

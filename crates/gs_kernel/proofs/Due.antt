@@ -372,7 +372,7 @@ length_told running None = refl
 length_told running (Some m) = length_freed running (left_by m)
 
 -- what was posted behind a history, there was room for
-pub room_then : {P : Type 0} (same : P → P → Type 0) (taken : P → ℕ) (sent : P → List Message → Type 0) (tight : P → Message → Type 0) (p q : P) (h : History) (m : Option Message) → same p p → sent p (posted h) → same p q → taken q ≡ taken p
-    → sent q (posted (h ++ listed_message m)) → IfSome m (RoomOf same taken sent tight p h true)
-room_then same taken sent tight p q h None r was s t k = tt
-room_then same taken sent tight p q h (Some m) r was s t k = (p, r, refl, was, q, s, t, subst (sent q) (posted-push h (Posted m)) k)
+pub room_then : {P : Type 0} (same : P → P → Type 0) (consumed : P → ℕ) (sent : P → List Message → Type 0) (tight : P → Message → Type 0) (p q : P) (h : History) (m : Option Message) → same p p → sent p (posted h) → same p q → consumed q ≡ consumed p
+    → sent q (posted (h ++ listed_message m)) → IfSome m (RoomOf same consumed sent tight p h true)
+room_then same consumed sent tight p q h None r was s t k = tt
+room_then same consumed sent tight p q h (Some m) r was s t k = (p, r, refl, was, q, s, t, subst (sent q) (posted-push h (Posted m)) k)

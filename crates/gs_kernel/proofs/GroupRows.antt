@@ -6,6 +6,7 @@ use Rattle.gs_layout.specs.declared.message.Change.TheVariants.{Affinity, Create
 use Rattle.gs_layout.specs.declared.message.Message.TheVariants.{Thread}
 use Rattle.gs_layout.specs.declared.outcome.Outcome.{Outcome}
 use Rattle.gs_layout.specs.declared.outcome.Outcome.TheVariants as outcomes
+use Rattle.gs_slots.specs.Flags.{no_flags, single}
 use Rattle.gs_slots.specs.declared.state.SlotState.TheVariants.{Idle, Stamped, Done}
 use Rattle.gs_slots.specs.declared.state.Stamp.{Stamp}
 use Rattle.gs_journal.specs.declared.entry.Entry.TheVariants.{Posted, Placed, Role, Torn}
@@ -31,7 +32,7 @@ facts = record { runnable = true; mask = 7; class = Zero; name = [] }
 
 -- a transaction of a group
 abbrev of_group : ℕ → ℕ → Stamp
-of_group t q = record { generation = 1; tid = t; tseq = q; preempt = false; group = true }
+of_group t q = record { generation = 1; tid = t; tseq = q; flags = record no_flags { group = true } }
 
 -- two threads, the second of which was told of a new mask
 told : History
@@ -100,7 +101,7 @@ abbrev four : History
 four = Role 1 0 ∷ Posted (Thread 1 1 (Created facts)) ∷ Posted (Thread 2 1 (Created facts)) ∷ Posted (Thread 3 1 (Created facts)) ∷ Posted (Thread 4 1 (Created facts)) ∷ Placed 1 1 1 1 ∷ Placed 2 1 2 1 ∷ []
 
 abbrev takes_off : ℕ → Stamp
-takes_off t = record { generation = 1; tid = t; tseq = 1; preempt = true; group = true }
+takes_off t = record { generation = 1; tid = t; tseq = 1; flags = record (single true) { group = true } }
 
 gone_entries : History
 gone_entries = four ++ Posted (Thread 1 2 (Preempted 1)) ∷ Torn ∷ []

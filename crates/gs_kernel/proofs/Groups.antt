@@ -528,7 +528,7 @@ slot_stays : (l : ℕ → Stamp → Landing) (wanted : Bool) (k : ℕ) (z : Slot
 slot_stays l false k z e = refl
 slot_stays l true k Idle e = refl
 slot_stays l true k (Done b o a n) e = refl
-slot_stays l true k (Stamped b) e = by_flag b.group e
+slot_stays l true k (Stamped b) e = by_flag b.flags.group e
   where
     by_flag : (f : Bool) → cond {A = Group} f ((k, b) ∷ []) [] ≡ [] → done_if f b (l k b) ≡ Stamped b
     by_flag true e = absurd cc

@@ -140,10 +140,10 @@ pub bytes_map : (a b : Room) (s : Settings) → Entails a b → EntailsOn (Lands
 bytes_map a b s f h k x o x' h' t = held_map a b s h k (state_in k x) o (state_in k x') h' f t
 
 -- a ring later on tells of no more
-pub room_later : {P : Type 0} (same : P → P → Type 0) (taken : P → ℕ) (sent : P → List Message → Type 0) (tight : P → Message → Type 0) (p q : P) → ((a b c : P) → same a b → same b c → same a c) → same p q → taken q ≡ taken p
-    → Entails (RoomOf same taken sent tight q) (RoomOf same taken sent tight p)
-room_later same taken sent tight p q trans s t h true m x = (x.0, trans p q x.0 s x.1, x.2 ∙ t, x.3, x.4, x.5, x.6, x.7)
-room_later same taken sent tight p q trans s t h false m x = (x.0, trans p q x.0 s x.1, x.2 ∙ t, x.3, x.4)
+pub room_later : {P : Type 0} (same : P → P → Type 0) (consumed : P → ℕ) (sent : P → List Message → Type 0) (tight : P → Message → Type 0) (p q : P) → ((a b c : P) → same a b → same b c → same a c) → same p q → consumed q ≡ consumed p
+    → Entails (RoomOf same consumed sent tight q) (RoomOf same consumed sent tight p)
+room_later same consumed sent tight p q trans s t h true m x = (x.0, trans p q x.0 s x.1, x.2 ∙ t, x.3, x.4, x.5, x.6, x.7)
+room_later same consumed sent tight p q trans s t h false m x = (x.0, trans p q x.0 s x.1, x.2 ∙ t, x.3, x.4)
 
 -- one more slot lands behind others
 others_assoc : {Z : Type 0} (a b c : LandingsOf Z) → then_others a (then_others b c) ≡ then_others (then_others a b) c

@@ -54,7 +54,7 @@ placing_when s h k b e =
     let p5 = passed _ outcomes.NotRunnable _ refl p4.1 in
     let p6 = passed _ outcomes.AlreadyPlaced _ refl p5.1 in
     let p7 = passed _ outcomes.NotAllowed _ refl p6.1 in
-    let cpu = cpu_placed s h k b.preempt p7.1 in
+    let cpu = cpu_placed s h k b.flags.preempt p7.1 in
     record {
       up = p1.0;
       generation = not_not _ p2.0;

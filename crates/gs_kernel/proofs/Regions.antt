@@ -88,7 +88,7 @@ one_behind : (l : ℕ → Stamp → Landing) (mask k : ℕ) (wanted : Bool) (z :
 one_behind l mask k false z zs past n more = stays_behind l mask k z zs past n more
 one_behind l mask k true Idle zs past n more = stays_behind l mask k Idle zs past n more
 one_behind l mask k true (Done b o a q) zs past n more = stays_behind l mask k (Done b o a q) zs past n more
-one_behind l mask k true (Stamped b) zs past n more = by_flag b.group
+one_behind l mask k true (Stamped b) zs past n more = by_flag b.flags.group
   where
     more' : Behind l mask (suc k) zs
     more' = more

@@ -42,7 +42,7 @@ one_rises : (s : Settings) (k : ℕ) (g : Group) (wanted : Bool) (z : SlotState)
 one_rises s k g false z lt r = rises_from s k (suc k) g (omega arith) r
 one_rises s k g true Idle lt r = rises_from s k (suc k) g (omega arith) r
 one_rises s k g true (Done b o a n) lt r = rises_from s k (suc k) g (omega arith) r
-one_rises s k g true (Stamped b) lt r = by_flag b.group
+one_rises s k g true (Stamped b) lt r = by_flag b.flags.group
   where
     more : Rises (suc k) s.cpus g
     more = r
@@ -70,7 +70,7 @@ one_stamped whole k z g false x here is t = t
 one_stamped whole k z g true (Err e) here is t = t
 one_stamped whole k z g true (Ok Idle) here is t = t
 one_stamped whole k z g true (Ok (Done b o a n)) here is t = t
-one_stamped whole k z g true (Ok (Stamped b)) here is t = by_flag b.group
+one_stamped whole k z g true (Ok (Stamped b)) here is t = by_flag b.flags.group
   where
     here' : slice_get whole k ≡ Some z
     here' = here

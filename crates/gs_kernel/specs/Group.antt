@@ -25,7 +25,7 @@ Group = List (ℕ × Stamp)
 
 -- the transaction in the slot of CPU k, if it is wanted, has not landed and is of the group
 abbrev pub grouped : Bool → ℕ → SlotState → Group
-grouped true k (Stamped b) = if b.group then (k, b) ∷ [] else []
+grouped true k (Stamped b) = if b.flags.group then (k, b) ∷ [] else []
 grouped true k Idle = []
 grouped true k (Done b o a n) = []
 grouped false k z = []
@@ -121,7 +121,7 @@ done_if true b l = Done b l.outcome l.at l.seen
 done_if false b l = Stamped b
 
 abbrev pub left_of : (ℕ → Stamp → Landing) → Bool → ℕ → SlotState → SlotState
-left_of l true k (Stamped b) = done_if b.group b (l k b)
+left_of l true k (Stamped b) = done_if b.flags.group b (l k b)
 left_of l true k Idle = Idle
 left_of l true k (Done b o a n) = Done b o a n
 left_of l false k z = z

@@ -83,11 +83,11 @@ last_in (Append victim e) = e
 abbrev pub Room : Type 1
 Room = History → Bool → Message → Type 0
 
--- as an end of a ring tells. From its state, with nothing taken, it can come to one in which the history is posted, and from there to one in which
+-- as an end of a ring tells. From its state, with nothing consumed, it can come to one in which the history is posted, and from there to one in which
 -- the message is too. Or it can come to one in which the history is posted and the message may be refused
 abbrev pub RoomOf : {P : Type 0} → (P → P → Type 0) → (P → ℕ) → (P → List Message → Type 0) → (P → Message → Type 0) → P → Room
-RoomOf {P = P} same taken sent tight p h true m = (q : P) × same p q × (taken q ≡ taken p) × sent q (posted h) × (r : P) × same q r × (taken r ≡ taken q) × sent r (posted h ++ m ∷ [])
-RoomOf {P = P} same taken sent tight p h false m = (q : P) × same p q × (taken q ≡ taken p) × sent q (posted h) × tight q m
+RoomOf {P = P} same consumed sent tight p h true m = (q : P) × same p q × (consumed q ≡ consumed p) × sent q (posted h) × (r : P) × same q r × (consumed r ≡ consumed q) × sent r (posted h ++ m ∷ [])
+RoomOf {P = P} same consumed sent tight p h false m = (q : P) × same p q × (consumed q ≡ consumed p) × sent q (posted h) × tight q m
 
 -- the message, if there is one, fits, and all is added; or it does not, and in place of all of it the enclave is torn down
 abbrev pub Tells : Room → History → Effect → Bool → History → Type 0
@@ -109,11 +109,11 @@ abbrev pub Legal : Room → Settings → History → Bool → Command → Result
 Legal room s h given c (Err r) h' = IsRefusal (refusal s h given c) r × (h' ≡ h)
 Legal room s h given c (Ok x) h' = Serves room s h given c (is_done x) h'
 
--- What no call touches: the ring and what was taken from it, the numbers, and whether the last page was given. What was sent is what the
+-- What no call touches: the ring and what was consumed from it, the numbers, and whether the last page was given. What was sent is what the
 -- journal says was posted.
-pub record Frame {P : Type 0} (same : P → P → Type 0) (taken : P → ℕ) (sent : P → List Message → Type 0) (a b : KernelOf P) : Type 0 where
+pub record Frame {P : Type 0} (same : P → P → Type 0) (consumed : P → ℕ) (sent : P → List Message → Type 0) (a b : KernelOf P) : Type 0 where
   pub ring : same a.poster b.poster
-  pub stays : taken b.poster ≡ taken a.poster
+  pub stays : consumed b.poster ≡ consumed a.poster
   pub told : sent b.poster (posted b.history)
   pub settings : b.settings ≡ a.settings
   pub pages : b.paged ≡ a.paged
@@ -125,7 +125,7 @@ paged_by _ _ p = p
 
 -- A call that tells a kernel to do something: the step is legal. If it is refused, all is as before, but that more threads may find room. The frame
 -- stays, but that once a begin was done no page was given since.
-pub record IsServed {P : Type 0} (same : P → P → Type 0) (taken : P → ℕ) (sent : P → List Message → Type 0) (tight : P → Message → Type 0) (a : KernelOf P) (c : Command) (r : Result Executed Refusal) (b : KernelOf P) : Type 0 where
-  pub legal : Legal (RoomOf same taken sent tight a.poster) a.settings a.history a.paged c r b.history
+pub record IsServed {P : Type 0} (same : P → P → Type 0) (consumed : P → ℕ) (sent : P → List Message → Type 0) (tight : P → Message → Type 0) (a : KernelOf P) (c : Command) (r : Result Executed Refusal) (b : KernelOf P) : Type 0 where
+  pub legal : Legal (RoomOf same consumed sent tight a.poster) a.settings a.history a.paged c r b.history
   pub refused : OnErr r (b ≡ record a { rows = b.rows })
-  pub frame : Frame same taken sent (record a { paged = paged_by r c a.paged }) b
+  pub frame : Frame same consumed sent (record a { paged = paged_by r c a.paged }) b

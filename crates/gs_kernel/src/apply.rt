@@ -24,8 +24,8 @@ impl<P: Poster> Kernel<P> {
         requires free { refusal self.old.settings self.old.history self.old.paged command.now ≡ None }
         requires room { most_entries command.now ≤ self.old.room }
         requires rows { creates command.now ≡ true → 0 < self.old.rows }
-        ensures told { Tells (RoomOf P.same P.taken P.posted P.tight self.old.poster) self.old.history (effect self.old.settings self.old.history command.now) result self.new.history }
-        ensures frame { Frame P.same P.taken P.posted self.old self.new }
+        ensures told { Tells (RoomOf P.same P.consumed P.posted P.tight self.old.poster) self.old.history (effect self.old.settings self.old.history command.now) result self.new.history }
+        ensures frame { Frame P.same P.consumed P.posted self.old self.new }
     {
         // A look at a field, by which the proof has what the kernel keeps.
         let _settings = &self.settings;
@@ -47,8 +47,8 @@ impl<P: Poster> Kernel<P> {
         requires free { refusal self.old.settings self.old.history self.old.paged (Command.Create facts.now) ≡ None }
         requires room { 1 ≤ self.old.room }
         requires rows { 0 < self.old.rows }
-        ensures told { Tells (RoomOf P.same P.taken P.posted P.tight self.old.poster) self.old.history (effect self.old.settings self.old.history (Command.Create facts.now)) result self.new.history }
-        ensures frame { Frame P.same P.taken P.posted self.old self.new }
+        ensures told { Tells (RoomOf P.same P.consumed P.posted P.tight self.old.poster) self.old.history (effect self.old.settings self.old.history (Command.Create facts.now)) result self.new.history }
+        ensures frame { Frame P.same P.consumed P.posted self.old self.new }
     {
         let message = self.creation(facts);
         self.tell_message(&message)
@@ -58,8 +58,8 @@ impl<P: Poster> Kernel<P> {
     fn tell_happening(&mut self, tid: u32, event: ThreadEvent) -> bool
         requires free { refusal self.old.settings self.old.history self.old.paged (Command.Thread tid event) ≡ None }
         requires room { 1 ≤ self.old.room }
-        ensures told { Tells (RoomOf P.same P.taken P.posted P.tight self.old.poster) self.old.history (effect self.old.settings self.old.history (Command.Thread tid event)) result self.new.history }
-        ensures frame { Frame P.same P.taken P.posted self.old self.new }
+        ensures told { Tells (RoomOf P.same P.consumed P.posted P.tight self.old.poster) self.old.history (effect self.old.settings self.old.history (Command.Thread tid event)) result self.new.history }
+        ensures frame { Frame P.same P.consumed P.posted self.old self.new }
     {
         let message = self.happening(tid, event);
         self.tell_message(&message)
@@ -69,8 +69,8 @@ impl<P: Poster> Kernel<P> {
     fn tell_taking(&mut self, cpu: u16) -> bool
         requires free { refusal self.old.settings self.old.history self.old.paged (Command.Take cpu) ≡ None }
         requires room { 2 ≤ self.old.room }
-        ensures told { Tells (RoomOf P.same P.taken P.posted P.tight self.old.poster) self.old.history (effect self.old.settings self.old.history (Command.Take cpu)) result self.new.history }
-        ensures frame { Frame P.same P.taken P.posted self.old self.new }
+        ensures told { Tells (RoomOf P.same P.consumed P.posted P.tight self.old.poster) self.old.history (effect self.old.settings self.old.history (Command.Take cpu)) result self.new.history }
+        ensures frame { Frame P.same P.consumed P.posted self.old self.new }
     {
         let victim = self.preemption(cpu);
         self.tell_entry(victim, Entry::Taken { cpu })
@@ -80,8 +80,8 @@ impl<P: Poster> Kernel<P> {
     fn tell_giving(&mut self, cpu: u16) -> bool
         requires free { refusal self.old.settings self.old.history self.old.paged (Command.Give cpu) ≡ None }
         requires room { 1 ≤ self.old.room }
-        ensures told { Tells (RoomOf P.same P.taken P.posted P.tight self.old.poster) self.old.history (effect self.old.settings self.old.history (Command.Give cpu)) result self.new.history }
-        ensures frame { Frame P.same P.taken P.posted self.old self.new }
+        ensures told { Tells (RoomOf P.same P.consumed P.posted P.tight self.old.poster) self.old.history (effect self.old.settings self.old.history (Command.Give cpu)) result self.new.history }
+        ensures frame { Frame P.same P.consumed P.posted self.old self.new }
     {
         self.tell_entry(None, Entry::Given { cpu })
     }
@@ -90,8 +90,8 @@ impl<P: Poster> Kernel<P> {
     fn tell_tick(&mut self, cpu: u16) -> bool
         requires free { refusal self.old.settings self.old.history self.old.paged (Command.Tick cpu) ≡ None }
         requires room { 1 ≤ self.old.room }
-        ensures told { Tells (RoomOf P.same P.taken P.posted P.tight self.old.poster) self.old.history (effect self.old.settings self.old.history (Command.Tick cpu)) result self.new.history }
-        ensures frame { Frame P.same P.taken P.posted self.old self.new }
+        ensures told { Tells (RoomOf P.same P.consumed P.posted P.tight self.old.poster) self.old.history (effect self.old.settings self.old.history (Command.Tick cpu)) result self.new.history }
+        ensures frame { Frame P.same P.consumed P.posted self.old self.new }
     {
         // A look at a field, by which the proof has what the kernel keeps.
         let _settings = &self.settings;
@@ -102,8 +102,8 @@ impl<P: Poster> Kernel<P> {
     fn tell_hand_off(&mut self, cpu: u16) -> bool
         requires free { refusal self.old.settings self.old.history self.old.paged (Command.HandOff cpu) ≡ None }
         requires room { 2 ≤ self.old.room }
-        ensures told { Tells (RoomOf P.same P.taken P.posted P.tight self.old.poster) self.old.history (effect self.old.settings self.old.history (Command.HandOff cpu)) result self.new.history }
-        ensures frame { Frame P.same P.taken P.posted self.old self.new }
+        ensures told { Tells (RoomOf P.same P.consumed P.posted P.tight self.old.poster) self.old.history (effect self.old.settings self.old.history (Command.HandOff cpu)) result self.new.history }
+        ensures frame { Frame P.same P.consumed P.posted self.old self.new }
     {
         let effect = self.handing_over(cpu);
         self.tell(&effect)
@@ -113,8 +113,8 @@ impl<P: Poster> Kernel<P> {
     fn tell_leaving(&mut self) -> bool
         requires free { refusal self.old.settings self.old.history self.old.paged Command.Leave ≡ None }
         requires room { 1 ≤ self.old.room }
-        ensures told { Tells (RoomOf P.same P.taken P.posted P.tight self.old.poster) self.old.history (effect self.old.settings self.old.history Command.Leave) result self.new.history }
-        ensures frame { Frame P.same P.taken P.posted self.old self.new }
+        ensures told { Tells (RoomOf P.same P.consumed P.posted P.tight self.old.poster) self.old.history (effect self.old.settings self.old.history Command.Leave) result self.new.history }
+        ensures frame { Frame P.same P.consumed P.posted self.old self.new }
     {
         self.tell_entry(None, Entry::Left)
     }
@@ -123,8 +123,8 @@ impl<P: Poster> Kernel<P> {
     fn tell_beginning(&mut self) -> bool
         requires free { refusal self.old.settings self.old.history self.old.paged Command.Begin ≡ None }
         requires room { 1 ≤ self.old.room }
-        ensures told { Tells (RoomOf P.same P.taken P.posted P.tight self.old.poster) self.old.history (effect self.old.settings self.old.history Command.Begin) result self.new.history }
-        ensures frame { Frame P.same P.taken P.posted self.old self.new }
+        ensures told { Tells (RoomOf P.same P.consumed P.posted P.tight self.old.poster) self.old.history (effect self.old.settings self.old.history Command.Begin) result self.new.history }
+        ensures frame { Frame P.same P.consumed P.posted self.old self.new }
     {
         let generation = self.next_generation();
         self.tell_entry(None, Entry::Begin { generation })
@@ -134,8 +134,8 @@ impl<P: Poster> Kernel<P> {
     fn tell_activation(&mut self, cpu: u16) -> bool
         requires free { refusal self.old.settings self.old.history self.old.paged (Command.Activate cpu) ≡ None }
         requires room { 2 ≤ self.old.room }
-        ensures told { Tells (RoomOf P.same P.taken P.posted P.tight self.old.poster) self.old.history (effect self.old.settings self.old.history (Command.Activate cpu)) result self.new.history }
-        ensures frame { Frame P.same P.taken P.posted self.old self.new }
+        ensures told { Tells (RoomOf P.same P.consumed P.posted P.tight self.old.poster) self.old.history (effect self.old.settings self.old.history (Command.Activate cpu)) result self.new.history }
+        ensures frame { Frame P.same P.consumed P.posted self.old self.new }
     {
         let effect = self.activating(cpu);
         self.tell(&effect)
@@ -148,8 +148,8 @@ impl<P: Poster> Kernel<P> {
         requires spellable { IfSome victim IsSpellable }
         requires room { length (entries_in (Effect.Append victim entry)) ≤ self.old.room }
         requires rows { IfSome victim (λ m. is_some (created_in m) ≡ true → 0 < self.old.rows) }
-        ensures told { Tells (RoomOf P.same P.taken P.posted P.tight self.old.poster) self.old.history (Effect.Append victim entry) result self.new.history }
-        ensures frame { Frame P.same P.taken P.posted self.old self.new }
+        ensures told { Tells (RoomOf P.same P.consumed P.posted P.tight self.old.poster) self.old.history (Effect.Append victim entry) result self.new.history }
+        ensures frame { Frame P.same P.consumed P.posted self.old self.new }
     {
         self.tell(&Effect::Append { victim, entry })
     }

@@ -24,7 +24,7 @@ impl<P: Poster> Kernel<P> {
     /// The first refusal that applies ([`Kernel::refusal`]), and then nothing changes. It is `OutOfMemory` only if no
     /// other applies and it is out of memory.
     pub fn execute(&mut self, command: &Command) -> Result<Executed, Refusal>
-        ensures { IsServed P.same P.taken P.posted P.tight self.old command.now result self.new }
+        ensures { IsServed P.same P.consumed P.posted P.tight self.old command.now result self.new }
     {
         // A look at a field, by which the proof has what the kernel keeps.
         let _settings = &self.settings;
@@ -109,14 +109,14 @@ impl<P: Poster> Kernel<P> {
 
     /// Creates a thread: [`Kernel::execute`] of this one command, as each of the calls below.
     pub fn create(&mut self, facts: &Facts) -> Result<Executed, Refusal>
-        ensures { IsServed P.same P.taken P.posted P.tight self.old (Command.Create facts.now) result self.new }
+        ensures { IsServed P.same P.consumed P.posted P.tight self.old (Command.Create facts.now) result self.new }
     {
         self.execute(&Command::Create { facts: *facts })
     }
 
     /// Blocks a thread, on its CPU.
     pub fn block(&mut self, tid: u32) -> Result<Executed, Refusal>
-        ensures { IsServed P.same P.taken P.posted P.tight self.old (Command.Thread tid ThreadEvent.Block) result self.new }
+        ensures { IsServed P.same P.consumed P.posted P.tight self.old (Command.Thread tid ThreadEvent.Block) result self.new }
     {
         self.execute(&Command::Thread {
             tid,
@@ -126,7 +126,7 @@ impl<P: Poster> Kernel<P> {
 
     /// Wakes a thread, which may run again.
     pub fn wake(&mut self, tid: u32) -> Result<Executed, Refusal>
-        ensures { IsServed P.same P.taken P.posted P.tight self.old (Command.Thread tid ThreadEvent.Wake) result self.new }
+        ensures { IsServed P.same P.consumed P.posted P.tight self.old (Command.Thread tid ThreadEvent.Wake) result self.new }
     {
         self.execute(&Command::Thread {
             tid,
@@ -136,7 +136,7 @@ impl<P: Poster> Kernel<P> {
 
     /// Gives up a thread's CPU. The thread may run on.
     pub fn yield_cpu(&mut self, tid: u32) -> Result<Executed, Refusal>
-        ensures { IsServed P.same P.taken P.posted P.tight self.old (Command.Thread tid ThreadEvent.Yield) result self.new }
+        ensures { IsServed P.same P.consumed P.posted P.tight self.old (Command.Thread tid ThreadEvent.Yield) result self.new }
     {
         self.execute(&Command::Thread {
             tid,
@@ -146,7 +146,7 @@ impl<P: Poster> Kernel<P> {
 
     /// Ends a thread.
     pub fn die(&mut self, tid: u32) -> Result<Executed, Refusal>
-        ensures { IsServed P.same P.taken P.posted P.tight self.old (Command.Thread tid ThreadEvent.Die) result self.new }
+        ensures { IsServed P.same P.consumed P.posted P.tight self.old (Command.Thread tid ThreadEvent.Die) result self.new }
     {
         self.execute(&Command::Thread {
             tid,
@@ -156,7 +156,7 @@ impl<P: Poster> Kernel<P> {
 
     /// Sets the mask of a thread: from now on it may run on the CPUs of the mask.
     pub fn affinity(&mut self, tid: u32, mask: Mask) -> Result<Executed, Refusal>
-        ensures { IsServed P.same P.taken P.posted P.tight self.old (Command.Thread tid (ThreadEvent.Affinity mask)) result self.new }
+        ensures { IsServed P.same P.consumed P.posted P.tight self.old (Command.Thread tid (ThreadEvent.Affinity mask)) result self.new }
     {
         self.execute(&Command::Thread {
             tid,
@@ -166,49 +166,49 @@ impl<P: Poster> Kernel<P> {
 
     /// Takes a CPU for the other scheduling class.
     pub fn take(&mut self, cpu: u16) -> Result<Executed, Refusal>
-        ensures { IsServed P.same P.taken P.posted P.tight self.old (Command.Take cpu) result self.new }
+        ensures { IsServed P.same P.consumed P.posted P.tight self.old (Command.Take cpu) result self.new }
     {
         self.execute(&Command::Take { cpu })
     }
 
     /// Gives a CPU back that the other scheduling class holds.
     pub fn give(&mut self, cpu: u16) -> Result<Executed, Refusal>
-        ensures { IsServed P.same P.taken P.posted P.tight self.old (Command.Give cpu) result self.new }
+        ensures { IsServed P.same P.consumed P.posted P.tight self.old (Command.Give cpu) result self.new }
     {
         self.execute(&Command::Give { cpu })
     }
 
     /// Ticks the timer of a CPU.
     pub fn tick(&mut self, cpu: u16) -> Result<Executed, Refusal>
-        ensures { IsServed P.same P.taken P.posted P.tight self.old (Command.Tick cpu) result self.new }
+        ensures { IsServed P.same P.consumed P.posted P.tight self.old (Command.Tick cpu) result self.new }
     {
         self.execute(&Command::Tick { cpu })
     }
 
     /// Hands the active agent over to a CPU.
     pub fn hand_off(&mut self, cpu: u16) -> Result<Executed, Refusal>
-        ensures { IsServed P.same P.taken P.posted P.tight self.old (Command.HandOff cpu) result self.new }
+        ensures { IsServed P.same P.consumed P.posted P.tight self.old (Command.HandOff cpu) result self.new }
     {
         self.execute(&Command::HandOff { cpu })
     }
 
     /// Ends the agent, which leaves or crashed.
     pub fn leave(&mut self) -> Result<Executed, Refusal>
-        ensures { IsServed P.same P.taken P.posted P.tight self.old Command.Leave result self.new }
+        ensures { IsServed P.same P.consumed P.posted P.tight self.old Command.Leave result self.new }
     {
         self.execute(&Command::Leave)
     }
 
     /// Begins a new agent, which attaches then.
     pub fn begin(&mut self) -> Result<Executed, Refusal>
-        ensures { IsServed P.same P.taken P.posted P.tight self.old Command.Begin result self.new }
+        ensures { IsServed P.same P.consumed P.posted P.tight self.old Command.Begin result self.new }
     {
         self.execute(&Command::Begin)
     }
 
     /// Activates the agent that attaches, on a CPU.
     pub fn activate(&mut self, cpu: u16) -> Result<Executed, Refusal>
-        ensures { IsServed P.same P.taken P.posted P.tight self.old (Command.Activate cpu) result self.new }
+        ensures { IsServed P.same P.consumed P.posted P.tight self.old (Command.Activate cpu) result self.new }
     {
         self.execute(&Command::Activate { cpu })
     }

@@ -38,8 +38,8 @@ impl<P: Poster> Kernel<P> {
         requires stamped { AreStamped region.old group.now }
         requires entries { min (2 * length group.now) (self.old.settings.history - length self.old.history) ≤ self.old.room }
         requires room { vec_len landings.old + length group.now ≤ vec_capacity landings.old }
-        ensures lands { Adds (LandsTogether (RoomOf P.same P.taken P.posted P.tight self.old.poster) self.old.settings group.now region.old self.old.history) landings.old.items landings.new.items region.new self.new.history }
-        ensures frame { Frame P.same P.taken P.posted self.old self.new }
+        ensures lands { Adds (LandsTogether (RoomOf P.same P.consumed P.posted P.tight self.old.poster) self.old.settings group.now region.old self.old.history) landings.old.items landings.new.items region.new self.new.history }
+        ensures frame { Frame P.same P.consumed P.posted self.old self.new }
         ensures entries { self.old.room + length self.old.history ≤ self.new.room + length self.new.history }
         ensures grown { length self.old.history ≤ length self.new.history }
         ensures most { length self.new.history ≤ length self.old.history + 2 * length group.now }
@@ -64,9 +64,9 @@ impl<P: Poster> Kernel<P> {
         requires marked { AreMarked repeated group.now group.now }
         requires few { length group.now ≤ MOST_CPUS }
         requires entries { min (2 * length group.now) (self.old.settings.history - length self.old.history) ≤ self.old.room }
-        ensures settles { SettlesGroup (RoomOf P.same P.taken P.posted P.tight self.old.poster) self.old.settings self.old.history group.now result self.new.history }
+        ensures settles { SettlesGroup (RoomOf P.same P.consumed P.posted P.tight self.old.poster) self.old.settings self.old.history group.now result self.new.history }
         ensures known { IfSome result (λ o. is_malformed o ≡ false) }
-        ensures frame { Frame P.same P.taken P.posted self.old self.new }
+        ensures frame { Frame P.same P.consumed P.posted self.old self.new }
         ensures room { self.old.room + length self.old.history ≤ self.new.room + length self.new.history }
     {
         // A look at a field, by which the proof has what the kernel keeps.
@@ -152,8 +152,8 @@ impl<P: Poster> Kernel<P> {
         requires rises { Rises 0 self.old.settings.cpus group.now }
         requires placed { is_group_placed self.old.settings self.old.history group.now ≡ true }
         requires room { group_entries self.old.history group.now ≤ self.old.room }
-        ensures puts { Puts (RoomOf P.same P.taken P.posted P.tight self.old.poster) self.old.settings self.old.history group.now result self.new.history }
-        ensures frame { Frame P.same P.taken P.posted self.old self.new }
+        ensures puts { Puts (RoomOf P.same P.consumed P.posted P.tight self.old.poster) self.old.settings self.old.history group.now result self.new.history }
+        ensures frame { Frame P.same P.consumed P.posted self.old self.new }
         ensures room { self.old.room + length self.old.history ≤ self.new.room + length self.new.history }
     {
         // A look at a field, by which the proof has what the kernel keeps.
@@ -172,8 +172,8 @@ impl<P: Poster> Kernel<P> {
         requires numbers { is_spent_there self.old.settings self.old.history (on self.old.history cpu) ≡ false }
         requires room { 0 < self.old.room }
         requires few { length self.old.history < self.old.settings.history }
-        ensures gives { GivesWay (RoomOf P.same P.taken P.posted P.tight self.old.poster) self.old.history (preemption self.old.settings self.old.history cpu) result self.new.history }
-        ensures frame { Frame P.same P.taken P.posted self.old self.new }
+        ensures gives { GivesWay (RoomOf P.same P.consumed P.posted P.tight self.old.poster) self.old.history (preemption self.old.settings self.old.history cpu) result self.new.history }
+        ensures frame { Frame P.same P.consumed P.posted self.old self.new }
         ensures room { self.old.room + length self.old.history ≤ self.new.room + length self.new.history }
     {
         // A look at a field, by which the proof has what the kernel keeps.
@@ -190,8 +190,8 @@ impl<P: Poster> Kernel<P> {
         requires numbered { AreNumbered self.old.settings self.old.history group.now }
         requires room { length group.now ≤ self.old.room }
         requires few { length self.old.history + length group.now ≤ self.old.settings.history }
-        ensures gives { GiveWay (RoomOf P.same P.taken P.posted P.tight self.old.poster) self.old.settings group.now self.old.history result self.new.history }
-        ensures frame { Frame P.same P.taken P.posted self.old self.new }
+        ensures gives { GiveWay (RoomOf P.same P.consumed P.posted P.tight self.old.poster) self.old.settings group.now self.old.history result self.new.history }
+        ensures frame { Frame P.same P.consumed P.posted self.old self.new }
         ensures room { self.old.room + length self.old.history ≤ self.new.room + length self.new.history }
     {
         // A look at a field, by which the proof has what the kernel keeps.
@@ -213,7 +213,7 @@ impl<P: Poster> Kernel<P> {
         requires room { length group.now ≤ self.old.room }
         requires few { length self.old.history + length group.now ≤ self.old.settings.history }
         ensures placed { self.new.history ≡ self.old.history ++ placings group.now }
-        ensures frame { Frame P.same P.taken P.posted self.old self.new }
+        ensures frame { Frame P.same P.consumed P.posted self.old self.new }
         ensures room { self.old.room + length self.old.history ≤ self.new.room + length self.new.history }
     {
         // A look at a field, by which the proof has what the kernel keeps.
@@ -317,7 +317,7 @@ fn add_member(group: &mut Vec<(u16, Stamp)>, cpu: u16, region: &Region) -> Resul
         return Ok(());
     }
     match region.state(cpu) {
-        Ok(SlotState::Stamped { stamp }) if stamp.group => match group.push((cpu, stamp)) {
+        Ok(SlotState::Stamped { stamp }) if stamp.flags.group => match group.push((cpu, stamp)) {
             Ok(()) => Ok(()),
             Err(_) => Err(AllocError),
         },
@@ -330,6 +330,7 @@ fn add_member(group: &mut Vec<(u16, Stamp)>, cpu: u16, region: &Region) -> Resul
 /// # Errors
 ///
 /// `AllocError` if out of memory.
+#[inline(always)]
 pub(crate) fn group_of(
     alloc: Global,
     region: &Region,

@@ -52,7 +52,7 @@ impl<P: Poster> Kernel<P> {
         if !facts.mask.has(cpu) {
             return Outcome::NotAllowed;
         }
-        self.cpu_verdict(cpu, slot.preempt)
+        self.cpu_verdict(cpu, slot.flags.preempt)
     }
 
     /// Returns whether a CPU may be given to a thread, by a transaction that takes the thread there off or
@@ -108,11 +108,11 @@ impl<P: Poster> Kernel<P> {
     /// reserved for its entries: one, and one more if a thread is taken off. Then nothing changes.
     pub fn land(&mut self, slot: SlotMut<'_>) -> Result<Option<Landing>, AllocError>
         requires { cpu_of slot < self.old.settings.cpus }
-        ensures lands { IfOk result (λ o. LandsBytes (RoomOf P.same P.taken P.posted P.tight self.old.poster) self.old.settings self.old.history (cpu_of slot.entry) (bytes_of slot.entry) o (left_in slot.exit) self.new.history) }
+        ensures lands { IfOk result (λ o. LandsBytes (RoomOf P.same P.consumed P.posted P.tight self.old.poster) self.old.settings self.old.history (cpu_of slot.entry) (bytes_of slot.entry) o (left_in slot.exit) self.new.history) }
         ensures refused { OnErr result ((self.new ≡ self.old) × (left_in slot.exit ≡ bytes_of slot.entry)) }
         ensures memory { OnErr result (verdict_in self.old.settings self.old.history (cpu_of slot.entry) (state_of slot.entry) ≡ Some Outcome.Placed) }
         ensures reserved { OnErr result (self.old.room < placing_entries (on self.old.history (cpu_of slot.entry))) }
-        ensures frame { Frame P.same P.taken P.posted self.old self.new }
+        ensures frame { Frame P.same P.consumed P.posted self.old self.new }
         ensures room { self.old.room + length self.old.history ≤ self.new.room + length self.new.history }
     {
         // A look at a field, by which the proof has what the kernel keeps.
@@ -135,13 +135,13 @@ impl<P: Poster> Kernel<P> {
     /// As of [`Kernel::land`].
     pub fn land_stamp(&mut self, cpu: u16, slot: &Stamp) -> Result<Landing, AllocError>
         requires { cpu < self.old.settings.cpus }
-        ensures lands { IfOk result (λ l. Lands (RoomOf P.same P.taken P.posted P.tight self.old.poster) self.old.settings self.old.history cpu slot.now l self.new.history) }
+        ensures lands { IfOk result (λ l. Lands (RoomOf P.same P.consumed P.posted P.tight self.old.poster) self.old.settings self.old.history cpu slot.now l self.new.history) }
         ensures known { IfOk result (λ l. is_malformed l.outcome ≡ false) }
         ensures below { IfOk result (λ l. IsCpuOrNone l.at) }
         ensures refused { OnErr result (self.new ≡ self.old) }
         ensures memory { OnErr result (verdict self.old.settings self.old.history cpu slot.now ≡ Outcome.Placed) }
         ensures reserved { OnErr result (self.old.room < placing_entries (on self.old.history cpu)) }
-        ensures frame { Frame P.same P.taken P.posted self.old self.new }
+        ensures frame { Frame P.same P.consumed P.posted self.old self.new }
         ensures room { self.old.room + length self.old.history ≤ self.new.room + length self.new.history }
     {
         let judged = self.verdict(cpu, slot);
@@ -161,12 +161,12 @@ impl<P: Poster> Kernel<P> {
         requires cpu { cpu < self.old.settings.cpus }
         requires verdict { judged ≡ verdict self.old.settings self.old.history cpu slot.now }
         requires known { is_malformed judged ≡ false }
-        ensures settles { IfOk result (λ o. Settles (RoomOf P.same P.taken P.posted P.tight self.old.poster) self.old.settings self.old.history cpu slot.now judged o self.new.history) }
+        ensures settles { IfOk result (λ o. Settles (RoomOf P.same P.consumed P.posted P.tight self.old.poster) self.old.settings self.old.history cpu slot.now judged o self.new.history) }
         ensures known { IfOk result (λ o. is_malformed o ≡ false) }
         ensures refused { OnErr result (self.new ≡ self.old) }
         ensures memory { OnErr result (judged ≡ Outcome.Placed) }
         ensures reserved { OnErr result (self.old.room < placing_entries (on self.old.history cpu)) }
-        ensures frame { Frame P.same P.taken P.posted self.old self.new }
+        ensures frame { Frame P.same P.consumed P.posted self.old self.new }
         ensures room { self.old.room + length self.old.history ≤ self.new.room + length self.new.history }
     {
         // A look at a field, by which the proof has what the kernel keeps.
@@ -186,10 +186,10 @@ impl<P: Poster> Kernel<P> {
     fn place(&mut self, cpu: u16, slot: &Stamp) -> Result<bool, AllocError>
         requires cpu { cpu < self.old.settings.cpus }
         requires placed { verdict self.old.settings self.old.history cpu slot.now ≡ Outcome.Placed }
-        ensures tells { IfOk result (λ fit. Tells (RoomOf P.same P.taken P.posted P.tight self.old.poster) self.old.history (placement self.old.settings self.old.history cpu slot.now) fit self.new.history) }
+        ensures tells { IfOk result (λ fit. Tells (RoomOf P.same P.consumed P.posted P.tight self.old.poster) self.old.history (placement self.old.settings self.old.history cpu slot.now) fit self.new.history) }
         ensures refused { OnErr result (self.new ≡ self.old) }
         ensures reserved { OnErr result (self.old.room < placing_entries (on self.old.history cpu)) }
-        ensures frame { Frame P.same P.taken P.posted self.old self.new }
+        ensures frame { Frame P.same P.consumed P.posted self.old self.new }
         ensures room { self.old.room + length self.old.history ≤ self.new.room + length self.new.history }
     {
         let entries = self.placing_entries(cpu);

@@ -30,8 +30,8 @@ impl<P: Poster> Kernel<P> {
         requires spellable { IfSome (message_in effect.now) IsSpellable }
         requires room { length (entries_in effect.now) ≤ self.old.room }
         requires rows { IfSome (message_in effect.now) (λ m. is_some (created_in m) ≡ true → 0 < self.old.rows) }
-        ensures tells { Tells (RoomOf P.same P.taken P.posted P.tight self.old.poster) self.old.history effect.now result self.new.history }
-        ensures frame { Frame P.same P.taken P.posted self.old self.new }
+        ensures tells { Tells (RoomOf P.same P.consumed P.posted P.tight self.old.poster) self.old.history effect.now result self.new.history }
+        ensures frame { Frame P.same P.consumed P.posted self.old self.new }
         ensures room { self.old.room + length self.old.history ≤ self.new.room + length self.new.history }
     {
         if !send(&mut self.journal, &mut self.poster, effect) {
@@ -52,8 +52,8 @@ impl<P: Poster> Kernel<P> {
         requires spellable { IsSpellable message.now }
         requires room { 0 < self.old.room }
         requires rows { is_some (created_in message.now) ≡ true → 0 < self.old.rows }
-        ensures tells { Tells (RoomOf P.same P.taken P.posted P.tight self.old.poster) self.old.history (Effect.Post message.now) result self.new.history }
-        ensures frame { Frame P.same P.taken P.posted self.old self.new }
+        ensures tells { Tells (RoomOf P.same P.consumed P.posted P.tight self.old.poster) self.old.history (Effect.Post message.now) result self.new.history }
+        ensures frame { Frame P.same P.consumed P.posted self.old self.new }
         ensures room { self.old.room + length self.old.history ≤ self.new.room + length self.new.history }
     {
         if !post(&mut self.journal, &mut self.poster, message) {
@@ -78,7 +78,7 @@ fn send<P: Poster>(journal: &mut Journal, poster: &mut P, effect: &Effect) -> bo
     ensures told { P.posted poster.old (posted journal.old.entries) → P.posted poster.new (posted journal.new.entries) }
     ensures tight { result ≡ false → (m : Message) × (message_in effect.now ≡ Some m) × P.tight poster.old m }
     ensures ring { P.same poster.old poster.new }
-    ensures stays { P.taken poster.new ≡ P.taken poster.old }
+    ensures stays { P.consumed poster.new ≡ P.consumed poster.old }
     ensures room { journal.old.room ≤ journal.new.room + length (listed_message (message_in effect.now)) }
 {
     match effect {

@@ -21,7 +21,7 @@ impl Poster for RtrbPoster {
 
     ghost count = { posts };
 
-    ghost taken = { λ _. 0 };
+    ghost consumed = { λ _. 0 };
 
     ghost tight = { IsTight };
 

@@ -108,7 +108,7 @@ pub old_picture : (v v' : Look) (s : Cpus) (q q' : Queue) (m : Message) → is_a
 old_picture v v' s q q' m e known b =
     same_picture v' v s s (bare q') (bare q) (λ t. known t ∙ old_news v m e t) refl b ∙ sym (leaves (word v m) m (parts v s (bare q)) e)
 
--- what was taken in and did not apply
+-- what was followed and did not apply
 pub not_applied : (t : News) → t ≢ news.Applied → is_applied (word_of t) ≡ false
 not_applied news.Applied n = absurd (n refl)
 not_applied news.Skipped n = refl

@@ -1,4 +1,4 @@
--- A page's records are taken in one after another, and the queue holds just who waits after each.
+-- A page's records are followed one after another, and the queue holds just who waits after each.
 use Rattle.std.proofs.Common.{◌≡◌, refl, ap, sym, ◌∙◌, subst, ℕ, zero, suc, ◌≤◌, ◌==◌, Bool, true, false, cond, Option, None, Some, List, [], ◌∷◌, ◌++◌, slice_get, arith}
 use Rattle.std.specs.List.{AllByRecursion, list_any}
 use Rattle.std.specs.Option.{option_to_list}
@@ -121,7 +121,7 @@ record_picture v v' s s' q q' r known a b =
     ∙ (ap (λ (x : Cpus). parts v' x (settled_all v' x (touched r s) q)) a
     ∙ ap (λ (w : Look). parts w (told_on r.tid r.known.tseq r.cpu s) (settled_all w (told_on r.tid r.known.tseq r.cpu s) (touched r s) q)) known)
 
--- a page's records were taken in up to one, and then that one
+-- a page's records were followed up to one, and then that one
 pub records_more : (xs ys : List DumpRecord) (r : DumpRecord) (v v' : Look) (s s' : Cpus) (q q' : Queue) (p : Picture) → ys ≡ xs ++ r ∷ []
     → parts v s q ≡ after_page xs p → ((t : ℕ) → v' t ≡ with_record r v t) → s' ≡ told_on r.tid r.known.tseq r.cpu s
     → q' ≡ settled_all v' s' (touched r s) q → parts v' s' q' ≡ after_page ys p

@@ -9,6 +9,7 @@ use Rattle.gs_layout.specs.declared.message.Message.TheVariants.{Thread, TimerTi
 use Rattle.gs_layout.specs.declared.outcome.Outcome.{Outcome}
 use Rattle.gs_layout.specs.declared.outcome.Outcome.TheVariants.{Placed, AlreadyPlaced, Stale}
 use Rattle.gs_layout.specs.View.{look_up}
+use Rattle.gs_slots.specs.Flags.{single}
 use Rattle.gs_slots.specs.declared.state.SlotState.{SlotState}
 use Rattle.gs_slots.specs.declared.state.SlotState.TheVariants.{Idle, Stamped, Done}
 use Rattle.gs_beliefs.specs.declared.running.Running.{Running}
@@ -57,7 +58,7 @@ stamped = knows (cpus None None (Some 7) None) (queue (8 ∷ []) (9 ∷ []))
 
 -- a transaction of a thread that landed
 abbrev landed : ℕ → Outcome → Option ℕ → SlotState
-landed t outcome at = Done (record { generation = 3; tid = t; tseq = 5; preempt = true; group = false }) outcome at 5
+landed t outcome at = Done (record { generation = 3; tid = t; tseq = 5; flags = single true }) outcome at 5
 
 -- who begins to wait goes last of its class
 created_row : (takes_in (created 7 Zero true) blank).queue ≡ queue (7 ∷ []) []
@@ -148,7 +149,7 @@ another_stamp_row = refl
 idle_row : after_slot 1 Idle stamped ≡ stamped
 idle_row = refl
 
-stamped_row : after_slot 1 (Stamped (record { generation = 3; tid = 7; tseq = 5; preempt = true; group = false })) stamped ≡ stamped
+stamped_row : after_slot 1 (Stamped (record { generation = 3; tid = 7; tseq = 5; flags = single true })) stamped ≡ stamped
 stamped_row = refl
 
 -- slots in increasing order of CPU

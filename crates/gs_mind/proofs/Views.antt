@@ -11,7 +11,7 @@ use Rattle.gs_mind.proofs.Minds.{is_applied, old_news}
 as_it_was : (v : Look) (m : Message) → is_applied (word v m) ≡ false → v ≡ apply v m
 as_it_was v m old = λ i. λ t. sym (old_news v m old t) i
 
--- a picture's view takes messages in as a view does
+-- a picture's view applies messages as a view does
 pub view_takes : (m : Message) (p : Picture) → (takes_in m p).view ≡ apply p.view m
 view_takes m p = by_word (word p.view m) refl
   where

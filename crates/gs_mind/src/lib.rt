@@ -2,7 +2,7 @@
 //! waits for one. The three are kept together, since who waits follows from the others: messages,
 //! pages, stamps and collected slots change all of them at once.
 //!
-//! Only [`Mind::new`], [`Mind::plan`], [`Mind::rebuild`] and the taking in of a thread's creation allocate.
+//! Only [`Mind::new`], [`Mind::plan`], [`Mind::rebuild`] and what follows a thread's creation allocate.
 #![tactic(auto)]
 
 mod mind;

@@ -103,14 +103,14 @@ impl Mind {
         self.cpus.believed(cpu)
     }
 
-    /// Takes a message in, and returns what it was to the view. If it applied, the beliefs hear it, and its
+    /// Follows a message, and returns what it was to the view. If it applied, the beliefs hear it, and its
     /// thread begins to wait, goes on or stops. Else nothing changes.
     ///
     /// # Errors
     ///
     /// [`ApplyFault::Gap`] if messages about its thread are missing before it. [`ApplyFault::OutOfMemory`] if
     /// it creates a thread of which nothing is known, and memory for its record or for the queue runs out.
-    /// Nothing changes then, and the message can be taken in later. No other message allocates.
+    /// Nothing changes then, and the message can be followed later. No other message allocates.
     pub fn follow(&mut self, message: MessageRef<'_>) -> Result<News, ApplyFault>
         ensures word { IfOk result (λ news. word (look_up self.old.records) message.entry ≡ word_of news) }
         ensures picture { OnOk result (picture_of self.new ≡ takes_in message.entry (picture_of self.old)) }
@@ -162,6 +162,7 @@ impl Mind {
 
     /// Notes that a thread was stamped for a CPU: it waits no more. The thread that an older stamp there
     /// named may wait again. Past the last CPU no stamp is noted. It does not allocate.
+    #[inline(always)]
     pub fn stamp(&mut self, cpu: u16, tid: u32)
         ensures { self.new ≡ thinks self.old (after_stamp cpu tid (picture_of self.old)) }
     {
@@ -171,7 +172,7 @@ impl Mind {
         settle_if_any(&self.view, &self.cpus, &mut self.queue, older);
     }
 
-    /// Takes in the slot of a CPU that is collected, with what was in it. If its transaction landed, its
+    /// Follows what was in the slot of a CPU, which is collected. If its transaction landed, its
     /// outcome is believed, and no stamp there is uncollected any more. That may make three threads wait, or
     /// wait no more. They are the transaction's own, the one that the stamp there named, and the one that was
     /// believed to run where the transaction's thread was found. If the slot is idle, or its transaction has

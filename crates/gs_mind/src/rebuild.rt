@@ -1,4 +1,4 @@
-//! Taking in a page's records, one at a time.
+//! Following a page's records, one at a time.
 
 ghost use Rattle.std.specs.Prelude.{◌≡◌, ◌<◌, ◌≤◌, ◌+◌, ◌∷◌, ℕ, Some, length, slice_get, OnErr, OnOk};
 ghost use Rattle.std.specs.Option.{option_to_list};
@@ -36,7 +36,7 @@ pub(crate) fn make_room_for_page(queue: &mut RunQueue, page: &Page) -> Result<()
     Ok(())
 }
 
-/// Takes in the records of a page, one at a time. There is room for them, and it does not allocate.
+/// Follows the records of a page, one at a time. There is room for them, and it does not allocate.
 pub(crate) fn follow_records(
     view: &mut AgentView,
     cpus: &mut Beliefs,
@@ -55,7 +55,7 @@ pub(crate) fn follow_records(
     }
 }
 
-/// Takes in a page's record: what it tells of its thread is known, and the thread is believed to run where it
+/// Follows a page's record: what it tells of its thread is known, and the thread is believed to run where it
 /// says. It, and whoever was believed to run there, begins to wait, goes on or stops.
 #[tactic(auto, using(crate::proofs::Paged::room_set, crate::proofs::Paged::room_told))]
 fn follow_record(

@@ -16,7 +16,7 @@ use gs_reader::MessageRef;
 use gs_runq::RunQueue;
 use gs_view::{AgentView, ApplyFault};
 
-/// Makes room in the queue, before the view takes a message in, for the thread whose record the
+/// Makes room in the queue, before the view applies a message, for the thread whose record the
 /// message begins. Who waits stays as it is.
 ///
 /// # Errors
@@ -107,7 +107,7 @@ pub(crate) fn other_than(tid: u32, found: Option<u32>) -> Option<u32>
     found.filter(|found| *found != tid)
 }
 
-/// Brings the queue up to date after a message that view and beliefs took in: its thread is settled, and
+/// Brings the queue up to date after a message that view and beliefs followed: its thread is settled, and
 /// goes last anew if its turn ended.
 pub(crate) fn requeue(
     view: &AgentView,

@@ -13,5 +13,6 @@ pub use group::{GroupFault, fault_of_group};
 pub use index::Index;
 pub use landing::{cause, sign_of};
 pub use law::{place_is_last, verdict_is_explained};
+pub use marks::Marks;
 pub use place::last_place;
 pub use sign::Sign;

@@ -12,13 +12,14 @@ pub(crate) fn place_if(here: bool, place: usize, before: Option<usize>) -> Optio
 
 /// A place for each of some numbers, `None` for most.
 #[derive(Drop)]
-pub(crate) struct Marks {
-    places: Vec<Option<usize>>,
+pub struct Marks {
+    /// The place of each number, as far as one was set.
+    pub places: Vec<Option<usize>>,
 }
 
 impl Marks {
-    /// Makes one with no place.
-    pub(crate) fn new(alloc: Global) -> Marks
+    /// Makes one with no place. It does not allocate.
+    pub fn new(alloc: Global) -> Marks
         ensures { result.places.items ≡ [] }
     {
         Marks {
@@ -26,9 +27,9 @@ impl Marks {
         }
     }
 
-    /// Returns the place of a number.
+    /// Returns the place of a number, `None` if it has none.
     #[tactic(auto, using(crate::proofs::Heard::mark_beyond, crate::proofs::Heard::mark_within))]
-    pub(crate) fn get(&self, key: usize) -> Option<usize>
+    pub fn get(&self, key: usize) -> Option<usize>
         ensures { result ≡ mark_at self.now.places.items key }
     {
         if self.places.len() <= key {
@@ -56,7 +57,7 @@ impl Marks {
     ///
     /// `AllocError` if out of memory.
     #[tactic(auto, using(crate::proofs::Heard::set_at, crate::proofs::Heard::and_true, crate::proofs::Heard::and_false))]
-    pub(crate) fn set_if(&mut self, here: bool, key: u32, place: usize) -> Result<(), AllocError>
+    pub fn set_if(&mut self, here: bool, key: u32, place: usize) -> Result<(), AllocError>
         ensures { OnOk result ((k : ℕ) → mark_at self.new.places.items k ≡ place_then ((k == key) && here) place (mark_at self.old.places.items k)) }
     {
         if here {

@@ -131,7 +131,7 @@ shows_more b r w ms m wide s fits room =
       },
     )
 
--- the first message is taken
+-- the first message is consumed
 pub shows_rest : (b : List ℕ) (r w : ℕ) (m : Message) (ms : List Message) → IsWide (length b) → Shows b r w (m ∷ ms) → Shows b (r + need (length b) r (record_len m)) w ms
 shows_rest b r w m ms wide s =
     let c = length b in
@@ -187,7 +187,7 @@ fitting b r w t p m k h fits e =
 pub record Pushed (b : List ℕ) (r w t p : ℕ) (m : Message) (k : ℕ) : Type 0 where
   pub size : length (block_with b w k m) ≡ length b
   pub ring : IsRing (block_with b w k m) r (w + k + record_len m) t (p + 1)
-  pub state : ring_of (block_with b w k m) r (w + k + record_len m) t (p + 1) ≡ record { capacity = length b; taken = t; read = r; unread = waiting b r w (p - t) ++ m ∷ [] }
+  pub state : ring_of (block_with b w k m) r (w + k + record_len m) t (p + 1) ≡ record { capacity = length b; consumed = t; read = r; unread = waiting b r w (p - t) ++ m ∷ [] }
 
 pushed_at : (b : List ℕ) (r w t p : ℕ) (m : Message) → IsRing b r w t p → IsSpellable m → p < MOST_POSTS → w + need (length b) w (record_len m) ≤ r + length b
     → Pushed b r w t p m (pad_len (length b) w (record_len m))
@@ -205,7 +205,7 @@ pushed_at b r w t p m h fits few room =
     record {
       size = more.0;
       ring = ring_from (block_with b w k m) r (w + k + record_len m) t (p + 1) (ms ++ m ∷ []) size (omega (arith, h.order)) (omega (arith, few)) (omega (arith, h.low, sizes.low)) shows count;
-      state = λ i. record { capacity = more.0 i; taken = t; read = r; unread = waiting_is (block_with b w k m) r (w + k + record_len m) (p + 1 - t) (ms ++ m ∷ []) (wide _ size) shows count i };
+      state = λ i. record { capacity = more.0 i; consumed = t; read = r; unread = waiting_is (block_with b w k m) r (w + k + record_len m) (p + 1 - t) (ms ++ m ∷ []) (wide _ size) shows count i };
     }
 
 pub pushed : (b : List ℕ) (r w t p : ℕ) (v : RingState) (m : Message) (k : ℕ) → IsRing b r w t p → ring_of b r w t p ≡ v → IsSpellable m → posts v < MOST_POSTS

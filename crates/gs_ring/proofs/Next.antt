@@ -94,7 +94,7 @@ first_lies b r w m ms wide_ s =
 pub names_length : (b : List ℕ) (r : ℕ) (m : Message) → Lies b r m → number_at (record_index b r) 2 b ≡ record_len m
 names_length b r m h = ap (λ (t : List ℕ). number_at LEN_AT 2 t) h.front ∙ length_named m h.more h.spellable
 
--- the first message of a ring, and the ring after it is taken
+-- the first message of a ring, and the ring after it is consumed
 pub record First (b : List ℕ) (r w t p : ℕ) (v : RingState) (m : Message) : Type 0 where
   pub lies : Lies b r m
   pub ring : IsRing b (r + need (length b) r (record_len m)) w (t + 1) p
@@ -119,7 +119,7 @@ first_in b r w t p v m h view ahead =
       passed = record {
         capacity = cap;
         unread = sym (ap (λ (x : RingState). x.unread) view) ∙ e ∙ ap (λ l. m ∷ l) (sym rest_is);
-        taken = ap (λ (x : RingState). x.taken + 1) view;
+        consumed = ap (λ (x : RingState). x.consumed + 1) view;
         read = ap (λ (x : RingState). x.read + need x.capacity x.read (record_len m)) view;
       };
     }
@@ -182,7 +182,7 @@ end_in b r w t p v h view = ap end (sym view) ∙ h.behind
 pub read_in : (b : List ℕ) (r w t p : ℕ) (v : RingState) → ring_of b r w t p ≡ v → r ≡ v.read
 read_in b r w t p v view = ap (λ (x : RingState). x.read) view
 
--- messages up to a place are taken one by one: some passed, and these are left
+-- messages up to a place are consumed one by one: some passed, and these are left
 abbrev pub IsTaking : RingState → RingState → ℕ → Type 0
 IsTaking u v place = (done : List Message) × Passed u done v × ((ms : List Message) × Ahead v ms × (place_behind v.capacity v.read ms ≡ place))
 
@@ -217,6 +217,6 @@ all_taken u v place h past ms ahead at =
 pub start_taking : (u : RingState) (place : ℕ) → ((ms : List Message) × Ahead u ms × (place_behind u.capacity u.read ms ≡ place)) → IsTaking u u place
 start_taking u place h = ([], Passed-none u, h)
 
--- what was taken of a list is its beginning
+-- what was consumed of a list is its beginning
 pub first_of : (done more ms other : List Message) → done ++ more ≡ ms ++ other → length done ≤ length ms → done ≡ take (length done) ms
 first_of done more ms other e fits = sym (take_at done more (length done) refl) ∙ ap (λ l. take (length done) l) e ∙ take-append-le (length done) ms other fits

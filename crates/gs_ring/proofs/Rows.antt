@@ -16,7 +16,7 @@ created t = Thread t 1 (Created (record { runnable = true; mask = 3; class = Zer
 
 -- two of them were posted to a ring of 128 bytes, and consumed
 consumed : RingState
-consumed = record { capacity = 128; taken = 2; read = 96; unread = [] }
+consumed = record { capacity = 128; consumed = 2; read = 96; unread = [] }
 
 third_row : (need 128 (written 128 (created 1 ∷ created 2 ∷ [])) 48 ∷ need_of consumed (created 3) ∷ free consumed ∷ []) ≡ 80 ∷ 80 ∷ 128 ∷ []
 unfolding created consumed need pad_len
@@ -28,7 +28,7 @@ unfolding created need pad_len pad_bytes
 lies_row = refl
 
 after : RingState
-after = record { capacity = 128; taken = 2; read = 96; unread = created 3 ∷ [] }
+after = record { capacity = 128; consumed = 2; read = 96; unread = created 3 ∷ [] }
 
 after_row : (free after ∷ end after ∷ []) ≡ 48 ∷ 176 ∷ []
 unfolding created after need pad_len
@@ -40,7 +40,7 @@ unfolding need pad_len
 fits_row = refl
 
 -- ticks, of 16 bytes each: eight fill the ring, from whatever place
-ticks_row : (written 128 (replicate 8 (TimerTick 1)) ∷ free (record { capacity = 128; taken = 3; read = 48; unread = replicate 8 (TimerTick 1) }) ∷ []) ≡ 128 ∷ 0 ∷ []
+ticks_row : (written 128 (replicate 8 (TimerTick 1)) ∷ free (record { capacity = 128; consumed = 3; read = 48; unread = replicate 8 (TimerTick 1) }) ∷ []) ≡ 128 ∷ 0 ∷ []
 unfolding need pad_len
 ticks_row = refl
 

@@ -52,29 +52,29 @@ pub record Lies (block : List ℕ) (place : ℕ) (m : Message) : Type 0 where
   pub fits : record_index block place + record_len m ≤ length block
 
 -- the parts of a ring agree: each message that waits lies at its place
-pub record IsRing (block : List ℕ) (read written taken posts : ℕ) : Type 0 where
+pub record IsRing (block : List ℕ) (read written consumed posts : ℕ) : Type 0 where
   pub size : is_capacity (length block) ≡ true
-  pub order : taken ≤ posts
+  pub order : consumed ≤ posts
   pub few : posts ≤ MOST_POSTS
   pub whole : read % ALIGNMENT ≡ 0
   pub low : written ≤ (MOST_MESSAGE_LEN + MOST_PAD_LEN) * posts
   pub forward : read ≤ written
   pub room : written ≤ read + length block
-  pub spellable : All IsSpellable (messages_in (posts - taken) (seen block read (written - read)))
-  pub behind : place_behind (length block) read (messages_in (posts - taken) (seen block read (written - read))) ≡ written
-  pub holds : seen block read (written - read) ≡ bytes (length block) read (messages_in (posts - taken) (seen block read (written - read)))
+  pub spellable : All IsSpellable (messages_in (posts - consumed) (seen block read (written - read)))
+  pub behind : place_behind (length block) read (messages_in (posts - consumed) (seen block read (written - read))) ≡ written
+  pub holds : seen block read (written - read) ≡ bytes (length block) read (messages_in (posts - consumed) (seen block read (written - read)))
 
 -- and where its places lie in the block is kept beside them
-pub record IsHeld (block : List ℕ) (read written : Place) (taken posts : ℕ) : Type 0 where
-  pub ring : IsRing block read.count written.count taken posts
+pub record IsHeld (block : List ℕ) (read written : Place) (consumed posts : ℕ) : Type 0 where
+  pub ring : IsRing block read.count written.count consumed posts
   pub read_at : read.index ≡ read.count % length block
   pub written_at : written.index ≡ written.count % length block
 
 -- what a ring of these parts is to its callers
 abbrev pub ring_of : List ℕ → ℕ → ℕ → ℕ → ℕ → RingState
-ring_of block read written taken posts = record {
+ring_of block read written consumed posts = record {
   capacity = length block;
-  taken = taken;
+  consumed = consumed;
   read = read;
-  unread = messages_in (posts - taken) (seen block read (written - read));
+  unread = messages_in (posts - consumed) (seen block read (written - read));
 }

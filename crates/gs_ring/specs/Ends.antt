@@ -10,7 +10,7 @@ use Rattle.gs_ring.specs.Splits.{two_splits}
 pub record Posted (r : RingState) (xs : List Message) : Type 0 where
   pub consumed : List Message
   pub all : xs ≡ consumed ++ r.unread
-  pub count : length consumed ≡ r.taken
+  pub count : length consumed ≡ r.consumed
   pub place : written r.capacity consumed ≡ r.read
   pub room : end r ≤ r.read + r.capacity
 
@@ -21,7 +21,7 @@ SameCapacity a b = b.capacity ≡ a.capacity
 pub record Passed (a : RingState) (ms : List Message) (b : RingState) : Type 0 where
   pub capacity : b.capacity ≡ a.capacity
   pub unread : a.unread ≡ ms ++ b.unread
-  pub taken : b.taken ≡ a.taken + length ms
+  pub consumed : b.consumed ≡ a.consumed + length ms
   pub read : b.read ≡ place_behind a.capacity a.read ms
 
 -- these come next
@@ -45,13 +45,13 @@ pub Posted-counted : (r : RingState) (xs : List Message) → Posted r xs → pos
 Posted-counted r xs h = omega (arith, ap length h.all, length-append h.consumed r.unread, h.count)
 
 pub Passed-none : (r : RingState) → Passed r [] r
-Passed-none r = record { capacity = refl; unread = refl; taken = omega arith; read = refl }
+Passed-none r = record { capacity = refl; unread = refl; consumed = omega arith; read = refl }
 
 pub Passed-join : (a b c : RingState) (xs ys : List Message) → Passed a xs b → Passed b ys c → Passed a (xs ++ ys) c
 Passed-join a b c xs ys p q = record {
   capacity = q.capacity ∙ p.capacity;
   unread = p.unread ∙ ap (λ l. xs ++ l) q.unread ∙ sym (append_assoc xs ys c.unread);
-  taken = omega (arith, p.taken, q.taken, length-append xs ys);
+  consumed = omega (arith, p.consumed, q.consumed, length-append xs ys);
   read = q.read
       ∙ ap (λ n. place_behind n b.read ys) p.capacity
       ∙ ap (λ n. place_behind a.capacity n ys) p.read
@@ -68,7 +68,7 @@ pub Posted-keeps : (a b : RingState) (xs ms : List Message) → Posted a xs → 
 Posted-keeps a b xs ms h p = record {
   consumed = h.consumed ++ ms;
   all = h.all ∙ ap (λ l. h.consumed ++ l) p.unread ∙ sym (append_assoc h.consumed ms b.unread);
-  count = omega (arith, length-append h.consumed ms, h.count, p.taken);
+  count = omega (arith, length-append h.consumed ms, h.count, p.consumed);
   place = ap (λ n. written n (h.consumed ++ ms)) p.capacity
       ∙ place_behind-append a.capacity 0 h.consumed ms
       ∙ ap (λ n. place_behind a.capacity n ms) h.place
@@ -85,20 +85,20 @@ pub Passed-same : (a b : RingState) (ms : List Message) → Passed a ms b → Sa
 Passed-same a b ms p = p.capacity
 
 -- behind what was consumed come those that wait
-pub Posted-unread : (r : RingState) (xs : List Message) → Posted r xs → drop r.taken xs ≡ r.unread
-Posted-unread r xs h = ap (λ l. drop r.taken l) h.all ∙ drop_at h.consumed r.unread r.taken h.count
+pub Posted-unread : (r : RingState) (xs : List Message) → Posted r xs → drop r.consumed xs ≡ r.unread
+Posted-unread r xs h = ap (λ l. drop r.consumed l) h.all ∙ drop_at h.consumed r.unread r.consumed h.count
 
 -- so they are the same behind any list that may have been posted
-pub Posted-tells : (r : RingState) (xs ys : List Message) → Posted r xs → Posted r ys → drop r.taken xs ≡ drop r.taken ys
+pub Posted-tells : (r : RingState) (xs ys : List Message) → Posted r xs → Posted r ys → drop r.consumed xs ≡ drop r.consumed ys
 Posted-tells r xs ys h k = Posted-unread r xs h ∙ sym (Posted-unread r ys k)
 
--- and no more were taken than were posted
-pub Posted-within : (r : RingState) (xs : List Message) → Posted r xs → r.taken ≤ length xs
+-- and no more were consumed than were posted
+pub Posted-within : (r : RingState) (xs : List Message) → Posted r xs → r.consumed ≤ length xs
 Posted-within r xs h = omega (arith, ap length h.all, length-append h.consumed r.unread, h.count)
 
-pub Posted-passes : (a b : RingState) (xs ms : List Message) → Posted a xs → Passed a ms b → (b.taken ≡ a.taken + length ms) × (ms ≡ take (length ms) (drop a.taken xs))
+pub Posted-passes : (a b : RingState) (xs ms : List Message) → Posted a xs → Passed a ms b → (b.consumed ≡ a.consumed + length ms) × (ms ≡ take (length ms) (drop a.consumed xs))
 Posted-passes a b xs ms h p = (
-  p.taken,
+  p.consumed,
   sym (take_at ms b.unread (length ms) refl) ∙ ap (λ l. take (length ms) l) (sym p.unread ∙ sym (Posted-unread a xs h)),
 )
 
@@ -106,7 +106,7 @@ Posted-passes a b xs ms h p = (
 pub Posted-empty : (capacity : ℕ) → Posted (empty capacity) []
 Posted-empty capacity = record { consumed = []; all = refl; count = refl; place = refl; room = omega arith }
 
-pub Posted-ends : (r : RingState) (xs : List Message) → Posted r xs → IsEmpty r → r.taken ≡ length xs
+pub Posted-ends : (r : RingState) (xs : List Message) → Posted r xs → IsEmpty r → r.consumed ≡ length xs
 Posted-ends r xs h e = omega (arith, Posted-counted r xs h, ap length e)
 
 -- the places of a ring are those of what was posted to it
@@ -114,11 +114,11 @@ pub Posted-end : (r : RingState) (xs : List Message) → Posted r xs → end r �
 Posted-end r xs h =
     ap (λ n. place_behind r.capacity n r.unread) (sym h.place) ∙ sym (place_behind-append r.capacity 0 h.consumed r.unread) ∙ ap (written r.capacity) (sym h.all)
 
-pub Posted-read : (r : RingState) (xs : List Message) → Posted r xs → r.read ≡ written r.capacity (take r.taken xs)
-Posted-read r xs h = sym h.place ∙ ap (written r.capacity) (sym (take_at h.consumed r.unread r.taken h.count) ∙ ap (λ l. take r.taken l) (sym h.all))
+pub Posted-read : (r : RingState) (xs : List Message) → Posted r xs → r.read ≡ written r.capacity (take r.consumed xs)
+Posted-read r xs h = sym h.place ∙ ap (written r.capacity) (sym (take_at h.consumed r.unread r.consumed h.count) ∙ ap (λ l. take r.consumed l) (sym h.all))
 
 -- as many bytes are free as what was posted and consumed leaves
-pub Posted-free : (r : RingState) (xs : List Message) → Posted r xs → free r ≡ free_after r.capacity xs r.taken
+pub Posted-free : (r : RingState) (xs : List Message) → Posted r xs → free r ≡ free_after r.capacity xs r.consumed
 Posted-free r xs h = omega (arith, Posted-end r xs h, Posted-read r xs h)
 
 -- and a message takes up as many as it does behind what was posted
@@ -131,16 +131,16 @@ consumed_below c n xs =
     let whole : written c xs ≡ place_behind c (written c (take n xs)) (drop n xs) = ap (written c) (sym (take-append-drop n xs)) ∙ place_behind-append c 0 (take n xs) (drop n xs) in
     omega (arith, whole, place_behind-grows c (written c (take n xs)) (drop n xs))
 
--- a message had room if it was posted, others were posted behind it, and what was taken came before it
-pub Posted-fitted : (r : RingState) (xs ys : List Message) (m : Message) → r.taken ≤ length xs → Posted r (xs ++ m ∷ ys) → need r.capacity (written r.capacity xs) (record_len m) ≤ free_after r.capacity xs r.taken
+-- a message had room if it was posted, others were posted behind it, and what was consumed came before it
+pub Posted-fitted : (r : RingState) (xs ys : List Message) (m : Message) → r.consumed ≤ length xs → Posted r (xs ++ m ∷ ys) → need r.capacity (written r.capacity xs) (record_len m) ≤ free_after r.capacity xs r.consumed
 Posted-fitted r xs ys m few h =
-    let read : r.read ≡ written r.capacity (take r.taken xs) = Posted-read r (xs ++ m ∷ ys) h ∙ ap (written r.capacity) (take-append-le r.taken xs (m ∷ ys) few) in
+    let read : r.read ≡ written r.capacity (take r.consumed xs) = Posted-read r (xs ++ m ∷ ys) h ∙ ap (written r.capacity) (take-append-le r.consumed xs (m ∷ ys) few) in
     let last : end r ≡ place_behind r.capacity (written r.capacity xs + need r.capacity (written r.capacity xs) (record_len m)) ys = Posted-end r (xs ++ m ∷ ys) h ∙ place_behind-append r.capacity 0 xs (m ∷ ys) in
-    omega (arith, read, last, h.room, place_behind-grows r.capacity (written r.capacity xs + need r.capacity (written r.capacity xs) (record_len m)) ys, consumed_below r.capacity r.taken xs)
+    omega (arith, read, last, h.room, place_behind-grows r.capacity (written r.capacity xs + need r.capacity (written r.capacity xs) (record_len m)) ys, consumed_below r.capacity r.consumed xs)
 
--- a message had room if it was posted behind others, and nothing was taken meanwhile
-pub Posted-fits : (r r' : RingState) (xs : List Message) (m : Message) → SameCapacity r r' → r'.taken ≡ r.taken → Posted r xs → Posted r' (xs ++ m ∷ [])
-    → need r.capacity (written r.capacity xs) (record_len m) ≤ free_after r.capacity xs r.taken
-Posted-fits r r' xs m ring taken h h' =
-    let few : r'.taken ≤ length xs = omega (arith, taken, ap length h.all, length-append h.consumed r.unread, h.count) in
-    subst (λ c. need c (written c xs) (record_len m) ≤ free_after c xs r.taken) ring (subst (λ n. need r'.capacity (written r'.capacity xs) (record_len m) ≤ free_after r'.capacity xs n) taken (Posted-fitted r' xs [] m few h'))
+-- a message had room if it was posted behind others, and nothing was consumed meanwhile
+pub Posted-fits : (r r' : RingState) (xs : List Message) (m : Message) → SameCapacity r r' → r'.consumed ≡ r.consumed → Posted r xs → Posted r' (xs ++ m ∷ [])
+    → need r.capacity (written r.capacity xs) (record_len m) ≤ free_after r.capacity xs r.consumed
+Posted-fits r r' xs m ring consumed h h' =
+    let few : r'.consumed ≤ length xs = omega (arith, consumed, ap length h.all, length-append h.consumed r.unread, h.count) in
+    subst (λ c. need c (written c xs) (record_len m) ≤ free_after c xs r.consumed) ring (subst (λ n. need r'.capacity (written r'.capacity xs) (record_len m) ≤ free_after r'.capacity xs n) consumed (Posted-fitted r' xs [] m few h'))

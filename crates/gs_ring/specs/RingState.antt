@@ -3,20 +3,20 @@ use Rattle.std.specs.Prelude.{ℕ, ◌+◌, ◌-◌, ◌<◌, List, [], length}
 use Rattle.gs_layout.specs.declared.message.Message.{Message}
 use Rattle.gs_ring.specs.Places.{need, place_behind, record_len}
 
--- how many bytes it has, how many messages were taken from it, the place of the first byte that was not consumed, and the messages that wait
+-- how many bytes it has, how many messages were consumed from it, the place of the first byte that was not consumed, and the messages that wait
 pub record RingState : Type 0 where
   pub capacity : ℕ
-  pub taken : ℕ
+  pub consumed : ℕ
   pub read : ℕ
   pub unread : List Message
 
 -- a ring to which nothing was posted
 abbrev pub empty : ℕ → RingState
-empty capacity = record { capacity = capacity; taken = 0; read = 0; unread = [] }
+empty capacity = record { capacity = capacity; consumed = 0; read = 0; unread = [] }
 
 -- how many messages were posted
 abbrev pub posts : RingState → ℕ
-posts r = r.taken + length r.unread
+posts r = r.consumed + length r.unread
 
 -- the place at which the next message is written
 abbrev pub end : RingState → ℕ

@@ -26,8 +26,8 @@ pub trait Poster {
     /// How many were posted.
     ghost count: { Self → ℕ };
 
-    /// How many of them are known to be taken.
-    ghost taken: { Self → ℕ };
+    /// How many of them are known to be consumed.
+    ghost consumed: { Self → ℕ };
 
     /// Whether a message may be refused.
     ghost tight: { Self → Message → Type 0 };
@@ -47,7 +47,7 @@ pub trait Poster {
         ensures ring { same self.old self.new }
         ensures posts { OnOk result ((xs : List Message) → posted self.old xs → posted self.new (xs ++ message.now ∷ [])) }
         ensures counts { OnOk result (count self.new ≡ count self.old + 1) }
-        ensures stays { taken self.new ≡ taken self.old }
+        ensures stays { consumed self.new ≡ consumed self.old }
         ensures full { OnErr result (tight self.old message.now) }
         ensures still { OnErr result (tight self.new message.now) }
         ensures unchanged { OnErr result ((xs : List Message) → posted self.old xs → posted self.new xs) };
@@ -55,18 +55,18 @@ pub trait Poster {
     /// Laws. The count is that of the messages that were posted.
     ghost counted: { (p : Self) (xs : List Message) → posted p xs → count p ≡ length xs };
 
-    /// No more are taken than were posted.
-    ghost within: { (p : Self) (xs : List Message) → posted p xs → taken p ≤ length xs };
+    /// No more are consumed than were posted.
+    ghost within: { (p : Self) (xs : List Message) → posted p xs → consumed p ≤ length xs };
 
-    /// Behind those that are taken, what was posted is known.
-    ghost tells: { (p : Self) (xs ys : List Message) → posted p xs → posted p ys → drop (taken p) xs ≡ drop (taken p) ys };
+    /// Behind those that are consumed, what was posted is known.
+    ghost tells: { (p : Self) (xs ys : List Message) → posted p xs → posted p ys → drop (consumed p) xs ≡ drop (consumed p) ys };
 
     ghost same_refl: { (p : Self) → same p p };
 
     ghost same_trans: { (p q r : Self) → same p q → same q r → same p r };
 }
 
-/// The end that messages are taken from, in the order in which they were posted.
+/// The end that messages are consumed from, in the order in which they were posted.
 pub trait Taker {
     ghost use Rattle.gs_layout.specs.declared.message.Message.{Message};
     ghost use Rattle.gs_ring.specs.Batches.{messages_of};
@@ -86,7 +86,7 @@ pub trait Taker {
         ensures none { IfNone result (idle self.old) }
         ensures* after { sem 𝓛 (Rests Self.row self.entry (λ new. passed self.old [] new × MatchOption result ((m : Message) (ms : List Message) → ahead new (m ∷ ms) → ⊥) (λ p. ahead new (message_of p ∷ [])))) };
 
-    /// Takes the next message, which is known to come.
+    /// Consumes the next message, which is known to come.
     fn advance(&mut self)
         requires { (m : Message) × ahead self.old (m ∷ []) }
         ensures { (m : Message) → ahead self.old (m ∷ []) → passed self.old (m ∷ []) self.new };
@@ -97,7 +97,7 @@ pub trait Taker {
         ensures none { messages_of result ≡ [] → idle self.old }
         ensures* after { sem 𝓛 (Rests Self.row self.entry (λ new. passed self.old [] new × ahead new (messages_of result) × (messages_of result ≡ [] → (m : Message) (ms : List Message) → ahead new (m ∷ ms) → ⊥))) };
 
-    /// Takes the first `n` messages, which are known to come.
+    /// Consumes the first `n` messages, which are known to come.
     fn pass(&mut self, n: usize)
         requires { (ms : List Message) × ahead self.old ms × (n ≤ length ms) }
         ensures { (ms : List Message) → ahead self.old ms → n ≤ length ms → passed self.old (take n ms) self.new };
@@ -118,16 +118,16 @@ pub trait Taker {
 pub trait Ring: Poster + Taker {
     ghost use Rattle.gs_layout.specs.declared.message.Message.{Message};
 
-    /// What was posted stays posted when it is taken.
+    /// What was posted stays posted when it is consumed.
     ghost keeps: { (p q : Self) (xs ms : List Message) → Self.posted p xs → Self.passed p ms q → Self.posted q xs };
 
     ghost stays: { (p q : Self) (ms : List Message) → Self.passed p ms q → Self.same p q };
 
     /// What passes is the next of what was posted.
-    ghost passes: { (p q : Self) (xs ms : List Message) → Self.posted p xs → Self.passed p ms q → (Self.taken q ≡ Self.taken p + length ms) × (ms ≡ take (length ms) (drop (Self.taken p) xs)) };
+    ghost passes: { (p q : Self) (xs ms : List Message) → Self.posted p xs → Self.passed p ms q → (Self.consumed q ≡ Self.consumed p + length ms) × (ms ≡ take (length ms) (drop (Self.consumed p) xs)) };
 
-    /// If none was found, all was taken.
-    ghost ends: { (p : Self) (xs : List Message) → Self.posted p xs → Self.idle p → Self.taken p ≡ length xs };
+    /// If none was found, all was consumed.
+    ghost ends: { (p : Self) (xs : List Message) → Self.posted p xs → Self.idle p → Self.consumed p ≡ length xs };
 }
 
 /// A poster whose taker may be in the same thread.
@@ -145,7 +145,7 @@ pub trait Beside<T: Taker>: Poster {
         requires { pair self.old taker.old }
         ensures ring { Self.same self.old self.new × pair self.new taker.new }
         ensures posted { (xs : List Message) → Self.posted self.old xs → Self.posted self.new xs }
-        ensures stays { Self.taken self.new ≡ Self.taken self.old }
+        ensures stays { Self.consumed self.new ≡ Self.consumed self.old }
         ensures taken { T.passed taker.old [] taker.new }
         ensures rest { (xs : List Message) → Self.posted self.new xs → (ms : List Message) × (rest : List Message) × gave taker.new ms × (xs ≡ ms ++ rest) × T.ahead taker.new rest × (result ≡ length rest) };
 

@@ -32,8 +32,8 @@ pub struct ByteRing {
     read: Place,
     /// The place behind the last byte that was written.
     written: Place,
-    /// How many messages were taken, and how many were posted.
-    taken: u64,
+    /// How many messages were consumed, and how many were posted.
+    consumed: u64,
     posts: u64,
 }
 
@@ -43,9 +43,9 @@ impl Model for ByteRing {
 
     ghost Value = { RingState };
 
-    ghost view = { λ r. ring_of r.block.items r.read.count r.written.count r.taken r.posts };
+    ghost view = { λ r. ring_of r.block.items r.read.count r.written.count r.consumed r.posts };
 
-    ghost invariant = { λ r. IsHeld r.block.items r.read r.written r.taken r.posts };
+    ghost invariant = { λ r. IsHeld r.block.items r.read r.written r.consumed r.posts };
 }
 
 impl ByteRing {
@@ -66,7 +66,7 @@ impl ByteRing {
             block: vec![in alloc; 0; capacity]?,
             read: Place { count: 0, index: 0 },
             written: Place { count: 0, index: 0 },
-            taken: 0,
+            consumed: 0,
             posts: 0,
         })
     }
@@ -131,18 +131,18 @@ impl ByteRing {
     pub fn first(&self) -> Option<Peeked<'_>>
         ensures { MatchOption result (IsEmpty self.now) (λ p. Ahead self.now (message_of p ∷ [])) }
     {
-        if self.taken == self.posts {
+        if self.consumed == self.posts {
             return None;
         }
         Some(block::message_at(self.block.as_slice(), self.read))
     }
 
-    /// Lends the messages that wait, in order, each where it lies in the block. None is taken.
+    /// Lends the messages that wait, in order, each where it lies in the block. None is consumed.
     pub fn waiting(&self) -> Waiting<'_>
         ensures { result ≡ self.now.unread }
     {
         let (first, second) = self.front();
-        let left = (self.posts - self.taken) as usize;
+        let left = (self.posts - self.consumed) as usize;
         Waiting::new(first, second, left)
     }
 
@@ -153,7 +153,7 @@ impl ByteRing {
     {
         let span = block::span_at(self.block.as_slice(), self.read);
         self.read = self.read.further(span, self.block.len());
-        self.taken += 1;
+        self.consumed += 1;
     }
 
     /// Lends the bytes that were not consumed: those up to the end of the block, then those from its start.
@@ -169,7 +169,7 @@ impl ByteRing {
         (&block[start..start + first], &block[..used - first])
     }
 
-    /// Takes the first messages, which take up so many bytes with their PADs.
+    /// Consumes the first messages, which take up so many bytes with their PADs.
     pub fn consume(&mut self, n: usize)
         requires { (ms : List Message) × Ahead self.old ms × (place_behind self.old.capacity self.old.read ms ≡ self.old.read + n) }
         ensures { (ms : List Message) → Ahead self.old ms → place_behind self.old.capacity self.old.read ms ≡ self.old.read + n → Passed self.old ms self.new }
@@ -189,7 +189,7 @@ impl Poster for ByteRing {
 
     ghost count = { posts };
 
-    ghost taken = { λ r. r.taken };
+    ghost consumed = { λ r. r.consumed };
 
     ghost tight = { IsTight };
 
@@ -201,7 +201,7 @@ impl Poster for ByteRing {
         ensures ring { SameCapacity self.old self.new }
         ensures posts { OnOk result ((xs : List Message) → Posted self.old xs → Posted self.new (xs ++ message.now ∷ [])) }
         ensures counts { OnOk result (posts self.new ≡ posts self.old + 1) }
-        ensures stays { self.new.taken ≡ self.old.taken }
+        ensures stays { self.new.consumed ≡ self.old.consumed }
         ensures full { OnErr result (IsTight self.old message.now) }
         ensures still { OnErr result (IsTight self.new message.now) }
         ensures unchanged { OnErr result ((xs : List Message) → Posted self.old xs → Posted self.new xs) }

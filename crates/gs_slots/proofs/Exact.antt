@@ -1,15 +1,14 @@
 -- Bytes are read as a state of a slot exactly if they are its spelling.
-use Rattle.std.proofs.Common.{◌-◌, ◌≡◌, Bool, true, false, ℕ, zero, suc, ◌+◌, ◌*◌, ◌%◌, ◌^◌, ◌<◌, ◌≤◌, inl, inr, Option, None, Some, Ok, Err, IfOk, List, [], ◌∷◌, ◌++◌, length, drop, replicate, refl, ap, sym, subst, ◌∙◌, arith}
-use Rattle.std.specs.Prelude.{◌==◌, ◌&&◌, nat_le, nat_lt, if◌then◌else◌, slice_index, unwrap_or}
+use Rattle.std.proofs.Common.{◌-◌, ◌≡◌, Bool, true, false, ℕ, zero, suc, ◌+◌, ◌^◌, ◌<◌, ◌≤◌, inl, inr, Option, Ok, Err, IfOk, List, [], ◌∷◌, ◌++◌, length, drop, replicate, refl, ap, sym, subst, ◌∙◌, arith}
+use Rattle.std.specs.Prelude.{◌==◌, ◌&&◌, nat_lt, if◌then◌else◌, slice_index, unwrap_or}
 use Rattle.std.specs.Cmp.Lexicographic.{bytes_decides}
 use Rattle.std.proofs.Math.Seq.{drop-cons}
-use Rattle.std.proofs.lemmas.Bool.{and_parts, cases_Bool, cond-false, cond-true, eq-eqb, eqb-true, false_from_ne_true, lt-ltb, ltb-true}
+use Rattle.std.proofs.lemmas.Bool.{and_parts, cases_Bool, cond-false, cond-true, eq-eqb, eqb-true, false_from_ne_true, ltb-true}
 use Rattle.std.proofs.lemmas.List.{drop_all}
 use Rattle.byteorder.specs.Endian.{little_bytes, little_number}
 use Rattle.byteorder.specs.Numbers.{little_from-bytes}
 use Rattle.gs_layout.specs.declared.outcome.TheConstants.{OUTCOMES}
 use Rattle.gs_slots.specs.declared.wire.TheConstants.{CPU_AT, DONE, END_AT, FLAGS_AT, GENERATION_AT, OUTCOME_AT, PLACE_AT, SEEN_AT, SLOT_LEN, STAMPED, STATE_AT, TID_AT, TSEQ_AT, WORD_LEN}
-use Rattle.gs_status.specs.declared.mask.TheConstants.{MOST_CPUS}
 use Rattle.gs_layout.specs.declared.outcome.Outcome.{Outcome}
 use Rattle.gs_layout.specs.declared.outcome.Outcome.TheVariants as outcomes
 use Rattle.gs_layout.specs.Outcome.{outcome_number, outcome_numbered}
@@ -18,8 +17,9 @@ use Rattle.gs_layout.specs.Spelling.{IsCpuOrNone, cpu_number, is_cpu_or_none}
 use Rattle.gs_layout.proofs.Laws.{IsBytes, at_place, cpu_again, cpu_passes, reads}
 use Rattle.gs_slots.specs.declared.state.SlotState.{SlotState}
 use Rattle.gs_slots.specs.declared.state.SlotState.TheVariants.{Idle, Stamped, Done}
+use Rattle.gs_slots.specs.declared.flags.Flags.{Flags}
 use Rattle.gs_slots.specs.declared.state.Stamp.{Stamp}
-use Rattle.gs_slots.specs.Flags.{are_flags}
+use Rattle.gs_slots.specs.Flags.{are_flags, flags_byte, flags_in}
 use Rattle.gs_slots.specs.Reading.{done_in, fields_in, is_spelt, outcome_in, stamp_in, state_in}
 use Rattle.gs_slots.specs.Spelling.{IsSpellableStamp, IsSpellableState, can_hold, done_bytes, is_blank, slot_spelling, stamp_bytes}
 use Rattle.gs_slots.specs.State.{Held, is_malformed, no_stamp, refused}
@@ -50,7 +50,7 @@ outcome_again (suc (suc (suc (suc (suc (suc (suc (suc (suc (suc (suc (suc (suc z
 outcome_again (suc (suc (suc (suc (suc (suc (suc (suc (suc (suc (suc (suc (suc (suc zero)))))))))))))) lt = refl
 outcome_again (suc (suc (suc (suc (suc (suc (suc (suc (suc (suc (suc (suc (suc (suc (suc n))))))))))))))) lt = absurd (omega arith)
 
-flags_again : (f : ℕ) → f < 4 → (if f % 2 == 1 then 1 else 0) + 2 * (if nat_le 2 f then 1 else 0) ≡ f
+flags_again : (f : ℕ) → f < 4 → flags_byte (flags_in f) ≡ f
 flags_again zero lt = refl
 flags_again (suc zero) lt = refl
 flags_again (suc (suc zero)) lt = refl
@@ -120,11 +120,14 @@ done_sound k xs fits size kind e =
 
 -- ---- spellings pass
 
-flags_below : (p g : Bool) → nat_lt ((if p then 1 else 0) + 2 * (if g then 1 else 0)) 4 ≡ true
-flags_below true true = refl
-flags_below true false = refl
-flags_below false true = refl
-flags_below false false = refl
+flags_below : (f : Flags) → are_flags (flags_byte f) ≡ true
+flags_below f = by_flag f.preempt f.group
+  where
+    by_flag : (p g : Bool) → are_flags (flags_byte (record { preempt = p; group = g })) ≡ true
+    by_flag true true = refl
+    by_flag true false = refl
+    by_flag false true = refl
+    by_flag false false = refl
 
 outcome_below : (o : Outcome) → nat_lt (little_number 2 (little_bytes 2 (outcome_number o) ++ [])) OUTCOMES ≡ true
 outcome_below outcomes.Placed = refl
@@ -148,8 +151,8 @@ names_cpu k lt = eq-eqb (little_number 2 (little_bytes 2 k ++ [])) k (reads 2 k 
 
 spelling_passes : (k : ℕ) (z : SlotState) → k < 2 ^ 16 → passes k (slot_spelling k z) ≡ true
 spelling_passes k Idle lt = refl
-spelling_passes k (Stamped s) lt = λ i. flags_below s.preempt s.group i && names_cpu k lt i && true && true
-spelling_passes k (Done s o at seen) lt = λ i. flags_below s.preempt s.group i && names_cpu k lt i && outcome_below o i && true
+spelling_passes k (Stamped s) lt = λ i. flags_below s.flags i && names_cpu k lt i && true && true
+spelling_passes k (Done s o at seen) lt = λ i. flags_below s.flags i && names_cpu k lt i && outcome_below o i && true
 
 -- ---- the test by fields is the test for the spelling
 

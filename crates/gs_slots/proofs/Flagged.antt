@@ -1,5 +1,5 @@
 -- The flag of a group in the bytes of a slot, and in what is read of them.
-use Rattle.std.proofs.Common.{◌≡◌, Bool, true, false, ℕ, zero, suc, ◌+◌, ◌⊎◌, inl, inr, Option, None, Some, Ok, Err, List, [], ◌∷◌, cond, slice_get, refl, ap, sym, ◌∙◌, arith}
+use Rattle.std.proofs.Common.{◌≡◌, Bool, true, false, ℕ, zero, suc, ◌+◌, ◌⊎◌, inl, inr, Some, Ok, Err, List, [], ◌∷◌, cond, slice_get, refl, ap, sym, ◌∙◌, arith}
 use Rattle.std.specs.Prelude.{◌&&◌, ◌==◌, slice_index}
 use Rattle.std.specs.Option.{option_map}
 use Rattle.gs_slots.specs.declared.wire.TheConstants.{DONE, STAMPED, STATE_AT}

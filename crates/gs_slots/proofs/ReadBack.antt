@@ -1,31 +1,31 @@
 -- What is spelt in the bytes of a slot is read back from them.
-use Rattle.std.proofs.Common.{◌-◌, ◌≡◌, Bool, true, false, cond, ℕ, ◌+◌, ◌*◌, ◌%◌, ◌^◌, ◌<◌, Option, None, Some, List, [], ◌++◌, replicate, refl, ap, ◌∙◌, arith}
-use Rattle.std.specs.Prelude.{◌==◌, ◌&&◌, not, nat_le, if◌then◌else◌, unwrap_or}
-use Rattle.std.proofs.lemmas.Bool.{and_parts, ltb-true}
-use Rattle.std.proofs.lemmas.Bool.Decides.{nat_tests}
+use Rattle.std.proofs.Common.{◌-◌, ◌≡◌, Bool, true, false, cond, ℕ, Option, None, Some, List, [], ◌++◌, replicate, refl}
+use Rattle.std.specs.Prelude.{◌==◌, ◌&&◌, unwrap_or}
+use Rattle.std.proofs.lemmas.Bool.{and_parts}
 use Rattle.byteorder.specs.Endian.{little_bytes, little_number}
-use Rattle.byteorder.specs.Numbers.{little_number-reads_back}
-use Rattle.gs_layout.specs.declared.cpu.TheConstants.{NO_CPU}
-use Rattle.gs_slots.specs.declared.wire.TheConstants.{DONE, END_AT, OUTCOME_AT, SLOT_LEN, STAMPED, WORD_LEN}
-use Rattle.gs_status.specs.declared.mask.TheConstants.{MOST_CPUS}
+use Rattle.gs_slots.specs.declared.wire.TheConstants.{DONE, END_AT, OUTCOME_AT, SLOT_LEN, STAMPED}
 use Rattle.gs_layout.specs.declared.outcome.Outcome.{Outcome}
 use Rattle.gs_layout.specs.declared.outcome.Outcome.TheVariants as outcomes
 use Rattle.gs_layout.specs.Outcome.{outcome_number, outcome_numbered}
-use Rattle.gs_layout.specs.Reading.{cpu_numbered}
 use Rattle.gs_layout.specs.Spelling.{IsCpuOrNone, is_cpu_or_none}
 use Rattle.gs_layout.proofs.Laws.{cpu_back, cpu_from, reads}
 use Rattle.gs_slots.specs.declared.state.SlotState.{SlotState}
 use Rattle.gs_slots.specs.declared.state.SlotState.TheVariants.{Idle, Stamped, Done}
+use Rattle.gs_slots.specs.declared.flags.Flags.{Flags}
 use Rattle.gs_slots.specs.declared.state.Stamp.{Stamp}
+use Rattle.gs_slots.specs.Flags.{flags_byte, flags_in}
 use Rattle.gs_slots.specs.Reading.{fields_in, stamp_in}
 use Rattle.gs_slots.specs.State.{is_malformed}
 use Rattle.gs_slots.specs.Spelling.{IsSpellableState, IsSpellableStamp, is_blank, is_result, result_bytes, slot_spelling, stamp_bytes}
 
-flags_back : (p g : Bool) → ((((if p then 1 else 0) + 2 * (if g then 1 else 0)) % 2 == 1) ≡ p) × (nat_le 2 ((if p then 1 else 0) + 2 * (if g then 1 else 0)) ≡ g)
-flags_back true true = (refl, refl)
-flags_back true false = (refl, refl)
-flags_back false true = (refl, refl)
-flags_back false false = (refl, refl)
+flags_back : (f : Flags) → flags_in (flags_byte f) ≡ f
+flags_back f = by_flag f.preempt f.group
+  where
+    by_flag : (p g : Bool) → flags_in (flags_byte (record { preempt = p; group = g })) ≡ record { preempt = p; group = g }
+    by_flag true true = refl
+    by_flag true false = refl
+    by_flag false true = refl
+    by_flag false false = refl
 
 outcome_back : (o : Outcome) → unwrap_or (outcome_numbered (little_number 2 (little_bytes 2 (outcome_number o) ++ []))) outcomes.Malformed ≡ o
 outcome_back outcomes.Placed = refl
@@ -49,20 +49,19 @@ stamp_back kind cpu s rest fits = λ i. record {
   generation = reads 4 s.generation fits.generation i;
   tid = reads 4 s.tid fits.tid i;
   tseq = reads 4 s.tseq fits.tseq i;
-  preempt = (flags_back s.preempt s.group).0 i;
-  group = (flags_back s.preempt s.group).1 i;
+  flags = flags_back s.flags i;
 }
 
 -- if a slot can hold a result, its CPU is one or none
-some_is_set : (a b c p g d : Bool) → (a && b && c && not p && not g && false && d) ≡ true → ⊥
-some_is_set a b c p g d e =
-    let left = (and_parts (a && b && c && not p && not g && false) d e).0 in
-    let none = (and_parts (a && b && c && not p && not g) false left).1 in
+some_is_set : (a b c f d : Bool) → (a && b && c && f && false && d) ≡ true → ⊥
+some_is_set a b c f d e =
+    let left = (and_parts (a && b && c && f && false) d e).0 in
+    let none = (and_parts (a && b && c && f) false left).1 in
     cc
 
 none_of_blank : (s : Stamp) (at : Option ℕ) (seen : ℕ) → is_blank s at seen ≡ true → IsCpuOrNone at
 none_of_blank s None seen e = tt
-none_of_blank s (Some c) seen e = absurd (some_is_set (s.generation == 0) (s.tid == 0) (s.tseq == 0) s.preempt s.group (seen == 0) e)
+none_of_blank s (Some c) seen e = absurd (some_is_set (s.generation == 0) (s.tid == 0) (s.tseq == 0) (flags_byte s.flags == 0) (seen == 0) e)
 
 pub cpu_of_result : (s : Stamp) (o : Outcome) (at : Option ℕ) (seen : ℕ) → is_result s o at seen ≡ true → IsCpuOrNone at
 cpu_of_result s o at seen e = by_outcome (is_malformed o) e

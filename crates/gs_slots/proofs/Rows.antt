@@ -1,18 +1,19 @@
 -- The definitions computed on slots worked out by hand.
-use Rattle.std.proofs.Common.{◌≡◌, true, false, ℕ, None, Some, Ok, Err, List, [], ◌∷◌, ◌++◌, replicate, slice_set, refl}
+use Rattle.std.proofs.Common.{◌≡◌, true, ℕ, None, Some, Ok, Err, List, [], ◌∷◌, ◌++◌, replicate, slice_set, refl}
 use Rattle.gs_layout.specs.declared.outcome.Outcome.TheVariants.{Placed, Stale, HistoryFull}
 use Rattle.gs_slots.specs.declared.state.SlotState.TheVariants.{Idle, Stamped, Done}
 use Rattle.gs_slots.specs.declared.state.Stamp.{Stamp}
+use Rattle.gs_slots.specs.Flags.{no_flags, single}
 use Rattle.gs_slots.specs.Lending.{left_as}
 use Rattle.gs_slots.specs.Reading.{is_spelt, state_in}
 use Rattle.gs_slots.specs.Spelling.{slot_spelling}
 use Rattle.gs_slots.specs.State.{Held, collected, finished, outcome_of, refused}
 
 abbrev first : Stamp
-first = record { generation = 1; tid = 1; tseq = 1; preempt = false; group = false }
+first = record { generation = 1; tid = 1; tseq = 1; flags = no_flags }
 
 abbrev greatest : Stamp
-greatest = record { generation = 4294967295; tid = 65536; tseq = 4294967294; preempt = true; group = true }
+greatest = record { generation = 4294967295; tid = 65536; tseq = 4294967294; flags = record (single true) { group = true } }
 
 -- stamped for CPU 1
 abbrev stamped_bytes : List ℕ

@@ -16,7 +16,7 @@ AreWithin low end [] = Unit {0}
 AreWithin low end (f ∷ fs) = (low ≤ f.cpu) × (f.cpu < end) × AreWithin (suc f.cpu) end fs
 
 abbrev pub stamp_of : Fill → Stamp
-stamp_of f = record { generation = f.generation; tid = f.tid; tseq = f.tseq; preempt = f.preempt; group = f.group }
+stamp_of f = record { generation = f.generation; tid = f.tid; tseq = f.tseq; flags = f.flags }
 
 -- the slot of a transaction, of which this is read: stamped if it is idle, and else as it is
 abbrev pub stamped_if_idle : Held → Fill → List ℕ → List ℕ

@@ -1,5 +1,5 @@
 -- What stands in the bytes of a slot.
-use Rattle.std.specs.Prelude.{Bool, ◌&&◌, ℕ, suc, ◌==◌, ◌%◌, nat_eq, nat_le, Ok, Err, List, [], ◌∷◌, map, slice_index, unwrap_or, if◌then◌else◌}
+use Rattle.std.specs.Prelude.{Bool, ◌&&◌, ℕ, suc, ◌==◌, nat_eq, Ok, Err, List, [], ◌∷◌, map, slice_index, unwrap_or, if◌then◌else◌}
 use Rattle.std.specs.Cmp.Lexicographic.{pointwise}
 use Rattle.gs_slots.specs.declared.wire.TheConstants.{DONE, FLAGS_AT, GENERATION_AT, OUTCOME_AT, PLACE_AT, SEEN_AT, STAMPED, STATE_AT, TID_AT, TSEQ_AT}
 use Rattle.gs_layout.specs.declared.outcome.Outcome.{Outcome}
@@ -9,21 +9,20 @@ use Rattle.gs_layout.specs.Reading.{cpu_numbered, number_at}
 use Rattle.gs_slots.specs.declared.state.SlotState.{SlotState}
 use Rattle.gs_slots.specs.declared.state.SlotState.TheVariants.{Idle, Stamped, Done}
 use Rattle.gs_slots.specs.declared.state.Stamp.{Stamp}
-use Rattle.gs_slots.specs.Flags.{has_group, has_preempt}
+use Rattle.gs_slots.specs.Flags.{flags_in}
 use Rattle.gs_slots.specs.State.{Held}
 use Rattle.gs_slots.specs.Spelling.{can_hold, idle_bytes, slot_spelling}
 
 -- whether these bytes have the flag of a group, if they are a slot's
 abbrev pub is_flagged : List ℕ → Bool
-is_flagged bytes = has_group (slice_index bytes FLAGS_AT)
+is_flagged bytes = (flags_in (slice_index bytes FLAGS_AT)).group
 
 abbrev pub stamp_in : List ℕ → Stamp
 stamp_in bytes = record {
   generation = number_at GENERATION_AT 4 bytes;
   tid = number_at TID_AT 4 bytes;
   tseq = number_at TSEQ_AT 4 bytes;
-  preempt = has_preempt (slice_index bytes FLAGS_AT);
-  group = is_flagged bytes;
+  flags = flags_in (slice_index bytes FLAGS_AT);
 }
 
 abbrev pub outcome_in : List ℕ → Outcome

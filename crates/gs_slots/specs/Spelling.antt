@@ -1,20 +1,20 @@
 -- The bytes of a slot. All numbers are little-endian, and every byte that no field names is zero.
-use Rattle.std.specs.Prelude.{◌-◌, ◌≡◌, Bool, true, not, ◌&&◌, ◌==◌, ℕ, ◌+◌, ◌*◌, ◌^◌, ◌<◌, nat_lt, Option, None, Some, is_none, List, [], ◌∷◌, ◌++◌, replicate, take, drop, slice_set, if◌then◌else◌}
+use Rattle.std.specs.Prelude.{◌-◌, ◌≡◌, Bool, true, ◌&&◌, ◌==◌, ℕ, ◌^◌, ◌<◌, Option, is_none, List, [], ◌∷◌, ◌++◌, replicate, take, drop, slice_set, if◌then◌else◌}
 use Rattle.byteorder.specs.Endian.{little_bytes}
-use Rattle.gs_slots.specs.declared.wire.TheConstants.{DONE, END_AT, OUTCOME_AT, SLOT_LEN, STAMPED, STATE_AT, WORD_LEN}
+use Rattle.gs_slots.specs.declared.wire.TheConstants.{DONE, END_AT, OUTCOME_AT, SLOT_LEN, STAMPED, STATE_AT}
 use Rattle.gs_layout.specs.declared.outcome.Outcome.{Outcome}
 use Rattle.gs_layout.specs.Outcome.{outcome_number}
 use Rattle.gs_layout.specs.Spelling.{cpu_number, is_cpu_or_none}
 use Rattle.gs_slots.specs.declared.state.SlotState.{SlotState}
 use Rattle.gs_slots.specs.declared.state.SlotState.TheVariants.{Idle, Stamped, Done}
 use Rattle.gs_slots.specs.declared.state.Stamp.{Stamp}
-use Rattle.gs_slots.specs.Flags.{flags_of}
+use Rattle.gs_slots.specs.Flags.{flags_byte}
 use Rattle.gs_slots.specs.State.{is_malformed}
 
 -- what stands before the outcome in a slot that is not idle: whether it is stamped or done, and the transaction
 abbrev pub stamp_bytes : ℕ → ℕ → Stamp → List ℕ
 stamp_bytes kind cpu s =
-    (kind ∷ flags_of s ∷ []) ++ little_bytes 2 cpu ++ little_bytes 4 s.generation ++ little_bytes 4 s.tid ++ little_bytes 4 s.tseq
+    (kind ∷ flags_byte s.flags ∷ []) ++ little_bytes 2 cpu ++ little_bytes 4 s.generation ++ little_bytes 4 s.tid ++ little_bytes 4 s.tseq
 
 -- what became of a transaction
 abbrev pub result_bytes : Outcome → Option ℕ → ℕ → List ℕ
@@ -36,7 +36,7 @@ slot_spelling cpu (Done s outcome at seen) = stamp_bytes DONE cpu s ++ result_by
 
 -- whether the numbers of a transaction, and of what became of it, are all zero, and no CPU is named
 abbrev pub is_blank : Stamp → Option ℕ → ℕ → Bool
-is_blank s at seen = s.generation == 0 && s.tid == 0 && s.tseq == 0 && not s.preempt && not s.group && is_none at && seen == 0
+is_blank s at seen = s.generation == 0 && s.tid == 0 && s.tseq == 0 && flags_byte s.flags == 0 && is_none at && seen == 0
 
 -- whether this can be left of a transaction: a CPU or none; of a malformed slot nothing but that
 abbrev pub is_result : Stamp → Outcome → Option ℕ → ℕ → Bool

@@ -6,6 +6,7 @@ use Rattle.gs_slots.specs.declared.state.SlotState.{SlotState}
 use Rattle.gs_slots.specs.declared.state.SlotState.TheVariants.{Idle, Stamped, Done}
 use Rattle.gs_slots.specs.declared.state.Stamp.{Stamp}
 use Rattle.gs_slots.specs.declared.state.Malformed as errors
+use Rattle.gs_slots.specs.Flags.{no_flags}
 
 -- what is read of a slot: its state, or that it is malformed
 abbrev pub Held : Type 0
@@ -18,8 +19,8 @@ is_stamped _ = false
 -- whether the transaction in a slot, landed or not, is one of a group
 abbrev pub is_grouped : SlotState → Bool
 is_grouped Idle = false
-is_grouped (Stamped s) = s.group
-is_grouped (Done s outcome at seen) = s.group
+is_grouped (Stamped s) = s.flags.group
+is_grouped (Done s outcome at seen) = s.flags.group
 
 -- whether a transaction that has not landed is read of a slot
 abbrev pub has_stamp : Held → Bool
@@ -42,7 +43,7 @@ is_malformed _ = false
 
 -- a transaction of which nothing is known
 abbrev pub no_stamp : Stamp
-no_stamp = record { generation = 0; tid = 0; tseq = 0; preempt = false; group = false }
+no_stamp = record { generation = 0; tid = 0; tseq = 0; flags = no_flags }
 
 -- what is left of a malformed slot once it landed: no transaction, and that it was malformed
 abbrev pub refused : SlotState

@@ -10,7 +10,7 @@ ghost use Rattle.gs_slots.specs.Busy.{is_busy};
 ghost use Rattle.gs_slots.specs.State.{has_stamp, is_malformed, refused};
 ghost use Rattle.gs_slots.specs.Tests.{is_done, is_idle, is_of, is_stamp, is_zero_at, passes};
 
-use crate::flags::{are_flags, flags_of, has_group, has_preempt};
+use crate::flags::{are_flags, flags_byte, flags_in};
 use crate::state::{Malformed, SlotState, Stamp};
 use crate::wire::{
     CPU_AT, DONE, END_AT, FLAGS_AT, GENERATION_AT, OUTCOME_AT, PLACE_AT, SEEN_AT, SLOT_LEN,
@@ -26,7 +26,7 @@ pub(crate) fn is_flagged(bytes: &[u8]) -> bool
     requires { length bytes.now ≡ SLOT_LEN }
     ensures { result ≡ is_flagged bytes.now }
 {
-    has_group(bytes[FLAGS_AT])
+    flags_in(bytes[FLAGS_AT]).group
 }
 
 fn stamp_at(bytes: &[u8]) -> Stamp
@@ -37,8 +37,7 @@ fn stamp_at(bytes: &[u8]) -> Stamp
         generation: u32_at(bytes, GENERATION_AT),
         tid: u32_at(bytes, TID_AT),
         tseq: u32_at(bytes, TSEQ_AT),
-        preempt: has_preempt(bytes[FLAGS_AT]),
-        group: is_flagged(bytes),
+        flags: flags_in(bytes[FLAGS_AT]),
     }
 }
 
@@ -146,8 +145,7 @@ fn is_blank(stamp: &Stamp, at: Option<u16>, seen: u32) -> bool
     stamp.generation == 0
         && stamp.tid == 0
         && stamp.tseq == 0
-        && !stamp.preempt
-        && !stamp.group
+        && flags_byte(stamp.flags) == 0
         && at.is_none()
         && seen == 0
 }
@@ -194,7 +192,7 @@ fn write_stamp(kind: u8, cpu: u16, stamp: &Stamp, out: &mut [u8])
     requires { OUTCOME_AT ≤ length out.old }
     ensures { out.new ≡ stamp_bytes kind cpu stamp.now ++ drop OUTCOME_AT out.old }
 {
-    out[..CPU_AT].copy_from_slice(&[kind, flags_of(stamp)]);
+    out[..CPU_AT].copy_from_slice(&[kind, flags_byte(stamp.flags)]);
     LittleEndian::write_u16(&mut out[CPU_AT..], cpu);
     LittleEndian::write_u32(&mut out[GENERATION_AT..], stamp.generation);
     LittleEndian::write_u32(&mut out[TID_AT..], stamp.tid);

@@ -3,6 +3,7 @@
 ghost use Rattle.std.specs.Prelude.{◌≡◌, ◌+◌, length, drop};
 ghost use Rattle.gs_slots.specs.Filling.{AreWithin, busy_slot, count_below, fault_of, filled, filled_slot, first_busy};
 
+use crate::flags::Flags;
 use crate::region::Region;
 use crate::slot::SlotMut;
 use crate::slots::Slots;
@@ -21,10 +22,8 @@ pub struct Fill {
     pub tid: u32,
     /// The thread's sequence number as the agent knows it.
     pub tseq: u32,
-    /// Whether a thread that is on the CPU is to give way.
-    pub preempt: bool,
-    /// Whether it is placed only if all others of a commit that say so are placed.
-    pub group: bool,
+    /// What it asks for besides.
+    pub flags: Flags,
 }
 
 /// Why not all slots were stamped.
@@ -132,8 +131,7 @@ fn fill_one(fill: &Fill, bytes: &mut [u8; SLOT_LEN]) -> Option<u16>
         fill.generation,
         fill.tid,
         fill.tseq,
-        fill.preempt,
-        fill.group,
+        fill.flags,
     );
     stamped.is_err().then_some(fill.cpu)
 }

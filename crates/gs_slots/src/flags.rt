@@ -1,34 +1,55 @@
-//! The flags of a transaction, as the one byte that a slot has for them.
+//! The flags of a transaction, and the one byte that a slot has for them.
 
 ghost use Rattle.std.specs.Prelude.{◌≡◌};
-ghost use Rattle.gs_slots.specs.Flags.{are_flags, flags_of, has_group, has_preempt};
+ghost use Rattle.gs_slots.specs.Flags.{are_flags, flags_byte, flags_in, single};
 
-use crate::state::Stamp;
-
-/// Returns the flags of a transaction: bit 0 says that it preempts, and bit 1 that it is one of a group.
-pub(crate) fn flags_of(stamp: &Stamp) -> u8
-    ensures { result ≡ flags_of stamp.now }
-{
-    u8::from(stamp.preempt) + 2 * u8::from(stamp.group)
+/// What a transaction asks for beside its thread and its CPU.
+#[derive(Clone, Copy, PartialEq, Eq, Debug)]
+pub struct Flags {
+    /// Whether a thread that is on the CPU is to give way.
+    pub preempt: bool,
+    /// Whether it is placed only if all others of a commit that say so are placed.
+    pub group: bool,
 }
 
-/// Returns whether no other flag is set than those.
-pub(crate) fn are_flags(flags: u8) -> bool
-    ensures { result ≡ are_flags flags }
-{
-    flags < 4
+impl Flags {
+    /// It asks for nothing.
+    pub const NONE: Flags = Flags {
+        preempt: false,
+        group: false,
+    };
+
+    /// Returns the flags of a transaction that is not one of a group: a thread on the CPU is to give way, or not.
+    pub fn single(preempt: bool) -> Flags
+        ensures { result ≡ single preempt }
+    {
+        Flags {
+            preempt,
+            ..Flags::NONE
+        }
+    }
 }
 
-/// Returns whether bit 0 is set.
-pub(crate) fn has_preempt(flags: u8) -> bool
-    ensures { result ≡ has_preempt flags }
+/// Returns the byte of flags: bit 0 says that a thread gives way, and bit 1 that the transaction is one of a group.
+pub(crate) fn flags_byte(flags: Flags) -> u8
+    ensures { result ≡ flags_byte flags }
 {
-    flags % 2 == 1
+    u8::from(flags.preempt) + 2 * u8::from(flags.group)
 }
 
-/// Returns whether bit 1 is set, or one above it.
-pub(crate) fn has_group(flags: u8) -> bool
-    ensures { result ≡ has_group flags }
+/// Returns whether a byte has no other bit than those.
+pub(crate) fn are_flags(byte: u8) -> bool
+    ensures { result ≡ are_flags byte }
 {
-    2 <= flags
+    byte < 4
+}
+
+/// Returns the flags that a byte has. A group's is set if its bit is, or one above it.
+pub(crate) fn flags_in(byte: u8) -> Flags
+    ensures { result ≡ flags_in byte }
+{
+    Flags {
+        preempt: byte % 2 == 1,
+        group: 2 <= byte,
+    }
 }

@@ -17,6 +17,7 @@ mod state;
 mod wire;
 
 pub use fill::{Fill, FillFault, fill_halves};
+pub use flags::Flags;
 pub use region::Region;
 pub use slot::SlotMut;
 pub use slots::Slots;

@@ -10,6 +10,7 @@ ghost use Rattle.gs_slots.specs.State.{has_stamp, is_malformed, refused, told_in
 ghost use Rattle.gs_slots.specs.SlotMut.{bytes_of, cpu_of, left_in, reference_of, state_of};
 
 use crate::bytes::{finish, is_busy, state_at, write_stamped};
+use crate::flags::Flags;
 use crate::state::{Malformed, SlotBusy, SlotState, Stamp};
 use crate::wire::SLOT_LEN;
 use gs_layout::Outcome;
@@ -76,16 +77,9 @@ impl<'a> SlotMut<'a> {
     /// # Errors
     ///
     /// `SlotBusy` exactly if the slot is not idle. It stays as it is.
-    pub fn stamp(
-        self,
-        generation: u32,
-        tid: u32,
-        tseq: u32,
-        preempt: bool,
-        group: bool,
-    ) -> Result<(), SlotBusy>
+    pub fn stamp(self, generation: u32, tid: u32, tseq: u32, flags: Flags) -> Result<(), SlotBusy>
         ensures exact { IsOk result ↔ (state_of self.entry ≡ Ok SlotState.Idle) }
-        ensures stamped { OnOk result (state_in (cpu_of self.entry) (left_in self.exit) ≡ Ok (SlotState.Stamped (record { generation = generation; tid = tid; tseq = tseq; preempt = preempt; group = group }))) }
+        ensures stamped { OnOk result (state_in (cpu_of self.entry) (left_in self.exit) ≡ Ok (SlotState.Stamped (record { generation = generation; tid = tid; tseq = tseq; flags = flags }))) }
         ensures busy { OnErr result (left_in self.exit ≡ bytes_of self.entry) }
     {
         let SlotMut { bytes, cpu } = self;
@@ -96,8 +90,7 @@ impl<'a> SlotMut<'a> {
             generation,
             tid,
             tseq,
-            preempt,
-            group,
+            flags,
         };
         write_stamped(cpu, &stamp, bytes);
         Ok(())

@@ -1,3 +1,4 @@
+use crate::flags::Flags;
 use gs_layout::Outcome;
 use thiserror::Error;
 
@@ -10,10 +11,8 @@ pub struct Stamp {
     pub tid: u32,
     /// The thread's sequence number as the agent knew it.
     pub tseq: u32,
-    /// Whether a thread that is on the CPU is to give way.
-    pub preempt: bool,
-    /// Whether it is placed only if all others of a commit that say so are placed.
-    pub group: bool,
+    /// What it asks for besides.
+    pub flags: Flags,
 }
 
 impl Stamp {
@@ -22,8 +21,7 @@ impl Stamp {
         generation: 0,
         tid: 0,
         tseq: 0,
-        preempt: false,
-        group: false,
+        flags: Flags::NONE,
     };
 }
 

@@ -4,7 +4,7 @@ ghost use Rattle.gs_view.specs.declared.fault.ApplyFault.TheVariants.{OutOfMemor
 use std::alloc::AllocError;
 use thiserror::Error;
 
-/// Why a view did not take a message in. The view stays as it is.
+/// Why a view did not apply a message. The view stays as it is.
 #[derive(Clone, Copy, PartialEq, Eq, Debug, Error)]
 pub enum ApplyFault {
     /// The message's number is more than one above the one that is known of its thread.

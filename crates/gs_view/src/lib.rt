@@ -4,7 +4,6 @@
 
 mod fault;
 mod index;
-mod load;
 mod news;
 mod records;
 mod view;

@@ -8,7 +8,6 @@ ghost use Rattle.gs_view.specs.Shown.{if_shown, tids};
 ghost use Rattle.gs_view.specs.News.{word_of};
 
 use crate::fault::ApplyFault;
-use crate::load::{load_page, reserve_for};
 use crate::news::News;
 use crate::records::Records;
 use crate::walk::ViewWalk;
@@ -21,7 +20,7 @@ use std::marker::Model;
 /// What the agent knows of each thread: its facts, at a sequence number. Clauses see the records in
 /// increasing order of tid (`entries`), and how much room there is.
 ///
-/// A look-up, and the taking in of a message, take the same time for any number of records. It allocates the
+/// To look a record up, and to apply a message, takes the same time for any number of records. It allocates the
 /// records, and a place for each tid up to the greatest that was seen.
 #[derive(Drop)]
 pub struct AgentView {
@@ -79,14 +78,14 @@ impl AgentView {
         self.records.walk()
     }
 
-    /// Takes in a message, and returns what it was to the view. Only news changes the view, at the message's
+    /// Applies a message, and returns what it was to the view. Only news changes the view, at the message's
     /// own thread, and only the creation of a thread allocates.
     ///
     /// # Errors
     ///
     /// `Gap` if the message's number is more than one above the one that is known of its thread: messages
     /// between are missing. `OutOfMemory` if out of memory for the record of a thread that the message
-    /// creates and of which nothing is known. Then nothing changes, and the message can be taken in later.
+    /// creates and of which nothing is known. Then nothing changes, and the message can be applied later.
     pub fn apply(&mut self, message: MessageRef<'_>) -> Result<News, ApplyFault>
         ensures word { IfOk result (λ news. word (look_up self.old.entries) message.entry ≡ word_of news) }
         ensures known { OnOk result ((t : ℕ) → look_up self.new.entries t ≡ apply (look_up self.old.entries) message.entry t) }
@@ -126,7 +125,10 @@ impl AgentView {
         ensures room { OnOk result (HasRoomFor page.now.records self.new) }
         ensures same { self.new.entries ≡ self.old.entries }
     {
-        reserve_for(&mut self.records, page)
+        if let Some(last) = page.records.last() {
+            self.records.reserve(last.tid, page.records.len())?;
+        }
+        Ok(())
     }
 
     /// Sets a page's record: what it tells of its thread is known then, whatever was known of it before. There
@@ -151,10 +153,14 @@ impl AgentView {
         ensures known { OnOk result ((t : ℕ) → look_up self.new.entries t ≡ loaded page.now.records (look_up self.old.entries) t) }
         ensures unchanged { OnErr result (self.new.entries ≡ self.old.entries) }
     {
-        load_page(&mut self.records, page)
+        self.reserve(page)?;
+        for thread in &page.records {
+            self.set(thread);
+        }
+        Ok(())
     }
 
-    /// Takes in a message about a thread of which nothing is known.
+    /// Applies a message about a thread of which nothing is known.
     fn begin(&mut self, message: &MessageRef<'_>) -> Result<News, ApplyFault>
         requires thread { kind_of message.now ≢ Kind.TimerTick }
         requires unknown { look_up self.old.entries (tid_of message.now) ≡ None }

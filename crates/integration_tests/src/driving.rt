@@ -7,7 +7,7 @@ use gs_kernel::{Executed, Kernel, Landing, Settings};
 use gs_layout::{Class, Facts, Name, Outcome};
 use gs_policy::{Choice, Policy};
 use gs_ring::ByteRing;
-use gs_slots::{Region, SlotState, Stamp};
+use gs_slots::{Flags, Region, SlotState, Stamp};
 use gs_status::Mask;
 use std::alloc::Global;
 use std::test::Fail;
@@ -73,7 +73,8 @@ fn stamp<P>(role: &mut Role<P>, region: &mut Region, plan: &[Choice]) -> bool {
             return false;
         }
         let slot = region.slot(choice.cpu);
-        if role.stamp(slot, choice.tid, choice.preempt, false).is_err() {
+        let flags = Flags::single(choice.preempt);
+        if role.stamp(slot, choice.tid, flags).is_err() {
             return false;
         }
     }
@@ -136,8 +137,7 @@ fn holds(region: &Region, stamped: &[Option<u32>]) -> bool {
                     generation: 1,
                     tid,
                     tseq: 1,
-                    preempt: false,
-                    group: false,
+                    flags: Flags::NONE,
                 },
             },
             None => SlotState::Idle,

@@ -102,7 +102,7 @@ impl Poster for FixedPlaces {
 
     ghost count = { λ r. length r.posts };
 
-    ghost taken = { λ r. r.taken };
+    ghost consumed = { λ r. r.taken };
 
     ghost tight = { λ r _. IsFull r };
 

@@ -5,7 +5,7 @@ use gs_kernel::{Command, Executed, Kernel, Landing, Settings, ThreadEvent};
 use gs_layout::{Class, Facts, Name, Outcome};
 use gs_policy::{AnyPolicy, FirstCome, TwoClass};
 use gs_ring::ByteRing;
-use gs_slots::{SlotState, Stamp};
+use gs_slots::{Flags, SlotState, Stamp};
 use gs_status::Mask;
 use std::alloc::Global;
 use std::test::Fail;
@@ -188,8 +188,7 @@ fn stamp(cpu: u16, tid: u32) -> Event<AnyPolicy> {
     Event::Stamp {
         cpu,
         tid,
-        preempt: false,
-        group: false,
+        flags: Flags::NONE,
     }
 }
 
@@ -379,8 +378,7 @@ fn lands(kernel: &mut Kernel<ByteRing>, outcome: Outcome) -> bool {
         generation: 1,
         tid: 1,
         tseq: 1,
-        preempt: false,
-        group: false,
+        flags: Flags::NONE,
     };
     let landing = Landing {
         cpu: 1,

@@ -99,7 +99,7 @@ fn create(kernel: &mut Kernel<FixedPlaces>, facts: &Facts) -> Result<Executed, R
 /// Creates a thread, and returns what came of it.
 fn created<P: Poster>(kernel: &mut Kernel<P>, facts: &Facts) -> Result<Option<(u32, u32)>, Refusal>
     ensures ring { P.same kernel.old.poster kernel.new.poster }
-    ensures stays { P.taken kernel.new.poster ≡ P.taken kernel.old.poster }
+    ensures stays { P.consumed kernel.new.poster ≡ P.consumed kernel.old.poster }
     ensures told { P.posted kernel.new.poster (posted kernel.new.history) }
 {
     let came = kernel.create(facts);
@@ -109,7 +109,7 @@ fn created<P: Poster>(kernel: &mut Kernel<P>, facts: &Facts) -> Result<Option<(u
 /// Creates threads until the ring is full, and one more, and ticks.
 fn fill<P: Poster>(kernel: &mut Kernel<P>, facts: &Facts) -> Answers
     ensures ring { P.same kernel.old.poster kernel.new.poster }
-    ensures stays { P.taken kernel.new.poster ≡ P.taken kernel.old.poster }
+    ensures stays { P.consumed kernel.new.poster ≡ P.consumed kernel.old.poster }
     ensures told { P.posted kernel.new.poster (posted kernel.new.history) }
 {
     let created = [

@@ -27,17 +27,17 @@ begun g c =
     done_alone (RingRoom c.self.inside.kernel.poster) h c.execute.new.self.history (Begin (next_generation h)) c.in_ok-executed.executed c.in_ok-executed.ensures.legal.tells
 
 -- the role that attaches knows nothing, and is of that generation
-generation : (g : _) (c : goal.Joined-self g) → c.in-Ok.role.generation ≡ next_generation c.self.inside.kernel.history
+generation : (g : _) (c : goal.Joined-self g) → c.in_ok-role.role.generation ≡ next_generation c.self.inside.kernel.history
 generation g c =
     let k = c.self.inside.kernel in
     let free = free_when k.settings k.history k.paged commands.Begin c.in_ok-executed.ensures.legal.free in
     let more : is_last_generation (Some c.generation.result) ≡ false = ap is_last_generation c.generation.ensures ∙ begins_when k.history free.own in
     let test : (c.generation.result == 4294967295) ≡ false = more in
     let sum : c.saturating_add-generation.result ≡ c.generation.result + 1 = grind (arith, nat_tests, test, c.generation.type_inv, c.saturating_add-generation.ensures) in
-    ap (λ (r : RoleOf _). r.generation) c.in-Ok.ensures ∙ (sum ∙ ap (λ (o : Option ℕ). unwrap_or o 0 + 1) c.generation.ensures)
+    ap (λ (r : RoleOf _). r.generation) c.in_ok-role.ensures ∙ (sum ∙ ap (λ (o : Option ℕ). unwrap_or o 0 + 1) c.generation.ensures)
 
-fresh : (g : _) (c : goal.Joined-self g) → agent_of c.in-Ok.role ≡ newcomer c.self.inside.kernel.settings.cpus
-fresh g c = ap agent_of c.in-Ok.ensures ∙ ap newcomer (ap (λ (x : _). x.cpus) c.settings-cpus.ensures.value)
+fresh : (g : _) (c : goal.Joined-self g) → agent_of c.in_ok-role.role ≡ newcomer c.self.inside.kernel.settings.cpus
+fresh g c = ap agent_of c.in_ok-role.ensures ∙ ap newcomer (ap (λ (x : _). x.cpus) c.settings-cpus.ensures.value)
 
 idle : (g : _) (c : goal.Joined-self g) → c.clear.new.self ≡ replicate c.self.inside.kernel.settings.cpus Idle
 idle g c =
@@ -56,14 +56,14 @@ invariant_of-self-2 g c =
     let k = c.execute.new.self in
     let one = begun g c in
     let left : record m { history = m.history ++ Begin (next_generation m.history) ∷ []; agent = Some (newcomer m.settings.cpus); policy = g.P.Policy.chosen c.args.policy; slots = replicate m.settings.cpus Idle }
-    ≡ record (with_kernel m k.settings k.poster k.history) { agent = Some (agent_of c.in-Ok.role); policy = g.P.Policy.chosen c.args.policy; slots = c.clear.new.self } =
+    ≡ record (with_kernel m k.settings k.poster k.history) { agent = Some (agent_of c.in_ok-role.role); policy = g.P.Policy.chosen c.args.policy; slots = c.clear.new.self } =
     λ j. record m { settings = sym e.frame.settings j; ring = sym e.frame.ring j; history = sym one.1 j; consumed = sym e.frame.stays j; agent = Some (sym (fresh g c) j); policy = g.P.Policy.chosen c.args.policy; slots = sym (idle g c) j } in
     let none : k.paged ≡ false = e.frame.pages ∙ ap (λ (x : Executed). paged_by (Ok x) commands.Begin c.self.inside.kernel.paged) one.0 in
     record {
       kept = subst Kept left (kept_begun m (next_generation m.history) (g.P.Policy.chosen c.args.policy) i.kept);
       told = e.frame.told;
-      suits = suits_begun c.args.policy m.history k.history (next_generation m.history) k.paged c.in-Ok.role one.1 none (ap (λ (r : RoleOf _). r.policy) c.in-Ok.ensures)
-          (generation g c) (ap (λ (r : RoleOf _). r.next) c.in-Ok.ensures);
+      suits = suits_begun c.args.policy m.history k.history (next_generation m.history) k.paged c.in_ok-role.role one.1 none (ap (λ (r : RoleOf _). r.policy) c.in_ok-role.ensures)
+          (generation g c) (ap (λ (r : RoleOf _). r.next) c.in_ok-role.ensures);
     }
 
 pub returns-clause-begun : goal.returns-clause-begun
@@ -75,12 +75,12 @@ returns-clause-begun g c =
     let old = c.self.inside.kernel in
     let x = c.in_ok-executed.executed in
     let last : last_entry k.history ≡ Begin (next_generation m.history) = ap last_entry (begun g c).1 ∙ last_added m.history (Begin (next_generation m.history)) in
-    let agent : led m.settings.cpus (last_entry k.history) m.agent ≡ Some (agent_of c.in-Ok.role) = ap (λ (y : Entry). led m.settings.cpus y m.agent) last ∙ ap Some (sym (fresh g c)) in
+    let agent : led m.settings.cpus (last_entry k.history) m.agent ≡ Some (agent_of c.in_ok-role.role) = ap (λ (y : Entry). led m.settings.cpus y m.agent) last ∙ ap Some (sym (fresh g c)) in
     let slots : freed_by m.settings.cpus (last_entry k.history) m.slots ≡ c.clear.new.self = ap (λ (y : Entry). freed_by m.settings.cpus y m.slots) last ∙ sym (idle g c) in
     let told = legal_told (planned_by p m) old.paged commands.Begin x k.settings old.poster k.poster k.history refl refl e.frame.ring e.frame.stays e.frame.settings c.self.invariant.suits.given e.legal in
-    let carries : Carries (planned_by p m) commands.Begin (reply_of (Ok x) (last_entry k.history)) (record (with_kernel m k.settings k.poster k.history) { agent = Some (agent_of c.in-Ok.role); policy = p; slots = c.clear.new.self }) =
+    let carries : Carries (planned_by p m) commands.Begin (reply_of (Ok x) (last_entry k.history)) (record (with_kernel m k.settings k.poster k.history) { agent = Some (agent_of c.in_ok-role.role); policy = p; slots = c.clear.new.self }) =
     subst (λ (s : State). Carries (planned_by p m) commands.Begin (reply_of (Ok x) (last_entry k.history)) s) (λ i. record (with_kernel (planned_by p m) k.settings k.poster k.history) { agent = agent i; slots = slots i }) told.1 in
-    subst (λ (s : StateOf _). Carries (planned_by p (planning g.P.Policy.chosen s)) commands.Begin (reply_of (Ok x) (last_entry k.history)) (record (with_kernel m k.settings k.poster k.history) { agent = Some (agent_of c.in-Ok.role); policy = p; slots = c.clear.new.self })) c.self.view_is carries
+    subst (λ (s : StateOf _). Carries (planned_by p (planning g.P.Policy.chosen s)) commands.Begin (reply_of (Ok x) (last_entry k.history)) (record (with_kernel m k.settings k.poster k.history) { agent = Some (agent_of c.in_ok-role.role); policy = p; slots = c.clear.new.self })) c.self.view_is carries
 
 pub returns-clause-done : goal.returns-clause-done
 returns-clause-done g c = (begun g c).0

@@ -12,7 +12,7 @@ returns-in-Stamp-clause-step g c =
     let a = c.args.self.now in
     let b = c.stamp in
     let e = b.ensures in
-    let event = events.Stamp c.in-Stamp.cpu c.in-Stamp.tid c.in-Stamp.preempt c.in-Stamp.group in
+    let event = events.Stamp c.in-Stamp.cpu c.in-Stamp.tid c.in-Stamp.flags in
     subst (λ (x : Event _). Step (planning chosen a) (planned chosen x) (replied b.result) (planning chosen b.new.self)) (sym c.in-Stamp.is)
     (step_of (planning chosen a) event b.result (planning chosen b.new.self) c.requires e.fits (both_of b.result _ _ e.reply e.ok) e.refused (same_planning chosen b.result a b.new.self e.unchanged) (λ r p. p))
 

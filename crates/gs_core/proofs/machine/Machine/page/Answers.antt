@@ -55,7 +55,7 @@ invariant_of-self-2 g c =
       settings = (sym noted j).settings;
       ring = (sym noted j).poster.capacity;
       history = (sym noted j).history;
-      consumed = (sym noted j).poster.taken;
+      consumed = (sym noted j).poster.consumed;
       agent = Some (record { mind = r'.mind; next = sym (goes ∙ ap (λ (x : Contents). x.next) at) j });
     } in
     let some : is_some (attaching m.history) ≡ true = need.0 in

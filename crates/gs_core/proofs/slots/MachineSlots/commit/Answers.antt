@@ -9,11 +9,11 @@ txns_commit-requires g c = record { cpus = count_is c.self.inside.region c.args.
 pub invariant_of-self : goal.invariant_of-self
 invariant_of-self g c =
     let p = g.P.Poster in
-    let room : Room = RoomOf p.same p.taken p.posted p.tight c.args.kernel.now.poster in
+    let room : Room = RoomOf p.same p.consumed p.posted p.tight c.args.kernel.now.poster in
     commit_left room c.args.kernel.now.settings c.args.mask c.self.inside.region c.txns_commit.new.region c.args.self.now c.args.kernel.now.history c.txns_commit.new.self.history c.txns_commit.result _ (c.self.invariant ∙ ap (map Ok) c.self.view_is) c.txns_commit.ensures.lands c.txns_commit.ensures.unchanged
 
 pub returns-clause-lands : goal.returns-clause-lands
 returns-clause-lands g c =
     let p = g.P.Poster in
-    let room : Room = RoomOf p.same p.taken p.posted p.tight c.args.kernel.now.poster in
+    let room : Room = RoomOf p.same p.consumed p.posted p.tight c.args.kernel.now.poster in
     commit_lands room c.args.kernel.now.settings c.args.mask c.self.inside.region c.txns_commit.new.region c.args.self.now c.args.kernel.now.history c.txns_commit.new.self.history c.txns_commit.result (c.self.invariant ∙ ap (map Ok) c.self.view_is) c.txns_commit.ensures.lands

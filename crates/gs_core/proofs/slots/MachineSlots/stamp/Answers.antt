@@ -9,7 +9,7 @@ use Rattle.gs_core.proofs.Regions.{AreRead, Reads, count_is, idle_there, read_to
 use Rattle.gs_core.proofs.slots.MachineSlots.stamp.Goals as goal
 
 abbrev stamp : (g : _) → goal.After-self-1 g → Stamp
-stamp g c = record { generation = c.args.role.now.generation; tid = c.args.tid; tseq = c.args.tseq; preempt = c.args.preempt; group = c.args.group }
+stamp g c = record { generation = c.args.role.now.generation; tid = c.args.tid; tseq = c.args.tseq; flags = c.args.flags }
 
 reads : (g : _) (c : goal.After-self-1 g) → Reads c.args.self.now c.args.cpu (state_of c.slot.result)
 reads g c = λ z is.

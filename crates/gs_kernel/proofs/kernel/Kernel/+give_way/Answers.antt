@@ -21,14 +21,14 @@ give_way-requires g t c κs within =
     let same : c.make_way.new.self.settings ≡ s = c.make_way.ensures.frame.settings in
     let fits : c.make_way.result ≡ true = grind (arith, common_steps) in
     let numbered = subst (λ (z : Group). AreNumbered s h z) whole c.requires.numbered in
-    let few = gave_few (RoomOf p.same p.taken p.posted p.tight c.args.self.now.poster) h (preemption s h x.0) c.make_way.result mid c.make_way.ensures.gives in
+    let few = gave_few (RoomOf p.same p.consumed p.posted p.tight c.args.self.now.poster) h (preemption s h x.0) c.make_way.result mid c.make_way.ensures.gives in
     let k = ap length whole in
     let most = ap (λ (z : Settings). z.history) same in (
       search rules,
       (
         search rules,
         (
-          subst (λ (z : Settings). AreNumbered z mid rest) (sym same) (numbered_gave (RoomOf p.same p.taken p.posted p.tight c.args.self.now.poster) s h x.0 c.make_way.result mid rest c.make_way.ensures.gives fits numbered.2),
+          subst (λ (z : Settings). AreNumbered z mid rest) (sym same) (numbered_gave (RoomOf p.same p.consumed p.posted p.tight c.args.self.now.poster) s h x.0 c.make_way.result mid rest c.make_way.ensures.gives fits numbered.2),
           (
             omega (arith, k, few, c.make_way.ensures.room, c.requires.room),
             omega (arith, k, few, most, c.requires.few),
@@ -50,7 +50,7 @@ returns-clause-gives g t c =
     let whole : c.args.group.now ≡ x ∷ rest = c.in-Some.ensures.cases.0 in
     let same : c.make_way.new.self.settings ≡ s = c.make_way.ensures.frame.settings in
     let fits : c.make_way.result ≡ true = grind (arith, common_steps) in
-    let later = room_later p.same p.taken p.posted p.tight old new g.met.P.Poster.same_trans c.make_way.ensures.frame.ring c.make_way.ensures.frame.stays in
-    subst (λ (z : Group). GiveWay (RoomOf p.same p.taken p.posted p.tight old) s z h c.give_way.result c.give_way.new.self.history) (sym whole)
-    (gave_then (RoomOf p.same p.taken p.posted p.tight old) (RoomOf p.same p.taken p.posted p.tight new) s x rest h c.make_way.result mid c.give_way.result c.give_way.new.self.history fits later c.make_way.ensures.gives
-    (subst (λ (z : Settings). GiveWay (RoomOf p.same p.taken p.posted p.tight new) z rest mid c.give_way.result c.give_way.new.self.history) same c.give_way.ensures.gives))
+    let later = room_later p.same p.consumed p.posted p.tight old new g.met.P.Poster.same_trans c.make_way.ensures.frame.ring c.make_way.ensures.frame.stays in
+    subst (λ (z : Group). GiveWay (RoomOf p.same p.consumed p.posted p.tight old) s z h c.give_way.result c.give_way.new.self.history) (sym whole)
+    (gave_then (RoomOf p.same p.consumed p.posted p.tight old) (RoomOf p.same p.consumed p.posted p.tight new) s x rest h c.make_way.result mid c.give_way.result c.give_way.new.self.history fits later c.make_way.ensures.gives
+    (subst (λ (z : Settings). GiveWay (RoomOf p.same p.consumed p.posted p.tight new) z rest mid c.give_way.result c.give_way.new.self.history) same c.give_way.ensures.gives))

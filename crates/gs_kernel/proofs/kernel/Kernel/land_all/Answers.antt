@@ -50,8 +50,8 @@ walk-preserved g c =
     let left = c.walk.left in
     let x = bytes_of c.slot.result in
     let now = c.walk.self.history in
-    let room : Room = RoomOf p.same p.taken p.posted p.tight c.args.self.now.poster in
-    let room' : Room = RoomOf p.same p.taken p.posted p.tight c.walk.self.poster in
+    let room : Room = RoomOf p.same p.consumed p.posted p.tight c.args.self.now.poster in
+    let room' : Room = RoomOf p.same p.consumed p.posted p.tight c.walk.self.poster in
     let there : has left k ≡ true = c.in-Some.ensures.is_in in
     let found : least (has left) 128 ≡ Some k = sym c.in-Some.ensures.least in
     let wanted : has c.args.mask k ≡ true = c.requires.some k (lowest_wanted _ _ _ _ _ _ _ _ _ _ i.walked there) in
@@ -61,7 +61,7 @@ walk-preserved g c =
     let is : LandsIfBy (LandsBytes room' s) true k x now y.made = subst (λ (z : Settings). LandsIfBy (LandsBytes room' z) true k x now y.made) i.frame.settings
     (subst (λ n. LandsIfBy (LandsBytes room' c.walk.self.settings) true n x now y.made) c.slot.ensures.cpu y.lands) in
     let one : Adds (LandsIfBy (LandsBytes room s) true k x now) c.walk.landings.items c.land_next.new.landings.items _ c.land_next.new.self.history =
-    record { made = y.made; lands = if_map (LandsBytes room' s) (LandsBytes room s) true k x now y.made (bytes_map room' room s (room_later p.same p.taken p.posted p.tight c.args.self.now.poster c.walk.self.poster g.met.P.Poster.same_trans i.frame.ring i.frame.stays)) is; answers = y.answers; slots = y.slots; history = y.history } in
+    record { made = y.made; lands = if_map (LandsBytes room' s) (LandsBytes room s) true k x now y.made (bytes_map room' room s (room_later p.same p.consumed p.posted p.tight c.args.self.now.poster c.walk.self.poster g.met.P.Poster.same_trans i.frame.ring i.frame.stays)) is; answers = y.answers; slots = y.slots; history = y.history } in
     record {
       walked = walked_push (LandsBytes room s) c.args.some left c.without-left.result k old x c.land_next.new.slot.0 c.args.self.now.history c.args.landings.now.items c.walk.landings.items c.land_next.new.landings.items c.walk.region now c.land_next.new.self.history
           i.walked there (least_before (has left) 128 k found) lt c.without-left.ensures.here c.without-left.ensures.others c.slot.ensures.bytes one;
@@ -79,6 +79,6 @@ walk-preserved g c =
 pub returns-clause-lands : goal.returns-clause-lands
 returns-clause-lands g c =
     let p = g.P.Poster in
-    some_land (RoomOf p.same p.taken p.posted p.tight c.args.self.now.poster) c.args.self.now.settings c.args.some c.args.mask c.args.region.now c.args.self.now.history c.args.landings.now.items c.walk.landings.items c.walk.region c.walk.self.history
+    some_land (RoomOf p.same p.consumed p.posted p.tight c.args.self.now.poster) c.args.self.now.settings c.args.some c.args.mask c.args.region.now c.args.self.now.history c.args.landings.now.items c.walk.landings.items c.walk.region c.walk.self.history
     c.requires.some c.requires.others
     (walked_end _ _ _ _ _ _ _ _ _ c.walk.invariant.walked (none_in c.walk.left c.in_default.ensures.empty))

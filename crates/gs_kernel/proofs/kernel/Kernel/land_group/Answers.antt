@@ -14,7 +14,7 @@ pub returns-in_default-clause-lands : goal.returns-in_default-clause-lands
 returns-in_default-clause-lands g c =
     let p = g.P.Poster in
     let none : c.args.group.now ≡ [] = grind (arith, common_steps) in
-    none_together (RoomOf p.same p.taken p.posted p.tight c.args.self.now.poster) c.args.self.now.settings c.args.group.now c.args.region.now c.args.self.now.history c.args.landings.now.items none
+    none_together (RoomOf p.same p.consumed p.posted p.tight c.args.self.now.poster) c.args.self.now.settings c.args.group.now c.args.region.now c.args.self.now.history c.args.landings.now.items none
 
 pub returns-clause-lands : goal.returns-clause-lands
 returns-clause-lands g c =
@@ -28,7 +28,7 @@ returns-clause-lands g c =
     let after = c.finish_group.new.landings.items in
     let same : c.settle_group-together.new.self.settings ≡ s = c.settle_group-together.ensures.frame.settings in
     let marks = c.repeated_in-repeated.result in
-    lands_together (RoomOf p.same p.taken p.posted p.tight c.args.self.now.poster) s marks all c.args.region.now c.finish_group.new.region h h' o before after c.settle_group-together.ensures.settles c.repeated_in-repeated.ensures
+    lands_together (RoomOf p.same p.consumed p.posted p.tight c.args.self.now.poster) s marks all c.args.region.now c.finish_group.new.region h h' o before after c.settle_group-together.ensures.settles c.repeated_in-repeated.ensures
     (subst (λ (z : Settings). Finishes (member_landing z h' marks o) all c.args.region.now c.finish_group.new.region) same c.finish_group.ensures.slots)
     (subst (λ (z : Settings). after ≡ before ++ map (member_landing z h' marks o) all) same c.finish_group.ensures.answers)
 
@@ -38,7 +38,7 @@ returns-clause-grown g c =
     let s = c.args.self.now.settings in
     let h = c.args.self.now.history in
     let t = c.settle_group-together.ensures.settles in
-    (puts_few (is_group_placed s h c.args.group.now) (RoomOf p.same p.taken p.posted p.tight c.args.self.now.poster) s h c.args.group.now t.0 c.settle_group-together.new.self.history t.1).0
+    (puts_few (is_group_placed s h c.args.group.now) (RoomOf p.same p.consumed p.posted p.tight c.args.self.now.poster) s h c.args.group.now t.0 c.settle_group-together.new.self.history t.1).0
 
 pub returns-clause-most : goal.returns-clause-most
 returns-clause-most g c =
@@ -46,4 +46,4 @@ returns-clause-most g c =
     let s = c.args.self.now.settings in
     let h = c.args.self.now.history in
     let t = c.settle_group-together.ensures.settles in
-    (puts_few (is_group_placed s h c.args.group.now) (RoomOf p.same p.taken p.posted p.tight c.args.self.now.poster) s h c.args.group.now t.0 c.settle_group-together.new.self.history t.1).1
+    (puts_few (is_group_placed s h c.args.group.now) (RoomOf p.same p.consumed p.posted p.tight c.args.self.now.poster) s h c.args.group.now t.0 c.settle_group-together.new.self.history t.1).1

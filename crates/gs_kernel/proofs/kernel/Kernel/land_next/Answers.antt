@@ -16,7 +16,7 @@ unwrap-requires g c =
 pub returns-in-Some-clause-lands : goal.returns-in-Some-clause-lands
 returns-in-Some-clause-lands g c =
     let p = g.P.Poster in
-    let room : Room = RoomOf p.same p.taken p.posted p.tight c.args.self.now.poster in
+    let room : Room = RoomOf p.same p.consumed p.posted p.tight c.args.self.now.poster in
     let ok : c.land.result ≡ Ok (Some c.in-Some.landing) = grind (arith, common_steps) in
     let lands = subst (λ q. IfOk q (λ o. LandsBytes room c.args.self.now.settings c.args.self.now.history (cpu_of c.args.slot) (bytes_of c.args.slot) o c.land.new.slot.0 c.land.new.self.history)) ok c.land.ensures.lands in
     asked_adds (LandsBytes room c.args.self.now.settings) _ _ _ _ (Some c.in-Some.landing) _ _ _ _ refl lands c.push_reserved.ensures.items
@@ -24,7 +24,7 @@ returns-in-Some-clause-lands g c =
 pub returns-in-Some-clause-few : goal.returns-in-Some-clause-few
 returns-in-Some-clause-few g c =
     let p = g.P.Poster in
-    let room : Room = RoomOf p.same p.taken p.posted p.tight c.args.self.now.poster in
+    let room : Room = RoomOf p.same p.consumed p.posted p.tight c.args.self.now.poster in
     let ok : c.land.result ≡ Ok (Some c.in-Some.landing) = grind (arith, common_steps) in
     let lands = subst (λ q. IfOk q (λ o. LandsBytes room c.args.self.now.settings c.args.self.now.history (cpu_of c.args.slot) (bytes_of c.args.slot) o c.land.new.slot.0 c.land.new.self.history)) ok c.land.ensures.lands in
     (held_few room _ _ _ _ _ _ _ lands).1
@@ -32,7 +32,7 @@ returns-in-Some-clause-few g c =
 pub returns-in-None-clause-lands : goal.returns-in-None-clause-lands
 returns-in-None-clause-lands g c =
     let p = g.P.Poster in
-    let room : Room = RoomOf p.same p.taken p.posted p.tight c.args.self.now.poster in
+    let room : Room = RoomOf p.same p.consumed p.posted p.tight c.args.self.now.poster in
     let ok : c.land.result ≡ Ok None = grind (arith, common_steps) in
     let lands = subst (λ q. IfOk q (λ o. LandsBytes room c.args.self.now.settings c.args.self.now.history (cpu_of c.args.slot) (bytes_of c.args.slot) o c.land.new.slot.0 c.land.new.self.history)) ok c.land.ensures.lands in
     asked_adds (LandsBytes room c.args.self.now.settings) _ _ _ _ None _ _ _ _ refl lands (sym (append-nil _))

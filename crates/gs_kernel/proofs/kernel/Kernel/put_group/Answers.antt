@@ -23,7 +23,7 @@ pub place_all-requires-clause-ready : goal.place_all-requires-clause-ready
 place_all-requires-clause-ready g c =
     let p = g.P.Poster in
     let fits : c.give_way.result ≡ true = grind (arith, common_steps) in
-    let w = stands_then (RoomOf p.same p.taken p.posted p.tight c.args.self.now.poster) c.args.self.now.settings c.args.self.now.history c.args.group.now c.give_way.result c.give_way.new.self.history fits
+    let w = stands_then (RoomOf p.same p.consumed p.posted p.tight c.args.self.now.poster) c.args.self.now.settings c.args.self.now.history c.args.group.now c.give_way.result c.give_way.new.self.history fits
     (stands c.args.self.now.settings c.args.self.now.history c.args.group.now c.requires.rises c.requires.placed) c.give_way.ensures.gives in
     subst (λ (z : Settings). AreReady z c.give_way.new.self.history c.args.group.now) (sym c.give_way.ensures.frame.settings) w.ready
 
@@ -31,7 +31,7 @@ pub place_all-requires-clause-free : goal.place_all-requires-clause-free
 place_all-requires-clause-free g c =
     let p = g.P.Poster in
     let fits : c.give_way.result ≡ true = grind (arith, common_steps) in
-    (stands_then (RoomOf p.same p.taken p.posted p.tight c.args.self.now.poster) c.args.self.now.settings c.args.self.now.history c.args.group.now c.give_way.result c.give_way.new.self.history fits
+    (stands_then (RoomOf p.same p.consumed p.posted p.tight c.args.self.now.poster) c.args.self.now.settings c.args.self.now.history c.args.group.now c.give_way.result c.give_way.new.self.history fits
     (stands c.args.self.now.settings c.args.self.now.history c.args.group.now c.requires.rises c.requires.placed) c.give_way.ensures.gives).free
 
 pub place_all-requires-clause-apart : goal.place_all-requires-clause-apart
@@ -41,7 +41,7 @@ pub place_all-requires-clause-room : goal.place_all-requires-clause-room
 place_all-requires-clause-room g c =
     let p = g.P.Poster in
     let fits : c.give_way.result ≡ true = grind (arith, common_steps) in
-    let w = stands_then (RoomOf p.same p.taken p.posted p.tight c.args.self.now.poster) c.args.self.now.settings c.args.self.now.history c.args.group.now c.give_way.result c.give_way.new.self.history fits
+    let w = stands_then (RoomOf p.same p.consumed p.posted p.tight c.args.self.now.poster) c.args.self.now.settings c.args.self.now.history c.args.group.now c.give_way.result c.give_way.new.self.history fits
     (stands c.args.self.now.settings c.args.self.now.history c.args.group.now c.requires.rises c.requires.placed) c.give_way.ensures.gives in
     omega (arith, w.count, c.give_way.ensures.room, c.requires.room)
 
@@ -50,5 +50,5 @@ place_all-requires-clause-few g c =
     let p = g.P.Poster in
     let fits : c.give_way.result ≡ true = grind (arith, common_steps) in
     let v = stands c.args.self.now.settings c.args.self.now.history c.args.group.now c.requires.rises c.requires.placed in
-    let w = stands_then (RoomOf p.same p.taken p.posted p.tight c.args.self.now.poster) c.args.self.now.settings c.args.self.now.history c.args.group.now c.give_way.result c.give_way.new.self.history fits v c.give_way.ensures.gives in
+    let w = stands_then (RoomOf p.same p.consumed p.posted p.tight c.args.self.now.poster) c.args.self.now.settings c.args.self.now.history c.args.group.now c.give_way.result c.give_way.new.self.history fits v c.give_way.ensures.gives in
     omega (arith, w.count, v.most, ap (λ (z : Settings). z.history) c.give_way.ensures.frame.settings)

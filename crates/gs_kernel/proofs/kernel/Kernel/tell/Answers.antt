@@ -81,4 +81,4 @@ returns-clause-tells g c =
     let p = g.P.Poster in
     let sent : c.send.new.journal.entries ≡ h ++ listed_message (message_in x) = grind (arith, common_steps) in
     let now : c.append.new.journal.entries ≡ h ++ entries_in x = c.append.ensures.entries ∙ (ap (λ (y : History). y ++ listed_entry (behind x)) sent ∙ told_both h x) in
-    rw (← c.self.view_is) (room_then p.same p.taken p.posted p.tight k.poster c.send.new.poster h (message_in x) (g.met.P.Poster.same_refl k.poster) i.told c.send.ensures.ring c.send.ensures.stays (subst (λ (y : History). p.posted c.send.new.poster (posted y)) sent (c.send.ensures.told i.told)), now)
+    rw (← c.self.view_is) (room_then p.same p.consumed p.posted p.tight k.poster c.send.new.poster h (message_in x) (g.met.P.Poster.same_refl k.poster) i.told c.send.ensures.ring c.send.ensures.stays (subst (λ (y : History). p.posted c.send.new.poster (posted y)) sent (c.send.ensures.told i.told)), now)

@@ -63,4 +63,4 @@ returns-clause-tells g c =
     let m = c.args.message.now in
     let p = g.P.Poster in
     let now : c.post.new.journal.entries ≡ h ++ Posted m ∷ [] = grind (arith, common_steps) in
-    rw (← c.self.view_is) (room_then p.same p.taken p.posted p.tight k.poster c.post.new.poster h (Some m) (g.met.P.Poster.same_refl k.poster) i.told c.post.ensures.ring c.post.ensures.stays (subst (λ (y : History). p.posted c.post.new.poster (posted y)) now (c.post.ensures.told i.told)), now)
+    rw (← c.self.view_is) (room_then p.same p.consumed p.posted p.tight k.poster c.post.new.poster h (Some m) (g.met.P.Poster.same_refl k.poster) i.told c.post.ensures.ring c.post.ensures.stays (subst (λ (y : History). p.posted c.post.new.poster (posted y)) now (c.post.ensures.told i.told)), now)

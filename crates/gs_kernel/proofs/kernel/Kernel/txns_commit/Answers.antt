@@ -89,11 +89,11 @@ returns-clause-lands g c =
     let r = c.busy.new.self in
     let none = c.in_ok-landings.landings.items in
     let group : c.deref.result.now ≡ group_in c.args.mask 0 (told_by 0 r) = group_is c.both-busy.result c.busy.result c.args.mask c.args.region.now c.busy.new.self c.deref.result.now c.busy.ensures.same (omega (arith, c.requires.cpus, c.self.invariant.in_range.most_cpus, ap (λ v. v.settings.cpus) c.self.view_is)) c.both-busy.ensures c.busy.ensures.busy (c.deref.ensures.value ∙ c.in_ok-group.ensures) in
-    let first = subst (λ (z : Group). Adds (LandsTogether (RoomOf p.same p.taken p.posted p.tight k.poster) k.settings z r k.history) none mid.landings.items mid.region mid.self.history) group c.land_group.ensures.lands in
-    let later = room_later p.same p.taken p.posted p.tight k.poster mid.self.poster g.met.P.Poster.same_trans c.land_group.ensures.frame.ring c.land_group.ensures.frame.stays in
-    let rest = later_adds (RoomOf p.same p.taken p.posted p.tight mid.self.poster) (RoomOf p.same p.taken p.posted p.tight k.poster) mid.self.settings k.settings c.args.mask mid.region end.region mid.self.history end.self.history mid.landings.items end.landings.items later
+    let first = subst (λ (z : Group). Adds (LandsTogether (RoomOf p.same p.consumed p.posted p.tight k.poster) k.settings z r k.history) none mid.landings.items mid.region mid.self.history) group c.land_group.ensures.lands in
+    let later = room_later p.same p.consumed p.posted p.tight k.poster mid.self.poster g.met.P.Poster.same_trans c.land_group.ensures.frame.ring c.land_group.ensures.frame.stays in
+    let rest = later_adds (RoomOf p.same p.consumed p.posted p.tight mid.self.poster) (RoomOf p.same p.consumed p.posted p.tight k.poster) mid.self.settings k.settings c.args.mask mid.region end.region mid.self.history end.self.history mid.landings.items end.landings.items later
     c.land_group.ensures.frame.settings c.land_all.ensures.lands in
-    let both = commits (RoomOf p.same p.taken p.posted p.tight k.poster) k.settings c.args.mask r mid.region end.region k.history mid.self.history end.self.history none mid.landings.items end.landings.items first rest in
-    let from_none = subst (λ (z : List Landing). Adds (CommitsRegion (RoomOf p.same p.taken p.posted p.tight k.poster) k.settings c.args.mask r k.history) z end.landings.items end.region end.self.history) c.in_ok-landings.ensures.items both in
-    let of_region = subst (λ (z : List (List ℕ)). Adds (CommitsRegion (RoomOf p.same p.taken p.posted p.tight k.poster) k.settings c.args.mask z k.history) [] end.landings.items end.region end.self.history) c.busy.ensures.same from_none in
-    subst (λ v. Adds (CommitsRegion (RoomOf p.same p.taken p.posted p.tight v.poster) v.settings c.args.mask c.args.region.now v.history) [] end.landings.items end.region end.self.history) c.reserve.ensures.same of_region
+    let both = commits (RoomOf p.same p.consumed p.posted p.tight k.poster) k.settings c.args.mask r mid.region end.region k.history mid.self.history end.self.history none mid.landings.items end.landings.items first rest in
+    let from_none = subst (λ (z : List Landing). Adds (CommitsRegion (RoomOf p.same p.consumed p.posted p.tight k.poster) k.settings c.args.mask r k.history) z end.landings.items end.region end.self.history) c.in_ok-landings.ensures.items both in
+    let of_region = subst (λ (z : List (List ℕ)). Adds (CommitsRegion (RoomOf p.same p.consumed p.posted p.tight k.poster) k.settings c.args.mask z k.history) [] end.landings.items end.region end.self.history) c.busy.ensures.same from_none in
+    subst (λ v. Adds (CommitsRegion (RoomOf p.same p.consumed p.posted p.tight v.poster) v.settings c.args.mask c.args.region.now v.history) [] end.landings.items end.region end.self.history) c.reserve.ensures.same of_region

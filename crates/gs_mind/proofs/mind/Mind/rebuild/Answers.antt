@@ -28,7 +28,7 @@ follow_records-requires c =
           (subst (λ (es : List (ℕ × Known)). HasRoom (look_up es) c.self.inside.queue) (sym c.reserve.ensures.same) c.self.invariant.room);
     }
 
--- the records that are taken in are the page's, on what was known before
+-- the records that are followed are the page's, on what was known before
 after_all : (c : goal.After-follow_records)
     → parts (look_up c.follow_records.new.view.entries) c.follow_records.new.cpus c.follow_records.new.queue
     ≡ after_page c.args.page.now.records (parts (look_up c.self.inside.view.entries) c.self.inside.cpus c.make_room_for_page.new.queue)

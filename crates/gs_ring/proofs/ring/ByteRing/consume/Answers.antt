@@ -6,14 +6,14 @@ use Rattle.gs_ring.proofs.Next.{all_taken, end_in, read_in, start_taking, take_o
 use Rattle.gs_ring.proofs.ring.ByteRing.consume.Goals as goal
 
 -- the place that the ring is read from
-reads_at : (i : Inside) (v : RingState) → ring_of i.block.items i.read.count i.written.count i.taken i.posts ≡ v → i.read.count ≡ v.read
-reads_at i v view = read_in i.block.items i.read.count i.written.count i.taken i.posts v view
+reads_at : (i : Inside) (v : RingState) → ring_of i.block.items i.read.count i.written.count i.consumed i.posts ≡ v → i.read.count ≡ v.read
+reads_at i v view = read_in i.block.items i.read.count i.written.count i.consumed i.posts v view
 
 pub overflow_add-end : goal.overflow_add-end
 overflow_add-end c =
     let i = c.self.inside in
     let v = c.args.self.now in
-    omega (arith, within_end v c.requires.0 c.requires.1, c.requires.2, reads_at i v c.self.view_is, end_in i.block.items i.read.count i.written.count i.taken i.posts v c.self.invariant.ring c.self.view_is, c.self.invariant.ring.low, c.self.invariant.ring.few)
+    omega (arith, within_end v c.requires.0 c.requires.1, c.requires.2, reads_at i v c.self.view_is, end_in i.block.items i.read.count i.written.count i.consumed i.posts v c.self.invariant.ring c.self.view_is, c.self.invariant.ring.low, c.self.invariant.ring.few)
 
 pub loop-self-init : goal.loop-self-init
 loop-self-init c =

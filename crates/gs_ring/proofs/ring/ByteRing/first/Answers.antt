@@ -12,12 +12,12 @@ record Found (i : Inside) (v : RingState) (m : Message) : Type 0 where
   pub ahead : Ahead v (m ∷ [])
   pub lies : Lies i.block.items i.read.count m
 
-found : (i : Inside) (v : RingState) → IsRing i.block.items i.read.count i.written.count i.taken i.posts → ring_of i.block.items i.read.count i.written.count i.taken i.posts ≡ v
-    → (i.taken ≡ i.posts → ⊥) → (m : Message) × Found i v m
+found : (i : Inside) (v : RingState) → IsRing i.block.items i.read.count i.written.count i.consumed i.posts → ring_of i.block.items i.read.count i.written.count i.consumed i.posts ≡ v
+    → (i.consumed ≡ i.posts → ⊥) → (m : Message) × Found i v m
 found i v h view some =
-    let n : length v.unread ≡ i.posts - i.taken = ap (λ (x : RingState). length x.unread) (sym view) ∙ length-messages_in (i.posts - i.taken) (seen i.block.items i.read.count (i.written.count - i.read.count)) in
+    let n : length v.unread ≡ i.posts - i.consumed = ap (λ (x : RingState). length x.unread) (sym view) ∙ length-messages_in (i.posts - i.consumed) (seen i.block.items i.read.count (i.written.count - i.read.count)) in
     let m = head_in v (omega (arith, n, h.order, some)) in
-    (m.0, record { ahead = m.1; lies = (first_in i.block.items i.read.count i.written.count i.taken i.posts v m.0 h view m.1).lies })
+    (m.0, record { ahead = m.1; lies = (first_in i.block.items i.read.count i.written.count i.consumed i.posts v m.0 h view m.1).lies })
 
 pub message_at-requires-clause-lies : goal.message_at-requires-clause-lies
 message_at-requires-clause-lies c =

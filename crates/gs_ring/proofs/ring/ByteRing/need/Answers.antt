@@ -11,7 +11,7 @@ overflow_add-result c =
 
 pub returns : goal.returns
 returns c =
-    need_in c.self.inside.block.items c.self.inside.read.count c.self.inside.written.count c.self.inside.taken c.self.inside.posts c.args.self.now c.pad_len.result c.args.len
+    need_in c.self.inside.block.items c.self.inside.read.count c.self.inside.written.count c.self.inside.consumed c.self.inside.posts c.args.self.now c.pad_len.result c.args.len
     c.self.invariant.ring
     c.self.view_is
     (c.pad_len.ensures.value ∙ ap (λ n. pad_len n c.self.inside.written.count c.args.len) (c.len.ensures ∙ c.self.inside.block.ok.0))

@@ -19,15 +19,15 @@ record Known (i : Inside) (v : RingState) (m : Message) (k : ℕ) : Type 0 where
   pub needs : k + record_len m ≡ need_of v m
 
 -- what the measures of the code say
-known : (i : Inside) (v : RingState) (m : Message) (k n len : ℕ) → IsRing i.block.items i.read.count i.written.count i.taken i.posts → ring_of i.block.items i.read.count i.written.count i.taken i.posts ≡ v
+known : (i : Inside) (v : RingState) (m : Message) (k n len : ℕ) → IsRing i.block.items i.read.count i.written.count i.consumed i.posts → ring_of i.block.items i.read.count i.written.count i.consumed i.posts ≡ v
     → IsSpellable m → k ≡ pad_len n i.written.count len → n ≡ vec_len i.block → len ≡ record_len m → Known i v m k
 known i v m k n len h view fits is_pad is_capacity is_len =
     let e : k ≡ pad_len (length i.block.items) i.written.count (record_len m) =
     is_pad ∙ ap (λ x. pad_len x i.written.count len) (is_capacity ∙ i.block.ok.0) ∙ ap (λ x. pad_len (length i.block.items) i.written.count x) is_len in
     record {
       pad = e;
-      sizes = fitting i.block.items i.read.count i.written.count i.taken i.posts m k h fits e;
-      needs = need_in i.block.items i.read.count i.written.count i.taken i.posts v k (record_len m) h view e;
+      sizes = fitting i.block.items i.read.count i.written.count i.consumed i.posts m k h fits e;
+      needs = need_in i.block.items i.read.count i.written.count i.consumed i.posts v k (record_len m) h view e;
     }
 
 pub overflow_add-pad : goal.overflow_add-pad
@@ -68,26 +68,26 @@ write-requires-clause-behind c =
 
 -- the ring after the message was written into its block
 record Done (i : Inside) (v : RingState) (m : Message) (k len : ℕ) (new : List ℕ) : Type 0 where
-  pub ring : IsRing (with_items i.block new).items i.read.count (i.written.count + (k + len)) i.taken (i.posts + 1)
+  pub ring : IsRing (with_items i.block new).items i.read.count (i.written.count + (k + len)) i.consumed (i.posts + 1)
   pub size : length (with_items i.block new).items ≡ length i.block.items
-  pub state : ring_of (with_items i.block new).items i.read.count (i.written.count + (k + len)) i.taken (i.posts + 1) ≡ record { capacity = v.capacity; taken = v.taken; read = v.read; unread = v.unread ++ m ∷ [] }
+  pub state : ring_of (with_items i.block new).items i.read.count (i.written.count + (k + len)) i.consumed (i.posts + 1) ≡ record { capacity = v.capacity; consumed = v.consumed; read = v.read; unread = v.unread ++ m ∷ [] }
 
-done : (i : Inside) (v : RingState) (m : Message) (k len : ℕ) (old new : List ℕ) → Known i v m k → IsRing i.block.items i.read.count i.written.count i.taken i.posts
-    → ring_of i.block.items i.read.count i.written.count i.taken i.posts ≡ v → IsSpellable m → posts v < MOST_POSTS → len ≡ record_len m → k + len ≤ free v
+done : (i : Inside) (v : RingState) (m : Message) (k len : ℕ) (old new : List ℕ) → Known i v m k → IsRing i.block.items i.read.count i.written.count i.consumed i.posts
+    → ring_of i.block.items i.read.count i.written.count i.consumed i.posts ≡ v → IsSpellable m → posts v < MOST_POSTS → len ≡ record_len m → k + len ≤ free v
     → old ≡ i.block.items → new ≡ block_with old i.written.count k m → Done i v m k len new
 done i v m k len old new x h view fits few is_len room is_old is_new =
     let b = block_with i.block.items i.written.count k m in
-    let p = pushed i.block.items i.read.count i.written.count i.taken i.posts v m k h view fits few x.pad (omega (arith, room, is_len)) in
+    let p = pushed i.block.items i.read.count i.written.count i.consumed i.posts v m k h view fits few x.pad (omega (arith, room, is_len)) in
     let e : new ≡ b = is_new ∙ ap (λ (o : List ℕ). block_with o i.written.count k m) is_old in
     let f : (with_items i.block new).items ≡ b = with_items_is i.block new (ap length e ∙ p.size ∙ sym i.block.ok.0) ∙ e in
     let z : i.written.count + k + record_len m ≡ i.written.count + (k + len) = omega (arith, is_len) in
     record {
       size = ap length f ∙ p.size;
-      ring = subst (λ (o : List ℕ). IsRing o i.read.count (i.written.count + (k + len)) i.taken (i.posts + 1)) (sym f) (subst (λ (w : ℕ). IsRing b i.read.count w i.taken (i.posts + 1)) z p.ring);
-      state = ap (λ (o : List ℕ). ring_of o i.read.count (i.written.count + (k + len)) i.taken (i.posts + 1)) f
-          ∙ ap (λ (w : ℕ). ring_of b i.read.count w i.taken (i.posts + 1)) (sym z)
+      ring = subst (λ (o : List ℕ). IsRing o i.read.count (i.written.count + (k + len)) i.consumed (i.posts + 1)) (sym f) (subst (λ (w : ℕ). IsRing b i.read.count w i.consumed (i.posts + 1)) z p.ring);
+      state = ap (λ (o : List ℕ). ring_of o i.read.count (i.written.count + (k + len)) i.consumed (i.posts + 1)) f
+          ∙ ap (λ (w : ℕ). ring_of b i.read.count w i.consumed (i.posts + 1)) (sym z)
           ∙ p.state
-          ∙ ap (λ (y : RingState). let z : RingState = record { capacity = y.capacity; taken = y.taken; read = y.read; unread = y.unread ++ m ∷ [] } in z) view;
+          ∙ ap (λ (y : RingState). let z : RingState = record { capacity = y.capacity; consumed = y.consumed; read = y.read; unread = y.unread ++ m ∷ [] } in z) view;
     }
 
 pub further-self-inside-requires-clause-most : goal.further-self-inside-requires-clause-most
@@ -109,7 +109,7 @@ invariant_of-self c =
     let i = c.self.inside in
     let d = done i c.args.self.now c.args.message.now c.pad_len-pad.result c.record_len-len.result c.as_mut_slice.result.now c.write.new.block x
     c.self.invariant.ring c.self.view_is c.requires.spellable c.requires.few c.record_len-len.ensures (omega (arith, c.free.ensures.value, c.if-pad-len.false)) c.as_mut_slice.ensures.value c.write.ensures in
-    written_later (with_items i.block c.write.new.block).items i.read i.written c.further-self-inside.result i.taken (i.posts + 1) c.len-capacity.result (c.pad_len-pad.result + c.record_len-len.result)
+    written_later (with_items i.block c.write.new.block).items i.read i.written c.further-self-inside.result i.consumed (i.posts + 1) c.len-capacity.result (c.pad_len-pad.result + c.record_len-len.result)
     (c.len-capacity.ensures ∙ i.block.ok.0 ∙ sym d.size) d.ring c.further-self-inside.ensures.count c.further-self-inside.ensures.at (c.self.invariant.read_at ∙ ap (λ n. i.read.count % n) (sym d.size))
 
 pub returns-clause-exact : goal.returns-clause-exact
@@ -125,4 +125,4 @@ returns-clause-ok c =
     let i = c.self.inside in
     let d = done i c.args.self.now c.args.message.now c.pad_len-pad.result c.record_len-len.result c.as_mut_slice.result.now c.write.new.block x
     c.self.invariant.ring c.self.view_is c.requires.spellable c.requires.few c.record_len-len.ensures (omega (arith, c.free.ensures.value, c.if-pad-len.false)) c.as_mut_slice.ensures.value c.write.ensures in
-    ap (λ (w : ℕ). ring_of (with_items i.block c.write.new.block).items i.read.count w i.taken (i.posts + 1)) c.further-self-inside.ensures.count ∙ d.state
+    ap (λ (w : ℕ). ring_of (with_items i.block c.write.new.block).items i.read.count w i.consumed (i.posts + 1)) c.further-self-inside.ensures.count ∙ d.state

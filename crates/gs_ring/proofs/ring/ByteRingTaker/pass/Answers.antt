@@ -5,7 +5,7 @@ use Rattle.gs_ring.specs.RingState.{RingState}
 use Rattle.gs_ring.proofs.Next.{first_of, head_in}
 use Rattle.gs_ring.proofs.ring.ByteRingTaker.pass.Goals as goal
 
--- some are left, as long as fewer were taken
+-- some are left, as long as fewer were consumed
 some_left : (u v : RingState) (done ms : List Message) (n : ℕ) → Passed u done v → Ahead u ms → n ≤ length ms → length done < n → 0 < length v.unread
 some_left u v done ms n p a fits lt = omega (arith, ap length p.unread, length-append done v.unread, ap length a.1, length-append ms a.0, fits, lt)
 

@@ -3,10 +3,10 @@ use Rattle.std.proofs.lemmas.Option.{slice_get_within}
 use Rattle.gs_dump.specs.declared.record.DumpRecord.{DumpRecord}
 use Rattle.gs_dump.specs.Page.{Contents, rises}
 use Rattle.gs_view.proofs.Loading.{upto_later}
-use Rattle.gs_view.proofs.load.reserve_for.Goals as goal
+use Rattle.gs_view.proofs.view.AgentView.reserve.Goals as goal
 
-pub returns-clause-room : goal.returns-clause-room
-returns-clause-room c =
+pub returns-in_ok-reserve-clause-room : goal.returns-in_ok-reserve-clause-room
+returns-in_ok-reserve-clause-room c =
     let all = c.args.page.now.records in
     let last = c.in-Some.last.now in
     let same : c.deref.result.now ≡ all = c.deref.ensures.value ∙ ap (λ (p : Contents). p.records) c.page.view_is in
