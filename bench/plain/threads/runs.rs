@@ -14,6 +14,9 @@ use std::time::{Duration, Instant};
 
 /// How many calls of a list are answered before the shift takes in as many messages.
 const BATCH: usize = 1_024;
+/// The most batches of calls that are begun before one of them is taken in. The ring between threads has room for them.
+const AHEAD: usize = 16;
+/// How many bytes the ring of bytes has.
 const RING: usize = 1_048_576;
 
 /// A count that threads wait for.
@@ -24,9 +27,12 @@ struct Count {
 }
 
 impl Count {
-    fn add(&self) {
-        *self.count.lock().expect("nobody panics under the lock") += 1;
+    /// One more. How many there are then.
+    fn add(&self) -> usize {
+        let mut count = self.count.lock().expect("nobody panics under the lock");
+        *count += 1;
         self.more.notify_all();
+        *count
     }
 
     fn wait(&self, wanted: usize) {
@@ -35,11 +41,14 @@ impl Count {
     }
 }
 
-/// Who waits for whom: all lists but the first for the threads, and each drain for a further batch of calls.
+/// Who waits for whom: all lists but the first for the threads, each drain for a further batch of calls, and each batch for the
+/// drains if they are too far behind.
 #[derive(Default)]
 struct Gate {
     created: Count,
-    batches: Count,
+    begun: Count,
+    answered: Count,
+    taken: Count,
 }
 
 /// What a run needs beside what the agent holds.
@@ -57,12 +66,15 @@ impl Run {
         }
         let mut receipts = Vec::with_capacity(commands.len());
         for (command, answered) in commands.iter().zip(1..) {
+            if answered % BATCH == 1 {
+                self.gate.taken.wait(self.gate.begun.add().saturating_sub(AHEAD));
+            }
             receipts.push(self.lock.lock().expect("nobody panics under the lock").serve(&self.board, command));
             if number == 0 && answered == THREADS as usize {
                 self.gate.created.add();
             }
             if answered % BATCH == 0 {
-                self.gate.batches.add();
+                self.gate.answered.add();
             }
         }
         receipts
@@ -82,8 +94,9 @@ impl Run {
     /// Drains so often.
     fn drain(&self, drains: usize, role: &mut Role, taker: &mut Taker) {
         for drain in 1..=drains {
-            self.gate.batches.wait(drain);
+            self.gate.answered.wait(drain);
             role.drain(taker, BATCH as u32);
+            self.gate.taken.add();
         }
     }
 }
@@ -107,12 +120,11 @@ fn done(receipts: &[Receipt]) -> u64 {
 }
 
 /// Runs lists of so many events in threads of their own beside a shift: how many events were done, and how long the run took. None
-/// if the messages do not fit into a ring, if the agent does not know in the end what the kernel knows, or if a receipt stands in
-/// no call.
+/// if the agent does not know in the end what the kernel knows, or if a receipt stands in no call.
 pub fn run(count: u32, calls: u32) -> Option<(u64, Duration)> {
     let lists = lists::make(count, calls);
     let start = Instant::now();
-    let (poster, mut taker) = ring(crate::parcels(count, calls)?);
+    let (poster, mut taker) = ring(AHEAD * BATCH);
     let (enclave, board) = Enclave::new(Kernel::over(&lists::settings(0), poster));
     let run = Run { lock: Mutex::new(enclave), board, gate: Gate::default() };
     let mut role = role();

@@ -53,7 +53,7 @@ one_of : (mask k : ℕ) (w : Bool) (z : SlotState) (g : Group) → has mask k �
 one_of mask k false z g e t = of_lower mask k (suc k) g (omega arith) t
 one_of mask k true Idle g e t = of_lower mask k (suc k) g (omega arith) t
 one_of mask k true (Done b o a n) g e t = of_lower mask k (suc k) g (omega arith) t
-one_of mask k true (Stamped b) g e t = by_flag b.group
+one_of mask k true (Stamped b) g e t = by_flag b.flags.group
   where
     is_in : has mask k ≡ true
     is_in = e

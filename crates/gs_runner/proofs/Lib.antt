@@ -17,5 +17,6 @@ mod Places
 mod Rows
 mod Agreeing
 mod Receiving
+mod Slipping
 mod Beginning
 mod Concluding

@@ -13,10 +13,13 @@ use Rattle.gs_kernel.specs.Attaching.{page_refusal}
 use Rattle.gs_kernel.specs.Kernel.{tick_refusal}
 use Rattle.gs_replies.specs.declared.reply.Reply.TheVariants as replies
 use Rattle.gs_runner.specs.declared.call.Call.{Call}
+use Rattle.gs_runner.specs.declared.call.Receipt.{Receipt}
+use Rattle.gs_runner.specs.declared.receipts.Slip.TheVariants as slips
 use Rattle.gs_runner.specs.declared.call.Called.TheVariants.{Served}
 use Rattle.gs_runner.specs.declared.command.Command.TheVariants as commands
 use Rattle.gs_runner.specs.Calls.{IsLegalHistory, ThreadRoom, call_page_refusal, given_by, land_refusal, landed_slots, standing_land_refusal}
 use Rattle.gs_runner.specs.Enclaves.{role_of}
+use Rattle.gs_runner.specs.Slips.{StandsIn, receipts_in}
 
 two : Settings
 two = record { cpus = 2; first_tseq = 0; first_generation = 1; history = 16 }
@@ -134,6 +137,30 @@ one_then_torn = (
     (refl, refl),
   ),
 )
+
+-- ---- receipts as places in the journal: that of the tick, and one that was refused
+
+one_tick : History
+one_tick = Role 1 0 ∷ Posted (TimerTick 1) ∷ []
+
+ticked_receipt : Receipt
+ticked_receipt = record { at = 1; entries = 1; reply = replies.Done (Posted (TimerTick 1)) }
+
+refused_receipt : Receipt
+refused_receipt = record { at = 2; entries = 0; reply = replies.Refused refusals.BadCpu }
+
+both_shown : receipts_in one_tick (record { slips = slips.Done 1 1 ∷ slips.Other 0 ∷ []; others = refused_receipt ∷ []; room = 0 }) ≡ ticked_receipt ∷ refused_receipt ∷ []
+unfolding one_tick ticked_receipt refused_receipt
+both_shown = refl
+
+-- what is refused says no entry, and the tick's stands behind the opening entry alone
+refused_stands : StandsIn one_tick refused_receipt
+unfolding refused_receipt
+refused_stands = tt
+
+ticked_stands : StandsIn one_tick ticked_receipt
+unfolding one_tick ticked_receipt
+ticked_stands = refl
 
 -- two parcels hold two, so the first one that does not fit is the third
 too_early : ThreadRoom 2 (Role 1 0 ∷ Posted (TimerTick 1) ∷ []) false (TimerTick 0) → ⊥

@@ -1,13 +1,19 @@
 -- How a run ends.
-use Rattle.std.specs.Prelude.{◌≡◌, ◌≤◌, ◌<◌, ℕ, Option, None, Some, Result, Ok, Err, length}
+use Rattle.std.specs.Prelude.{◌≡◌, ◌≤◌, ◌<◌, ℕ, Option, None, Some, Result, Ok, Err, List, length}
+use Rattle.std.specs.Global.{Vec}
 use Rattle.gs_agent.specs.Role.{RoleOf}
 use Rattle.gs_journal.specs.History.{History, posted}
 use Rattle.gs_link.specs.declared.taker.RtrbTaker.{RtrbTaker}
 use Rattle.gs_link.specs.Between.{Gave}
 use Rattle.gs_replies.specs.declared.config.ConfigFault.{ConfigFault}
+use Rattle.gs_runner.specs.Calls.{IsLegal}
+use Rattle.gs_runner.specs.Closing.{ClosedOf}
 use Rattle.gs_runner.specs.Enclaves.{EnclaveOf}
+use Rattle.gs_runner.specs.Receipts.{AllAnswered}
 use Rattle.gs_runner.specs.Settles.{KnowsAll, WhyNot}
+use Rattle.gs_runner.specs.Slips.{ReceiptsOf, all_receipts}
 use Rattle.gs_runner.specs.Starts.{WhyNotStarted}
+use Rattle.gs_runner.specs.declared.command.Command.{Command}
 use Rattle.gs_runner.specs.declared.start.StartFault.TheVariants as faults
 use Rattle.gs_runner.specs.declared.start.TheConstants.{MOST_PARCELS}
 use Rattle.gs_runner.specs.declared.pass.TheConstants.{PASSES}
@@ -35,15 +41,23 @@ pub record EndsAs (P : Type 0) (h : History) (threads : ℕ) (end : Result Settl
   pub live : threads ≡ live_of role
   pub says : Says enclave taker role end
 
--- why a run of so many lists and shifts has no end, once a station can be started: the first that applies. It can always be closed
-abbrev pub Follows : ℕ → RunFault → Type 0
-Follows n (Start f) = f ≡ faults.OutOfMemory
-Follows n TooMany = PASSES < n
-Follows n OutOfMemory = n ≤ PASSES
-Follows n Close = ⊥
-Follows n Astray = n ≤ PASSES
+-- the calls of a run are a legal history for its journal, each of its threads left its receipts, and those of the lists are not those of their commands
+pub record IsAstray (parcels : ℕ) (lists : List (Vec Command)) (n : ℕ) : Type 0 where
+  pub closed : ClosedOf
+  pub receipts : List ReceiptsOf
+  pub count : length receipts ≡ n
+  pub legal : IsLegal parcels closed.calls closed.journal.entries
+  pub astray : AllAnswered closed.calls lists (all_receipts closed.journal.entries receipts) → ⊥
+
+-- why a run of these lists, with shifts so many in all, has no end, once a station can be started: the first that applies. It can always be closed
+abbrev pub Follows : ℕ → List (Vec Command) → ℕ → RunFault → Type 0
+Follows parcels lists n (Start f) = f ≡ faults.OutOfMemory
+Follows parcels lists n TooMany = PASSES < n
+Follows parcels lists n OutOfMemory = n ≤ PASSES
+Follows parcels lists n Close = ⊥
+Follows parcels lists n Astray = (n ≤ PASSES) × IsAstray parcels lists n
 
 -- why it has none: the first that applies
-abbrev pub WhyNotRun : Option ConfigFault → ℕ → ℕ → RunFault → Type 0
-WhyNotRun fault parcels n (Start f) = WhyNotStarted fault parcels f
-WhyNotRun fault parcels n f = (fault ≡ None) × (0 < parcels) × (parcels ≤ MOST_PARCELS) × Follows n f
+abbrev pub WhyNotRun : Option ConfigFault → ℕ → List (Vec Command) → ℕ → RunFault → Type 0
+WhyNotRun fault parcels lists n (Start f) = WhyNotStarted fault parcels f
+WhyNotRun fault parcels lists n f = (fault ≡ None) × (0 < parcels) × (parcels ≤ MOST_PARCELS) × Follows parcels lists n f

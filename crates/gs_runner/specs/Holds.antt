@@ -1,5 +1,6 @@
 -- When a receipt's call stands in a list of calls.
 use Rattle.std.specs.Prelude.{◌≡◌, Bool, true, false, ℕ, Some, List, slice_get}
+use Rattle.gs_journal.specs.History.{History}
 use Rattle.gs_replies.specs.declared.reply.Reply.{Reply}
 use Rattle.gs_replies.specs.declared.reply.Reply.TheVariants as replies
 use Rattle.gs_runner.specs.declared.command.Command.{Command}
@@ -34,7 +35,8 @@ is_answered (Committed xs) r = true
 abbrev pub answers_command : Call → Bool
 answers_command c = is_answered c.called c.reply
 
--- a search of calls for one receipt after another, the last of which was at this place
+-- a search of the calls of a journal for one receipt after another, the last of which was at this place
 pub record SearchOf : Type 0 where
+  pub entries : History
   pub calls : List Call
   pub at : ℕ

@@ -7,6 +7,7 @@ pub mod Quiet
 pub mod Serving
 pub mod Closing
 pub mod Holds
+pub mod Slips
 pub mod Holding
 pub mod Starts
 pub mod Settles

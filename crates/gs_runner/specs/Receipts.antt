@@ -1,10 +1,11 @@
 -- The receipts of a run.
-use Rattle.std.specs.Prelude.{◌≡◌, Bool, false, ℕ, ◌≤◌, List, [], ◌∷◌, length}
+use Rattle.std.specs.Prelude.{◌≡◌, Bool, false, ℕ, ◌≤◌, List, [], ◌∷◌, ◌++◌, length, All}
 use Rattle.std.specs.Global.{Vec}
 use Rattle.gs_journal.specs.History.{History}
 use Rattle.gs_kernel.specs.declared.settings.Settings.{Settings}
 use Rattle.gs_runner.specs.Calls.{GoesOnBy, LegalCall, ThreadRoom, is_refused}
 use Rattle.gs_runner.specs.Holds.{Stands}
+use Rattle.gs_runner.specs.Slips.{ReceiptsOf, StandsIn, receipts_in}
 use Rattle.gs_runner.specs.declared.command.Command.{Command}
 use Rattle.gs_runner.specs.declared.call.Call.{Call}
 use Rattle.gs_runner.specs.declared.call.Called.TheVariants.{Served}
@@ -27,6 +28,12 @@ AreReceipts parcels (c ∷ cs) (r ∷ rs) = IsReceipt parcels c r × AreReceipts
 AreReceipts parcels [] (r ∷ rs) = ⊥
 AreReceipts parcels (c ∷ cs) [] = ⊥
 
+-- a receipt for each of these commands was added, in order: beside each journal in which their entries stand they are shown behind the others
+pub record AddsReceipts (parcels : ℕ) (cs : List Command) (before after : ReceiptsOf) : Type 0 where
+  pub more : List Receipt
+  pub receipts : AreReceipts parcels cs more
+  pub shown : (h : History) → All (StandsIn h) more → receipts_in h after ≡ receipts_in h before ++ more
+
 -- one for each command, in order. Their places in the journal never fall, from this one on, and each that was not refused stands in the calls
 abbrev pub Answered : List Call → ℕ → List Command → List Receipt → Type 0
 Answered calls from [] [] = Unit {0}
@@ -35,7 +42,7 @@ Answered calls from [] (r ∷ rs) = ⊥
 Answered calls from (c ∷ cs) [] = ⊥
 
 -- so for each list: its receipts stand at its place
-abbrev pub AllAnswered : List Call → List (Vec Command) → List (Vec Receipt) → Type 0
+abbrev pub AllAnswered : List Call → List (Vec Command) → List (List Receipt) → Type 0
 AllAnswered calls [] rs = Unit {0}
-AllAnswered calls (l ∷ ls) (r ∷ rs) = Answered calls 0 l.items r.items × AllAnswered calls ls rs
+AllAnswered calls (l ∷ ls) (r ∷ rs) = Answered calls 0 l.items r × AllAnswered calls ls rs
 AllAnswered calls (l ∷ ls) [] = ⊥

@@ -11,7 +11,7 @@ use gs_board::{Board, BoardSeat};
 use gs_layout::Refusal;
 use gs_link::RtrbTaker;
 use gs_policy::{Choice, Policy};
-use gs_slots::Region;
+use gs_slots::{Flags, Region};
 use gs_status::Mask;
 use std::alloc::Global;
 
@@ -33,8 +33,7 @@ fn stamp<P>(
     region: &mut Region,
     cpu: u16,
     tid: u32,
-    preempt: bool,
-    group: bool,
+    flags: Flags,
 ) -> Result<u32, Refusal>
     ensures role { OnErr result (role.new ≡ role.old) }
     ensures others { role.new ≡ record role.old { mind = role.new.mind } }
@@ -43,7 +42,7 @@ fn stamp<P>(
     if cpu >= region.cpus() {
         return Err(Refusal::BadCpu);
     }
-    role.stamp(region.slot(cpu), tid, preempt, group)
+    role.stamp(region.slot(cpu), tid, flags)
 }
 
 /// Stamps choices, one after another, each by itself. One that is refused is passed over.
@@ -52,7 +51,8 @@ fn stamp_all<P>(role: &mut Role<P>, region: &mut Region, choices: &[Choice])
     ensures slots { length region.new ≡ length region.old }
 {
     for choice in choices {
-        let _ = stamp(role, region, choice.cpu, choice.tid, choice.preempt, false);
+        let flags = Flags::single(choice.preempt);
+        let _ = stamp(role, region, choice.cpu, choice.tid, flags);
     }
 }
 
@@ -84,18 +84,11 @@ fn decide_held<P: Policy>(
 }
 
 /// Stamps a thread, if there is a role.
-fn stamp_held<P>(
-    role: &mut Option<Role<P>>,
-    region: &mut Region,
-    cpu: u16,
-    tid: u32,
-    preempt: bool,
-    group: bool,
-)
+fn stamp_held<P>(role: &mut Option<Role<P>>, region: &mut Region, cpu: u16, tid: u32, flags: Flags)
     ensures slots { length region.new ≡ length region.old }
 {
     if let Some(role) = role {
-        let _ = stamp(role, region, cpu, tid, preempt, group);
+        let _ = stamp(role, region, cpu, tid, flags);
     }
 }
 
@@ -120,12 +113,7 @@ pub(crate) fn step_alone<L: Site, P: Policy>(
             let shown = board.read(seat);
             decide_held(alloc, role, region, shown.taken);
         }
-        Step::Stamp {
-            cpu,
-            tid,
-            preempt,
-            group,
-        } => stamp_held(role, region, *cpu, *tid, *preempt, *group),
+        Step::Stamp { cpu, tid, flags } => stamp_held(role, region, *cpu, *tid, *flags),
         _ => {}
     }
 }

@@ -1,13 +1,15 @@
 //! Whether the receipts of a run stand in its calls.
 
-ghost use Rattle.std.specs.Prelude.{◌≡◌, ◌↔◌, ◌≤◌, IsTrue, false};
+ghost use Rattle.std.specs.Prelude.{◌≡◌, ◌↔◌, ◌≤◌, IsTrue, false, length};
 ghost use Rattle.gs_runner.specs.Calls.{is_refused};
 ghost use Rattle.gs_runner.specs.Holds.{Stands};
 ghost use Rattle.gs_runner.specs.Receipts.{AllAnswered, Answered};
+ghost use Rattle.gs_runner.specs.Slips.{IsInside, all_receipts, receipt_kept, receipts_in};
 
 use crate::call::Receipt;
 use crate::closed::Closed;
 use crate::command::Command;
+use crate::receipts::{Receipts, Slip, slip_at};
 use crate::search::Search;
 use gs_replies::Reply;
 
@@ -15,7 +17,7 @@ use gs_replies::Reply;
 fn is_kept(search: &mut Search<'_>, command: &Command, receipt: &Receipt) -> bool
     requires order { search.old.at ≤ receipt.now.at }
     ensures exact { IsTrue result ↔ (is_refused receipt.now.reply ≡ false → Stands search.old.calls command.now receipt.now) }
-    ensures calls { search.new.calls ≡ search.old.calls }
+    ensures same { search.new ≡ record search.old { at = search.new.at } }
     ensures at { search.new.at ≤ receipt.now.at }
 {
     match &receipt.reply {
@@ -24,36 +26,48 @@ fn is_kept(search: &mut Search<'_>, command: &Command, receipt: &Receipt) -> boo
     }
 }
 
+/// Returns the same of a receipt that is kept so.
+fn is_slip_kept(search: &mut Search<'_>, command: &Command, others: &[Receipt], slip: &Slip) -> bool
+    requires inside { IsInside (length others.now) slip.now }
+    requires order { search.old.at ≤ (receipt_kept search.old.entries others.now slip.now).at }
+    ensures exact { IsTrue result ↔ (is_refused (receipt_kept search.old.entries others.now slip.now).reply ≡ false → Stands search.old.calls command.now (receipt_kept search.old.entries others.now slip.now)) }
+    ensures same { search.new ≡ record search.old { at = search.new.at } }
+    ensures at { search.new.at ≤ (receipt_kept search.old.entries others.now slip.now).at }
+{
+    match slip {
+        Slip::Done { at, entries } => search.holds_done(command, *at, *entries),
+        Slip::Other { index } => is_kept(search, command, &others[*index]),
+    }
+}
+
 /// Returns whether there is a receipt for each command, in order, each of which was refused or stands in the calls,
 /// and whether their places in the journal never fall.
-fn is_answered(closed: &Closed, commands: &[Command], receipts: &[Receipt]) -> bool
-    ensures { IsTrue result ↔ Answered closed.now.calls 0 commands.now receipts.now }
+fn is_answered(closed: &Closed, commands: &[Command], receipts: &Receipts) -> bool
+    ensures { IsTrue result ↔ Answered closed.now.calls 0 commands.now (receipts_in closed.now.journal.entries receipts.now) }
 {
     let mut search = closed.search();
+    let others = receipts.others();
+    let mut slips = receipts.slips();
     let mut commands = commands;
-    let mut receipts = receipts;
     let mut from = 0;
     'commands: while let Some((command, later)) = commands.split_first() {
-        let Some((receipt, rest)) = receipts.split_first() else {
+        let Some((slip, rest)) = slips.split_first() else {
             return false;
         };
-        if receipt.at < from || !is_kept(&mut search, command, receipt) {
+        let at = slip_at(others, slip);
+        if at < from || !is_slip_kept(&mut search, command, others, slip) {
             return false;
         }
-        from = receipt.at;
+        from = at;
         commands = later;
-        receipts = rest;
+        slips = rest;
     }
-    receipts.is_empty()
+    slips.is_empty()
 }
 
 /// Returns whether that is so for each list. Its receipts stand at its place.
-pub(crate) fn are_answered(
-    closed: &Closed,
-    lists: &[Vec<Command>],
-    receipts: &[Vec<Receipt>],
-) -> bool
-    ensures { IsTrue result ↔ AllAnswered closed.now.calls lists.now receipts.now }
+pub(crate) fn are_answered(closed: &Closed, lists: &[Vec<Command>], receipts: &[Receipts]) -> bool
+    ensures { IsTrue result ↔ AllAnswered closed.now.calls lists.now (all_receipts closed.now.journal.entries receipts.now) }
 {
     let mut lists = lists;
     let mut receipts = receipts;
@@ -61,7 +75,7 @@ pub(crate) fn are_answered(
         let Some((its, rest)) = receipts.split_first() else {
             return false;
         };
-        if !is_answered(closed, list.as_slice(), its.as_slice()) {
+        if !is_answered(closed, list.as_slice(), its) {
             return false;
         }
         lists = later;

@@ -112,13 +112,24 @@ impl<'a> Calls<'a> {
 }
 
 /// Returns the last of so many entries.
-fn entry_before(journal: &[Entry], end: u32) -> Entry
+pub(crate) fn entry_before(journal: &[Entry], end: usize) -> Entry
     requires { end ≤ length journal.now }
     ensures { result ≡ entry_before journal.now end }
 {
-    match journal[..end as usize].last() {
+    match journal[..end].last() {
         Some(entry) => *entry,
         None => Entry::Torn,
+    }
+}
+
+/// Returns whether the kernel was told this command if the last of so many entries is the last that it added.
+pub(crate) fn is_told_before(journal: &[Entry], end: usize, command: &Command) -> bool
+    requires { end ≤ length journal.now }
+    ensures { IsTrue result → Commands.Kernel (command_by (entry_before journal.now end)) ≡ command.now }
+{
+    match (command, journal[..end].last()) {
+        (Command::Kernel { command }, Some(last)) => same_told(&command_by(last), command),
+        _ => false,
     }
 }
 
@@ -129,7 +140,7 @@ fn show<'a>(journal: &[Entry], others: &'a [Call], kept: &Kept) -> CallRef<'a>
 {
     match kept {
         Kept::Told { at, end } => {
-            let last = entry_before(journal, *end);
+            let last = entry_before(journal, *end as usize);
             CallRef::Told {
                 command: command_by(&last),
                 at: *at,

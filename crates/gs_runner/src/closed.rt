@@ -78,7 +78,7 @@ impl Closed {
 
     /// Begins a search of the calls for receipts whose places in the journal never fall.
     pub(crate) fn search(&self) -> Search<'_>
-        ensures { result ≡ record { calls = self.now.calls; at = 0 } }
+        ensures { result ≡ record { entries = self.now.journal.entries; calls = self.now.calls; at = 0 } }
     {
         Search::new(&self.journal, &self.list)
     }

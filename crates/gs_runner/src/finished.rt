@@ -1,7 +1,7 @@
 //! What a run leaves.
 
-use crate::call::Receipt;
 use crate::closed::Closed;
+use crate::receipts::Receipts;
 use crate::settling::{Settled, Unsettled};
 use crate::start::StartFault;
 
@@ -12,7 +12,7 @@ pub struct Finished {
     pub closed: Closed,
     /// The receipts of each thread, in its order. First come those of the lists, one for each command, and then those
     /// of the shifts, one for each step that was a call.
-    pub receipts: Vec<Vec<Receipt>>,
+    pub receipts: Vec<Receipts>,
     /// How many threads the agent knew at the end, by its view. There are none if no role was held.
     pub threads: usize,
     /// What settling answered.

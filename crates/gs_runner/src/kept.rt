@@ -85,6 +85,19 @@ impl CallList {
                 return;
             }
         }
+        self.push_copied(command, executed, last, at, end);
+    }
+
+    /// Appends the same with copies of the command and of the reply. It stands apart, since it is seldom called.
+    #[cold]
+    #[inline(never)]
+    fn push_copied(&mut self, command: &Told, executed: Executed, last: &Entry, at: u32, end: u32)
+        requires kept { vec_len self.old.kept < vec_capacity self.old.kept }
+        requires others { vec_len self.old.others < vec_capacity self.old.others }
+        requires order { at ≤ end }
+        ensures calls { (h : History) (n : ℕ) → AllWithin n (length self.old.others.items) self.old.kept.items → calls_kept h self.new.others.items self.new.kept.items ≡ calls_kept h self.old.others.items self.old.kept.items ++ told_call command.now executed last.now at end ∷ [] }
+        ensures within { (n : ℕ) → AllWithin n (length self.old.others.items) self.old.kept.items → AllWithin n (length self.new.others.items) self.new.kept.items }
+    {
         self.push_other(Call {
             called: Called::Served(Command::Kernel { command: *command }),
             at,

@@ -1,13 +1,12 @@
 //! A list of commands, which a thread serves.
 
-ghost use Rattle.std.specs.Prelude.{◌≡◌, ◌+◌, ◌≤◌, ◌++◌, List, length, true, vec_len, vec_capacity};
-ghost use Rattle.gs_runner.specs.declared.call.Receipt.{Receipt};
-ghost use Rattle.gs_runner.specs.Receipts.{AreReceipts};
+ghost use Rattle.std.specs.Prelude.{◌≡◌, ◌≤◌, length, true};
+ghost use Rattle.gs_runner.specs.Receipts.{AddsReceipts};
 
-use crate::call::Receipt;
 use crate::command::Command;
 use crate::gate::Gate;
 use crate::pass::Pass;
+use crate::receipts::Receipts;
 use crate::sheet::Sheet;
 use crate::site::Site;
 use crate::station::Station;
@@ -21,10 +20,10 @@ fn serve_all<L: Site, G: Gate, R: Wait>(
     worker: usize,
     commands: &[Command],
     pass: &mut Pass<L>,
-    receipts: &mut Vec<Receipt>,
+    receipts: &mut Receipts,
 )
-    requires { vec_len receipts.old + length commands.now ≤ vec_capacity receipts.old }
-    ensures { (more : List Receipt) × (receipts.new.items ≡ receipts.old.items ++ more) × AreReceipts L.parcels commands.now more }
+    requires { length commands.now ≤ receipts.old.room }
+    ensures { AddsReceipts L.parcels commands.now receipts.old receipts.new }
 {
     let mut call: usize = 0;
     for command in commands {
@@ -33,7 +32,7 @@ fn serve_all<L: Site, G: Gate, R: Wait>(
             .enclave()
             .lock(rt)
             .serve(station.board(), pass.share(), command);
-        receipts.push_reserved(receipt);
+        receipts.push(receipt);
         gate.after(worker, call);
         call = call.wrapping_add(1);
     }
@@ -49,7 +48,7 @@ pub(crate) fn serve_list<L: Site, G: Gate, R: Wait>(
     pass: &mut Pass<L>,
     sheet: &mut Sheet,
 )
-    ensures { sheet.new.done ≡ true → (more : List Receipt) × (sheet.new.receipts.items ≡ sheet.old.receipts.items ++ more) × AreReceipts L.parcels commands.now more }
+    ensures { sheet.new.done ≡ true → AddsReceipts L.parcels commands.now sheet.old.receipts sheet.new.receipts }
 {
     let Sheet { receipts, done } = sheet;
     *done = false;

@@ -9,7 +9,10 @@ use gs_kernel::Kernel;
 use gs_link::RtrbPoster;
 
 /// Publishes the generation that was given last and the CPU of the active agent, and which CPUs the other class
-/// holds. A word that did not change is not published.
+/// holds. A word that did not change is not published. It stands apart from
+/// what calls it, since few commands change what is shown.
+#[cold]
+#[inline(never)]
 pub(crate) fn publish<L: Site>(
     board: &Board<L>,
     seat: &mut WriterSeat<L>,

@@ -2,14 +2,14 @@
 
 ghost use Rattle.std.specs.Prelude.{◌≡◌, IfOk, vec_len};
 
-use crate::call::Receipt;
+use crate::receipts::Receipts;
 use std::alloc::{AllocError, Global};
 
 /// What a list's or a shift's thread leaves.
 #[derive(Drop)]
 pub(crate) struct Sheet {
     /// A receipt for each of its calls, in order.
-    pub receipts: Vec<Receipt>,
+    pub receipts: Receipts,
     /// Whether it came to its end.
     pub done: bool,
 }
@@ -21,7 +21,7 @@ pub(crate) fn make_sheets(alloc: Global, count: usize) -> Result<Vec<Sheet>, All
     let mut sheets = Vec::with_capacity(alloc, count)?;
     for _ in 0..count {
         sheets.push_reserved(Sheet {
-            receipts: Vec::new(alloc),
+            receipts: Receipts::new(alloc),
             done: false,
         });
     }
@@ -34,10 +34,9 @@ pub(crate) fn all_done(sheets: &[Sheet]) -> bool {
 }
 
 /// Returns the receipts of all sheets, in order.
-pub(crate) fn receipts_of(
-    alloc: Global,
-    sheets: Vec<Sheet>,
-) -> Result<Vec<Vec<Receipt>>, AllocError> {
+pub(crate) fn receipts_of(alloc: Global, sheets: Vec<Sheet>) -> Result<Vec<Receipts>, AllocError>
+    ensures { IfOk result (λ v. vec_len v ≡ vec_len sheets) }
+{
     let mut all = Vec::with_capacity(alloc, sheets.len())?;
     for Sheet { receipts, done: _ } in sheets {
         all.push(receipts)?;

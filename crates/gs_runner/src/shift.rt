@@ -1,6 +1,6 @@
 //! A shift: what an agent's thread does with what it holds.
 
-ghost use Rattle.std.specs.Prelude.{◌+◌, ◌≤◌, length, vec_len, vec_capacity};
+ghost use Rattle.std.specs.Prelude.{◌≤◌, length};
 
 use crate::alone::step_alone;
 use crate::begin::begin_by;
@@ -11,6 +11,7 @@ use crate::gate::Gate;
 use crate::held::Held;
 use crate::page::page;
 use crate::pass::Pass;
+use crate::receipts::Receipts;
 use crate::share::Share;
 use crate::sheet::Sheet;
 use crate::site::Site;
@@ -94,16 +95,16 @@ fn take_steps<L: Site, P: Counted + Copy + Drop, G: Gate, R: Wait>(
     pass: &mut Pass<L>,
     held: &mut Held<L, P>,
     steps: &[Step<P>],
-    receipts: &mut Vec<Receipt>,
+    receipts: &mut Receipts,
 )
-    requires { vec_len receipts.old + length steps.now ≤ vec_capacity receipts.old }
+    requires { length steps.now ≤ receipts.old.room }
 {
     let mut call: usize = 0;
     for step in steps {
         gate.before(worker, call);
         let receipt = take_step(rt, alloc, station, pass, held, step);
         if let Some(receipt) = receipt {
-            receipts.push_reserved(receipt);
+            receipts.push(receipt);
         }
         gate.after(worker, call);
         call = call.wrapping_add(1);

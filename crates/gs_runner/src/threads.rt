@@ -86,10 +86,11 @@ fn finish<L: Site, P>(
     sheets: Vec<Sheet>,
 ) -> Result<Finished, RunFault>
     requires few { length lists.now + shifts ≤ PASSES }
+    requires sheets { vec_len sheets ≡ length lists.now + shifts }
     requires legal { IsLegal L.parcels ended.closed.calls ended.closed.journal.entries }
     requires ended { EndsAs P ended.closed.journal.entries ended.threads ended.end }
     ensures finished { IfOk result (IsFinished P L.parcels lists.now shifts) }
-    ensures fault { IfErr result (Follows (length lists.now + shifts)) }
+    ensures fault { IfErr result (Follows L.parcels lists.now (length lists.now + shifts)) }
 {
     if !all_done(sheets.as_slice()) {
         return Err(RunFault::OutOfMemory);
@@ -102,8 +103,7 @@ fn finish<L: Site, P>(
     let Ok(receipts) = receipts_of(alloc, sheets) else {
         return Err(RunFault::OutOfMemory);
     };
-    let all = lists.len() + shifts;
-    if receipts.len() != all || !are_answered(&closed, lists, receipts.as_slice()) {
+    if !are_answered(&closed, lists, receipts.as_slice()) {
         return Err(RunFault::Astray);
     }
     Ok(Finished {
@@ -133,8 +133,9 @@ fn run_noted<
 ) -> Result<Finished, RunFault>
     requires few { length lists.now + length shifts.now ≤ PASSES }
     requires passes { vec_len passes ≡ PASSES }
+    requires sheets { vec_len sheets ≡ length lists.now + length shifts.now }
     ensures finished { IfOk result (IsFinished P L.parcels lists.now (length shifts.now)) }
-    ensures fault { IfErr result (Follows (length lists.now + length shifts.now)) }
+    ensures fault { IfErr result (Follows L.parcels lists.now (length lists.now + length shifts.now)) }
 {
     let mut sheets = sheets;
     match run_and_close(
@@ -171,7 +172,7 @@ fn run_on<
 ) -> Result<Finished, RunFault>
     requires { vec_len passes ≡ PASSES }
     ensures finished { IfOk result (IsFinished P L.parcels lists.now (length shifts.now)) }
-    ensures fault { IfErr result (Follows (length lists.now + length shifts.now)) }
+    ensures fault { IfErr result (Follows L.parcels lists.now (length lists.now + length shifts.now)) }
 {
     if is_too_many(lists.len(), shifts.len()) {
         return Err(RunFault::TooMany);
@@ -203,7 +204,7 @@ fn run_named<
     requires board { parts.opened.table.shared.table_id ≡ L.board }
     requires parcels { room parts.poster ≡ L.parcels }
     ensures finished { IfOk result (IsFinished P L.parcels lists.now (length shifts.now)) }
-    ensures fault { IfErr result (Follows (length lists.now + length shifts.now)) }
+    ensures fault { IfErr result (Follows L.parcels lists.now (length lists.now + length shifts.now)) }
 {
     match Station::<L>::start(alloc, parts) {
         Ok((station, held, passes)) => {
@@ -246,7 +247,7 @@ pub fn run_threads<
     gate: &G,
 ) -> Result<Finished, RunFault>
     ensures finished { IfOk result (IsFinished P parcels work.now (length shifts.now)) }
-    ensures fault { IfErr result (WhyNotRun (config_fault config) parcels (length work.now + length shifts.now)) }
+    ensures fault { IfErr result (WhyNotRun (config_fault config) parcels work.now (length work.now + length shifts.now)) }
 {
     match Parts::make(alloc, config, parcels) {
         Ok(parts) => run_named::<Brand, P, G, R>(rt, alloc, parts, work, shifts, gate),

@@ -2,3 +2,4 @@ mod Few
 mod Listing
 mod Names
 mod Running
+mod Shorts

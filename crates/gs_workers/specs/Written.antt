@@ -8,6 +8,7 @@ use Rattle.gs_core.specs.Short.{wants_memory}
 use Rattle.gs_lines.specs.Lines.{line}
 use Rattle.gs_history.specs.Journal.{journal_lines}
 use Rattle.gs_runner.specs.Finishes.{IsFinished}
+use Rattle.gs_runner.specs.Slips.{receipts_in}
 use Rattle.gs_runner.specs.declared.command.Command.{Command}
 use Rattle.gs_runner.specs.declared.finished.Finished.{Finished}
 use Rattle.gs_runner.specs.declared.finished.RunFault.{RunFault}
@@ -28,7 +29,7 @@ pub record IsRunOf (w : Work) (f : Finished) : Type 0 where
 
 -- whether a call was refused because memory ran out
 abbrev pub is_short : Finished → Bool
-is_short f = list_any (λ receipts. list_any (λ r. wants_memory r.reply) receipts.items) f.receipts.items
+is_short f = list_any (λ receipts. list_any (λ r. wants_memory r.reply) (receipts_in f.closed.journal.entries receipts)) f.receipts.items
 
 -- how many calls were accepted
 abbrev pub calls_in : Finished → ℕ

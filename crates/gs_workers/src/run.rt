@@ -1,10 +1,12 @@
 //! A run of workers, from its start to what is written of it.
 
-ghost use Rattle.std.specs.Prelude.{◌≡◌, ◌≢◌, ℕ, List, IfErr, IfOk, IsErrOf, None, OnOk};
+ghost use Rattle.std.specs.Prelude.{◌≡◌, ◌≢◌, ℕ, List, IfErr, IfOk, IsErrOf, None, OnOk, Some, slice_get};
 ghost use Rattle.std.specs.List.{list_any};
 ghost use Rattle.std.specs.Io.KnownBytes.{Appends, Keeps};
 ghost use Rattle.gs_core.specs.Short.{wants_memory};
 ghost use Rattle.gs_replies.specs.Config.{config_fault};
+ghost use Rattle.gs_runner.specs.Slips.{receipts_in, shown_receipt};
+ghost use Rattle.gs_runner.specs.declared.call.Receipt.{Receipt as Got};
 ghost use Rattle.gs_workers.specs.Work.{IsAllowed};
 ghost use Rattle.gs_workers.specs.Written.{BeginsText, HasNoEnd, IsPossible, IsRunOf, IsText, WhyUntold, is_short};
 
@@ -13,10 +15,11 @@ use crate::fault::WorkFault;
 use crate::text::{Shown, shown_text};
 use crate::work::{Work, all_creations, parcels};
 use gs_core::is_short;
+use gs_journal::Journal;
 use gs_kernel::{LEAST_CPUS, LEAST_GENERATION, MOST_HISTORY};
 use gs_policy::FirstCome;
 use gs_replies::Config;
-use gs_runner::{Finished, Gate, Receipt, RunFault, StartFault, run_threads};
+use gs_runner::{Finished, Gate, ReceiptRef, Receipts, RunFault, StartFault, run_threads};
 use gs_trace::write_out;
 use std::alloc::Global;
 use std::io::Write;
@@ -75,23 +78,43 @@ fn run<R: Threads + Wait + Sync>(rt: &R, alloc: Global, work: Work) -> Result<Fi
     }
 }
 
-/// Returns whether a call was refused because memory ran out.
-fn is_short_list(receipts: &[Receipt]) -> bool
-    ensures { result ≡ list_any (λ r. wants_memory r.reply) receipts.now }
+/// Returns whether a receipt says that memory ran out.
+fn is_short_receipt(receipt: &ReceiptRef<'_>) -> bool
+    ensures { result ≡ wants_memory (shown_receipt receipt.now).reply }
 {
-    receipts
-        .iter()
-        .any(|receipt| is_short(slice::from_ref(&receipt.reply)))
+    match receipt {
+        ReceiptRef::Done { .. } => false,
+        ReceiptRef::Other { receipt } => is_short(slice::from_ref(&receipt.reply)),
+    }
+}
+
+/// Returns whether the receipt at a place, which there is, says that memory ran out.
+fn is_short_at(journal: &Journal, receipts: &Receipts, index: usize) -> bool
+    ensures { (r : Got) → slice_get (receipts_in journal.now.entries receipts.now) index ≡ Some r → result ≡ wants_memory r.reply }
+{
+    match receipts.get(journal, index) {
+        Some(receipt) => is_short_receipt(&receipt),
+        None => false,
+    }
+}
+
+/// Returns whether a call of a thread was refused because memory ran out.
+fn is_short_list(journal: &Journal, receipts: &Receipts) -> bool
+    ensures { result ≡ list_any (λ r. wants_memory r.reply) (receipts_in journal.now.entries receipts.now) }
+{
+    for index in 0..receipts.len() {
+        if is_short_at(journal, receipts, index) {
+            return true;
+        }
+    }
+    false
 }
 
 /// Returns whether a call of a run was refused because memory ran out.
 fn was_short(finished: &Finished) -> bool
     ensures { result ≡ is_short finished.now }
 {
-    finished
-        .receipts
-        .iter()
-        .any(|receipts| is_short_list(receipts.as_slice()))
+    finished.receipts.iter().any(|receipts| is_short_list(finished.closed.journal(), receipts))
 }
 
 /// Returns what is to be written of a run.

@@ -5,7 +5,7 @@ use gs_kernel::Command as Told;
 use gs_layout::{Class, Facts, Name};
 use gs_replies::Reply;
 use gs_runner::{Closed, Command, Pass, Receipt, Site, Station};
-use gs_slots::SlotMut;
+use gs_slots::{Flags, SlotMut};
 use gs_status::Mask;
 use std::sync::Wait;
 use std::test::Fail;
@@ -21,7 +21,11 @@ pub(crate) struct Sheet {
 /// A transaction of generation 1 that places thread 1 at number 1 on CPU 1. It has the flag of a group.
 fn transaction() -> [u8; 32] {
     let mut bytes = [0; 32];
-    let _ = SlotMut::over(1, &mut bytes).stamp(1, 1, 1, false, true);
+    let flags = Flags {
+        group: true,
+        ..Flags::NONE
+    };
+    let _ = SlotMut::over(1, &mut bytes).stamp(1, 1, 1, flags);
     bytes
 }
 

@@ -7,7 +7,7 @@ use gs_kernel::Command as Told;
 use gs_layout::Outcome;
 use gs_replies::Reply;
 use gs_runner::{Command, Pass, Receipt, Site, Station};
-use gs_slots::Region;
+use gs_slots::{Flags, Region};
 use gs_status::Mask;
 use std::alloc::Global;
 use std::sync::Wait;
@@ -49,7 +49,7 @@ fn hand_off<L: Site, R: Wait>(rt: &R, station: &Station<L>, pass: &mut Pass<L>) 
 /// Stamps a transaction of generation 1 into the slot of CPU 0, if there is one.
 fn stamp(region: &mut Region) {
     if region.cpus() > 0 {
-        let _ = region.slot(0).stamp(1, 1, 1, false, false);
+        let _ = region.slot(0).stamp(1, 1, 1, Flags::NONE);
     }
 }
 

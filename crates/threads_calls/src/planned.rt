@@ -1,12 +1,13 @@
 //! Runs of lists and shifts in threads, and what is wanted of them.
 
 use crate::in_order::InOrder;
+use gs_journal::Journal;
 use gs_kernel::Command as Told;
 use gs_layout::{Class, Facts, Name, Refusal};
 use gs_policy::FirstCome;
 use gs_replies::{Config, Reply};
 use gs_runner::{
-    Command, Finished, Receipt, RunFault, Settled, Shift, Step, Unsettled, run_threads,
+    Command, Finished, ReceiptRef, Receipts, RunFault, Settled, Shift, Step, Unsettled, run_threads,
 };
 use gs_status::Mask;
 use std::alloc::{AllocError, Global};
@@ -142,7 +143,10 @@ fn prepare(
 }
 
 /// Returns what a call was answered.
-fn answer_to(receipt: &Receipt) -> Answer {
+fn answer_to(receipt: &ReceiptRef<'_>) -> Answer {
+    let ReceiptRef::Other { receipt } = receipt else {
+        return Answer::Taken;
+    };
     match &receipt.reply {
         Reply::Torn => Answer::Torn,
         Reply::Refused(refusal) => Answer::Refused(*refusal),
@@ -152,19 +156,23 @@ fn answer_to(receipt: &Receipt) -> Answer {
 }
 
 /// Returns whether the calls of a list or shift were answered so.
-fn is_answered(receipts: &[Receipt], wanted: &[Answer]) -> bool {
+fn is_answered(journal: &Journal, receipts: &Receipts, wanted: &[Answer]) -> bool {
     let mut same = receipts.len() == wanted.len();
-    for (receipt, answer) in receipts.iter().zip(wanted) {
-        same = same && answer_to(receipt) == *answer;
+    for (index, answer) in wanted.iter().enumerate() {
+        same = same
+            && match receipts.get(journal, index) {
+                Some(receipt) => answer_to(&receipt) == *answer,
+                None => false,
+            };
     }
     same
 }
 
 /// Returns whether the calls of all lists and shifts were answered so.
-fn are_answered(receipts: &[Vec<Receipt>], wanted: &[&[Answer]]) -> bool {
+fn are_answered(journal: &Journal, receipts: &[Receipts], wanted: &[&[Answer]]) -> bool {
     let mut same = receipts.len() == wanted.len();
     for (its, answers) in receipts.iter().zip(wanted) {
-        same = same && is_answered(its.as_slice(), answers);
+        same = same && is_answered(journal, its, answers);
     }
     same
 }
@@ -189,7 +197,11 @@ fn has_ended(
 ) -> bool {
     finished.end == end
         && finished.threads == threads
-        && are_answered(finished.receipts.as_slice(), answers)
+        && are_answered(
+            finished.closed.journal(),
+            finished.receipts.as_slice(),
+            answers,
+        )
         && finished.closed.calls().len() == accepted(answers)
 }
 

@@ -5,8 +5,8 @@ use gs_kernel::{Command as Told, ThreadEvent};
 use gs_layout::{Class, Facts, Name};
 use gs_policy::FirstCome;
 use gs_replies::{Config, Reply};
-use gs_runner::{CallRef, Called, Calls, Command, Finished, Receipt, run_threads};
-use gs_slots::SlotMut;
+use gs_runner::{CallRef, Called, Calls, Command, Finished, ReceiptRef, Receipts, run_threads};
+use gs_slots::{Flags, SlotMut};
 use gs_status::Mask;
 use std::alloc::{AllocError, Global};
 use std::sync::Wait;
@@ -16,7 +16,7 @@ use std::thread::Threads;
 /// A transaction of generation 1 that places thread 1 on CPU 1, and was stamped at this number.
 fn landing(seen: u32) -> Command {
     let mut bytes = [0; 32];
-    let _ = SlotMut::over(1, &mut bytes).stamp(1, 1, seen, false, false);
+    let _ = SlotMut::over(1, &mut bytes).stamp(1, 1, seen, Flags::NONE);
     Command::Land { bytes }
 }
 
@@ -68,8 +68,8 @@ fn commands() -> [Command; 20] {
 }
 
 /// Returns whether the call at a place is shown with this command, and as its receipt has it.
-fn is_shown(calls: &Calls<'_>, index: usize, given: &Command, receipt: &Receipt) -> bool {
-    match (calls.get(index), given) {
+fn is_shown(calls: &Calls<'_>, index: usize, given: &Command, receipt: &ReceiptRef<'_>) -> bool {
+    match (calls.get(index), given, receipt) {
         (
             Some(
                 CallRef::Told {
@@ -80,13 +80,27 @@ fn is_shown(calls: &Calls<'_>, index: usize, given: &Command, receipt: &Receipt)
                 },
             ),
             Command::Kernel { command },
+            ReceiptRef::Done {
+                at: its,
+                entries: count,
+                last: entry,
+            },
+        ) => told == *command && at == *its && entries == *count && last == *entry,
+        (
+            Some(CallRef::Other { call }),
+            given,
+            ReceiptRef::Done {
+                at: its,
+                entries: count,
+                last: entry,
+            },
         ) => {
-            told == *command
-                && at == receipt.at
-                && entries == receipt.entries
-                && receipt.reply == Reply::Done(last)
+            call.called == Called::Served(*given)
+                && call.at == *its
+                && call.entries == *count
+                && call.reply == Reply::Done(*entry)
         }
-        (Some(CallRef::Other { call }), given) => {
+        (Some(CallRef::Other { call }), given, ReceiptRef::Other { receipt }) => {
             call.called == Called::Served(*given)
                 && call.at == receipt.at
                 && call.entries == receipt.entries
@@ -96,19 +110,28 @@ fn is_shown(calls: &Calls<'_>, index: usize, given: &Command, receipt: &Receipt)
     }
 }
 
-/// Returns whether just the calls that were not refused are shown, in order, and how many those are.
-fn are_shown(calls: &Calls<'_>, given: &[Command], receipts: &[Receipt]) -> Option<usize> {
-    let mut index: usize = 0;
-    for (command, receipt) in given.iter().zip(receipts) {
-        if let Reply::Refused(_) = receipt.reply {
-            continue;
-        }
-        if !is_shown(calls, index, command, receipt) {
-            return None;
-        }
-        index = index.wrapping_add(1);
+fn is_refused(receipt: &ReceiptRef<'_>) -> bool {
+    match receipt {
+        ReceiptRef::Done { .. } => false,
+        ReceiptRef::Other { receipt } => matches!(receipt.reply, Reply::Refused(_)),
     }
-    (calls.get(index).is_none() && calls.len() == index).then_some(index)
+}
+
+/// Returns whether just the calls that were not refused are shown, in order, and how many those are.
+fn are_shown(finished: &Finished, given: &[Command], receipts: &Receipts) -> Option<usize> {
+    let journal = finished.closed.journal();
+    let calls = finished.closed.calls();
+    let mut index: usize = 0;
+    let mut shown = true;
+    for (place, command) in given.iter().enumerate() {
+        if let Some(receipt) = receipts.get(journal, place) {
+            if !is_refused(&receipt) {
+                shown = shown && is_shown(&calls, index, command, &receipt);
+                index = index.wrapping_add(1);
+            }
+        }
+    }
+    (shown && calls.get(index).is_none() && calls.len() == index).then_some(index)
 }
 
 /// Returns how many calls of a list are shown as they were. `None` if one is not, or has no receipt.
@@ -117,7 +140,7 @@ fn shown_of(finished: &Finished, given: &[Command]) -> Option<usize> {
     if receipts.len() != given.len() {
         return None;
     }
-    are_shown(&finished.closed.calls(), given, receipts.as_slice())
+    are_shown(finished, given, receipts)
 }
 
 /// Runs one list of all commands. Returns how many calls are shown as they were.

@@ -13,11 +13,11 @@ fn serve<L: Site, R: Wait>(
     pass: &mut Pass<L>,
     command: &Command,
 ) -> bool {
-    let receipt = station
-        .enclave()
-        .lock(rt)
-        .serve(station.board(), pass.share(), command);
-    matches!(receipt.reply, Reply::Done(_))
+    let mut enclave = station.enclave().lock(rt);
+    match &enclave.serve(station.board(), pass.share(), command).reply {
+        Reply::Done(_) => true,
+        _ => false,
+    }
 }
 
 /// Creates the threads.

@@ -18,11 +18,12 @@ impl Count {
         }
     }
 
-    /// It happened once more.
-    pub(crate) fn add<R: Wait>(&self, rt: &R) {
+    /// It happened once more. Returns how often it did then.
+    pub(crate) fn add<R: Wait>(&self, rt: &R) -> u64 {
         let mut count = self.count.lock(rt);
         *count = count.wrapping_add(1);
         self.more.notify_all();
+        *count
     }
 
     /// Waits until it happened so often.

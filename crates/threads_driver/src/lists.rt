@@ -1,6 +1,6 @@
 //! Lists of commands, and a run of them.
 
-use crate::events::{THREADS, config, creation, event, parcels, told};
+use crate::events::{THREADS, config, creation, event, told};
 use gs_policy::FirstCome;
 use gs_runner::{Command, Finished, Gate, Settled, Shift, run_threads};
 use std::alloc::{AllocError, Global};
@@ -84,10 +84,9 @@ pub(crate) fn count_lists(alloc: Global, size: Size) -> Option<u64> {
     sum.checked_sub(THREADS as u64)
 }
 
-/// Lists of this size, and the shift that is run beside them.
+/// Lists, and the shift that is run beside them.
 #[derive(Drop)]
 pub(crate) struct Work {
-    size: Size,
     lists: Vec<Vec<Command>>,
     shifts: Vec<Shift<FirstCome>>,
 }
@@ -95,33 +94,28 @@ pub(crate) struct Work {
 impl Work {
     pub(crate) fn new(
         alloc: Global,
-        size: Size,
         lists: Vec<Vec<Command>>,
         shift: Shift<FirstCome>,
     ) -> Result<Work, AllocError> {
         let mut shifts = Vec::new(alloc);
         shifts.push(shift)?;
-        Ok(Work {
-            size,
-            lists,
-            shifts,
-        })
+        Ok(Work { lists, shifts })
     }
 
-    /// Runs each list and the shift in a thread of its own. `None` if out of memory, if the events are too many for a ring, or
-    /// if the run did not settle.
+    /// Runs each list and the shift in a thread of its own, over a ring of so many parcels. `None` if out of memory, or if the
+    /// run did not settle.
     pub(crate) fn run<G: Gate + Sync, R: Threads + Wait + Sync>(
         &self,
         rt: &R,
         alloc: Global,
+        parcels: u32,
         gate: &G,
     ) -> Option<Finished> {
-        let Size { lists, calls } = self.size;
         let ran = run_threads(
             rt,
             alloc,
             config(),
-            parcels(lists, calls)?,
+            parcels,
             self.lists.as_slice(),
             self.shifts.as_slice(),
             gate,

@@ -4,12 +4,13 @@
 //! the thread by the number that it knows, and commits that. The call keeps both numbers: the one that was stamped is how
 //! many messages the shift had taken, and the one that the kernel saw is how many were posted when it landed.
 
+use crate::events::parcels;
 use crate::lists::{Crowd, Size, Work, make_lists};
 use crate::watched::{TURN, Watched};
 use gs_policy::FirstCome;
 use gs_replies::Reply;
 use gs_runner::{Call, CallRef, Called, Calls, Shift, Step};
-use gs_slots::{SlotMut, SlotState};
+use gs_slots::{Flags, SlotMut, SlotState};
 use gs_status::Mask;
 use std::alloc::{AllocError, Global};
 use std::rt::Clock;
@@ -29,8 +30,7 @@ fn make_shift(alloc: Global, turns: u32) -> Result<Shift<FirstCome>, AllocError>
         Step::Stamp {
             cpu: CPU,
             tid: 1,
-            preempt: false,
-            group: false,
+            flags: Flags::NONE,
         },
         Step::Commit { mask: Mask::new(2) },
     ];
@@ -98,7 +98,7 @@ fn show<R: Print>(rt: &R, calls: &Calls<'_>, ends: &[u64]) -> Option<u64> {
 
 fn prepare(alloc: Global, size: Size, turns: u32) -> Result<Work, AllocError> {
     let lists = make_lists(alloc, Crowd::One, size)?;
-    Work::new(alloc, size, lists, make_shift(alloc, turns)?)
+    Work::new(alloc, lists, make_shift(alloc, turns)?)
 }
 
 /// Runs the lists beside a shift of as many turns as there are events, and writes a line for each turn that landed.
@@ -112,6 +112,6 @@ pub(crate) fn watch_lists<R: Threads + Wait + Clock + Print + Sync>(
     let turns = size.lists.checked_mul(size.calls)?;
     let work = prepare(alloc, size, turns).ok()?;
     let gate = Watched::new(rt, alloc, size.lists as usize, turns as usize)?;
-    let finished = work.run(rt, alloc, &gate)?;
+    let finished = work.run(rt, alloc, parcels(size.lists, size.calls)?, &gate)?;
     show(rt, &finished.closed.calls(), gate.into_ends().as_slice())
 }

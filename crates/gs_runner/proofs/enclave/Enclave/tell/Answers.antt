@@ -1,4 +1,5 @@
 use Rattle.std.proofs.Common.{◌≡◌, ℕ, ◌-◌, Ok, List, [], ◌∷◌, ◌++◌, length, sym, ap, subst, ◌∙◌, arith}
+use Rattle.gs_journal.specs.declared.entry.Entry.{Entry}
 use Rattle.gs_kernel.specs.Kernel.{last_entry}
 use Rattle.gs_replies.specs.declared.reply.Reply.{Reply}
 use Rattle.gs_replies.specs.declared.reply.Reply.TheVariants.{Refused}
@@ -7,6 +8,7 @@ use Rattle.gs_runner.specs.declared.command.Command.{Command}
 use Rattle.gs_runner.specs.declared.command.Command.TheVariants.{Kernel}
 use Rattle.gs_runner.specs.declared.call.Called.TheVariants.{Served}
 use Rattle.gs_runner.specs.declared.call.Call.{Call}
+use Rattle.gs_runner.specs.declared.call.Receipt.{Receipt}
 use Rattle.gs_runner.specs.Enclaves.{EnclaveOf, enclave_of}
 use Rattle.gs_runner.specs.Kept.{AllWithin, calls_kept, told_call}
 use Rattle.gs_runner.specs.Serving.{Serves}
@@ -81,8 +83,8 @@ returns g c =
     let shown = calls_then a b (Served command) r log.list.others.items c.reserve.new.self.others.items log.list.kept.items c.reserve.new.self.kept.items told c.reserve.ensures.others c.reserve.ensures.kept c.self.invariant.1 in
     let items : now ≡ calls ++ call ∷ [] = c.accept_told.ensures.calls ∙ ap (λ (l : List Call). l ++ call ∷ []) shown in
     let after : EnclaveOf = enclave_of b now c.accept_told.new.self.book.total c.accept_told.new.self.seat in
-    let reply : c.executed.result ≡ r = c.executed.ensures ∙ ap (reply_of (Ok c.in-Ok.executed)) c.last.ensures in
-    subst (λ (x : Reply). Serves g.L.Site.parcels command c.args.self.now c.args.share.now (record { at = c.entries-at.result; entries = more; reply = x }) after c.accept_told.new.share) (sym reply)
+    let receipt : c.executed.result ≡ record { at = c.entries-at.result; entries = more; reply = r } = c.executed.ensures ∙ ap (λ (e : Entry). record { at = c.entries-at.result; entries = more; reply = reply_of (Ok c.in-Ok.executed) e }) c.last.ensures in
+    subst (λ (x : Receipt). Serves g.L.Site.parcels command c.args.self.now c.args.share.now x after c.accept_told.new.share) (sym receipt)
     (subst (λ (e : EnclaveOf). Serves g.L.Site.parcels command e c.args.share.now (record { at = c.entries-at.result; entries = more; reply = r }) after c.accept_told.new.share) c.self.view_is
     (serves_accepted g.L.Site.parcels a b command r calls now log.book.total c.accept_told.new.self.book.total c.args.share.now c.accept_told.new.share c.entries-at.result more log.seat c.accept_told.new.self.seat
     c.self.invariant.0.capacity told (executed_accepted c.in-Ok.executed (last_entry b.history)) c.entries-at.ensures (omega (arith, longer, c.entries-at.ensures, c.entries-end.ensures)) items c.accept_told.ensures.counted.0 c.accept_told.ensures.counted.1))
