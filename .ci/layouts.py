@@ -176,7 +176,8 @@ def read_slot(data):
     state, flags, cpu, generation, tid, tseq, outcome, at, seen, zeros = SLOT.unpack(slot)
     if not any(slot):
         return "Idle"
-    stamp = f"Stamp {{ generation: {generation}, tid: {tid}, tseq: {tseq}, preempt: {BOOLS[flags & 1]}, group: {BOOLS[flags >> 1 & 1]} }}"
+    asked = f"Flags {{ preempt: {BOOLS[flags & 1]}, group: {BOOLS[flags >> 1 & 1]} }}"
+    stamp = f"Stamp {{ generation: {generation}, tid: {tid}, tseq: {tseq}, flags: {asked} }}"
     if cpu != own or flags > 3 or zeros:
         return "Malformed"
     if state == STAMPED and not (outcome or at or seen):

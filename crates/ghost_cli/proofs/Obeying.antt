@@ -4,12 +4,10 @@ use Rattle.std.specs.Prelude.{IfErr, IsSomeAnd}
 use Rattle.std.specs.Io.KnownBytes.{Appends, Keeps}
 use Rattle.clap.specs.Words.{Text}
 use Rattle.clap.specs.declared.error.Error.{Error}
-use Rattle.gs_arguments.specs.Arguments.{AsksAllowed, command_in}
+use Rattle.gs_arguments.specs.Arguments.{AsksAllowed, command_in, file_in}
 use Rattle.gs_arguments.specs.declared.arguments.Command.{Command}
 use Rattle.gs_arguments.specs.declared.arguments.Command.TheVariants as commands
-use Rattle.gs_trace.specs.Output.{IsShown, shown_as}
 use Rattle.gs_trace.specs.Streams.{AnswersAll, AnswersRead, BeginsAnswer, ConsumesAtMost}
-use Rattle.gs_trace.specs.declared.form.Form.{Form}
 use Rattle.gs_trace.specs.declared.pipe.TheConstants.{MOST_READ_BYTES}
 use Rattle.gs_trace.specs.declared.run.Ended.{Ended}
 use Rattle.gs_trace.specs.declared.run.Ended.TheVariants.{Ran}
@@ -20,10 +18,11 @@ use Rattle.gs_workers.specs.declared.fault.WorkFault.{WorkFault}
 use Rattle.gs_workers.specs.declared.fault.WorkFault.TheVariants as works
 use Rattle.gs_workers.specs.declared.text.Shown.{Shown}
 use Rattle.gs_workers.specs.declared.work.Work.{Work}
-use Rattle.ghost_cli.specs.Asked.{Does, MayBe, task_asked}
-use Rattle.ghost_cli.specs.Failures.{IsOfTask, IsOfWords, IsToldBy, SaidOf}
+use Rattle.ghost_cli.specs.Asked.{Answers, Does, DoesFrom, MayBe, task_asked}
+use Rattle.ghost_cli.specs.Failures.{IsOfTask, IsOfWords, IsToldBy, IsUnopened, SaidOf}
 use Rattle.ghost_cli.specs.declared.asked.Task.{Task}
 use Rattle.ghost_cli.specs.declared.asked.Task.TheVariants.{Script, Workers}
+use Rattle.ghost_cli.specs.declared.asked.Wanted.{Wanted}
 use Rattle.ghost_cli.specs.declared.failure.Failure.{Failure}
 use Rattle.ghost_cli.specs.declared.failure.Failure.TheVariants as failures
 
@@ -36,13 +35,13 @@ pub none_read : (x : Option (List ℕ)) → ConsumesAtMost MOST_READ_BYTES x x
 none_read None = ([], tt, omega arith)
 none_read (Some xs) = ([], refl, omega arith)
 
-pub script_ended : (form : Form) (had left before after : Option (List ℕ)) (ended : Ended) → AnswersAll (IsShown (shown_as form)) ended had before after
-    → AnswersRead (IsShown (shown_as form)) ended had left before after → ConsumesAtMost MOST_READ_BYTES had left → Does (Script form) had left before after (Ok ended)
-script_ended form had left before after ended all read bounded = record { ended = (all, read); bounded = bounded; unwritten = tt; begun = tt; said = tt }
+pub script_ended : (w : Wanted) (had left before after : Option (List ℕ)) (ended : Ended) → AnswersAll (Answers w) ended had before after
+    → AnswersRead (Answers w) ended had left before after → ConsumesAtMost MOST_READ_BYTES had left → Does (Script w) had left before after (Ok ended)
+script_ended w had left before after ended all read bounded = record { ended = (all, read); bounded = bounded; unwritten = tt; begun = tt; said = tt }
 
-pub script_failed : (form : Form) (had left before after : Option (List ℕ)) (fault : TraceFault) → ConsumesAtMost MOST_READ_BYTES had left → (fault ≢ WriteFailed → Keeps before after)
-    → (fault ≡ WriteFailed → BeginsAnswer (IsShown (shown_as form)) had before after) → Does (Script form) had left before after (Err (failures.Script fault))
-script_failed form had left before after fault bounded unwritten begun = record { ended = tt; bounded = bounded; unwritten = unwritten; begun = begun; said = tt }
+pub script_failed : (w : Wanted) (had left before after : Option (List ℕ)) (fault : TraceFault) → ConsumesAtMost MOST_READ_BYTES had left → (fault ≢ WriteFailed → Keeps before after)
+    → (fault ≡ WriteFailed → BeginsAnswer (Answers w) had before after) → Does (Script w) had left before after (Err (failures.Script fault))
+script_failed w had left before after fault bounded unwritten begun = record { ended = tt; bounded = bounded; unwritten = unwritten; begun = begun; said = tt }
 
 pub workers_ended : (work : Work) (shown : Shown) (had before after : Option (List ℕ)) → (out : List ℕ) × IsText work shown out × Appends before after out → Does (Workers work shown) had had before after (Ok Ran)
 workers_ended work shown had before after written = record { ended = (refl, kept had, written); bounded = none_read had; unwritten = tt; begun = tt; said = tt }
@@ -54,6 +53,7 @@ workers_failed work shown had before after fault unwritten begun why = record { 
 -- what a command may ask for, its task may be
 pub may_be : (command : Command) → AsksAllowed command → MayBe (task_asked command)
 may_be commands.Run allowed = tt
+may_be commands.Explain allowed = tt
 may_be (commands.Report last) allowed = tt
 may_be (commands.Journal true) allowed = tt
 may_be (commands.Journal false) allowed = tt
@@ -65,21 +65,42 @@ pub unbegun : (error : Error) (failure : Failure) → IsToldBy error failure →
 unbegun error failure (inl (kind, is)) = subst IsOfWords (sym is) refl
 unbegun error failure (inr (kind, is)) = subst IsOfWords (sym is) tt
 
-pub asked_for : (words : List Text) (command : Command) (task : Task) (had left before after : Option (List ℕ)) (result : Result Ended Failure) → command_in words ≡ Some command → task ≡ task_asked command
-    → Does task had left before after result → IsSomeAnd (command_in words) (λ command. Does (task_asked command) had left before after result)
-asked_for words command task had left before after result given is does =
-    let done : Does (task_asked command) had left before after result = subst (λ (t : Task). Does t had left before after result) is does in
-    subst (λ (o : Option Command). IsSomeAnd o (λ x. Does (task_asked x) had left before after result)) (sym given) done
+pub asked_for : (words : List Text) (command : Command) (task : Task) (file : Option Text) (had left before after : Option (List ℕ)) (result : Result Ended Failure) → command_in words ≡ Some command → file ≡ file_in words → task ≡ task_asked command
+    → DoesFrom file task had left before after result → IsSomeAnd (command_in words) (λ command. DoesFrom (file_in words) (task_asked command) had left before after result)
+asked_for words command task file had left before after result given of is does =
+    let there : DoesFrom (file_in words) task had left before after result = subst (λ (f : Option Text). DoesFrom f task had left before after result) of does in
+    let done : DoesFrom (file_in words) (task_asked command) had left before after result = subst (λ (t : Task). DoesFrom (file_in words) t had left before after result) is there in
+    subst (λ (o : Option Command). IsSomeAnd o (λ x. DoesFrom (file_in words) (task_asked x) had left before after result)) (sym given) done
 
 -- what is said of a task is not that the arguments are at fault
 pub of_task : (task : Task) (failure : Failure) → SaidOf task failure → IsOfTask failure
 of_task task (failures.Work fault) said = tt
 of_task task (failures.Script fault) said = tt
-of_task (Script form) (failures.Arguments error) said = said
-of_task (Script form) failures.NotText said = said
+of_task task (failures.Unopened file error) said = tt
+of_task (Script w) (failures.Arguments error) said = said
+of_task (Script w) failures.NotText said = said
+of_task (Script w) failures.UnknownWord said = said
+of_task (Script w) (failures.NearWord near) said = said
 of_task (Workers work shown) (failures.Arguments error) said = said
 of_task (Workers work shown) failures.NotText said = said
+of_task (Workers work shown) failures.UnknownWord said = said
+of_task (Workers work shown) (failures.NearWord near) said = said
 
 pub none_at_fault : (task : Task) (had left before after : Option (List ℕ)) (result : Result Ended Failure) → Does task had left before after result → IfErr result IsOfTask
 none_at_fault task had left before after (Ok ended) does = tt
 none_at_fault task had left before after (Err failure) does = of_task task failure does.said
+
+unopened_of_task : (failure : Failure) → IsUnopened failure → IsOfTask failure
+unopened_of_task (failures.Unopened file error) is = tt
+unopened_of_task (failures.Script fault) is = tt
+unopened_of_task (failures.Work fault) is = tt
+unopened_of_task (failures.Arguments error) is = is
+unopened_of_task failures.NotText is = is
+unopened_of_task failures.UnknownWord is = is
+unopened_of_task (failures.NearWord near) is = is
+
+pub none_at_fault_from : (file : Option Text) (task : Task) (had left before after : Option (List ℕ)) (result : Result Ended Failure) → DoesFrom file task had left before after result → IfErr result IsOfTask
+none_at_fault_from None task had left before after result does = none_at_fault task had left before after result does
+none_at_fault_from (Some file) task had left before after result (kept, inl (h, l, does)) = none_at_fault task h l before after result does
+none_at_fault_from (Some file) task had left before after (Ok ended) (kept, inr (is, same)) = tt
+none_at_fault_from (Some file) task had left before after (Err failure) (kept, inr (is, same)) = unopened_of_task failure is

@@ -1,12 +1,13 @@
 -- What the arguments ask for.
-use Rattle.std.specs.Prelude.{◌≡◌, ◌≢◌, ◌⊎◌, ⊤, ℕ, Bool, true, false, List, [], Option, Some, Result, IfOk, IfErr, IsErrAnd, IsSomeAnd, map, string_bytes}
+use Rattle.std.specs.Prelude.{◌≡◌, ◌≢◌, ◌<◌, ◌⊎◌, ◌&&◌, ◌||◌, ◌==◌, ⊤, ℕ, Bool, true, false, not, bytes_eq, codes, get_or, length, take, if◌then◌else◌, List, [], ◌∷◌, Option, None, Some, Result, Ok, Err, IfOk, IfErr, IsErrAnd, IsSomeAnd, map, string_bytes}
+use Rattle.std.specs.List.{list_any}
 use Rattle.std.specs.Io.KnownBytes.{Appends, Keeps}
 use Rattle.std.specs.Vec.Iter.{into_iter_items}
 use Rattle.std.specs.declared.string.String.{String}
 use Rattle.std.specs.declared.vec.IntoIter.{IntoIter}
 use Rattle.clap.specs.Faults.{fault_of}
 use Rattle.clap.specs.Words.{Text}
-use Rattle.gs_arguments.specs.Arguments.{command_in, ghost_program}
+use Rattle.gs_arguments.specs.Arguments.{command_in, file_in, ghost_program}
 use Rattle.gs_arguments.specs.declared.arguments.Command.{Command}
 use Rattle.gs_arguments.specs.declared.arguments.Command.TheVariants as commands
 use Rattle.gs_trace.specs.Output.{IsShown, shown_as}
@@ -17,14 +18,20 @@ use Rattle.gs_trace.specs.declared.form.Notation.TheVariants as notations
 use Rattle.gs_trace.specs.declared.pipe.TheConstants.{MOST_READ_BYTES}
 use Rattle.gs_trace.specs.declared.run.Ended.{Ended}
 use Rattle.gs_trace.specs.declared.run.Ended.TheVariants.{Ran}
+use Rattle.gs_trace.specs.declared.run.TraceFault.TheVariants.{OutOfMemory, WriteFailed}
 use Rattle.gs_workers.specs.Work.{IsAllowed}
 use Rattle.gs_workers.specs.Written.{BeginsText, IsText}
 use Rattle.gs_workers.specs.declared.text.Shown.{Shown}
 use Rattle.gs_workers.specs.declared.text.Shown.TheVariants as shows
-use Rattle.ghost_cli.specs.Failures.{IsOfTask, IsOfWords, IsOfWriting, SaidOf, TellsOneOf}
+use Rattle.ghost_cli.specs.Failures.{IsOfTask, IsOfWords, IsOfWriting, IsUnopened, SaidOf, TellsOneOf}
+use Rattle.gs_explain.specs.Explained.{IsExplained}
 use Rattle.ghost_cli.specs.declared.asked.Task.{Task}
 use Rattle.ghost_cli.specs.declared.asked.Task.TheVariants.{Script, Workers}
+use Rattle.ghost_cli.specs.declared.asked.Wanted.{Wanted}
+use Rattle.ghost_cli.specs.declared.asked.Wanted.TheVariants as wanted
 use Rattle.ghost_cli.specs.declared.failure.Failure.{Failure}
+use Rattle.ghost_cli.specs.declared.failure.Failure.TheVariants as failures
+use Rattle.ghost_cli.specs.declared.failure.Failure.TheVariants.{NearWord, UnknownWord}
 
 -- the texts of all arguments that are left, in order
 abbrev pub texts : {Z Y : Type 0} → IntoIter (String Z) Y → List Text
@@ -37,27 +44,33 @@ shown_asked false = shows.Line
 
 -- what a command asks for
 abbrev pub task_asked : Command → Task
-task_asked commands.Run = Script Lines
-task_asked (commands.Report last) = Script (Report last)
-task_asked (commands.Journal false) = Script (Journal notations.Lines)
-task_asked (commands.Journal true) = Script (Journal notations.Json)
-task_asked (commands.Timeline from to) = Script (Timeline from to)
+task_asked commands.Run = Script (wanted.Shown Lines)
+task_asked commands.Explain = Script wanted.Explained
+task_asked (commands.Report last) = Script (wanted.Shown (Report last))
+task_asked (commands.Journal false) = Script (wanted.Shown (Journal notations.Lines))
+task_asked (commands.Journal true) = Script (wanted.Shown (Journal notations.Json))
+task_asked (commands.Timeline from to) = Script (wanted.Shown (Timeline from to))
 task_asked (commands.Threads workers each journal) = Workers (record { workers = workers; each = each }) (shown_asked journal)
+
+-- what is to be written for a script, and how that ends
+abbrev pub Answers : Wanted → List ℕ → Ended → List ℕ → Type 0
+Answers (wanted.Shown form) = IsShown (shown_as form)
+Answers wanted.Explained = IsExplained
 
 -- there are as many workers and creations as there may be
 abbrev pub MayBe : Task → Type 0
-MayBe (Script form) = ⊤
+MayBe (Script w) = ⊤
 MayBe (Workers work shown) = IsAllowed work
 
 -- a task ended so. Of a script it is written what came of all that the reader has, and of what was read. Of workers a run that settled is
 -- shown, and nothing is read
 abbrev pub IsDone : Task → Ended → Option (List ℕ) → Option (List ℕ) → Option (List ℕ) → Option (List ℕ) → Type 0
-IsDone (Script form) ended had left before after = AnswersAll (IsShown (shown_as form)) ended had before after × AnswersRead (IsShown (shown_as form)) ended had left before after
+IsDone (Script w) ended had left before after = AnswersAll (Answers w) ended had before after × AnswersRead (Answers w) ended had left before after
 IsDone (Workers work shown) ended had left before after = (ended ≡ Ran) × Keeps had left × ((out : List ℕ) × IsText work shown out × Appends before after out)
 
 -- of what a task asks for a beginning was written, short of the whole
 abbrev pub IsBegun : Task → Option (List ℕ) → Option (List ℕ) → Option (List ℕ) → Type 0
-IsBegun (Script form) had before after = BeginsAnswer (IsShown (shown_as form)) had before after
+IsBegun (Script w) had before after = BeginsAnswer (Answers w) had before after
 IsBegun (Workers work shown) had before after = BeginsText work shown before after
 
 -- what comes of a task, of what a reader has, and of what a writer holds. An error but that of a write leaves the writer as it was, and
@@ -69,10 +82,53 @@ pub record Does (task : Task) (had left before after : Option (List ℕ)) (resul
   pub begun : IfErr result (λ failure. IsOfWriting failure → IsBegun task had before after)
   pub said : IfErr result (SaidOf task)
 
+-- what comes of a task whose script a file has: it is done with what the file has, of which nothing is said here, or the file cannot be
+-- opened, and nothing is written
+abbrev pub DoesInFile : Task → Option (List ℕ) → Option (List ℕ) → Result Ended Failure → Type 0
+DoesInFile task before after result = ((had left : Option (List ℕ)) × Does task had left before after result) ⊎ (IsErrAnd result IsUnopened × Keeps before after)
+
+-- what comes of a task whose script this file has, and then nothing is read of the reader, or else the reader
+abbrev pub DoesFrom : Option Text → Task → Option (List ℕ) → Option (List ℕ) → Option (List ℕ) → Option (List ℕ) → Result Ended Failure → Type 0
+DoesFrom None task had left before after result = Does task had left before after result
+DoesFrom (Some file) task had left before after result = Keeps had left × DoesInFile task before after result
+
+-- whether a word is a command of the program
+abbrev pub is_command : Text → Bool
+is_command word = list_any (bytes_eq word) (codes "run" ∷ codes "explain" ∷ codes "report" ∷ codes "journal" ∷ codes "timeline" ∷ codes "threads" ∷ codes "help" ∷ [])
+
+abbrev pub is_option : Text → Bool
+is_option word = get_or word 0 0 == 45
+
+-- the word of `ghost help WORD`, unless that is a command or an option
+abbrev pub help_word : List Text → Option Text
+help_word (name ∷ command ∷ word ∷ []) = if bytes_eq command (codes "help") && not (is_command word || is_option word) then Some word else None
+help_word _ = None
+
+-- nothing was written of a word, or not all: nothing is said of it, out of memory, or a write failed
+abbrev pub Unhelps : Option (List ℕ) → Option (List ℕ) → Failure → Type 0
+Unhelps before after UnknownWord = Keeps before after
+Unhelps before after (NearWord near) = Keeps before after
+Unhelps before after (failures.Script fault) =
+    ((fault ≡ OutOfMemory) × Keeps before after) ⊎ ((fault ≡ WriteFailed) × ((text : List ℕ) × (n : ℕ) × (n < length text) × Appends before after (take n text)))
+Unhelps before after _ = ⊥
+
+-- a text about a word was written, of which nothing is said here, or not all of it
+abbrev pub Helps : Option (List ℕ) → Option (List ℕ) → Result Ended Failure → Type 0
+Helps before after (Ok ended) = (ended ≡ Ran) × ((text : List ℕ) × Appends before after text)
+Helps before after (Err failure) = Unhelps before after failure
+
 -- what comes of the words of a command line: what their command asks for is done, or nothing is read and written and they are told what
 -- is wrong, or out of memory. Words that have a fault are told one, and others that give a command are not
-pub record Obeys (words : List Text) (had left before after : Option (List ℕ)) (result : Result Ended Failure) : Type 0 where
-  pub done : IsSomeAnd (command_in words) (λ command. Does (task_asked command) had left before after result)
+pub record ObeysCommand (words : List Text) (had left before after : Option (List ℕ)) (result : Result Ended Failure) : Type 0 where
+  pub done : IsSomeAnd (command_in words) (λ command. DoesFrom (file_in words) (task_asked command) had left before after result)
       ⊎ (IsErrAnd result IsOfWords × Keeps had left × Keeps before after)
   pub told : fault_of ghost_program words ≢ [] → IsErrAnd result (TellsOneOf (fault_of ghost_program words))
   pub faultless : fault_of ghost_program words ≡ [] → (command : Command) → command_in words ≡ Some command → IfErr result IsOfTask
+
+-- what comes of the words of a command line, of which help may be wanted of one: nothing is read then
+abbrev pub ObeysIf : Option Text → List Text → Option (List ℕ) → Option (List ℕ) → Option (List ℕ) → Option (List ℕ) → Result Ended Failure → Type 0
+ObeysIf (Some word) words had left before after result = Keeps had left × Helps before after result
+ObeysIf None words had left before after result = ObeysCommand words had left before after result
+
+abbrev pub Obeys : List Text → Option (List ℕ) → Option (List ℕ) → Option (List ℕ) → Option (List ℕ) → Result Ended Failure → Type 0
+Obeys words had left before after result = ObeysIf (help_word words) words had left before after result

@@ -12,7 +12,7 @@ use Rattle.gs_workers.specs.declared.fault.WorkFault.TheVariants as works
 use Rattle.ghost_cli.specs.declared.asked.Task.{Task}
 use Rattle.ghost_cli.specs.declared.asked.Task.TheVariants as tasks
 use Rattle.ghost_cli.specs.declared.failure.Failure.{Failure}
-use Rattle.ghost_cli.specs.declared.failure.Failure.TheVariants.{Arguments, NotText, Script, Work}
+use Rattle.ghost_cli.specs.declared.failure.Failure.TheVariants.{Arguments, NearWord, NotText, Script, UnknownWord, Unopened, Work}
 
 -- reading the arguments failed with this kind of error: out of memory, or they are not text
 abbrev pub IsUnreadBy : ErrorKind → Failure → Type 0
@@ -26,6 +26,9 @@ IsToldBy error failure = ((kind_of error ≡ kinds.OutOfMemory) × (failure ≡ 
 abbrev pub TellsOneOf : Kinds → Failure → Type 0
 TellsOneOf kinds (Arguments error) = IsAmong (kind_of error) kinds
 TellsOneOf kinds NotText = ⊥
+TellsOneOf kinds UnknownWord = ⊥
+TellsOneOf kinds (NearWord near) = ⊥
+TellsOneOf kinds (Unopened file error) = ⊥
 TellsOneOf kinds (Script fault) = fault ≡ OutOfMemory
 TellsOneOf kinds (Work fault) = ⊥
 
@@ -33,6 +36,9 @@ TellsOneOf kinds (Work fault) = ⊥
 abbrev pub IsOfWords : Failure → Type 0
 IsOfWords (Arguments error) = ⊤
 IsOfWords NotText = ⊥
+IsOfWords UnknownWord = ⊥
+IsOfWords (NearWord near) = ⊥
+IsOfWords (Unopened file error) = ⊥
 IsOfWords (Script fault) = fault ≡ OutOfMemory
 IsOfWords (Work fault) = ⊥
 
@@ -40,8 +46,24 @@ IsOfWords (Work fault) = ⊥
 abbrev pub IsOfTask : Failure → Type 0
 IsOfTask (Arguments error) = ⊥
 IsOfTask NotText = ⊥
+IsOfTask UnknownWord = ⊥
+IsOfTask (NearWord near) = ⊥
+IsOfTask (Unopened file error) = ⊤
 IsOfTask (Script fault) = ⊤
 IsOfTask (Work fault) = ⊤
+
+-- the file that is to have the script cannot be opened, or out of memory
+abbrev pub IsUnopened : Failure → Type 0
+IsUnopened (Unopened file error) = ⊤
+IsUnopened (Script fault) = fault ≡ OutOfMemory
+IsUnopened _ = ⊥
+
+-- nothing is said of a word, or out of memory
+abbrev pub IsUnknown : Failure → Type 0
+IsUnknown UnknownWord = ⊤
+IsUnknown (NearWord near) = ⊤
+IsUnknown (Script fault) = fault ≡ OutOfMemory
+IsUnknown _ = ⊥
 
 -- a write failed
 abbrev pub IsOfWriting : Failure → Type 0
@@ -51,6 +73,6 @@ IsOfWriting _ = ⊥
 
 -- what may be said of a task: of workers, that their agent did not settle only if a run of theirs ended so
 abbrev pub SaidOf : Task → Failure → Type 0
-SaidOf (tasks.Script form) (Script fault) = ⊤
+SaidOf (tasks.Script wanted) (Script fault) = ⊤
 SaidOf (tasks.Workers work shown) (Work fault) = WhyUntold work fault
 SaidOf _ _ = ⊥

@@ -10,7 +10,7 @@ use Rattle.gs_trace.specs.declared.run.TraceFault.TheVariants.{ReadFailed, OutOf
 use Rattle.gs_workers.specs.declared.fault.WorkFault.{WorkFault}
 use Rattle.gs_workers.specs.declared.fault.WorkFault.TheVariants as works
 use Rattle.ghost_cli.specs.declared.failure.Failure.{Failure}
-use Rattle.ghost_cli.specs.declared.failure.Failure.TheVariants.{Arguments, NotText, Script, Work}
+use Rattle.ghost_cli.specs.declared.failure.Failure.TheVariants.{Arguments, NearWord, NotText, Script, UnknownWord, Unopened, Work}
 
 -- 0 if a script ran, 2 if it has a fault
 abbrev pub ended_status : Ended → ℕ
@@ -37,6 +37,9 @@ IsArgumentsStatus kind status = (kind ≢ DisplayHelp → kind ≢ DisplayVersio
 abbrev pub IsFailureStatus : Failure → ℕ → Type 0
 IsFailureStatus (Arguments error) status = IsArgumentsStatus (kind_of error) status
 IsFailureStatus NotText status = status ≡ 3
+IsFailureStatus UnknownWord status = status ≡ 3
+IsFailureStatus (NearWord near) status = status ≡ 3
+IsFailureStatus (Unopened file error) status = status ≡ 4
 IsFailureStatus (Script fault) status = status ≡ fault_status fault
 IsFailureStatus (Work fault) status = status ≡ work_status fault
 

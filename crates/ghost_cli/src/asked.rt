@@ -1,29 +1,44 @@
-ghost use Rattle.std.specs.Prelude.{◌≡◌, ◌≢◌, [], IfOk, IfErr, IsErr, IsErrAnd, map, string_bytes};
+ghost use Rattle.std.specs.Prelude.{◌≡◌, ◌≢◌, [], IfOk, IfErr, IsErr, IsErrAnd, IsErrOf, map, option_map, string_bytes};
 ghost use Rattle.std.specs.IoError.{error_kind};
 ghost use Rattle.std.specs.Io.KnownBytes.{Keeps};
 ghost use Rattle.std.specs.Vec.Iter.{into_iter_items};
 ghost use Rattle.clap.specs.Faults.{fault_of};
-ghost use Rattle.gs_arguments.specs.Arguments.{AsksAllowed, command_in, ghost_program};
+ghost use Rattle.gs_arguments.specs.Arguments.{AsksAllowed, command_in, file_in, ghost_program};
 ghost use Rattle.gs_arguments.specs.declared.arguments.Command.{Command};
-ghost use Rattle.ghost_cli.specs.Asked.{Does, MayBe, Obeys, shown_asked, task_asked, texts};
+ghost use Rattle.gs_trace.specs.Streams.{AnswersAll, AnswersOf, BeginsAnswer, ConsumesAtMost};
+ghost use Rattle.gs_trace.specs.declared.pipe.TheConstants.{MOST_READ_BYTES};
+ghost use Rattle.ghost_cli.specs.Asked.{Answers, Does, DoesFrom, DoesInFile, MayBe, Obeys, ObeysCommand, shown_asked, task_asked, texts};
 ghost use Rattle.ghost_cli.specs.Failures.{IsOfTask, IsOfWords, IsUnreadBy, TellsOneOf};
 
-use crate::failure::{Failure, unread, unsettled};
-use gs_arguments::{Command, settings};
-use gs_trace::{Ended, Form, Notation, TraceFault, run_as};
+use crate::failure::{Failure, unopened, unread, unsettled};
+use crate::helping::{help_word, show_help};
+use crate::telling::{await_script, tell_fault};
+use gs_arguments::{Asked, Command, settings};
+use gs_explain::explain_script;
+use gs_trace::{Ended, Form, Kept, Notation, TraceFault, run_and_keep};
 use gs_workers::{Shown, Work, run_workers};
 use std::alloc::{AllocError, Global};
 use std::env::Args;
-use std::io;
-use std::io::{Read, Write};
+use std::fs::Files;
+use std::io::{IsTerminal, Read, Write};
 use std::sync::Wait;
 use std::thread::Threads;
+use std::{fs, io};
+
+/// What is to be written of a script.
+#[derive(Clone, Copy, PartialEq, Eq, Debug)]
+pub(crate) enum Wanted {
+    /// What came of it, in this form.
+    Shown { form: Form },
+    /// Each of its lines with its reply, and why that is so.
+    Explained,
+}
 
 /// What a command asks for.
 #[derive(Clone, Copy, PartialEq, Eq, Debug)]
 pub(crate) enum Task {
-    /// To run the script that the reader has, and to show what came of it in this form.
-    Script { form: Form },
+    /// To run the script that the reader has, and to write this of it.
+    Script { wanted: Wanted },
     /// To run these workers, and to show so what came of it.
     Workers { work: Work, shown: Shown },
 }
@@ -35,16 +50,17 @@ fn collected(alloc: Global, arguments: Args) -> Result<Vec<String>, AllocError>
     arguments.collect(alloc)
 }
 
-/// Returns the command that the words give.
-fn command_of(alloc: Global, words: &[String]) -> Result<Command, Failure>
-    ensures given { IfOk result (λ command. command_in (map string_bytes words.now) ≡ Some command) }
+/// Returns the command that the words give, and the file that they name.
+fn asked_of(alloc: Global, words: &[String]) -> Result<Asked<'_>, Failure>
+    ensures given { IfOk result (λ asked. command_in (map string_bytes words.now) ≡ Some asked.command) }
+    ensures file { IfOk result (λ asked. option_map (λ file. file.now) asked.file ≡ file_in (map string_bytes words.now)) }
     ensures told { fault_of ghost_program (map string_bytes words.now) ≢ [] → IsErrAnd result (TellsOneOf (fault_of ghost_program (map string_bytes words.now))) }
     ensures faultless { fault_of ghost_program (map string_bytes words.now) ≡ [] → (command : Command) → command_in (map string_bytes words.now) ≡ Some command → IfErr result IsOfTask }
-    ensures allowed { IfOk result AsksAllowed }
+    ensures allowed { IfOk result (λ asked. AsksAllowed asked.command) }
     ensures unbegun { IfErr result IsOfWords }
 {
     match settings(alloc, words) {
-        Ok(command) => Ok(command),
+        Ok(asked) => Ok(asked),
         Err(error) => Err(unsettled(error)),
     }
 }
@@ -56,11 +72,13 @@ fn shown_of(journal: bool) -> Shown
     if journal { Shown::Journal } else { Shown::Line }
 }
 
-/// The task of a script.
+/// The task of a script whose outcome is shown in a form.
 fn script(form: Form) -> Task
-    ensures { result ≡ Task.Script form }
+    ensures { result ≡ Task.Script (Wanted.Shown form) }
 {
-    Task::Script { form }
+    Task::Script {
+        wanted: Wanted::Shown { form },
+    }
 }
 
 /// Returns what a command asks for.
@@ -69,6 +87,9 @@ fn task_of(command: Command) -> Task
 {
     match command {
         Command::Run => script(Form::Lines),
+        Command::Explain => Task::Script {
+            wanted: Wanted::Explained,
+        },
         Command::Report { last } => script(Form::Report { last }),
         Command::Journal { json: false } => script(Form::Journal(Notation::Lines)),
         Command::Journal { json: true } => script(Form::Journal(Notation::Json)),
@@ -84,8 +105,28 @@ fn task_of(command: Command) -> Task
     }
 }
 
-/// Does a task: runs the script that the reader has, or workers. Writes what came of it.
-fn perform<H: Threads + Wait + Sync, R: Read, W: Write>(
+/// Runs the script that the reader has, and writes what is wanted of it. Returns how it ended, and what was read.
+fn run_wanted<R: Read, W: Write>(
+    alloc: Global,
+    wanted: Wanted,
+    reader: &mut R,
+    writer: &mut W,
+) -> Result<Kept, TraceFault>
+    ensures ended { IfOk result (λ kept. AnswersAll (Answers wanted) kept.ended (R.remaining reader.old) (W.contents writer.old) (W.contents writer.new)) }
+    ensures read { IfOk result (λ kept. AnswersOf (Answers wanted) kept.input.items kept.ended (R.remaining reader.old) (R.remaining reader.new) (W.contents writer.old) (W.contents writer.new)) }
+    ensures bounded { ConsumesAtMost MOST_READ_BYTES (R.remaining reader.old) (R.remaining reader.new) }
+    ensures unwritten { IfErr result (λ e. e ≢ TraceFault.WriteFailed → Keeps (W.contents writer.old) (W.contents writer.new)) }
+    ensures begun { IsErrOf result TraceFault.WriteFailed → BeginsAnswer (Answers wanted) (R.remaining reader.old) (W.contents writer.old) (W.contents writer.new) }
+{
+    match wanted {
+        Wanted::Shown { form } => run_and_keep(alloc, reader, writer, form),
+        Wanted::Explained => explain_script(alloc, reader, writer),
+    }
+}
+
+/// Does a task: runs the script that the reader has, or workers. Writes what came of it, and says on standard error
+/// what is wrong with a script that has a fault.
+fn perform<H: Threads + Wait + Sync + Eprint, R: Read, W: Write>(
     rt: &H,
     alloc: Global,
     task: Task,
@@ -96,8 +137,11 @@ fn perform<H: Threads + Wait + Sync, R: Read, W: Write>(
     ensures { Does task (R.remaining reader.old) (R.remaining reader.new) (W.contents writer.old) (W.contents writer.new) result }
 {
     match task {
-        Task::Script { form } => match run_as(alloc, reader, writer, form) {
-            Ok(ended) => Ok(ended),
+        Task::Script { wanted } => match run_wanted(alloc, wanted, reader, writer) {
+            Ok(kept) => {
+                tell_fault(rt, alloc, &kept);
+                Ok(kept.ended)
+            }
             Err(fault) => Err(Failure::Script(fault)),
         },
         Task::Workers { work, shown } => match run_workers(rt, alloc, work, shown, writer) {
@@ -107,8 +151,69 @@ fn perform<H: Threads + Wait + Sync, R: Read, W: Write>(
     }
 }
 
+/// Does a task whose script a file has.
+fn perform_in_file<H: Threads + Wait + Sync + Files + Eprint, W: Write>(
+    rt: &H,
+    alloc: Global,
+    task: Task,
+    file: &str,
+    writer: &mut W,
+) -> Result<Ended, Failure>
+    requires { MayBe task }
+    ensures { DoesInFile task (W.contents writer.old) (W.contents writer.new) result }
+{
+    match fs::open(rt, file) {
+        Ok(mut opened) => perform(rt, alloc, task, &mut opened, writer),
+        Err(error) => Err(unopened(alloc, file, error)),
+    }
+}
+
+/// Does a task whose script the file of this name has, or, without one, the reader.
+fn perform_from<H: Threads + Wait + Sync + Files + Eprint, R: Read + IsTerminal, W: Write>(
+    rt: &H,
+    alloc: Global,
+    task: Task,
+    file: Option<&str>,
+    reader: &mut R,
+    writer: &mut W,
+) -> Result<Ended, Failure>
+    requires { MayBe task }
+    ensures { DoesFrom (option_map (λ file. file.now) file.entry) task (R.remaining reader.old) (R.remaining reader.new) (W.contents writer.old) (W.contents writer.new) result }
+{
+    match file {
+        Some(file) => perform_in_file(rt, alloc, task, file, writer),
+        None => {
+            await_script(rt, task, reader.is_terminal());
+            perform(rt, alloc, task, reader, writer)
+        }
+    }
+}
+
+/// Does what the command asks for that these words give.
+fn obey_command<H: Threads + Wait + Sync + Files + Eprint, R: Read + IsTerminal, W: Write>(
+    rt: &H,
+    alloc: Global,
+    words: &[String],
+    reader: &mut R,
+    writer: &mut W,
+) -> Result<Ended, Failure>
+    ensures { ObeysCommand (map string_bytes words.now) (R.remaining reader.old) (R.remaining reader.new) (W.contents writer.old) (W.contents writer.new) result }
+{
+    match asked_of(alloc, words) {
+        Ok(asked) => perform_from(
+            rt,
+            alloc,
+            task_of(asked.command),
+            asked.file,
+            reader,
+            writer,
+        ),
+        Err(failure) => Err(failure),
+    }
+}
+
 /// Does what these words ask for.
-fn obey<H: Threads + Wait + Sync, R: Read, W: Write>(
+fn obey<H: Threads + Wait + Sync + Files + Eprint, R: Read + IsTerminal, W: Write>(
     rt: &H,
     alloc: Global,
     words: &[String],
@@ -117,14 +222,18 @@ fn obey<H: Threads + Wait + Sync, R: Read, W: Write>(
 ) -> Result<Ended, Failure>
     ensures { Obeys (map string_bytes words.now) (R.remaining reader.old) (R.remaining reader.new) (W.contents writer.old) (W.contents writer.new) result }
 {
-    match command_of(alloc, words) {
-        Ok(command) => perform(rt, alloc, task_of(command), reader, writer),
-        Err(failure) => Err(failure),
+    match help_word(words) {
+        Some(word) => show_help(alloc, word, writer),
+        None => obey_command(rt, alloc, words, reader, writer),
     }
 }
 
 /// Does what the arguments ask for, over a reader and a writer: `main` hands it the standard streams.
-pub(crate) fn ghost_command<H: Threads + Wait + Sync, R: Read, W: Write>(
+pub(crate) fn ghost_command<
+    H: Threads + Wait + Sync + Files + Eprint,
+    R: Read + IsTerminal,
+    W: Write,
+>(
     rt: &H,
     alloc: Global,
     arguments: io::Result<Args>,

@@ -1,11 +1,12 @@
 ghost use Rattle.std.specs.Prelude.{◌≡◌};
 ghost use Rattle.std.specs.IoError.{error_kind};
 ghost use Rattle.clap.specs.Values.{kind_of};
-ghost use Rattle.ghost_cli.specs.Failures.{IsToldBy, IsUnreadBy};
+ghost use Rattle.ghost_cli.specs.Failures.{IsToldBy, IsUnopened, IsUnreadBy};
 
 use clap::error::ErrorKind;
 use gs_trace::TraceFault;
 use gs_workers::WorkFault;
+use std::alloc::Global;
 use std::io;
 use thiserror::Error;
 
@@ -17,6 +18,15 @@ pub(crate) enum Failure {
     Arguments(clap::Error),
     #[error("ghost: the arguments are not text\n")]
     NotText,
+    /// Nothing is said of the word that help is wanted for.
+    #[error("ghost: nothing is said of this word\n")]
+    UnknownWord,
+    /// Nor of that, but of one that was probably meant.
+    #[error("ghost: nothing is said of this word, but of `{0}`\n")]
+    NearWord(&'static str),
+    /// The file that is to have the script cannot be opened.
+    #[error("ghost: {file}: {error}\n")]
+    Unopened { file: String, error: io::Error },
     #[error("ghost: {0}\n")]
     Script(TraceFault),
     #[error("ghost: {0}\n")]
@@ -30,6 +40,16 @@ pub(crate) fn unread(error: io::Error) -> Failure
     match error.kind() {
         io::ErrorKind::OutOfMemory => Failure::Script(TraceFault::OutOfMemory),
         _ => Failure::NotText,
+    }
+}
+
+/// Returns why a file was not opened, or out of memory.
+pub(crate) fn unopened(alloc: Global, file: &str, error: io::Error) -> Failure
+    ensures { IsUnopened result }
+{
+    match String::from_str(alloc, file) {
+        Ok(file) => Failure::Unopened { file, error },
+        Err(_) => Failure::Script(TraceFault::OutOfMemory),
     }
 }
 

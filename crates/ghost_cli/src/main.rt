@@ -7,6 +7,8 @@ ghost use Rattle.ghost_cli.specs.Status.{IsArgumentsStatus, IsFailureStatus, IsS
 
 mod asked;
 mod failure;
+mod helping;
+mod telling;
 
 use asked::ghost_command;
 use failure::Failure;
@@ -66,9 +68,13 @@ fn report(rt: &HostRuntime, failure: &Failure) -> u8
 {
     match failure {
         Failure::Arguments(error) => report_arguments(rt, error),
-        Failure::NotText => {
+        Failure::NotText | Failure::UnknownWord | Failure::NearWord(_) => {
             let _ = eprint!(rt; "{failure}");
             3
+        }
+        Failure::Unopened { .. } => {
+            let _ = eprint!(rt; "{failure}");
+            4
         }
         Failure::Script(fault) => {
             let _ = eprint!(rt; "{failure}");

@@ -1,11 +1,11 @@
 -- What the definitions say of the arguments at their edge.
-use Rattle.std.proofs.Common.{◌≡◌, ℕ, List, [], ◌∷◌, codes, refl, Option, None}
+use Rattle.std.proofs.Common.{◌≡◌, ℕ, List, [], ◌∷◌, codes, refl, Option, None, Some}
 use Rattle.clap.proofs.OnLiterals.{clap_on_literals}
 use Rattle.clap.specs.Faults.{fault_of}
 use Rattle.clap.specs.Kinds.{Kinds}
 use Rattle.clap.specs.declared.error.kind.ErrorKind.TheVariants as kinds
 use Rattle.gs_arguments.specs.declared.arguments.Command.{Command}
-use Rattle.gs_arguments.specs.Arguments.{ghost_program, command_in}
+use Rattle.gs_arguments.specs.Arguments.{ghost_program, command_in, file_in}
 
 abbrev given : List (List ℕ) → Option Command
 given words = command_in (codes "ghost" ∷ words)
@@ -33,7 +33,7 @@ beginning_of_command : given (codes "ru" ∷ []) ≡ None
 unfolding clap_on_literals
 beginning_of_command = refl
 
-too_many : wrong (codes "run" ∷ codes "fast" ∷ []) ≡ kinds.UnknownArgument ∷ []
+too_many : wrong (codes "run" ∷ codes "fast" ∷ codes "slow" ∷ []) ≡ kinds.UnknownArgument ∷ []
 unfolding clap_on_literals
 too_many = refl
 
@@ -48,3 +48,23 @@ asks_for_version = refl
 run_then_dashes : wrong (codes "run" ∷ codes "--" ∷ []) ≡ []
 unfolding clap_on_literals
 run_then_dashes = refl
+
+-- a file
+abbrev file : List (List ℕ) → Option (List ℕ)
+file words = file_in (codes "ghost" ∷ words)
+
+no_file : file (codes "run" ∷ []) ≡ None
+unfolding clap_on_literals
+no_file = refl
+
+one_file : file (codes "journal" ∷ codes "a.script" ∷ codes "--json" ∷ []) ≡ Some (codes "a.script")
+unfolding clap_on_literals
+one_file = refl
+
+standard_input : file (codes "run" ∷ codes "-" ∷ []) ≡ None
+unfolding clap_on_literals
+standard_input = refl
+
+no_file_of_threads : wrong (codes "threads" ∷ codes "--workers" ∷ codes "1" ∷ codes "--each" ∷ codes "1" ∷ codes "a.script" ∷ []) ≡ kinds.UnknownArgument ∷ []
+unfolding clap_on_literals
+no_file_of_threads = refl

@@ -2,37 +2,51 @@
 use Rattle.std.specs.Prelude.{◌≤◌, ⊤, ℕ, List, [], ◌∷◌, Bool, true, false, Option, None, Some, codes, bytes_eq, decimal, if◌then◌else◌, is_some, nat_le, nat_lt, ◌&&◌, option_and_then, option_map, unwrap_or}
 use Rattle.std.specs.Str.Parse.{digits_value, without_leading_plus}
 use Rattle.clap.specs.ValueTests.{is_unsigned_in}
-use Rattle.clap.specs.Words.{App, Row, Rule, Text, new_app, new_rule, one_of, subcommand_of, with_rule, with_subcommand}
+use Rattle.clap.specs.Words.{App, Row, Rule, Text, first_of, new_app, new_rule, one_of, subcommand_of, with_rule, with_subcommand}
 use Rattle.clap.specs.declared.builder.action.ArgAction.TheVariants.{SetTrue}
 use Rattle.clap.specs.declared.builder.value_parser.ValueParser.TheVariants as vp
 use Rattle.gs_arguments.specs.declared.arguments.Command.{Command}
-use Rattle.gs_arguments.specs.declared.arguments.Command.TheVariants.{Run, Report, Journal, Timeline, Threads}
+use Rattle.gs_arguments.specs.declared.arguments.Command.TheVariants.{Run, Explain, Report, Journal, Timeline, Threads}
 use Rattle.gs_arguments.specs.declared.arguments.TheConstants.{DEFAULT_LINES, LEAST_COUNT, LEAST_LINES, MOST_EACH, MOST_LINES, MOST_WORKERS}
 
 -- a program without arguments of its own: its version, and the commands, of which one is to be given
 abbrev pub ghost_alone : App
 ghost_alone = record (new_app (codes "ghost")) { top = record ((new_app (codes "ghost")).top) { has_version = true; subcommand_required = true } }
 
+-- FILE, which may stand among the words of a command and is no option
+abbrev pub file_rule : Rule
+file_rule = record (new_rule (codes "file")) { value_names = 1 }
+
+-- a command that reads a script
+abbrev pub reads_script : App → App
+reads_script app = with_rule app file_rule
+
+abbrev pub run_alone : App
+run_alone = reads_script (new_app (codes "run"))
+
+abbrev pub explain_alone : App
+explain_alone = reads_script (new_app (codes "explain"))
+
 -- `--last N`, a number of lines that a report may show, and the default if it is not given
 abbrev pub last_rule : Rule
 last_rule = record (new_rule (codes "last")) { long = Some (codes "last"); value_names = 1; parser = Some (vp.Unsigned LEAST_LINES MOST_LINES); defaults = decimal DEFAULT_LINES ∷ [] }
 
 abbrev pub report_alone : App
-report_alone = with_rule (new_app (codes "report")) last_rule
+report_alone = reads_script (with_rule (new_app (codes "report")) last_rule)
 
 -- a flag
 abbrev pub flag_rule : Text → Rule
 flag_rule name = record (new_rule name) { long = Some name; action = Some SetTrue }
 
 abbrev pub journal_alone : App
-journal_alone = with_rule (new_app (codes "journal")) (flag_rule (codes "json"))
+journal_alone = reads_script (with_rule (new_app (codes "journal")) (flag_rule (codes "json")))
 
 -- an option that takes the place of an entry
 abbrev pub place_rule : Text → Rule
 place_rule name = record (new_rule name) { long = Some name; value_names = 1; parser = Some (vp.Unsigned 0 18446744073709551615) }
 
 abbrev pub timeline_alone : App
-timeline_alone = with_rule (with_rule (new_app (codes "timeline")) (place_rule (codes "from"))) (place_rule (codes "to"))
+timeline_alone = reads_script (with_rule (with_rule (new_app (codes "timeline")) (place_rule (codes "from"))) (place_rule (codes "to")))
 
 -- an option that has to be given: a count, of which this is the most
 abbrev pub count_rule : Text → ℕ → Rule
@@ -43,7 +57,7 @@ threads_alone = with_rule (with_rule (with_rule (new_app (codes "threads")) (cou
 
 abbrev pub ghost_program : App
 ghost_program =
-    with_subcommand (with_subcommand (with_subcommand (with_subcommand (with_subcommand ghost_alone (new_app (codes "run")).top) report_alone.top) journal_alone.top) timeline_alone.top) threads_alone.top
+    with_subcommand (with_subcommand (with_subcommand (with_subcommand (with_subcommand (with_subcommand ghost_alone run_alone.top) explain_alone.top) report_alone.top) journal_alone.top) timeline_alone.top) threads_alone.top
 
 -- the number that a text spells in decimal digits, of those that 64 bits hold
 abbrev pub number_of : Text → Option ℕ
@@ -74,7 +88,8 @@ threads_given rows =
 abbrev pub command_given : Text × List Row → Option Command
 command_given given =
     if bytes_eq given.0 (codes "run") then Some Run
-    else if bytes_eq given.0 (codes "report") then option_map Report (option_and_then number_of (one_of (codes "last") given.1))
+    else if bytes_eq given.0 (codes "explain") then Some Explain
+    else if bytes_eq given.0 (codes "report") then option_map Report (option_and_then (count_of MOST_LINES) (one_of (codes "last") given.1))
     else if bytes_eq given.0 (codes "journal") then option_map Journal (option_and_then flag_of (one_of (codes "json") given.1))
     else if bytes_eq given.0 (codes "timeline") then Some (Timeline (place_in given.1 (codes "from") 0) (place_in given.1 (codes "to") 18446744073709551615))
     else if bytes_eq given.0 (codes "threads") then threads_given given.1
@@ -97,9 +112,22 @@ command_from given = option_and_then unless_backward (option_and_then command_gi
 abbrev pub command_in : List Text → Option Command
 command_in words = command_from (subcommand_of ghost_program words)
 
+-- the file of this name, of which `-` alone is standard input
+abbrev pub unless_standard : Text → Option Text
+unless_standard name = if bytes_eq name (codes "-") then None else Some name
+
+-- the file that was given, if one was
+abbrev pub file_from : Option (Text × List Row) → Option Text
+file_from given = option_and_then unless_standard (option_and_then (λ given. first_of (codes "file") given.1) given)
+
+-- the file that the words of a command line name
+abbrev pub file_in : List Text → Option Text
+file_in words = file_from (subcommand_of ghost_program words)
+
 -- a report shows as many lines as it may, a picture does not end before it begins, and there are as many workers and creations as there may be
 abbrev pub AsksAllowed : Command → Type 0
 AsksAllowed Run = ⊤
+AsksAllowed Explain = ⊤
 AsksAllowed (Journal json) = ⊤
 AsksAllowed (Timeline from to) = from ≤ to
 AsksAllowed (Report last) = (LEAST_LINES ≤ last) × (last ≤ MOST_LINES)

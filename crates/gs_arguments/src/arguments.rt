@@ -1,9 +1,9 @@
-ghost use Rattle.std.specs.Prelude.{◌≡◌, ◌≢◌, ◌≤◌, ℕ, List, false, Some, [], ◌∷◌, map, codes, IfOk, IfErr, MatchResult, option_and_then};
-ghost use Rattle.clap.specs.Words.{app_of, found_of, new_app, kind_of, one_of, rows_of, rule_of, subcommand_rows_of};
+ghost use Rattle.std.specs.Prelude.{◌≡◌, ◌≢◌, ◌≤◌, ℕ, List, false, Some, [], ◌∷◌, map, codes, IfOk, IfErr, MatchResult, option_and_then, option_map};
+ghost use Rattle.clap.specs.Words.{app_of, first_of, found_of, new_app, kind_of, one_of, rows_of, rule_of, subcommand_rows_of};
 ghost use Rattle.clap.specs.Kinds.{HasKind, Kinds};
 ghost use Rattle.clap.specs.declared.builder.command.Command.TheViews.{out-Command as fields_of};
 ghost use Rattle.clap.specs.Faults.{fault_of};
-ghost use Rattle.gs_arguments.specs.Arguments.{AsksAllowed, backward, command_from, command_given, command_in, count_of, count_rule, flag_of, flag_rule, ghost_alone, ghost_program, journal_alone, last_rule, number_of, place_rule, report_alone, threads_alone, timeline_alone};
+ghost use Rattle.gs_arguments.specs.Arguments.{AsksAllowed, backward, command_from, command_given, command_in, count_of, count_rule, explain_alone, file_from, file_in, file_rule, flag_of, flag_rule, ghost_alone, ghost_program, journal_alone, last_rule, number_of, place_rule, report_alone, run_alone, threads_alone, timeline_alone, unless_standard};
 ghost use Rattle.gs_arguments.specs.declared.arguments.Command.{Command};
 ghost use Rattle.gs_arguments.specs.declared.arguments.Command.TheVariants.{Journal, Report};
 
@@ -21,10 +21,14 @@ pub const MOST_LINES: usize = 1_000;
 /// How many of the last lines a report shows, if the arguments do not say: a screen shows them all.
 pub const DEFAULT_LINES: usize = 10;
 
+/// What stands at the end of the program's help.
+const AFTER_HELP: &str =
+    "`ghost help WORD` says what a word of a script, a refusal, an outcome, a fault or an exit status is.";
+
 /// `DEFAULT_LINES` as a word of the command line.
 const DEFAULT_WORD: &str = "10";
 
-/// The fewest workers of `threads`, and the fewest threads that each creates.
+/// The fewest of whatever an option counts.
 pub const LEAST_COUNT: usize = 1;
 
 /// The most workers of `threads`.
@@ -33,11 +37,13 @@ pub const MOST_WORKERS: usize = 16;
 /// The most threads that each worker creates.
 pub const MOST_EACH: usize = 1_000;
 
-/// What the program is to do: with the script of standard input, but for the last.
+/// What the program is to do: with a script, but for the last.
 #[derive(Clone, Copy, PartialEq, Eq, Debug)]
 pub enum Command {
     /// Run it, and write the lines of its replies to standard output.
     Run,
+    /// Run it, and write each of its lines with its reply, and why what was refused or not placed was so, to standard output.
+    Explain,
     /// Run it, and write a report of the run to standard output.
     Report {
         /// How many of the last of these lines the report shows, from [`LEAST_LINES`] to [`MOST_LINES`].
@@ -64,6 +70,24 @@ pub enum Command {
         /// The journal of all that happened is written in place of the line.
         journal: bool,
     },
+}
+
+/// What the words of a command line say.
+#[derive(Clone, Copy, PartialEq, Eq, Debug)]
+pub struct Asked<'a> {
+    pub command: Command,
+    /// The file that has the script. Without one it is standard input that has it.
+    pub file: Option<&'a str>,
+}
+
+/// The argument FILE.
+fn file_argument<'a>(alloc: Global) -> clap::Arg<'a>
+    ensures rule { rule_of result ≡ file_rule }
+    ensures local { result.global ≡ false }
+{
+    clap::Arg::new(alloc, "file").value_name("FILE").help(
+        "The file that has the script, in place of standard input, which is `-`",
+    )
 }
 
 /// The option `--last N`: how many of the last lines a report shows.
@@ -123,13 +147,25 @@ fn count_option<'a>(
 }
 
 /// The command `run`.
-fn run_command<'a>(alloc: Global) -> clap::Command<'a>
-    ensures shape { app_of result ≡ new_app (codes "run") }
-    ensures local { (fields_of result).has_globals ≡ false }
+fn run_command<'a>(alloc: Global) -> Result<clap::Command<'a>, AllocError>
+    ensures shape { IfOk result (λ command. app_of command ≡ run_alone) }
+    ensures local { IfOk result (λ command. (fields_of command).has_globals ≡ false) }
 {
-    clap::Command::new(alloc, "run").about(
-        "Runs the script of standard input and writes the replies to standard output",
-    )
+    clap::Command::new(alloc, "run")
+        .about("Runs a script and writes the replies to standard output")
+        .arg(file_argument(alloc))
+}
+
+/// The command `explain`.
+fn explain_command<'a>(alloc: Global) -> Result<clap::Command<'a>, AllocError>
+    ensures shape { IfOk result (λ command. app_of command ≡ explain_alone) }
+    ensures local { IfOk result (λ command. (fields_of command).has_globals ≡ false) }
+{
+    clap::Command::new(alloc, "explain")
+        .about(
+            "Runs a script and writes each line with its reply, and why it came out so, to standard output",
+        )
+        .arg(file_argument(alloc))
 }
 
 /// The command `report`.
@@ -138,10 +174,9 @@ fn report_command<'a>(alloc: Global) -> Result<clap::Command<'a>, AllocError>
     ensures local { IfOk result (λ command. (fields_of command).has_globals ≡ false) }
 {
     clap::Command::new(alloc, "report")
-        .about(
-            "Runs the script of standard input and writes a report of the run to standard output",
-        )
-        .arg(last_option(alloc))
+        .about("Runs a script and writes a report of the run to standard output")
+        .arg(last_option(alloc))?
+        .arg(file_argument(alloc))
 }
 
 /// The command `journal`.
@@ -150,14 +185,13 @@ fn journal_command<'a>(alloc: Global) -> Result<clap::Command<'a>, AllocError>
     ensures local { IfOk result (λ command. (fields_of command).has_globals ≡ false) }
 {
     clap::Command::new(alloc, "journal")
-        .about(
-            "Runs the script of standard input and writes the journal of all that happened to standard output",
-        )
+        .about("Runs a script and writes the journal of all that happened to standard output")
         .arg(flag(
             alloc,
             "json",
             "Writes a JSON object for each entry, one a line",
-        ))
+        ))?
+        .arg(file_argument(alloc))
 }
 
 /// The command `timeline`.
@@ -172,11 +206,10 @@ fn timeline_command<'a>(alloc: Global) -> Result<clap::Command<'a>, AllocError>
     );
     let last = place_option(alloc, "to", "The last entry that is shown");
     clap::Command::new(alloc, "timeline")
-        .about(
-            "Runs the script of standard input and writes a picture of who ran where to standard output, as SVG",
-        )
+        .about("Runs a script and writes a picture of who ran where to standard output, as SVG")
         .arg(first)?
-        .arg(last)
+        .arg(last)?
+        .arg(file_argument(alloc))
 }
 
 /// The command `threads`.
@@ -220,6 +253,7 @@ fn program<'a>(alloc: Global) -> Result<clap::Command<'a>, AllocError>
         .about("A ghOSt enclave: its kernel and its agent, event by event")
         .bin_name("ghost")?
         .version("0.1.0")
+        .after_help(AFTER_HELP)
         .subcommand_required(true);
     with_commands(alloc, alone)
 }
@@ -232,13 +266,15 @@ fn with_commands<'a>(
     requires { app_of alone ≡ ghost_alone }
     ensures { IfOk result (λ command. app_of command ≡ ghost_program) }
 {
-    let run = run_command(alloc);
+    let run = run_command(alloc)?;
+    let explain = explain_command(alloc)?;
     let report = report_command(alloc)?;
     let journal = journal_command(alloc)?;
     let timeline = timeline_command(alloc)?;
     let threads = threads_command(alloc)?;
     alone
         .subcommand(run)?
+        .subcommand(explain)?
         .subcommand(report)?
         .subcommand(journal)?
         .subcommand(timeline)?
@@ -259,7 +295,7 @@ fn number_in(given: &clap::ArgMatches<'_>, name: &str) -> Option<usize>
     given.get_one(name)
 }
 
-/// The count that an option is given, if it is no more than this.
+/// The count that an option is given, if it is from [`LEAST_COUNT`] to this.
 fn count_in(given: &clap::ArgMatches<'_>, name: &str, most: usize) -> Option<usize>
     ensures { result ≡ option_and_then (count_of most) (one_of name.now (rows_of (found_of given.now))) }
 {
@@ -273,8 +309,9 @@ fn command_given(matches: &clap::ArgMatches<'_>) -> Option<Command>
 {
     match matches.subcommand()? {
         ("run", _) => Some(Command::Run),
+        ("explain", _) => Some(Command::Explain),
         ("report", given) => Some(Command::Report {
-            last: number_in(given, "last")?,
+            last: count_in(given, "last", MOST_LINES)?,
         }),
         ("journal", given) => Some(Command::Journal {
             json: flag_in(given, "json")?,
@@ -313,6 +350,28 @@ fn command_of(matches: &clap::ArgMatches<'_>) -> Option<Command>
     }
 }
 
+/// The word that the argument FILE is given.
+fn file_in<'a>(given: &clap::ArgMatches<'a>) -> Option<&'a str>
+    ensures { option_map (λ file. file.now) result ≡ first_of (codes "file") (rows_of (found_of given.now)) }
+{
+    given.get_str("file")
+}
+
+/// The file of this name, of which `-` alone is standard input.
+fn unless_standard(name: &str) -> Option<&str>
+    ensures { option_map (λ file. file.now) result ≡ unless_standard name.now }
+{
+    if name == "-" { None } else { Some(name) }
+}
+
+/// The file that was given, if one was.
+fn file_of<'a>(matches: &clap::ArgMatches<'a>) -> Option<&'a str>
+    ensures { option_map (λ file. file.now) result ≡ file_from (subcommand_rows_of matches.now) }
+{
+    let (_, given) = matches.subcommand()?;
+    unless_standard(file_in(given)?)
+}
+
 /// Why what was given is no command: none was, or its picture is to end before it begins.
 fn no_command(
     alloc: Global,
@@ -339,21 +398,25 @@ fn no_command(
 /// may also be that no command is given, or that a picture is to end before it begins. So the help and the
 /// version are returned only if the words ask for them, and always then, unless out of memory. Words without
 /// a fault that give a command are refused only if out of memory.
-pub fn settings<'a, S: AsStr>(alloc: Global, words: &'a [S]) -> Result<Command, clap::Error>
-    ensures given { IfOk result (λ command. command_in (map S.text words.entry.now) ≡ Some command) }
-    ensures allowed { IfOk result AsksAllowed }
+pub fn settings<'a, S: AsStr>(alloc: Global, words: &'a [S]) -> Result<Asked<'a>, clap::Error>
+    ensures given { IfOk result (λ given. command_in (map S.text words.entry.now) ≡ Some given.command) }
+    ensures file { IfOk result (λ given. option_map (λ file. file.now) given.file ≡ file_in (map S.text words.entry.now)) }
+    ensures allowed { IfOk result (λ given. AsksAllowed given.command) }
     ensures faultless { IfOk result (λ _. fault_of ghost_program (map S.text words.entry.now) ≡ []) }
     ensures failed { IfErr result (HasKind (ErrorKind.MissingSubcommand ∷ ErrorKind.ValueValidation ∷ fault_of ghost_program (map S.text words.entry.now))) }
     ensures told { fault_of ghost_program (map S.text words.entry.now) ≢ [] → IfErr result (HasKind (fault_of ghost_program (map S.text words.entry.now))) }
-    ensures answered { fault_of ghost_program (map S.text words.entry.now) ≡ [] → (command : Command) → command_in (map S.text words.entry.now) ≡ Some command → MatchResult result (λ given. given ≡ command) (λ e. kind_of e ≡ ErrorKind.OutOfMemory) }
+    ensures answered { fault_of ghost_program (map S.text words.entry.now) ≡ [] → (command : Command) → command_in (map S.text words.entry.now) ≡ Some command → MatchResult result (λ given. given.command ≡ command) (λ e. kind_of e ≡ ErrorKind.OutOfMemory) }
     ensures run { (name : List ℕ) → map S.text words.entry.now ≡ name ∷ codes "run" ∷ [] → IfErr result (λ e. kind_of e ≡ ErrorKind.OutOfMemory) }
-    ensures journal { (name : List ℕ) → map S.text words.entry.now ≡ name ∷ codes "journal" ∷ [] → MatchResult result (λ command. command ≡ Journal false) (λ e. kind_of e ≡ ErrorKind.OutOfMemory) }
-    ensures report { (name : List ℕ) → map S.text words.entry.now ≡ name ∷ codes "report" ∷ [] → MatchResult result (λ command. command ≡ Report DEFAULT_LINES) (λ e. kind_of e ≡ ErrorKind.OutOfMemory) }
+    ensures journal { (name : List ℕ) → map S.text words.entry.now ≡ name ∷ codes "journal" ∷ [] → MatchResult result (λ given. given.command ≡ Journal false) (λ e. kind_of e ≡ ErrorKind.OutOfMemory) }
+    ensures report { (name : List ℕ) → map S.text words.entry.now ≡ name ∷ codes "report" ∷ [] → MatchResult result (λ given. given.command ≡ Report DEFAULT_LINES) (λ e. kind_of e ≡ ErrorKind.OutOfMemory) }
 {
     let mut command_line = program(alloc)?;
     let matches = command_line.try_get_matches_from_mut(words)?;
     match command_of(&matches) {
-        Some(command) => Ok(command),
+        Some(command) => Ok(Asked {
+            command,
+            file: file_of(&matches),
+        }),
         None => Err(no_command(alloc, &mut command_line, command_given(&matches))?),
     }
 }

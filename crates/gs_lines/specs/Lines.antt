@@ -72,6 +72,10 @@ outcome_text outcomes.HistoryFull = codes "historyfull"
 outcome_text outcomes.Malformed = codes "malformed"
 outcome_text outcomes.GroupFailed = codes "groupfailed"
 
+-- a thread's tid and a sequence number of the thread, behind a word
+unfoldable pub thread_text : List ℕ → ℕ → ℕ → List ℕ
+thread_text word t s = word ++ codes " " ++ decimal t ++ codes " seq " ++ decimal s
+
 -- what became of a transaction
 abbrev pub landed_text : Landing → List ℕ
 landed_text a = outcome_text a.outcome ++ codes " " ++ decimal a.tid ++ codes " seq " ++ decimal a.seen

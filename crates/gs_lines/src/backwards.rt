@@ -2,6 +2,7 @@
 
 ghost use Rattle.std.specs.Prelude.{◌≡◌, ◌≤◌, ◌+◌, ◌++◌, decimal, drop, length};
 ghost use Rattle.std.specs.Str.{IsUtf8};
+ghost use Rattle.gs_lines.specs.Lines.{thread_text};
 
 use itoa::{Buffer, write_digits};
 
@@ -57,6 +58,24 @@ pub(crate) fn put_mask(array: &mut [u8], end: usize, mask: u128) -> usize
         Ok(number) => put_number(array, end, number),
         Err(_) => put_long_mask(array, end, mask),
     }
+}
+
+/// Writes a word, a thread's tid and a sequence number of the thread, so that they end here. Returns where they begin.
+#[inline(always)]
+#[tactic(auto, unfolding(crate::specs::Lines::thread_text))]
+pub(crate) fn put_thread(array: &mut [u8], end: usize, word: &str, tid: u32, tseq: u32) -> usize
+    requires { (length word.now + 46 ≤ end) × (end ≤ length array.old) }
+    ensures start { result ≤ end }
+    ensures low { end ≤ result + length word.now + 46 }
+    ensures written { drop result array.new ≡ thread_text word.now tid tseq ++ drop end array.old }
+    ensures utf8 { IsUtf8 (drop end array.old) → IsUtf8 (drop result array.new) }
+    ensures size { length array.new ≡ length array.old }
+{
+    let at = put_number(array, end, tseq as u64);
+    let at = put(array, at, " seq ");
+    let at = put_number(array, at, tid as u64);
+    let at = put(array, at, " ");
+    put(array, at, word)
 }
 
 /// Writes any mask so that it ends here, and returns where it begins.

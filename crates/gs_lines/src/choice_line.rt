@@ -1,15 +1,16 @@
-ghost use Rattle.std.specs.Prelude.{◌≡◌, ◌++◌, OnOk};
+ghost use Rattle.std.specs.Prelude.{◌≡◌, ◌≤◌, ◌++◌, OnOk, length};
 ghost use Rattle.gs_lines.specs.Lines.{choice_lines, choice_text, decided_text, line, preempt_text};
 
 use crate::text::Text;
 use gs_policy::Choice;
 use std::alloc::AllocError;
 
-/// Whether a thread takes the CPU from somebody.
-fn preempt_name(preempt: bool) -> &'static str
-    ensures { result.now ≡ preempt_text preempt }
+/// The end of a choice's line: whether its thread takes the CPU from somebody.
+fn choice_end(preempt: bool) -> &'static str
+    ensures name { result.now ≡ line (preempt_text preempt) }
+    ensures short { length result.now ≤ 9 }
 {
-    if preempt { " preempt" } else { "" }
+    if preempt { " preempt\n" } else { "\n" }
 }
 
 /// Adds the line of a choice, by its transaction's number.
@@ -17,11 +18,8 @@ fn write_choice(out: &mut Text, number: u64, choice: &Choice) -> Result<(), Allo
     ensures { OnOk result (out.new ≡ out.old ++ line (choice_text number choice.now)) }
 {
     let Choice { cpu, tid, preempt } = *choice;
-    out.push_number("stamped ", number)?;
-    out.push_number(" cpu ", cpu as u64)?;
-    out.push_number(" thread ", tid as u64)?;
-    out.push_str(preempt_name(preempt))?;
-    out.end_line()
+    out.push_two("stamped ", number, " cpu ", cpu as u64, " thread ")?;
+    out.push_between("", tid as u64, choice_end(preempt))
 }
 
 /// Adds the lines of choices, whose numbers are `first` and those that follow it.
@@ -42,7 +40,6 @@ pub(crate) fn write_decided(
 ) -> Result<(), AllocError>
     ensures { OnOk result (out.new ≡ out.old ++ line (decided_text choices.now) ++ choice_lines first choices.now) }
 {
-    out.push_number("decided ", choices.len() as u64)?;
-    out.end_line()?;
+    out.push_between("decided ", choices.len() as u64, "\n")?;
     write_choices(out, first, choices)
 }

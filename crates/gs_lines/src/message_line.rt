@@ -1,5 +1,5 @@
 ghost use Rattle.std.specs.Prelude.{◌≡◌, ◌≤◌, ◌++◌, OnOk, length};
-ghost use Rattle.gs_lines.specs.Lines.{begin_text, change_text, cpu_text, entry_text, kind_text, line, message_lines, message_text, off_text, posted_text};
+ghost use Rattle.gs_lines.specs.Lines.{begin_text, change_text, cpu_text, entry_text, kind_text, line, message_lines, message_text, off_text, posted_text, role_text};
 
 use crate::text::Text;
 use gs_journal::Entry;
@@ -71,30 +71,30 @@ pub fn change_name(change: &Change) -> &'static str
     }
 }
 
-/// Adds the CPU that a thread was taken off by a new mask, if it was.
-fn write_off(out: &mut Text, change: &Change) -> Result<(), AllocError>
-    ensures { OnOk result (out.new ≡ out.old ++ off_text change.now) }
+/// Adds the line of what a message says that an event posted.
+fn write_posted(out: &mut Text, message: &Message) -> Result<(), AllocError>
+    ensures { OnOk result (out.new ≡ out.old ++ line (posted_text message.now)) }
+{
+    match message {
+        Message::Thread { tid, tseq, change } => write_change(out, *tid, *tseq, change),
+        Message::TimerTick { cpu } => out.push_between("tick ", *cpu as u64, "\n"),
+    }
+}
+
+/// Adds the line of what happened to a thread, and the CPU that a new mask took it off.
+fn write_change(out: &mut Text, tid: u32, tseq: u32, change: &Change) -> Result<(), AllocError>
+    ensures { OnOk result (out.new ≡ out.old ++ line (posted_text (Message.Thread tid tseq change.now))) }
 {
     match change {
         Change::Affinity {
             cpu: Some(cpu),
             off: true,
             ..
-        } => out.push_number(" off ", *cpu as u64),
-        _ => Ok(()),
-    }
-}
-
-/// Adds what a message says that an event posted.
-fn write_posted(out: &mut Text, message: &Message) -> Result<(), AllocError>
-    ensures { OnOk result (out.new ≡ out.old ++ posted_text message.now) }
-{
-    match message {
-        Message::Thread { tid, tseq, change } => {
-            out.push_thread(change_name(change), *tid, *tseq)?;
-            write_off(out, change)
+        } => {
+            out.push_thread(change_name(change), tid, tseq)?;
+            out.push_between(" off ", *cpu as u64, "\n")
         }
-        Message::TimerTick { cpu } => out.push_number("tick ", *cpu as u64),
+        _ => out.push_thread_line(change_name(change), tid, tseq),
     }
 }
 
@@ -114,6 +114,28 @@ pub fn write_placed(
     out.push_number(" generation ", generation as u64)
 }
 
+/// Adds the line of a placing.
+fn write_placed_line(
+    out: &mut Text,
+    tid: u32,
+    tseq: u32,
+    cpu: u16,
+    generation: u32,
+) -> Result<(), AllocError>
+    ensures { OnOk result (out.new ≡ out.old ++ line (entry_text (Entry.Placed tid tseq cpu generation))) }
+{
+    write_placed(out, tid, tseq, cpu, generation)?;
+    out.end_line()
+}
+
+/// Adds what is said of an agent that became active.
+fn write_role(out: &mut Text, generation: u32, cpu: u16) -> Result<(), AllocError>
+    ensures { OnOk result (out.new ≡ out.old ++ role_text generation cpu) }
+{
+    out.push_number("agent ", cpu as u64)?;
+    out.push_number(" generation ", generation as u64)
+}
+
 /// Adds what is said of an agent that began to attach.
 fn write_begin(out: &mut Text, generation: u32) -> Result<(), AllocError>
     ensures { OnOk result (out.new ≡ out.old ++ begin_text generation) }
@@ -121,9 +143,9 @@ fn write_begin(out: &mut Text, generation: u32) -> Result<(), AllocError>
     out.push_number("begun generation ", generation as u64)
 }
 
-/// Adds what an entry of the journal says.
-fn write_entry_text(out: &mut Text, entry: &Entry) -> Result<(), AllocError>
-    ensures { OnOk result (out.new ≡ out.old ++ entry_text entry.now) }
+/// Adds the line of an entry of the journal.
+pub(crate) fn write_entry(out: &mut Text, entry: &Entry) -> Result<(), AllocError>
+    ensures { OnOk result (out.new ≡ out.old ++ line (entry_text entry.now)) }
 {
     match entry {
         Entry::Posted { message } => write_posted(out, message),
@@ -132,23 +154,18 @@ fn write_entry_text(out: &mut Text, entry: &Entry) -> Result<(), AllocError>
             tseq,
             cpu,
             generation,
-        } => write_placed(out, *tid, *tseq, *cpu, *generation),
+        } => write_placed_line(out, *tid, *tseq, *cpu, *generation),
         Entry::Role { generation, cpu } => {
-            out.push_number("agent ", *cpu as u64)?;
-            out.push_number(" generation ", *generation as u64)
+            write_role(out, *generation, *cpu)?;
+            out.end_line()
         }
-        Entry::Begin { generation } => write_begin(out, *generation),
-        Entry::Left => out.push_str("left"),
-        Entry::Taken { cpu } => out.push_number("taken ", *cpu as u64),
-        Entry::Given { cpu } => out.push_number("given ", *cpu as u64),
-        Entry::Torn => out.push_str("torn"),
+        Entry::Begin { generation } => {
+            write_begin(out, *generation)?;
+            out.end_line()
+        }
+        Entry::Left => out.push_str("left\n"),
+        Entry::Taken { cpu } => out.push_between("taken ", *cpu as u64, "\n"),
+        Entry::Given { cpu } => out.push_between("given ", *cpu as u64, "\n"),
+        Entry::Torn => out.push_str("torn\n"),
     }
-}
-
-/// Adds the line of an entry of the journal.
-pub(crate) fn write_entry(out: &mut Text, entry: &Entry) -> Result<(), AllocError>
-    ensures { OnOk result (out.new ≡ out.old ++ line (entry_text entry.now)) }
-{
-    write_entry_text(out, entry)?;
-    out.end_line()
 }

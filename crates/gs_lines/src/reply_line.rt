@@ -64,20 +64,27 @@ pub fn outcome_name(outcome: Outcome) -> &'static str
     }
 }
 
-/// Adds what became of a transaction, which ends a line.
-fn write_landed(out: &mut Text, landing: &Landing) -> Result<(), AllocError>
-    ensures { OnOk result (out.new ≡ out.old ++ line (landed_text landing.now)) }
+/// Adds the line of what became of a transaction, with a word of at most 5 bytes and a number before it.
+#[inline(always)]
+#[tactic(auto, unfolding(crate::specs::Lines::thread_text))]
+fn write_landed(
+    out: &mut Text,
+    head: &str,
+    number: u64,
+    landing: &Landing,
+) -> Result<(), AllocError>
+    requires { length head.now ≤ 5 }
+    ensures { OnOk result (out.new ≡ out.old ++ line (head.now ++ decimal number ++ codes " " ++ landed_text landing.now)) }
 {
-    out.push_thread(outcome_name(landing.outcome), landing.tid, landing.seen)?;
-    out.end_line()
+    let name = outcome_name(landing.outcome);
+    out.push_numbered_thread(head, number, name, landing.tid, landing.seen)
 }
 
 /// Adds the line of a landing. It fails only if out of memory.
 pub fn write_landing(out: &mut Text, landing: &Landing) -> Result<(), AllocError>
     ensures { OnOk result (out.new ≡ out.old ++ line (landing_text landing.now)) }
 {
-    out.push_between("cpu ", landing.cpu as u64, " ")?;
-    write_landed(out, landing)
+    write_landed(out, "cpu ", landing.cpu as u64, landing)
 }
 
 /// Adds the lines of landings.
@@ -94,8 +101,7 @@ fn write_landings(out: &mut Text, landings: &[Landing]) -> Result<(), AllocError
 pub fn write_late(out: &mut Text, number: u32, landing: &Landing) -> Result<(), AllocError>
     ensures { OnOk result (out.new ≡ out.old ++ line (late_text number landing.now)) }
 {
-    out.push_between("late ", number as u64, " ")?;
-    write_landed(out, landing)
+    write_landed(out, "late ", number as u64, landing)
 }
 
 /// Adds the line behind landings that tore the enclave down, if they did. It fails only if out of memory.
@@ -136,6 +142,9 @@ fn write_drained(out: &mut Text, drained: &Drained) -> Result<(), AllocError>
         orphans,
         stop,
     } = *drained;
+    if let (0, 0, None) = (skipped, orphans, stop) {
+        return out.push_between("drained ", count as u64, "\n");
+    }
     out.push_number("drained ", count as u64)?;
     write_part(out, " skipped ", skipped)?;
     write_part(out, " orphans ", orphans)?;
@@ -175,8 +184,7 @@ fn write_refused(out: &mut Text, refusal: Refusal) -> Result<(), AllocError>
 fn write_stamped(out: &mut Text, number: u32) -> Result<(), AllocError>
     ensures { OnOk result (out.new ≡ out.old ++ line (codes "stamped " ++ decimal number)) }
 {
-    out.push_number("stamped ", number as u64)?;
-    out.end_line()
+    out.push_between("stamped ", number as u64, "\n")
 }
 
 /// Adds the lines of a reply, each ended by a newline. A commit has a line for each landing, and a look one

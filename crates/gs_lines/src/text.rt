@@ -1,15 +1,19 @@
 ghost use Rattle.std.specs.Prelude.{◌≡◌, ◌+◌, ◌<◌, ◌≤◌, ◌++◌, ◌∷◌, [], codes, decimal, length, OnOk};
 ghost use Rattle.std.specs.Str.{IsUtf8};
+ghost use Rattle.gs_lines.specs.Lines.{line, thread_text};
 
-use crate::backwards::{put, put_mask, put_number};
+use crate::backwards::{put, put_mask, put_number, put_thread};
 use std::alloc::{AllocError, Global};
 use std::marker::Model;
 
 /// The most bytes of a word that stands before a number, or of the two words around it.
 pub const MOST_WORD_LEN: usize = 32;
 
-/// Room for a word and two numbers.
+/// Room for words and two numbers.
 const SIZE: usize = 80;
+
+/// Room for words and three numbers.
+const LONG_SIZE: usize = 112;
 
 /// A text that grows at its end, for lines of words and numbers. A word and the numbers behind it are put together in
 /// a small array, the last digit first, and added at once. What adds to it fails only if out of memory.
@@ -146,17 +150,77 @@ impl Text {
         self.append(&array[at..])
     }
 
+    /// Adds two numbers, each behind a word, and a word behind them. The words have at most [`MOST_WORD_LEN`] bytes together.
+    #[inline(always)]
+    pub(crate) fn push_two(
+        &mut self,
+        word: &str,
+        first: u64,
+        between: &str,
+        second: u64,
+        behind: &str,
+    ) -> Result<(), AllocError>
+        requires { length word.now + length between.now + length behind.now ≤ MOST_WORD_LEN }
+        ensures { OnOk result (self.new ≡ self.old ++ word.now ++ decimal first ++ between.now ++ decimal second ++ behind.now) }
+    {
+        let mut array = [0; SIZE];
+        let at = put(&mut array, SIZE, behind);
+        let at = put_number(&mut array, at, second);
+        let at = put(&mut array, at, between);
+        let at = put_number(&mut array, at, first);
+        let at = put(&mut array, at, word);
+        self.append(&array[at..])
+    }
+
     /// Adds a word of at most [`MOST_WORD_LEN`] bytes, a thread's tid and a sequence number of the thread.
+    #[tactic(auto, unfolding(crate::specs::Lines::thread_text))]
     pub fn push_thread(&mut self, word: &str, tid: u32, tseq: u32) -> Result<(), AllocError>
         requires { length word.now ≤ MOST_WORD_LEN }
         ensures { OnOk result (self.new ≡ self.old ++ word.now ++ codes " " ++ decimal tid ++ codes " seq " ++ decimal tseq) }
     {
         let mut array = [0; SIZE];
-        let at = put_number(&mut array, SIZE, tseq as u64);
-        let at = put(&mut array, at, " seq ");
-        let at = put_number(&mut array, at, tid as u64);
-        let at = put(&mut array, at, " ");
-        let at = put(&mut array, at, word);
+        let at = put_thread(&mut array, SIZE, word, tid, tseq);
         self.append(&array[at..])
+    }
+
+    /// Adds a line of such a word and these numbers.
+    #[inline(always)]
+    #[tactic(auto, unfolding(crate::specs::Lines::thread_text))]
+    pub(crate) fn push_thread_line(
+        &mut self,
+        word: &str,
+        tid: u32,
+        tseq: u32,
+    ) -> Result<(), AllocError>
+        requires { length word.now ≤ MOST_WORD_LEN }
+        ensures { OnOk result (self.new ≡ self.old ++ line (word.now ++ codes " " ++ decimal tid ++ codes " seq " ++ decimal tseq)) }
+    {
+        let mut array = [0; SIZE];
+        let at = put(&mut array, SIZE, "\n");
+        let at = put_thread(&mut array, at, word, tid, tseq);
+        self.append(&array[at..])
+    }
+
+    /// Adds a line: a number behind a word, a space, another word, a thread's tid and a sequence number of the thread. The
+    /// words have at most [`MOST_WORD_LEN`] bytes together.
+    #[inline(always)]
+    pub(crate) fn push_numbered_thread(
+        &mut self,
+        head: &str,
+        number: u64,
+        word: &str,
+        tid: u32,
+        tseq: u32,
+    ) -> Result<(), AllocError>
+        requires { length head.now + length word.now ≤ MOST_WORD_LEN }
+        ensures { OnOk result (self.new ≡ self.old ++ line (head.now ++ decimal number ++ codes " " ++ thread_text word.now tid tseq)) }
+    {
+        let mut line = [0; LONG_SIZE];
+        let at = put(&mut line, LONG_SIZE, "\n");
+        let at = put_thread(&mut line, at, word, tid, tseq);
+        let at = put(&mut line, at, " ");
+        let at = put_number(&mut line, at, number);
+        let at = put(&mut line, at, head);
+        self.append(&line[at..])
     }
 }

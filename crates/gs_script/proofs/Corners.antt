@@ -1,5 +1,6 @@
 -- What the definitions say if a script, a line or a word is at its edge.
 use Rattle.std.proofs.Common.{◌≡◌, ℕ, List, [], ◌∷◌, ◌++◌, codes, refl, Ok, Err, true, false, Option, Some, None, Result}
+use Rattle.gs_slots.specs.Flags.{no_flags}
 use Rattle.gs_layout.specs.declared.facts.Class.TheVariants.{Zero, One}
 use Rattle.gs_policy.specs.declared.any.AnyPolicy.TheVariants as policies
 use Rattle.gs_policy.specs.declared.any.AnyPolicy.{AnyPolicy}
@@ -125,7 +126,7 @@ word_before_count = refl
 other_case : event (codes "Drain 1") ≡ Err BadWord
 other_case = refl
 
-stamp_most : event (codes "stamp 65535 4294967295") ≡ Ok (events.Stamp 65535 4294967295 false false)
+stamp_most : event (codes "stamp 65535 4294967295") ≡ Ok (events.Stamp 65535 4294967295 no_flags)
 stamp_most = refl
 
 stamp_first : event (codes "stamp 65536 4294967296") ≡ Err BadNumber

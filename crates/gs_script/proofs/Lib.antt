@@ -17,3 +17,5 @@ pub mod Fits
 pub mod Worked
 pub mod Corners
 pub mod Saying
+pub mod Marking
+mod WorkedSpots

@@ -2,6 +2,7 @@
 use Rattle.std.proofs.Common.{◌≡◌, refl, ap, sym, ◌∙◌, subst, ℕ, true, false, List, [], ◌∷◌, ◌++◌, Bor, IfSome, Bool, cond, codes, Option, Some, None, Result, Ok, nat_le, length}
 use Rattle.std.specs.List.{list_all, onto_first}
 use Rattle.std.proofs.lemmas.Bool.{and_parts}
+use Rattle.gs_slots.specs.Flags.{single}
 use Rattle.gs_layout.specs.Name.{is_name_byte}
 use Rattle.gs_layout.specs.declared.facts.Class.{Class}
 use Rattle.gs_layout.specs.declared.name.Name.{Name as TheName}
@@ -71,11 +72,11 @@ stamp_words true m word text rest left l is b =
 stamp_words false m word text rest left l is b =
     last_word word text left (plain_number 4294967295 m word l) (ended_word word text rest left (plain_number 4294967295 m word l) is (b.cut ∙ ap (λ w. w ∷ lines_left left) b.is))
 
-stamp_of : (preempt : Bool) (n m : ℕ) (cpu tid : List ℕ) → IsNumber 65535 n cpu → IsNumber 4294967295 m tid → reads rows.stamp (cpu ∷ tid ∷ cond preempt (codes "p" ∷ []) []) ≡ Ok (events.Stamp n m preempt false)
-stamp_of true n m cpu tid k l = rw (k.taken, l.taken) (λ i. Ok (events.Stamp (sym k.value i) (sym l.value i) true false))
-stamp_of false n m cpu tid k l = rw (k.taken, l.taken) (λ i. Ok (events.Stamp (sym k.value i) (sym l.value i) false false))
+stamp_of : (preempt : Bool) (n m : ℕ) (cpu tid : List ℕ) → IsNumber 65535 n cpu → IsNumber 4294967295 m tid → reads rows.stamp (cpu ∷ tid ∷ cond preempt (codes "p" ∷ []) []) ≡ Ok (events.Stamp n m (single preempt))
+stamp_of true n m cpu tid k l = rw (k.taken, l.taken) (λ i. Ok (events.Stamp (sym k.value i) (sym l.value i) (single true)))
+stamp_of false n m cpu tid k l = rw (k.taken, l.taken) (λ i. Ok (events.Stamp (sym k.value i) (sym l.value i) (single false)))
 
-pub stamp_read : (preempt : Bool) (text behind_cpu rest : List ℕ) (n m : ℕ) (left : Option (Bor (List ℕ))) → StartsWith (λ word. number_between 0 65535 word ≡ Ok n) text (32 ∷ behind_cpu) → StartsWith (λ word. number_between 0 4294967295 word ≡ Ok m) behind_cpu rest → FirstLine (λ line. line ≡ flag preempt) rest left → FirstLine (IsRead (reads rows.stamp) (events.Stamp n m preempt false)) text left
+pub stamp_read : (preempt : Bool) (text behind_cpu rest : List ℕ) (n m : ℕ) (left : Option (Bor (List ℕ))) → StartsWith (λ word. number_between 0 65535 word ≡ Ok n) text (32 ∷ behind_cpu) → StartsWith (λ word. number_between 0 4294967295 word ≡ Ok m) behind_cpu rest → FirstLine (λ line. line ≡ flag preempt) rest left → FirstLine (IsRead (reads rows.stamp) (events.Stamp n m (single preempt))) text left
 stamp_read preempt text behind_cpu rest n m left s t b =
     let k = number_is 65535 n s.front s.is in
     let l = number_is 4294967295 m t.front t.is in

@@ -1,5 +1,6 @@
 -- What the definitions say of some scripts.
 use Rattle.std.proofs.Common.{◌≡◌, ℕ, List, [], ◌∷◌, ◌++◌, codes, refl, Ok, Err, true, false, Option, Some, None}
+use Rattle.gs_slots.specs.Flags.{no_flags, single}
 use Rattle.gs_layout.specs.declared.facts.Class.TheVariants.{Zero, One}
 use Rattle.gs_policy.specs.declared.any.AnyPolicy.TheVariants as policies
 use Rattle.gs_kernel.specs.declared.command.Command.TheVariants as commands
@@ -76,13 +77,13 @@ created = refl
 created_nameless : event_of (words_of (codes "create 0 0 r -")) ≡ Ok (events.Kernel (commands.Create (record { runnable = true; mask = 0; class = Zero; name = [] })))
 created_nameless = refl
 
-stamp_flag : event_of (words_of (codes "stamp 1 1 p")) ≡ Ok (events.Stamp 1 1 true false)
+stamp_flag : event_of (words_of (codes "stamp 1 1 p")) ≡ Ok (events.Stamp 1 1 (single true))
 stamp_flag = refl
 
-stamp_group : event_of (words_of (codes "stamp 1 1 g")) ≡ Ok (events.Stamp 1 1 false true)
+stamp_group : event_of (words_of (codes "stamp 1 1 g")) ≡ Ok (events.Stamp 1 1 (record no_flags { group = true }))
 stamp_group = refl
 
-stamp_both : event_of (words_of (codes "stamp 1 1 pg")) ≡ Ok (events.Stamp 1 1 true true)
+stamp_both : event_of (words_of (codes "stamp 1 1 pg")) ≡ Ok (events.Stamp 1 1 (record (single true) { group = true }))
 stamp_both = refl
 
 stamp_no_flag : event_of (words_of (codes "stamp 1 1 gp")) ≡ Err BadWord
@@ -97,7 +98,7 @@ stamp_long = refl
 stamp_cpu : event_of (words_of (codes "stamp 65536 1")) ≡ Err BadNumber
 stamp_cpu = refl
 
-stamped : event_of (words_of (codes " stamp  1 12 ")) ≡ Ok (events.Stamp 1 12 false false)
+stamped : event_of (words_of (codes " stamp  1 12 ")) ≡ Ok (events.Stamp 1 12 no_flags)
 stamped = refl
 
 committed : event_of (words_of (codes "commit 18446744073709551615")) ≡ Ok (events.Commit 18446744073709551615)

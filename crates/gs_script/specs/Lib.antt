@@ -6,3 +6,5 @@ pub mod Script
 pub mod Plain
 pub mod Held
 pub mod Said
+pub mod Spot
+pub mod Found

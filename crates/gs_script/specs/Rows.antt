@@ -8,6 +8,7 @@ use Rattle.gs_kernel.specs.declared.command.Command.{Command}
 use Rattle.gs_kernel.specs.declared.command.Command.TheVariants as commands
 use Rattle.gs_kernel.specs.declared.thread_event.ThreadEvent.{ThreadEvent}
 use Rattle.gs_kernel.specs.declared.thread_event.ThreadEvent.TheVariants as happens
+use Rattle.gs_slots.specs.declared.flags.Flags.{Flags}
 use Rattle.gs_policy.specs.declared.any.AnyPolicy.{AnyPolicy}
 use Rattle.gs_policy.specs.declared.any.AnyPolicy.TheVariants.{FirstCome, TwoClass}
 use Rattle.gs_core.specs.declared.event.Event.{Event}
@@ -29,6 +30,10 @@ u32s = Number 0 (2 ^ 32 - 1)
 -- a mask: a bit for each CPU that there may be
 abbrev pub masks : Kind
 masks = Number 0 (2 ^ MOST_CPUS - 1)
+
+-- whether a thread may run, or is blocked
+abbrev pub runnables : Kind
+runnables = OneOf (codes "r" ∷ codes "b" ∷ [])
 
 -- the word at a place
 abbrev pub at : ℕ → List (List ℕ) → List ℕ
@@ -54,7 +59,7 @@ abbrev pub create : Row
 create =
     record {
       word = codes "create";
-      forms = (masks ∷ Number 0 1 ∷ OneOf (codes "r" ∷ codes "b" ∷ []) ∷ Name ∷ []) ∷ [];
+      forms = (masks ∷ Number 0 1 ∷ runnables ∷ Name ∷ []) ∷ [];
       event = λ ws. events.Kernel (commands.Create (record { runnable = is (at 2 ws) (codes "r"); mask = number (at 0 ws); class = class_of (number (at 1 ws)); name = name_of (at 3 ws) }));
     }
 
@@ -126,18 +131,16 @@ drain = record { word = codes "drain"; forms = (u32s ∷ []) ∷ []; event = λ 
 abbrev pub stamp_flag : Kind
 stamp_flag = OneOf (codes "p" ∷ codes "g" ∷ codes "pg" ∷ [])
 
-abbrev pub takes_off : List ℕ → Bool
-takes_off word = is word (codes "p") || is word (codes "pg")
-
-abbrev pub is_grouped : List ℕ → Bool
-is_grouped word = is word (codes "g") || is word (codes "pg")
+-- the flags that such a word names, or that none names
+abbrev pub flags_of : List ℕ → Flags
+flags_of word = record { preempt = is word (codes "p") || is word (codes "pg"); group = is word (codes "g") || is word (codes "pg") }
 
 abbrev pub stamp : Row
 stamp =
     record {
       word = codes "stamp";
       forms = (u16s ∷ u32s ∷ []) ∷ (u16s ∷ u32s ∷ stamp_flag ∷ []) ∷ [];
-      event = λ ws. events.Stamp (number (at 0 ws)) (number (at 1 ws)) (takes_off (at 2 ws)) (is_grouped (at 2 ws));
+      event = λ ws. events.Stamp (number (at 0 ws)) (number (at 1 ws)) (flags_of (at 2 ws));
     }
 
 -- a line whose first word says all: nothing stands behind it
@@ -206,9 +209,9 @@ abbrev pub class_in : List ℕ → Result Class Reason
 class_in word = if is_of_kind (Number 0 1) word then Ok (class_of (number word)) else Err BadNumber
 
 -- what a word says that is to be a flag of a stamp: whether it takes a thread off, and whether it is one of a group
-abbrev pub flags_in : List ℕ → Result (Bool × Bool) Reason
-flags_in word = if is_of_kind stamp_flag word then Ok (takes_off word, is_grouped word) else Err BadWord
+abbrev pub flags_in : List ℕ → Result Flags Reason
+flags_in word = if is_of_kind stamp_flag word then Ok (flags_of word) else Err BadWord
 
 -- what a word says that is to be `r` or `b`
 abbrev pub runnable_in : List ℕ → Result Bool Reason
-runnable_in word = if is_of_kind (OneOf (codes "r" ∷ codes "b" ∷ [])) word then Ok (is word (codes "r")) else Err BadWord
+runnable_in word = if is_of_kind runnables word then Ok (is word (codes "r")) else Err BadWord

@@ -9,6 +9,7 @@ use gs_core::Event;
 use gs_kernel::{Command, ThreadEvent};
 use gs_layout::{Class, Facts};
 use gs_policy::AnyPolicy;
+use gs_slots::Flags;
 use gs_status::Mask;
 
 /// A number of 16 bits: of a CPU, also of one that is not there.
@@ -80,17 +81,17 @@ fn is_runnable(word: &str) -> Result<bool, Reason>
     }
 }
 
-/// What a flag behind a stamp says: whether it takes the thread off that is on the CPU, and whether it is one of a
-/// group.
-fn stamp_flags(word: &str) -> Result<(bool, bool), Reason>
+/// The flags that a word behind a stamp names.
+fn stamp_flags(word: &str) -> Result<Flags, Reason>
     ensures { result ≡ rows.flags_in word.now }
 {
-    match word {
-        "p" => Ok((true, false)),
-        "g" => Ok((false, true)),
-        "pg" => Ok((true, true)),
-        _ => Err(Reason::BadWord),
-    }
+    let (preempt, group) = match word {
+        "p" => (true, false),
+        "g" => (false, true),
+        "pg" => (true, true),
+        _ => return Err(Reason::BadWord),
+    };
+    Ok(Flags { preempt, group })
 }
 
 /// A line whose first word says all.
@@ -244,8 +245,7 @@ fn stamp_plain(cpu: &str, tid: &str) -> Result<Event<AnyPolicy>, Reason>
     Ok(Event::Stamp {
         cpu,
         tid,
-        preempt: false,
-        group: false,
+        flags: Flags::NONE,
     })
 }
 
@@ -255,13 +255,8 @@ fn stamp_flagged(cpu: &str, tid: &str, flag: &str) -> Result<Event<AnyPolicy>, R
 {
     let cpu = u16_number(cpu)?;
     let tid = u32_number(tid)?;
-    let (preempt, group) = stamp_flags(flag)?;
-    Ok(Event::Stamp {
-        cpu,
-        tid,
-        preempt,
-        group,
-    })
+    let flags = stamp_flags(flag)?;
+    Ok(Event::Stamp { cpu, tid, flags })
 }
 
 #[tactic(auto, using(crate::proofs::Places::two_places, crate::proofs::Places::three_places))]

@@ -31,7 +31,7 @@ struct Firsts {
 }
 
 /// The capacity of a ring.
-fn capacity(word: &str) -> Result<u32, Reason>
+pub(crate) fn capacity(word: &str) -> Result<u32, Reason>
     ensures exact { result ≡ capacity_in word.now }
     ensures low { IfOk result (λ n. LEAST_CAPACITY ≤ n) }
     ensures high { IfOk result (λ n. n ≤ MOST_CAPACITY) }

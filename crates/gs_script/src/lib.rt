@@ -4,13 +4,21 @@
 mod cursor;
 mod event_line;
 mod fault;
+mod forms;
+mod found;
 mod header;
+mod marked;
 mod plain_line;
 mod said_line;
 mod script;
+mod spot;
+mod wanted;
 mod word;
 
 pub use fault::{Reason, ScriptFault};
+pub use found::{Found, find_fault};
 pub use header::{LEAST_SLICE, MOST_SLICE};
+pub use marked::Marked;
 pub use said_line::{SaidLine, lines_say_events, said_lines};
 pub use script::{MOST_BYTES, Script, ScriptError, read_script};
+pub use wanted::Wanted;

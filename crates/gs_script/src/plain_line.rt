@@ -16,6 +16,7 @@ use gs_core::Event;
 use gs_kernel::{Command, ThreadEvent};
 use gs_layout::{Class, Facts};
 use gs_policy::AnyPolicy;
+use gs_slots::Flags;
 use gs_status::Mask;
 
 /// An event, and what is left behind its line. `None` says nothing of the line.
@@ -159,13 +160,8 @@ fn stamp(text: &[u8]) -> Found<'_>
     let (preempt, left) = flag_last(rest)?;
     let cpu = cpu as u16;
     let tid = tid as u32;
-    let event = Event::Stamp {
-        cpu,
-        tid,
-        preempt,
-        group: false,
-    };
-    Some((event, left))
+    let flags = Flags::single(preempt);
+    Some((Event::Stamp { cpu, tid, flags }, left))
 }
 
 #[inline(always)]

@@ -21,7 +21,7 @@ pub struct SaidLine<'a> {
 
 /// Returns whether a line is passed over.
 #[tactic(auto, using(crate::proofs::Saying::words_behind, crate::proofs::Saying::passed_by))]
-fn is_silent(line: &[u8]) -> bool
+pub(crate) fn is_silent(line: &[u8]) -> bool
     ensures { result ≡ is_passed_over (words_of line.now) }
 {
     let mut rest = line;

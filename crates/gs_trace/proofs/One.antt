@@ -2,6 +2,8 @@
 use Rattle.std.proofs.Common.{◌≡◌, refl, ap, sym, ◌∙◌, subst, ℕ, ◌+◌, ◌⊎◌, inl, inr, ◌||◌, Bool, true, false, not, nat_le, unwrap_or, map, Option, None, Some, List, [], ◌∷◌, length, take, drop, Result, Ok, Err, slice_get}
 use Rattle.std.specs.List.{list_any, count_by}
 use Rattle.std.specs.Option.{is_none, is_some, option_map}
+use Rattle.gs_slots.specs.declared.flags.Flags.{Flags}
+use Rattle.gs_slots.specs.Flags.{single}
 use Rattle.gs_layout.specs.declared.message.Message.{Message}
 use Rattle.gs_layout.specs.declared.known.Known.{Known}
 use Rattle.gs_layout.specs.declared.refusal.Refusal.{Refusal}
@@ -105,7 +107,7 @@ one_refusal m a same events.Crash = refl
 one_refusal m a same (events.Begin p) = refl
 one_refusal m a same (events.Page max) = ap (λ o. unless_torn m.history (page_refusal m.history (is_none o))) same.page
 one_refusal m a same (Drain max) = refl
-one_refusal m a same (Stamp c t p w) = ap (λ (x : Picture). stamp_refusal m c t x.view) same.pictured
+one_refusal m a same (Stamp c t w) = ap (λ (x : Picture). stamp_refusal m c t x.view) same.pictured
 one_refusal m a same Decide = cc (one_plan m a same)
 one_refusal m a same (Commit mask) = refl
 one_refusal m a same (Late n) = refl
@@ -173,10 +175,10 @@ one_drain m a same max d e m' n' x y f g p q =
     }
 
 -- one stamp
-stamps_reply : (m : State) (a : Option Agent) (c t : ℕ) (p w : Bool) (o : Option (ℕ × ℕ)) (k : Option Known) → (stamps_with (record m { agent = a }) c t p w o k).0 ≡ (stamps_with m c t p w o k).0
-stamps_reply m a c t p w None k = refl
-stamps_reply m a c t p w (Some b) None = refl
-stamps_reply m a c t p w (Some b) (Some k) = refl
+stamps_reply : (m : State) (a : Option Agent) (c t : ℕ) (w : Flags) (o : Option (ℕ × ℕ)) (k : Option Known) → (stamps_with (record m { agent = a }) c t w o k).0 ≡ (stamps_with m c t w o k).0
+stamps_reply m a c t w None k = refl
+stamps_reply m a c t w (Some b) None = refl
+stamps_reply m a c t w (Some b) (Some k) = refl
 
 -- the agent after a stamp, if one is active and the view knows the thread
 stamped_agent : ℕ → ℕ → Option (ℕ × ℕ) → Option Known → Option Agent → Option Agent
@@ -184,26 +186,26 @@ stamped_agent c t (Some b) (Some k) a = option_map (thinking (after_stamp c t)) 
 stamped_agent c t (Some b) None a = a
 stamped_agent c t None k a = a
 
-stamps_left : (m : State) (a : Option Agent) (c t : ℕ) (p w : Bool) (o : Option (ℕ × ℕ)) (k : Option Known)
-    → (stamps_with (record m { agent = a }) c t p w o k).1 ≡ record ((stamps_with m c t p w o k).1) { agent = stamped_agent c t o k a }
+stamps_left : (m : State) (a : Option Agent) (c t : ℕ) (w : Flags) (o : Option (ℕ × ℕ)) (k : Option Known)
+    → (stamps_with (record m { agent = a }) c t w o k).1 ≡ record ((stamps_with m c t w o k).1) { agent = stamped_agent c t o k a }
 unfolding stamped_agent
-stamps_left m a c t p w None k = refl
-stamps_left m a c t p w (Some b) None = refl
-stamps_left m a c t p w (Some b) (Some k) = refl
+stamps_left m a c t w None k = refl
+stamps_left m a c t w (Some b) None = refl
+stamps_left m a c t w (Some b) (Some k) = refl
 
-stamps_same : (m : State) (a : Option Agent) (c t : ℕ) (p w : Bool) (o : Option (ℕ × ℕ)) (k : Option Known) → Same a m.agent → Same (stamped_agent c t o k a) ((stamps_with m c t p w o k).1).agent
+stamps_same : (m : State) (a : Option Agent) (c t : ℕ) (w : Flags) (o : Option (ℕ × ℕ)) (k : Option Known) → Same a m.agent → Same (stamped_agent c t o k a) ((stamps_with m c t w o k).1).agent
 unfolding stamped_agent
-stamps_same m a c t p w None k same = same
-stamps_same m a c t p w (Some b) None same = same
-stamps_same m a c t p w (Some b) (Some k) same = same_thinks (after_stamp c t) a m.agent same
+stamps_same m a c t w None k same = same
+stamps_same m a c t w (Some b) None same = same
+stamps_same m a c t w (Some b) (Some k) same = same_thinks (after_stamp c t) a m.agent same
 
-one_stamp : (m : State) (a : Option Agent) → Same a m.agent → (c t : ℕ) (p w : Bool) (r r' : Reply) (m' n' : State) → Does m (Stamp c t p w) r m' → Does (record m { agent = a }) (Stamp c t p w) r' n' → One r r' m' n'
-one_stamp m a same c t p w r r' m' n' x y =
+one_stamp : (m : State) (a : Option Agent) → Same a m.agent → (c t : ℕ) (w : Flags) (r r' : Reply) (m' n' : State) → Does m (Stamp c t w) r m' → Does (record m { agent = a }) (Stamp c t w) r' n' → One r r' m' n'
+one_stamp m a same c t w r r' m' n' x y =
     let o = active m.history in
-    let known : stamps (record m { agent = a }) c t p w ≡ stamps_with (record m { agent = a }) c t p w o (view m t) = ap (λ (z : Picture). stamps_with (record m { agent = a }) c t p w o (z.view t)) same.pictured in
+    let known : stamps (record m { agent = a }) c t w ≡ stamps_with (record m { agent = a }) c t w o (view m t) = ap (λ (z : Picture). stamps_with (record m { agent = a }) c t w o (z.view t)) same.pictured in
     record {
-      reply = x.0 ∙ sym (y.0 ∙ ap (λ z. z.0) known ∙ stamps_reply m a c t p w o (view m t));
-      left = alike_at m' n' (stamps m c t p w).1 (stamped_agent c t o (view m t) a) x.1 (y.1 ∙ ap (λ z. z.1) known ∙ stamps_left m a c t p w o (view m t)) (stamps_same m a c t p w o (view m t) same);
+      reply = x.0 ∙ sym (y.0 ∙ ap (λ z. z.0) known ∙ stamps_reply m a c t w o (view m t));
+      left = alike_at m' n' (stamps m c t w).1 (stamped_agent c t o (view m t) a) x.1 (y.1 ∙ ap (λ z. z.1) known ∙ stamps_left m a c t w o (view m t)) (stamps_same m a c t w o (view m t) same);
     }
 
 -- one decision: its stamps, one after another
@@ -211,11 +213,11 @@ stamps_alike : (m : State) (a : Option Agent) → Same a m.agent → (xs : List 
 stamps_alike m a same [] = (a, refl, same)
 stamps_alike m a same (x ∷ xs) =
     let o = active m.history in
-    let known : stamps (record m { agent = a }) x.cpu x.tid x.preempt false ≡ stamps_with (record m { agent = a }) x.cpu x.tid x.preempt false o (view m x.tid) =
-    ap (λ (z : Picture). stamps_with (record m { agent = a }) x.cpu x.tid x.preempt false o (z.view x.tid)) same.pictured in
-    let left = ap (λ z. z.1) known ∙ stamps_left m a x.cpu x.tid x.preempt false o (view m x.tid) in
+    let known : stamps (record m { agent = a }) x.cpu x.tid (single x.preempt) ≡ stamps_with (record m { agent = a }) x.cpu x.tid (single x.preempt) o (view m x.tid) =
+    ap (λ (z : Picture). stamps_with (record m { agent = a }) x.cpu x.tid (single x.preempt) o (z.view x.tid)) same.pictured in
+    let left = ap (λ z. z.1) known ∙ stamps_left m a x.cpu x.tid (single x.preempt) o (view m x.tid) in
     subst (λ (s : State). Alike (stamps_all m (x ∷ xs)) (stamps_all s xs)) (sym left)
-    (stamps_alike (stamps m x.cpu x.tid x.preempt false).1 (stamped_agent x.cpu x.tid o (view m x.tid) a) (stamps_same m a x.cpu x.tid x.preempt false o (view m x.tid) same) xs)
+    (stamps_alike (stamps m x.cpu x.tid (single x.preempt)).1 (stamped_agent x.cpu x.tid o (view m x.tid) a) (stamps_same m a x.cpu x.tid (single x.preempt) o (view m x.tid) same) xs)
 
 alike_ends : (m n x y : State) → m ≡ x → n ≡ y → Alike x y → Alike m n
 alike_ends m n x y e k alike = subst (λ (s : State). Alike s n) (sym e) (subst (λ (s : State). Alike x s) (sym k) alike)
@@ -321,9 +323,9 @@ one_done m a same (Drain max) r r' m' n' (inl x) (inl y) g h p q =
     record { reply = x.1 ∙ o.reply ∙ sym y.1; left = o.left }
 one_done m a same (Drain max) r r' m' n' (inr x) y g h p q = absurd x.0
 one_done m a same (Drain max) r r' m' n' (inl x) (inr y) g h p q = absurd y.0
-one_done m a same (Stamp c t f w) r r' m' n' (inl x) (inl y) g h p q = one_stamp m a same c t f w r r' m' n' x y
-one_done m a same (Stamp c t f w) r r' m' n' (inr x) y g h p q = absurd (refused_is r p x.0)
-one_done m a same (Stamp c t f w) r r' m' n' (inl x) (inr y) g h p q = absurd (refused_is r' q y.0)
+one_done m a same (Stamp c t w) r r' m' n' (inl x) (inl y) g h p q = one_stamp m a same c t w r r' m' n' x y
+one_done m a same (Stamp c t w) r r' m' n' (inr x) y g h p q = absurd (refused_is r p x.0)
+one_done m a same (Stamp c t w) r r' m' n' (inl x) (inr y) g h p q = absurd (refused_is r' q y.0)
 one_done m a same Decide r r' m' n' (inl x) (inl y) g h p q = one_decide m a same r r' m' n' x y
 one_done m a same Decide r r' m' n' (inr x) y g h p q = absurd (refused_is r p x.0)
 one_done m a same Decide r r' m' n' (inl x) (inr y) g h p q = absurd (refused_is r' q y.0)

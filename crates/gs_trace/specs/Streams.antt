@@ -20,9 +20,13 @@ ConsumesAtMost most had left = (bytes : List ℕ) × Consumes had left bytes × 
 abbrev pub AnswersAll : (List ℕ → Ended → List ℕ → Type 0) → Ended → Option (List ℕ) → Option (List ℕ) → Option (List ℕ) → Type 0
 AnswersAll IsAnswer ended had before after = IfSome had (λ input. (out : List ℕ) × IsAnswer input ended out × Appends before after out)
 
+-- this was read, and what is to be written for it was written
+abbrev pub AnswersOf : (List ℕ → Ended → List ℕ → Type 0) → List ℕ → Ended → Option (List ℕ) → Option (List ℕ) → Option (List ℕ) → Option (List ℕ) → Type 0
+AnswersOf IsAnswer input ended had left before after = (out : List ℕ) × IsRead had left input × IsAnswer input ended out × Appends before after out
+
 -- what is to be written for what was read was written
 abbrev pub AnswersRead : (List ℕ → Ended → List ℕ → Type 0) → Ended → Option (List ℕ) → Option (List ℕ) → Option (List ℕ) → Option (List ℕ) → Type 0
-AnswersRead IsAnswer ended had left before after = (input : List ℕ) × (out : List ℕ) × IsRead had left input × IsAnswer input ended out × Appends before after out
+AnswersRead IsAnswer ended had left before after = (input : List ℕ) × AnswersOf IsAnswer input ended had left before after
 
 -- of what is to be written for all that the reader had a beginning was written, short of the whole
 abbrev pub BeginsAnswer : (List ℕ → Ended → List ℕ → Type 0) → Option (List ℕ) → Option (List ℕ) → Option (List ℕ) → Type 0

@@ -10,4 +10,4 @@ mod running;
 pub use form::{Form, Notation};
 pub use law::one_output;
 pub use pipe::{InputError, MOST_READ_BYTES, WriteFailed, read_all, write_out};
-pub use run::{Ended, TraceFault, run_as, run_report, run_script};
+pub use run::{Ended, Kept, TraceFault, fault_text, run_and_keep, run_as, run_report, run_script};

@@ -2,11 +2,11 @@ ghost use Rattle.std.specs.Prelude.{◌≡◌, ◌≢◌, IfOk, IfErr, IsErrOf, 
 ghost use Rattle.std.specs.Io.KnownBytes.{Keeps};
 ghost use Rattle.gs_trace.specs.declared.run.TraceFault.TheVariants.{OutOfMemory};
 ghost use Rattle.gs_trace.specs.Output.{IsOutput, IsReport, IsShown, fault_line, reason_text, shown_as};
-ghost use Rattle.gs_trace.specs.Streams.{AnswersAll, AnswersRead, BeginsAnswer, ConsumesAtMost};
+ghost use Rattle.gs_trace.specs.Streams.{AnswersAll, AnswersOf, AnswersRead, BeginsAnswer, ConsumesAtMost};
 
 use crate::form::{Form, show};
 use crate::pipe::{InputError, MOST_READ_BYTES, read_all, write_out};
-use gs_core::{ConfigFault, Machine};
+use gs_core::Machine;
 use gs_script::{Reason, ScriptError, ScriptFault, read_script};
 use std::alloc::{AllocError, Global};
 use std::io::{Read, Write};
@@ -43,6 +43,13 @@ impl From<AllocError> for TraceFault {
     }
 }
 
+/// How a script ended, and the bytes that were read of it.
+#[derive(Drop)]
+pub struct Kept {
+    pub ended: Ended,
+    pub input: Vec<u8>,
+}
+
 /// What is to be written.
 #[derive(Drop)]
 struct Answer {
@@ -65,8 +72,8 @@ fn reason_name(reason: Reason) -> &'static str
     }
 }
 
-/// The line of a fault.
-fn fault_text(alloc: Global, fault: ScriptFault) -> Result<String, AllocError>
+/// Returns the line of a fault, with its newline. It fails only if out of memory.
+pub fn fault_text(alloc: Global, fault: ScriptFault) -> Result<String, AllocError>
     ensures { IfOk result (λ text. string_bytes text ≡ fault_line fault) }
 {
     let ScriptFault { line, reason } = fault;
@@ -91,10 +98,9 @@ fn answer_to(alloc: Global, input: &[u8], form: Form) -> Result<Answer, AllocErr
             });
         }
     };
-    let mut machine = match Machine::new(alloc, script.config) {
-        Ok(machine) => machine,
-        Err(ConfigFault::OutOfMemory) => return Err(AllocError),
-        Err(_) => unreachable!(),
+    // (a configuration that was read can be opened, unless out of memory)
+    let Ok(mut machine) = Machine::new(alloc, script.config) else {
+        return Err(AllocError);
     };
     let bytes = show(alloc, form, &mut machine, &script.events)?;
     Ok(Answer {
@@ -145,18 +151,11 @@ pub fn run_report<R: Read, W: Write>(
     run_as(alloc, reader, writer, Form::Report { last })
 }
 
-/// Reads a script to its end, or until it is too long, runs it, and writes what came of it in this form. A script's
-/// fault is written as one line, whatever the form.
-///
-/// The reads end at the first that gives no byte, and are at most 1,048,578. At most
-/// [`MOST_READ_BYTES`] are read.
+/// Reads and runs a script as [`run_and_keep`] does, and keeps nothing of what was read.
 ///
 /// # Errors
 ///
-/// `ReadFailed` if a read fails. `OutOfMemory` if out of memory, at an event too. In both cases nothing was
-/// written. No clause tells these two apart, since a reader's contract does not say when it fails.
-/// `WriteFailed` if a write fails or takes no byte: a beginning of the output was written, short of the
-/// whole.
+/// As of [`run_and_keep`].
 pub fn run_as<R: Read, W: Write>(
     alloc: Global,
     reader: &mut R,
@@ -169,6 +168,36 @@ pub fn run_as<R: Read, W: Write>(
     ensures unwritten { IfErr result (λ e. e ≢ TraceFault.WriteFailed → Keeps (W.contents writer.old) (W.contents writer.new)) }
     ensures begun { IsErrOf result TraceFault.WriteFailed → BeginsAnswer (IsShown (shown_as form)) (R.remaining reader.old) (W.contents writer.old) (W.contents writer.new) }
 {
+    match run_and_keep(alloc, reader, writer, form) {
+        Ok(kept) => Ok(kept.ended),
+        Err(fault) => Err(fault),
+    }
+}
+
+/// Reads a script to its end, or until it is too long, runs it, and writes what came of it in this form. A script's
+/// fault is written as one line, whatever the form. Returns what was read too, for whoever tells more of that fault.
+///
+/// The reads end at the first that gives no byte, and are at most 1,048,578. At most
+/// [`MOST_READ_BYTES`] are read.
+///
+/// # Errors
+///
+/// `ReadFailed` if a read fails. `OutOfMemory` if out of memory, at an event too. In both cases nothing was
+/// written. No clause tells these two apart, since a reader's contract does not say when it fails.
+/// `WriteFailed` if a write fails or takes no byte: a beginning of the output was written, short of the
+/// whole.
+pub fn run_and_keep<R: Read, W: Write>(
+    alloc: Global,
+    reader: &mut R,
+    writer: &mut W,
+    form: Form,
+) -> Result<Kept, TraceFault>
+    ensures ended { IfOk result (λ kept. AnswersAll (IsShown (shown_as form)) kept.ended (R.remaining reader.old) (W.contents writer.old) (W.contents writer.new)) }
+    ensures read { IfOk result (λ kept. AnswersOf (IsShown (shown_as form)) kept.input.items kept.ended (R.remaining reader.old) (R.remaining reader.new) (W.contents writer.old) (W.contents writer.new)) }
+    ensures bounded { ConsumesAtMost MOST_READ_BYTES (R.remaining reader.old) (R.remaining reader.new) }
+    ensures unwritten { IfErr result (λ e. e ≢ TraceFault.WriteFailed → Keeps (W.contents writer.old) (W.contents writer.new)) }
+    ensures begun { IsErrOf result TraceFault.WriteFailed → BeginsAnswer (IsShown (shown_as form)) (R.remaining reader.old) (W.contents writer.old) (W.contents writer.new) }
+{
     let input = match read_all(alloc, reader) {
         Ok(input) => input,
         Err(InputError::Failed) => return Err(TraceFault::ReadFailed),
@@ -176,7 +205,7 @@ pub fn run_as<R: Read, W: Write>(
     };
     let Answer { ended, bytes } = answer_to(alloc, &input, form)?;
     match write_out(writer, &bytes) {
-        Ok(()) => Ok(ended),
+        Ok(()) => Ok(Kept { ended, input }),
         Err(_) => Err(TraceFault::WriteFailed),
     }
 }

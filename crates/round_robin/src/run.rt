@@ -12,7 +12,7 @@ ghost use Rattle.round_robin.specs.Streams.{IsAnswer, TellsFault};
 
 use crate::failure::Failure;
 use crate::policy::RoundRobin;
-use gs_core::{Config, ConfigFault, Event, Machine, Reply, is_short};
+use gs_core::{Config, Event, Machine, Reply, is_short};
 use gs_lines::{Text, text_of};
 use gs_policy::AnyPolicy;
 use gs_script::{Script, ScriptError, read_script};
@@ -43,10 +43,10 @@ fn opened(alloc: Global, config: Config<RoundRobin>) -> Result<Machine<RoundRobi
     requires { config_fault config ≡ None }
     ensures { IfOk result (λ machine. machine ≡ start config) }
 {
+    // (with no fault in the configuration there is no other error)
     match Machine::new(alloc, config) {
         Ok(machine) => Ok(machine),
-        Err(ConfigFault::OutOfMemory) => Err(AllocError),
-        Err(_) => unreachable!(),
+        Err(_) => Err(AllocError),
     }
 }
 

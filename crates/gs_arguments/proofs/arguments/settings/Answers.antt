@@ -6,8 +6,8 @@ use Rattle.clap.specs.declared.error.kind.ErrorKind.{ErrorKind}
 use Rattle.clap.specs.Faults.{fault_of, is_simple_and_free}
 use Rattle.clap.specs.declared.error.kind.ErrorKind.TheVariants.{OutOfMemory, MissingSubcommand, ValueValidation}
 use Rattle.gs_arguments.specs.declared.arguments.Command.TheVariants.{Run, Report, Journal}
-use Rattle.gs_arguments.specs.Arguments.{ghost_program, command_from, command_in}
-use Rattle.gs_arguments.proofs.Given.{run_taken, report_taken, journal_taken, run_is_run, report_is_ten, journal_is_lines, ghost_is_simple, ghost_is_free, no_fault_in_range}
+use Rattle.gs_arguments.specs.Arguments.{ghost_program, command_from, command_in, file_from}
+use Rattle.gs_arguments.proofs.Given.{run_taken, report_taken, journal_taken, run_is_run, report_is_ten, journal_is_lines, ghost_is_simple, ghost_is_free, in_range}
 use Rattle.gs_arguments.proofs.arguments.settings.Goals as goal
 
 or_one_more : (k : ErrorKind) (kinds : Kinds) (e : Error) → HasKind kinds e → HasKind (k ∷ kinds) e
@@ -47,9 +47,15 @@ returns-in-Some-clause-given g c =
     let met = (c.in_ok-matches.ensures.ok.2 (ap is_simple c.in_ok-command_line.ensures ∙ ghost_is_simple)).1 ∙ ap (λ app. subcommand_of app words) c.in_ok-command_line.ensures in
     sym (c.in-Some.ensures ∙ ap command_from met)
 
+pub returns-in-Some-clause-file : goal.returns-in-Some-clause-file
+returns-in-Some-clause-file g c =
+    let words = map g.S.AsStr.text c.args.words.now in
+    let met = (c.in_ok-matches.ensures.ok.2 (ap is_simple c.in_ok-command_line.ensures ∙ ghost_is_simple)).1 ∙ ap (λ app. subcommand_of app words) c.in_ok-command_line.ensures in
+    c.file_of.ensures ∙ ap file_from met
+
 pub returns-in-Some-clause-allowed : goal.returns-in-Some-clause-allowed
 returns-in-Some-clause-allowed g c =
-    no_fault_in_range (map g.S.AsStr.text c.args.words.now) c.in-Some.command (returns-in-Some-clause-faultless g c) (returns-in-Some-clause-given g c)
+    in_range (subcommand_of ghost_program (map g.S.AsStr.text c.args.words.now)) c.in-Some.command (returns-in-Some-clause-given g c)
 
 pub returns-in-Some-clause-report : goal.returns-in-Some-clause-report
 returns-in-Some-clause-report g c name h =

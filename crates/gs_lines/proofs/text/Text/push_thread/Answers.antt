@@ -4,7 +4,4 @@ use Rattle.gs_lines.proofs.Utf8.{rest_utf8}
 use Rattle.gs_lines.proofs.text.Text.push_thread.Goals as goal
 
 pub append-requires : goal.append-requires
-append-requires c =
-    let seq = c.put-at.ensures.utf8 (c.put_number-at.ensures.utf8 IsUtf8-nil) in
-    let all = c.put-at-3.ensures.utf8 (c.put-at-2.ensures.utf8 (c.put_number-at-2.ensures.utf8 seq)) in
-    rest_utf8 c.put-at-3.new.array 80 c.put-at-3.result (search rules) all
+append-requires c = rest_utf8 c.put_thread-at.new.array 80 c.put_thread-at.result (search rules) (c.put_thread-at.ensures.utf8 IsUtf8-nil)

@@ -1,0 +1,11 @@
+mod Heard
+mod Grown
+mod Told
+mod Overflows
+mod Lasts
+mod Moments
+mod Meeting
+mod Runs
+mod WorkedRows
+mod Stamps
+mod Lasting

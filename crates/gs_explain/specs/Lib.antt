@@ -1,0 +1,9 @@
+pub mod Noted
+pub mod Moment
+pub mod Landings
+pub mod Marked
+pub mod Refusals
+pub mod Rows
+pub mod Explained
+pub mod Telling
+pub mod Met

@@ -1,0 +1,83 @@
+-- What is at hand about an event that happened.
+use Rattle.std.specs.Prelude.{ℕ, suc, zero, ◌==◌, Option, None, Some, Ok, List, map, slice_get}
+use Rattle.gs_policy.specs.declared.any.AnyPolicy.{AnyPolicy}
+use Rattle.gs_journal.specs.declared.entry.Entry.{Entry}
+use Rattle.gs_journal.specs.History.{History, posted}
+use Rattle.gs_layout.specs.Spelling.{round_up}
+use Rattle.gs_layout.specs.declared.wire.TheConstants.{AFFINITY_LEN, HEADER_LEN, NAME_AT}
+use Rattle.std.specs.Prelude.{◌+◌, length}
+use Rattle.gs_kernel.specs.declared.command.Command.TheVariants as commands
+use Rattle.gs_kernel.specs.declared.thread_event.ThreadEvent.TheVariants.{Affinity}
+use Rattle.gs_kernel.specs.declared.settings.Settings.{Settings}
+use Rattle.gs_slots.specs.Reading.{states_in}
+use Rattle.gs_slots.specs.State.{Held}
+use Rattle.gs_ring.specs.Places.{free_after, need, written}
+use Rattle.gs_core.specs.declared.event.Event.{Event}
+use Rattle.gs_core.specs.declared.event.Event.TheVariants as events
+use Rattle.gs_core.specs.declared.transaction.Transaction.{Transaction}
+use Rattle.gs_core.specs.Machine.{State}
+use Rattle.gs_sentences.specs.declared.cause.Cause.{Cause}
+use Rattle.gs_sentences.specs.declared.landed.Overflow.{Overflow}
+use Rattle.gs_explain.specs.declared.moment.Scene.{Scene}
+use Rattle.gs_explain.specs.Noted.{Noted}
+
+-- the lines that were noted, this event's too, the event, and the machine that it left, with what did not fit if it tore that down
+pub record Moment : Type 0 where
+  pub lines : List ℕ
+  pub stamped : List ℕ
+  pub page : Option ℕ
+  pub event : Event AnyPolicy
+  pub history : History
+  pub transactions : List Transaction
+  pub slots : List Held
+  pub settings : Settings
+  pub overflow : Overflow
+
+-- how many bytes the message of an event has: a commit and a late landing tell a thread that it makes way
+abbrev pub size_of : Event AnyPolicy → ℕ
+size_of (events.Kernel (commands.Create f)) = round_up (NAME_AT + length f.name)
+size_of (events.Kernel (commands.Thread t (Affinity m))) = AFFINITY_LEN
+size_of _ = HEADER_LEN
+
+-- what that needs behind all that was posted, and what is free
+abbrev pub overflow_of : Event AnyPolicy → State → Overflow
+overflow_of e m = record { needs = need m.ring (written m.ring (posted m.history)) (size_of e); free = free_after m.ring (posted m.history) m.consumed }
+
+abbrev pub moment : Noted → Event AnyPolicy → State → Moment
+moment n e m =
+    record {
+      lines = n.lines;
+      stamped = n.stamped;
+      page = n.page;
+      event = e;
+      history = m.history;
+      transactions = m.transactions;
+      slots = map Ok m.slots;
+      settings = m.settings;
+      overflow = overflow_of e m;
+    }
+
+-- an entry and the line that added it
+abbrev pub caused : ℕ → Option ℕ → Option Entry → Option Cause
+caused i (Some line) (Some e) = Some (record { line = line; place = i; entry = e })
+caused i _ _ = None
+
+-- the entry at a place, if there is one
+abbrev pub cause_at : Moment → Option ℕ → Option Cause
+cause_at x None = None
+cause_at x (Some i) = caused i (slice_get x.lines i) (slice_get x.history i)
+
+-- what is lent of it
+abbrev pub moment_of : Scene → Moment
+moment_of s =
+    record {
+      lines = s.lines.now;
+      stamped = s.stamped.now;
+      page = s.page;
+      event = s.event.now;
+      history = s.entries.now;
+      transactions = s.transactions.now;
+      slots = states_in 0 s.region.now;
+      settings = s.settings;
+      overflow = s.overflow;
+    }

@@ -1,0 +1,44 @@
+-- What has been explained so far.
+use Rattle.std.specs.Prelude.{◌≡◌, Option, List, [], ◌∷◌, ◌++◌, ℕ, false, length}
+use Rattle.std.specs.List.{list_any}
+use Rattle.gs_policy.specs.declared.any.AnyPolicy.{AnyPolicy}
+use Rattle.gs_replies.specs.declared.reply.Reply.{Reply}
+use Rattle.gs_core.specs.declared.event.Event.{Event}
+use Rattle.gs_core.specs.Machine.{State, Step, planned}
+use Rattle.gs_core.specs.Safe.{Safe, IsFaithful}
+use Rattle.gs_core.specs.Short.{wants_memory}
+use Rattle.gs_reasons.specs.declared.index.Index.{Index}
+use Rattle.gs_reasons.specs.Kept.{HasHeard}
+use Rattle.gs_trace.specs.Output.{any_plans}
+use Rattle.gs_explain.specs.declared.noted.Lines.{Lines}
+use Rattle.gs_explain.specs.Noted.{Noted, noted_after}
+use Rattle.gs_explain.specs.Marked.{IsMarked}
+use Rattle.gs_explain.specs.Explained.{Explains, Line, row_of}
+
+-- the lines that were noted
+abbrev pub noted_of : Lines → Noted
+noted_of l = record { lines = l.entries.items; stamped = l.stamped.items; page = l.page }
+
+-- one event of a line happened and was explained: the reply does not tell that memory ran out, the lines are noted, and an index heard what was added
+pub record ExplainsOne (n : Noted) (m : State) (x : Line) (e : Event AnyPolicy) (next : State) (noted : Noted) (index : Index) (marks : List (Option ℕ)) (old new : List ℕ) : Type 0 where
+  pub reply : Reply
+  pub step : Step m (planned any_plans e) reply next
+  pub safe : Safe next
+  pub faithful : IsFaithful next
+  pub sufficed : list_any wants_memory (reply ∷ []) ≡ false
+  pub lines : noted ≡ noted_after x.0 reply next n
+  pub heard : HasHeard index next.history
+  pub marked : IsMarked marks next.transactions
+  pub shown : new ≡ old ++ row_of n m x e reply next
+
+-- the events up to those that are left were explained, each by its line
+pub record ToldSoFar (n : Noted) (m : State) (es : List (Event AnyPolicy)) (xs : List Line) (noted : Noted) (now : State) (left : List (Event AnyPolicy)) (others : List Line) (out : List ℕ) : Type 0 where
+  pub replies : List Reply
+  pub leads : (more : List Reply) (end : State) (rest : List ℕ) → Explains noted now left more others end rest → Explains n m es (replies ++ more) xs end (out ++ rest)
+  pub sufficed : list_any wants_memory replies ≡ false
+
+-- all of them were, and memory sufficed
+pub record IsToldOf (n : Noted) (m : State) (es : List (Event AnyPolicy)) (xs : List Line) (end : State) (out : List ℕ) : Type 0 where
+  pub replies : List Reply
+  pub explains : Explains n m es replies xs end out
+  pub sufficed : list_any wants_memory replies ≡ false

@@ -1,0 +1,178 @@
+//! Why a transaction landed as it did.
+
+ghost use Rattle.std.specs.Prelude.{◌≡◌, ◌<◌, ◌≤◌, IfSome, length, take};
+ghost use Rattle.gs_reasons.specs.Kept.{HasHeard};
+ghost use Rattle.gs_reasons.specs.Group.{fault_of_group};
+ghost use Rattle.gs_explain.specs.Moment.{moment_of};
+ghost use Rattle.gs_explain.specs.Landings.{group_fault, is_gone, is_grouped, is_of_group, landed_place, last_for, leading, line_at, overflow_if, place_numbered, stamped_at, stamped_by, transaction_at, why_landed};
+
+use crate::cause::cause_at;
+use crate::moment::Scene;
+use gs_core::{Event, Transaction};
+use gs_kernel::Landing;
+use gs_layout::Outcome;
+use gs_policy::AnyPolicy;
+use gs_reasons::{GroupFault, Index, fault_of_group};
+use gs_sentences::{Landed, Overflow, Reason, Stamped};
+
+/// Returns the place of the last transaction that was stamped for a CPU.
+fn last_for(cpu: u16, transactions: &[Transaction]) -> Option<usize>
+    ensures value { result ≡ last_for cpu transactions.now }
+    ensures within { IfSome result (λ i. i < length transactions.now) }
+{
+    let mut n = transactions.len();
+    while 0 < n {
+        n -= 1;
+        if transactions[n].cpu == cpu {
+            return Some(n);
+        }
+    }
+    None
+}
+
+/// Returns the place of the transaction of this number.
+fn place_numbered(number: u32) -> Option<usize>
+    ensures { result ≡ place_numbered number }
+{
+    if number == 0 {
+        return None;
+    }
+    Some(number as usize - 1)
+}
+
+/// Returns the place of the transaction that a landing is of.
+fn landed_place(
+    event: &Event<AnyPolicy>,
+    transactions: &[Transaction],
+    landing: &Landing,
+) -> Option<usize>
+    ensures { result ≡ landed_place event.now transactions.now landing.now }
+{
+    match event {
+        Event::Late { number } => place_numbered(*number),
+        _ => last_for(landing.cpu, transactions),
+    }
+}
+
+/// Returns the transaction at a place.
+fn transaction_at(transactions: &[Transaction], place: Option<usize>) -> Option<Transaction>
+    ensures { result ≡ transaction_at transactions.now place }
+{
+    let place = place?;
+    transactions.get(place).copied()
+}
+
+/// Returns the line at a place, 0 if there is none.
+pub(crate) fn line_at(lines: &[usize], place: Option<usize>) -> usize
+    ensures { result ≡ line_at lines.now place }
+{
+    match place {
+        Some(place) => lines.get(place).copied().unwrap_or(0),
+        None => 0,
+    }
+}
+
+/// Returns what was stamped, and on which line.
+fn stamped_by(transaction: Option<Transaction>, line: usize) -> Stamped
+    ensures { result ≡ stamped_by transaction line }
+{
+    match transaction {
+        Some(transaction) => Stamped {
+            generation: transaction.slot.generation,
+            tseq: transaction.slot.tseq,
+            line,
+        },
+        None => Stamped {
+            generation: 0,
+            tseq: 0,
+            line,
+        },
+    }
+}
+
+/// Returns what was stamped at a place of the list of transactions.
+fn stamped_at(scene: &Scene<'_>, place: Option<usize>) -> Stamped
+    ensures { result ≡ stamped_at (moment_of scene.now) place }
+{
+    let transaction = transaction_at(scene.transactions, place);
+    stamped_by(transaction, line_at(scene.stamped, place))
+}
+
+/// Returns whether a transaction was stamped as one of a group.
+fn is_of_group(transaction: Option<Transaction>) -> bool
+    ensures { result ≡ is_of_group transaction }
+{
+    match transaction {
+        Some(transaction) => transaction.slot.flags.group,
+        None => false,
+    }
+}
+
+/// Returns whether a landing is of a transaction that was stamped as one of a group.
+fn is_grouped(scene: &Scene<'_>, landing: &Landing) -> bool
+    ensures { result ≡ is_grouped (moment_of scene.now) landing.now }
+{
+    let place = landed_place(scene.event, scene.transactions, landing);
+    is_of_group(transaction_at(scene.transactions, place))
+}
+
+/// Returns how many of the first landings are of a group.
+fn group_len(scene: &Scene<'_>, landings: &[Landing]) -> usize
+    ensures within { result ≤ length landings.now }
+    ensures value { take result landings.now ≡ leading (is_grouped (moment_of scene.now)) landings.now }
+{
+    let mut n = 0;
+    while n < landings.len() && is_grouped(scene, &landings[n]) {
+        n += 1;
+    }
+    n
+}
+
+/// Returns what failed the group of these landings, if there is one and it failed.
+pub(crate) fn group_fault(scene: &Scene<'_>, landings: &[Landing]) -> Option<GroupFault>
+    ensures { result ≡ group_fault (moment_of scene.now) landings.now }
+{
+    let count = group_len(scene, landings);
+    fault_of_group(&landings[..count])
+}
+
+/// Returns whether an outcome is that it went with the enclave.
+pub(crate) fn is_gone(outcome: Outcome) -> bool
+    ensures { result ≡ is_gone outcome }
+{
+    matches!(outcome, Outcome::Gone)
+}
+
+/// Returns what did not fit, if it was so.
+fn overflow_if(torn: bool, overflow: Overflow) -> Option<Overflow>
+    ensures { result ≡ overflow_if torn overflow }
+{
+    if torn { Some(overflow) } else { None }
+}
+
+/// Returns why a transaction was not placed, or `None` if it was. An index has heard the first entries, so many.
+pub(crate) fn why_landed(
+    scene: &Scene<'_>,
+    index: &Index,
+    fault: Option<GroupFault>,
+    stood: bool,
+    heard: usize,
+    landing: &Landing,
+) -> Option<Reason>
+    requires { HasHeard index.now (take heard scene.now.entries.now) }
+    ensures { result ≡ why_landed (moment_of scene.now) fault stood heard landing.now }
+{
+    if matches!(landing.outcome, Outcome::Placed) {
+        return None;
+    }
+    let place = landed_place(scene.event, scene.transactions, landing);
+    Some(Reason::Landed(Landed {
+        landing: *landing,
+        stamped: stamped_at(scene, place),
+        cause: cause_at(scene, index.cause(landing)),
+        overflow: overflow_if(stood && is_gone(landing.outcome), scene.overflow),
+        fault,
+        entries: heard,
+        limit: scene.settings.history,
+    }))
+}

@@ -1,0 +1,73 @@
+ghost use Rattle.std.specs.Prelude.{◌≡◌, ◌∷◌, [], None, OnOk, IfOk};
+ghost use Rattle.gs_explain.specs.Noted.{filled, page_after};
+
+use gs_core::Reply;
+use gs_journal::Entry;
+use std::alloc::{AllocError, Global};
+
+/// What is noted of the lines of a script as its events happen.
+#[derive(Drop)]
+pub(crate) struct Lines {
+    /// The line that added each entry.
+    pub(crate) entries: Vec<usize>,
+    /// The line that stamped each transaction.
+    pub(crate) stamped: Vec<usize>,
+    /// The line that gave the agent that attaches its last page, if one did.
+    pub(crate) page: Option<usize>,
+}
+
+/// Adds a line for each of so many things that has none yet.
+fn fill(lines: &mut Vec<usize>, count: usize, line: usize) -> Result<(), AllocError>
+    ensures { OnOk result (lines.new.items ≡ filled count line lines.old.items) }
+{
+    if lines.len() < count {
+        lines.resize(count, line)?;
+    }
+    Ok(())
+}
+
+/// Returns the line of the last page, by the reply to an event of this line.
+fn page_after(line: usize, reply: &Reply, page: Option<usize>) -> Option<usize>
+    ensures { result ≡ page_after line reply.now page }
+{
+    match reply {
+        Reply::Page { next: None, .. } => Some(line),
+        Reply::Done(Entry::Begin { .. }) => None,
+        _ => page,
+    }
+}
+
+impl Lines {
+    /// Notes what is so at the beginning: the header's line added one entry.
+    pub(crate) fn new(alloc: Global, header: usize) -> Result<Lines, AllocError>
+        ensures entries { IfOk result (λ n. n.entries.items ≡ header ∷ []) }
+        ensures stamped { IfOk result (λ n. n.stamped.items ≡ []) }
+        ensures page { IfOk result (λ n. n.page ≡ None) }
+    {
+        let mut entries = Vec::new(alloc);
+        entries.push(header)?;
+        Ok(Lines {
+            entries,
+            stamped: Vec::new(alloc),
+            page: None,
+        })
+    }
+
+    /// Notes an event of a line: by its reply, and by how many entries and transactions there are behind it.
+    pub(crate) fn note(
+        &mut self,
+        line: usize,
+        reply: &Reply,
+        entries: usize,
+        transactions: usize,
+    ) -> Result<(), AllocError>
+        ensures entries { OnOk result (self.new.entries.items ≡ filled entries line self.old.entries.items) }
+        ensures stamped { OnOk result (self.new.stamped.items ≡ filled transactions line self.old.stamped.items) }
+        ensures page { OnOk result (self.new.page ≡ page_after line reply.now self.old.page) }
+    {
+        fill(&mut self.entries, entries, line)?;
+        fill(&mut self.stamped, transactions, line)?;
+        self.page = page_after(line, reply, self.page);
+        Ok(())
+    }
+}

@@ -1,0 +1,9 @@
+use Rattle.std.proofs.Common.{◌≡◌, ◌≤◌, ◌-◌, ◌==◌, true, length, take}
+use Rattle.std.specs.List.{list_all}
+use Rattle.gs_script.proofs.marked.spaces.Given as goal
+
+abbrev pub invariant-loop-count : goal.invariant-loop-count
+invariant-loop-count l = (l.count ≤ length l.text) × (list_all (λ b. b == 32) (take l.count l.text) ≡ true)
+
+abbrev pub decreases-loop-count : goal.decreases-loop-count
+decreases-loop-count l = length l.text - l.count

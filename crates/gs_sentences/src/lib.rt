@@ -1,0 +1,19 @@
+//! Sentences that say why an event came out as it did, with the values at hand.
+#![tactic(auto)]
+
+mod cause;
+mod group;
+mod landed;
+mod numbers;
+mod reason;
+mod refused;
+mod shared;
+mod subject;
+mod words;
+
+pub use cause::Cause;
+pub use landed::{Landed, Overflow, Stamped};
+pub use numbers::{Numbers, Waiting};
+pub use reason::{Reason, write_reason};
+pub use refused::Refused;
+pub use subject::{cpu_of, mask_of, tid_of};
