@@ -5,6 +5,7 @@ ghost use Rattle.gs_agent.specs.Role.{stamp_refusal};
 ghost use Rattle.gs_layout.specs.View.{look_up};
 ghost use Rattle.gs_mind.specs.Mind.{picture_of, thinks};
 ghost use Rattle.gs_mind.specs.Picture.{after_stamp};
+ghost use Rattle.gs_slots.specs.Flags.{single};
 ghost use Rattle.gs_slots.specs.declared.state.SlotState.{SlotState};
 ghost use Rattle.gs_slots.specs.Reading.{state_in};
 ghost use Rattle.gs_slots.specs.Spelling.{slot_spelling};

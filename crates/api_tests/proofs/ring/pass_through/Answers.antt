@@ -7,7 +7,7 @@ use Rattle.api_tests.proofs.ring.pass_through.Goals as goal
 
 -- what passes was posted before
 same_posts : (v w : RingState) (m : Message) → Passed v (m ∷ []) w → posts w ≡ posts v
-same_posts v w m h = omega (arith, h.taken, ap length h.unread)
+same_posts v w m h = omega (arith, h.consumed, ap length h.unread)
 
 pub returns : goal.returns
 returns c =
