@@ -38,9 +38,14 @@ most_entries (commands.HandOff c) = 2
 most_entries (commands.Activate c) = 2
 most_entries _ = 1
 
--- the first refusal of a command that holds while the enclave stands: after its own that the journal has no room
+-- the first refusal that holds while the enclave stands, of a command that has this one of its own and adds so many entries at most: after its own that
+-- the journal has no room
+abbrev pub standing_with : Settings → History → Option Refusal → ℕ → Option Refusal
+standing_with s h own n = or_else own (first_that ((is_full s h n, Some refusals.HistoryFull) ∷ []) None)
+
+-- the first refusal of a command that holds while the enclave stands
 abbrev pub standing_refusal : Settings → History → Bool → Command → Option Refusal
-standing_refusal s h given c = or_else (own_refusal s h given c) (first_that ((is_full s h (most_entries c), Some refusals.HistoryFull) ∷ []) None)
+standing_refusal s h given c = standing_with s h (own_refusal s h given c) (most_entries c)
 
 -- the first refusal of a command that holds
 abbrev pub refusal : Settings → History → Bool → Command → Option Refusal

@@ -18,32 +18,9 @@ use gs_layout::{Facts, Message};
 use gs_ring::Poster;
 
 impl<P: Poster> Kernel<P> {
-    /// Does a command that nothing refuses, and returns whether its message fits. There is room for all that it adds. If
-    /// the message does not fit, the call tears the enclave down in place of all this.
-    pub(crate) fn apply(&mut self, command: &Command) -> bool
-        requires free { refusal self.old.settings self.old.history self.old.paged command.now ≡ None }
-        requires room { most_entries command.now ≤ self.old.room }
-        requires rows { creates command.now ≡ true → 0 < self.old.rows }
-        ensures told { Tells (RoomOf P.same P.consumed P.posted P.tight self.old.poster) self.old.history (effect self.old.settings self.old.history command.now) result self.new.history }
-        ensures frame { Frame P.same P.consumed P.posted self.old self.new }
-    {
-        // A look at a field, by which the proof has what the kernel keeps.
-        let _settings = &self.settings;
-        match command {
-            Command::Create { facts } => self.tell_creation(facts),
-            Command::Thread { tid, event } => self.tell_happening(*tid, *event),
-            Command::Take { cpu } => self.tell_taking(*cpu),
-            Command::Give { cpu } => self.tell_giving(*cpu),
-            Command::Tick { cpu } => self.tell_tick(*cpu),
-            Command::HandOff { cpu } => self.tell_hand_off(*cpu),
-            Command::Leave => self.tell_leaving(),
-            Command::Begin => self.tell_beginning(),
-            Command::Activate { cpu } => self.tell_activation(*cpu),
-        }
-    }
-
     /// Creates a thread.
-    fn tell_creation(&mut self, facts: &Facts) -> bool
+    #[inline(always)]
+    pub(crate) fn tell_creation(&mut self, facts: &Facts) -> bool
         requires free { refusal self.old.settings self.old.history self.old.paged (Command.Create facts.now) ≡ None }
         requires room { 1 ≤ self.old.room }
         requires rows { 0 < self.old.rows }
@@ -55,7 +32,8 @@ impl<P: Poster> Kernel<P> {
     }
 
     /// Lets something happen to a thread.
-    fn tell_happening(&mut self, tid: u32, event: ThreadEvent) -> bool
+    #[inline(always)]
+    pub(crate) fn tell_happening(&mut self, tid: u32, event: ThreadEvent) -> bool
         requires free { refusal self.old.settings self.old.history self.old.paged (Command.Thread tid event) ≡ None }
         requires room { 1 ≤ self.old.room }
         ensures told { Tells (RoomOf P.same P.consumed P.posted P.tight self.old.poster) self.old.history (effect self.old.settings self.old.history (Command.Thread tid event)) result self.new.history }
@@ -66,7 +44,8 @@ impl<P: Poster> Kernel<P> {
     }
 
     /// Takes a CPU for the other class.
-    fn tell_taking(&mut self, cpu: u16) -> bool
+    #[inline(always)]
+    pub(crate) fn tell_taking(&mut self, cpu: u16) -> bool
         requires free { refusal self.old.settings self.old.history self.old.paged (Command.Take cpu) ≡ None }
         requires room { 2 ≤ self.old.room }
         ensures told { Tells (RoomOf P.same P.consumed P.posted P.tight self.old.poster) self.old.history (effect self.old.settings self.old.history (Command.Take cpu)) result self.new.history }
@@ -77,7 +56,8 @@ impl<P: Poster> Kernel<P> {
     }
 
     /// Gives a CPU back.
-    fn tell_giving(&mut self, cpu: u16) -> bool
+    #[inline(always)]
+    pub(crate) fn tell_giving(&mut self, cpu: u16) -> bool
         requires free { refusal self.old.settings self.old.history self.old.paged (Command.Give cpu) ≡ None }
         requires room { 1 ≤ self.old.room }
         ensures told { Tells (RoomOf P.same P.consumed P.posted P.tight self.old.poster) self.old.history (effect self.old.settings self.old.history (Command.Give cpu)) result self.new.history }
@@ -87,7 +67,8 @@ impl<P: Poster> Kernel<P> {
     }
 
     /// Lets the timer of a CPU tick.
-    fn tell_tick(&mut self, cpu: u16) -> bool
+    #[inline(always)]
+    pub(crate) fn tell_tick(&mut self, cpu: u16) -> bool
         requires free { refusal self.old.settings self.old.history self.old.paged (Command.Tick cpu) ≡ None }
         requires room { 1 ≤ self.old.room }
         ensures told { Tells (RoomOf P.same P.consumed P.posted P.tight self.old.poster) self.old.history (effect self.old.settings self.old.history (Command.Tick cpu)) result self.new.history }
@@ -99,7 +80,8 @@ impl<P: Poster> Kernel<P> {
     }
 
     /// Hands the active agent off to a CPU, as one of the next generation.
-    fn tell_hand_off(&mut self, cpu: u16) -> bool
+    #[inline(always)]
+    pub(crate) fn tell_hand_off(&mut self, cpu: u16) -> bool
         requires free { refusal self.old.settings self.old.history self.old.paged (Command.HandOff cpu) ≡ None }
         requires room { 2 ≤ self.old.room }
         ensures told { Tells (RoomOf P.same P.consumed P.posted P.tight self.old.poster) self.old.history (effect self.old.settings self.old.history (Command.HandOff cpu)) result self.new.history }
@@ -110,7 +92,8 @@ impl<P: Poster> Kernel<P> {
     }
 
     /// Lets the agent leave.
-    fn tell_leaving(&mut self) -> bool
+    #[inline(always)]
+    pub(crate) fn tell_leaving(&mut self) -> bool
         requires free { refusal self.old.settings self.old.history self.old.paged Command.Leave ≡ None }
         requires room { 1 ≤ self.old.room }
         ensures told { Tells (RoomOf P.same P.consumed P.posted P.tight self.old.poster) self.old.history (effect self.old.settings self.old.history Command.Leave) result self.new.history }
@@ -120,7 +103,8 @@ impl<P: Poster> Kernel<P> {
     }
 
     /// Lets a new agent begin to attach.
-    fn tell_beginning(&mut self) -> bool
+    #[inline(always)]
+    pub(crate) fn tell_beginning(&mut self) -> bool
         requires free { refusal self.old.settings self.old.history self.old.paged Command.Begin ≡ None }
         requires room { 1 ≤ self.old.room }
         ensures told { Tells (RoomOf P.same P.consumed P.posted P.tight self.old.poster) self.old.history (effect self.old.settings self.old.history Command.Begin) result self.new.history }
@@ -131,7 +115,8 @@ impl<P: Poster> Kernel<P> {
     }
 
     /// Activates the agent that attaches, on a CPU.
-    fn tell_activation(&mut self, cpu: u16) -> bool
+    #[inline(always)]
+    pub(crate) fn tell_activation(&mut self, cpu: u16) -> bool
         requires free { refusal self.old.settings self.old.history self.old.paged (Command.Activate cpu) ≡ None }
         requires room { 2 ≤ self.old.room }
         ensures told { Tells (RoomOf P.same P.consumed P.posted P.tight self.old.poster) self.old.history (effect self.old.settings self.old.history (Command.Activate cpu)) result self.new.history }
@@ -143,7 +128,8 @@ impl<P: Poster> Kernel<P> {
 
     /// Appends an entry, behind the message to the thread that makes way for it, if there is one. Returns whether that
     /// fits, as [`Kernel::tell`] does.
-    fn tell_entry(&mut self, victim: Option<Message>, entry: Entry) -> bool
+    #[inline(always)]
+    pub(crate) fn tell_entry(&mut self, victim: Option<Message>, entry: Entry) -> bool
         requires due { ComesNext self.old.settings self.old.history (Effect.Append victim entry) }
         requires spellable { IfSome victim IsSpellable }
         requires room { length (entries_in (Effect.Append victim entry)) ≤ self.old.room }

@@ -1,10 +1,11 @@
 //! Commands are executed.
 
-ghost use Rattle.std.specs.Prelude.{◌≡◌, ◌<◌, ◌≤◌, Ok, OnErr, OnOk, None, true};
+ghost use Rattle.std.specs.Prelude.{◌≡◌, ◌≤◌, IfErr, OnErr, OnOk, None, Some};
+ghost use Rattle.gs_journal.specs.History.{posted};
 ghost use Rattle.gs_kernel.specs.declared.command.Command.{Command};
-ghost use Rattle.gs_kernel.specs.declared.executed.Executed.{Executed};
 ghost use Rattle.gs_kernel.specs.declared.thread_event.ThreadEvent.{ThreadEvent};
-ghost use Rattle.gs_kernel.specs.Legal.{IsServed, creates, most_entries, own_refusal, paged_by, refusal};
+ghost use Rattle.gs_kernel.specs.Legal.{IsServed, is_done, own_refusal, refusal, standing_with};
+ghost use Rattle.gs_kernel.specs.Kernel.{IsRefusal, unless_torn};
 
 use crate::command::Command;
 use crate::executed::Executed;
@@ -26,17 +27,40 @@ impl<P: Poster> Kernel<P> {
     pub fn execute(&mut self, command: &Command) -> Result<Executed, Refusal>
         ensures { IsServed P.same P.consumed P.posted P.tight self.old command.now result self.new }
     {
-        // A look at a field, by which the proof has what the kernel keeps.
-        let _settings = &self.settings;
-        if let Some(refusal) = self.refusal(command) {
-            return Err(refusal);
+        match command {
+            Command::Create { facts } => self.create(facts),
+            Command::Thread { tid, event } => self.happen(*tid, *event),
+            Command::Take { cpu } => self.take(*cpu),
+            Command::Give { cpu } => self.give(*cpu),
+            Command::Tick { cpu } => self.tick(*cpu),
+            Command::HandOff { cpu } => self.hand_off(*cpu),
+            Command::Leave => self.leave(),
+            Command::Begin => self.begin(),
+            Command::Activate { cpu } => self.activate(*cpu),
         }
-        self.make_room(command)?;
-        if !self.apply(command) {
-            return Ok(Executed::Torn);
+    }
+
+    /// Executes what happens to a thread, whose kind the caller says.
+    #[inline(always)]
+    fn happen_known(&mut self, tid: u32, event: &ThreadEvent) -> Result<Executed, Refusal>
+        ensures { IsServed P.same P.consumed P.posted P.tight self.old (Command.Thread tid event.now) result self.new }
+    {
+        let own = self.thread_refusal(tid, *event);
+        self.admit(own, 1)?;
+        Ok(executed(self.tell_happening(tid, *event)))
+    }
+
+    /// Executes what happens to a thread.
+    fn happen(&mut self, tid: u32, event: ThreadEvent) -> Result<Executed, Refusal>
+        ensures { IsServed P.same P.consumed P.posted P.tight self.old (Command.Thread tid event) result self.new }
+    {
+        match event {
+            ThreadEvent::Block => self.block(tid),
+            ThreadEvent::Wake => self.wake(tid),
+            ThreadEvent::Yield => self.yield_cpu(tid),
+            ThreadEvent::Die => self.die(tid),
+            ThreadEvent::Affinity { mask } => self.affinity(tid, mask),
         }
-        self.paged = paged_after(command, self.paged);
-        Ok(Executed::Done)
     }
 
     /// Returns why a command is refused, apart from `OutOfMemory`: the first refusal that applies. It does
@@ -62,16 +86,8 @@ impl<P: Poster> Kernel<P> {
     pub fn refusal(&self, command: &Command) -> Option<Refusal>
         ensures { result ≡ refusal self.now.settings self.now.history self.now.paged command.now }
     {
-        if self.torn {
-            return Some(Refusal::Gone);
-        }
-        if let Some(refusal) = self.own_refusal(command) {
-            return Some(refusal);
-        }
-        if self.is_full(command.most_entries()) {
-            return Some(Refusal::HistoryFull);
-        }
-        None
+        self.check(self.own_refusal(command), command.most_entries())
+            .err()
     }
 
     /// Returns the first refusal that a command has of its own.
@@ -91,17 +107,51 @@ impl<P: Poster> Kernel<P> {
         }
     }
 
-    /// Makes room for all that a command adds.
-    fn make_room(&mut self, command: &Command) -> Result<(), AllocError>
-        ensures room { OnOk result (most_entries command.now ≤ self.new.room) }
-        ensures rows { OnOk result (creates command.now ≡ true → 0 < self.new.rows) }
-        ensures same { self.new ≡ record self.old { room = self.new.room; rows = self.new.rows } }
-        ensures refused { OnErr result (self.new ≡ record self.old { rows = self.new.rows }) }
+    /// Returns the refusal of a command that has this one of its own and adds so many entries at most.
+    #[inline(always)]
+    fn check(&self, own: Option<Refusal>, entries: usize) -> Result<(), Refusal>
+        requires { entries ≤ 2 }
+        ensures ok { OnOk result (unless_torn self.now.history (standing_with self.now.settings self.now.history own entries) ≡ None) }
+        ensures err { IfErr result (λ e. unless_torn self.now.history (standing_with self.now.settings self.now.history own entries) ≡ Some e) }
     {
-        if command.creates() {
-            self.threads.reserve()?;
+        if self.torn {
+            return Err(Refusal::Gone);
         }
-        match self.journal.reserve(command.most_entries()) {
+        if let Some(refusal) = own {
+            return Err(refusal);
+        }
+        if self.is_full(entries) {
+            return Err(Refusal::HistoryFull);
+        }
+        Ok(())
+    }
+
+    /// Makes room for the entries of a command that has this refusal of its own, or refuses it.
+    #[inline(always)]
+    fn admit(&mut self, own: Option<Refusal>, entries: usize) -> Result<(), Refusal>
+        requires { entries ≤ 2 }
+        ensures ok { OnOk result (unless_torn self.old.history (standing_with self.old.settings self.old.history own entries) ≡ None) }
+        ensures room { OnOk result (entries ≤ self.new.room) }
+        ensures same { self.new ≡ record self.old { room = self.new.room } }
+        ensures err { IfErr result (IsRefusal (unless_torn self.old.history (standing_with self.old.settings self.old.history own entries))) }
+        ensures refused { OnErr result (self.new ≡ self.old) }
+        ensures told { P.posted self.new.poster (posted self.new.history) }
+    {
+        // A look at a field, by which the proof has what the kernel keeps.
+        let _settings = &self.settings;
+        self.check(own, entries)?;
+        self.make_room(entries)?;
+        Ok(())
+    }
+
+    /// Makes room for so many more entries.
+    #[inline(always)]
+    fn make_room(&mut self, entries: usize) -> Result<(), AllocError>
+        ensures room { OnOk result (entries ≤ self.new.room) }
+        ensures same { self.new ≡ record self.old { room = self.new.room } }
+        ensures refused { OnErr result (self.new ≡ self.old) }
+    {
+        match self.journal.reserve(entries) {
             Ok(()) => Ok(()),
             Err(_) => Err(AllocError),
         }
@@ -111,112 +161,117 @@ impl<P: Poster> Kernel<P> {
     pub fn create(&mut self, facts: &Facts) -> Result<Executed, Refusal>
         ensures { IsServed P.same P.consumed P.posted P.tight self.old (Command.Create facts.now) result self.new }
     {
-        self.execute(&Command::Create { facts: *facts })
+        let own = self.create_refusal(facts);
+        self.check(own, 1)?;
+        self.threads.reserve()?;
+        self.make_room(1)?;
+        Ok(executed(self.tell_creation(facts)))
     }
 
     /// Blocks a thread, on its CPU.
     pub fn block(&mut self, tid: u32) -> Result<Executed, Refusal>
         ensures { IsServed P.same P.consumed P.posted P.tight self.old (Command.Thread tid ThreadEvent.Block) result self.new }
     {
-        self.execute(&Command::Thread {
-            tid,
-            event: ThreadEvent::Block,
-        })
+        self.happen_known(tid, &ThreadEvent::Block)
     }
 
     /// Wakes a thread, which may run again.
     pub fn wake(&mut self, tid: u32) -> Result<Executed, Refusal>
         ensures { IsServed P.same P.consumed P.posted P.tight self.old (Command.Thread tid ThreadEvent.Wake) result self.new }
     {
-        self.execute(&Command::Thread {
-            tid,
-            event: ThreadEvent::Wake,
-        })
+        self.happen_known(tid, &ThreadEvent::Wake)
     }
 
     /// Gives up a thread's CPU. The thread may run on.
     pub fn yield_cpu(&mut self, tid: u32) -> Result<Executed, Refusal>
         ensures { IsServed P.same P.consumed P.posted P.tight self.old (Command.Thread tid ThreadEvent.Yield) result self.new }
     {
-        self.execute(&Command::Thread {
-            tid,
-            event: ThreadEvent::Yield,
-        })
+        self.happen_known(tid, &ThreadEvent::Yield)
     }
 
     /// Ends a thread.
     pub fn die(&mut self, tid: u32) -> Result<Executed, Refusal>
         ensures { IsServed P.same P.consumed P.posted P.tight self.old (Command.Thread tid ThreadEvent.Die) result self.new }
     {
-        self.execute(&Command::Thread {
-            tid,
-            event: ThreadEvent::Die,
-        })
+        self.happen_known(tid, &ThreadEvent::Die)
     }
 
     /// Sets the mask of a thread: from now on it may run on the CPUs of the mask.
     pub fn affinity(&mut self, tid: u32, mask: Mask) -> Result<Executed, Refusal>
         ensures { IsServed P.same P.consumed P.posted P.tight self.old (Command.Thread tid (ThreadEvent.Affinity mask)) result self.new }
     {
-        self.execute(&Command::Thread {
-            tid,
-            event: ThreadEvent::Affinity { mask },
-        })
+        self.happen_known(tid, &ThreadEvent::Affinity { mask })
     }
 
     /// Takes a CPU for the other scheduling class.
     pub fn take(&mut self, cpu: u16) -> Result<Executed, Refusal>
         ensures { IsServed P.same P.consumed P.posted P.tight self.old (Command.Take cpu) result self.new }
     {
-        self.execute(&Command::Take { cpu })
+        let own = self.take_refusal(cpu);
+        self.admit(own, 2)?;
+        Ok(executed(self.tell_taking(cpu)))
     }
 
     /// Gives a CPU back that the other scheduling class holds.
     pub fn give(&mut self, cpu: u16) -> Result<Executed, Refusal>
         ensures { IsServed P.same P.consumed P.posted P.tight self.old (Command.Give cpu) result self.new }
     {
-        self.execute(&Command::Give { cpu })
+        let own = self.give_refusal(cpu);
+        self.admit(own, 1)?;
+        Ok(executed(self.tell_giving(cpu)))
     }
 
     /// Ticks the timer of a CPU.
     pub fn tick(&mut self, cpu: u16) -> Result<Executed, Refusal>
         ensures { IsServed P.same P.consumed P.posted P.tight self.old (Command.Tick cpu) result self.new }
     {
-        self.execute(&Command::Tick { cpu })
+        let own = self.tick_refusal(cpu);
+        self.admit(own, 1)?;
+        Ok(executed(self.tell_tick(cpu)))
     }
 
     /// Hands the active agent over to a CPU.
     pub fn hand_off(&mut self, cpu: u16) -> Result<Executed, Refusal>
         ensures { IsServed P.same P.consumed P.posted P.tight self.old (Command.HandOff cpu) result self.new }
     {
-        self.execute(&Command::HandOff { cpu })
+        let own = self.hand_off_refusal(cpu);
+        self.admit(own, 2)?;
+        Ok(executed(self.tell_hand_off(cpu)))
     }
 
     /// Ends the agent, which leaves or crashed.
     pub fn leave(&mut self) -> Result<Executed, Refusal>
         ensures { IsServed P.same P.consumed P.posted P.tight self.old Command.Leave result self.new }
     {
-        self.execute(&Command::Leave)
+        let own = self.leave_refusal();
+        self.admit(own, 1)?;
+        Ok(executed(self.tell_leaving()))
     }
 
     /// Begins a new agent, which attaches then.
     pub fn begin(&mut self) -> Result<Executed, Refusal>
         ensures { IsServed P.same P.consumed P.posted P.tight self.old Command.Begin result self.new }
     {
-        self.execute(&Command::Begin)
+        let own = self.begin_refusal();
+        self.admit(own, 1)?;
+        let fits = self.tell_beginning();
+        self.paged = self.paged && !fits;
+        Ok(executed(fits))
     }
 
     /// Activates the agent that attaches, on a CPU.
     pub fn activate(&mut self, cpu: u16) -> Result<Executed, Refusal>
         ensures { IsServed P.same P.consumed P.posted P.tight self.old (Command.Activate cpu) result self.new }
     {
-        self.execute(&Command::Activate { cpu })
+        let own = self.activate_refusal(cpu);
+        self.admit(own, 2)?;
+        Ok(executed(self.tell_activation(cpu)))
     }
 }
 
-/// Returns whether the last page was given since the last begin, once a command was done.
-fn paged_after(command: &Command, paged: bool) -> bool
-    ensures { result ≡ paged_by (Ok Executed.Done) command.now paged }
+/// Returns what became of a command whose message fits or does not.
+fn executed(fits: bool) -> Executed
+    ensures { is_done result ≡ fits }
 {
-    paged && !matches!(command, Command::Begin)
+    if fits { Executed::Done } else { Executed::Torn }
 }

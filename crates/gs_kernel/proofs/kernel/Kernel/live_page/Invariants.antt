@@ -1,4 +1,4 @@
-use Rattle.std.proofs.Common.{◌≡◌, ◌≤◌, length, map, take, drop}
+use Rattle.std.proofs.Common.{◌≡◌, ◌≤◌, length, take, drop}
 use Rattle.std.specs.List.{AllByRecursion, filter_map}
 use Rattle.gs_dump.specs.Record.{IsLive}
 use Rattle.gs_kernel.specs.Shown.{by_row, live_from}
