@@ -3,8 +3,8 @@
 ghost use Rattle.std.specs.Prelude.{◌≡◌, ◌<◌, IfErr, IfOk, OnErr, OnOk, Some, length, slice_get, slice_set, true, false, ℕ, List};
 ghost use Rattle.gs_agent.specs.Role.{stamp_refusal};
 ghost use Rattle.gs_layout.specs.View.{look_up};
-ghost use Rattle.gs_mind.specs.Mind.{picture_of, thinks};
-ghost use Rattle.gs_mind.specs.Picture.{after_stamp};
+ghost use Rattle.gs_agent.specs.Mind.{picture_of, thinks};
+ghost use Rattle.gs_agent.specs.Picture.{after_stamp};
 ghost use Rattle.gs_slots.specs.Flags.{single};
 ghost use Rattle.gs_slots.specs.declared.state.SlotState.{SlotState};
 ghost use Rattle.gs_slots.specs.Reading.{state_in};

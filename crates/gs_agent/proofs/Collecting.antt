@@ -13,8 +13,8 @@ use Rattle.gs_slots.specs.Reading.{all_collected, by_cpu, collected_in, idle_if_
 use Rattle.gs_slots.specs.Spelling.{idle_bytes}
 use Rattle.gs_slots.specs.State.{Held, is_grouped, told_in}
 use Rattle.gs_slots.proofs.Laws.{by_cpu_at, by_cpu_count, by_cpu_more, by_cpu_stays, clears_once, flag_is, none_before, none_left as none_is_left, quiet_read, set_as_it_was}
-use Rattle.gs_mind.specs.Mind.{MindState, picture_of, thinks}
-use Rattle.gs_mind.specs.Picture.{Picture, after_all, after_slot, after_slots, if_grouped, if_single}
+use Rattle.gs_agent.specs.Mind.{MindState, picture_of, thinks}
+use Rattle.gs_agent.specs.Picture.{Picture, after_all, after_slot, after_slots, if_grouped, if_single}
 use Rattle.gs_agent.specs.Collected.{IsCollected, is_wanted, left_if, told_if}
 
 same_slot : (x y : SlotState) → Some x ≡ Some y → x ≡ y

@@ -16,9 +16,9 @@ use Rattle.gs_agent.specs.declared.drained.Drained.{Drained}
 use Rattle.gs_agent.specs.declared.drained.Stop.{Stop}
 use Rattle.gs_agent.specs.declared.drained.Stop.TheVariants as stops
 use Rattle.gs_agent.specs.Drains.{Took, TookFirst, count_word}
-use Rattle.gs_mind.proofs.Laws.{view_takes_all}
-use Rattle.gs_mind.specs.Mind.{MindState, picture_of}
-use Rattle.gs_mind.specs.Picture.{Picture, takes_in, takes_in_all}
+use Rattle.gs_agent.proofs.Laws.{view_takes_all}
+use Rattle.gs_agent.specs.Mind.{MindState, picture_of}
+use Rattle.gs_agent.specs.Picture.{Picture, takes_in, takes_in_all}
 
 takes_push : (p : Picture) (ms : List Message) (m : Message) → takes_in_all p (ms ++ m ∷ []) ≡ takes_in m (takes_in_all p ms)
 takes_push p [] m = refl

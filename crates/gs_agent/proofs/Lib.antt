@@ -1,2 +1,10 @@
+mod Believing
+mod Followed
+mod Rooms
+mod Minds
+mod Paged
+mod Views
+mod Rows
+pub mod Laws
 pub mod Draining
 pub mod Collecting

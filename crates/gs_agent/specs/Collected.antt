@@ -3,8 +3,8 @@ use Rattle.std.specs.Prelude.{Bool, true, false, ◌≡◌, ◌++◌, ℕ, List,
 use Rattle.gs_slots.specs.declared.state.SlotState.{SlotState}
 use Rattle.gs_slots.specs.declared.state.SlotState.TheVariants.{Idle}
 use Rattle.gs_slots.specs.Reading.{by_cpu, collected_in, is_flagged, state_in, state_or_idle}
-use Rattle.gs_mind.specs.Mind.{MindState, picture_of, thinks}
-use Rattle.gs_mind.specs.Picture.{after_slots}
+use Rattle.gs_agent.specs.Mind.{MindState, picture_of, thinks}
+use Rattle.gs_agent.specs.Picture.{after_slots}
 
 -- whether a slot with these bytes is one of those that are wanted: those with the flag of a group, or all
 abbrev pub is_wanted : Bool → List ℕ → Bool

@@ -7,8 +7,8 @@ use Rattle.gs_layout.specs.View.{catch_up, look_up, word, words, is_gap, is_skip
 use Rattle.gs_view.specs.Begins.{begins}
 use Rattle.gs_view.specs.declared.fault.ApplyFault.{ApplyFault}
 use Rattle.gs_view.specs.declared.fault.ApplyFault.TheVariants as faults
-use Rattle.gs_mind.specs.Mind.{MindState, picture_of}
-use Rattle.gs_mind.specs.Picture.{Picture, takes_in_all}
+use Rattle.gs_agent.specs.Mind.{MindState, picture_of}
+use Rattle.gs_agent.specs.Picture.{Picture, takes_in_all}
 use Rattle.gs_agent.specs.declared.drained.Drained.{Drained}
 use Rattle.gs_agent.specs.declared.drained.Stop.{Stop}
 use Rattle.gs_agent.specs.declared.drained.Stop.TheVariants as stops

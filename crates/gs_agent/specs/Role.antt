@@ -5,7 +5,7 @@ use Rattle.gs_layout.specs.declared.refusal.Refusal.{Refusal}
 use Rattle.gs_layout.specs.declared.refusal.Refusal.TheVariants.{NoThread, SlotOpen}
 use Rattle.gs_slots.specs.declared.state.SlotState.TheVariants.{Idle, Stamped, Done}
 use Rattle.gs_slots.specs.State.{Held}
-use Rattle.gs_mind.specs.Mind.{MindState}
+use Rattle.gs_agent.specs.Mind.{MindState}
 
 -- what the agent has in mind, its generation, its policy, and where the next page begins, none if it needs no more
 pub record RoleOf (P : Type 0) : Type 0 where

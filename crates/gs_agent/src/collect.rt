@@ -5,11 +5,11 @@ ghost use Rattle.gs_status.specs.Masks.{has};
 ghost use Rattle.gs_slots.specs.Busy.{CoversBusy};
 ghost use Rattle.gs_slots.specs.SlotMut.{bytes_of, cpu_of, left_in, state_of};
 ghost use Rattle.gs_slots.specs.Reading.{all_collected, by_cpu, collected_in, state_or_idle, told_by};
-ghost use Rattle.gs_mind.specs.Mind.{picture_of, thinks};
-ghost use Rattle.gs_mind.specs.Picture.{after_all, after_slot, after_slots};
+ghost use Rattle.gs_agent.specs.Mind.{picture_of, thinks};
+ghost use Rattle.gs_agent.specs.Picture.{after_all, after_slot, after_slots};
 ghost use Rattle.gs_agent.specs.Collected.{IsCollected, is_wanted, left_if, told_if};
 
-use gs_mind::Mind;
+use crate::mind::Mind;
 use gs_slots::{Region, SlotMut, SlotState};
 use gs_status::{MOST_CPUS, Mask};
 

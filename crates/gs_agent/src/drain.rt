@@ -7,10 +7,10 @@ ghost use Rattle.gs_view.specs.Begins.{begins};
 ghost use Rattle.gs_view.specs.News.{word_of};
 ghost use Rattle.gs_ring.specs.Batches.{messages_of};
 ghost use Rattle.gs_agent.specs.Drains.{TookFirst, Took, count_word, stop_of};
-ghost use Rattle.gs_mind.specs.Mind.{picture_of};
+ghost use Rattle.gs_agent.specs.Mind.{picture_of};
 
 use crate::drained::{Drained, Stop};
-use gs_mind::Mind;
+use crate::mind::Mind;
 use gs_reader::MessageRef;
 use gs_ring::{Batch, Taker, Waiting};
 use gs_view::{ApplyFault, News};

@@ -13,8 +13,8 @@ use Rattle.gs_journal.specs.declared.entry.Entry.TheVariants.{Role}
 use Rattle.gs_journal.specs.Standing.{standing, last_of}
 use Rattle.gs_journal.specs.History.{active, attaching}
 use Rattle.gs_kernel.specs.Lands.{Landings}
-use Rattle.gs_mind.specs.Mind.{picture_of}
-use Rattle.gs_mind.specs.Picture.{Picture, after_all, after_stamp}
+use Rattle.gs_agent.specs.Mind.{picture_of}
+use Rattle.gs_agent.specs.Picture.{Picture, after_all, after_stamp}
 use Rattle.gs_policy.specs.declared.choice.Choice.{Choice}
 use Rattle.gs_agent.specs.declared.drained.Drained.{Drained}
 use Rattle.gs_replies.specs.declared.config.Config.{Config}

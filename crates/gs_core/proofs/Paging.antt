@@ -17,10 +17,10 @@ use Rattle.gs_beliefs.specs.declared.running.Running.{Running}
 use Rattle.gs_beliefs.specs.Cpus.{Cpus, running}
 use Rattle.gs_beliefs.proofs.Laws.{count_places}
 use Rattle.gs_view.specs.Loaded.{loaded, told_of}
-use Rattle.gs_mind.specs.Mind.{MindState, picture_of}
-use Rattle.gs_mind.specs.Pages.{after_page, after_record, told_on}
-use Rattle.gs_mind.specs.Picture.{Picture}
-use Rattle.gs_mind.proofs.Laws.{stamped_outcome, view_paged}
+use Rattle.gs_agent.specs.Mind.{MindState, picture_of}
+use Rattle.gs_agent.specs.Pages.{after_page, after_record, told_on}
+use Rattle.gs_agent.specs.Picture.{Picture}
+use Rattle.gs_agent.proofs.Laws.{stamped_outcome, view_paged}
 use Rattle.gs_core.specs.Machine.{Agent, State}
 use Rattle.gs_core.specs.Good.{Faces, Good}
 use Rattle.gs_core.specs.Held.{Kept}

@@ -17,8 +17,8 @@ use Rattle.gs_journal.specs.State.{IsNumbered}
 use Rattle.gs_journal.proofs.Laws.{same_view}
 use Rattle.gs_kernel.specs.Lands.{Landings}
 use Rattle.gs_beliefs.proofs.Laws.{believed_on_unknown}
-use Rattle.gs_mind.specs.Mind.{picture_of}
-use Rattle.gs_mind.specs.Picture.{Picture, after_all, after_stamp}
+use Rattle.gs_agent.specs.Mind.{picture_of}
+use Rattle.gs_agent.specs.Picture.{Picture, after_all, after_stamp}
 use Rattle.gs_policy.specs.declared.choice.Choice.{Choice}
 use Rattle.gs_agent.specs.declared.drained.Drained.{Drained}
 use Rattle.gs_replies.specs.declared.config.Config.{Config}

@@ -11,7 +11,7 @@ use Rattle.gs_journal.specs.History.{History, active, attaching, messages, poste
 use Rattle.gs_journal.specs.State.{Numbered, IsNumbered}
 use Rattle.gs_threads.specs.Mirrors.{is_quiet}
 use Rattle.gs_beliefs.proofs.Laws.{believed_on_unknown}
-use Rattle.gs_mind.specs.Mind.{nothing}
+use Rattle.gs_agent.specs.Mind.{nothing}
 use Rattle.gs_core.specs.Machine.{Plan, State}
 use Rattle.gs_core.specs.Good.{Faces, Good, IsMissed, IsTold, read_of, told, unread_of}
 use Rattle.gs_core.specs.Held.{Kept}

@@ -2,7 +2,7 @@
 use Rattle.std.specs.Prelude.{ℕ, Option, option_map}
 use Rattle.gs_journal.specs.declared.entry.Entry.{Entry}
 use Rattle.gs_journal.specs.declared.entry.Entry.TheVariants.{Role}
-use Rattle.gs_mind.specs.Mind.{moved}
+use Rattle.gs_agent.specs.Mind.{moved}
 use Rattle.gs_agent.specs.Role.{RoleOf}
 
 -- a role on a CPU, of a generation

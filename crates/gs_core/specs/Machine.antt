@@ -35,9 +35,9 @@ use Rattle.gs_ring.specs.Places.{free_after, need, record_len, written}
 use Rattle.gs_policy.specs.Shown.{Shown}
 use Rattle.gs_policy.specs.declared.choice.Choice.{Choice}
 use Rattle.gs_view.specs.Begins.{begins}
-use Rattle.gs_mind.specs.Mind.{MindState, moved, nothing, picture_of, shown_in, thinks}
-use Rattle.gs_mind.specs.Picture.{Picture, after_all, after_stamp, takes_in_all}
-use Rattle.gs_mind.specs.Pages.{after_page}
+use Rattle.gs_agent.specs.Mind.{MindState, moved, nothing, picture_of, shown_in, thinks}
+use Rattle.gs_agent.specs.Picture.{Picture, after_all, after_stamp, takes_in_all}
+use Rattle.gs_agent.specs.Pages.{after_page}
 use Rattle.gs_view.specs.Shown.{tids}
 use Rattle.std.specs.List.Sorted.{IsStrictlyIncreasing}
 use Rattle.gs_replies.specs.declared.config.Config.{Config}

@@ -2,7 +2,7 @@
 use Rattle.std.specs.Prelude.{ℕ, Option, None, Some, List, replicate}
 use Rattle.gs_agent.specs.Role.{RoleOf}
 use Rattle.gs_link.specs.declared.taker.RtrbTaker.{RtrbTaker}
-use Rattle.gs_mind.specs.Mind.{nothing}
+use Rattle.gs_agent.specs.Mind.{nothing}
 use Rattle.gs_replies.specs.declared.config.Config.{Config}
 use Rattle.gs_slots.specs.Spelling.{idle_bytes}
 

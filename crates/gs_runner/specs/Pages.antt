@@ -3,8 +3,8 @@ use Rattle.std.specs.Prelude.{◌≡◌, ℕ, List}
 use Rattle.gs_agent.specs.Role.{RoleOf}
 use Rattle.gs_dump.specs.Page.{Contents}
 use Rattle.gs_dump.specs.Reading.{IsSpelled}
-use Rattle.gs_mind.specs.Mind.{picture_of}
-use Rattle.gs_mind.specs.Pages.{after_page}
+use Rattle.gs_agent.specs.Mind.{picture_of}
+use Rattle.gs_agent.specs.Pages.{after_page}
 use Rattle.gs_replies.specs.declared.reply.Reply.{Reply}
 use Rattle.gs_replies.specs.declared.reply.Reply.TheVariants as replies
 use Rattle.gs_runner.specs.declared.command.Command.{Command}

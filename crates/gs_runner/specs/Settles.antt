@@ -11,8 +11,8 @@ use Rattle.gs_agent.specs.declared.drained.Stop.{Stop}
 use Rattle.gs_agent.specs.declared.drained.Stop.TheVariants.{Gap, Memory}
 use Rattle.gs_link.specs.declared.taker.RtrbTaker.{RtrbTaker}
 use Rattle.gs_link.specs.Between.{Ahead, Gave, Passed}
-use Rattle.gs_mind.specs.Mind.{picture_of}
-use Rattle.gs_mind.specs.Picture.{takes_in_all}
+use Rattle.gs_agent.specs.Mind.{picture_of}
+use Rattle.gs_agent.specs.Picture.{takes_in_all}
 use Rattle.gs_runner.specs.declared.settling.Unsettled.{Unsettled}
 use Rattle.gs_runner.specs.declared.settling.Unsettled.TheVariants.{Torn, NoAgent, Stopped, Differs}
 use Rattle.gs_runner.specs.Enclaves.{EnclaveOf}

@@ -8,7 +8,7 @@ use Rattle.gs_journal.specs.declared.entry.Entry.TheVariants as entries
 use Rattle.gs_layout.specs.declared.message.Message.{Message}
 use Rattle.gs_link.specs.declared.taker.RtrbTaker.{RtrbTaker}
 use Rattle.gs_link.specs.Between.{Passed}
-use Rattle.gs_mind.specs.Mind.{moved, nothing, picture_of}
+use Rattle.gs_agent.specs.Mind.{moved, nothing, picture_of}
 use Rattle.gs_replies.specs.declared.reply.Reply.{Reply}
 use Rattle.gs_replies.specs.declared.reply.Reply.TheVariants as replies
 use Rattle.std.specs.Prelude.{List}

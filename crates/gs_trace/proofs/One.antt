@@ -26,9 +26,9 @@ use Rattle.gs_replies.specs.declared.reply.Reply.{Reply}
 use Rattle.gs_replies.specs.declared.reply.Reply.TheVariants as replies
 use Rattle.gs_policy.specs.declared.choice.Choice.{Choice}
 use Rattle.gs_runq.specs.Queue.{order}
-use Rattle.gs_mind.specs.Mind.{picture_of}
-use Rattle.gs_mind.specs.Pages.{after_page}
-use Rattle.gs_mind.specs.Picture.{Picture, after_all, after_stamp, takes_in_all}
+use Rattle.gs_agent.specs.Mind.{picture_of}
+use Rattle.gs_agent.specs.Pages.{after_page}
+use Rattle.gs_agent.specs.Picture.{Picture, after_all, after_stamp, takes_in_all}
 use Rattle.gs_core.specs.Machine.{Attaches, Plan, State, Agent, crashed, freed_by, led, next_dump, page_of, planned, planned_by, mind_of, picture, thinking, committed, fits, view, unread, is_idle, refusal, Serves, Step, Does, IsShort, Takes, Drains, stamps, stamps_with, stamps_all, plan_of}
 use Rattle.gs_replies.specs.Replies.{page_reply, reply_of}
 use Rattle.gs_core.specs.declared.transaction.Transaction.{Transaction}

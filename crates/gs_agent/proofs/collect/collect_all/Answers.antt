@@ -1,7 +1,7 @@
 use Rattle.std.proofs.Common.{◌∙◌, List, true, ℕ, ap}
 use Rattle.gs_slots.specs.Reading.{by_cpu}
-use Rattle.gs_mind.specs.Mind.{picture_of, thinks}
-use Rattle.gs_mind.specs.Picture.{after_slots}
+use Rattle.gs_agent.specs.Mind.{picture_of, thinks}
+use Rattle.gs_agent.specs.Picture.{after_slots}
 use Rattle.gs_agent.specs.Collected.{left_if, told_if}
 use Rattle.gs_agent.proofs.Collecting.{both_left, both_told, busy_covers, busy_within, still_covers, still_within}
 use Rattle.gs_agent.proofs.collect.collect_all.Goals as goal

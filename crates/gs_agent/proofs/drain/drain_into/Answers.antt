@@ -1,7 +1,7 @@
 use Rattle.std.proofs.Common.{◌≡◌, ◌-◌, List, [], ◌++◌, length, take, ap, sym, subst, ◌∙◌, arith, length-append}
 use Rattle.gs_layout.specs.declared.message.Message.{Message}
 use Rattle.gs_ring.specs.Batches.{messages_of}
-use Rattle.gs_mind.specs.Mind.{picture_of}
+use Rattle.gs_agent.specs.Mind.{picture_of}
 use Rattle.gs_agent.proofs.Draining.{first_done, left_after, next_ahead, no_messages, none_where}
 use Rattle.gs_agent.proofs.drain.drain_into.Goals as goal
 

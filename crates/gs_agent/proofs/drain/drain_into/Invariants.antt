@@ -1,7 +1,7 @@
 use Rattle.std.proofs.Common.{◌≡◌, ◌-◌, ◌≤◌, List, None}
 use Rattle.gs_layout.specs.declared.message.Message.{Message}
 use Rattle.gs_agent.specs.Drains.{Took}
-use Rattle.gs_mind.specs.Mind.{picture_of}
+use Rattle.gs_agent.specs.Mind.{picture_of}
 use Rattle.gs_agent.proofs.drain.drain_into.Given as goal
 
 abbrev pub invariant-taking : goal.invariant-taking

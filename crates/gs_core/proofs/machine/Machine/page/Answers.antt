@@ -6,8 +6,8 @@ use Rattle.gs_ring.specs.RingState.{RingState}
 use Rattle.gs_kernel.specs.Kernel.{KernelOf}
 use Rattle.gs_core.proofs.Posting.{with_kernel}
 use Rattle.gs_dump.specs.Page.{Contents}
-use Rattle.gs_mind.specs.Mind.{picture_of}
-use Rattle.gs_mind.specs.Pages.{after_page}
+use Rattle.gs_agent.specs.Mind.{picture_of}
+use Rattle.gs_agent.specs.Pages.{after_page}
 use Rattle.gs_agent.specs.Role.{RoleOf}
 use Rattle.gs_kernel.specs.Attaching.{page_refusal}
 use Rattle.gs_kernel.specs.Dumped.{dumped, paged_after}

@@ -1,0 +1,137 @@
+//! Bringing the queue up to date with what is known and believed.
+
+ghost use Rattle.std.specs.Prelude.{◌≡◌, ◌≤◌, ℕ, None, is_some, true, if◌then◌else◌, option_map, IfErr, OnOk, OnErr};
+ghost use Rattle.gs_layout.specs.declared.known.Known.{Known};
+ghost use Rattle.gs_layout.specs.View.{look_up};
+ghost use Rattle.gs_view.specs.declared.fault.ApplyFault.{ApplyFault};
+ghost use Rattle.gs_view.specs.Begins.{begins};
+ghost use Rattle.gs_agent.specs.Held.{HasRoom};
+ghost use Rattle.gs_agent.specs.Mind.{bare};
+ghost use Rattle.gs_agent.specs.Picture.{displaced, ends_own_turn, other_than, requeued, settled, settled_all, waits};
+ghost use Rattle.std.specs.Option.{option_to_list};
+
+use gs_beliefs::Beliefs;
+use gs_layout::{Class, Kind, MOST_TIDS};
+use gs_reader::MessageRef;
+use gs_runq::RunQueue;
+use gs_view::{AgentView, ApplyFault};
+
+/// Makes room in the queue, before the view applies a message, for the thread whose record the
+/// message begins. Who waits stays as it is.
+///
+/// # Errors
+///
+/// [`ApplyFault::OutOfMemory`] if out of memory for the room. No other message takes any.
+pub(crate) fn make_room(
+    view: &AgentView,
+    queue: &mut RunQueue,
+    message: &MessageRef<'_>,
+) -> Result<(), ApplyFault>
+    ensures begun { OnOk result (begins (look_up view.now.entries) message.now ≡ true → MOST_TIDS ≤ queue.new.room) }
+    ensures waiting { bare queue.new ≡ bare queue.old }
+    ensures room { queue.old.room ≤ queue.new.room }
+    ensures memory { OnErr result (begins (look_up view.now.entries) message.now ≡ true) }
+    ensures fault { IfErr result (λ fault. fault ≡ ApplyFault.OutOfMemory) }
+{
+    if queue.room() < MOST_TIDS && is_begun_by(view, message) {
+        queue.reserve(MOST_TIDS)?;
+    }
+    Ok(())
+}
+
+/// Tells whether a message begins a record of the view: it creates a thread of which nothing is known.
+fn is_begun_by(view: &AgentView, message: &MessageRef<'_>) -> bool
+    ensures { result ≡ begins (look_up view.now.entries) message.now }
+{
+    matches!(message.kind(), Kind::Created) && view.get(message.tid()).is_none()
+}
+
+/// Returns the class of a thread that waits, `None` if it does not. The CPUs are asked first, of which there
+/// are few.
+fn waiting_class(view: &AgentView, cpus: &Beliefs, tid: u32) -> Option<Class>
+    ensures { result ≡ (if waits (look_up view.now.entries) cpus.now tid then option_map (λ (k : Known). k.facts.class) (look_up view.now.entries tid) else None) }
+{
+    if cpus.runs(tid) || cpus.names(tid) {
+        return None;
+    }
+    let (facts, _) = view.get(tid)?;
+    facts.runnable.then_some(facts.class)
+}
+
+/// Puts a thread that begins to wait last of its class, and takes one that does not wait out. One that
+/// waits already keeps its place. It does not allocate.
+#[tactic(auto, using(crate::proofs::Rooms::room_settled))]
+pub(crate) fn settle(view: &AgentView, cpus: &Beliefs, queue: &mut RunQueue, tid: u32)
+    requires { HasRoom (look_up view.now.entries) queue.old }
+    ensures settled { queue.new ≡ settled (look_up view.now.entries) cpus.now tid queue.old }
+    ensures room { HasRoom (look_up view.now.entries) queue.new }
+{
+    match waiting_class(view, cpus, tid) {
+        None => queue.remove(tid),
+        Some(class) => {
+            if !queue.has(tid) {
+                queue.push(tid, class);
+            }
+        }
+    }
+}
+
+/// Does the same of a thread, if there is one.
+pub(crate) fn settle_if_any(
+    view: &AgentView,
+    cpus: &Beliefs,
+    queue: &mut RunQueue,
+    tid: Option<u32>,
+)
+    requires { HasRoom (look_up view.now.entries) queue.old }
+    ensures settled { queue.new ≡ settled_all (look_up view.now.entries) cpus.now (option_to_list tid) queue.old }
+    ensures room { HasRoom (look_up view.now.entries) queue.new }
+{
+    if let Some(tid) = tid {
+        settle(view, cpus, queue, tid);
+    }
+}
+
+/// Returns the thread that is believed to run on a CPU, if there is one.
+pub(crate) fn running_on(cpus: &Beliefs, cpu: Option<u16>) -> Option<u32>
+    ensures { result ≡ displaced cpus.now cpu }
+{
+    let running = cpus.believed(cpu?)?;
+    Some(running.tid)
+}
+
+/// Returns the found thread, if there is one and it is another than this one.
+pub(crate) fn other_than(tid: u32, found: Option<u32>) -> Option<u32>
+    ensures { result ≡ other_than tid found }
+{
+    found.filter(|found| *found != tid)
+}
+
+/// Brings the queue up to date after a message that view and beliefs followed: its thread is settled, and
+/// goes last anew if its turn ended.
+pub(crate) fn requeue(
+    view: &AgentView,
+    cpus: &Beliefs,
+    queue: &mut RunQueue,
+    message: &MessageRef<'_>,
+)
+    requires { HasRoom (look_up view.now.entries) queue.old }
+    ensures requeued { queue.new ≡ requeued (look_up view.now.entries) cpus.now message.now queue.old }
+    ensures room { HasRoom (look_up view.now.entries) queue.new }
+{
+    if matches!(message.kind(), Kind::TimerTick) {
+        return;
+    }
+    let tid = message.tid();
+    if ends_turn(message) {
+        queue.remove(tid);
+    }
+    settle(view, cpus, queue, tid);
+}
+
+/// Tells whether a message ends its thread's turn, though it may go on waiting.
+fn ends_turn(message: &MessageRef<'_>) -> bool
+    ensures { result ≡ ends_own_turn message.now }
+{
+    matches!(message.kind(), Kind::Preempted | Kind::Yield)
+}

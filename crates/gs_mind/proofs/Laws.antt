@@ -1,4 +1,0 @@
--- What the proofs of the crates above cite of this crate.
-pub use Rattle.gs_mind.proofs.Believing.{stamped_outcome}
-pub use Rattle.gs_mind.proofs.Paged.{view_paged}
-pub use Rattle.gs_mind.proofs.Views.{view_takes, view_takes_all}

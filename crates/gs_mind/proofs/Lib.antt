@@ -1,8 +1,0 @@
-mod Believing
-mod Followed
-mod Rooms
-mod Minds
-mod Paged
-mod Views
-mod Rows
-pub mod Laws

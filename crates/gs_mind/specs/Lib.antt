@@ -1,4 +1,0 @@
-pub mod Picture
-pub mod Pages
-pub mod Mind
-pub mod Held
