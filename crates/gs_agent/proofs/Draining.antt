@@ -15,14 +15,14 @@ use Rattle.gs_view.specs.News.{word_of}
 use Rattle.gs_agent.specs.declared.drained.Drained.{Drained}
 use Rattle.gs_agent.specs.declared.drained.Stop.{Stop}
 use Rattle.gs_agent.specs.declared.drained.Stop.TheVariants as stops
-use Rattle.gs_agent.specs.Drains.{Took, TookFirst, count_word}
-use Rattle.gs_agent.proofs.Laws.{view_takes_all}
+use Rattle.gs_agent.specs.Drains.{Followed, FollowedFirst, count_word}
+use Rattle.gs_agent.proofs.Laws.{view_after_messages}
 use Rattle.gs_agent.specs.Mind.{MindState, picture_of}
-use Rattle.gs_agent.specs.Picture.{Picture, takes_in, takes_in_all}
+use Rattle.gs_agent.specs.Picture.{Picture, after_message, after_messages}
 
-takes_push : (p : Picture) (ms : List Message) (m : Message) → takes_in_all p (ms ++ m ∷ []) ≡ takes_in m (takes_in_all p ms)
-takes_push p [] m = refl
-takes_push p (x ∷ ms) m = takes_push (takes_in x p) ms m
+messages_push : (p : Picture) (ms : List Message) (m : Message) → after_messages p (ms ++ m ∷ []) ≡ after_message m (after_messages p ms)
+messages_push p [] m = refl
+messages_push p (x ∷ ms) m = messages_push (after_message x p) ms m
 
 words_push : (v : Look) (ms : List Message) (m : Message) → words v (ms ++ m ∷ []) ≡ words v ms ++ word (catch_up v ms) m ∷ []
 words_push v [] m = refl
@@ -39,10 +39,10 @@ at_most_one true = omega arith
 at_most_one false = omega arith
 
 -- what a view applied was no gap
-pub no_gap_taken : (news : News) → is_gap (word_of news) ≡ false
-no_gap_taken Applied = refl
-no_gap_taken Skipped = refl
-no_gap_taken Orphan = refl
+pub no_gap_followed : (news : News) → is_gap (word_of news) ≡ false
+no_gap_followed Applied = refl
+no_gap_followed Skipped = refl
+no_gap_followed Orphan = refl
 
 none_is_some : {A : Type 0} (o : Option A) → o ≡ None → IsSome o → ⊥
 none_is_some None e h = cc
@@ -55,10 +55,10 @@ none_is_none (Some y) x e h = cc
 some_same : (s t : Stop) → Some s ≡ Some t → s ≡ t
 some_same s t e = cc
 
-pub took_more : (p p' p'' : Picture) (ms : List Message) (m : Message) (w : Word) (d : Drained) → Took p ms d p' → w ≡ word p'.view m → is_gap w ≡ false → p'' ≡ takes_in m p' → Took p (ms ++ m ∷ []) (count_word d w) p''
-took_more p p' p'' ms m w d t is gap next =
+pub followed_more : (p p' p'' : Picture) (ms : List Message) (m : Message) (w : Word) (d : Drained) → Followed p ms d p' → w ≡ word p'.view m → is_gap w ≡ false → p'' ≡ after_message m p' → Followed p (ms ++ m ∷ []) (count_word d w) p''
+followed_more p p' p'' ms m w d t is gap next =
     let is' : word (catch_up p.view ms) m ≡ w = ap (λ (x : Look). word x m) (sym t.view) ∙ sym is in
-    let last : p'' ≡ takes_in_all p (ms ++ m ∷ []) = next ∙ (ap (takes_in m) t.picture ∙ sym (takes_push p ms m)) in
+    let last : p'' ≡ after_messages p (ms ++ m ∷ []) = next ∙ (ap (after_message m) t.picture ∙ sym (messages_push p ms m)) in
     let all : words p.view (ms ++ m ∷ []) ≡ words p.view ms ++ w ∷ [] = words_push p.view ms m ∙ ap (λ x. words p.view ms ++ x ∷ []) is' in
     record {
       count = omega (arith, t.count, length-append ms (m ∷ []));
@@ -66,18 +66,18 @@ took_more p p' p'' ms m w d t is gap next =
       skipped = ap (λ n. n + cond (is_skipped w) 1 0) t.skipped ∙ (sym (count_push is_skipped (words p.view ms) w) ∙ ap (count_by is_skipped) (sym all));
       orphans = ap (λ n. n + cond (is_orphan w) 1 0) t.orphans ∙ (sym (count_push is_orphan (words p.view ms) w) ∙ ap (count_by is_orphan) (sym all));
       picture = last;
-      view = ap (λ (x : Picture). x.view) last ∙ view_takes_all p (ms ++ m ∷ []);
+      view = ap (λ (x : Picture). x.view) last ∙ view_after_messages p (ms ++ m ∷ []);
       few_skipped = omega (arith, t.few_skipped, at_most_one (is_skipped w));
       few_orphans = omega (arith, t.few_orphans, at_most_one (is_orphan w));
     }
 
 -- why it stopped is no part of that
-pub took_stop : (p p' : Picture) (ms : List Message) (d : Drained) (s : Option Stop) → Took p ms d p' → Took p ms (record d { stop = s }) p'
-took_stop p p' ms d s t =
+pub followed_stop : (p p' : Picture) (ms : List Message) (d : Drained) (s : Option Stop) → Followed p ms d p' → Followed p ms (record d { stop = s }) p'
+followed_stop p p' ms d s t =
     record { count = t.count; none_gap = t.none_gap; skipped = t.skipped; orphans = t.orphans; picture = t.picture; view = t.view; few_skipped = t.few_skipped; few_orphans = t.few_orphans }
 
 -- of a batch these messages were followed so far, and these are left
-pub record TakenSoFar (batch : List Message) (max : ℕ) (d : Drained) (v : MindState) (d' : Drained) (v' : MindState) (left : List Message) : Type 0 where
+pub record FollowedSoFar (batch : List Message) (max : ℕ) (d : Drained) (v : MindState) (d' : Drained) (v' : MindState) (left : List Message) : Type 0 where
   pub done : List Message
   pub all : batch ≡ done ++ left
   pub count : d'.count ≡ d.count + length done
@@ -85,16 +85,16 @@ pub record TakenSoFar (batch : List Message) (max : ℕ) (d : Drained) (v : Mind
   pub goes_on : d'.stop ≡ None
   pub few_skipped : d'.skipped ≤ d'.count
   pub few_orphans : d'.orphans ≤ d'.count
-  pub took : (p : Picture) (ms : List Message) → Took p ms d (picture_of v) → Took p (ms ++ done) d' (picture_of v')
+  pub followed : (p : Picture) (ms : List Message) → Followed p ms d (picture_of v) → Followed p (ms ++ done) d' (picture_of v')
 
-pub none_taken : (batch : List Message) (max : ℕ) (d : Drained) (v : MindState) → d.count ≤ max → d.skipped ≤ d.count → d.orphans ≤ d.count → d.stop ≡ None → TakenSoFar batch max d v d v batch
-none_taken batch max d v most skipped orphans goes_on =
-    record { done = []; all = refl; count = omega arith; most = most; goes_on = goes_on; few_skipped = skipped; few_orphans = orphans; took = λ p ms t. subst (λ l. Took p l d (picture_of v)) (sym (append-nil ms)) t }
+pub none_followed : (batch : List Message) (max : ℕ) (d : Drained) (v : MindState) → d.count ≤ max → d.skipped ≤ d.count → d.orphans ≤ d.count → d.stop ≡ None → FollowedSoFar batch max d v d v batch
+none_followed batch max d v most skipped orphans goes_on =
+    record { done = []; all = refl; count = omega arith; most = most; goes_on = goes_on; few_skipped = skipped; few_orphans = orphans; followed = λ p ms t. subst (λ l. Followed p l d (picture_of v)) (sym (append-nil ms)) t }
 
-pub taken_one : (batch : List Message) (max : ℕ) (d : Drained) (v : MindState) (d' : Drained) (v' : MindState) (m : Message) (left : List Message) (w : Word) (d'' : Drained) (v'' : MindState)
-    → TakenSoFar batch max d v d' v' (m ∷ left) → d'.count < max → d'' ≡ count_word d' w → word (look_up v'.records) m ≡ w → is_gap w ≡ false → picture_of v'' ≡ takes_in m (picture_of v')
-    → TakenSoFar batch max d v d'' v'' left
-taken_one batch max d v d' v' m left w d'' v'' t lt counted is gap next =
+pub followed_one : (batch : List Message) (max : ℕ) (d : Drained) (v : MindState) (d' : Drained) (v' : MindState) (m : Message) (left : List Message) (w : Word) (d'' : Drained) (v'' : MindState)
+    → FollowedSoFar batch max d v d' v' (m ∷ left) → d'.count < max → d'' ≡ count_word d' w → word (look_up v'.records) m ≡ w → is_gap w ≡ false → picture_of v'' ≡ after_message m (picture_of v')
+    → FollowedSoFar batch max d v d'' v'' left
+followed_one batch max d v d' v' m left w d'' v'' t lt counted is gap next =
     let n = ap (λ (x : Drained). x.count) counted in
     record {
       done = t.done ++ m ∷ [];
@@ -104,37 +104,37 @@ taken_one batch max d v d' v' m left w d'' v'' t lt counted is gap next =
       goes_on = ap (λ (x : Drained). x.stop) counted ∙ t.goes_on;
       few_skipped = omega (arith, n, ap (λ (x : Drained). x.skipped) counted, at_most_one (is_skipped w), t.few_skipped);
       few_orphans = omega (arith, n, ap (λ (x : Drained). x.orphans) counted, at_most_one (is_orphan w), t.few_orphans);
-      took = λ p ms h.
-          subst (λ (x : Drained). Took p (ms ++ (t.done ++ m ∷ [])) x (picture_of v'')) (sym counted)
-          (subst (λ l. Took p l (count_word d' w) (picture_of v'')) (append_assoc ms t.done (m ∷ []))
-          (took_more p (picture_of v') (picture_of v'') (ms ++ t.done) m w d' (t.took p ms h) (sym is) gap next));
+      followed = λ p ms h.
+          subst (λ (x : Drained). Followed p (ms ++ (t.done ++ m ∷ [])) x (picture_of v'')) (sym counted)
+          (subst (λ l. Followed p l (count_word d' w) (picture_of v'')) (append_assoc ms t.done (m ∷ []))
+          (followed_more p (picture_of v') (picture_of v'') (ms ++ t.done) m w d' (t.followed p ms h) (sym is) gap next));
     }
 
 -- when the walk ends, all of a batch was followed, or as many as might be
-pub took_all : (batch : List Message) (max : ℕ) (d : Drained) (v : MindState) (d' : Drained) (v' : MindState) (left : List Message) → TakenSoFar batch max d v d' v' left → (d'.count < max → left ≡ []) → TookFirst batch max d v d' v'
-took_all batch max d v d' v' left t ends = record {
+pub followed_all : (batch : List Message) (max : ℕ) (d : Drained) (v : MindState) (d' : Drained) (v' : MindState) (left : List Message) → FollowedSoFar batch max d v d' v' left → (d'.count < max → left ≡ []) → FollowedFirst batch max d v d' v'
+followed_all batch max d v d' v' left t ends = record {
   done = t.done;
   left = left;
   all = t.all;
   count = t.count;
   most = t.most;
-  took = t.took;
+  followed = t.followed;
   whole = λ _ lt. ends lt;
   early = λ h. absurd (none_is_some d'.stop t.goes_on h);
   gap = λ h. absurd (none_is_none d'.stop stops.Gap t.goes_on h);
   memory = λ h. absurd (none_is_none d'.stop stops.Memory t.goes_on h);
 }
 
-pub took_to_stop : (batch : List Message) (max : ℕ) (d : Drained) (v : MindState) (d' : Drained) (v' : MindState) (m : Message) (left : List Message) (s : Stop) (v'' : MindState)
-    → TakenSoFar batch max d v d' v' (m ∷ left) → d'.count < max → v'' ≡ v' → (s ≡ stops.Gap → is_gap (word (look_up v'.records) m) ≡ true) → (s ≡ stops.Memory → begins (look_up v'.records) m ≡ true)
-    → TookFirst batch max d v (record d' { stop = Some s }) v''
-took_to_stop batch max d v d' v' m left s v'' t lt same gap memory = record {
+pub followed_to_stop : (batch : List Message) (max : ℕ) (d : Drained) (v : MindState) (d' : Drained) (v' : MindState) (m : Message) (left : List Message) (s : Stop) (v'' : MindState)
+    → FollowedSoFar batch max d v d' v' (m ∷ left) → d'.count < max → v'' ≡ v' → (s ≡ stops.Gap → is_gap (word (look_up v'.records) m) ≡ true) → (s ≡ stops.Memory → begins (look_up v'.records) m ≡ true)
+    → FollowedFirst batch max d v (record d' { stop = Some s }) v''
+followed_to_stop batch max d v d' v' m left s v'' t lt same gap memory = record {
   done = t.done;
   left = m ∷ left;
   all = t.all;
   count = t.count;
   most = t.most;
-  took = λ p ms h. subst (λ (x : MindState). Took p (ms ++ t.done) (record d' { stop = Some s }) (picture_of x)) (sym same) (took_stop p (picture_of v') (ms ++ t.done) d' (Some s) (t.took p ms h));
+  followed = λ p ms h. subst (λ (x : MindState). Followed p (ms ++ t.done) (record d' { stop = Some s }) (picture_of x)) (sym same) (followed_stop p (picture_of v') (ms ++ t.done) d' (Some s) (t.followed p ms h));
   whole = λ h. absurd (none_is_none (Some s) s h refl);
   early = λ _. lt;
   gap = λ h. (m, left, refl, subst (λ (x : MindState). is_gap (word (look_up x.records) m) ≡ true) (sym same) (gap (some_same s stops.Gap h)));

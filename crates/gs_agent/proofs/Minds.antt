@@ -24,7 +24,7 @@ use Rattle.gs_view.specs.declared.news.News.TheVariants as news
 use Rattle.gs_view.specs.News.{word_of}
 use Rattle.gs_agent.specs.Held.{HasRoom}
 use Rattle.gs_agent.specs.Mind.{MindState, bare}
-use Rattle.gs_agent.specs.Picture.{HoldsWaiting, Picture, displaced, ends_own_turn, ends_turn, other_than, parts, requeued, settled, settled_all, takes_in, takes_in_by, waits}
+use Rattle.gs_agent.specs.Picture.{HoldsWaiting, Picture, displaced, ends_own_turn, ends_turn, other_than, parts, requeued, settled, settled_all, after_message, after_message_by, waits}
 use Rattle.gs_agent.proofs.Rooms.{bare_requeued}
 use Rattle.gs_agent.proofs.Followed.{holds_news, settled_append, settled_other, touched}
 
@@ -71,18 +71,18 @@ same_picture v v' s s' q q' a b d = λ i. parts (λ t. a t i) (b i) (d i)
 
 -- a message that applied
 pub news_picture : (v v' : Look) (s s' : Cpus) (q q' q'' : Queue) (m : Message) → word v m ≡ Applied → ((t : ℕ) → v' t ≡ apply v m t) → s' ≡ hears m s → bare q' ≡ bare q → q'' ≡ requeued v' s' m q'
-    → parts v' s' (bare q'') ≡ takes_in m (parts v s (bare q))
+    → parts v' s' (bare q'') ≡ after_message m (parts v s (bare q))
 news_picture v v' s s' q q' q'' m w known a b d =
     let one : v' ≡ apply v m = λ i. λ t. known t i in
     let queue : bare q'' ≡ requeued (apply v m) (hears m s) m (bare q) =
     ap bare d ∙ (bare_requeued v' s' m q' ∙ (ap (requeued v' s' m) b ∙ (ap (λ (x : Look). requeued x s' m (bare q)) one ∙ ap (λ (x : Cpus). requeued (apply v m) x m (bare q)) a))) in
-    same_picture v' (apply v m) s' (hears m s) (bare q'') _ known a queue ∙ ap (λ (x : Word). takes_in_by x m (parts v s (bare q))) (sym w)
+    same_picture v' (apply v m) s' (hears m s) (bare q'') _ known a queue ∙ ap (λ (x : Word). after_message_by x m (parts v s (bare q))) (sym w)
 
 abbrev pub is_applied : Word → Bool
 is_applied Applied = true
 is_applied _ = false
 
-leaves : (w : Word) (m : Message) (p : Picture) → is_applied w ≡ false → takes_in_by w m p ≡ p
+leaves : (w : Word) (m : Message) (p : Picture) → is_applied w ≡ false → after_message_by w m p ≡ p
 leaves Applied m p e = absurd cc
 leaves Orphan m p e = refl
 leaves Skipped m p e = refl
@@ -104,7 +104,7 @@ old_news v (Thread u s c) e t = by_test (u == t) refl
     by_test false same = refl
 
 -- a message that did not apply
-pub old_picture : (v v' : Look) (s : Cpus) (q q' : Queue) (m : Message) → is_applied (word v m) ≡ false → ((t : ℕ) → v' t ≡ apply v m t) → bare q' ≡ bare q → parts v' s (bare q') ≡ takes_in m (parts v s (bare q))
+pub old_picture : (v v' : Look) (s : Cpus) (q q' : Queue) (m : Message) → is_applied (word v m) ≡ false → ((t : ℕ) → v' t ≡ apply v m t) → bare q' ≡ bare q → parts v' s (bare q') ≡ after_message m (parts v s (bare q))
 old_picture v v' s q q' m e known b =
     same_picture v' v s s (bare q') (bare q) (λ t. known t ∙ old_news v m e t) refl b ∙ sym (leaves (word v m) m (parts v s (bare q)) e)
 

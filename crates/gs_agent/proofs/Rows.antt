@@ -17,7 +17,7 @@ use Rattle.gs_beliefs.specs.Cpus.{Cpus}
 use Rattle.gs_runq.specs.Queue.{Queue}
 use Rattle.gs_dump.specs.declared.record.DumpRecord.{DumpRecord}
 use Rattle.gs_agent.specs.Pages.{after_page}
-use Rattle.gs_agent.specs.Picture.{Picture, after_slot, after_slots, after_stamp, takes_in, takes_in_all, waits}
+use Rattle.gs_agent.specs.Picture.{Picture, after_slot, after_slots, after_stamp, after_message, after_messages, waits}
 
 -- what is known of a thread, at this number
 abbrev known : Class → Bool → ℕ → Known
@@ -61,42 +61,42 @@ abbrev landed : ℕ → Outcome → Option ℕ → SlotState
 landed t outcome at = Done (record { generation = 3; tid = t; tseq = 5; flags = single true }) outcome at 5
 
 -- who begins to wait goes last of its class
-created_row : (takes_in (created 7 Zero true) blank).queue ≡ queue (7 ∷ []) []
+created_row : (after_message (created 7 Zero true) blank).queue ≡ queue (7 ∷ []) []
 created_row = refl
 
-second_row : (takes_in_all blank (created 7 Zero true ∷ created 9 One true ∷ created 8 Zero true ∷ [])).queue ≡ queue (7 ∷ 8 ∷ []) (9 ∷ [])
+second_row : (after_messages blank (created 7 Zero true ∷ created 9 One true ∷ created 8 Zero true ∷ [])).queue ≡ queue (7 ∷ 8 ∷ []) (9 ∷ [])
 second_row = refl
 
 -- a thread that is created blocked waits from its wakeup on
-blocked_creation_row : (takes_in (created 7 Zero false) blank).queue ≡ queue [] []
+blocked_creation_row : (after_message (created 7 Zero false) blank).queue ≡ queue [] []
 blocked_creation_row = refl
 
-wakeup_row : (takes_in_all blank (created 7 Zero false ∷ created 8 Zero true ∷ Thread 7 6 Wakeup ∷ [])).queue ≡ queue (8 ∷ 7 ∷ []) []
+wakeup_row : (after_messages blank (created 7 Zero false ∷ created 8 Zero true ∷ Thread 7 6 Wakeup ∷ [])).queue ≡ queue (8 ∷ 7 ∷ []) []
 wakeup_row = refl
 
 -- who dies or blocks waits no more
-dead_row : (takes_in (Thread 7 6 (Dead None)) all_wait).queue ≡ queue (8 ∷ []) (9 ∷ [])
+dead_row : (after_message (Thread 7 6 (Dead None)) all_wait).queue ≡ queue (8 ∷ []) (9 ∷ [])
 dead_row = refl
 
-blocked_row : (takes_in (Thread 9 6 (Blocked 1)) all_wait).queue ≡ queue (7 ∷ 8 ∷ []) []
+blocked_row : (after_message (Thread 9 6 (Blocked 1)) all_wait).queue ≡ queue (7 ∷ 8 ∷ []) []
 blocked_row = refl
 
 -- if its turn ended, the thread goes last anew, and one that merely is told of keeps its place
-preempted_row : (takes_in (Thread 7 6 (Preempted 1)) all_wait).queue ≡ queue (8 ∷ 7 ∷ []) (9 ∷ [])
+preempted_row : (after_message (Thread 7 6 (Preempted 1)) all_wait).queue ≡ queue (8 ∷ 7 ∷ []) (9 ∷ [])
 preempted_row = refl
 
-yield_row : (takes_in (Thread 7 6 (Yield 1)) all_wait).queue ≡ queue (8 ∷ 7 ∷ []) (9 ∷ [])
+yield_row : (after_message (Thread 7 6 (Yield 1)) all_wait).queue ≡ queue (8 ∷ 7 ∷ []) (9 ∷ [])
 yield_row = refl
 
-told_row : (takes_in (Thread 7 6 Wakeup) all_wait).queue ≡ queue (7 ∷ 8 ∷ []) (9 ∷ [])
+told_row : (after_message (Thread 7 6 Wakeup) all_wait).queue ≡ queue (7 ∷ 8 ∷ []) (9 ∷ [])
 told_row = refl
 
 -- and so does one that is created once more, with another class
-created_again_row : (takes_in (Thread 7 6 (Created (known One true 6).facts)) all_wait).queue ≡ queue (7 ∷ 8 ∷ []) (9 ∷ [])
+created_again_row : (after_message (Thread 7 6 (Created (known One true 6).facts)) all_wait).queue ≡ queue (7 ∷ 8 ∷ []) (9 ∷ [])
 created_again_row = refl
 
 -- a preemption takes its thread off the CPU where it was believed to run, so it waits
-off_row : (takes_in (Thread 7 6 (Preempted 1)) (knows (cpus (at 7 5 2) None None None) (queue (8 ∷ []) []))).queue ≡ queue (8 ∷ 7 ∷ []) []
+off_row : (after_message (Thread 7 6 (Preempted 1)) (knows (cpus (at 7 5 2) None None None) (queue (8 ∷ []) []))).queue ≡ queue (8 ∷ 7 ∷ []) []
 off_row = refl
 
 -- a stamped thread waits no more
@@ -123,10 +123,10 @@ stamp_past_row = refl
 placed_row : after_slot 1 (landed 7 Placed (Some 1)) stamped ≡ knows (cpus (at 7 5 0) None None None) (queue (8 ∷ []) (9 ∷ []))
 placed_row = refl
 
-placed_blocked_row : (takes_in (Thread 7 6 (Blocked 1)) (after_slot 1 (landed 7 Placed (Some 1)) stamped)).queue ≡ queue (8 ∷ []) (9 ∷ [])
+placed_blocked_row : (after_message (Thread 7 6 (Blocked 1)) (after_slot 1 (landed 7 Placed (Some 1)) stamped)).queue ≡ queue (8 ∷ []) (9 ∷ [])
 placed_blocked_row = refl
 
-placed_blocked_cpus_row : (takes_in (Thread 7 6 (Blocked 1)) (after_slot 1 (landed 7 Placed (Some 1)) stamped)).cpus ≡ cpus None None None None
+placed_blocked_cpus_row : (after_message (Thread 7 6 (Blocked 1)) (after_slot 1 (landed 7 Placed (Some 1)) stamped)).cpus ≡ cpus None None None None
 placed_blocked_cpus_row = refl
 
 -- a stale transaction: its thread waits again, last of its class
@@ -204,17 +204,17 @@ empty_page_row : after_page [] all_wait ≡ all_wait
 empty_page_row = refl
 
 -- a tick counts for whoever is believed to run there
-tick_row : takes_in (TimerTick 1) (knows (cpus (at 7 5 2) None None None) (queue (8 ∷ []) (9 ∷ []))) ≡ knows (cpus (at 7 5 3) None None None) (queue (8 ∷ []) (9 ∷ []))
+tick_row : after_message (TimerTick 1) (knows (cpus (at 7 5 2) None None None) (queue (8 ∷ []) (9 ∷ []))) ≡ knows (cpus (at 7 5 3) None None None) (queue (8 ∷ []) (9 ∷ []))
 tick_row = refl
 
 -- what does not apply changes nothing
-orphan_row : takes_in (Thread 6 2 Wakeup) all_wait ≡ all_wait
+orphan_row : after_message (Thread 6 2 Wakeup) all_wait ≡ all_wait
 orphan_row = refl
 
-skipped_row : takes_in (Thread 7 5 (Blocked 1)) all_wait ≡ all_wait
+skipped_row : after_message (Thread 7 5 (Blocked 1)) all_wait ≡ all_wait
 skipped_row = refl
 
-gap_row : takes_in (Thread 7 7 (Dead None)) all_wait ≡ all_wait
+gap_row : after_message (Thread 7 7 (Dead None)) all_wait ≡ all_wait
 gap_row = refl
 
 -- who waits: a runnable thread that is neither believed to run nor named

@@ -8,7 +8,7 @@ use Rattle.gs_view.specs.Begins.{begins}
 use Rattle.gs_view.specs.declared.fault.ApplyFault.{ApplyFault}
 use Rattle.gs_view.specs.declared.fault.ApplyFault.TheVariants as faults
 use Rattle.gs_agent.specs.Mind.{MindState, picture_of}
-use Rattle.gs_agent.specs.Picture.{Picture, takes_in_all}
+use Rattle.gs_agent.specs.Picture.{Picture, after_messages}
 use Rattle.gs_agent.specs.declared.drained.Drained.{Drained}
 use Rattle.gs_agent.specs.declared.drained.Stop.{Stop}
 use Rattle.gs_agent.specs.declared.drained.Stop.TheVariants as stops
@@ -30,25 +30,25 @@ stop_of faults.OutOfMemory = stops.Memory
 
 -- these messages were all followed, from the first picture to the second, none of them a gap. Each is counted as what it was to the
 -- view, and the view is then caught up over them
-pub record Took (p : Picture) (ms : List Message) (d : Drained) (p' : Picture) : Type 0 where
+pub record Followed (p : Picture) (ms : List Message) (d : Drained) (p' : Picture) : Type 0 where
   pub count : d.count ≡ length ms
   pub none_gap : list_any is_gap (words p.view ms) ≡ false
   pub skipped : d.skipped ≡ count_by is_skipped (words p.view ms)
   pub orphans : d.orphans ≡ count_by is_orphan (words p.view ms)
-  pub picture : p' ≡ takes_in_all p ms
+  pub picture : p' ≡ after_messages p ms
   pub view : p'.view ≡ catch_up p.view ms
   pub few_skipped : d.skipped ≤ d.count
   pub few_orphans : d.orphans ≤ d.count
 
 -- the first messages of a batch were followed, at most so many in all, and counted beside what was drained before. If the drain
 -- stopped, the next one is a gap, or begins a record
-pub record TookFirst (batch : List Message) (max : ℕ) (d : Drained) (v : MindState) (d' : Drained) (v' : MindState) : Type 0 where
+pub record FollowedFirst (batch : List Message) (max : ℕ) (d : Drained) (v : MindState) (d' : Drained) (v' : MindState) : Type 0 where
   pub done : List Message
   pub left : List Message
   pub all : batch ≡ done ++ left
   pub count : d'.count ≡ d.count + length done
   pub most : d'.count ≤ max
-  pub took : (p : Picture) (ms : List Message) → Took p ms d (picture_of v) → Took p (ms ++ done) d' (picture_of v')
+  pub followed : (p : Picture) (ms : List Message) → Followed p ms d (picture_of v) → Followed p (ms ++ done) d' (picture_of v')
   pub whole : d'.stop ≡ None → d'.count < max → left ≡ []
   pub early : IsSome d'.stop → d'.count < max
   pub gap : d'.stop ≡ Some stops.Gap → (m : Message) × (more : List Message) × (left ≡ m ∷ more) × (is_gap (word (look_up v'.records) m) ≡ true)

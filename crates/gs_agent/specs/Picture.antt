@@ -72,20 +72,20 @@ abbrev pub after_news : Message → Picture → Picture
 after_news m p = record { view = apply p.view m; cpus = hears m p.cpus; queue = requeued (apply p.view m) (hears m p.cpus) m p.queue }
 
 -- the picture after a message that is this to the view
-abbrev pub takes_in_by : Word → Message → Picture → Picture
-takes_in_by Applied m p = after_news m p
-takes_in_by Orphan m p = p
-takes_in_by Skipped m p = p
-takes_in_by Gap m p = p
+abbrev pub after_message_by : Word → Message → Picture → Picture
+after_message_by Applied m p = after_news m p
+after_message_by Orphan m p = p
+after_message_by Skipped m p = p
+after_message_by Gap m p = p
 
 -- the picture after a message: only what applies changes it
-abbrev pub takes_in : Message → Picture → Picture
-takes_in m p = takes_in_by (word p.view m) m p
+abbrev pub after_message : Message → Picture → Picture
+after_message m p = after_message_by (word p.view m) m p
 
 -- the picture after messages, in order
-abbrev pub takes_in_all : Picture → List Message → Picture
-takes_in_all p [] = p
-takes_in_all p (m ∷ ms) = takes_in_all (takes_in m p) ms
+abbrev pub after_messages : Picture → List Message → Picture
+after_messages p [] = p
+after_messages p (m ∷ ms) = after_messages (after_message m p) ms
 
 -- the picture with other beliefs, once these threads are settled
 abbrev pub believes : Cpus → List ℕ → Picture → Picture

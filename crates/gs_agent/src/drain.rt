@@ -6,7 +6,7 @@ ghost use Rattle.gs_layout.specs.View.{is_gap, look_up, word};
 ghost use Rattle.gs_view.specs.Begins.{begins};
 ghost use Rattle.gs_view.specs.News.{word_of};
 ghost use Rattle.gs_ring.specs.Batches.{messages_of};
-ghost use Rattle.gs_agent.specs.Drains.{TookFirst, Took, count_word, stop_of};
+ghost use Rattle.gs_agent.specs.Drains.{FollowedFirst, Followed, count_word, stop_of};
 ghost use Rattle.gs_agent.specs.Mind.{picture_of};
 
 use crate::drained::{Drained, Stop};
@@ -19,7 +19,7 @@ use std::marker::Model;
 /// Follows messages, at most `max` of them, up to a gap or until out of memory. They are read where they
 /// lie, batch by batch, and those that were followed then pass.
 pub(crate) fn drain_into<T: Taker>(mind: &mut Mind, taker: &mut T, max: u32) -> Drained
-    ensures took { (ms : List Message) × T.passed taker.old ms taker.new × Took (picture_of mind.old) ms result (picture_of mind.new) }
+    ensures followed { (ms : List Message) × T.passed taker.old ms taker.new × Followed (picture_of mind.old) ms result (picture_of mind.new) }
     ensures most { result.count ≤ max }
     ensures whole { result.stop ≡ None → result.count < max → (m : Message) (ms : List Message) → T.ahead taker.new (m ∷ ms) → ⊥ }
     ensures early { IsSome result.stop → result.count < max }
@@ -33,14 +33,14 @@ pub(crate) fn drain_into<T: Taker>(mind: &mut Mind, taker: &mut T, max: u32) -> 
         orphans: 0,
         stop: None,
     };
-    'taking: while drained.count < max {
+    'draining: while drained.count < max {
         let before = drained.count;
         drained = follow_first(mind, taker.batch(), max, drained);
-        let taken = drained.count - before;
-        if taken == 0 {
+        let followed = drained.count - before;
+        if followed == 0 {
             break;
         }
-        taker.pass(taken);
+        taker.pass(followed);
         if drained.stop.is_some() {
             break;
         }
@@ -105,7 +105,7 @@ fn follow_first(mind: &mut Mind, batch: Batch<'_>, max: usize, drained: Drained)
     requires skipped { drained.skipped ≤ drained.count }
     requires orphans { drained.orphans ≤ drained.count }
     requires goes_on { drained.stop ≡ None }
-    ensures { TookFirst (messages_of batch.entry) max drained mind.old result mind.new }
+    ensures { FollowedFirst (messages_of batch.entry) max drained mind.old result mind.new }
 {
     let mut drained = drained;
     let mut left = Left::new(batch);

@@ -9,7 +9,7 @@ ghost use Rattle.gs_view.specs.News.{word_of};
 ghost use Rattle.gs_agent.specs.Mind.{moved, nothing, picture_of, shown_in, thinks};
 ghost use Rattle.gs_agent.specs.Pages.{after_page};
 ghost use Rattle.gs_runq.specs.Queue.{Apart, order};
-ghost use Rattle.gs_agent.specs.Picture.{HoldsWaiting, after_slot, after_stamp, takes_in};
+ghost use Rattle.gs_agent.specs.Picture.{HoldsWaiting, after_slot, after_stamp, after_message};
 
 use crate::rebuild::{follow_records, make_room_for_page};
 use crate::waiting::{make_room, other_than, requeue, running_on, settle, settle_if_any};
@@ -113,7 +113,7 @@ impl Mind {
     /// Nothing changes then, and the message can be followed later. No other message allocates.
     pub fn follow(&mut self, message: MessageRef<'_>) -> Result<News, ApplyFault>
         ensures word { IfOk result (λ news. word (look_up self.old.records) message.entry ≡ word_of news) }
-        ensures picture { OnOk result (picture_of self.new ≡ takes_in message.entry (picture_of self.old)) }
+        ensures picture { OnOk result (picture_of self.new ≡ after_message message.entry (picture_of self.old)) }
         ensures unchanged { OnErr result (self.new ≡ self.old) }
         ensures gap { (result ≡ Err ApplyFault.Gap) ↔ (is_gap (word (look_up self.old.records) message.entry) ≡ true) }
         ensures memory { result ≡ Err ApplyFault.OutOfMemory → begins (look_up self.old.records) message.entry ≡ true }

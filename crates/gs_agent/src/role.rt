@@ -7,7 +7,7 @@ ghost use Rattle.gs_slots.specs.Reading.{all_collected, state_in, told_by};
 ghost use Rattle.gs_view.specs.Begins.{begins};
 ghost use Rattle.gs_beliefs.specs.Cpus.{believed_on};
 ghost use Rattle.gs_agent.specs.declared.drained.Stop.{Stop};
-ghost use Rattle.gs_agent.specs.Drains.{Took};
+ghost use Rattle.gs_agent.specs.Drains.{Followed};
 ghost use Rattle.gs_agent.specs.Mind.{moved, nothing, picture_of, shown_in, thinks};
 ghost use Rattle.gs_agent.specs.Pages.{after_page};
 ghost use Rattle.gs_agent.specs.Picture.{HoldsWaiting, after_all, after_stamp};
@@ -211,7 +211,7 @@ impl<P> Role<P> {
     /// thread. It also stops at the creation of a thread of which nothing is known, if out of memory for its
     /// record or for its place in the queue. That message stays unread, and a later drain begins with it.
     pub fn drain<T: Taker>(&mut self, taker: &mut T, max: u32) -> Drained
-        ensures took { (ms : List Message) × T.passed taker.old ms taker.new × Took (picture_of self.old.mind) ms result (picture_of self.new.mind) }
+        ensures followed { (ms : List Message) × T.passed taker.old ms taker.new × Followed (picture_of self.old.mind) ms result (picture_of self.new.mind) }
         ensures most { result.count ≤ max }
         ensures whole { result.stop ≡ None → result.count < max → (m : Message) (ms : List Message) → T.ahead taker.new (m ∷ ms) → ⊥ }
         ensures early { IsSome result.stop → result.count < max }

@@ -18,7 +18,7 @@ use Rattle.gs_agent.specs.Picture.{Picture, after_all, after_stamp}
 use Rattle.gs_policy.specs.declared.choice.Choice.{Choice}
 use Rattle.gs_agent.specs.declared.drained.Drained.{Drained}
 use Rattle.gs_replies.specs.declared.config.Config.{Config}
-use Rattle.gs_core.specs.Machine.{Agent, Plan, State, planning, Drains, Takes, committed, mind_of, picture, stamp_of, stamps, stamps_all, stamps_with, start, thinking, unread, view}
+use Rattle.gs_core.specs.Machine.{Agent, Plan, State, planning, Drains, FollowsFirst, committed, mind_of, picture, stamp_of, stamps, stamps_all, stamps_with, start, thinking, unread, view}
 use Rattle.gs_core.specs.Thinks.{Knows, Thinks}
 use Rattle.gs_core.specs.Trust.{NoneDone}
 use Rattle.gs_core.proofs.Left.{AreAfter}
@@ -59,11 +59,11 @@ knows_choices m (x ∷ xs) n = knows_choices (stamps m x.cpu x.tid (single x.pre
 -- a drain
 drained : (m : State) (max c : ℕ) (d : Drained) (a : Option Agent) → Drains m max d (record m { consumed = c; agent = a }) → Knows m → Knows (record m { consumed = c; agent = a })
 drained m max c d a r n =
-    let takes : Takes (picture m) (unread m) max d (picture_of (mind_of a)) = r.takes in
+    let follows : FollowsFirst (picture m) (unread m) max d (picture_of (mind_of a)) = r.follows in
     let ms : List Message = take d.count (unread m) in
     record {
-      thinks = λ some. subst (λ (q : Picture). Thinks q.cpus m.slots) (sym takes.picture) (thinks_messages (picture m) ms m.slots (n.thinks (sym r.stays ∙ some)));
-      own_cpu = λ x e. ap (λ (q : Picture). q.cpus.agent) takes.picture ∙ (own_messages (picture m) ms ∙ n.own_cpu x e);
+      thinks = λ some. subst (λ (q : Picture). Thinks q.cpus m.slots) (sym follows.picture) (thinks_messages (picture m) ms m.slots (n.thinks (sym r.stays ∙ some)));
+      own_cpu = λ x e. ap (λ (q : Picture). q.cpus.agent) follows.picture ∙ (own_messages (picture m) ms ∙ n.own_cpu x e);
       idle = n.idle;
     }
 

@@ -22,13 +22,13 @@ use Rattle.gs_agent.specs.Picture.{Picture, after_all, after_stamp}
 use Rattle.gs_policy.specs.declared.choice.Choice.{Choice}
 use Rattle.gs_agent.specs.declared.drained.Drained.{Drained}
 use Rattle.gs_replies.specs.declared.config.Config.{Config}
-use Rattle.gs_core.specs.Machine.{Agent, Plan, State, planning, Drains, Takes, committed, mind_of, page_of, picture, stamp_of, stamps, stamps_all, stamps_with, start, thinking, unread, view}
+use Rattle.gs_core.specs.Machine.{Agent, Plan, State, planning, Drains, FollowsFirst, committed, mind_of, page_of, picture, stamp_of, stamps, stamps_all, stamps_with, start, thinking, unread, view}
 use Rattle.gs_core.specs.Good.{Good}
 use Rattle.gs_core.specs.Trust.{AreSeen, IsSeen, NoneDone, Trusted, Trusts}
 use Rattle.gs_core.specs.Safe.{IsTrusted}
 use Rattle.gs_core.proofs.Places.{get_set}
 use Rattle.gs_core.proofs.Steps.{idle, some_thinks}
-use Rattle.gs_core.proofs.Believing.{trusted_taken}
+use Rattle.gs_core.proofs.Believing.{trusted_followed}
 use Rattle.gs_core.proofs.Left.{AreAfter, none_collected}
 use Rattle.gs_core.proofs.Seeing.{seen_left, seen_taken}
 use Rattle.gs_core.proofs.Collecting.{AreLanded, trusted_all}
@@ -95,15 +95,15 @@ drain_trusts_with m max c d a g r t =
     record {
       trusted = λ up. subst (λ x. Trusted m.history x (look_up (mind_of a).records) (page_of a) (mind_of a).cpus) (sym now)
           (subst (λ o. Trusted m.history (m.consumed + length ms) (look_up (mind_of a).records) o (mind_of a).cpus) (sym r.page)
-          (subst (λ (p : Picture). Trusted m.history (m.consumed + length ms) p.view (page_of m.agent) p.cpus) (sym takes.picture)
-          (trusted_taken m.settings.first_tseq m.history m.consumed (page_of m.agent) (picture m) ms (drop d.count (unread m)) numbers cut takes.none_gap (t.trusted up))));
-      seen = λ some i b e. subst (λ (v : Look). IsSeen m.history v b) (sym (same_view (look_up (mind_of a).records) (catch_up (view m) ms) takes.known))
+          (subst (λ (p : Picture). Trusted m.history (m.consumed + length ms) p.view (page_of m.agent) p.cpus) (sym follows.picture)
+          (trusted_followed m.settings.first_tseq m.history m.consumed (page_of m.agent) (picture m) ms (drop d.count (unread m)) numbers cut follows.none_gap (t.trusted up))));
+      seen = λ some i b e. subst (λ (v : Look). IsSeen m.history v b) (sym (same_view (look_up (mind_of a).records) (catch_up (view m) ms) follows.known))
           (seen_taken m.history m.consumed (view m) b ms (drop d.count (unread m)) cut (t.seen (sym r.stays ∙ some) i b e));
       none_done = t.none_done;
     }
   where
-    takes : Takes (picture m) (unread m) max d (picture_of (mind_of a))
-    takes = r.takes
+    follows : FollowsFirst (picture m) (unread m) max d (picture_of (mind_of a))
+    follows = r.follows
 
     ms : List Message
     ms = take d.count (unread m)
@@ -115,7 +115,7 @@ drain_trusts_with m max c d a g r t =
     cut = sym (take-append-drop d.count (unread m))
 
     now : c ≡ m.consumed + length ms
-    now = omega (arith, r.consumed, takes.count, length-take d.count (unread m))
+    now = omega (arith, r.consumed, follows.count, length-take d.count (unread m))
 
 pub drain_trusts : (m : State) (max : ℕ) (d : Drained) (m' : State) → Good m → Drains m max d m' → Trusts m → Trusts m'
 drain_trusts m max d m' g r t = subst Trusts (sym r.others) (drain_trusts_with m max m'.consumed d m'.agent g (subst (Drains m max d) r.others r) t)

@@ -36,7 +36,7 @@ use Rattle.gs_policy.specs.Shown.{Shown}
 use Rattle.gs_policy.specs.declared.choice.Choice.{Choice}
 use Rattle.gs_view.specs.Begins.{begins}
 use Rattle.gs_agent.specs.Mind.{MindState, moved, nothing, picture_of, shown_in, thinks}
-use Rattle.gs_agent.specs.Picture.{Picture, after_all, after_stamp, takes_in_all}
+use Rattle.gs_agent.specs.Picture.{Picture, after_all, after_stamp, after_messages}
 use Rattle.gs_agent.specs.Pages.{after_page}
 use Rattle.gs_view.specs.Shown.{tids}
 use Rattle.std.specs.List.Sorted.{IsStrictlyIncreasing}
@@ -308,7 +308,7 @@ begins_next v (m ∷ ms) = begins v m
 
 -- of these messages the first count were followed, none of them a gap. A drain stops early if the next one is a gap, or if it begins
 -- a record and memory for that runs out
-pub record Takes (p : Picture) (ms : List Message) (most : ℕ) (d : Drained) (p' : Picture) : Type 0 where
+pub record FollowsFirst (p : Picture) (ms : List Message) (most : ℕ) (d : Drained) (p' : Picture) : Type 0 where
   pub count : d.count ≤ min most (length ms)
   pub whole : d.stop ≡ None → d.count ≡ min most (length ms)
   pub early : IsSome d.stop → d.count < min most (length ms)
@@ -318,11 +318,11 @@ pub record Takes (p : Picture) (ms : List Message) (most : ℕ) (d : Drained) (p
   pub skipped : d.skipped ≡ count_by is_skipped (words p.view (take d.count ms))
   pub orphans : d.orphans ≡ count_by is_orphan (words p.view (take d.count ms))
   pub known : (t : ℕ) → p'.view t ≡ catch_up p.view (take d.count ms) t
-  pub picture : p' ≡ takes_in_all p (take d.count ms)
+  pub picture : p' ≡ after_messages p (take d.count ms)
 
 -- a drain follows unread messages, and changes nothing else
 pub record Drains (m : State) (max : ℕ) (d : Drained) (m' : State) : Type 0 where
-  pub takes : Takes (picture m) (unread m) max d (picture m')
+  pub follows : FollowsFirst (picture m) (unread m) max d (picture m')
   pub consumed : m'.consumed ≡ m.consumed + d.count
   pub others : m' ≡ record m { consumed = m'.consumed; agent = m'.agent }
   pub stays : is_some m'.agent ≡ is_some m.agent

@@ -19,7 +19,7 @@ impl<P: Poster> Kernel<P> {
         ensures ring { P.same self.old.poster self.new.poster × P.pair self.new.poster taker.new }
         ensures stays { P.consumed self.new.poster ≡ P.consumed self.old.poster }
         ensures told { P.posted self.new.poster (posted self.new.history) }
-        ensures taken { T.passed taker.old [] taker.new }
+        ensures passed { T.passed taker.old [] taker.new }
         ensures rest { (ms : List Message) × (rest : List Message) × P.gave taker.new ms × (posted self.new.history ≡ ms ++ rest) × T.ahead taker.new rest × (result ≡ length rest) }
     {
         // A look at a field, by which the proof has what the kernel keeps.

@@ -14,7 +14,7 @@ use Rattle.gs_status.proofs.Laws.{least_beyond, least_none, least_same, nobody a
 use Rattle.gs_beliefs.specs.Cpus.{believed_on, is_free, is_usable}
 use Rattle.gs_policy.specs.declared.candidates.Candidates.{Candidates}
 use Rattle.gs_policy.specs.declared.choice.Choice.{Choice}
-use Rattle.gs_policy.specs.Candidates.{AreLeft, AreTakenBy, are_spent, busy_for, picked, plan_among, planned_of, takes_in}
+use Rattle.gs_policy.specs.Candidates.{AreLeft, AreTakenBy, are_spent, busy_for, picked, plan_among, planned_of, is_busy_for}
 use Rattle.gs_policy.specs.Plan.{Taking, choice, is_on, is_open, placed, plan, planned, uses}
 use Rattle.gs_policy.specs.Safety.{IsTaking}
 use Rattle.gs_policy.specs.Shown.{Shown}
@@ -62,7 +62,7 @@ planned_behind n f p v xs ys (t ∷ ts) =
 planned_next : (l l' : Candidates) (v : Look) (t : ℕ) (ts : List ℕ) → AreLeft l l' (picked l v t) → planned_of l v [] (t ∷ ts) ≡ picked l v t ++ planned_of l' v [] ts
 planned_next l l' v t ts left =
     ap (λ (zs : List Choice). planned_of l v zs ts) (sym (append-nil (picked l v t)))
-    ∙ (planned_behind 128 (has l.free) (takes_in l) v (picked l v t) [] ts ∙ sym (λ i. picked l v t ++ planned 128 (λ c. left.free c i) (λ class c. left.busy class c i) v [] ts))
+    ∙ (planned_behind 128 (has l.free) (is_busy_for l) v (picked l v t) [] ts ∙ sym (λ i. picked l v t ++ planned 128 (λ c. left.free c i) (λ class c. left.busy class c i) v [] ts))
 
 pub planned_some : (l l' : Candidates) (v : Look) (x : Choice) (t : ℕ) (ts later : List ℕ) → ts ≡ t ∷ later → (x ∷ []) ≡ picked l v t → AreLeft l l' (picked l v t)
     → planned_of l v [] ts ≡ x ∷ planned_of l' v [] later
@@ -76,7 +76,7 @@ planned_none l l' v t ts later first chosen left =
 -- none can be chosen: no CPU is in any of the three masks
 record IsNone (l : Candidates) : Type 0 where
   free : (c : ℕ) → has l.free c ≡ false
-  busy : (class : Class) (c : ℕ) → takes_in l class c ≡ false
+  busy : (class : Class) (c : ℕ) → is_busy_for l class c ≡ false
 
 in_none : (m : ℕ) → has_none m ≡ true → (c : ℕ) → has m c ≡ false
 in_none m e c = ap (λ (n : ℕ). has n c) (eqb-true m 0 e) ∙ nobody_in c
@@ -87,18 +87,18 @@ spent_none l e =
     let busy = and_parts (has_none l.zero_class) (has_none l.one_class) first.1 in
     record { free = in_none l.free first.0; busy = by_class busy.0 busy.1 }
   where
-    by_class : has_none l.zero_class ≡ true → has_none l.one_class ≡ true → (class : Class) (c : ℕ) → takes_in l class c ≡ false
+    by_class : has_none l.zero_class ≡ true → has_none l.one_class ≡ true → (class : Class) (c : ℕ) → is_busy_for l class c ≡ false
     by_class zero one Zero c = in_none l.zero_class zero c
     by_class zero one One c = in_none l.one_class one c
 
 least_spent : (f : ℕ → Bool) (k : Known) → ((c : ℕ) → f c ≡ false) → least (is_open f k []) 128 ≡ None
 least_spent f k spent = least_none (is_open f k []) 128 (λ c l. ap (λ (z : Bool). (z && has k.facts.mask c) && not false) (spent c))
 
-choice_spent : (l : Candidates) (t : ℕ) (o : Option Known) → IsNone l → choice 128 (has l.free) (takes_in l) [] t o ≡ []
+choice_spent : (l : Candidates) (t : ℕ) (o : Option Known) → IsNone l → choice 128 (has l.free) (is_busy_for l) [] t o ≡ []
 choice_spent l t None s = refl
 choice_spent l t (Some k) s =
-    ap (λ (z : Option ℕ). placed t z (least (is_open (takes_in l k.facts.class) k []) 128)) (least_spent (has l.free) k s.free)
-    ∙ ap (λ (z : Option ℕ). placed t None z) (least_spent (takes_in l k.facts.class) k (s.busy k.facts.class))
+    ap (λ (z : Option ℕ). placed t z (least (is_open (is_busy_for l k.facts.class) k []) 128)) (least_spent (has l.free) k s.free)
+    ∙ ap (λ (z : Option ℕ). placed t None z) (least_spent (is_busy_for l k.facts.class) k (s.busy k.facts.class))
 
 -- if none is left nothing is chosen
 pub planned_spent : (l : Candidates) (v : Look) (ts : List ℕ) → are_spent l ≡ true → planned_of l v [] ts ≡ []
@@ -121,23 +121,23 @@ few_behind n f p v xs (t ∷ ts) =
 
 -- no thread has more than one choice
 pub planned_few : (l : Candidates) (v : Look) (ts : List ℕ) → length (planned_of l v [] ts) ≤ length ts
-planned_few l v ts = omega (arith, few_behind 128 (has l.free) (takes_in l) v [] ts)
+planned_few l v ts = omega (arith, few_behind 128 (has l.free) (is_busy_for l) v [] ts)
 
 -- the choice of a thread, by masks
 least_open : (f : ℕ → Bool) (k : Known) (o : Option ℕ) → o ≡ least (λ c. f c && has k.facts.mask c) 128 → least (is_open f k []) 128 ≡ o
 least_open f k o e = least_same (is_open f k []) (λ c. f c && has k.facts.mask c) 128 (λ c h. and-true (f c && has k.facts.mask c)) ∙ sym e
 
-picked_known : (l : Candidates) (v : Look) (t : ℕ) (k : Known) → Some k ≡ v t → choice 128 (has l.free) (takes_in l) [] t (Some k) ≡ picked l v t
-picked_known l v t k known = ap (choice 128 (has l.free) (takes_in l) [] t) known
+picked_known : (l : Candidates) (v : Look) (t : ℕ) (k : Known) → Some k ≡ v t → choice 128 (has l.free) (is_busy_for l) [] t (Some k) ≡ picked l v t
+picked_known l v t k known = ap (choice 128 (has l.free) (is_busy_for l) [] t) known
 
 pub picked_unknown : (l : Candidates) (v : Look) (t : ℕ) → None ≡ v t → [] ≡ picked l v t
-picked_unknown l v t unknown = ap (choice 128 (has l.free) (takes_in l) [] t) unknown
+picked_unknown l v t unknown = ap (choice 128 (has l.free) (is_busy_for l) [] t) unknown
 
 -- a free CPU of its mask
 pub picked_free : (l : Candidates) (v : Look) (t : ℕ) (k : Known) (c : ℕ) → Some k ≡ v t → Some c ≡ least (λ i. has l.free i && has k.facts.mask i) 128
     → (record { cpu = c; tid = t; preempt = false } ∷ []) ≡ picked l v t
 picked_free l v t k c known free =
-    sym (ap (λ (z : Option ℕ). placed t z (least (is_open (takes_in l k.facts.class) k []) 128)) (least_open (has l.free) k (Some c) free))
+    sym (ap (λ (z : Option ℕ). placed t z (least (is_open (is_busy_for l k.facts.class) k []) 128)) (least_open (has l.free) k (Some c) free))
     ∙ picked_known l v t k known
 
 -- if there is none, one that it may take from somebody, if there is one
@@ -145,8 +145,8 @@ pub picked_busy : (l : Candidates) (v : Look) (t : ℕ) (k : Known) (busy : ℕ)
     → None ≡ least (λ i. has l.free i && has k.facts.mask i) 128 → busy ≡ busy_for l k.facts.class → o ≡ least (λ i. has busy i && has k.facts.mask i) 128
     → placed t None o ≡ picked l v t
 picked_busy l v t k busy o known none is taken =
-    sym (ap (λ (z : Option ℕ). placed t z (least (is_open (takes_in l k.facts.class) k []) 128)) (least_open (has l.free) k None none)
-    ∙ ap (placed t None) (least_open (takes_in l k.facts.class) k o (taken ∙ ap (λ (m : ℕ). least (λ i. has m i && has k.facts.mask i) 128) is)))
+    sym (ap (λ (z : Option ℕ). placed t z (least (is_open (is_busy_for l k.facts.class) k []) 128)) (least_open (has l.free) k None none)
+    ∙ ap (placed t None) (least_open (is_busy_for l k.facts.class) k o (taken ∙ ap (λ (m : ℕ). least (λ i. has m i && has k.facts.mask i) 128) is)))
     ∙ picked_known l v t k known
 
 -- among 128 CPUs or among those that there are, if none passes past the last
@@ -197,7 +197,7 @@ none_past s p class c taking past = by_test (p class c) refl
 pub plan_all : (may_take : Taking) (s : Shown) (l : Candidates) → length s.cpus.believed ≤ 128 → ((c : ℕ) → has l.free c ≡ is_free s.cpus s.taken c) → IsTaking s (may_take s)
     → AreTakenBy (may_take s) l.zero_class l.one_class → plan_among l s ≡ plan may_take s
 plan_all may_take s l most free taking taken =
-    planned_same (length s.cpus.believed) (has l.free) (is_free s.cpus s.taken) (takes_in l) (may_take s) s.view [] s.queue
+    planned_same (length s.cpus.believed) (has l.free) (is_free s.cpus s.taken) (is_busy_for l) (may_take s) s.view [] s.queue
     (record {
       most = most;
       free = free;
@@ -209,6 +209,6 @@ plan_all may_take s l most free taking taken =
     taken' : AreTakenBy (may_take s) l.zero_class l.one_class
     taken' = taken
 
-    by_class : (class : Class) (c : ℕ) → takes_in l class c ≡ may_take s class c
+    by_class : (class : Class) (c : ℕ) → is_busy_for l class c ≡ may_take s class c
     by_class Zero c = taken'.by_zero c
     by_class One c = taken'.by_one c

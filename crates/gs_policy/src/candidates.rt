@@ -5,7 +5,7 @@ ghost use Rattle.gs_layout.specs.declared.known.Known.{Known as KnownOf};
 ghost use Rattle.gs_layout.specs.View.{look_up};
 ghost use Rattle.gs_runq.specs.Queue.{Queue};
 ghost use Rattle.gs_status.specs.Masks.{has, least};
-ghost use Rattle.gs_policy.specs.Candidates.{AreLeft, AreTakenBy, are_spent, busy_for, picked, plan_among, takes_in};
+ghost use Rattle.gs_policy.specs.Candidates.{AreLeft, AreTakenBy, are_spent, busy_for, picked, plan_among, is_busy_for};
 ghost use Rattle.gs_policy.specs.Plan.{Taking, plan};
 ghost use Rattle.gs_policy.specs.Safety.{IsTaking};
 ghost use Rattle.gs_policy.specs.Shown.{shows};
@@ -76,7 +76,7 @@ impl Candidates {
     fn without(self, cpu: u16) -> Candidates
         requires { cpu < MOST_CPUS }
         ensures free { (c : ℕ) → has result.free c ≡ (has self.free c && not (cpu == c)) }
-        ensures busy { (class : ClassOf) (c : ℕ) → takes_in result class c ≡ (takes_in self class c && not (cpu == c)) }
+        ensures busy { (class : ClassOf) (c : ℕ) → is_busy_for result class c ≡ (is_busy_for self class c && not (cpu == c)) }
     {
         Candidates {
             free: self.free.without(cpu),

@@ -146,7 +146,7 @@ pub trait Beside<T: Taker>: Poster {
         ensures ring { Self.same self.old self.new × pair self.new taker.new }
         ensures posted { (xs : List Message) → Self.posted self.old xs → Self.posted self.new xs }
         ensures stays { Self.consumed self.new ≡ Self.consumed self.old }
-        ensures taken { T.passed taker.old [] taker.new }
+        ensures passed { T.passed taker.old [] taker.new }
         ensures rest { (xs : List Message) → Self.posted self.new xs → (ms : List Message) × (rest : List Message) × gave taker.new ms × (xs ≡ ms ++ rest) × T.ahead taker.new rest × (result ≡ length rest) };
 
     /// Laws. What passes was given.

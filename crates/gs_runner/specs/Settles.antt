@@ -1,4 +1,4 @@
--- When an agent that took in all that was posted knows what the kernel knows, and why it does not.
+-- When an agent that followed all that was posted knows what the kernel knows, and why it does not.
 use Rattle.std.specs.Prelude.{◌≡◌, ◌≤◌, ◌≢◌, true, false, ℕ, Option, None, Some, List, [], ◌∷◌, ◌⊎◌}
 use Rattle.gs_layout.specs.declared.message.Message.{Message}
 use Rattle.gs_layout.specs.View.{Look, is_gap, look_up, word}
@@ -12,27 +12,27 @@ use Rattle.gs_agent.specs.declared.drained.Stop.TheVariants.{Gap, Memory}
 use Rattle.gs_link.specs.declared.taker.RtrbTaker.{RtrbTaker}
 use Rattle.gs_link.specs.Between.{Ahead, Gave, Passed}
 use Rattle.gs_agent.specs.Mind.{picture_of}
-use Rattle.gs_agent.specs.Picture.{takes_in_all}
+use Rattle.gs_agent.specs.Picture.{after_messages}
 use Rattle.gs_runner.specs.declared.settling.Unsettled.{Unsettled}
 use Rattle.gs_runner.specs.declared.settling.Unsettled.TheVariants.{Torn, NoAgent, Stopped, Differs}
 use Rattle.gs_runner.specs.Enclaves.{EnclaveOf}
 
--- the role took in the messages that passed, and nothing else of it changed
-abbrev pub TakesIn : {P : Type 0} → RoleOf P → RtrbTaker → RoleOf P → RtrbTaker → Type 0
-TakesIn r t q u = (ms : List Message) × Passed t ms u × (picture_of q.mind ≡ takes_in_all (picture_of r.mind) ms) × (q ≡ record r { mind = q.mind })
+-- the role followed the messages that passed, and nothing else of it changed
+abbrev pub CatchesUp : {P : Type 0} → RoleOf P → RtrbTaker → RoleOf P → RtrbTaker → Type 0
+CatchesUp r t q u = (ms : List Message) × Passed t ms u × (picture_of q.mind ≡ after_messages (picture_of r.mind) ms) × (q ≡ record r { mind = q.mind })
 
 -- so did the role that is held, if there is one
-abbrev pub HeldTakesIn : {P : Type 0} → Option (RoleOf P) → RtrbTaker → Option (RoleOf P) → RtrbTaker → Type 0
-HeldTakesIn (Some r) t (Some q) u = TakesIn r t q u
-HeldTakesIn None t None u = u ≡ t
-HeldTakesIn _ t _ u = ⊥
+abbrev pub HeldCatchesUp : {P : Type 0} → Option (RoleOf P) → RtrbTaker → Option (RoleOf P) → RtrbTaker → Type 0
+HeldCatchesUp (Some r) t (Some q) u = CatchesUp r t q u
+HeldCatchesUp None t None u = u ≡ t
+HeldCatchesUp _ t _ u = ⊥
 
 -- the role knows what the kernel does
 abbrev pub KnowsAll : {P : Type 0} → Option (RoleOf P) → EnclaveOf → Type 0
 KnowsAll None e = ⊥
 KnowsAll (Some r) e = look_up r.mind.records ≡ state e.settings.first_tseq e.history
 
--- a message comes next that the role did not take in, for this
+-- a message comes next that the role did not follow, for this
 abbrev pub StopsAt : {P : Type 0} → Stop → RtrbTaker → RoleOf P → Type 0
 StopsAt Gap t r = (m : Message) × Ahead t (m ∷ []) × (is_gap (word (look_up r.mind.records) m) ≡ true)
 StopsAt Memory t r = (m : Message) × Ahead t (m ∷ []) × (begins (look_up r.mind.records) m ≡ true)

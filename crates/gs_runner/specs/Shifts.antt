@@ -2,7 +2,7 @@
 use Rattle.std.specs.Prelude.{◌≡◌, Bool, false, ℕ, Option, None, Some, is_none}
 use Rattle.std.specs.Option.{option_map}
 use Rattle.gs_agent.specs.Role.{RoleOf}
-use Rattle.gs_agent.specs.Drains.{Took}
+use Rattle.gs_agent.specs.Drains.{Followed}
 use Rattle.gs_agent.specs.declared.drained.Drained.{Drained}
 use Rattle.gs_journal.specs.declared.entry.Entry.TheVariants as entries
 use Rattle.gs_layout.specs.declared.message.Message.{Message}
@@ -26,7 +26,7 @@ follows _ o = o
 
 -- a drain of the role that is held
 abbrev pub Drains : {P : Type 0} → Option (RoleOf P) → RtrbTaker → Option Drained → Option (RoleOf P) → RtrbTaker → Type 0
-Drains (Some r) t (Some d) (Some q) u = (ms : List Message) × Passed t ms u × Took (picture_of r.mind) ms d (picture_of q.mind) × (q ≡ record r { mind = q.mind })
+Drains (Some r) t (Some d) (Some q) u = (ms : List Message) × Passed t ms u × Followed (picture_of r.mind) ms d (picture_of q.mind) × (q ≡ record r { mind = q.mind })
 Drains None t None None u = u ≡ t
 Drains _ _ _ _ _ = ⊥
 

@@ -16,7 +16,7 @@ impl<L: Site> Enclave<L> {
     pub(crate) fn look_beside(&mut self, taker: &mut RtrbTaker) -> usize
         requires { (p : RtrbPoster) → L.is_ring p → IsPairOf p taker.old }
         ensures same { self.new ≡ self.old }
-        ensures taken { Passed taker.old [] taker.new }
+        ensures passed { Passed taker.old [] taker.new }
         ensures few { result < 2 ^ 32 }
         ensures rest { (ms : List Message) × (rest : List Message) × Gave taker.new ms × (posted self.new.history ≡ ms ++ rest) × Ahead taker.new rest × (result ≡ length rest) }
     {

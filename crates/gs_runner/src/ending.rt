@@ -1,4 +1,4 @@
-//! How a run ends: its agent takes in all that was posted, and the station is closed.
+//! How a run ends: its agent follows all that was posted, and the station is closed.
 
 ghost use Rattle.std.specs.Prelude.{◌≡◌, IfErr, IfOk, vec_len};
 ghost use Rattle.gs_runner.specs.Calls.{IsLegal};

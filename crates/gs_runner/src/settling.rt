@@ -1,10 +1,10 @@
-//! Whether an agent that takes in all that was posted knows what the kernel knows.
+//! Whether an agent that follows all that was posted knows what the kernel knows.
 
 ghost use Rattle.std.specs.Prelude.{◌≡◌, ◌≢◌, IfErr, OnOk, None, Some, false};
 ghost use Rattle.gs_journal.specs.History.{active, posted, torn};
 ghost use Rattle.gs_link.specs.declared.poster.RtrbPoster.{RtrbPoster};
 ghost use Rattle.gs_link.specs.Between.{Gave, IsPairOf, SameTaker};
-ghost use Rattle.gs_runner.specs.Settles.{HeldTakesIn, KnowsAll, TakesIn, WhyNot};
+ghost use Rattle.gs_runner.specs.Settles.{HeldCatchesUp, KnowsAll, CatchesUp, WhyNot};
 
 use crate::enclave::Enclave;
 use crate::held::Held;
@@ -13,7 +13,7 @@ use crate::site::Site;
 use gs_agent::{Role, Stop};
 use gs_link::RtrbTaker;
 
-/// The agent took in all that was posted, and knows what the kernel knows.
+/// The agent followed all that was posted, and knows what the kernel knows.
 #[derive(Clone, Copy, PartialEq, Eq, Debug)]
 pub struct Settled;
 
@@ -26,11 +26,11 @@ pub enum Unsettled {
     NoAgent,
     /// The drain stopped early: at a gap, or at a creation if out of memory.
     Stopped(Stop),
-    /// All that was posted was taken, and the view is not what the kernel knows.
+    /// All that was posted was consumed, and the view is not what the kernel knows.
     Differs,
 }
 
-/// Takes in all messages that wait, and tells whether the role then knows what the kernel knows.
+/// Follows all messages that wait, and tells whether the role then knows what the kernel knows.
 fn settle_role<L: Site, P>(
     enclave: &mut Enclave<L>,
     role: &mut Role<P>,
@@ -41,7 +41,7 @@ fn settle_role<L: Site, P>(
     requires led { active enclave.old.history ≢ None }
     ensures same { enclave.new ≡ enclave.old }
     ensures ring { SameTaker taker.old taker.new }
-    ensures took { TakesIn role.old taker.old role.new taker.new }
+    ensures caught_up { CatchesUp role.old taker.old role.new taker.new }
     ensures ok { OnOk result (Gave taker.new (posted enclave.new.history) × KnowsAll (Some role.new) enclave.new) }
     ensures err { IfErr result (WhyNot enclave.new taker.new (Some role.new)) }
 {
@@ -57,20 +57,20 @@ fn settle_role<L: Site, P>(
     }
 }
 
-/// Takes in all messages that wait, and tells whether the agent then knows what the kernel knows. Where it does, all
+/// Follows all messages that wait, and tells whether the agent then knows what the kernel knows. Where it does, all
 /// that was posted was given to it, each message once and in order. Nothing in the enclave changes.
 ///
 /// # Errors
 ///
 /// The first that applies: `Torn` if the enclave was torn down, `NoAgent` if no agent is active or no role is held,
-/// `Stopped` if the drain stops early, and `Differs` if the view is not what the kernel knows though all was taken.
+/// `Stopped` if the drain stops early, and `Differs` if the view is not what the kernel knows though all was consumed.
 pub fn settle<L: Site, P>(
     enclave: &mut Enclave<L>,
     held: &mut Held<L, P>,
 ) -> Result<Settled, Unsettled>
     ensures same { enclave.new ≡ enclave.old }
     ensures others { (held.new.policy ≡ held.old.policy) × (held.new.slots ≡ held.old.slots) }
-    ensures took { HeldTakesIn held.old.role held.old.taker held.new.role held.new.taker }
+    ensures caught_up { HeldCatchesUp held.old.role held.old.taker held.new.role held.new.taker }
     ensures ok { OnOk result (Gave held.new.taker (posted enclave.new.history) × KnowsAll held.new.role enclave.new) }
     ensures err { IfErr result (WhyNot enclave.new held.new.taker held.new.role) }
 {

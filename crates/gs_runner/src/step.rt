@@ -4,7 +4,7 @@ use gs_status::Mask;
 /// What an agent's thread does. A step that role or slots refuse is passed over.
 #[derive(Clone, Copy, PartialEq, Eq, Debug)]
 pub enum Step<P> {
-    /// It takes in the messages that wait, at most `max`.
+    /// It follows the messages that wait, at most `max`.
     Drain { max: u32 },
     /// It stamps what its policy plans. Which CPUs are taken it reads from the board.
     Decide,

@@ -216,7 +216,7 @@ fn run_named<
 
 /// Runs each list of commands and each shift in a thread of its own, over a ring of so many parcels. The calls of a
 /// list are its commands, in order. The shifts take turns, in order, with what the agent holds. Once all threads came
-/// to their end, the agent takes in all that was posted, and the station is closed. It returns only if each worker,
+/// to their end, the agent follows all that was posted, and the station is closed. It returns only if each worker,
 /// and the gate, comes to its end.
 ///
 /// If it returns a run, each list has one receipt for each command, in order. Their places in the journal never fall,

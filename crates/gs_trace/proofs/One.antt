@@ -28,8 +28,8 @@ use Rattle.gs_policy.specs.declared.choice.Choice.{Choice}
 use Rattle.gs_runq.specs.Queue.{order}
 use Rattle.gs_agent.specs.Mind.{picture_of}
 use Rattle.gs_agent.specs.Pages.{after_page}
-use Rattle.gs_agent.specs.Picture.{Picture, after_all, after_stamp, takes_in_all}
-use Rattle.gs_core.specs.Machine.{Attaches, Plan, State, Agent, crashed, freed_by, led, next_dump, page_of, planned, planned_by, mind_of, picture, thinking, committed, fits, view, unread, is_idle, refusal, Serves, Step, Does, IsShort, Takes, Drains, stamps, stamps_with, stamps_all, plan_of}
+use Rattle.gs_agent.specs.Picture.{Picture, after_all, after_stamp, after_messages}
+use Rattle.gs_core.specs.Machine.{Attaches, Plan, State, Agent, crashed, freed_by, led, next_dump, page_of, planned, planned_by, mind_of, picture, thinking, committed, fits, view, unread, is_idle, refusal, Serves, Step, Does, IsShort, FollowsFirst, Drains, stamps, stamps_with, stamps_all, plan_of}
 use Rattle.gs_replies.specs.Replies.{page_reply, reply_of}
 use Rattle.gs_core.specs.declared.transaction.Transaction.{Transaction}
 use Rattle.gs_core.specs.Safe.{IsFaithful, Run}
@@ -127,31 +127,31 @@ no_stop m m' max d x f enough = by_stop d.stop refl
   where
     unstopped : gap_next (catch_up (view m) (take d.count (unread m))) (drop d.count (unread m)) ≡ false
     unstopped =
-        sym (ap (λ (v : Look). gap_next v (drop d.count (unread m))) (same_view _ _ x.takes.known))
+        sym (ap (λ (v : Look). gap_next v (drop d.count (unread m))) (same_view _ _ x.follows.known))
         ∙ sym (ap (gap_next (view m')) (left_unread m m' max d x))
         ∙ f.no_gap
 
     by_stop : (o : Option Stop) → d.stop ≡ o → d.stop ≡ None
     by_stop None e = e
     by_stop (Some Memory) e = let k = sym enough ∙ ap is_memory e in absurd (cc)
-    by_stop (Some Gap) e = let k = sym unstopped ∙ x.takes.gap e in absurd (cc)
+    by_stop (Some Gap) e = let k = sym unstopped ∙ x.follows.gap e in absurd (cc)
 
 drained_same : (d e : Drained) → d.count ≡ e.count → d.skipped ≡ e.skipped → d.orphans ≡ e.orphans → d.stop ≡ e.stop → d ≡ e
 drained_same d e a b c s = λ i. record { count = a i; skipped = b i; orphans = c i; stop = s i }
 
-record OneTaken (d e : Drained) (p q : Picture) : Type 0 where
+record OneFollowed (d e : Drained) (p q : Picture) : Type 0 where
   told : d ≡ e
   pictured : p ≡ q
 
-one_taken : (p : Picture) (ms : List Message) (max : ℕ) (d e : Drained) (w w' : Picture) → Takes p ms max d w → Takes p ms max e w' → d.stop ≡ None → e.stop ≡ None → OneTaken d e w w'
-one_taken p ms max d e w w' x y none none' =
+one_followed : (p : Picture) (ms : List Message) (max : ℕ) (d e : Drained) (w w' : Picture) → FollowsFirst p ms max d w → FollowsFirst p ms max e w' → d.stop ≡ None → e.stop ≡ None → OneFollowed d e w w'
+one_followed p ms max d e w w' x y none none' =
     let count : d.count ≡ e.count = x.whole none ∙ sym (y.whole none') in
     record {
       told = drained_same d e count
           (x.skipped ∙ ap (λ n. count_by is_skipped (words p.view (take n ms))) count ∙ sym y.skipped)
           (x.orphans ∙ ap (λ n. count_by is_orphan (words p.view (take n ms))) count ∙ sym y.orphans)
           (none ∙ sym none');
-      pictured = x.picture ∙ ap (λ n. takes_in_all p (take n ms)) count ∙ sym y.picture;
+      pictured = x.picture ∙ ap (λ n. after_messages p (take n ms)) count ∙ sym y.picture;
     }
 
 -- one reply, and machines alike
@@ -162,7 +162,7 @@ record One (r r' : Reply) (m n : State) : Type 0 where
 one_drain : (m : State) (a : Option Agent) → Same a m.agent → (max : ℕ) (d e : Drained) (m' n' : State)
     → Drains m max d m' → Drains (record m { agent = a }) max e n' → IsFaithful m' → IsFaithful n' → is_memory d.stop ≡ false → is_memory e.stop ≡ false → One (replies.Drained d) (replies.Drained e) m' n'
 one_drain m a same max d e m' n' x y f g p q =
-    let t = one_taken (picture m) (unread m) max d e (picture m') (picture n') x.takes (subst (λ (z : Picture). Takes z (unread m) max e (picture n')) same.pictured y.takes) (no_stop m m' max d x f p) (no_stop (record m { agent = a }) n' max e y g q) in
+    let t = one_followed (picture m) (unread m) max d e (picture m') (picture n') x.follows (subst (λ (z : Picture). FollowsFirst z (unread m) max e (picture n')) same.pictured y.follows) (no_stop m m' max d x f p) (no_stop (record m { agent = a }) n' max e y g q) in
     record {
       reply = ap replies.Drained t.told;
       left = (

@@ -3,7 +3,7 @@ use Rattle.gs_layout.specs.declared.message.Message.{Message}
 use Rattle.gs_layout.specs.View.{apply, look_up, word}
 use Rattle.gs_view.specs.News.{word_of}
 use Rattle.gs_agent.specs.Mind.{MindState, picture_of}
-use Rattle.gs_agent.specs.Picture.{takes_in}
+use Rattle.gs_agent.specs.Picture.{after_message}
 use Rattle.gs_agent.proofs.Minds.{is_applied, not_applied, news_picture, news_waiting, old_picture, room_news, waiting_as_before}
 use Rattle.gs_agent.proofs.mind.Mind.follow.Goals as goal
 
@@ -19,7 +19,7 @@ returns-in_default-clause-picture c =
     old_picture v (look_up c.apply.new.self.entries) c.self.inside.cpus c.self.inside.queue c.make_room.new.queue c.args.message
     (ap is_applied (ap (word v) (sym c.again.ensures) ∙ c.in_ok-news.ensures.word) ∙ not_applied c.in_ok-news.news c.in_default.not-Applied)
     (λ t. c.in_ok-news.ensures.known t ∙ ap (λ (m : Message). apply v m t) c.again.ensures) c.make_room.ensures.waiting
-    ∙ ap (λ (x : MindState). takes_in c.args.message (picture_of x)) c.self.view_is
+    ∙ ap (λ (x : MindState). after_message c.args.message (picture_of x)) c.self.view_is
 
 pub invariant_of-self-2 : goal.invariant_of-self-2
 invariant_of-self-2 c =
@@ -37,4 +37,4 @@ returns-clause-picture c =
     news_picture v (look_up c.apply.new.self.entries) c.self.inside.cpus c.hear.new.self c.self.inside.queue c.make_room.new.queue c.requeue.new.queue c.args.message
     (ap (word v) (sym c.again.ensures) ∙ (c.in_ok-news.ensures.word ∙ ap word_of c.in-Applied.is))
     (λ t. c.in_ok-news.ensures.known t ∙ ap (λ (m : Message). apply v m t) c.again.ensures) c.hear.ensures c.make_room.ensures.waiting c.requeue.ensures.requeued
-    ∙ ap (λ (x : MindState). takes_in c.args.message (picture_of x)) c.self.view_is
+    ∙ ap (λ (x : MindState). after_message c.args.message (picture_of x)) c.self.view_is
