@@ -141,9 +141,7 @@ impl<P: Counted + Copy> Machine<P> {
     {
         let page = self.next_dump(max)?;
         let (bytes, page) = hand_over(self.alloc, &page)?;
-        let Some(role) = &mut self.role else {
-            unreachable!()
-        };
+        let role = self.role.as_mut().unwrap();
         role.rebuild(&page)?;
         self.kernel.note_page(&page);
         Ok(Reply::Page {

@@ -172,9 +172,7 @@ impl<P: Counted + Copy> Machine<P> {
         if !self.kernel.has_agent() {
             return Err(Refusal::NotActive);
         }
-        let Some(role) = &mut self.role else {
-            unreachable!()
-        };
+        let role = self.role.as_mut().unwrap();
         let mut head = self.kernel.taker();
         Ok(Reply::Drained(role.drain(&mut head, max)))
     }
@@ -187,9 +185,7 @@ impl<P: Counted + Copy> Machine<P> {
         if !has_agent {
             return Err(Refusal::NotActive);
         }
-        let Some(role) = &self.role else {
-            unreachable!()
-        };
+        let role = self.role.as_ref().unwrap();
         let threads = known_threads(self.alloc, role.view())?;
         Ok(Reply::View(Items::new(threads)))
     }
@@ -247,9 +243,7 @@ impl<P: Counted + Copy> Machine<P> {
         if cpu >= self.region.cpus() {
             return Err(Refusal::BadCpu);
         }
-        let Some(role) = &mut self.role else {
-            unreachable!()
-        };
+        let role = self.role.as_mut().unwrap();
         let most = self.kernel.settings().history;
         if let Err(refusal) = self.transactions.make_room(most) {
             return Err(stamp_refusal(role, &self.region, cpu, tid).unwrap_or(refusal));
@@ -277,9 +271,7 @@ impl<P: Counted + Copy> Machine<P> {
         ensures unchanged { OnErr result (self.new ≡ self.old) }
     {
         let choices = self.plan()?;
-        let Some(role) = &mut self.role else {
-            unreachable!()
-        };
+        let role = self.role.as_mut().unwrap();
         let first = self.transactions.len() + 1;
         self.transactions.reserve(choices.len())?;
         stamp_all(
@@ -308,9 +300,7 @@ impl<P: Counted + Copy> Machine<P> {
         let taken = self.kernel.taken();
         let history = self.kernel.settings().history;
         let room = history.saturating_sub(self.transactions.len()) as usize;
-        let Some(role) = &self.role else {
-            unreachable!()
-        };
+        let role = self.role.as_ref().unwrap();
         match role.decide(self.alloc, taken) {
             Ok(choices) if choices.len() > room => Err(Refusal::HistoryFull),
             Ok(choices) => Ok(choices),
@@ -329,9 +319,7 @@ impl<P: Counted + Copy> Machine<P> {
         ensures policy { self.new.policy ≡ self.old.policy }
     {
         let landings = self.region.commit(self.alloc, &mut self.kernel, mask)?;
-        let Some(role) = &mut self.role else {
-            unreachable!()
-        };
+        let role = self.role.as_mut().unwrap();
         self.region.collect(role);
         Ok(Reply::Landed {
             landings: Items::new(landings),

@@ -1,15 +1,16 @@
-ghost use Rattle.std.specs.Prelude.{◌≡◌, true};
+ghost use Rattle.std.specs.Prelude.{◌≡◌};
 ghost use Rattle.gs_layout.specs.declared.message.Message.{Message};
 ghost use Rattle.gs_layout.specs.Spelling.{IsSpellable, spelling};
-ghost use Rattle.gs_ring.specs.Spelled.{is_message};
+ghost use Rattle.gs_reader.specs.RefHeld.{IsRef};
+ghost use Rattle.gs_ring.specs.Spelled.{ref_prop};
 
-use gs_reader::{Item, MessageRef, read_one};
+use gs_reader::MessageRef;
 
 /// A message that waits in a ring, where it lies. It is read once it is asked for.
 #[derive(Clone, Copy)]
 pub struct Peeked<'a> {
     bytes: &'a [u8],
-    ghost whole: { is_message bytes.now ≡ true },
+    ghost whole: { IsRef bytes.now } by { ref_prop bytes.now },
 }
 
 impl<'a> Peeked<'a> {
@@ -28,10 +29,6 @@ impl<'a> Peeked<'a> {
     pub fn message(&self) -> MessageRef<'a>
         ensures { result ≡ message_of self.now }
     {
-        let (item, _) = read_one(self.bytes).unwrap();
-        match item {
-            Item::Message(message) => message,
-            Item::Pad => unreachable!(),
-        }
+        MessageRef::spelled(self.bytes)
     }
 }

@@ -74,7 +74,6 @@ impl<L: Site, P: Drop> Desk<L, P> {
             }
             backoff.snooze();
         }
-        unreachable!()
     }
 
     /// Waits until something lies there for this turn, and takes it.

@@ -127,8 +127,5 @@ fn land_bytes(kernel: &mut Kernel<RtrbPoster>, bytes: [u8; 32]) -> Result<Landin
     let mut copy = bytes;
     let cpu = named_cpu(&bytes);
     let slot = SlotMut::over(cpu, &mut copy);
-    match kernel.land(slot)? {
-        Some(landing) => Ok(landing),
-        None => unreachable!(),
-    }
+    Ok(kernel.land(slot)?.unwrap())
 }

@@ -71,9 +71,7 @@ pub(crate) fn gather<L: Site>(mut passes: Vec<Pass<L>>) -> Part<L>
     requires { 0 < vec_len passes }
     ensures { (result.parts ≡ vec_len passes) × (result.amount ≡ sum_by (λ p. p.share) passes.items) }
 {
-    let Some(Pass { share, seat: _ }) = passes.pop() else {
-        unreachable!()
-    };
+    let Pass { share, seat: _ } = passes.pop().unwrap();
     let mut all = share.into_part();
     while let Some(pass) = passes.pop() {
         let Pass { share, seat: _ } = pass;

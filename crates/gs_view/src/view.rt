@@ -170,16 +170,13 @@ impl AgentView {
         ensures memory { OnErr result (begins (look_up self.old.entries) message.now ≡ true) }
         ensures no_gap { result ≢ Err ApplyFault.Gap }
     {
-        if message.kind() != Kind::Created {
-            return Ok(News::Orphan);
-        }
         let Message::Thread {
             tid,
             tseq,
             change: Change::Created { facts },
         } = message.message()
         else {
-            unreachable!()
+            return Ok(News::Orphan);
         };
         self.records.reserve(tid, 1)?;
         self.records.put(tid, Known { facts, tseq });

@@ -16,7 +16,7 @@ use Rattle.gs_core.specs.Good.{Good}
 use Rattle.gs_core.specs.Held.{Kept, Suits, agent_of, machine_now}
 use Rattle.gs_core.proofs.Keeping.{needs_page}
 use Rattle.gs_core.proofs.Paging.{kept_paged}
-use Rattle.gs_core.proofs.Serving.{role_there}
+use Rattle.gs_core.proofs.Serving.{lent_mut, role_there}
 use Rattle.gs_core.proofs.Suiting.{suits_paged}
 use Rattle.gs_core.proofs.machine.Machine.page.Goals as goal
 
@@ -24,25 +24,25 @@ or_none : (b : Bool) → (b || false) ≡ b
 or_none true = refl
 or_none false = refl
 
-pub unreachable-requires : goal.unreachable-requires
-unreachable-requires g c =
+pub unwrap-role-requires : goal.unwrap-role-requires
+unwrap-role-requires g c =
     let m = machine_now g.P.Policy.chosen c.self.inside in
     let good : Good m = c.self.invariant.kept.good in
     let free : page_refusal m.history (is_given_all m) ≡ None = ap (λ (x : StateOf _). page_refusal x.history (is_given_all (planning g.P.Policy.chosen x))) c.self.view_is ∙ c.in_ok-page.ensures.fits in
-    role_there c.self.inside.role (good.when_attaching (needs_page m.history (page_of m.agent) free).0) c.in_default.is
+    c.as_mut.ensures.variant ∙ role_there c.self.inside.role (good.when_attaching (needs_page m.history (page_of m.agent) free).0)
 
 pub invariant_of-self-2 : goal.invariant_of-self-2
 invariant_of-self-2 g c =
     let m : State = machine_now g.P.Policy.chosen c.self.inside in
     let i = c.self.invariant in
-    let r : RoleOf _ = c.in-Some.role in
+    let r : RoleOf _ = c.unwrap-role.result.now in
     let r' : RoleOf _ = c.rebuild.new.self in
     let k = c.note_page.new.self in
     let page : Contents = c.in_ok-bytes.page in
     let free : page_refusal m.history (is_given_all m) ≡ None = ap (λ (x : StateOf _). page_refusal x.history (is_given_all (planning g.P.Policy.chosen x))) c.self.view_is ∙ c.in_ok-page.ensures.fits in
     let need = needs_page m.history (page_of m.agent) free in
     let from = need.1.0 in
-    let there : m.agent ≡ Some (agent_of r) = ap (option_map agent_of) c.in-Some.is in
+    let there : m.agent ≡ Some (agent_of r) = ap (option_map agent_of) (lent_mut c.as_mut.ensures.value c.unwrap-role.ensures) in
     let next : r.next ≡ Some from = sym (ap page_of there) ∙ need.1.1 in
     let dump : page ≡ next_dump m c.args.max = c.in_ok-bytes.ensures.page ∙ (c.in_ok-page.ensures.page ∙ ap (λ (x : StateOf _). next_dump (planning g.P.Policy.chosen x) c.args.max) (sym c.self.view_is)) in
     let at : page ≡ dumped m.settings m.history from c.args.max = dump ∙ ap (λ o. dumped m.settings m.history (unwrap_or o 0) c.args.max) need.1.1 in
@@ -67,5 +67,5 @@ invariant_of-self-2 g c =
       kept = subst Kept left (kept_paged m (agent_of r) from c.args.max r'.mind there next some known i.kept);
       told = subst (λ (x : KernelOf RingState). Posted x.poster (posted x.history)) (sym noted) i.told;
       suits = subst (λ (x : KernelOf RingState). Suits c.self.inside.policy x.history k.paged (Some r')) (sym noted)
-          (suits_paged c.self.inside.policy m.history old.paged k.paged r r' c.rebuild.ensures.others paged (subst (Suits c.self.inside.policy m.history old.paged) c.in-Some.is i.suits));
+          (suits_paged c.self.inside.policy m.history old.paged k.paged r r' c.rebuild.ensures.others paged (subst (Suits c.self.inside.policy m.history old.paged) (lent_mut c.as_mut.ensures.value c.unwrap-role.ensures) i.suits));
     }
