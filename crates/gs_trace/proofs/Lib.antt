@@ -1,6 +1,6 @@
 mod Known
 mod Lists
 mod One
-mod Taking
+mod Adding
 mod WorkedRuns
 mod Corners

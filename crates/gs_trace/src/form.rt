@@ -1,7 +1,7 @@
 ghost use Rattle.std.specs.Prelude.{◌≡◌, IfOk, map};
 ghost use Rattle.gs_core.specs.Machine.{planned, planning};
 ghost use Rattle.gs_trace.specs.Output.{any_plans, history_shown, shown_as};
-ghost use Rattle.gs_trace.specs.Taking.{ShowsRun};
+ghost use Rattle.gs_trace.specs.Adding.{ShowsRun};
 
 use crate::running::{Nothing, run_into};
 use gs_core::{Event, Machine};

@@ -1,13 +1,14 @@
-//! A run whose replies are taken in one by one, none of which is kept.
+//! A run whose replies are added to a sink one by one, none of which is kept.
 
-ghost use Rattle.std.specs.Prelude.{◌≡◌, List, [], ◌∷◌, ◌++◌, IfOk, OnOk, map};
-ghost use Rattle.gs_replies.specs.Replies.{reply_of};
+ghost use Rattle.std.specs.Prelude.{◌≡◌, List, [], ◌∷◌, ◌++◌, IfOk, OnOk, false, map};
 ghost use Rattle.gs_core.specs.Machine.{planned, planning};
+ghost use Rattle.gs_core.specs.Short.{wants_memory};
 ghost use Rattle.gs_replies.specs.declared.reply.Reply as replies;
 ghost use Rattle.gs_lines.specs.Lines.{lines};
 ghost use Rattle.gs_report.specs.Report.{ReportsOn};
+ghost use Rattle.gs_trace.specs.Adding.{AddedSoFar, AddsOne};
+ghost use Rattle.gs_trace.specs.Came.{reply_in};
 ghost use Rattle.gs_trace.specs.Output.{any_plans};
-ghost use Rattle.gs_trace.specs.Taking.{TakenSoFar, TakesOne};
 
 use gs_core::{Event, Machine, Reply, is_short, is_short_command};
 use gs_journal::Entry;
@@ -19,116 +20,118 @@ use gs_report::Report;
 use std::alloc::AllocError;
 use std::slice;
 
-/// What takes in the replies of a run, one after another.
-pub(crate) trait Taker: Drop {
-    /// It has taken in these replies, and no others.
+/// What came of an event, where it lies.
+#[derive(Clone, Copy)]
+pub(crate) enum Came<'a> {
+    /// What became of a command, or its refusal, and the kernel's last entry.
+    Executed(Result<Executed, Refusal>, &'a Entry),
+    /// The reply to any other event.
+    Replied(&'a Reply),
+}
+
+impl<'a> Came<'a> {
+    /// Tells whether it says that memory ran out.
+    #[inline(always)]
+    fn is_short(&self) -> bool
+        ensures { result ≡ wants_memory (reply_in self.now) }
+    {
+        match self {
+            Came::Executed(came, _) => is_short_command(*came),
+            Came::Replied(reply) => is_short(slice::from_ref(*reply)),
+        }
+    }
+}
+
+/// What the replies of a run are added to, one after another.
+pub(crate) trait Sink: Drop {
+    /// These replies were added to it, and no others.
     ghost has: { Self → List replies.Reply → Type 0 };
 
-    /// Takes in one more reply. It fails only if out of memory.
-    fn take(&mut self, reply: &Reply) -> Result<(), AllocError>
-        ensures { OnOk result ((rs : List replies.Reply) → has self.old rs → has self.new (rs ++ reply.now ∷ [])) };
-
-    /// Takes in the reply to a command by what came of it and the kernel's last entry. It fails only if out of memory.
-    fn take_executed(
-        &mut self,
-        came: Result<Executed, Refusal>,
-        last: &Entry,
-    ) -> Result<(), AllocError>
-        ensures { OnOk result ((rs : List replies.Reply) → has self.old rs → has self.new (rs ++ reply_of came last.now ∷ [])) };
+    /// Puts one more reply: what came of an event. It fails only if out of memory.
+    fn put(&mut self, came: Came<'_>) -> Result<(), AllocError>
+        ensures { OnOk result ((rs : List replies.Reply) → has self.old rs → has self.new (rs ++ reply_in came.entry ∷ [])) };
 }
 
 /// The lines of the replies.
-impl Taker for Text {
+impl Sink for Text {
     ghost has = { λ text rs. text ≡ lines rs };
 
-    #[tactic(auto, using(crate::proofs::Taking::text_more))]
-    fn take(&mut self, reply: &Reply) -> Result<(), AllocError> {
-        write_reply(self, reply)
-    }
-
-    #[tactic(auto, using(crate::proofs::Taking::text_more))]
-    fn take_executed(
-        &mut self,
-        came: Result<Executed, Refusal>,
-        last: &Entry,
-    ) -> Result<(), AllocError> {
-        write_executed(self, came, last)
-    }
-}
-
-impl Taker for Report {
-    ghost has = { ReportsOn };
-
-    fn take(&mut self, reply: &Reply) -> Result<(), AllocError> {
-        self.add(reply)
-    }
-
-    fn take_executed(
-        &mut self,
-        came: Result<Executed, Refusal>,
-        last: &Entry,
-    ) -> Result<(), AllocError> {
+    #[tactic(auto, using(crate::proofs::Adding::text_more))]
+    fn put(&mut self, came: Came<'_>) -> Result<(), AllocError> {
         match came {
-            Ok(executed) => self.add(&Reply::executed(executed, last)),
-            Err(refusal) => self.add(&Reply::Refused(refusal)),
+            Came::Executed(came, last) => write_executed(self, came, last),
+            Came::Replied(reply) => write_reply(self, reply),
         }
     }
 }
 
-/// What takes in replies and keeps nothing of them.
+impl Sink for Report {
+    ghost has = { ReportsOn };
+
+    fn put(&mut self, came: Came<'_>) -> Result<(), AllocError> {
+        match came {
+            Came::Executed(Ok(executed), last) => Report::add(
+                self,
+                &Reply::executed(executed, last),
+            ),
+            Came::Executed(Err(refusal), _) => self.add(&Reply::Refused(refusal)),
+            Came::Replied(reply) => self.add(reply),
+        }
+    }
+}
+
+/// What keeps nothing of the replies.
 #[derive(Drop)]
 pub(crate) struct Nothing;
 
-impl Taker for Nothing {
+impl Sink for Nothing {
     ghost has = { λ _ _. Unit {0} };
 
-    fn take(&mut self, _reply: &Reply) -> Result<(), AllocError> {
-        Ok(())
-    }
-
-    fn take_executed(
-        &mut self,
-        _came: Result<Executed, Refusal>,
-        _last: &Entry,
-    ) -> Result<(), AllocError> {
+    fn put(&mut self, _came: Came<'_>) -> Result<(), AllocError> {
         Ok(())
     }
 }
 
-/// Runs an event, and has its reply taken in. It fails only if out of memory, or if the reply tells of that.
-fn run_one<T: Taker>(
+/// Adds what came of an event to a sink. It fails only if out of memory, or if that tells of it.
+#[inline(always)]
+fn add_to<S: Sink>(sink: &mut S, came: Came<'_>) -> Result<(), AllocError>
+    ensures sufficed { OnOk result (wants_memory (reply_in came.entry) ≡ false) }
+    ensures grows { OnOk result ((rs : List replies.Reply) → S.has sink.old rs → S.has sink.new (rs ++ reply_in came.entry ∷ [])) }
+{
+    if came.is_short() {
+        return Err(AllocError);
+    }
+    sink.put(came)
+}
+
+/// Runs an event, and adds its reply to a sink. It fails only if out of memory, or if the reply tells of that.
+fn run_one<S: Sink>(
     machine: &mut Machine<AnyPolicy>,
     event: &Event<AnyPolicy>,
-    taker: &mut T,
+    sink: &mut S,
 ) -> Result<(), AllocError>
-    ensures { OnOk result (TakesOne T.has (planning any_plans machine.old) (planned any_plans event.now) (planning any_plans machine.new) taker.old taker.new) }
+    ensures { OnOk result (AddsOne S.has (planning any_plans machine.old) (planned any_plans event.now) (planning any_plans machine.new) sink.old sink.new) }
 {
     if let Event::Kernel { command } = event {
         let came = machine.command(command);
-        if is_short_command(came) {
-            return Err(AllocError);
-        }
-        return taker.take_executed(came, machine.kernel().last());
+        return add_to(sink, Came::Executed(came, machine.kernel().last()));
     }
     let reply = machine.step(event);
-    if is_short(slice::from_ref(&reply)) {
-        return Err(AllocError);
-    }
-    taker.take(&reply)
+    add_to(sink, Came::Replied(&reply))
 }
 
-/// Runs events, and has each reply taken in. It fails only if out of memory, or if a reply tells of that.
-pub(crate) fn run_into<T: Taker>(
+/// Runs events, and adds each reply to a sink. It fails only if out of memory, or if a reply tells of that.
+pub(crate) fn run_into<S: Sink>(
     machine: &mut Machine<AnyPolicy>,
     events: &[Event<AnyPolicy>],
-    taker: T,
-) -> Result<T, AllocError>
-    requires { T.has taker [] }
-    ensures { IfOk result (λ taken. TakenSoFar T.has (planning any_plans machine.old) (map (planned any_plans) events.now) [] (planning any_plans machine.new) taken) }
+    sink: S,
+) -> Result<S, AllocError>
+    requires { S.has sink [] }
+    ensures { IfOk result (λ full. AddedSoFar S.has (planning any_plans machine.old) (map (planned any_plans) events.now) [] (planning any_plans machine.new) full) }
 {
-    let mut taken = taker;
+    let mut sink = sink;
     for event in events {
-        run_one(machine, event, &mut taken)?;
+        run_one(machine, event, &mut sink)?;
     }
-    Ok(taken)
+    Ok(sink)
 }

@@ -1,4 +1,4 @@
--- The replies of a run, taken in one by one.
+-- The replies of a run, added one by one.
 use Rattle.std.proofs.Common.{◌≡◌, refl, sym, subst, ◌∙◌, ap, ℕ, false, ◌+◌, ◌<◌, ◌≤◌, List, [], ◌∷◌, ◌++◌, append-nil, append_assoc, add-one, drop, drop-cons, get_or, length, map}
 use Rattle.std.specs.List.{list_any}
 use Rattle.std.proofs.lemmas.List.{drop_all}
@@ -11,18 +11,18 @@ use Rattle.gs_core.specs.Short.{wants_memory}
 use Rattle.gs_journal.specs.History.{History}
 use Rattle.gs_lines.specs.Lines.{lines, reply_lines}
 use Rattle.gs_lines.proofs.Laws.{lines_more}
-use Rattle.gs_trace.specs.Taking.{ShowsRun, TakenSoFar}
+use Rattle.gs_trace.specs.Adding.{ShowsRun, AddedSoFar}
 
-pub none_taken : {T : Type 0} (Has : T → List Reply → Type 0) (m : State) (es : List (Event Plan)) (taken : T) → Has taken [] → TakenSoFar Has m es es m taken
-none_taken Has m es taken h = record { replies = []; leads = λ more end run. run; sufficed = refl; has = h }
+pub none_added : {T : Type 0} (Has : T → List Reply → Type 0) (m : State) (es : List (Event Plan)) (taken : T) → Has taken [] → AddedSoFar Has m es es m taken
+none_added Has m es taken h = record { replies = []; leads = λ more end run. run; sufficed = refl; has = h }
 
 suffices : (rs : List Reply) (r : Reply) → list_any wants_memory rs ≡ false → list_any wants_memory (r ∷ []) ≡ false → list_any wants_memory (rs ++ r ∷ []) ≡ false
 suffices rs r h k = rw (list_any-append wants_memory rs (r ∷ []), h, k) refl
 
-pub taken_more : {T : Type 0} (Has : T → List Reply → Type 0) (m : State) (es left rest : List (Event Plan)) (now next : State) (e : Event Plan) (r : Reply) (old new : T)
-    → TakenSoFar Has m es left now old → left ≡ e ∷ rest → Step now e r next → Safe next → IsFaithful next → list_any wants_memory (r ∷ []) ≡ false
-    → ((rs : List Reply) → Has old rs → Has new (rs ++ r ∷ [])) → TakenSoFar Has m es rest next new
-taken_more Has m es left rest now next e r old new so_far is step safe faithful fine grows =
+pub added_more : {T : Type 0} (Has : T → List Reply → Type 0) (m : State) (es left rest : List (Event Plan)) (now next : State) (e : Event Plan) (r : Reply) (old new : T)
+    → AddedSoFar Has m es left now old → left ≡ e ∷ rest → Step now e r next → Safe next → IsFaithful next → list_any wants_memory (r ∷ []) ≡ false
+    → ((rs : List Reply) → Has old rs → Has new (rs ++ r ∷ [])) → AddedSoFar Has m es rest next new
+added_more Has m es left rest now next e r old new so_far is step safe faithful fine grows =
     record {
       replies = so_far.replies ++ r ∷ [];
       leads =
@@ -33,9 +33,9 @@ taken_more Has m es left rest now next e r old new so_far is step safe faithful 
       has = grows so_far.replies so_far.has;
     }
 
-pub all_taken : {T : Type 0} (Has : T → List Reply → Type 0) (Shows : List Reply → ℕ → History → List ℕ → Type 0) (m : State) (es : List (Event Plan)) (end : State) (taken : T) (out : List ℕ)
-    → TakenSoFar Has m es [] end taken → ((rs : List Reply) → Has taken rs → Shows rs end.settings.cpus end.history out) → ShowsRun Shows m es end out
-all_taken Has Shows m es end taken out t shows =
+pub all_added : {T : Type 0} (Has : T → List Reply → Type 0) (Shows : List Reply → ℕ → History → List ℕ → Type 0) (m : State) (es : List (Event Plan)) (end : State) (taken : T) (out : List ℕ)
+    → AddedSoFar Has m es [] end taken → ((rs : List Reply) → Has taken rs → Shows rs end.settings.cpus end.history out) → ShowsRun Shows m es end out
+all_added Has Shows m es end taken out t shows =
     record {
       replies = t.replies;
       run = subst (λ (rs : List Reply). Run m es rs end) (append-nil t.replies) (t.leads [] end refl);

@@ -1,4 +1,4 @@
--- What has taken in the replies of a run.
+-- What the replies of a run were added to.
 use Rattle.std.specs.Prelude.{◌≡◌, ℕ, List, ◌++◌, ◌∷◌, [], false}
 use Rattle.std.specs.List.{list_any}
 use Rattle.gs_core.specs.declared.event.Event.{Event}
@@ -8,16 +8,16 @@ use Rattle.gs_core.specs.Safe.{Safe, IsFaithful, Run}
 use Rattle.gs_core.specs.Short.{wants_memory}
 use Rattle.gs_journal.specs.History.{History}
 
--- of a run of these events, from one machine on to another with some events left, the replies so far were taken in. Memory sufficed,
+-- of a run of these events, from one machine on to another with some events left, the replies so far were added. Memory sufficed,
 -- and the replies to what is left follow them
-pub record TakenSoFar {T : Type 0} (Has : T → List Reply → Type 0) (m : State) (es left : List (Event Plan)) (now : State) (taken : T) : Type 0 where
+pub record AddedSoFar {T : Type 0} (Has : T → List Reply → Type 0) (m : State) (es left : List (Event Plan)) (now : State) (sink : T) : Type 0 where
   pub replies : List Reply
   pub leads : (more : List Reply) (end : State) → Run now left more end → Run m es (replies ++ more) end
   pub sufficed : list_any wants_memory replies ≡ false
-  pub has : Has taken replies
+  pub has : Has sink replies
 
--- one event, from one machine to the next: its reply does not tell that memory ran out, and was taken in behind those before
-pub record TakesOne {T : Type 0} (Has : T → List Reply → Type 0) (m : State) (e : Event Plan) (next : State) (old new : T) : Type 0 where
+-- one event, from one machine to the next: its reply does not tell that memory ran out, and was added behind those before
+pub record AddsOne {T : Type 0} (Has : T → List Reply → Type 0) (m : State) (e : Event Plan) (next : State) (old new : T) : Type 0 where
   pub reply : Reply
   pub step : Step m e reply next
   pub safe : Safe next
