@@ -86,3 +86,11 @@ narrower word n most h l =
 
 pub narrowed : (text rest : List ℕ) (n most : ℕ) → StartsWith (λ word. number_between 0 18446744073709551615 word ≡ Ok n) text rest → n ≤ most → StartsWith (λ word. number_between 0 most word ≡ Ok n) text rest
 narrowed text rest n most s l = record { front = s.front; cut = s.cut; is = narrower s.front n most s.is l }
+
+pub widened : (text rest : List ℕ) (n : ℕ) → StartsWith (λ word. number_between 0 18446744073709551615 word ≡ Ok n) text rest → StartsWith (λ word. number_between 0 340282366920938463463374607431768211455 word ≡ Ok n) text rest
+widened text rest n s =
+    let k = number_is 18446744073709551615 n s.front s.is in
+    let high = k.in_range in
+    let fits : number s.front ≤ 18446744073709551615 = grind (arith, nat_tests) in
+    let value = k.value in
+    narrowed text rest n 340282366920938463463374607431768211455 s (omega (arith, fits, value))

@@ -1,5 +1,5 @@
 -- The lines that say something, and the events that they say.
-use Rattle.std.proofs.Common.{◌≡◌, refl, ap, sym, subst, ◌∙◌, ℕ, ◌+◌, ◌==◌, ◌<◌, nat_lt, Bool, true, false, not, ◌&&◌, cond, Option, None, Some, Result, Ok, Err, List, [], ◌∷◌, ◌++◌, append_assoc, append-nil, filter, length, get_or, map, arith}
+use Rattle.std.proofs.Common.{◌≡◌, refl, ap, sym, subst, ◌∙◌, ℕ, ◌+◌, ◌==◌, nat_lt, Bool, true, false, not, ◌&&◌, cond, Option, None, Result, Ok, Err, List, [], ◌∷◌, ◌++◌, append_assoc, filter, length, map, arith}
 use Rattle.std.specs.List.{onto_first, slice_split}
 use Rattle.std.proofs.lemmas.List.Splits.{slice_split-cons_no, slice_split-cons_yes}
 use denote.Ref.{Bor}
@@ -16,7 +16,7 @@ use Rattle.gs_script.specs.declared.script.TheConstants.{MOST_BYTES}
 use Rattle.gs_script.specs.Words.{is_text, is_word, lines_of, words_of}
 use Rattle.gs_script.specs.Rows.{event_of}
 use Rattle.gs_script.specs.Header.{header_of}
-use Rattle.gs_script.specs.Script.{Script, before, events_of, fault, headed, is_passed_over, says, script_from, script_of, some_of, with_config, with_event}
+use Rattle.gs_script.specs.Script.{before, events_of, fault, headed, is_passed_over, script_from, script_of, some_of, with_config, with_event}
 use Rattle.gs_script.specs.Said.{SayEach, SayScript, line_if, line_of, said, said_in, says_something}
 
 -- a space in front changes no word

@@ -1,5 +1,5 @@
 -- Where the faults of some lines stand, and that the kinds that are wanted there give the fault.
-use Rattle.std.proofs.Common.{◌≡◌, ◌∙◌, ℕ, suc, ◌+◌, ◌==◌, Bool, true, false, cond, List, [], ◌∷◌, ◌++◌, codes, length, refl, ap, sym, Option, None, Some, flat_map, arith}
+use Rattle.std.proofs.Common.{◌≡◌, ◌∙◌, ℕ, suc, ◌+◌, ◌==◌, Bool, true, false, cond, List, [], ◌∷◌, codes, length, refl, ap, sym, Option, None, Some, flat_map, arith}
 use Rattle.std.specs.List.{list_any}
 use Rattle.std.proofs.lemmas.Bool.Decides.{nat_tests}
 use Rattle.gs_script.specs.declared.fault.Reason.{Reason}

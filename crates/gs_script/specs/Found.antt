@@ -1,5 +1,5 @@
 -- The fault of a script, with the word at which it stands.
-use Rattle.std.specs.Prelude.{◌≡◌, ◌-◌, ◌==◌, ℕ, suc, zero, not, nat_lt, Bool, true, false, List, [], ◌∷◌, ◌++◌, map, take, drop, get_or, length, if◌then◌else◌, Err}
+use Rattle.std.specs.Prelude.{◌≡◌, ◌-◌, ◌==◌, ℕ, suc, zero, not, nat_lt, Bool, true, false, List, [], ◌∷◌, ◌++◌, map, take, drop, get_or, length, Err}
 use Rattle.std.specs.List.{list_all}
 use Rattle.gs_script.specs.declared.found.Found.{Found}
 use Rattle.gs_script.specs.declared.marked.Marked.{Marked}

@@ -12,7 +12,7 @@ use Rattle.gs_script.specs.declared.script.LineError.{LineError}
 use Rattle.gs_script.specs.declared.script.LineError.TheVariants as lines
 use Rattle.gs_script.specs.Words.{is_shortest}
 use Rattle.gs_script.specs.Rows.{event_of}
-use Rattle.gs_script.specs.Plain.{FirstLine}
+use Rattle.gs_script.specs.Plain.{FirstLine, IsRead}
 use Rattle.gs_script.specs.Script.{Script, says, fault}
 
 -- a word that `parse` reads as a number is one, if this holds: a plus in front is no digit, though `parse` takes it
@@ -48,6 +48,21 @@ pub record Adds (text : List ℕ) (left : Option (Bor (List ℕ))) (old new : Li
   pub said : Option (Event AnyPolicy)
   pub first : FirstLine (λ line. says event_of line ≡ Ok said) text left
   pub events : new ≡ and_one old said
+
+-- the same of an event that is read so
+pub record AddsRead (read : List (List ℕ) → Result (Event AnyPolicy) TheReason) (text : List ℕ) (left : Option (Bor (List ℕ))) (old new : List (Event AnyPolicy)) : Type 0 where
+  pub event : Event AnyPolicy
+  pub first : FirstLine (IsRead read event) text left
+  pub events : new ≡ old ++ event ∷ []
+
+abbrev pub AddsReadIf : (List (List ℕ) → Result (Event AnyPolicy) TheReason) → List ℕ → List (Event AnyPolicy) → List (Event AnyPolicy) → Option (Option (Bor (List ℕ))) → Type 0
+AddsReadIf read text old new None = new ≡ old
+AddsReadIf read text old new (Some left) = AddsRead read text left old new
+
+-- the same of any event, if something is left. If nothing is, nothing was added
+abbrev pub AddsIf : List ℕ → List (Event AnyPolicy) → List (Event AnyPolicy) → Option (Option (Bor (List ℕ))) → Type 0
+AddsIf text old new None = new ≡ old
+AddsIf text old new (Some left) = Adds text left old new
 
 -- the first line of a text was not read
 pub record Fails (text : List ℕ) (e : LineError) : Type 0 where

@@ -1,6 +1,7 @@
 -- What stands first in a text.
 use denote.Ref.{Bor}
-use Rattle.std.specs.Prelude.{ℕ, ◌≡◌, List, [], ◌∷◌, ◌++◌, true, Option, None, Some, Result, Ok}
+use Rattle.std.specs.Prelude.{ℕ, ◌≡◌, List, [], ◌∷◌, ◌++◌, true, Option, None, Some, Result, Ok, codes, if◌then◌else◌}
+use Rattle.gs_slots.specs.declared.flags.Flags.{Flags}
 use Rattle.gs_script.specs.declared.fault.Reason.{Reason}
 use Rattle.gs_script.specs.Words.{is_text, lines_of, words_of}
 
@@ -25,3 +26,7 @@ pub record FirstLine (Is : List ℕ → Type 0) (text : List ℕ) (left : Option
 pub record IsRead {A : Type 0} (read : List (List ℕ) → Result A Reason) (x : A) (line : List ℕ) : Type 0 where
   pub text : is_text line ≡ true
   pub words : read (words_of line) ≡ Ok x
+
+-- how flags stand behind a stamp: a space and their word, or nothing if there is none
+abbrev pub flags_text : Flags → List ℕ
+flags_text f = if f.preempt then (if f.group then codes " pg" else codes " p") else (if f.group then codes " g" else [])

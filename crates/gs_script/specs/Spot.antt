@@ -1,6 +1,6 @@
 -- Where a line's first fault stands, and what is wanted there.
 use denote.Ref.{Bor}
-use Rattle.std.specs.Prelude.{◌+◌, ℕ, max, min, nat_lt, List, [], ◌∷◌, ◌++◌, map, length, flat_map, find, if◌then◌else◌, Option, Some, None, codes}
+use Rattle.std.specs.Prelude.{◌+◌, ℕ, max, min, nat_lt, List, [], ◌∷◌, map, length, flat_map, find, if◌then◌else◌, Option, Some, None, codes}
 use Rattle.gs_status.specs.declared.mask.TheConstants.{MOST_CPUS}
 use Rattle.gs_layout.specs.declared.wire.TheConstants.{ALIGNMENT}
 use Rattle.gs_ring.specs.declared.block.TheConstants.{LEAST_CAPACITY, MOST_CAPACITY}

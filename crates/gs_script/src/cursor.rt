@@ -1,12 +1,14 @@
 //! Reading what stands first in a text. Each call returns what was read and what is left behind it, and
 //! `None` says nothing of the text.
 
-ghost use Rattle.std.specs.Prelude.{◌≡◌, ◌≤◌, ◌++◌, ◌∷◌, [], codes, length, take, IfSome, Ok, true, if◌then◌else◌};
+ghost use Rattle.std.specs.Prelude.{◌≡◌, ◌≤◌, ◌++◌, ◌∷◌, [], length, take, IfSome, Ok, true};
 ghost use Rattle.std.specs.Str.{all_ascii_digits};
 ghost use Rattle.std.specs.Str.Parse.{digits_value};
 ghost use Rattle.gs_script.specs.Words.{is_word, lines_of};
 ghost use Rattle.gs_script.specs.Rows.{number_between};
-ghost use Rattle.gs_script.specs.Plain.{FirstLine, StartsWith, lines_left};
+ghost use Rattle.gs_script.specs.Plain.{FirstLine, StartsWith, flags_text, lines_left};
+
+use gs_slots::Flags;
 
 /// Any number of so many digits has 64 bits.
 const SURE_DIGITS: usize = 19;
@@ -64,15 +66,31 @@ fn sure_digits(text: &[u8]) -> (u64, usize)
     (value, count)
 }
 
-/// Returns the number of 64 bits that a text begins with, and what stands behind its digits. It returns `None` if the
-/// text begins with no digit or a needless zero, or the number has more bits.
+/// Returns the number that a text begins with, and what stands behind its digits, of which there are [`SURE_DIGITS`] at
+/// most. It returns `None` if the text begins with no digit or a needless zero.
 #[inline(always)]
 fn digits_first(text: &[u8]) -> Option<(u64, &[u8])>
     ensures { IfSome result (λ p. StartsWith (λ digits. number_between 0 u64.MAX digits ≡ Ok p.0) text.now p.1.now) }
 {
-    let (mut value, mut count) = sure_digits(text);
+    let (value, count) = sure_digits(text);
+    if count == 0 {
+        return None;
+    }
+    if count > 1 && text[0] == b'0' {
+        return None;
+    }
+    Some((value, &text[count..]))
+}
+
+/// The same of any number of 128 bits.
+#[inline(never)]
+fn long_mask(text: &[u8]) -> Option<(u128, &[u8])>
+    ensures { IfSome result (λ p. StartsWith (λ digits. number_between 0 u128.MAX digits ≡ Ok p.0) text.now p.1.now) }
+{
+    let (sure, mut count) = sure_digits(text);
+    let mut value = sure as u128;
     while count < text.len() && text[count].is_ascii_digit() {
-        let digit = (text[count] - b'0') as u64;
+        let digit = (text[count] - b'0') as u128;
         value = value.checked_mul(10)?.checked_add(digit)?;
         count += 1;
     }
@@ -91,20 +109,11 @@ fn digits_first(text: &[u8]) -> Option<(u64, &[u8])>
 fn mask_first(text: &[u8]) -> Option<(u128, &[u8])>
     ensures { IfSome result (λ p. StartsWith (λ digits. number_between 0 u128.MAX digits ≡ Ok p.0) text.now p.1.now) }
 {
-    let (sure, mut count) = sure_digits(text);
-    let mut value = sure as u128;
-    while count < text.len() && text[count].is_ascii_digit() {
-        let digit = (text[count] - b'0') as u128;
-        value = value.checked_mul(10)?.checked_add(digit)?;
-        count += 1;
+    let (value, rest) = digits_first(text)?;
+    match rest {
+        [b'0'..=b'9', ..] => long_mask(text),
+        _ => Some((value as u128, rest)),
     }
-    if count == 0 {
-        return None;
-    }
-    if count > 1 && text[0] == b'0' {
-        return None;
-    }
-    Some((value, &text[count..]))
 }
 
 /// A mask, and the space behind it.
@@ -180,15 +189,18 @@ pub(crate) fn u32_last(text: &[u8]) -> Option<(u32, Option<&[u8]>)>
     Some((number as u32, left))
 }
 
-/// The flag of a stamp, or nothing, up to the end of a line: whether the flag stands there.
+/// The flags that stand behind a space, or none if no flag does, and what is left behind them.
 #[inline(always)]
-pub(crate) fn flag_last(text: &[u8]) -> Option<(bool, Option<&[u8]>)>
-    ensures { IfSome result (λ p. FirstLine (λ line. line ≡ (if p.0 then codes " p" else [])) text.now p.1) }
+pub(crate) fn flags_first(text: &[u8]) -> (Flags, &[u8])
+    ensures { text.now ≡ flags_text result.0 ++ result.1.now }
 {
-    match behind(text, b" p") {
-        Some(rest) => Some((true, line_end(rest)?)),
-        None => Some((false, line_end(text)?)),
-    }
+    let (preempt, group, rest) = match text {
+        [b' ', b'p', b'g', rest @ ..] => (true, true, rest),
+        [b' ', b'p', rest @ ..] => (true, false, rest),
+        [b' ', b'g', rest @ ..] => (false, true, rest),
+        _ => return (Flags::NONE, text),
+    };
+    (Flags { preempt, group }, rest)
 }
 
 /// All of a line that is not empty.

@@ -1,46 +1,34 @@
 //! Lines in their plainest form, read in one pass over their bytes: a word, and one space before each word behind it.
 
-ghost use Rattle.std.specs.Prelude.{◌≡◌, ◌∷◌, [], codes, IfSome, Ok, Some, if◌then◌else◌};
-ghost use Rattle.gs_script.specs.Words.{lines_of};
+ghost use Rattle.std.specs.Prelude.{◌≡◌, ◌<◌, ◌∷◌, [], codes, IfSome, if◌then◌else◌, vec_capacity, vec_len};
 ghost use Rattle.gs_script.specs.Rows as rows;
-ghost use Rattle.gs_script.specs.Rows.{event_of, reads};
-ghost use Rattle.gs_script.specs.Plain.{FirstLine, IsRead, StartsWith, lines_left};
-ghost use Rattle.gs_script.specs.Script.{says};
+ghost use Rattle.gs_script.specs.Rows.{reads};
+ghost use Rattle.gs_script.specs.Plain.{FirstLine, IsRead, StartsWith};
+ghost use Rattle.gs_core.specs.declared.event.Event.TheVariants as kinds;
+ghost use Rattle.gs_script.specs.Held.{AddsIf, AddsReadIf};
 
 use crate::cursor::{
-    behind, flag_last, line_end, mask_last, mask_spaced, number_first, number_last, number_spaced,
-    rest_of_line, u16_last, u32_last,
+    behind, flags_first, line_end, mask_last, mask_spaced, number_first, number_last,
+    number_spaced, rest_of_line, u16_last, u32_last,
 };
 use crate::word::name;
 use gs_core::Event;
 use gs_kernel::{Command, ThreadEvent};
 use gs_layout::{Class, Facts};
 use gs_policy::AnyPolicy;
-use gs_slots::Flags;
 use gs_status::Mask;
 
-/// An event, and what is left behind its line. `None` says nothing of the line.
-type Found<'a> = Option<(Event<AnyPolicy>, Option<&'a [u8]>)>;
+/// What is left behind a line that was read. `None` says nothing of the line, and no event is added then.
+type Left<'a> = Option<Option<&'a [u8]>>;
 
-/// A line whose first word says all.
-#[inline(always)]
-fn alone(text: &[u8], event: Event<AnyPolicy>) -> Found<'_>
-    ensures { IfSome result (λ p. (lines_of text.now ≡ [] ∷ lines_left p.1) × (p.0 ≡ event)) }
-{
-    let left = line_end(text)?;
-    Some((event, left))
-}
+type Events = Vec<Event<AnyPolicy>>;
 
-/// A thread's class, and the space behind it.
+/// The event that the kernel is told this.
 #[inline(always)]
-fn class_spaced(text: &[u8]) -> Option<(Class, &[u8])>
-    ensures { IfSome result (λ p. StartsWith (λ word. rows.class_in word ≡ Ok p.0) text.now (32 ∷ p.1.now)) }
+fn of_kernel(command: Command) -> Event<AnyPolicy>
+    ensures { result ≡ kinds.Kernel command }
 {
-    let (class, rest) = number_spaced(text, 1)?;
-    match class {
-        0 => Some((Class::Zero, rest)),
-        _ => Some((Class::One, rest)),
-    }
+    Event::Kernel { command }
 }
 
 /// Whether a thread is runnable, and the space behind the word that says it.
@@ -54,11 +42,12 @@ fn runnable_spaced(text: &[u8]) -> Option<(bool, &[u8])>
     }
 }
 
-fn create(text: &[u8]) -> Found<'_>
+/// A creation, and what is left behind its line.
+fn create(text: &[u8]) -> Option<(Event<AnyPolicy>, Option<&[u8]>)>
     ensures { IfSome result (λ p. FirstLine (IsRead (reads rows.create) p.0) text.now p.1) }
 {
     let (mask, rest) = mask_spaced(text)?;
-    let (class, rest) = class_spaced(rest)?;
+    let (class, rest) = number_spaced(rest, 1)?;
     let (runnable, rest) = runnable_spaced(rest)?;
     let (word, left) = rest_of_line(rest)?;
     let Ok(name) = name(word) else {
@@ -67,26 +56,27 @@ fn create(text: &[u8]) -> Found<'_>
     let facts = Facts {
         mask: Mask::new(mask),
         runnable,
-        class,
+        class: Class::numbered(class as u8),
         name,
     };
-    let command = Command::Create { facts };
-    Some((Event::Kernel { command }, left))
+    Some((of_kernel(Command::Create { facts }), left))
 }
 
 /// What happens to the thread of a number.
 #[inline(always)]
-fn to_thread(text: &[u8], event: ThreadEvent) -> Found<'_>
-    ensures { IfSome result (λ p. FirstLine (IsRead (reads (rows.to_thread [] event)) p.0) text.now p.1) }
+fn to_thread<'a>(text: &'a [u8], event: ThreadEvent, events: &mut Events) -> Left<'a>
+    requires { vec_len events.old < vec_capacity events.old }
+    ensures { AddsReadIf (reads (rows.to_thread [] event)) text.now events.old.items events.new.items result }
 {
     let (tid, left) = u32_last(text)?;
-    let command = Command::Thread { tid, event };
-    Some((Event::Kernel { command }, left))
+    events.push_reserved(of_kernel(Command::Thread { tid, event }));
+    Some(left)
 }
 
 #[inline(always)]
-fn affinity(text: &[u8]) -> Found<'_>
-    ensures { IfSome result (λ p. FirstLine (IsRead (reads rows.affinity) p.0) text.now p.1) }
+fn affinity<'a>(text: &'a [u8], events: &mut Events) -> Left<'a>
+    requires { vec_len events.old < vec_capacity events.old }
+    ensures { AddsReadIf (reads rows.affinity) text.now events.old.items events.new.items result }
 {
     let (tid, rest) = number_spaced(text, u32::MAX as u64)?;
     let (mask, left) = mask_last(rest)?;
@@ -94,127 +84,121 @@ fn affinity(text: &[u8]) -> Found<'_>
         mask: Mask::new(mask),
     };
     let tid = tid as u32;
-    let command = Command::Thread { tid, event };
-    Some((Event::Kernel { command }, left))
+    events.push_reserved(of_kernel(Command::Thread { tid, event }));
+    Some(left)
 }
 
+/// A stamp, and what is left behind its line.
 #[inline(always)]
-fn take(text: &[u8]) -> Found<'_>
-    ensures { IfSome result (λ p. FirstLine (IsRead (reads rows.take) p.0) text.now p.1) }
-{
-    let (cpu, left) = u16_last(text)?;
-    let command = Command::Take { cpu };
-    Some((Event::Kernel { command }, left))
-}
-
-#[inline(always)]
-fn give(text: &[u8]) -> Found<'_>
-    ensures { IfSome result (λ p. FirstLine (IsRead (reads rows.give) p.0) text.now p.1) }
-{
-    let (cpu, left) = u16_last(text)?;
-    let command = Command::Give { cpu };
-    Some((Event::Kernel { command }, left))
-}
-
-#[inline(always)]
-fn tick(text: &[u8]) -> Found<'_>
-    ensures { IfSome result (λ p. FirstLine (IsRead (reads rows.tick) p.0) text.now p.1) }
-{
-    let (cpu, left) = u16_last(text)?;
-    let command = Command::Tick { cpu };
-    Some((Event::Kernel { command }, left))
-}
-
-#[inline(always)]
-fn handoff(text: &[u8]) -> Found<'_>
-    ensures { IfSome result (λ p. FirstLine (IsRead (reads rows.handoff) p.0) text.now p.1) }
-{
-    let (cpu, left) = u16_last(text)?;
-    let command = Command::HandOff { cpu };
-    Some((Event::Kernel { command }, left))
-}
-
-#[inline(always)]
-fn page(text: &[u8]) -> Found<'_>
-    ensures { IfSome result (λ p. FirstLine (IsRead (reads rows.page) p.0) text.now p.1) }
-{
-    let (max, left) = u16_last(text)?;
-    Some((Event::Page { max }, left))
-}
-
-#[inline(always)]
-fn drain(text: &[u8]) -> Found<'_>
-    ensures { IfSome result (λ p. FirstLine (IsRead (reads rows.drain) p.0) text.now p.1) }
-{
-    let (max, left) = u32_last(text)?;
-    Some((Event::Drain { max }, left))
-}
-
-/// A stamp by itself. One of a group is no frequent line.
-#[inline(always)]
-fn stamp(text: &[u8]) -> Found<'_>
+fn stamp(text: &[u8]) -> Option<(Event<AnyPolicy>, Option<&[u8]>)>
     ensures { IfSome result (λ p. FirstLine (IsRead (reads rows.stamp) p.0) text.now p.1) }
 {
     let (cpu, rest) = number_spaced(text, u16::MAX as u64)?;
     let (tid, rest) = number_first(rest, u32::MAX as u64)?;
-    let (preempt, left) = flag_last(rest)?;
+    let (flags, rest) = flags_first(rest);
+    let left = line_end(rest)?;
     let cpu = cpu as u16;
     let tid = tid as u32;
-    let flags = Flags::single(preempt);
     Some((Event::Stamp { cpu, tid, flags }, left))
 }
 
-#[inline(always)]
-fn commit(text: &[u8]) -> Found<'_>
-    ensures { IfSome result (λ p. FirstLine (IsRead (reads rows.commit) p.0) text.now p.1) }
-{
-    let (mask, left) = mask_last(text)?;
-    let mask = Mask::new(mask);
-    Some((Event::Commit { mask }, left))
-}
-
-#[inline(always)]
-fn late(text: &[u8]) -> Found<'_>
-    ensures { IfSome result (λ p. FirstLine (IsRead (reads rows.late) p.0) text.now p.1) }
-{
-    let (number, left) = u32_last(text)?;
-    Some((Event::Late { number }, left))
-}
-
-/// Returns the event of a text's first line, if that is a frequent one in its plainest form.
-pub(crate) fn plain_event(text: &[u8]) -> Found<'_>
-    ensures { IfSome result (λ p. FirstLine (λ line. says event_of line ≡ Ok (Some p.0)) text.now p.1) }
+/// Adds the event of a text's first line, if that is a frequent one in its plainest form, and returns what is left
+/// behind the line. `None` says nothing of the line, and nothing is added then.
+pub(crate) fn add_plain<'a>(text: &'a [u8], events: &mut Events) -> Left<'a>
+    requires { vec_len events.old < vec_capacity events.old }
+    ensures { AddsIf text.now events.old.items events.new.items result }
 {
     match text.first()? {
-        b'a' => affinity(behind(text, b"affinity ")?),
-        b'b' => to_thread(behind(text, b"block ")?, ThreadEvent::Block),
+        b'a' => affinity(behind(text, b"affinity ")?, events),
+        b'b' => to_thread(behind(text, b"block ")?, ThreadEvent::Block, events),
         b'c' => match behind(text, b"commit ") {
-            Some(rest) => commit(rest),
-            None => create(behind(text, b"create ")?),
+            Some(rest) => {
+                let (mask, left) = mask_last(rest)?;
+                let mask = Mask::new(mask);
+                events.push_reserved(Event::Commit { mask });
+                Some(left)
+            }
+            None => {
+                let Some((event, left)) = create(behind(text, b"create ")?) else {
+                    return None;
+                };
+                events.push_reserved(event);
+                Some(left)
+            }
         },
         b'd' => match behind(text, b"drain ") {
-            Some(rest) => drain(rest),
+            Some(rest) => {
+                let (max, left) = u32_last(rest)?;
+                events.push_reserved(Event::Drain { max });
+                Some(left)
+            }
             None => match behind(text, b"decide") {
-                Some(rest) => alone(rest, Event::Decide),
-                None => to_thread(behind(text, b"die ")?, ThreadEvent::Die),
+                Some(rest) => {
+                    let left = line_end(rest)?;
+                    events.push_reserved(Event::Decide);
+                    Some(left)
+                }
+                None => to_thread(behind(text, b"die ")?, ThreadEvent::Die, events),
             },
         },
-        b'g' => give(behind(text, b"give ")?),
-        b'h' => handoff(behind(text, b"handoff ")?),
-        b'l' => late(behind(text, b"late ")?),
-        b'p' => page(behind(text, b"page ")?),
+        b'g' => {
+            let (cpu, left) = u16_last(behind(text, b"give ")?)?;
+            events.push_reserved(of_kernel(Command::Give { cpu }));
+            Some(left)
+        }
+        b'h' => {
+            let (cpu, left) = u16_last(behind(text, b"handoff ")?)?;
+            events.push_reserved(of_kernel(Command::HandOff { cpu }));
+            Some(left)
+        }
+        b'l' => {
+            let (number, left) = u32_last(behind(text, b"late ")?)?;
+            events.push_reserved(Event::Late { number });
+            Some(left)
+        }
+        b'p' => {
+            let (max, left) = u16_last(behind(text, b"page ")?)?;
+            events.push_reserved(Event::Page { max });
+            Some(left)
+        }
         b's' => match behind(text, b"stamp ") {
-            Some(rest) => stamp(rest),
-            None => alone(behind(text, b"state")?, Event::State),
+            Some(rest) => {
+                let Some((event, left)) = stamp(rest) else {
+                    return None;
+                };
+                events.push_reserved(event);
+                Some(left)
+            }
+            None => {
+                let left = line_end(behind(text, b"state")?)?;
+                events.push_reserved(Event::State);
+                Some(left)
+            }
         },
         b't' => match behind(text, b"tick ") {
-            Some(rest) => tick(rest),
-            None => take(behind(text, b"take ")?),
+            Some(rest) => {
+                let (cpu, left) = u16_last(rest)?;
+                events.push_reserved(of_kernel(Command::Tick { cpu }));
+                Some(left)
+            }
+            None => {
+                let (cpu, left) = u16_last(behind(text, b"take ")?)?;
+                events.push_reserved(of_kernel(Command::Take { cpu }));
+                Some(left)
+            }
         },
-        b'u' => alone(behind(text, b"unread")?, Event::Unread),
-        b'v' => alone(behind(text, b"view")?, Event::View),
-        b'w' => to_thread(behind(text, b"wake ")?, ThreadEvent::Wake),
-        b'y' => to_thread(behind(text, b"yield ")?, ThreadEvent::Yield),
+        b'u' => {
+            let left = line_end(behind(text, b"unread")?)?;
+            events.push_reserved(Event::Unread);
+            Some(left)
+        }
+        b'v' => {
+            let left = line_end(behind(text, b"view")?)?;
+            events.push_reserved(Event::View);
+            Some(left)
+        }
+        b'w' => to_thread(behind(text, b"wake ")?, ThreadEvent::Wake, events),
+        b'y' => to_thread(behind(text, b"yield ")?, ThreadEvent::Yield, events),
         _ => None,
     }
 }

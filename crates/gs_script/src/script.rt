@@ -1,4 +1,4 @@
-ghost use Rattle.std.specs.Prelude.{◌≡◌, ◌+◌, ◌<◌, ◌^◌, IfOk, IfErr, IfSome, length, None, Some, Ok, if◌then◌else◌};
+ghost use Rattle.std.specs.Prelude.{◌≡◌, ◌+◌, ◌<◌, ◌^◌, IfOk, IfErr, IfSome, MatchOption, length, None, Some, Ok, if◌then◌else◌, vec_capacity, vec_len};
 ghost use Rattle.std.specs.Result.{result_map_both};
 ghost use Rattle.gs_replies.specs.Config.{config_fault};
 ghost use Rattle.gs_script.specs.declared.script.ScriptError.TheVariants.{OutOfMemory};
@@ -13,7 +13,7 @@ use crate::cursor::first_line;
 use crate::event_line::event;
 use crate::fault::{Reason, ScriptFault};
 use crate::header::header;
-use crate::plain_line::plain_event;
+use crate::plain_line::add_plain;
 use crate::word::{split, text};
 use gs_core::{Config, Event};
 use gs_policy::AnyPolicy;
@@ -91,6 +91,7 @@ fn words_said<'a>(line: &'a [u8], words: &mut Vec<&'a str>) -> Result<bool, Line
 /// What an event line says, or `None` if it says nothing. Its words are left in the place of those that are
 /// there.
 #[tactic(auto, using(crate::proofs::Said::value_said, crate::proofs::Said::reason_said, crate::proofs::Said::nothing_said, crate::proofs::Said::error_said))]
+#[inline(never)]
 fn event_line<'a>(
     line: &'a [u8],
     words: &mut Vec<&'a str>,
@@ -122,6 +123,19 @@ fn header_line(alloc: Global, line: &[u8]) -> Result<Option<Config<AnyPolicy>>, 
     }
 }
 
+/// Returns an event, if there is one, with what is left behind its line.
+fn with_left<'a>(
+    event: Option<Event<AnyPolicy>>,
+    left: Option<&'a [u8]>,
+) -> Option<(Event<AnyPolicy>, Option<&'a [u8]>)>
+    ensures { MatchOption result (event ≡ None) (λ p. (event ≡ Some p.0) × (p.1 ≡ left.entry)) }
+{
+    match event {
+        Some(event) => Some((event, left)),
+        None => None,
+    }
+}
+
 /// Adds the event that the first line of a text says, if it says one, and returns what is left behind the
 /// line. A plain line is read in one pass, and any other by its words.
 fn add_event<'a>(
@@ -129,22 +143,22 @@ fn add_event<'a>(
     words: &mut Vec<&'a str>,
     events: &mut Vec<Event<AnyPolicy>>,
 ) -> Result<Option<&'a [u8]>, LineError>
+    requires { vec_len events.old < vec_capacity events.old }
     ensures ok { IfOk result (λ left. Adds text.now left events.old.items events.new.items) }
     ensures err { IfErr result (λ e. Fails text.now e) }
 {
-    if let Some((event, left)) = plain_event(text) {
-        return match events.push(event) {
-            Ok(()) => Ok(left),
-            Err(_) => Err(LineError::OutOfMemory),
-        };
-    }
-    let (line, left) = first_line(text);
-    match event_line(line, words)? {
-        None => Ok(left),
-        Some(event) => match events.push(event) {
-            Ok(()) => Ok(left),
-            Err(_) => Err(LineError::OutOfMemory),
-        },
+    match add_plain(text, events) {
+        Some(left) => Ok(left),
+        None => {
+            let (line, left) = first_line(text);
+            match with_left(event_line(line, words)?, left) {
+                None => Ok(left),
+                Some((event, left)) => match events.push(event) {
+                    Ok(()) => Ok(left),
+                    Err(_) => Err(LineError::OutOfMemory),
+                },
+            }
+        }
     }
 }
 
@@ -162,6 +176,7 @@ fn events(
     let mut rest = text;
     let mut number = first;
     while let Some(text) = rest {
+        events.reserve(1)?;
         match add_event(text, &mut words, &mut events) {
             Ok(left) => rest = left,
             Err(error) => return Err(at(number, error)),

@@ -1,27 +1,15 @@
-use Rattle.std.proofs.Common.{rules, arith, sym, ◌≡◌, ◌<◌, length, take, get_or, slice_index_or}
+use Rattle.std.proofs.Common.{arith, sym, ◌≡◌, ◌<◌, take, get_or}
 use Rattle.std.proofs.lemmas.Grind.{common_steps}
-use Rattle.std.proofs.lemmas.Int.Digits.{digits_value_more}
 use Rattle.std.proofs.lemmas.List.{take-append-drop, take_rest}
-use Rattle.gs_script.proofs.Digits.{all_more, read_number, worth}
+use Rattle.gs_script.proofs.Digits.{read_number}
 use Rattle.gs_script.proofs.cursor.digits_first.Goals.{else-count-gt1-via-then-count-gt1+else-text-eq48, else-count-gt1-via-else-count-gt1}
 use Rattle.gs_script.proofs.cursor.digits_first.Goals as goal
 
-pub loop-count-preserved : goal.loop-count-preserved
-loop-count-preserved c =
-    let i = c.loop-count.invariant in
-    let lt : c.loop-count.count < length c.args.text.now = omega arith in
-    let ten = c.in_ok-checked_mul.ensures in
-    let sum = c.in_ok-value.ensures in (
-      omega arith,
-      omega (arith, sum.0, sum.1),
-      all_more c.args.text.now c.loop-count.count lt i.2 (search rules),
-      omega (arith, ten.1, sum.1, i.3, digits_value_more 10 c.args.text.now c.loop-count.count lt, (worth (slice_index_or c.args.text.now c.loop-count.count 0) (search rules)).2),
-    )
-
 pub returns : goal.returns
 returns c =
-    let i = c.loop-count.invariant in
-    let n = c.loop-count.count in
+    let k = c.sure_digits-value.ensures in
+    let value = c.sure_digits-value.result.0 in
+    let n = c.sure_digits-value.result.1 in
     let text = c.args.text.now in
     let some : 0 < n = omega arith in
     let plain : 1 < n → get_or text 0 0 ≡ 48 → ⊥ =
@@ -32,5 +20,5 @@ returns c =
     record {
       front = take n text;
       cut = rw (take_rest text n) (sym (take-append-drop n text));
-      is = read_number 18446744073709551615 text n c.loop-count.value i.0 i.1 i.2 i.3 some plain;
+      is = read_number 18446744073709551615 text n value k.within (omega arith) k.digits k.value some plain;
     }

@@ -1,4 +1,4 @@
-use Rattle.std.proofs.Common.{◌≡◌, ◌≤◌, ◌-◌, ◌∷◌, ◌&&◌, List, [], get_or, take}
+use Rattle.std.proofs.Common.{◌≡◌, ◌≤◌, ◌-◌, ◌∷◌, ◌&&◌, [], get_or, take}
 use Rattle.std.specs.List.{list_all}
 use Rattle.gs_script.specs.Plain.{lines_left}
 use Rattle.gs_script.specs.Words.{words_of}

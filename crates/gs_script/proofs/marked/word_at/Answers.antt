@@ -1,4 +1,4 @@
-use Rattle.std.proofs.Common.{◌<◌, ◌≤◌, List, ℕ, length, drop, subst, arith}
+use Rattle.std.proofs.Common.{◌<◌, ◌≤◌, List, ℕ, length, subst, arith}
 use Rattle.gs_script.proofs.Marking.{Lettered, Spaced, begun, went_on, word_marked}
 use Rattle.gs_script.proofs.marked.word_at.Goals.{then-loop-before-test+else-start-line, else-loop-before-test}
 use Rattle.gs_script.proofs.marked.word_at.Goals as goal

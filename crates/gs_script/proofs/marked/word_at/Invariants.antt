@@ -1,4 +1,4 @@
-use Rattle.std.proofs.Common.{◌≤◌, ◌-◌, length}
+use Rattle.std.proofs.Common.{◌≤◌, ◌-◌}
 use Rattle.gs_script.proofs.Marking.{Stands}
 use Rattle.gs_script.proofs.marked.word_at.Given as goal
 

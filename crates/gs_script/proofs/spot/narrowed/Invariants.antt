@@ -1,4 +1,4 @@
-use Rattle.std.proofs.Common.{◌≡◌, map, take}
+use Rattle.std.proofs.Common.{◌≡◌, take}
 use Rattle.std.specs.Prelude.{flat_map}
 use Rattle.gs_script.specs.Grammar.{after_word}
 use Rattle.gs_script.specs.Spot.{forms_of}
