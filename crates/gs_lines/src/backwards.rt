@@ -21,7 +21,7 @@ fn put_bytes(array: &mut [u8], end: usize, bytes: &[u8]) -> usize
 
 /// Writes a word so that it ends here, and returns where it begins.
 #[inline(always)]
-pub(crate) fn put(array: &mut [u8], end: usize, word: &str) -> usize
+pub fn put(array: &mut [u8], end: usize, word: &str) -> usize
     requires { (length word.now ≤ end) × (end ≤ length array.old) }
     ensures start { result + length word.now ≡ end }
     ensures written { drop result array.new ≡ word.now ++ drop end array.old }
@@ -33,7 +33,7 @@ pub(crate) fn put(array: &mut [u8], end: usize, word: &str) -> usize
 
 /// Writes a number so that it ends here, and returns where it begins.
 #[inline(always)]
-pub(crate) fn put_number(array: &mut [u8], end: usize, number: u64) -> usize
+pub fn put_number(array: &mut [u8], end: usize, number: u64) -> usize
     requires { (20 ≤ end) × (end ≤ length array.old) }
     ensures start { result ≤ end }
     ensures low { end ≤ result + 20 }
@@ -46,7 +46,7 @@ pub(crate) fn put_number(array: &mut [u8], end: usize, number: u64) -> usize
 
 /// Writes a mask so that it ends here, and returns where it begins. One of 64 bits is written as a number.
 #[inline(always)]
-pub(crate) fn put_mask(array: &mut [u8], end: usize, mask: u128) -> usize
+pub fn put_mask(array: &mut [u8], end: usize, mask: u128) -> usize
     requires { (39 ≤ end) × (end ≤ length array.old) }
     ensures start { result ≤ end }
     ensures low { end ≤ result + 39 }

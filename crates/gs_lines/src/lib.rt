@@ -9,6 +9,7 @@ mod reply_line;
 mod text;
 mod thread_line;
 
+pub use backwards::{put, put_mask, put_number};
 pub use message_line::{change_name, write_cpu, write_placed};
 pub use reply_line::{
     outcome_name, text_of, write_executed, write_landing, write_late, write_reply, write_torn,

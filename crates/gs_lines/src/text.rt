@@ -66,9 +66,9 @@ impl Text {
         bytes
     }
 
-    /// Adds bytes.
+    /// Adds bytes that are UTF-8.
     #[inline(always)]
-    pub(crate) fn append(&mut self, bytes: &[u8]) -> Result<(), AllocError>
+    pub fn append(&mut self, bytes: &[u8]) -> Result<(), AllocError>
         requires { IsUtf8 bytes.now }
         ensures { OnOk result (self.new ≡ self.old ++ bytes.now) }
     {
