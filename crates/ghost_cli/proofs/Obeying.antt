@@ -53,7 +53,7 @@ workers_failed work shown had before after fault unwritten begun why = record { 
 -- what a command may ask for, its task may be
 pub may_be : (command : Command) → AsksAllowed command → MayBe (task_asked command)
 may_be commands.Run allowed = tt
-may_be commands.Explain allowed = tt
+may_be (commands.Explain json) allowed = tt
 may_be (commands.Report last) allowed = tt
 may_be (commands.Journal true) allowed = tt
 may_be (commands.Journal false) allowed = tt

@@ -25,6 +25,8 @@ use Rattle.gs_workers.specs.declared.text.Shown.{Shown}
 use Rattle.gs_workers.specs.declared.text.Shown.TheVariants as shows
 use Rattle.ghost_cli.specs.Failures.{IsOfTask, IsOfWords, IsOfWriting, IsUnopened, SaidOf, TellsOneOf}
 use Rattle.gs_explain.specs.Explained.{IsExplained}
+use Rattle.gs_explain.specs.declared.run.Explanation.{Explanation}
+use Rattle.gs_explain.specs.declared.run.Explanation.TheVariants as explanations
 use Rattle.ghost_cli.specs.declared.asked.Task.{Task}
 use Rattle.ghost_cli.specs.declared.asked.Task.TheVariants.{Script, Workers}
 use Rattle.ghost_cli.specs.declared.asked.Wanted.{Wanted}
@@ -42,10 +44,15 @@ abbrev pub shown_asked : Bool → Shown
 shown_asked true = shows.Journal
 shown_asked false = shows.Line
 
+-- how what explains a script is to be written
+abbrev pub explanation_asked : Bool → Explanation
+explanation_asked true = explanations.Json
+explanation_asked false = explanations.Lines
+
 -- what a command asks for
 abbrev pub task_asked : Command → Task
 task_asked commands.Run = Script (wanted.Shown Lines)
-task_asked commands.Explain = Script wanted.Explained
+task_asked (commands.Explain json) = Script (wanted.Explained (explanation_asked json))
 task_asked (commands.Report last) = Script (wanted.Shown (Report last))
 task_asked (commands.Journal false) = Script (wanted.Shown (Journal notations.Lines))
 task_asked (commands.Journal true) = Script (wanted.Shown (Journal notations.Json))
@@ -55,7 +62,7 @@ task_asked (commands.Threads workers each journal) = Workers (record { workers =
 -- what is to be written for a script, and how that ends
 abbrev pub Answers : Wanted → List ℕ → Ended → List ℕ → Type 0
 Answers (wanted.Shown form) = IsShown (shown_as form)
-Answers wanted.Explained = IsExplained
+Answers (wanted.Explained how) = IsExplained how
 
 -- there are as many workers and creations as there may be
 abbrev pub MayBe : Task → Type 0

@@ -7,14 +7,14 @@ ghost use Rattle.gs_arguments.specs.Arguments.{AsksAllowed, command_in, file_in,
 ghost use Rattle.gs_arguments.specs.declared.arguments.Command.{Command};
 ghost use Rattle.gs_trace.specs.Streams.{AnswersAll, AnswersOf, BeginsAnswer, ConsumesAtMost};
 ghost use Rattle.gs_trace.specs.declared.pipe.TheConstants.{MOST_READ_BYTES};
-ghost use Rattle.ghost_cli.specs.Asked.{Answers, Does, DoesFrom, DoesInFile, MayBe, Obeys, ObeysCommand, shown_asked, task_asked, texts};
+ghost use Rattle.ghost_cli.specs.Asked.{Answers, Does, DoesFrom, DoesInFile, MayBe, Obeys, ObeysCommand, explanation_asked, shown_asked, task_asked, texts};
 ghost use Rattle.ghost_cli.specs.Failures.{IsOfTask, IsOfWords, IsUnreadBy, TellsOneOf};
 
 use crate::failure::{Failure, unopened, unread, unsettled};
 use crate::helping::{help_word, show_help};
 use crate::telling::{await_script, tell_fault};
 use gs_arguments::{Asked, Command, settings};
-use gs_explain::explain_script;
+use gs_explain::{Explanation, explain_script};
 use gs_trace::{Ended, Form, Kept, Notation, TraceFault, run_and_keep};
 use gs_workers::{Shown, Work, run_workers};
 use std::alloc::{AllocError, Global};
@@ -30,8 +30,8 @@ use std::{fs, io};
 pub(crate) enum Wanted {
     /// What came of it, in this form.
     Shown { form: Form },
-    /// Each of its lines with its reply, and why that is so.
-    Explained,
+    /// Each of its lines with its reply, and why that is so, written so.
+    Explained { how: Explanation },
 }
 
 /// What a command asks for.
@@ -72,6 +72,17 @@ fn shown_of(journal: bool) -> Shown
     if journal { Shown::Journal } else { Shown::Line }
 }
 
+/// Returns how what explains a script is to be written.
+fn explanation_of(json: bool) -> Explanation
+    ensures { result ≡ explanation_asked json }
+{
+    if json {
+        Explanation::Json
+    } else {
+        Explanation::Lines
+    }
+}
+
 /// The task of a script whose outcome is shown in a form.
 fn script(form: Form) -> Task
     ensures { result ≡ Task.Script (Wanted.Shown form) }
@@ -87,8 +98,10 @@ fn task_of(command: Command) -> Task
 {
     match command {
         Command::Run => script(Form::Lines),
-        Command::Explain => Task::Script {
-            wanted: Wanted::Explained,
+        Command::Explain { json } => Task::Script {
+            wanted: Wanted::Explained {
+                how: explanation_of(json),
+            },
         },
         Command::Report { last } => script(Form::Report { last }),
         Command::Journal { json: false } => script(Form::Journal(Notation::Lines)),
@@ -120,7 +133,7 @@ fn run_wanted<R: Read, W: Write>(
 {
     match wanted {
         Wanted::Shown { form } => run_and_keep(alloc, reader, writer, form),
-        Wanted::Explained => explain_script(alloc, reader, writer),
+        Wanted::Explained { how } => explain_script(alloc, reader, writer, how),
     }
 }
 

@@ -1,10 +1,11 @@
 -- What the definitions say of the arguments at their edge.
-use Rattle.std.proofs.Common.{◌≡◌, ℕ, List, [], ◌∷◌, codes, refl, Option, None, Some}
+use Rattle.std.proofs.Common.{◌≡◌, ℕ, List, [], ◌∷◌, codes, refl, true, false, Option, None, Some}
 use Rattle.clap.proofs.OnLiterals.{clap_on_literals}
 use Rattle.clap.specs.Faults.{fault_of}
 use Rattle.clap.specs.Kinds.{Kinds}
 use Rattle.clap.specs.declared.error.kind.ErrorKind.TheVariants as kinds
 use Rattle.gs_arguments.specs.declared.arguments.Command.{Command}
+use Rattle.gs_arguments.specs.declared.arguments.Command.TheVariants.{Explain}
 use Rattle.gs_arguments.specs.Arguments.{ghost_program, command_in, file_in}
 
 abbrev given : List (List ℕ) → Option Command
@@ -68,3 +69,15 @@ standard_input = refl
 no_file_of_threads : wrong (codes "threads" ∷ codes "--workers" ∷ codes "1" ∷ codes "--each" ∷ codes "1" ∷ codes "a.script" ∷ []) ≡ kinds.UnknownArgument ∷ []
 unfolding clap_on_literals
 no_file_of_threads = refl
+
+-- the flag of a command that explains
+abbrev explains : List (List ℕ) → Option Command
+explains words = given (codes "explain" ∷ words)
+
+explain_is_lines : explains [] ≡ Some (Explain false)
+unfolding clap_on_literals
+explain_is_lines = refl
+
+explain_as_json : explains (codes "--json" ∷ []) ≡ Some (Explain true)
+unfolding clap_on_literals
+explain_as_json = refl

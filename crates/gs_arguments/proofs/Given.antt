@@ -68,6 +68,10 @@ journal_is_lines name = refl
 
 -- ---- the command
 
+explain_allowed : (o : Option Bool) (command : Command) → option_map Explain o ≡ Some command → AsksAllowed command
+explain_allowed None command e = absurd cc
+explain_allowed (Some json) command e = let same : Explain json ≡ command = cc in subst AsksAllowed same tt
+
 journal_allowed : (o : Option Bool) (command : Command) → option_map Journal o ≡ Some command → AsksAllowed command
 journal_allowed None command e = absurd cc
 journal_allowed (Some json) command e = let same : Journal json ≡ command = cc in subst AsksAllowed same tt
@@ -143,11 +147,11 @@ given_allowed : (given : Text × List Row) (command : Command) → command_given
 given_allowed given command is forward = by_name (bytes_eq given.0 (codes "run")) (bytes_eq given.0 (codes "explain")) (bytes_eq given.0 (codes "report")) (bytes_eq given.0 (codes "journal")) (bytes_eq given.0 (codes "timeline")) (bytes_eq given.0 (codes "threads")) is
   where
     by_name : (run explain report journal timeline threads : Bool)
-        → cond run (Some Run) (cond explain (Some Explain) (cond report (option_map Report (option_and_then (count_of MOST_LINES) (one_of (codes "last") given.1)))
+        → cond run (Some Run) (cond explain (option_map Explain (option_and_then flag_of (one_of (codes "json") given.1))) (cond report (option_map Report (option_and_then (count_of MOST_LINES) (one_of (codes "last") given.1)))
         (cond journal (option_map Journal (option_and_then flag_of (one_of (codes "json") given.1)))
         (cond timeline (Some (Timeline (place_in given.1 (codes "from") 0) (place_in given.1 (codes "to") 18446744073709551615))) (cond threads (threads_given given.1) None))))) ≡ Some command → AsksAllowed command
     by_name true explain report journal timeline threads e = let same : Run ≡ command = cc in subst AsksAllowed same tt
-    by_name false true report journal timeline threads e = let same : Explain ≡ command = cc in subst AsksAllowed same tt
+    by_name false true report journal timeline threads e = explain_allowed _ command e
     by_name false false true journal timeline threads e = report_allowed given.1 command e
     by_name false false false true timeline threads e = journal_allowed _ command e
     by_name false false false false true threads e = timeline_allowed _ _ command e forward

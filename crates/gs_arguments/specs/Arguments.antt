@@ -24,8 +24,12 @@ reads_script app = with_rule app file_rule
 abbrev pub run_alone : App
 run_alone = reads_script (new_app (codes "run"))
 
+-- a flag
+abbrev pub flag_rule : Text → Rule
+flag_rule name = record (new_rule name) { long = Some name; action = Some SetTrue }
+
 abbrev pub explain_alone : App
-explain_alone = reads_script (new_app (codes "explain"))
+explain_alone = reads_script (with_rule (new_app (codes "explain")) (flag_rule (codes "json")))
 
 -- `--last N`, a number of lines that a report may show, and the default if it is not given
 abbrev pub last_rule : Rule
@@ -33,10 +37,6 @@ last_rule = record (new_rule (codes "last")) { long = Some (codes "last"); value
 
 abbrev pub report_alone : App
 report_alone = reads_script (with_rule (new_app (codes "report")) last_rule)
-
--- a flag
-abbrev pub flag_rule : Text → Rule
-flag_rule name = record (new_rule name) { long = Some name; action = Some SetTrue }
 
 abbrev pub journal_alone : App
 journal_alone = reads_script (with_rule (new_app (codes "journal")) (flag_rule (codes "json")))
@@ -88,7 +88,7 @@ threads_given rows =
 abbrev pub command_given : Text × List Row → Option Command
 command_given given =
     if bytes_eq given.0 (codes "run") then Some Run
-    else if bytes_eq given.0 (codes "explain") then Some Explain
+    else if bytes_eq given.0 (codes "explain") then option_map Explain (option_and_then flag_of (one_of (codes "json") given.1))
     else if bytes_eq given.0 (codes "report") then option_map Report (option_and_then (count_of MOST_LINES) (one_of (codes "last") given.1))
     else if bytes_eq given.0 (codes "journal") then option_map Journal (option_and_then flag_of (one_of (codes "json") given.1))
     else if bytes_eq given.0 (codes "timeline") then Some (Timeline (place_in given.1 (codes "from") 0) (place_in given.1 (codes "to") 18446744073709551615))
@@ -127,7 +127,7 @@ file_in words = file_from (subcommand_of ghost_program words)
 -- a report shows as many lines as it may, a picture does not end before it begins, and there are as many workers and creations as there may be
 abbrev pub AsksAllowed : Command → Type 0
 AsksAllowed Run = ⊤
-AsksAllowed Explain = ⊤
+AsksAllowed (Explain json) = ⊤
 AsksAllowed (Journal json) = ⊤
 AsksAllowed (Timeline from to) = from ≤ to
 AsksAllowed (Report last) = (LEAST_LINES ≤ last) × (last ≤ MOST_LINES)

@@ -43,7 +43,10 @@ pub enum Command {
     /// Run it, and write the lines of its replies to standard output.
     Run,
     /// Run it, and write each of its lines with its reply, and why what was refused or not placed was so, to standard output.
-    Explain,
+    Explain {
+        /// As JSON Lines.
+        json: bool,
+    },
     /// Run it, and write a report of the run to standard output.
     Report {
         /// How many of the last of these lines the report shows, from [`LEAST_LINES`] to [`MOST_LINES`].
@@ -165,6 +168,11 @@ fn explain_command<'a>(alloc: Global) -> Result<clap::Command<'a>, AllocError>
         .about(
             "Runs a script and writes each line with its reply, and why it came out so, to standard output",
         )
+        .arg(flag(
+            alloc,
+            "json",
+            "Writes a JSON object for each event, one a line",
+        ))?
         .arg(file_argument(alloc))
 }
 
@@ -309,7 +317,9 @@ fn command_given(matches: &clap::ArgMatches<'_>) -> Option<Command>
 {
     match matches.subcommand()? {
         ("run", _) => Some(Command::Run),
-        ("explain", _) => Some(Command::Explain),
+        ("explain", given) => Some(Command::Explain {
+            json: flag_in(given, "json")?,
+        }),
         ("report", given) => Some(Command::Report {
             last: count_in(given, "last", MOST_LINES)?,
         }),

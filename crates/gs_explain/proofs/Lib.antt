@@ -2,7 +2,8 @@ mod Heard
 mod Grown
 mod Told
 mod Overflows
-mod Lasts
+mod Saying
+mod Values
 mod Moments
 mod Meeting
 mod Runs

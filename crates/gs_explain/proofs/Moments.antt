@@ -2,13 +2,10 @@
 use Rattle.std.proofs.Common.{◌≡◌, ◌∙◌, ap, ℕ, Option, List, length, map, Result, Ok, Err, OnOk}
 use Rattle.gs_policy.specs.declared.any.AnyPolicy.{AnyPolicy}
 use Rattle.gs_journal.specs.History.{History}
-use Rattle.gs_kernel.specs.declared.settings.Settings.{Settings}
-use Rattle.gs_slots.specs.State.{Held}
 use Rattle.gs_replies.specs.declared.reply.Reply.{Reply}
 use Rattle.gs_core.specs.declared.event.Event.{Event}
 use Rattle.gs_core.specs.declared.transaction.Transaction.{Transaction}
 use Rattle.gs_core.specs.Machine.{State}
-use Rattle.gs_sentences.specs.declared.landed.Overflow.{Overflow}
 use Rattle.gs_explain.specs.Noted.{Noted, filled, noted_after, page_after}
 use Rattle.gs_explain.specs.Moment.{Moment, moment, overflow_of}
 
@@ -22,15 +19,13 @@ noted_is line r m n h xs a b p is_h is_xs is_a is_b is_p =
     let stamped : b ≡ filled (length m.transactions) line n.stamped = is_b ∙ ap (λ (ys : List Transaction). filled (length ys) line n.stamped) is_xs in
     ap (λ x. noted x b p) lines ∙ ap (λ x. noted (filled (length m.history) line n.lines) x p) stamped ∙ ap (λ x. noted (filled (length m.history) line n.lines) (filled (length m.transactions) line n.stamped) x) is_p
 
-abbrev pub made : List ℕ → List ℕ → Option ℕ → Event AnyPolicy → History → List Transaction → List Held → Settings → Overflow → Moment
-made l s p e h xs zs st o = record { lines = l; stamped = s; page = p; event = e; history = h; transactions = xs; slots = zs; settings = st; overflow = o }
+abbrev pub made : List ℕ → List ℕ → Option ℕ → Event AnyPolicy → History → List Transaction → State → Moment
+made l s p e h xs m = record { lines = l; stamped = s; page = p; event = e; history = h; transactions = xs; slots = map Ok m.slots; settings = m.settings; overflow = overflow_of e m }
 
-pub moment_is : (n : Noted) (e : Event AnyPolicy) (m : State) (l s : List ℕ) (p : Option ℕ) (h : History) (xs : List Transaction) (zs : List Held) (st : Settings) (o : Overflow)
-    → l ≡ n.lines → s ≡ n.stamped → p ≡ n.page → h ≡ m.history → xs ≡ m.transactions → zs ≡ map Ok m.slots → st ≡ m.settings → o ≡ overflow_of e m → made l s p e h xs zs st o ≡ moment n e m
-moment_is n e m l s p h xs zs st o a b c d f w g k =
-    ap (λ y. made y s p e h xs zs st o) a ∙ ap (λ y. made n.lines y p e h xs zs st o) b ∙ ap (λ y. made n.lines n.stamped y e h xs zs st o) c ∙ ap (λ y. made n.lines n.stamped n.page e y xs zs st o) d
-    ∙ ap (λ y. made n.lines n.stamped n.page e m.history y zs st o) f ∙ ap (λ y. made n.lines n.stamped n.page e m.history m.transactions y st o) w
-    ∙ ap (λ y. made n.lines n.stamped n.page e m.history m.transactions (map Ok m.slots) y o) g ∙ ap (λ y. made n.lines n.stamped n.page e m.history m.transactions (map Ok m.slots) m.settings y) k
+pub moment_is : (n : Noted) (e : Event AnyPolicy) (m : State) (l s : List ℕ) (p : Option ℕ) (h : History) (xs : List Transaction)
+    → l ≡ n.lines → s ≡ n.stamped → p ≡ n.page → h ≡ m.history → xs ≡ m.transactions → made l s p e h xs m ≡ moment n e m
+moment_is n e m l s p h xs a b c d f =
+    ap (λ y. made y s p e h xs m) a ∙ ap (λ y. made n.lines y p e h xs m) b ∙ ap (λ y. made n.lines n.stamped y e h xs m) c ∙ ap (λ y. made n.lines n.stamped n.page e y xs m) d ∙ ap (λ y. made n.lines n.stamped n.page e m.history y m) f
 
 -- from two facts of what was done
 pub both_ok : {A E : Type 0} (r : Result A E) (X Y Z : Type 0) → (X → Y → Z) → OnOk r X → OnOk r Y → OnOk r Z

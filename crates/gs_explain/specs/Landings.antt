@@ -16,11 +16,11 @@ use Rattle.gs_reasons.specs.Place.{last_place}
 use Rattle.gs_reasons.specs.Cause.{cause_of}
 use Rattle.gs_reasons.specs.Group.{fault_of_group}
 use Rattle.gs_reasons.specs.declared.group.GroupFault.{GroupFault}
-use Rattle.gs_sentences.specs.declared.landed.Landed.{Landed}
+use Rattle.gs_sentences.specs.Told.{Landed}
 use Rattle.gs_sentences.specs.declared.landed.Overflow.{Overflow}
 use Rattle.gs_sentences.specs.declared.landed.Stamped.{Stamped}
-use Rattle.gs_sentences.specs.declared.reason.Reason.{Reason}
-use Rattle.gs_sentences.specs.declared.reason.Reason.TheVariants as reasons
+use Rattle.gs_sentences.specs.Reason.{Reason}
+use Rattle.gs_sentences.specs.Reason as reasons
 use Rattle.gs_sentences.specs.Reasons.{reason_text}
 use Rattle.gs_explain.specs.Moment.{Moment, cause_at}
 

@@ -1,9 +1,11 @@
+pub mod SaidLines
 pub mod Noted
 pub mod Moment
 pub mod Landings
 pub mod Marked
 pub mod Refusals
 pub mod Rows
+pub mod Objects
 pub mod Explained
 pub mod Telling
 pub mod Met

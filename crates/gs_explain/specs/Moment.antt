@@ -9,14 +9,14 @@ use Rattle.std.specs.Prelude.{◌+◌, length}
 use Rattle.gs_kernel.specs.declared.command.Command.TheVariants as commands
 use Rattle.gs_kernel.specs.declared.thread_event.ThreadEvent.TheVariants.{Affinity}
 use Rattle.gs_kernel.specs.declared.settings.Settings.{Settings}
-use Rattle.gs_slots.specs.Reading.{states_in}
 use Rattle.gs_slots.specs.State.{Held}
 use Rattle.gs_ring.specs.Places.{free_after, need, written}
 use Rattle.gs_core.specs.declared.event.Event.{Event}
 use Rattle.gs_core.specs.declared.event.Event.TheVariants as events
 use Rattle.gs_core.specs.declared.transaction.Transaction.{Transaction}
-use Rattle.gs_core.specs.Machine.{State}
-use Rattle.gs_sentences.specs.declared.cause.Cause.{Cause}
+use Rattle.gs_core.specs.Machine.{State, planning}
+use Rattle.gs_trace.specs.Output.{any_plans}
+use Rattle.gs_sentences.specs.Told.{Cause}
 use Rattle.gs_sentences.specs.declared.landed.Overflow.{Overflow}
 use Rattle.gs_explain.specs.declared.moment.Scene.{Scene}
 use Rattle.gs_explain.specs.Noted.{Noted}
@@ -71,13 +71,13 @@ cause_at x (Some i) = caused i (slice_get x.lines i) (slice_get x.history i)
 abbrev pub moment_of : Scene → Moment
 moment_of s =
     record {
-      lines = s.lines.now;
-      stamped = s.stamped.now;
-      page = s.page;
+      lines = s.noted.now.entries.items;
+      stamped = s.noted.now.stamped.items;
+      page = s.noted.now.page;
       event = s.event.now;
       history = s.entries.now;
       transactions = s.transactions.now;
-      slots = states_in 0 s.region.now;
-      settings = s.settings;
-      overflow = s.overflow;
+      slots = map Ok s.machine.now.slots;
+      settings = s.machine.now.settings;
+      overflow = overflow_of s.event.now (planning any_plans s.machine.now);
     }

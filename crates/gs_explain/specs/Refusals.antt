@@ -13,7 +13,7 @@ use Rattle.gs_reasons.specs.Cause.{place_of}
 use Rattle.gs_sentences.specs.Subject.{cpu_of, tid_of}
 use Rattle.gs_sentences.specs.declared.numbers.Numbers.{Numbers}
 use Rattle.gs_sentences.specs.declared.numbers.Waiting.{Waiting}
-use Rattle.gs_sentences.specs.declared.refused.Refused.{Refused}
+use Rattle.gs_sentences.specs.Told.{Refused}
 use Rattle.gs_explain.specs.Moment.{Moment, cause_at}
 use Rattle.gs_explain.specs.Landings.{last_for, line_at}
 

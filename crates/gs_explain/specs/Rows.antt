@@ -6,8 +6,8 @@ use Rattle.gs_kernel.specs.declared.landing.Landing.{Landing}
 use Rattle.gs_replies.specs.declared.reply.Reply.{Reply}
 use Rattle.gs_replies.specs.declared.reply.Reply.TheVariants as replies
 use Rattle.gs_lines.specs.Lines.{late_text, line, reply_lines, torn_line}
-use Rattle.gs_sentences.specs.declared.reason.Reason.{Reason}
-use Rattle.gs_sentences.specs.declared.reason.Reason.TheVariants as reasons
+use Rattle.gs_sentences.specs.Reason.{Reason}
+use Rattle.gs_sentences.specs.Reason as reasons
 use Rattle.gs_explain.specs.Moment.{Moment}
 use Rattle.gs_explain.specs.Landings.{after_landing, because, group_fault, landings_shown, why_landed}
 use Rattle.gs_explain.specs.Refusals.{why_refused}

@@ -13,14 +13,14 @@ use Rattle.gs_trace.specs.Output.{any_plans}
 use Rattle.gs_explain.specs.declared.noted.Lines.{Lines}
 use Rattle.gs_explain.specs.Noted.{Noted, noted_after}
 use Rattle.gs_explain.specs.Marked.{IsMarked}
-use Rattle.gs_explain.specs.Explained.{Explains, Line, row_of}
+use Rattle.gs_explain.specs.Explained.{Explains, Line, Show, row_of}
 
 -- the lines that were noted
 abbrev pub noted_of : Lines → Noted
 noted_of l = record { lines = l.entries.items; stamped = l.stamped.items; page = l.page }
 
 -- one event of a line happened and was explained: the reply does not tell that memory ran out, the lines are noted, and an index heard what was added
-pub record ExplainsOne (n : Noted) (m : State) (x : Line) (e : Event AnyPolicy) (next : State) (noted : Noted) (index : Index) (marks : List (Option ℕ)) (old new : List ℕ) : Type 0 where
+pub record ExplainsOne (show : Show) (n : Noted) (m : State) (x : Line) (e : Event AnyPolicy) (next : State) (noted : Noted) (index : Index) (marks : List (Option ℕ)) (old new : List ℕ) : Type 0 where
   pub reply : Reply
   pub step : Step m (planned any_plans e) reply next
   pub safe : Safe next
@@ -29,16 +29,16 @@ pub record ExplainsOne (n : Noted) (m : State) (x : Line) (e : Event AnyPolicy) 
   pub lines : noted ≡ noted_after x.0 reply next n
   pub heard : HasHeard index next.history
   pub marked : IsMarked marks next.transactions
-  pub shown : new ≡ old ++ row_of n m x e reply next
+  pub shown : new ≡ old ++ row_of show n m x e reply next
 
 -- the events up to those that are left were explained, each by its line
-pub record ToldSoFar (n : Noted) (m : State) (es : List (Event AnyPolicy)) (xs : List Line) (noted : Noted) (now : State) (left : List (Event AnyPolicy)) (others : List Line) (out : List ℕ) : Type 0 where
+pub record ToldSoFar (show : Show) (n : Noted) (m : State) (es : List (Event AnyPolicy)) (xs : List Line) (noted : Noted) (now : State) (left : List (Event AnyPolicy)) (others : List Line) (out : List ℕ) : Type 0 where
   pub replies : List Reply
-  pub leads : (more : List Reply) (end : State) (rest : List ℕ) → Explains noted now left more others end rest → Explains n m es (replies ++ more) xs end (out ++ rest)
+  pub leads : (more : List Reply) (end : State) (rest : List ℕ) → Explains show noted now left more others end rest → Explains show n m es (replies ++ more) xs end (out ++ rest)
   pub sufficed : list_any wants_memory replies ≡ false
 
 -- all of them were, and memory sufficed
-pub record IsToldOf (n : Noted) (m : State) (es : List (Event AnyPolicy)) (xs : List Line) (end : State) (out : List ℕ) : Type 0 where
+pub record IsToldOf (show : Show) (n : Noted) (m : State) (es : List (Event AnyPolicy)) (xs : List Line) (end : State) (out : List ℕ) : Type 0 where
   pub replies : List Reply
-  pub explains : Explains n m es replies xs end out
+  pub explains : Explains show n m es replies xs end out
   pub sufficed : list_any wants_memory replies ≡ false

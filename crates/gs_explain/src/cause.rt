@@ -1,19 +1,20 @@
 ghost use Rattle.std.specs.Prelude.{◌≡◌};
+ghost use Rattle.gs_sentences.specs.Given.{causes_given};
 ghost use Rattle.gs_explain.specs.Moment.{cause_at, moment_of};
 
 use crate::moment::Scene;
 use gs_sentences::Cause;
 
 /// Returns the entry at a place, with the line that added it.
-pub(crate) fn cause_at(scene: &Scene<'_>, place: Option<usize>) -> Option<Cause>
-    ensures { result ≡ cause_at (moment_of scene.now) place }
+pub(crate) fn cause_at<'a>(scene: &Scene<'a>, place: Option<usize>) -> Option<Cause<'a>>
+    ensures { causes_given result ≡ cause_at (moment_of scene.now) place }
 {
     let place = place?;
-    match (scene.lines.get(place), scene.entries.get(place)) {
+    match (scene.noted.entries.get(place), scene.entries.get(place)) {
         (Some(line), Some(entry)) => Some(Cause {
             line: *line,
             place,
-            entry: *entry,
+            entry,
         }),
         _ => None,
     }

@@ -1,34 +1,21 @@
 //! Why a transaction landed as it did.
 
-ghost use Rattle.std.specs.Prelude.{◌≡◌, ◌<◌, ◌≤◌, IfSome, length, take};
+ghost use Rattle.std.specs.Prelude.{◌≡◌, ◌≤◌, length, take};
 ghost use Rattle.gs_reasons.specs.Kept.{HasHeard};
 ghost use Rattle.gs_reasons.specs.Group.{fault_of_group};
+ghost use Rattle.gs_sentences.specs.Given.{landed_given};
+ghost use Rattle.gs_explain.specs.Marked.{IsMarked};
 ghost use Rattle.gs_explain.specs.Moment.{moment_of};
-ghost use Rattle.gs_explain.specs.Landings.{group_fault, is_gone, is_grouped, is_of_group, landed_place, last_for, leading, line_at, overflow_if, place_numbered, stamped_at, stamped_by, transaction_at, why_landed};
+ghost use Rattle.gs_explain.specs.Landings.{group_fault, is_gone, is_grouped, is_of_group, landed, landed_place, leading, line_at, overflow_if, place_numbered, stamped_at, stamped_by, transaction_at};
 
 use crate::cause::cause_at;
 use crate::moment::Scene;
+use crate::overflow::overflow_of;
 use gs_core::{Event, Transaction};
 use gs_kernel::Landing;
 use gs_layout::Outcome;
-use gs_policy::AnyPolicy;
 use gs_reasons::{GroupFault, Index, fault_of_group};
-use gs_sentences::{Landed, Overflow, Reason, Stamped};
-
-/// Returns the place of the last transaction that was stamped for a CPU.
-fn last_for(cpu: u16, transactions: &[Transaction]) -> Option<usize>
-    ensures value { result ≡ last_for cpu transactions.now }
-    ensures within { IfSome result (λ i. i < length transactions.now) }
-{
-    let mut n = transactions.len();
-    while 0 < n {
-        n -= 1;
-        if transactions[n].cpu == cpu {
-            return Some(n);
-        }
-    }
-    None
-}
+use gs_sentences::{Landed, Overflow, Stamped};
 
 /// Returns the place of the transaction of this number.
 fn place_numbered(number: u32) -> Option<usize>
@@ -41,16 +28,13 @@ fn place_numbered(number: u32) -> Option<usize>
 }
 
 /// Returns the place of the transaction that a landing is of.
-fn landed_place(
-    event: &Event<AnyPolicy>,
-    transactions: &[Transaction],
-    landing: &Landing,
-) -> Option<usize>
-    ensures { result ≡ landed_place event.now transactions.now landing.now }
+fn landed_place(scene: &Scene<'_>, landing: &Landing) -> Option<usize>
+    requires { IsMarked scene.now.last.now.places.items scene.now.transactions.now }
+    ensures { result ≡ landed_place scene.now.event.now scene.now.transactions.now landing.now }
 {
-    match event {
+    match scene.event {
         Event::Late { number } => place_numbered(*number),
-        _ => last_for(landing.cpu, transactions),
+        _ => scene.last.get(landing.cpu as usize),
     }
 }
 
@@ -95,7 +79,7 @@ fn stamped_at(scene: &Scene<'_>, place: Option<usize>) -> Stamped
     ensures { result ≡ stamped_at (moment_of scene.now) place }
 {
     let transaction = transaction_at(scene.transactions, place);
-    stamped_by(transaction, line_at(scene.stamped, place))
+    stamped_by(transaction, line_at(&scene.noted.stamped, place))
 }
 
 /// Returns whether a transaction was stamped as one of a group.
@@ -110,14 +94,16 @@ fn is_of_group(transaction: Option<Transaction>) -> bool
 
 /// Returns whether a landing is of a transaction that was stamped as one of a group.
 fn is_grouped(scene: &Scene<'_>, landing: &Landing) -> bool
+    requires { IsMarked scene.now.last.now.places.items scene.now.transactions.now }
     ensures { result ≡ is_grouped (moment_of scene.now) landing.now }
 {
-    let place = landed_place(scene.event, scene.transactions, landing);
+    let place = landed_place(scene, landing);
     is_of_group(transaction_at(scene.transactions, place))
 }
 
 /// Returns how many of the first landings are of a group.
 fn group_len(scene: &Scene<'_>, landings: &[Landing]) -> usize
+    requires { IsMarked scene.now.last.now.places.items scene.now.transactions.now }
     ensures within { result ≤ length landings.now }
     ensures value { take result landings.now ≡ leading (is_grouped (moment_of scene.now)) landings.now }
 {
@@ -130,6 +116,7 @@ fn group_len(scene: &Scene<'_>, landings: &[Landing]) -> usize
 
 /// Returns what failed the group of these landings, if there is one and it failed.
 pub(crate) fn group_fault(scene: &Scene<'_>, landings: &[Landing]) -> Option<GroupFault>
+    requires { IsMarked scene.now.last.now.places.items scene.now.transactions.now }
     ensures { result ≡ group_fault (moment_of scene.now) landings.now }
 {
     let count = group_len(scene, landings);
@@ -150,29 +137,31 @@ fn overflow_if(torn: bool, overflow: Overflow) -> Option<Overflow>
     if torn { Some(overflow) } else { None }
 }
 
-/// Returns why a transaction was not placed, or `None` if it was. An index has heard the first entries, so many.
-pub(crate) fn why_landed(
-    scene: &Scene<'_>,
+/// Returns why a transaction landed so. An index has heard the first entries, so many.
+#[inline(always)]
+pub(crate) fn landed<'a>(
+    scene: &Scene<'a>,
     index: &Index,
     fault: Option<GroupFault>,
     stood: bool,
     heard: usize,
     landing: &Landing,
-) -> Option<Reason>
-    requires { HasHeard index.now (take heard scene.now.entries.now) }
-    ensures { result ≡ why_landed (moment_of scene.now) fault stood heard landing.now }
+) -> Landed<'a>
+    requires heard { HasHeard index.now (take heard scene.now.entries.now) }
+    requires marked { IsMarked scene.now.last.now.places.items scene.now.transactions.now }
+    ensures { landed_given result ≡ landed (moment_of scene.now) fault stood heard landing.now }
 {
-    if matches!(landing.outcome, Outcome::Placed) {
-        return None;
-    }
-    let place = landed_place(scene.event, scene.transactions, landing);
-    Some(Reason::Landed(Landed {
+    let place = landed_place(scene, landing);
+    Landed {
         landing: *landing,
         stamped: stamped_at(scene, place),
         cause: cause_at(scene, index.cause(landing)),
-        overflow: overflow_if(stood && is_gone(landing.outcome), scene.overflow),
+        overflow: overflow_if(
+            stood && is_gone(landing.outcome),
+            overflow_of(scene.event, scene.machine),
+        ),
         fault,
         entries: heard,
-        limit: scene.settings.history,
-    }))
+        limit: scene.machine.kernel().settings().history,
+    }
 }

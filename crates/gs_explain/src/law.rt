@@ -9,14 +9,14 @@ ghost use Rattle.gs_core.specs.Machine.{State, Step, planned};
 ghost use Rattle.gs_core.specs.Safe.{Run};
 ghost use Rattle.gs_trace.specs.Output.{any_plans};
 ghost use Rattle.gs_explain.specs.Noted.{Noted};
-ghost use Rattle.gs_explain.specs.Explained.{Explains, Line};
+ghost use Rattle.gs_explain.specs.Explained.{Explains, Line, Show};
 ghost use Rattle.gs_explain.specs.Met.{AreJudged};
 
 /// States that what is explained is a run: the rows have the replies of a run of the events, one each, in order. It does
 /// nothing when it runs.
 #[tactic(auto, using(crate::proofs::Runs::run_of))]
 pub fn explained_is_run()
-    ensures { (n : Noted) (m : State) (es : List (Event AnyPolicy)) (rs : List Reply) (xs : List Line) (end : State) (out : List ℕ) → Explains n m es rs xs end out → Run m (map (planned any_plans) es) rs end }
+    ensures { (show : Show) (n : Noted) (m : State) (es : List (Event AnyPolicy)) (rs : List Reply) (xs : List Line) (end : State) (out : List ℕ) → Explains show n m es rs xs end out → Run m (map (planned any_plans) es) rs end }
 {}
 
 /// States that a landing's reason is asked for among the entries that it met. If an outcome is a verdict that speaks of what

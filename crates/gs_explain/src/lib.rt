@@ -9,11 +9,16 @@ mod law;
 mod marking;
 mod moment;
 mod noted;
+mod objects;
 mod overflow;
+mod page;
 mod refused;
 mod row;
 mod run;
+mod said;
+mod teller;
 mod telling;
+mod whys;
 
 pub use law::{explained_is_run, landings_are_met};
-pub use run::explain_script;
+pub use run::{Explanation, explain_script};

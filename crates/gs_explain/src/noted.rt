@@ -1,8 +1,11 @@
-ghost use Rattle.std.specs.Prelude.{◌≡◌, ◌∷◌, [], None, OnOk, IfOk};
+ghost use Rattle.std.specs.Prelude.{◌≡◌, ◌∷◌, ℕ, [], None, OnOk, IfOk};
+ghost use Rattle.gs_replies.specs.Replies.{reply_of};
 ghost use Rattle.gs_explain.specs.Noted.{filled, page_after};
 
 use gs_core::Reply;
 use gs_journal::Entry;
+use gs_kernel::Executed;
+use gs_layout::Refusal;
 use std::alloc::{AllocError, Global};
 
 /// What is noted of the lines of a script as its events happen.
@@ -17,6 +20,7 @@ pub(crate) struct Lines {
 }
 
 /// Adds a line for each of so many things that has none yet.
+#[inline(always)]
 fn fill(lines: &mut Vec<usize>, count: usize, line: usize) -> Result<(), AllocError>
     ensures { OnOk result (lines.new.items ≡ filled count line lines.old.items) }
 {
@@ -33,6 +37,20 @@ fn page_after(line: usize, reply: &Reply, page: Option<usize>) -> Option<usize>
     match reply {
         Reply::Page { next: None, .. } => Some(line),
         Reply::Done(Entry::Begin { .. }) => None,
+        _ => page,
+    }
+}
+
+/// Returns the line of the last page, by what came of a command, and the kernel's last entry.
+fn page_after_command(
+    came: Result<Executed, Refusal>,
+    last: &Entry,
+    page: Option<usize>,
+) -> Option<usize>
+    ensures { (line : ℕ) → result ≡ page_after line (reply_of came last.now) page }
+{
+    match (came, last) {
+        (Ok(Executed::Done), Entry::Begin { .. }) => None,
         _ => page,
     }
 }
@@ -54,6 +72,7 @@ impl Lines {
     }
 
     /// Notes an event of a line: by its reply, and by how many entries and transactions there are behind it.
+    #[inline(always)]
     pub(crate) fn note(
         &mut self,
         line: usize,
@@ -68,6 +87,26 @@ impl Lines {
         fill(&mut self.entries, entries, line)?;
         fill(&mut self.stamped, transactions, line)?;
         self.page = page_after(line, reply, self.page);
+        Ok(())
+    }
+
+    /// Notes a command of a line, as [`Lines::note`] notes the reply to it.
+    #[inline(always)]
+    pub(crate) fn note_command(
+        &mut self,
+        line: usize,
+        came: Result<Executed, Refusal>,
+        last: &Entry,
+        entries: usize,
+        transactions: usize,
+    ) -> Result<(), AllocError>
+        ensures entries { OnOk result (self.new.entries.items ≡ filled entries line self.old.entries.items) }
+        ensures stamped { OnOk result (self.new.stamped.items ≡ filled transactions line self.old.stamped.items) }
+        ensures page { OnOk result (self.new.page ≡ page_after line (reply_of came last.now) self.old.page) }
+    {
+        fill(&mut self.entries, entries, line)?;
+        fill(&mut self.stamped, transactions, line)?;
+        self.page = page_after_command(came, last, self.page);
         Ok(())
     }
 }

@@ -3,6 +3,7 @@
 ghost use Rattle.std.specs.Prelude.{◌≡◌, ◌<◌, IfSome, length};
 ghost use Rattle.gs_reasons.specs.Cause.{place_of};
 ghost use Rattle.gs_reasons.specs.Kept.{HasHeard};
+ghost use Rattle.gs_sentences.specs.Given.{refused_given};
 ghost use Rattle.gs_explain.specs.Moment.{moment_of};
 ghost use Rattle.gs_explain.specs.Marked.{IsMarked};
 ghost use Rattle.gs_explain.specs.Refusals.{least_stamped, no_thread_sign, numbers, refusal_sign, spent_sign, waiting, waiting_by, waits, waits_on, why_refused};
@@ -88,7 +89,7 @@ fn waits(scene: &Scene<'_>, cpu: u16, place: Option<usize>) -> Option<Waiting>
         Some(i) => Some(Waiting {
             cpu,
             number: i + 1,
-            line: line_at(scene.stamped, place),
+            line: line_at(&scene.noted.stamped, place),
         }),
         None => None,
     }
@@ -139,12 +140,13 @@ fn waiting_by(scene: &Scene<'_>, event: &Event<AnyPolicy>) -> Option<Waiting>
         Event::Stamp { cpu, .. } => waits_on(scene, Some(*cpu)),
         Event::Kernel {
             command: Command::Leave,
-        } => waits_on(scene, least_stamped(scene.region)),
+        } => waits_on(scene, least_stamped(scene.machine.region())),
         _ => None,
     }
 }
 
 /// Returns what waits in the slot that was not idle, if that refused the event.
+#[inline(always)]
 fn waiting(scene: &Scene<'_>, refusal: Refusal) -> Option<Waiting>
     requires { IsMarked scene.now.last.now.places.items scene.now.transactions.now }
     ensures { result ≡ waiting (moment_of scene.now) refusal }
@@ -156,30 +158,33 @@ fn waiting(scene: &Scene<'_>, refusal: Refusal) -> Option<Waiting>
 }
 
 /// Returns what stands in no entry.
+#[inline(always)]
 fn numbers(scene: &Scene<'_>, refusal: Refusal) -> Numbers
     requires { IsMarked scene.now.last.now.places.items scene.now.transactions.now }
     ensures { result ≡ numbers (moment_of scene.now) refusal }
 {
+    let settings = scene.machine.kernel().settings();
     Numbers {
-        cpus: scene.settings.cpus,
+        cpus: settings.cpus,
         entries: scene.entries.len(),
         transactions: scene.transactions.len(),
-        limit: scene.settings.history,
-        page: scene.page,
+        limit: settings.history,
+        page: scene.noted.page,
         waiting: waiting(scene, refusal),
     }
 }
 
 /// Returns why an event was refused.
-pub(crate) fn why_refused(scene: &Scene<'_>, index: &Index, refusal: Refusal) -> Refused
+#[inline(always)]
+pub(crate) fn why_refused<'a>(scene: &Scene<'a>, index: &Index, refusal: Refusal) -> Refused<'a>
     requires heard { HasHeard index.now scene.now.entries.now }
     requires marked { IsMarked scene.now.last.now.places.items scene.now.transactions.now }
-    ensures { result ≡ why_refused (moment_of scene.now) refusal }
+    ensures { refused_given result ≡ why_refused (moment_of scene.now) refusal }
 {
     let place = place_of(index, scene, refusal_sign(scene.event, refusal));
     Refused {
         refusal,
-        event: *scene.event,
+        event: scene.event,
         cause: cause_at(scene, place),
         numbers: numbers(scene, refusal),
     }

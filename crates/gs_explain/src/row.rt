@@ -1,52 +1,51 @@
 //! What is shown of an event.
 
-ghost use Rattle.std.specs.Prelude.{◌≡◌, ◌≤◌, ◌++◌, OnOk, length, take};
+ghost use Rattle.std.specs.Prelude.{◌≡◌, ◌≤◌, ◌++◌, OnOk, length, take, true};
 ghost use Rattle.gs_reasons.specs.Kept.{HasHeard};
-ghost use Rattle.gs_script.specs.Said.{line_of};
+ghost use Rattle.gs_script.specs.Words.{is_text};
+ghost use Rattle.gs_explain.specs.SaidLines.{said_line};
+ghost use Rattle.gs_replies.specs.Replies.{reply_of};
 ghost use Rattle.gs_explain.specs.Marked.{IsMarked};
 ghost use Rattle.gs_explain.specs.Moment.{moment_of};
-ghost use Rattle.gs_explain.specs.Rows.{added, drained_shown, heading, none_shown, plain_shown, reply_shown, row, stopped};
+ghost use Rattle.gs_explain.specs.Rows.{drained_shown, plain_shown, reply_shown, row};
 
 use crate::hearing::hear_all;
 use crate::landed::group_fault;
-use crate::landings::{write_because, write_landings, write_late_landing};
+use crate::landings::{write_landings, write_late_landing};
 use crate::moment::Scene;
+use crate::overflow::overflow_of;
+use crate::page::Page;
 use crate::refused::why_refused;
-use gs_agent::{Drained, Stop};
+use crate::said::Said;
+use crate::teller::Teller;
+use gs_agent::Drained;
 use gs_core::Reply;
-use gs_kernel::Landing;
-use gs_lines::{Text, write_reply, write_torn};
+use gs_journal::Entry;
+use gs_kernel::Executed;
+use gs_layout::Refusal;
 use gs_reasons::Index;
-use gs_script::SaidLine;
 use gs_sentences::Reason;
 use std::alloc::AllocError;
 
-/// Returns why a drain stopped early, if it did.
-fn stopped(stop: Option<Stop>) -> Option<Reason>
-    ensures { result ≡ stopped stop }
-{
-    match stop {
-        Some(stop) => Some(Reason::Stopped(stop)),
-        None => None,
-    }
-}
-
 /// Adds what was special about the messages of a drain.
-fn write_drained(out: &mut Text, drained: &Drained) -> Result<(), AllocError>
+fn write_drained(out: &mut Page, drained: &Drained) -> Result<(), AllocError>
     ensures { OnOk result (out.new ≡ out.old ++ drained_shown drained.now) }
 {
     if drained.skipped != 0 {
-        write_because(out, &Some(Reason::Skipped(drained.skipped)))?;
+        out.reason(&Reason::Skipped(drained.skipped))?;
     }
     if drained.orphans != 0 {
-        write_because(out, &Some(Reason::Orphans(drained.orphans)))?;
+        out.reason(&Reason::Orphans(drained.orphans))?;
     }
-    write_because(out, &stopped(drained.stop))
+    match drained.stop {
+        Some(stop) => out.reason(&Reason::Stopped(stop)),
+        None => Ok(()),
+    }
 }
 
 /// Adds a reply that is of no landing, and what explains it. An index has heard all entries.
 fn write_plain(
-    out: &mut Text,
+    out: &mut Page,
     scene: &Scene<'_>,
     index: &Index,
     reply: &Reply,
@@ -55,32 +54,19 @@ fn write_plain(
     requires marked { IsMarked scene.now.last.now.places.items scene.now.transactions.now }
     ensures { OnOk result (out.new ≡ out.old ++ plain_shown (moment_of scene.now) reply.now) }
 {
-    write_reply(out, reply)?;
+    out.reply(reply)?;
     match reply {
-        Reply::Refused(refusal) => {
-            let refused = why_refused(scene, index, *refusal);
-            write_because(out, &Some(Reason::Refused(refused)))
-        }
-        Reply::Torn => write_because(out, &Some(Reason::Torn(scene.overflow))),
+        Reply::Refused(refusal) => out.refused(&why_refused(scene, index, *refusal)),
+        Reply::Torn => out.reason(&Reason::Torn(overflow_of(scene.event, scene.machine))),
         Reply::Drained(drained) => write_drained(out, drained),
         _ => Ok(()),
     }
 }
 
-/// Adds that no transaction landed, if that is so.
-fn write_none(out: &mut Text, landings: &[Landing]) -> Result<(), AllocError>
-    ensures { OnOk result (out.new ≡ out.old ++ none_shown landings.now) }
-{
-    if landings.is_empty() {
-        return out.push_str("  nothing was stamped\n");
-    }
-    Ok(())
-}
-
 /// Adds a reply, line by line, and what explains it. An index has heard the entries before the event, so many, and
 /// hears those of the event.
 fn write_shown(
-    out: &mut Text,
+    out: &mut Page,
     scene: &Scene<'_>,
     index: &mut Index,
     first: usize,
@@ -95,11 +81,11 @@ fn write_shown(
     match reply {
         Reply::Landed { landings, torn } => {
             let landings = landings.as_slice();
-            write_none(out, landings)?;
+            out.none(landings)?;
             let fault = group_fault(scene, landings);
             let heard = write_landings(out, scene, index, fault, first, landings)?;
             hear_all(index, scene.entries, heard)?;
-            write_torn(out, *torn)
+            out.torn(*torn)
         }
         Reply::Late {
             number,
@@ -108,7 +94,7 @@ fn write_shown(
         } => {
             let heard = write_late_landing(out, scene, index, first, *number, landing)?;
             hear_all(index, scene.entries, heard)?;
-            write_torn(out, *torn)
+            out.torn(*torn)
         }
         _ => {
             hear_all(index, scene.entries, first)?;
@@ -117,49 +103,97 @@ fn write_shown(
     }
 }
 
-/// Adds the entries that an event added, by how many there were before it and are behind it.
-fn write_added(out: &mut Text, first: usize, end: usize) -> Result<(), AllocError>
-    ensures { OnOk result (out.new ≡ out.old ++ added first end) }
-{
-    if end <= first {
-        return Ok(());
-    }
-    if end == first + 1 {
-        out.push_number("  entry ", first as u64)?;
-        return out.end_line();
-    }
-    out.push_number("  entries ", first as u64)?;
-    out.push_number(" to ", (end - 1) as u64)?;
-    out.end_line()
-}
-
-/// Adds a script's line, with its number.
-fn write_heading(out: &mut Text, said: &SaidLine<'_>) -> Result<(), AllocError>
-    ensures { OnOk result (out.new ≡ out.old ++ heading (line_of said.now)) }
-{
-    out.push_number("line ", said.number as u64)?;
-    out.push_str(": ")?;
-    out.push_str(said.text)?;
-    out.end_line()
-}
-
 /// Adds the line of an event, its reply with what explains it, and the entries that it added. An index has heard
 /// the entries before the event, so many, and hears those of the event. It fails only if out of memory.
-pub(crate) fn write_row(
-    out: &mut Text,
-    said: &SaidLine<'_>,
+fn write_row(
+    out: &mut Page,
+    said: &Said<'_>,
     scene: &Scene<'_>,
     index: &mut Index,
     first: usize,
     reply: &Reply,
 ) -> Result<(), AllocError>
+    requires text { is_text said.now.bytes.now ≡ true }
     requires within { first ≤ length scene.now.entries.now }
     requires heard { HasHeard index.old (take first scene.now.entries.now) }
     requires marked { IsMarked scene.now.last.now.places.items scene.now.transactions.now }
-    ensures shown { OnOk result (out.new ≡ out.old ++ row (line_of said.now) (moment_of scene.now) first reply.now) }
+    ensures shown { OnOk result (out.new ≡ out.old ++ row (said_line said.now) (moment_of scene.now) first reply.now) }
     ensures heard { OnOk result (HasHeard index.new scene.now.entries.now) }
 {
-    write_heading(out, said)?;
+    out.heading(said)?;
     write_shown(out, scene, index, first, reply)?;
-    write_added(out, first, scene.entries.len())
+    out.added(first, scene.entries.len())
+}
+
+/// Adds what explains what came of a command.
+fn write_came(
+    out: &mut Page,
+    scene: &Scene<'_>,
+    index: &Index,
+    came: Result<Executed, Refusal>,
+    last: &Entry,
+) -> Result<(), AllocError>
+    requires heard { HasHeard index.now scene.now.entries.now }
+    requires marked { IsMarked scene.now.last.now.places.items scene.now.transactions.now }
+    ensures { OnOk result (out.new ≡ out.old ++ plain_shown (moment_of scene.now) (reply_of came last.now)) }
+{
+    out.executed(came, last)?;
+    match came {
+        Ok(Executed::Done) => Ok(()),
+        Ok(Executed::Torn) => out.reason(&Reason::Torn(overflow_of(scene.event, scene.machine))),
+        Err(refusal) => out.refused(&why_refused(scene, index, refusal)),
+    }
+}
+
+/// Adds the line of a command, what came of it with what explains that, and the entries that it added, as [`write_row`] does for
+/// the reply to it.
+fn write_command_row(
+    out: &mut Page,
+    said: &Said<'_>,
+    scene: &Scene<'_>,
+    index: &mut Index,
+    first: usize,
+    came: Result<Executed, Refusal>,
+    last: &Entry,
+) -> Result<(), AllocError>
+    requires text { is_text said.now.bytes.now ≡ true }
+    requires within { first ≤ length scene.now.entries.now }
+    requires heard { HasHeard index.old (take first scene.now.entries.now) }
+    requires marked { IsMarked scene.now.last.now.places.items scene.now.transactions.now }
+    ensures shown { OnOk result (out.new ≡ out.old ++ row (said_line said.now) (moment_of scene.now) first (reply_of came last.now)) }
+    ensures heard { OnOk result (HasHeard index.new scene.now.entries.now) }
+{
+    out.heading(said)?;
+    hear_all(index, scene.entries, first)?;
+    write_came(out, scene, index, came, last)?;
+    out.added(first, scene.entries.len())
+}
+
+impl Teller for Page {
+    ghost bytes = { λ page. page };
+
+    ghost show = { row };
+
+    fn row(
+        &mut self,
+        said: &Said<'_>,
+        scene: &Scene<'_>,
+        index: &mut Index,
+        first: usize,
+        reply: &Reply,
+    ) -> Result<(), AllocError> {
+        write_row(self, said, scene, index, first, reply)
+    }
+
+    fn command_row(
+        &mut self,
+        said: &Said<'_>,
+        scene: &Scene<'_>,
+        index: &mut Index,
+        first: usize,
+        came: Result<Executed, Refusal>,
+        last: &Entry,
+    ) -> Result<(), AllocError> {
+        write_command_row(self, said, scene, index, first, came, last)
+    }
 }

@@ -1,20 +1,33 @@
 ghost use Rattle.gs_replies.specs.Config.{config_fault};
-ghost use Rattle.std.specs.Prelude.{◌≡◌, ◌≢◌, None, Ok, IfOk, IfErr, IsErrOf};
+ghost use Rattle.std.specs.Prelude.{◌≡◌, ◌≢◌, [], None, Ok, IfOk, IfErr, IsErrOf};
 ghost use Rattle.std.specs.Io.KnownBytes.{Keeps};
 ghost use Rattle.gs_trace.specs.Streams.{AnswersAll, AnswersOf, BeginsAnswer, ConsumesAtMost};
-ghost use Rattle.gs_explain.specs.Explained.{IsExplained, TellsOf};
+ghost use Rattle.gs_explain.specs.Explained.{IsExplained, TellsOf, shown_by};
 ghost use Rattle.gs_script.specs.Held.{seen};
 ghost use Rattle.gs_script.specs.Said.{said_in};
 ghost use Rattle.gs_script.specs.Script.{script_of};
 
+use crate::objects::Objects;
+use crate::page::Page;
+use crate::said::{Rest, next_said};
+use crate::teller::Teller;
 use crate::telling::explain_all;
-use gs_core::{ConfigFault, Machine};
-use gs_script::{Script, ScriptError, lines_say_events, read_script, said_lines};
+use gs_core::Machine;
+use gs_script::{Script, ScriptError, lines_say_events, read_script};
 use gs_trace::{
     Ended, InputError, Kept, MOST_READ_BYTES, TraceFault, fault_text, read_all, write_out,
 };
 use std::alloc::{AllocError, Global};
 use std::io::{Read, Write};
+
+/// How what explains a script is written.
+#[derive(Clone, Copy, PartialEq, Eq, Debug)]
+pub enum Explanation {
+    /// Lines of text.
+    Lines,
+    /// A JSON object for each event, one a line, its keys sorted.
+    Json,
+}
 
 /// What is to be written.
 #[derive(Drop)]
@@ -23,34 +36,56 @@ struct Answer {
     bytes: Vec<u8>,
 }
 
-/// Returns what explains a script, whose bytes these are. It fails only if out of memory.
-fn explained(alloc: Global, input: &[u8], script: &Script) -> Result<Vec<u8>, AllocError>
+/// Has what explains a script told, whose bytes these are. It fails only if out of memory.
+#[tactic(auto, using(crate::proofs::Saying::few_said, crate::proofs::Saying::says_script, crate::proofs::Saying::says_behind, crate::proofs::Saying::says_no_header))]
+fn told<T: Teller>(alloc: Global, input: &[u8], script: &Script, teller: T) -> Result<T, AllocError>
     requires says { script_of input.now ≡ Ok (seen script.now) }
     requires fits { config_fault script.now.config ≡ None }
-    ensures { IfOk result (λ bytes. TellsOf (said_in input.now) (seen script.now) bytes.items) }
+    requires empty { T.bytes teller ≡ [] }
+    ensures { IfOk result (λ told. TellsOf T.show (said_in input.now) (seen script.now) (T.bytes told)) }
 {
     lines_say_events();
-    let lines = said_lines(alloc, input)?;
-    let Some((header, said)) = lines.split_first() else {
+    let all = Rest {
+        number: 1,
+        text: Some(input),
+    };
+    let Some((header, said)) = next_said(all) else {
         unreachable!()
     };
-    let mut machine = match Machine::new(alloc, script.config) {
-        Ok(machine) => machine,
-        Err(ConfigFault::OutOfMemory) => return Err(AllocError),
-        Err(_) => unreachable!(),
+    // (a configuration that was read can be opened, unless out of memory)
+    let Ok(mut machine) = Machine::new(alloc, script.config) else {
+        return Err(AllocError);
     };
-    let text = explain_all(alloc, &mut machine, header.number, said, &script.events)?;
-    Ok(text.into_bytes())
+    let events = script.events.as_slice();
+    let told = explain_all(alloc, &mut machine, header.number, said, events, teller)?;
+    Ok(told)
+}
+
+/// Returns what explains a script, whose bytes these are. It fails only if out of memory.
+fn explained(
+    alloc: Global,
+    how: Explanation,
+    input: &[u8],
+    script: &Script,
+) -> Result<Vec<u8>, AllocError>
+    requires says { script_of input.now ≡ Ok (seen script.now) }
+    requires fits { config_fault script.now.config ≡ None }
+    ensures { IfOk result (λ bytes. TellsOf (shown_by how) (said_in input.now) (seen script.now) bytes.items) }
+{
+    match how {
+        Explanation::Lines => Ok(told(alloc, input, script, Page::new(alloc))?.into_bytes()),
+        Explanation::Json => Ok(told(alloc, input, script, Objects::new(alloc))?.into_bytes()),
+    }
 }
 
 /// Returns what is to be written for an input. It fails only if out of memory.
-fn answer_to(alloc: Global, input: &[u8]) -> Result<Answer, AllocError>
-    ensures { IfOk result (λ answer. IsExplained input.now answer.ended answer.bytes.items) }
+fn answer_to(alloc: Global, how: Explanation, input: &[u8]) -> Result<Answer, AllocError>
+    ensures { IfOk result (λ answer. IsExplained how input.now answer.ended answer.bytes.items) }
 {
     match read_script(alloc, input) {
         Ok(script) => Ok(Answer {
             ended: Ended::Ran,
-            bytes: explained(alloc, input, &script)?,
+            bytes: explained(alloc, how, input, &script)?,
         }),
         Err(ScriptError::OutOfMemory) => Err(AllocError),
         Err(ScriptError::Fault(fault)) => {
@@ -65,8 +100,8 @@ fn answer_to(alloc: Global, input: &[u8]) -> Result<Answer, AllocError>
 
 /// Reads a script to its end, or until it is too long, runs it, and writes for each event what explains it: the
 /// script's line with its number, the lines of its reply, and the entries of the journal that it added. Behind each
-/// refusal, each landing that was not placed and each tear-down stands a line, indented, that says why. A script's fault
-/// is written as one line. Returns what was read too, for whoever tells more of that fault.
+/// refusal, each landing that was not placed and each tear-down stands a line, indented, that says why. Or it writes all that
+/// of an event as one object of JSON. A script's fault is written as one line. Returns what was read too, for whoever tells more of that fault.
 ///
 /// The reads end at the first that gives no byte, and are at most 1,048,578. At most
 /// [`MOST_READ_BYTES`] are read.
@@ -80,19 +115,20 @@ pub fn explain_script<R: Read, W: Write>(
     alloc: Global,
     reader: &mut R,
     writer: &mut W,
+    how: Explanation,
 ) -> Result<Kept, TraceFault>
-    ensures ended { IfOk result (λ kept. AnswersAll IsExplained kept.ended (R.remaining reader.old) (W.contents writer.old) (W.contents writer.new)) }
-    ensures read { IfOk result (λ kept. AnswersOf IsExplained kept.input.items kept.ended (R.remaining reader.old) (R.remaining reader.new) (W.contents writer.old) (W.contents writer.new)) }
+    ensures ended { IfOk result (λ kept. AnswersAll (IsExplained how) kept.ended (R.remaining reader.old) (W.contents writer.old) (W.contents writer.new)) }
+    ensures read { IfOk result (λ kept. AnswersOf (IsExplained how) kept.input.items kept.ended (R.remaining reader.old) (R.remaining reader.new) (W.contents writer.old) (W.contents writer.new)) }
     ensures bounded { ConsumesAtMost MOST_READ_BYTES (R.remaining reader.old) (R.remaining reader.new) }
     ensures unwritten { IfErr result (λ e. e ≢ TraceFault.WriteFailed → Keeps (W.contents writer.old) (W.contents writer.new)) }
-    ensures begun { IsErrOf result TraceFault.WriteFailed → BeginsAnswer IsExplained (R.remaining reader.old) (W.contents writer.old) (W.contents writer.new) }
+    ensures begun { IsErrOf result TraceFault.WriteFailed → BeginsAnswer (IsExplained how) (R.remaining reader.old) (W.contents writer.old) (W.contents writer.new) }
 {
     let input = match read_all(alloc, reader) {
         Ok(input) => input,
         Err(InputError::Failed) => return Err(TraceFault::ReadFailed),
         Err(InputError::OutOfMemory) => return Err(TraceFault::OutOfMemory),
     };
-    let Answer { ended, bytes } = answer_to(alloc, &input)?;
+    let Answer { ended, bytes } = answer_to(alloc, how, &input)?;
     match write_out(writer, &bytes) {
         Ok(()) => Ok(Kept { ended, input }),
         Err(_) => Err(TraceFault::WriteFailed),

@@ -1,41 +1,83 @@
 //! A run of events, each of which is explained as it happens.
 
-ghost use Rattle.std.specs.Prelude.{◌≡◌, ◌≤◌, IfOk, OnOk, false, length, map, take};
+ghost use Rattle.std.specs.Prelude.{◌≡◌, ◌≤◌, ◌<◌, ◌+◌, ◌^◌, IfOk, OnOk, [], length, take, true};
 ghost use Rattle.gs_core.specs.Machine.{planned, planning};
 ghost use Rattle.gs_reasons.specs.Kept.{HasHeard};
-ghost use Rattle.gs_script.specs.Said.{SayEach, line_of};
+ghost use Rattle.gs_script.specs.Plain.{lines_left};
+ghost use Rattle.gs_script.specs.Said.{SayEach};
+ghost use Rattle.gs_script.specs.Words.{is_text};
 ghost use Rattle.gs_trace.specs.Output.{any_plans};
 ghost use Rattle.gs_explain.specs.Marked.{IsMarked};
 ghost use Rattle.gs_explain.specs.Noted.{noted_first};
+ghost use Rattle.gs_explain.specs.SaidLines.{said_left, said_line};
 ghost use Rattle.gs_explain.specs.Telling.{ExplainsOne, IsToldOf, noted_of};
 
 use crate::hearing::hear_all;
 use crate::marking::mark_last;
 use crate::moment::Scene;
 use crate::noted::Lines;
-use crate::overflow::overflow_of;
-use crate::row::write_row;
-use gs_core::{Event, Machine, is_short};
-use gs_lines::Text;
+use crate::said::{Rest, Said, next_said};
+use crate::teller::Teller;
+use gs_core::{Event, Machine, is_short, is_short_command};
+use gs_kernel::Command;
 use gs_policy::AnyPolicy;
 use gs_reasons::{Index, Marks};
-use gs_script::SaidLine;
 use std::alloc::{AllocError, Global};
 use std::slice;
 
-/// Lets an event happen, and adds what explains it. It fails only if out of memory, or if the reply tells of that.
-fn explain_one(
+/// Lets a command be executed, and adds what explains it, as [`explain_one`] does. It is given as the event, too.
+fn explain_command<T: Teller>(
     machine: &mut Machine<AnyPolicy>,
     lines: &mut Lines,
     index: &mut Index,
     last: &mut Marks,
-    out: &mut Text,
-    said: &SaidLine<'_>,
+    out: &mut T,
+    said: &Said<'_>,
     event: &Event<AnyPolicy>,
+    command: &Command,
 ) -> Result<(), AllocError>
+    requires given { event.now ≡ Event.Kernel command.now }
+    requires text { is_text said.now.bytes.now ≡ true }
     requires heard { HasHeard index.old machine.old.history }
     requires marked { IsMarked last.old.places.items machine.old.transactions }
-    ensures { OnOk result (ExplainsOne (noted_of lines.old) (planning any_plans machine.old) (line_of said.now) event.now (planning any_plans machine.new) (noted_of lines.new) index.new last.new.places.items out.old out.new) }
+    ensures { OnOk result (ExplainsOne T.show (noted_of lines.old) (planning any_plans machine.old) (said_line said.now) event.now (planning any_plans machine.new) (noted_of lines.new) index.new last.new.places.items (T.bytes out.old) (T.bytes out.new)) }
+{
+    let first = machine.kernel().journal().len();
+    let stamped = machine.transactions().len();
+    let came = machine.command(command);
+    if is_short_command(came) {
+        return Err(AllocError);
+    }
+    let entries = machine.kernel().journal().entries();
+    let transactions = machine.transactions();
+    mark_last(last, transactions, stamped)?;
+    let latest = machine.kernel().last();
+    lines.note_command(said.number, came, latest, entries.len(), transactions.len())?;
+    let scene = Scene {
+        noted: lines,
+        event,
+        machine,
+        entries,
+        transactions,
+        last,
+    };
+    out.command_row(said, &scene, index, first, came, latest)
+}
+
+/// Lets an event happen that is no command, and adds what explains it, as [`explain_one`] does.
+fn explain_other<T: Teller>(
+    machine: &mut Machine<AnyPolicy>,
+    lines: &mut Lines,
+    index: &mut Index,
+    last: &mut Marks,
+    out: &mut T,
+    said: &Said<'_>,
+    event: &Event<AnyPolicy>,
+) -> Result<(), AllocError>
+    requires text { is_text said.now.bytes.now ≡ true }
+    requires heard { HasHeard index.old machine.old.history }
+    requires marked { IsMarked last.old.places.items machine.old.transactions }
+    ensures { OnOk result (ExplainsOne T.show (noted_of lines.old) (planning any_plans machine.old) (said_line said.now) event.now (planning any_plans machine.new) (noted_of lines.new) index.new last.new.places.items (T.bytes out.old) (T.bytes out.new)) }
 {
     let first = machine.kernel().journal().len();
     let stamped = machine.transactions().len();
@@ -48,43 +90,70 @@ fn explain_one(
     mark_last(last, transactions, stamped)?;
     lines.note(said.number, &reply, entries.len(), transactions.len())?;
     let scene = Scene {
-        lines: &lines.entries,
-        stamped: &lines.stamped,
-        page: lines.page,
+        noted: lines,
         event,
+        machine,
         entries,
         transactions,
         last,
-        region: machine.region(),
-        settings: machine.kernel().settings(),
-        overflow: overflow_of(event, machine),
     };
-    write_row(out, said, &scene, index, first, &reply)
+    out.row(said, &scene, index, first, &reply)
 }
 
-/// Lets events happen, and returns what explains them. Each is said by the line beside it, and the header's line is given.
-/// It fails only if out of memory, or if a reply tells of that.
-pub(crate) fn explain_all(
+/// Lets an event happen, and adds what explains it. It fails only if out of memory, or if the reply tells of that.
+fn explain_one<T: Teller>(
+    machine: &mut Machine<AnyPolicy>,
+    lines: &mut Lines,
+    index: &mut Index,
+    last: &mut Marks,
+    out: &mut T,
+    said: &Said<'_>,
+    event: &Event<AnyPolicy>,
+) -> Result<(), AllocError>
+    requires text { is_text said.now.bytes.now ≡ true }
+    requires heard { HasHeard index.old machine.old.history }
+    requires marked { IsMarked last.old.places.items machine.old.transactions }
+    ensures { OnOk result (ExplainsOne T.show (noted_of lines.old) (planning any_plans machine.old) (said_line said.now) event.now (planning any_plans machine.new) (noted_of lines.new) index.new last.new.places.items (T.bytes out.old) (T.bytes out.new)) }
+{
+    match event {
+        Event::Kernel { command } => {
+            explain_command(machine, lines, index, last, out, said, event, command)
+        }
+        _ => explain_other(machine, lines, index, last, out, said, event),
+    }
+}
+
+/// Lets events happen, and has what explains them told. Each is said by the next line of what is left of a script, and
+/// the header's line is given. It fails only if out of memory, or if a reply tells of that.
+pub(crate) fn explain_all<T: Teller>(
     alloc: Global,
     machine: &mut Machine<AnyPolicy>,
     header: usize,
-    said: &[SaidLine<'_>],
+    left: Rest<'_>,
     events: &[Event<AnyPolicy>],
-) -> Result<Text, AllocError>
-    requires { SayEach (map line_of said.now) events.now }
-    ensures { IfOk result (λ text. IsToldOf (noted_first header) (planning any_plans machine.old) events.now (map line_of said.now) (planning any_plans machine.new) text) }
+    teller: T,
+) -> Result<T, AllocError>
+    requires empty { T.bytes teller ≡ [] }
+    requires few { left.number + length (lines_left left.text) < 2 ^ 62 }
+    requires says { SayEach (said_left left) events.now }
+    ensures { IfOk result (λ told. IsToldOf T.show (noted_first header) (planning any_plans machine.old) events.now (said_left left.entry) (planning any_plans machine.new) (T.bytes told)) }
 {
     let mut lines = Lines::new(alloc, header)?;
     let mut index = Index::new(alloc);
     let mut last = Marks::new(alloc);
-    let mut out = Text::new(alloc);
+    let mut out = teller;
     hear_all(&mut index, machine.kernel().journal().entries(), 0)?;
     mark_last(&mut last, machine.transactions(), 0)?;
+    let mut rest = left;
     let mut n = 0;
     while n < events.len() {
+        let Some((said, behind)) = next_said(rest) else {
+            unreachable!()
+        };
         explain_one(
-            machine, &mut lines, &mut index, &mut last, &mut out, &said[n], &events[n],
+            machine, &mut lines, &mut index, &mut last, &mut out, &said, &events[n],
         )?;
+        rest = behind;
         n += 1;
     }
     Ok(out)

@@ -19,11 +19,11 @@ use Rattle.gs_core.specs.declared.event.Event.TheVariants as events
 use Rattle.gs_slots.specs.Flags.{no_flags}
 use Rattle.gs_reasons.specs.declared.group.GroupFault.{GroupFault}
 use Rattle.gs_reasons.specs.declared.group.GroupFault.TheVariants.{Slot, Twice}
-use Rattle.gs_sentences.specs.declared.cause.Cause.{Cause}
+use Rattle.gs_sentences.specs.Told.{Cause}
 use Rattle.gs_sentences.specs.declared.landed.Overflow.{Overflow}
 use Rattle.gs_sentences.specs.declared.numbers.Waiting.{Waiting}
-use Rattle.gs_sentences.specs.declared.reason.Reason.{Reason}
-use Rattle.gs_sentences.specs.declared.reason.Reason.TheVariants as reasons
+use Rattle.gs_sentences.specs.Reason.{Reason}
+use Rattle.gs_sentences.specs.Reason as reasons
 use Rattle.gs_sentences.specs.Words.{said}
 use Rattle.gs_sentences.specs.Reasons.{reason_text}
 

@@ -5,7 +5,7 @@ use Rattle.gs_layout.specs.declared.outcome.Outcome.TheVariants as outcomes
 use Rattle.gs_lines.specs.Lines.{outcome_text}
 use Rattle.gs_reasons.specs.declared.group.GroupFault.{GroupFault}
 use Rattle.gs_reasons.specs.declared.group.GroupFault.TheVariants.{Slot, Twice}
-use Rattle.gs_sentences.specs.declared.landed.Landed.{Landed}
+use Rattle.gs_sentences.specs.Told.{Landed}
 use Rattle.gs_sentences.specs.declared.landed.Overflow.{Overflow}
 use Rattle.gs_sentences.specs.declared.landed.Stamped.{Stamped}
 use Rattle.gs_sentences.specs.Shared.{agent_text, dead_text, held_text, mask_text, seat_text, since_text, told_text, torn_text}

@@ -1,4 +1,7 @@
 pub mod Words
+pub mod Told
+pub mod Reason
+pub mod Given
 pub mod Shared
 pub mod Subject
 pub mod Landed

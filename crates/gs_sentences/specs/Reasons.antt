@@ -2,8 +2,8 @@
 use Rattle.std.specs.Prelude.{ℕ, Option, None, Some, List, [], ◌++◌, codes, decimal}
 use Rattle.gs_agent.specs.declared.drained.Stop.{Stop}
 use Rattle.gs_agent.specs.declared.drained.Stop.TheVariants as stops
-use Rattle.gs_sentences.specs.declared.reason.Reason.{Reason}
-use Rattle.gs_sentences.specs.declared.reason.Reason.TheVariants as reasons
+use Rattle.gs_sentences.specs.Reason.{Reason}
+use Rattle.gs_sentences.specs.Reason as reasons
 use Rattle.gs_sentences.specs.Landed.{landed_text, overflow_text}
 use Rattle.gs_sentences.specs.Refused.{refused_text}
 use Rattle.gs_sentences.specs.declared.words.Words.TheVariants as words

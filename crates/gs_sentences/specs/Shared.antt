@@ -5,7 +5,7 @@ use Rattle.gs_layout.specs.declared.message.Change.TheVariants.{Created, Blocked
 use Rattle.gs_layout.specs.declared.message.Message.TheVariants.{Thread}
 use Rattle.gs_journal.specs.declared.entry.Entry.{Entry}
 use Rattle.gs_journal.specs.declared.entry.Entry.TheVariants.{Posted, Placed, Role, Begin, Left, Torn}
-use Rattle.gs_sentences.specs.declared.cause.Cause.{Cause}
+use Rattle.gs_sentences.specs.Told.{Cause}
 use Rattle.gs_sentences.specs.declared.words.Words.TheVariants as words
 use Rattle.gs_sentences.specs.Words.{said}
 

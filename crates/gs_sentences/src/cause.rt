@@ -1,47 +1,54 @@
-ghost use Rattle.std.specs.Prelude.{◌≡◌, ◌++◌, OnOk, decimal};
+ghost use Rattle.std.specs.Prelude.{◌≡◌, ◌≤◌, ◌+◌, ◌++◌, length};
+ghost use Rattle.gs_sentences.specs.Given.{cause_given, causes_given};
 ghost use Rattle.gs_sentences.specs.Shared.{on_text, place_text, since_text};
 ghost use Rattle.gs_sentences.specs.Words.{said};
 
-use crate::words::{Words, say, say_number};
+use crate::sentence::{SENTENCE_LEN, Sentence};
+use crate::words::{Words, put_numbered, put_words};
 use gs_journal::Entry;
-use gs_lines::Text;
-use std::alloc::AllocError;
 
 /// An entry of the journal that is a reason, and where it is from.
-#[derive(Clone, Copy, PartialEq, Eq, Debug)]
-pub struct Cause {
+#[derive(Clone, Copy)]
+pub struct Cause<'a> {
     /// The script's line whose event added it, counted from 1 over all lines.
     pub line: usize,
     /// Its place in the journal, counted from 0.
     pub place: usize,
-    pub entry: Entry,
+    pub entry: &'a Entry,
 }
 
-/// Adds words, and behind them the line and the place.
-pub(crate) fn write_place(out: &mut Text, words: Words, cause: &Cause) -> Result<(), AllocError>
-    ensures { OnOk result (out.new ≡ out.old ++ said words ++ place_text cause.now) }
+/// Puts words, and behind them the line and the place.
+#[inline(always)]
+pub(crate) fn put_place(to: &mut Sentence, words: Words, cause: &Cause<'_>)
+    requires { length to.old + 232 ≤ SENTENCE_LEN }
+    ensures value { to.new ≡ said words ++ place_text (cause_given cause.now) ++ to.old }
+    ensures short { length to.new ≤ length to.old + 232 }
 {
-    say_number(out, words, cause.line as u64)?;
-    say_number(out, Words::Entry, cause.place as u64)?;
-    say(out, Words::Close)
+    put_words(to, Words::Close);
+    put_numbered(to, Words::Entry, cause.place as u64);
+    put_numbered(to, words, cause.line as u64);
 }
 
-/// Adds since when something is so, if an entry made it so.
-pub(crate) fn write_since(out: &mut Text, cause: &Option<Cause>) -> Result<(), AllocError>
-    ensures { OnOk result (out.new ≡ out.old ++ since_text cause.now) }
+/// Puts since when something is so, if an entry made it so.
+pub(crate) fn put_since(to: &mut Sentence, cause: &Option<Cause<'_>>)
+    requires { length to.old + 232 ≤ SENTENCE_LEN }
+    ensures value { to.new ≡ since_text (causes_given cause.now) ++ to.old }
+    ensures short { length to.new ≤ length to.old + 232 }
 {
     match cause {
-        Some(cause) => write_place(out, Words::SinceLine, cause),
-        None => Ok(()),
+        Some(cause) => put_place(to, Words::SinceLine, cause),
+        None => {}
     }
 }
 
-/// Adds when something happened, if an entry tells of it.
-pub(crate) fn write_on(out: &mut Text, cause: &Option<Cause>) -> Result<(), AllocError>
-    ensures { OnOk result (out.new ≡ out.old ++ on_text cause.now) }
+/// Puts when something happened, if an entry tells of it.
+pub(crate) fn put_on(to: &mut Sentence, cause: &Option<Cause<'_>>)
+    requires { length to.old + 232 ≤ SENTENCE_LEN }
+    ensures value { to.new ≡ on_text (causes_given cause.now) ++ to.old }
+    ensures short { length to.new ≤ length to.old + 232 }
 {
     match cause {
-        Some(cause) => write_place(out, Words::OnLine, cause),
-        None => Ok(()),
+        Some(cause) => put_place(to, Words::OnLine, cause),
+        None => {}
     }
 }

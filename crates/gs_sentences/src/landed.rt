@@ -1,17 +1,15 @@
-ghost use Rattle.std.specs.Prelude.{◌≡◌, ◌++◌, OnOk};
+ghost use Rattle.std.specs.Prelude.{◌≡◌, ◌≤◌, ◌+◌, ◌++◌, length};
+ghost use Rattle.gs_sentences.specs.Given.{causes_given, landed_given};
 ghost use Rattle.gs_sentences.specs.Landed.{displaced_text, full_text, gone_text, landed_text, overflow_text, somewhere_text, stale_text};
 
-use crate::cause::{Cause, write_since};
-use crate::group::write_group;
-use crate::shared::{
-    write_agent, write_dead, write_held, write_mask, write_seat, write_told, write_torn_down,
-};
-use crate::words::{Words, say, say_number};
+use crate::cause::{Cause, put_since};
+use crate::group::put_group;
+use crate::sentence::{MOST_REASON_LEN, SENTENCE_LEN, Sentence};
+use crate::shared::{put_agent, put_dead, put_held, put_mask, put_seat, put_told, put_torn_down};
+use crate::words::{Words, put_numbered, put_words};
 use gs_kernel::Landing;
 use gs_layout::Outcome;
-use gs_lines::Text;
 use gs_reasons::GroupFault;
-use std::alloc::AllocError;
 
 /// A message that does not fit into the ring.
 #[derive(Clone, Copy, PartialEq, Eq, Debug)]
@@ -32,12 +30,12 @@ pub struct Stamped {
 }
 
 /// A transaction that landed and was not placed, and what a sentence may tell of it.
-#[derive(Clone, Copy, PartialEq, Eq, Debug)]
-pub struct Landed {
+#[derive(Clone, Copy)]
+pub struct Landed<'a> {
     pub landing: Landing,
     pub stamped: Stamped,
     /// The last entry that made the landing what it is, if one did.
-    pub cause: Option<Cause>,
+    pub cause: Option<Cause<'a>>,
     /// What did not fit, if the landing tore the enclave down.
     pub overflow: Option<Overflow>,
     /// What failed its group, if that failed.
@@ -48,114 +46,124 @@ pub struct Landed {
     pub limit: u32,
 }
 
-/// Adds how many bytes a message needs, and how many are free.
-pub(crate) fn write_overflow(out: &mut Text, overflow: &Overflow) -> Result<(), AllocError>
-    ensures { OnOk result (out.new ≡ out.old ++ overflow_text overflow.now) }
+/// Puts how many bytes a message needs, and how many are free.
+pub(crate) fn put_overflow(to: &mut Sentence, overflow: &Overflow)
+    requires { length to.old + 232 ≤ SENTENCE_LEN }
+    ensures value { to.new ≡ overflow_text overflow.now ++ to.old }
+    ensures short { length to.new ≤ length to.old + 232 }
 {
-    say_number(out, Words::TheMessageNeeds, overflow.needs as u64)?;
-    say_number(out, Words::BytesWithItsPadAnd, overflow.free as u64)?;
-    say(out, Words::AreFree)
+    put_words(to, Words::AreFree);
+    put_numbered(to, Words::BytesWithItsPadAnd, overflow.free as u64);
+    put_numbered(to, Words::TheMessageNeeds, overflow.needs as u64);
 }
 
-/// Adds that the journal has too few entries left.
-pub(crate) fn write_full(out: &mut Text, entries: usize, limit: u32) -> Result<(), AllocError>
-    ensures { OnOk result (out.new ≡ out.old ++ full_text entries limit) }
+/// Puts that the journal has too few entries left.
+pub(crate) fn put_full(to: &mut Sentence, entries: usize, limit: u32)
+    requires { length to.old + 232 ≤ SENTENCE_LEN }
+    ensures value { to.new ≡ full_text entries limit ++ to.old }
+    ensures short { length to.new ≤ length to.old + 232 }
 {
-    say_number(out, Words::TheJournalHas, entries as u64)?;
-    say_number(out, Words::OfAtMost, limit as u64)?;
-    say(out, Words::EntriesAndTooFewAreLeft)
+    put_words(to, Words::EntriesAndTooFewAreLeft);
+    put_numbered(to, Words::OfAtMost, limit as u64);
+    put_numbered(to, Words::TheJournalHas, entries as u64);
 }
 
-/// Adds the tear-down that took a transaction with it.
-fn write_gone(out: &mut Text, landed: &Landed) -> Result<(), AllocError>
-    ensures { OnOk result (out.new ≡ out.old ++ gone_text landed.now landed.now.overflow) }
+/// Puts the tear-down that took a transaction with it.
+fn put_gone(to: &mut Sentence, landed: &Landed<'_>)
+    requires { length to.old + 296 ≤ SENTENCE_LEN }
+    ensures value { to.new ≡ gone_text (landed_given landed.now) landed.now.overflow ++ to.old }
+    ensures short { length to.new ≤ length to.old + 296 }
 {
     match &landed.overflow {
-        Some(overflow) => write_overflow(out, overflow),
-        None => write_torn_down(out, &landed.cause),
+        Some(overflow) => put_overflow(to, overflow),
+        None => put_torn_down(to, &landed.cause),
     }
 }
 
-/// Adds under which generation a transaction was stamped.
-fn write_displaced(out: &mut Text, stamped: &Stamped) -> Result<(), AllocError>
-    ensures { OnOk result (out.new ≡ out.old ++ displaced_text stamped.now) }
+/// Puts under which generation a transaction was stamped.
+fn put_displaced(to: &mut Sentence, stamped: &Stamped)
+    requires { length to.old + 232 ≤ SENTENCE_LEN }
+    ensures value { to.new ≡ displaced_text stamped.now ++ to.old }
+    ensures short { length to.new ≤ length to.old + 232 }
 {
-    say_number(
-        out,
-        Words::StampedUnderGeneration,
-        stamped.generation as u64,
-    )?;
-    say_number(out, Words::OnLine, stamped.line as u64)?;
-    say(out, Words::Semicolon)
+    put_words(to, Words::Semicolon);
+    put_numbered(to, Words::OnLine, stamped.line as u64);
+    put_numbered(to, Words::StampedUnderGeneration, stamped.generation as u64);
 }
 
-/// Adds at which number a transaction was stamped, and which one its thread has.
-fn write_stale(out: &mut Text, stamped: &Stamped, tid: u32, seen: u32) -> Result<(), AllocError>
-    ensures { OnOk result (out.new ≡ out.old ++ stale_text stamped.now tid seen) }
+/// Puts at which number a transaction was stamped, and which one its thread has.
+fn put_stale(to: &mut Sentence, stamped: &Stamped, tid: u32, seen: u32)
+    requires { length to.old + 336 ≤ SENTENCE_LEN }
+    ensures value { to.new ≡ stale_text stamped.now tid seen ++ to.old }
+    ensures short { length to.new ≤ length to.old + 336 }
 {
-    say_number(out, Words::StampedAtSeq, stamped.tseq as u64)?;
-    say_number(out, Words::OnLine, stamped.line as u64)?;
-    say_number(out, Words::AndThread, tid as u64)?;
-    say_number(out, Words::HasSeq, seen as u64)
+    put_numbered(to, Words::HasSeq, seen as u64);
+    put_numbered(to, Words::AndThread, tid as u64);
+    put_numbered(to, Words::OnLine, stamped.line as u64);
+    put_numbered(to, Words::StampedAtSeq, stamped.tseq as u64);
 }
 
-/// Adds on which CPU a thread is.
-fn write_somewhere(out: &mut Text, at: Option<u16>) -> Result<(), AllocError>
-    ensures { OnOk result (out.new ≡ out.old ++ somewhere_text at) }
+/// Puts on which CPU a thread is.
+fn put_somewhere(to: &mut Sentence, at: Option<u16>)
+    requires { length to.old + 84 ≤ SENTENCE_LEN }
+    ensures value { to.new ≡ somewhere_text at ++ to.old }
+    ensures short { length to.new ≤ length to.old + 84 }
 {
     match at {
-        Some(cpu) => say_number(out, Words::IsOnCpu, cpu as u64),
-        None => say(out, Words::IsOnACpu),
+        Some(cpu) => put_numbered(to, Words::IsOnCpu, cpu as u64),
+        None => put_words(to, Words::IsOnACpu),
     }
 }
 
-/// Adds why a transaction was not placed. It fails only if out of memory.
-pub(crate) fn write_landed(out: &mut Text, landed: &Landed) -> Result<(), AllocError>
-    ensures { OnOk result (out.new ≡ out.old ++ landed_text landed.now) }
+/// Puts why a transaction was not placed: a sentence that has no full stop and no newline.
+pub fn put_landed(to: &mut Sentence, landed: &Landed<'_>)
+    requires { length to.old + MOST_REASON_LEN ≤ SENTENCE_LEN }
+    ensures value { to.new ≡ landed_text (landed_given landed.now) ++ to.old }
+    ensures short { length to.new ≤ length to.old + MOST_REASON_LEN }
 {
     let tid = landed.landing.tid;
     let cpu = landed.landing.cpu;
     let cause = &landed.cause;
     match landed.landing.outcome {
-        Outcome::Placed => say(out, Words::Placed),
-        Outcome::Gone => write_gone(out, landed),
+        Outcome::Placed => put_words(to, Words::Placed),
+        Outcome::Gone => put_gone(to, landed),
         Outcome::Displaced => {
-            write_displaced(out, &landed.stamped)?;
-            write_agent(out, cause)
+            put_agent(to, cause);
+            put_displaced(to, &landed.stamped);
         }
-        Outcome::NoThread => write_dead(out, tid, cause),
+        Outcome::NoThread => put_dead(to, tid, cause),
         Outcome::Stale => {
-            write_stale(out, &landed.stamped, tid, landed.landing.seen)?;
-            write_told(out, cause)
+            put_told(to, cause);
+            put_stale(to, &landed.stamped, tid, landed.landing.seen);
         }
         Outcome::NotRunnable => {
-            say_number(out, Words::Thread, tid as u64)?;
-            say(out, Words::IsBlocked)?;
-            write_since(out, cause)
+            put_since(to, cause);
+            put_words(to, Words::IsBlocked);
+            put_numbered(to, Words::Thread, tid as u64);
         }
         Outcome::AlreadyPlaced => {
-            say_number(out, Words::Thread, tid as u64)?;
-            write_somewhere(out, landed.landing.at)?;
-            write_since(out, cause)
+            put_since(to, cause);
+            put_somewhere(to, landed.landing.at);
+            put_numbered(to, Words::Thread, tid as u64);
         }
         Outcome::NotAllowed => {
-            say_number(out, Words::Thread, tid as u64)?;
-            say_number(out, Words::MayNotRunOnCpu, cpu as u64)?;
-            say(out, Words::ByItsMask)?;
-            write_mask(out, cause)
+            put_mask(to, cause);
+            put_words(to, Words::ByItsMask);
+            put_numbered(to, Words::MayNotRunOnCpu, cpu as u64);
+            put_numbered(to, Words::Thread, tid as u64);
         }
-        Outcome::CpuIsAgent => write_agent(out, cause),
-        Outcome::CpuTaken => write_held(out, cpu, cause),
-        Outcome::CpuBusy => write_seat(out, cpu, cause),
+        Outcome::CpuIsAgent => put_agent(to, cause),
+        Outcome::CpuTaken => put_held(to, cpu, cause),
+        Outcome::CpuBusy => put_seat(to, cpu, cause),
         Outcome::SeqSpent => {
-            write_seat(out, cpu, cause)?;
-            say(out, Words::AndHasItsLastSequenceNumber)
+            put_words(to, Words::AndHasItsLastSequenceNumber);
+            put_seat(to, cpu, cause);
         }
-        Outcome::HistoryFull => write_full(out, landed.entries, landed.limit),
+        Outcome::HistoryFull => put_full(to, landed.entries, landed.limit),
         Outcome::Malformed => {
-            say_number(out, Words::TheSlotOfCpu, cpu as u64)?;
-            say(out, Words::IsMalformed)
+            put_words(to, Words::IsMalformed);
+            put_numbered(to, Words::TheSlotOfCpu, cpu as u64);
         }
-        Outcome::GroupFailed => write_group(out, &landed.fault),
+        Outcome::GroupFailed => put_group(to, &landed.fault),
     }
 }

@@ -7,13 +7,15 @@ mod landed;
 mod numbers;
 mod reason;
 mod refused;
+mod sentence;
 mod shared;
 mod subject;
 mod words;
 
 pub use cause::Cause;
-pub use landed::{Landed, Overflow, Stamped};
+pub use landed::{Landed, Overflow, Stamped, put_landed};
 pub use numbers::{Numbers, Waiting};
-pub use reason::{Reason, write_reason};
-pub use refused::Refused;
+pub use reason::{Reason, put_reason};
+pub use refused::{Refused, put_refused};
+pub use sentence::{MOST_REASON_LEN, SENTENCE_LEN, Sentence};
 pub use subject::{cpu_of, mask_of, tid_of};

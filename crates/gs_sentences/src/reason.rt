@@ -1,21 +1,21 @@
-ghost use Rattle.std.specs.Prelude.{◌≡◌, ◌++◌, OnOk};
+ghost use Rattle.std.specs.Prelude.{◌≡◌, ◌≤◌, ◌+◌, ◌++◌, length};
+ghost use Rattle.gs_sentences.specs.Given.{reason_given};
 ghost use Rattle.gs_sentences.specs.Reasons.{orphans_text, reason_text, skipped_text, stopped_text};
 ghost use Rattle.gs_sentences.specs.Words.{said};
 
-use crate::landed::{Landed, Overflow, write_landed, write_overflow};
-use crate::refused::{Refused, write_refused};
-use crate::words::{Words, say};
+use crate::landed::{Landed, Overflow, put_landed, put_overflow};
+use crate::refused::{Refused, put_refused};
+use crate::sentence::{MOST_REASON_LEN, SENTENCE_LEN, Sentence};
+use crate::words::{Words, put_words};
 use gs_agent::Stop;
-use gs_lines::Text;
-use std::alloc::AllocError;
 
 /// Why an event came out as it did, or a part of it.
-#[derive(Clone, Copy, PartialEq, Eq, Debug)]
-pub enum Reason {
+#[derive(Clone, Copy)]
+pub enum Reason<'a> {
     /// Why a transaction was not placed.
-    Landed(Landed),
+    Landed(Landed<'a>),
     /// Why an event was refused.
-    Refused(Refused),
+    Refused(Refused<'a>),
     /// Why an event tore the enclave down.
     Torn(Overflow),
     /// Why a drain skipped so many messages.
@@ -36,32 +36,38 @@ fn stopped_words(stop: Stop) -> Words
     }
 }
 
-/// Adds why messages were skipped.
-fn write_skipped(out: &mut Text, count: usize) -> Result<(), AllocError>
-    ensures { OnOk result (out.new ≡ out.old ++ skipped_text count) }
+/// Puts why messages were skipped.
+fn put_skipped(to: &mut Sentence, count: usize)
+    requires { length to.old + 84 ≤ SENTENCE_LEN }
+    ensures value { to.new ≡ skipped_text count ++ to.old }
+    ensures short { length to.new ≤ length to.old + 84 }
 {
-    out.push_number("", count as u64)?;
-    say(out, Words::SkippedNoNewerThanWhatTheAgentKnewOfTheThread)
+    put_words(to, Words::SkippedNoNewerThanWhatTheAgentKnewOfTheThread);
+    to.put_number(count as u64);
 }
 
-/// Adds why messages were orphans.
-fn write_orphans(out: &mut Text, count: usize) -> Result<(), AllocError>
-    ensures { OnOk result (out.new ≡ out.old ++ orphans_text count) }
+/// Puts why messages were orphans.
+fn put_orphans(to: &mut Sentence, count: usize)
+    requires { length to.old + 84 ≤ SENTENCE_LEN }
+    ensures value { to.new ≡ orphans_text count ++ to.old }
+    ensures short { length to.new ≤ length to.old + 84 }
 {
-    out.push_number("", count as u64)?;
-    say(out, Words::OrphansAboutAThreadOfWhichTheAgentKnewNothing)
+    put_words(to, Words::OrphansAboutAThreadOfWhichTheAgentKnewNothing);
+    to.put_number(count as u64);
 }
 
-/// Adds the sentence of a reason, which has no full stop and no newline. It fails only if out of memory.
-pub fn write_reason(out: &mut Text, reason: &Reason) -> Result<(), AllocError>
-    ensures { OnOk result (out.new ≡ out.old ++ reason_text reason.now) }
+/// Puts the sentence of a reason, which has no full stop and no newline.
+pub fn put_reason(to: &mut Sentence, reason: &Reason<'_>)
+    requires { length to.old + MOST_REASON_LEN ≤ SENTENCE_LEN }
+    ensures value { to.new ≡ reason_text (reason_given reason.now) ++ to.old }
+    ensures short { length to.new ≤ length to.old + MOST_REASON_LEN }
 {
     match reason {
-        Reason::Landed(landed) => write_landed(out, landed),
-        Reason::Refused(refused) => write_refused(out, refused),
-        Reason::Torn(overflow) => write_overflow(out, overflow),
-        Reason::Skipped(count) => write_skipped(out, *count),
-        Reason::Orphans(count) => write_orphans(out, *count),
-        Reason::Stopped(stop) => say(out, stopped_words(*stop)),
+        Reason::Landed(landed) => put_landed(to, landed),
+        Reason::Refused(refused) => put_refused(to, refused),
+        Reason::Torn(overflow) => put_overflow(to, overflow),
+        Reason::Skipped(count) => put_skipped(to, *count),
+        Reason::Orphans(count) => put_orphans(to, *count),
+        Reason::Stopped(stop) => put_words(to, stopped_words(*stop)),
     }
 }

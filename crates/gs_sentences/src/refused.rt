@@ -1,110 +1,120 @@
-ghost use Rattle.std.specs.Prelude.{◌≡◌, ◌++◌, OnOk};
+ghost use Rattle.std.specs.Prelude.{◌≡◌, ◌≤◌, ◌+◌, ◌++◌, length};
+ghost use Rattle.gs_sentences.specs.Given.{causes_given, refused_given};
 ghost use Rattle.gs_sentences.specs.Refused.{attaching_text, bad_cpu_text, bad_mask_text, full_by, given_text, last_text, no_thread_text, off_text, page_text, refused_text, runs_text, spent_text, stamps, transactions_text, waiting_text};
 ghost use Rattle.gs_sentences.specs.Words.{said};
 
-use crate::cause::{Cause, write_place, write_since};
-use crate::landed::write_full;
+use crate::cause::{Cause, put_place, put_since};
+use crate::landed::put_full;
 use crate::numbers::{Numbers, Waiting};
-use crate::shared::{write_agent, write_dead, write_held, write_seat, write_torn_down};
+use crate::sentence::{MOST_REASON_LEN, SENTENCE_LEN, Sentence};
+use crate::shared::{put_agent, put_dead, put_held, put_seat, put_torn_down};
 use crate::subject::{cpu_of, mask_of, tid_of};
-use crate::words::{Words, say, say_number};
+use crate::words::{Words, put_numbered, put_words};
 use gs_core::Event;
 use gs_journal::Entry;
 use gs_kernel::Command;
 use gs_layout::Refusal;
-use gs_lines::Text;
 use gs_policy::AnyPolicy;
 use gs_status::Mask;
-use std::alloc::AllocError;
 
 /// An event that was refused, and what a sentence may tell of that.
-#[derive(Clone, Copy, PartialEq, Eq, Debug)]
-pub struct Refused {
+#[derive(Clone, Copy)]
+pub struct Refused<'a> {
     pub refusal: Refusal,
-    pub event: Event<AnyPolicy>,
+    pub event: &'a Event<AnyPolicy>,
     /// The last entry that made the refusal so, if one did.
-    pub cause: Option<Cause>,
+    pub cause: Option<Cause<'a>>,
     pub numbers: Numbers,
 }
 
-/// Adds that there is no such thread.
-fn write_no_thread(
-    out: &mut Text,
-    event: &Event<AnyPolicy>,
-    cause: &Option<Cause>,
-) -> Result<(), AllocError>
-    ensures { OnOk result (out.new ≡ out.old ++ no_thread_text event.now cause.now) }
+/// Puts that there is no such thread.
+fn put_no_thread(to: &mut Sentence, event: &Event<AnyPolicy>, cause: &Option<Cause<'_>>)
+    requires { length to.old + 400 ≤ SENTENCE_LEN }
+    ensures value { to.new ≡ no_thread_text event.now (causes_given cause.now) ++ to.old }
+    ensures short { length to.new ≤ length to.old + 400 }
 {
     match event {
-        Event::Stamp { tid, .. } => say_number(out, Words::TheAgentKnowsOfNoThread, *tid as u64),
-        _ => write_dead(out, tid_of(event), cause),
+        Event::Stamp { tid, .. } => put_numbered(to, Words::TheAgentKnowsOfNoThread, *tid as u64),
+        _ => put_dead(to, tid_of(event), cause),
     }
 }
 
-/// Adds that a thread is on no CPU.
-fn write_off(out: &mut Text, tid: u32, cause: &Option<Cause>) -> Result<(), AllocError>
-    ensures { OnOk result (out.new ≡ out.old ++ off_text tid cause.now) }
+/// Puts that a thread is on no CPU.
+fn put_off(to: &mut Sentence, tid: u32, cause: &Option<Cause<'_>>)
+    requires { length to.old + 316 ≤ SENTENCE_LEN }
+    ensures value { to.new ≡ off_text tid (causes_given cause.now) ++ to.old }
+    ensures short { length to.new ≤ length to.old + 316 }
 {
-    say_number(out, Words::Thread, tid as u64)?;
     match cause {
-        Some(cause) => write_place(out, Words::IsOnNoCpuSinceLine, cause),
-        None => say(out, Words::WasNeverPlaced),
+        Some(cause) => put_place(to, Words::IsOnNoCpuSinceLine, cause),
+        None => put_words(to, Words::WasNeverPlaced),
     }
+    put_numbered(to, Words::Thread, tid as u64);
 }
 
-/// Adds what is wrong with a mask.
-fn write_bad_mask(out: &mut Text, mask: Mask, cpus: u16) -> Result<(), AllocError>
-    ensures { OnOk result (out.new ≡ out.old ++ bad_mask_text mask cpus) }
+/// Puts what is wrong with a mask.
+fn put_bad_mask(to: &mut Sentence, mask: Mask, cpus: u16)
+    requires { length to.old + 187 ≤ SENTENCE_LEN }
+    ensures value { to.new ≡ bad_mask_text mask cpus ++ to.old }
+    ensures short { length to.new ≤ length to.old + 187 }
 {
     let bits = mask.bits();
     if bits == 0 {
-        return say(out, Words::TheMaskNamesNoCpu);
+        put_words(to, Words::TheMaskNamesNoCpu);
+    } else {
+        put_numbered(
+            to,
+            Words::NamesACpuPastTheLastWhichIs,
+            cpus.saturating_sub(1) as u64,
+        );
+        to.put_mask(bits);
+        put_words(to, Words::Mask);
     }
-    say(out, Words::Mask)?;
-    out.push_mask("", bits, "")?;
-    say(out, Words::NamesACpuPastTheLastWhichIs)?;
-    out.push_number("", cpus.saturating_sub(1) as u64)
 }
 
-/// Adds that there is no such CPU.
-fn write_bad_cpu(out: &mut Text, cpu: u16, cpus: u16) -> Result<(), AllocError>
-    ensures { OnOk result (out.new ≡ out.old ++ bad_cpu_text cpu cpus) }
+/// Puts that there is no such CPU.
+fn put_bad_cpu(to: &mut Sentence, cpu: u16, cpus: u16)
+    requires { length to.old + 168 ≤ SENTENCE_LEN }
+    ensures value { to.new ≡ bad_cpu_text cpu cpus ++ to.old }
+    ensures short { length to.new ≤ length to.old + 168 }
 {
-    say_number(out, Words::ThereIsNoCpu, cpu as u64)?;
-    say_number(out, Words::TheLastIs, cpus.saturating_sub(1) as u64)
+    put_numbered(to, Words::TheLastIs, cpus.saturating_sub(1) as u64);
+    put_numbered(to, Words::ThereIsNoCpu, cpu as u64);
 }
 
-/// Adds that the other class does not hold a CPU.
-fn write_given(out: &mut Text, cpu: u16, cause: &Option<Cause>) -> Result<(), AllocError>
-    ensures { OnOk result (out.new ≡ out.old ++ given_text cpu cause.now) }
+/// Puts that the other class does not hold a CPU.
+fn put_given(to: &mut Sentence, cpu: u16, cause: &Option<Cause<'_>>)
+    requires { length to.old + 316 ≤ SENTENCE_LEN }
+    ensures value { to.new ≡ given_text cpu (causes_given cause.now) ++ to.old }
+    ensures short { length to.new ≤ length to.old + 316 }
 {
     match cause {
         Some(cause) => {
-            say_number(out, Words::TheOtherClassGaveCpu, cpu as u64)?;
-            write_place(out, Words::BackOnLine, cause)
+            put_place(to, Words::BackOnLine, cause);
+            put_numbered(to, Words::TheOtherClassGaveCpu, cpu as u64);
         }
-        None => say_number(out, Words::TheOtherClassNeverTookCpu, cpu as u64),
+        None => put_numbered(to, Words::TheOtherClassNeverTookCpu, cpu as u64),
     }
 }
 
-/// Adds whether the agent that attaches was given its last page.
-fn write_page(out: &mut Text, generation: u32, page: Option<usize>) -> Result<(), AllocError>
-    ensures { OnOk result (out.new ≡ out.old ++ page_text generation page) }
+/// Puts whether the agent that attaches was given its last page.
+fn put_page(to: &mut Sentence, generation: u32, page: Option<usize>)
+    requires { length to.old + 168 ≤ SENTENCE_LEN }
+    ensures value { to.new ≡ page_text generation page ++ to.old }
+    ensures short { length to.new ≤ length to.old + 168 }
 {
-    say_number(out, Words::Generation, generation as u64)?;
     match page {
-        Some(line) => say_number(out, Words::WasGivenItsLastPageOnLine, line as u64),
-        None => say(out, Words::AttachesAndWasNotGivenItsLastPage),
+        Some(line) => put_numbered(to, Words::WasGivenItsLastPageOnLine, line as u64),
+        None => put_words(to, Words::AttachesAndWasNotGivenItsLastPage),
     }
+    put_numbered(to, Words::Generation, generation as u64);
 }
 
-/// Adds why no agent attaches at this point.
-fn write_attaching(
-    out: &mut Text,
-    cause: &Option<Cause>,
-    page: Option<usize>,
-) -> Result<(), AllocError>
-    ensures { OnOk result (out.new ≡ out.old ++ attaching_text cause.now page) }
+/// Puts why no agent attaches at this point.
+fn put_attaching(to: &mut Sentence, cause: &Option<Cause<'_>>, page: Option<usize>)
+    requires { length to.old + 400 ≤ SENTENCE_LEN }
+    ensures value { to.new ≡ attaching_text (causes_given cause.now) page ++ to.old }
+    ensures short { length to.new ≤ length to.old + 400 }
 {
     match cause {
         Some(
@@ -112,43 +122,43 @@ fn write_attaching(
                 entry: Entry::Begin { generation },
                 ..
             },
-        ) => write_page(out, *generation, page),
-        _ => write_agent(out, cause),
+        ) => put_page(to, *generation, page),
+        _ => put_agent(to, cause),
     }
 }
 
-/// Adds whose sequence numbers are spent.
-fn write_spent(
-    out: &mut Text,
-    event: &Event<AnyPolicy>,
-    cause: &Option<Cause>,
-) -> Result<(), AllocError>
-    ensures { OnOk result (out.new ≡ out.old ++ spent_text event.now cause.now) }
+/// Puts whose sequence numbers are spent.
+fn put_spent(to: &mut Sentence, event: &Event<AnyPolicy>, cause: &Option<Cause<'_>>)
+    requires { length to.old + 464 ≤ SENTENCE_LEN }
+    ensures value { to.new ≡ spent_text event.now (causes_given cause.now) ++ to.old }
+    ensures short { length to.new ≤ length to.old + 464 }
 {
     match event {
         Event::Kernel {
             command: Command::Thread { tid, .. },
         } => {
-            say_number(out, Words::Thread, *tid as u64)?;
-            say(out, Words::HasItsLastSequenceNumber)?;
-            write_since(out, cause)
+            put_since(to, cause);
+            put_words(to, Words::HasItsLastSequenceNumber);
+            put_numbered(to, Words::Thread, *tid as u64);
         }
         _ => {
-            write_seat(out, cpu_of(event), cause)?;
-            say(out, Words::AndHasItsLastSequenceNumber)
+            put_words(to, Words::AndHasItsLastSequenceNumber);
+            put_seat(to, cpu_of(event), cause);
         }
     }
 }
 
-/// Adds what has come to its last number.
-fn write_last(out: &mut Text, words: Words, cause: &Option<Cause>) -> Result<(), AllocError>
-    ensures { OnOk result (out.new ≡ out.old ++ last_text (said words) cause.now) }
+/// Puts what has come to its last number.
+fn put_last(to: &mut Sentence, words: Words, cause: &Option<Cause<'_>>)
+    requires { length to.old + 296 ≤ SENTENCE_LEN }
+    ensures value { to.new ≡ last_text (said words) (causes_given cause.now) ++ to.old }
+    ensures short { length to.new ≤ length to.old + 296 }
 {
-    say(out, words)?;
     match cause {
-        Some(cause) => write_place(out, Words::OfLine, cause),
-        None => Ok(()),
+        Some(cause) => put_place(to, Words::OfLine, cause),
+        None => {}
     }
+    put_words(to, words);
 }
 
 /// Returns whether an event stamps.
@@ -158,78 +168,89 @@ fn stamps(event: &Event<AnyPolicy>) -> bool
     matches!(event, Event::Stamp { .. } | Event::Decide)
 }
 
-/// Adds which list is full.
-fn write_full_list(out: &mut Text, stamps: bool, numbers: &Numbers) -> Result<(), AllocError>
-    ensures { OnOk result (out.new ≡ out.old ++ full_by stamps numbers.now) }
+/// Puts which list is full.
+fn put_full_list(to: &mut Sentence, stamps: bool, numbers: &Numbers)
+    requires { length to.old + 232 ≤ SENTENCE_LEN }
+    ensures value { to.new ≡ full_by stamps numbers.now ++ to.old }
+    ensures short { length to.new ≤ length to.old + 232 }
 {
-    if !stamps {
-        return write_full(out, numbers.entries, numbers.limit);
+    if stamps {
+        put_words(to, Words::TransactionsAndTooFewAreLeft);
+        put_numbered(to, Words::OfAtMost, numbers.limit as u64);
+        put_numbered(to, Words::ThereAre, numbers.transactions as u64);
+    } else {
+        put_full(to, numbers.entries, numbers.limit);
     }
-    say_number(out, Words::ThereAre, numbers.transactions as u64)?;
-    say_number(out, Words::OfAtMost, numbers.limit as u64)?;
-    say(out, Words::TransactionsAndTooFewAreLeft)
 }
 
-/// Adds what waits in a slot.
-fn write_waiting(out: &mut Text, waiting: &Option<Waiting>) -> Result<(), AllocError>
-    ensures { OnOk result (out.new ≡ out.old ++ waiting_text waiting.now) }
+/// Puts what waits in a slot.
+fn put_waiting(to: &mut Sentence, waiting: &Option<Waiting>)
+    requires { length to.old + 252 ≤ SENTENCE_LEN }
+    ensures value { to.new ≡ waiting_text waiting.now ++ to.old }
+    ensures short { length to.new ≤ length to.old + 252 }
 {
     match waiting {
         Some(waiting) => {
-            say_number(out, Words::Transaction, waiting.number as u64)?;
-            say_number(out, Words::OfLine, waiting.line as u64)?;
-            say_number(out, Words::WaitsInTheSlotOfCpu, waiting.cpu as u64)
+            put_numbered(to, Words::WaitsInTheSlotOfCpu, waiting.cpu as u64);
+            put_numbered(to, Words::OfLine, waiting.line as u64);
+            put_numbered(to, Words::Transaction, waiting.number as u64);
         }
-        None => say(out, Words::ASlotIsNotIdle),
+        None => put_words(to, Words::ASlotIsNotIdle),
     }
 }
 
-/// Adds which transactions there are.
-fn write_transactions(out: &mut Text, transactions: usize) -> Result<(), AllocError>
-    ensures { OnOk result (out.new ≡ out.old ++ transactions_text transactions) }
+/// Puts which transactions there are.
+fn put_transactions(to: &mut Sentence, transactions: usize)
+    requires { length to.old + 84 ≤ SENTENCE_LEN }
+    ensures value { to.new ≡ transactions_text transactions ++ to.old }
+    ensures short { length to.new ≤ length to.old + 84 }
 {
     if transactions == 0 {
-        return say(out, Words::NoTransactionWasStampedYet);
+        put_words(to, Words::NoTransactionWasStampedYet);
+    } else {
+        put_numbered(to, Words::TheLastTransactionHasNumber, transactions as u64);
     }
-    say(out, Words::TheLastTransactionHasNumber)?;
-    out.push_number("", transactions as u64)
 }
 
-/// Adds that a thread may run, and since when.
-fn write_runs(out: &mut Text, tid: u32, cause: &Option<Cause>) -> Result<(), AllocError>
-    ensures { OnOk result (out.new ≡ out.old ++ runs_text tid cause.now) }
+/// Puts that a thread may run, and since when.
+fn put_runs(to: &mut Sentence, tid: u32, cause: &Option<Cause<'_>>)
+    requires { length to.old + 380 ≤ SENTENCE_LEN }
+    ensures value { to.new ≡ runs_text tid (causes_given cause.now) ++ to.old }
+    ensures short { length to.new ≤ length to.old + 380 }
 {
-    say_number(out, Words::Thread, tid as u64)?;
-    say(out, Words::MayRun)?;
-    write_since(out, cause)
+    put_since(to, cause);
+    put_words(to, Words::MayRun);
+    put_numbered(to, Words::Thread, tid as u64);
 }
 
-/// Adds why an event was refused. It fails only if out of memory.
-pub(crate) fn write_refused(out: &mut Text, refused: &Refused) -> Result<(), AllocError>
-    ensures { OnOk result (out.new ≡ out.old ++ refused_text refused.now) }
+/// Puts why an event was refused: a sentence that has no full stop and no newline.
+pub fn put_refused(to: &mut Sentence, refused: &Refused<'_>)
+    requires { length to.old + MOST_REASON_LEN ≤ SENTENCE_LEN }
+    ensures value { to.new ≡ refused_text (refused_given refused.now) ++ to.old }
+    ensures short { length to.new ≤ length to.old + MOST_REASON_LEN }
 {
-    let event = &refused.event;
+    let event = refused.event;
     let cause = &refused.cause;
     let numbers = &refused.numbers;
     match refused.refusal {
-        Refusal::NoThread => write_no_thread(out, event, cause),
-        Refusal::NotRunning => write_off(out, tid_of(event), cause),
-        Refusal::NotBlocked => write_runs(out, tid_of(event), cause),
-        Refusal::EmptyMask => write_bad_mask(out, mask_of(event), numbers.cpus),
-        Refusal::BadCpu => write_bad_cpu(out, cpu_of(event), numbers.cpus),
+        Refusal::NoThread => put_no_thread(to, event, cause),
+        Refusal::NotRunning => put_off(to, tid_of(event), cause),
+        Refusal::NotBlocked => put_runs(to, tid_of(event), cause),
+        Refusal::EmptyMask => put_bad_mask(to, mask_of(event), numbers.cpus),
+        Refusal::BadCpu => put_bad_cpu(to, cpu_of(event), numbers.cpus),
         Refusal::AgentThere | Refusal::NotActive | Refusal::StillAttached => {
-            write_agent(out, cause)
+            put_agent(to, cause);
         }
-        Refusal::CpuTaken => write_held(out, cpu_of(event), cause),
-        Refusal::NotTaken => write_given(out, cpu_of(event), cause),
-        Refusal::NotAttaching => write_attaching(out, cause, numbers.page),
-        Refusal::SeqSpent => write_spent(out, event, cause),
-        Refusal::GenSpent => write_last(out, Words::NoGenerationFollowsThat, cause),
-        Refusal::TidsSpent => write_last(out, Words::NoTidFollowsThat, cause),
-        Refusal::HistoryFull => write_full_list(out, stamps(event), numbers),
-        Refusal::SlotOpen => write_waiting(out, &numbers.waiting),
-        Refusal::NoSuchTransaction => write_transactions(out, numbers.transactions),
-        Refusal::Gone => write_torn_down(out, cause),
-        Refusal::OutOfMemory => say(out, Words::OutOfMemory),
+        Refusal::CpuTaken => put_held(to, cpu_of(event), cause),
+        Refusal::NotTaken => put_given(to, cpu_of(event), cause),
+        Refusal::NotAttaching => put_attaching(to, cause, numbers.page),
+        Refusal::SeqSpent => put_spent(to, event, cause),
+        Refusal::GenSpent => put_last(to, Words::NoGenerationFollowsThat, cause),
+        Refusal::TidsSpent => put_last(to, Words::NoTidFollowsThat, cause),
+        Refusal::HistoryFull => put_full_list(to, stamps(event), numbers),
+        Refusal::SlotOpen => put_waiting(to, &numbers.waiting),
+        Refusal::NoSuchTransaction => put_transactions(to, numbers.transactions),
+        Refusal::Gone => put_torn_down(to, cause),
+        Refusal::OutOfMemory => put_words(to, Words::OutOfMemory),
     }
 }

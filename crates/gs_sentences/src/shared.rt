@@ -1,100 +1,114 @@
 //! What sentences about landings and about refusals share.
 
-ghost use Rattle.std.specs.Prelude.{◌≡◌, ◌++◌, OnOk};
+ghost use Rattle.std.specs.Prelude.{◌≡◌, ◌≤◌, ◌+◌, ◌++◌, length};
+ghost use Rattle.gs_sentences.specs.Given.{causes_given};
 ghost use Rattle.gs_sentences.specs.Shared.{agent_by, agent_text, change_text, dead_text, held_text, mask_by, mask_of_change, mask_text, seat_text, thread_by, told_by, told_text, torn_text};
 ghost use Rattle.gs_sentences.specs.Words.{said};
 
-use crate::cause::{Cause, write_on, write_place, write_since};
-use crate::words::{Words, say, say_number};
+use crate::cause::{Cause, put_on, put_place, put_since};
+use crate::sentence::{SENTENCE_LEN, Sentence};
+use crate::words::{Words, put_numbered, put_words};
 use gs_journal::Entry;
 use gs_layout::{Change, Message};
-use gs_lines::Text;
-use std::alloc::AllocError;
 
-/// Adds which agent there is, by an entry that says so.
-fn write_agent_by(out: &mut Text, entry: &Entry) -> Result<(), AllocError>
-    ensures { OnOk result (out.new ≡ out.old ++ agent_by entry.now) }
+/// Puts which agent there is, by an entry that says so.
+fn put_agent_by(to: &mut Sentence, entry: &Entry)
+    requires { length to.old + 168 ≤ SENTENCE_LEN }
+    ensures value { to.new ≡ agent_by entry.now ++ to.old }
+    ensures short { length to.new ≤ length to.old + 168 }
 {
     match entry {
         Entry::Role { generation, cpu } => {
-            say_number(out, Words::Generation, *generation as u64)?;
-            say_number(out, Words::IsActiveOnCpu, *cpu as u64)
+            put_numbered(to, Words::IsActiveOnCpu, *cpu as u64);
+            put_numbered(to, Words::Generation, *generation as u64);
         }
         Entry::Begin { generation } => {
-            say_number(out, Words::Generation, *generation as u64)?;
-            say(out, Words::Attaches)
+            put_words(to, Words::Attaches);
+            put_numbered(to, Words::Generation, *generation as u64);
         }
-        Entry::Left => say(out, Words::ThereIsNoAgent),
-        Entry::Torn => say(out, Words::TheEnclaveIsTornDown),
-        _ => say(out, Words::NoAgentIsActive),
+        Entry::Left => put_words(to, Words::ThereIsNoAgent),
+        Entry::Torn => put_words(to, Words::TheEnclaveIsTornDown),
+        _ => put_words(to, Words::NoAgentIsActive),
     }
 }
 
-/// Adds which agent there is, and since when.
-pub(crate) fn write_agent(out: &mut Text, cause: &Option<Cause>) -> Result<(), AllocError>
-    ensures { OnOk result (out.new ≡ out.old ++ agent_text cause.now) }
+/// Puts which agent there is, and since when.
+pub(crate) fn put_agent(to: &mut Sentence, cause: &Option<Cause<'_>>)
+    requires { length to.old + 400 ≤ SENTENCE_LEN }
+    ensures value { to.new ≡ agent_text (causes_given cause.now) ++ to.old }
+    ensures short { length to.new ≤ length to.old + 400 }
 {
     match cause {
         Some(cause) => {
-            write_agent_by(out, &cause.entry)?;
-            write_place(out, Words::SinceLine, cause)
+            put_place(to, Words::SinceLine, cause);
+            put_agent_by(to, cause.entry);
         }
-        None => say(out, Words::ThereNeverWasAnAgent),
+        None => put_words(to, Words::ThereNeverWasAnAgent),
     }
 }
 
-/// Adds that a thread is no more, or never was.
-pub(crate) fn write_dead(out: &mut Text, tid: u32, cause: &Option<Cause>) -> Result<(), AllocError>
-    ensures { OnOk result (out.new ≡ out.old ++ dead_text tid cause.now) }
+/// Puts that a thread is no more, or never was.
+pub(crate) fn put_dead(to: &mut Sentence, tid: u32, cause: &Option<Cause<'_>>)
+    requires { length to.old + 400 ≤ SENTENCE_LEN }
+    ensures value { to.new ≡ dead_text tid (causes_given cause.now) ++ to.old }
+    ensures short { length to.new ≤ length to.old + 400 }
 {
     match cause {
         Some(cause) => {
-            say_number(out, Words::Thread, tid as u64)?;
-            say(out, Words::Died)?;
-            write_place(out, Words::OnLine, cause)
+            put_place(to, Words::OnLine, cause);
+            put_words(to, Words::Died);
+            put_numbered(to, Words::Thread, tid as u64);
         }
-        None => say_number(out, Words::ThereNeverWasAThread, tid as u64),
+        None => put_numbered(to, Words::ThereNeverWasAThread, tid as u64),
     }
 }
 
-/// Adds who was put on a CPU, by an entry that says so.
-fn write_thread_by(out: &mut Text, entry: &Entry) -> Result<(), AllocError>
-    ensures { OnOk result (out.new ≡ out.old ++ thread_by entry.now) }
+/// Puts who was put on a CPU, by an entry that says so.
+fn put_thread_by(to: &mut Sentence, entry: &Entry)
+    requires { length to.old + 84 ≤ SENTENCE_LEN }
+    ensures value { to.new ≡ thread_by entry.now ++ to.old }
+    ensures short { length to.new ≤ length to.old + 84 }
 {
     match entry {
-        Entry::Placed { tid, .. } => say_number(out, Words::Thread, *tid as u64),
-        _ => say(out, Words::AThread),
+        Entry::Placed { tid, .. } => put_numbered(to, Words::Thread, *tid as u64),
+        _ => put_words(to, Words::AThread),
     }
 }
 
-/// Adds who is on a CPU, and since when.
-pub(crate) fn write_seat(out: &mut Text, cpu: u16, cause: &Option<Cause>) -> Result<(), AllocError>
-    ensures { OnOk result (out.new ≡ out.old ++ seat_text cpu cause.now) }
+/// Puts who is on a CPU, and since when.
+pub(crate) fn put_seat(to: &mut Sentence, cpu: u16, cause: &Option<Cause<'_>>)
+    requires { length to.old + 400 ≤ SENTENCE_LEN }
+    ensures value { to.new ≡ seat_text cpu (causes_given cause.now) ++ to.old }
+    ensures short { length to.new ≤ length to.old + 400 }
 {
     match cause {
         Some(cause) => {
-            write_thread_by(out, &cause.entry)?;
-            say_number(out, Words::IsOnCpu, cpu as u64)?;
-            write_place(out, Words::SinceLine, cause)
+            put_place(to, Words::SinceLine, cause);
+            put_numbered(to, Words::IsOnCpu, cpu as u64);
+            put_thread_by(to, cause.entry);
         }
-        None => say_number(out, Words::AThreadIsOnCpu, cpu as u64),
+        None => put_numbered(to, Words::AThreadIsOnCpu, cpu as u64),
     }
 }
 
-/// Adds that the other class holds a CPU, and since when.
-pub(crate) fn write_held(out: &mut Text, cpu: u16, cause: &Option<Cause>) -> Result<(), AllocError>
-    ensures { OnOk result (out.new ≡ out.old ++ held_text cpu cause.now) }
+/// Puts that the other class holds a CPU, and since when.
+pub(crate) fn put_held(to: &mut Sentence, cpu: u16, cause: &Option<Cause<'_>>)
+    requires { length to.old + 316 ≤ SENTENCE_LEN }
+    ensures value { to.new ≡ held_text cpu (causes_given cause.now) ++ to.old }
+    ensures short { length to.new ≤ length to.old + 316 }
 {
-    say_number(out, Words::TheOtherClassHoldsCpu, cpu as u64)?;
-    write_since(out, cause)
+    put_since(to, cause);
+    put_numbered(to, Words::TheOtherClassHoldsCpu, cpu as u64);
 }
 
-/// Adds that the enclave was torn down, and when.
-pub(crate) fn write_torn_down(out: &mut Text, cause: &Option<Cause>) -> Result<(), AllocError>
-    ensures { OnOk result (out.new ≡ out.old ++ torn_text cause.now) }
+/// Puts that the enclave was torn down, and when.
+pub(crate) fn put_torn_down(to: &mut Sentence, cause: &Option<Cause<'_>>)
+    requires { length to.old + 296 ≤ SENTENCE_LEN }
+    ensures value { to.new ≡ torn_text (causes_given cause.now) ++ to.old }
+    ensures short { length to.new ≤ length to.old + 296 }
 {
-    say(out, Words::TheEnclaveWasTornDown)?;
-    write_on(out, cause)
+    put_on(to, cause);
+    put_words(to, Words::TheEnclaveWasTornDown);
 }
 
 /// Returns what a message told of a thread.
@@ -124,48 +138,62 @@ fn told_words(entry: &Entry) -> Words
     }
 }
 
-/// Adds by what a thread has its sequence number.
-pub(crate) fn write_told(out: &mut Text, cause: &Option<Cause>) -> Result<(), AllocError>
-    ensures { OnOk result (out.new ≡ out.old ++ told_text cause.now) }
+/// Puts by what a thread has its sequence number.
+pub(crate) fn put_told(to: &mut Sentence, cause: &Option<Cause<'_>>)
+    requires { length to.old + 232 ≤ SENTENCE_LEN }
+    ensures value { to.new ≡ told_text (causes_given cause.now) ++ to.old }
+    ensures short { length to.new ≤ length to.old + 232 }
 {
     match cause {
-        Some(cause) => write_place(out, told_words(&cause.entry), cause),
-        None => Ok(()),
+        Some(cause) => put_place(to, told_words(cause.entry), cause),
+        None => {}
     }
 }
 
-/// Adds the mask that a change gives a thread.
-fn write_changed_mask(out: &mut Text, change: &Change) -> Result<(), AllocError>
-    ensures { OnOk result (out.new ≡ out.old ++ mask_of_change change.now) }
+/// Puts the mask that a change gives a thread.
+fn put_changed_mask(to: &mut Sentence, change: &Change)
+    requires { length to.old + 40 ≤ SENTENCE_LEN }
+    ensures value { to.new ≡ mask_of_change change.now ++ to.old }
+    ensures short { length to.new ≤ length to.old + 40 }
 {
     match change {
-        Change::Created { facts } => out.push_mask(" ", facts.mask.bits(), ""),
-        Change::Affinity { mask, .. } => out.push_mask(" ", mask.bits(), ""),
-        _ => Ok(()),
+        Change::Created { facts } => {
+            to.put_mask(facts.mask.bits());
+            to.put(" ");
+        }
+        Change::Affinity { mask, .. } => {
+            to.put_mask(mask.bits());
+            to.put(" ");
+        }
+        _ => {}
     }
 }
 
-/// Adds the mask that an entry gives a thread.
-fn write_mask_by(out: &mut Text, entry: &Entry) -> Result<(), AllocError>
-    ensures { OnOk result (out.new ≡ out.old ++ mask_by entry.now) }
+/// Puts the mask that an entry gives a thread.
+fn put_mask_by(to: &mut Sentence, entry: &Entry)
+    requires { length to.old + 40 ≤ SENTENCE_LEN }
+    ensures value { to.new ≡ mask_by entry.now ++ to.old }
+    ensures short { length to.new ≤ length to.old + 40 }
 {
     match entry {
         Entry::Posted {
             message: Message::Thread { change, .. },
-        } => write_changed_mask(out, change),
-        _ => Ok(()),
+        } => put_changed_mask(to, change),
+        _ => {}
     }
 }
 
-/// Adds a thread's mask, and since when it has it.
-pub(crate) fn write_mask(out: &mut Text, cause: &Option<Cause>) -> Result<(), AllocError>
-    ensures { OnOk result (out.new ≡ out.old ++ mask_text cause.now) }
+/// Puts a thread's mask, and since when it has it.
+pub(crate) fn put_mask(to: &mut Sentence, cause: &Option<Cause<'_>>)
+    requires { length to.old + 272 ≤ SENTENCE_LEN }
+    ensures value { to.new ≡ mask_text (causes_given cause.now) ++ to.old }
+    ensures short { length to.new ≤ length to.old + 272 }
 {
     match cause {
         Some(cause) => {
-            write_mask_by(out, &cause.entry)?;
-            write_place(out, Words::SinceLine, cause)
+            put_place(to, Words::SinceLine, cause);
+            put_mask_by(to, cause.entry);
         }
-        None => Ok(()),
+        None => {}
     }
 }

@@ -1,8 +1,7 @@
-ghost use Rattle.std.specs.Prelude.{◌≡◌, ◌++◌, OnOk, decimal};
+ghost use Rattle.std.specs.Prelude.{◌≡◌, ◌≤◌, ◌+◌, ◌++◌, decimal, length};
 ghost use Rattle.gs_sentences.specs.Words.{said};
 
-use gs_lines::Text;
-use std::alloc::AllocError;
+use crate::sentence::{SENTENCE_LEN, Sentence};
 
 /// The words between the values of a sentence. Each is named by itself.
 #[derive(Clone, Copy, PartialEq, Eq, Debug)]
@@ -94,7 +93,8 @@ impl Words {
     /// Returns the words as text.
     #[tactic(auto, unfolding(crate::specs::Words::said))]
     fn as_str(self) -> &'static str
-        ensures { result.now ≡ said self }
+        ensures name { result.now ≡ said self }
+        ensures short { length result.now ≤ 64 }
     {
         match self {
             Words::ASlotIsNotIdle => "a slot is not idle",
@@ -186,17 +186,23 @@ impl Words {
     }
 }
 
-/// Adds words.
-pub(crate) fn say(out: &mut Text, words: Words) -> Result<(), AllocError>
-    ensures { OnOk result (out.new ≡ out.old ++ said words) }
+/// Puts words in front.
+#[inline(always)]
+pub(crate) fn put_words(to: &mut Sentence, words: Words)
+    requires { length to.old + 64 ≤ SENTENCE_LEN }
+    ensures value { to.new ≡ said words ++ to.old }
+    ensures short { length to.new ≤ length to.old + 64 }
 {
-    out.push_str(words.as_str())
+    to.put(words.as_str());
 }
 
-/// Adds words and a number behind them.
-pub(crate) fn say_number(out: &mut Text, words: Words, number: u64) -> Result<(), AllocError>
-    ensures { OnOk result (out.new ≡ out.old ++ said words ++ decimal number) }
+/// Puts words in front, and a number behind them.
+#[inline(always)]
+pub(crate) fn put_numbered(to: &mut Sentence, words: Words, number: u64)
+    requires { length to.old + 84 ≤ SENTENCE_LEN }
+    ensures value { to.new ≡ said words ++ decimal number ++ to.old }
+    ensures short { length to.new ≤ length to.old + 84 }
 {
-    say(out, words)?;
-    out.push_number("", number)
+    to.put_number(number);
+    put_words(to, words);
 }

@@ -5,20 +5,18 @@ use Rattle.gs_core.specs.Machine.{planned, planning}
 use Rattle.gs_core.specs.Short.{wants_memory}
 use Rattle.gs_replies.specs.declared.reply.Reply.{Reply}
 use Rattle.gs_reasons.specs.Kept.{HasHeard}
-use Rattle.gs_script.specs.Said.{line_of}
-use Rattle.gs_slots.specs.Reading.{states_in}
+use Rattle.gs_explain.specs.SaidLines.{said_line}
 use Rattle.gs_trace.specs.Output.{any_plans}
 use Rattle.gs_explain.specs.Marked.{IsMarked}
 use Rattle.gs_explain.specs.Moment.{Moment, moment}
 use Rattle.gs_explain.specs.Noted.{Noted, noted_after}
-use Rattle.gs_explain.specs.Rows.{row}
 use Rattle.gs_explain.specs.Telling.{noted_of}
 use Rattle.gs_explain.proofs.Grown.{stamps_kept, stamps_longer, step_keeps, step_longer}
 use Rattle.gs_explain.proofs.Moments.{both_ok, made, moment_is, noted, noted_is}
-use Rattle.gs_explain.proofs.telling.explain_one.Goals as goal
+use Rattle.gs_explain.proofs.telling.explain_other.Goals as goal
 
-pub write_row-requires-clause-within : goal.write_row-requires-clause-within
-write_row-requires-clause-within c =
+pub row-requires-clause-within : goal.row-requires-clause-within
+row-requires-clause-within g c =
     let m = planning any_plans c.args.machine.now in
     let next = planning any_plans c.step-reply.new.self in
     let first : c.len-first.result ≡ length m.history = c.len-first.ensures.value ∙ ap length (c.journal.ensures.entries ∙ c.kernel.ensures.history) in
@@ -26,8 +24,8 @@ write_row-requires-clause-within c =
     let longer : length m.history ≤ length next.history = step_longer m (planned any_plans c.args.event.now) c.step-reply.result next c.step-reply.ensures.step in
     omega (arith, first, ap length entries, longer)
 
-pub write_row-requires-clause-heard : goal.write_row-requires-clause-heard
-write_row-requires-clause-heard c =
+pub row-requires-clause-heard : goal.row-requires-clause-heard
+row-requires-clause-heard g c =
     let m = planning any_plans c.args.machine.now in
     let next = planning any_plans c.step-reply.new.self in
     let first : c.len-first.result ≡ length m.history = c.len-first.ensures.value ∙ ap length (c.journal.ensures.entries ∙ c.kernel.ensures.history) in
@@ -37,14 +35,14 @@ write_row-requires-clause-heard c =
     subst (HasHeard c.args.index.now) (sym same) c.requires.heard
 
 pub mark_last-requires-clause-within : goal.mark_last-requires-clause-within
-mark_last-requires-clause-within c =
+mark_last-requires-clause-within g c =
     let m = planning any_plans c.args.machine.now in
     let next = planning any_plans c.step-reply.new.self in
     let longer : length m.transactions ≤ length next.transactions = stamps_longer m (planned any_plans c.args.event.now) c.step-reply.result next c.step-reply.ensures.step in
     omega (arith, ap length c.transactions-stamped.ensures, ap length c.transactions-transactions.ensures, longer)
 
 pub mark_last-requires-clause-marked : goal.mark_last-requires-clause-marked
-mark_last-requires-clause-marked c =
+mark_last-requires-clause-marked g c =
     let m = planning any_plans c.args.machine.now in
     let next = planning any_plans c.step-reply.new.self in
     let same : take (length c.transactions-stamped.result.now) c.transactions-transactions.result.now ≡ m.transactions =
@@ -52,12 +50,12 @@ mark_last-requires-clause-marked c =
     subst (IsMarked c.args.last.now.places.items) (sym same) c.requires.marked
 
 pub returns : goal.returns
-returns c =
+returns g c =
     let m = planning any_plans c.args.machine.now in
     let next = planning any_plans c.step-reply.new.self in
     let e = c.args.event.now in
     let r : Reply = c.step-reply.result in
-    let x = line_of c.args.said.now in
+    let x = said_line c.args.said.now in
     let n : Noted = noted_of c.args.lines.now in
     let after : Noted = noted_after x.0 r next n in
     let first : c.len-first.result ≡ length m.history = c.len-first.ensures.value ∙ ap length (c.journal.ensures.entries ∙ c.kernel.ensures.history) in
@@ -65,10 +63,10 @@ returns c =
     let transactions : c.transactions-transactions.result.now ≡ next.transactions = c.transactions-transactions.ensures in
     let lines : noted c.note.new.self.entries.items c.note.new.self.stamped.items c.note.new.self.page ≡ after =
     noted_is x.0 r next n c.entries-entries.result.now c.transactions-transactions.result.now c.note.new.self.entries.items c.note.new.self.stamped.items c.note.new.self.page entries transactions c.in_ok-note.ensures.entries c.in_ok-note.ensures.stamped c.in_ok-note.ensures.page in
-    let at_hand : made c.deref.result.now c.deref-2.result.now c.note.new.self.page e c.entries-entries.result.now c.transactions-transactions.result.now (states_in 0 c.region.result.now) c.settings.result c.overflow_of.result ≡ moment after e next =
-    moment_is after e next c.deref.result.now c.deref-2.result.now c.note.new.self.page c.entries-entries.result.now c.transactions-transactions.result.now (states_in 0 c.region.result.now) c.settings.result c.overflow_of.result
-    (c.deref.ensures.value ∙ ap (λ (w : Noted). w.lines) lines) (c.deref-2.ensures.value ∙ ap (λ (w : Noted). w.stamped) lines) (ap (λ (w : Noted). w.page) lines) entries transactions c.region.ensures (c.settings.ensures.value ∙ c.kernel-3.ensures.settings) c.overflow_of.ensures in
-    both_ok c.write_row.result _ _ _
+    let at_hand : made c.note.new.self.entries.items c.note.new.self.stamped.items c.note.new.self.page e c.entries-entries.result.now c.transactions-transactions.result.now next ≡ moment after e next =
+    moment_is after e next c.note.new.self.entries.items c.note.new.self.stamped.items c.note.new.self.page c.entries-entries.result.now c.transactions-transactions.result.now
+    (ap (λ (w : Noted). w.lines) lines) (ap (λ (w : Noted). w.stamped) lines) (ap (λ (w : Noted). w.page) lines) entries transactions in
+    both_ok c.row.result _ _ _
     (λ shown heard. record {
       reply = r;
       step = c.step-reply.ensures.step;
@@ -76,9 +74,9 @@ returns c =
       faithful = c.step-reply.ensures.faithful;
       sufficed = sym (c.is_short.ensures ∙ ap (list_any wants_memory) c.from_ref.ensures.value) ∙ c.if-is_short.false;
       lines = lines;
-      heard = subst (HasHeard c.write_row.new.index) entries heard;
+      heard = subst (HasHeard c.row.new.index) entries heard;
       marked = subst (IsMarked c.mark_last.new.last.places.items) transactions c.in_ok-mark_last.ensures;
       shown =
-          shown ∙ ap (λ (y : Moment). c.args.out.now ++ row x y c.len-first.result r) at_hand
-          ∙ ap (λ (k : ℕ). c.args.out.now ++ row x (moment after e next) k r) first;
-    }) c.write_row.ensures.shown c.write_row.ensures.heard
+          shown ∙ ap (λ (y : Moment). g.T.Teller.bytes c.args.out.now ++ g.T.Teller.show x y c.len-first.result r) at_hand
+          ∙ ap (λ (k : ℕ). g.T.Teller.bytes c.args.out.now ++ g.T.Teller.show x (moment after e next) k r) first;
+    }) c.row.ensures.shown c.row.ensures.heard

@@ -1,0 +1,165 @@
+//! What is written of a script, and the sentences that say why.
+
+ghost use Rattle.std.specs.Prelude.{◌≡◌, ◌++◌, Some, OnOk, [], true};
+ghost use Rattle.gs_lines.specs.Lines.{landing_text, late_text, line, reply_lines, torn_line};
+ghost use Rattle.gs_replies.specs.Replies.{reply_of};
+ghost use Rattle.gs_script.specs.Words.{is_text};
+ghost use Rattle.gs_sentences.specs.Given.{landed_given, reason_given, refused_given};
+ghost use Rattle.gs_sentences.specs.Reason as reasons;
+ghost use Rattle.gs_explain.specs.Landings.{because};
+ghost use Rattle.gs_explain.specs.Rows.{added, heading, none_shown};
+ghost use Rattle.gs_explain.specs.SaidLines.{said_line};
+
+use crate::said::Said;
+use gs_core::Reply;
+use gs_journal::Entry;
+use gs_kernel::{Executed, Landing};
+use gs_layout::Refusal;
+use gs_lines::{Text, write_executed, write_landing, write_late, write_reply, write_torn};
+use gs_sentences::{Landed, Reason, Refused, Sentence, put_landed, put_reason, put_refused};
+use std::alloc::{AllocError, Global};
+use std::marker::Model;
+
+/// What is written so far, and room for a sentence. Clauses see the bytes that are written. What adds to it fails only if
+/// out of memory.
+#[derive(Drop)]
+pub(crate) struct Page {
+    text: Text,
+    sentence: Sentence,
+}
+
+impl Model for Page {
+    ghost use Rattle.std.specs.Prelude.{List, ℕ};
+
+    ghost Value = { List ℕ };
+
+    ghost view = { λ p. p.text };
+}
+
+impl Page {
+    /// Makes an empty one.
+    pub(crate) fn new(alloc: Global) -> Page
+        ensures { result ≡ [] }
+    {
+        Page {
+            text: Text::new(alloc),
+            sentence: Sentence::new(),
+        }
+    }
+
+    /// Returns the bytes that are written.
+    pub(crate) fn into_bytes(self) -> Vec<u8>
+        ensures { result.items ≡ self }
+    {
+        let Page { text, sentence: _ } = self;
+        text.into_bytes()
+    }
+
+    /// Adds a script's line, with its number.
+    #[tactic(auto, using(gs_script::proofs::Texts::text_is_utf8))]
+    pub(crate) fn heading(&mut self, said: &Said<'_>) -> Result<(), AllocError>
+        requires { is_text said.now.bytes.now ≡ true }
+        ensures { OnOk result (self.new ≡ self.old ++ heading (said_line said.now)) }
+    {
+        self.text.push_mask("line ", said.number as u128, ": ")?;
+        self.text.append(said.bytes)?;
+        self.text.end_line()
+    }
+
+    /// Adds the lines of a reply.
+    pub(crate) fn reply(&mut self, reply: &Reply) -> Result<(), AllocError>
+        ensures { OnOk result (self.new ≡ self.old ++ reply_lines reply.now) }
+    {
+        write_reply(&mut self.text, reply)
+    }
+
+    /// Adds the line of the reply to a command, by what came of it and the kernel's last entry.
+    pub(crate) fn executed(
+        &mut self,
+        came: Result<Executed, Refusal>,
+        last: &Entry,
+    ) -> Result<(), AllocError>
+        ensures { OnOk result (self.new ≡ self.old ++ reply_lines (reply_of came last.now)) }
+    {
+        write_executed(&mut self.text, came, last)
+    }
+
+    /// Adds the line of a landing.
+    pub(crate) fn landing(&mut self, landing: &Landing) -> Result<(), AllocError>
+        ensures { OnOk result (self.new ≡ self.old ++ line (landing_text landing.now)) }
+    {
+        write_landing(&mut self.text, landing)
+    }
+
+    /// Adds the line of a late landing, by the number of its transaction.
+    pub(crate) fn late(&mut self, number: u32, landing: &Landing) -> Result<(), AllocError>
+        ensures { OnOk result (self.new ≡ self.old ++ line (late_text number landing.now)) }
+    {
+        write_late(&mut self.text, number, landing)
+    }
+
+    /// Adds the line behind landings that tore the enclave down, if they did.
+    pub(crate) fn torn(&mut self, torn: bool) -> Result<(), AllocError>
+        ensures { OnOk result (self.new ≡ self.old ++ torn_line torn) }
+    {
+        write_torn(&mut self.text, torn)
+    }
+
+    /// Adds that no transaction landed, if that is so.
+    pub(crate) fn none(&mut self, landings: &[Landing]) -> Result<(), AllocError>
+        ensures { OnOk result (self.new ≡ self.old ++ none_shown landings.now) }
+    {
+        if landings.is_empty() {
+            return self.text.push_str("  nothing was stamped\n");
+        }
+        Ok(())
+    }
+
+    /// Adds the entries that an event added, by how many there were before it and are behind it.
+    #[inline(always)]
+    pub(crate) fn added(&mut self, first: usize, end: usize) -> Result<(), AllocError>
+        ensures { OnOk result (self.new ≡ self.old ++ added first end) }
+    {
+        if end <= first {
+            return Ok(());
+        }
+        if end == first + 1 {
+            return self.text.push_mask("  entry ", first as u128, "\n");
+        }
+        self.text.push_number("  entries ", first as u64)?;
+        self.text.push_mask(" to ", (end - 1) as u128, "\n")
+    }
+
+    /// Adds why a transaction was not placed, in a line of its own.
+    pub(crate) fn landed(&mut self, landed: &Landed<'_>) -> Result<(), AllocError>
+        ensures { OnOk result (self.new ≡ self.old ++ because (Some (reasons.Landed (landed_given landed.now)))) }
+    {
+        self.sentence.clear();
+        self.sentence.put("\n");
+        put_landed(&mut self.sentence, landed);
+        self.sentence.put("  ");
+        self.text.append(self.sentence.as_bytes())
+    }
+
+    /// Adds why an event was refused, in a line of its own.
+    pub(crate) fn refused(&mut self, refused: &Refused<'_>) -> Result<(), AllocError>
+        ensures { OnOk result (self.new ≡ self.old ++ because (Some (reasons.Refused (refused_given refused.now)))) }
+    {
+        self.sentence.clear();
+        self.sentence.put("\n");
+        put_refused(&mut self.sentence, refused);
+        self.sentence.put("  ");
+        self.text.append(self.sentence.as_bytes())
+    }
+
+    /// Adds a reason in a line of its own.
+    pub(crate) fn reason(&mut self, reason: &Reason<'_>) -> Result<(), AllocError>
+        ensures { OnOk result (self.new ≡ self.old ++ because (Some (reason_given reason.now))) }
+    {
+        self.sentence.clear();
+        self.sentence.put("\n");
+        put_reason(&mut self.sentence, reason);
+        self.sentence.put("  ");
+        self.text.append(self.sentence.as_bytes())
+    }
+}

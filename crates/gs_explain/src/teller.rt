@@ -1,0 +1,60 @@
+ghost use Rattle.std.specs.Prelude.{◌≡◌, ◌≤◌, ◌++◌, List, ℕ, OnOk, length, take, true};
+ghost use Rattle.gs_reasons.specs.Kept.{HasHeard};
+ghost use Rattle.gs_replies.specs.Replies.{reply_of};
+ghost use Rattle.gs_script.specs.Words.{is_text};
+ghost use Rattle.gs_explain.specs.Explained.{Show};
+ghost use Rattle.gs_explain.specs.Marked.{IsMarked};
+ghost use Rattle.gs_explain.specs.Moment.{moment_of};
+ghost use Rattle.gs_explain.specs.SaidLines.{said_line};
+
+use crate::moment::Scene;
+use crate::said::Said;
+use gs_core::Reply;
+use gs_journal::Entry;
+use gs_kernel::Executed;
+use gs_layout::Refusal;
+use gs_reasons::Index;
+use std::alloc::AllocError;
+
+/// What writes what explains a script, event by event.
+pub(crate) trait Teller: Drop {
+    /// The bytes that are written.
+    ghost bytes: { Self → List ℕ };
+
+    /// What it writes of an event.
+    ghost show: { Show };
+
+    /// Adds an event with its reply. An index has heard the entries before the event, so many, and hears those of the event.
+    /// It fails only if out of memory.
+    fn row(
+        &mut self,
+        said: &Said<'_>,
+        scene: &Scene<'_>,
+        index: &mut Index,
+        first: usize,
+        reply: &Reply,
+    ) -> Result<(), AllocError>
+        requires text { is_text said.now.bytes.now ≡ true }
+        requires within { first ≤ length scene.now.entries.now }
+        requires heard { HasHeard index.old (take first scene.now.entries.now) }
+        requires marked { IsMarked scene.now.last.now.places.items scene.now.transactions.now }
+        ensures shown { OnOk result (bytes self.new ≡ bytes self.old ++ show (said_line said.now) (moment_of scene.now) first reply.now) }
+        ensures heard { OnOk result (HasHeard index.new scene.now.entries.now) };
+
+    /// Adds a command by what came of it and the kernel's last entry, as [`Teller::row`] adds it with the reply.
+    fn command_row(
+        &mut self,
+        said: &Said<'_>,
+        scene: &Scene<'_>,
+        index: &mut Index,
+        first: usize,
+        came: Result<Executed, Refusal>,
+        last: &Entry,
+    ) -> Result<(), AllocError>
+        requires text { is_text said.now.bytes.now ≡ true }
+        requires within { first ≤ length scene.now.entries.now }
+        requires heard { HasHeard index.old (take first scene.now.entries.now) }
+        requires marked { IsMarked scene.now.last.now.places.items scene.now.transactions.now }
+        ensures shown { OnOk result (bytes self.new ≡ bytes self.old ++ show (said_line said.now) (moment_of scene.now) first (reply_of came last.now)) }
+        ensures heard { OnOk result (HasHeard index.new scene.now.entries.now) };
+}
