@@ -28,20 +28,20 @@ use Rattle.gs_reasons.proofs.Told.{death_never, is_dead, mask_says, number_says,
 use Rattle.gs_reasons.proofs.Verdicts.{because}
 
 -- what an entry says, said otherwise
-again : {h : History} {g : _} {P Q : _ → Type 0} → AtPlace h g P → ((e : _) → P e → Q e) → AtPlace h g Q
+pub again : {h : History} {g : _} {P Q : _ → Type 0} → AtPlace h g P → ((e : _) → P e → Q e) → AtPlace h g Q
 again a f = record { place = a.place; entry = a.entry; found = a.found; last = a.last; says = f a.entry a.says }
 
-live_facts : (r : Record) → is_live r ≡ true → (f : Facts) × (r ≡ records.Live f)
+pub live_facts : (r : Record) → is_live r ≡ true → (f : Facts) × (r ≡ records.Live f)
 live_facts records.Absent e = absurd cc
 live_facts records.Dead e = absurd cc
 live_facts (records.Live f) e = (f, refl)
 
-not_dead : (r : Record) → is_live r ≡ false → is_dead r ≡ false → r ≡ records.Absent
+pub not_dead : (r : Record) → is_live r ≡ false → is_dead r ≡ false → r ≡ records.Absent
 not_dead records.Absent e d = refl
 not_dead records.Dead e d = absurd cc
 not_dead (records.Live f) e d = absurd cc
 
-what_is : {A : Type 0} (o : Option A) → is_some o ≡ true → (a : A) × (o ≡ Some a)
+pub what_is : {A : Type 0} (o : Option A) → is_some o ≡ true → (a : A) × (o ≡ Some a)
 what_is None e = absurd cc
 what_is (Some a) e = (a, refl)
 
@@ -70,13 +70,13 @@ outdates first h b t =
     less : (m n : ℕ) → m ≤ n → (m ≡ n → ⊥) → m < n
     less m n le other = omega (arith, le, other)
 
-seated : (h : History) (c u : ℕ) → on h c ≡ Some u → IsSeated h c u
+pub seated : (h : History) (c u : ℕ) → on h c ≡ Some u → IsSeated h c u
 seated h c u e = record { there = e; by = seat_says h c u e }
 
 already : (s : Settings) (h : History) (k : ℕ) (b : Stamp) → is_some (at s.cpus h b.tid) ≡ true → Explains outcomes.AlreadyPlaced s h k b
 already s h k b e = let w = what_is (at s.cpus h b.tid) e in (w.0, w.1, seated h w.0 b.tid (at_least s.cpus h b.tid w.0 w.1).1)
 
-agent_is : (k : ℕ) (o : Option (ℕ × ℕ)) → is_agent_on k o ≡ true → (g : ℕ) × (o ≡ Some (g, k))
+pub agent_is : (k : ℕ) (o : Option (ℕ × ℕ)) → is_agent_on k o ≡ true → (g : ℕ) × (o ≡ Some (g, k))
 agent_is k None e = absurd cc
 agent_is k (Some a) e = let same : a.1 ≡ k = grind (arith, nat_tests) in (a.0, ap (λ c. Some (a.0, c)) same)
 
@@ -87,7 +87,7 @@ cpu_is_agent s h k b e = by_place (last_place (is_sign signs.Agent) h) refl
     by_place None q = let none : false ≡ true = sym (ap (is_agent_on k) (agent_never h q)) ∙ e in absurd cc
     by_place (Some i) q = again (agent_says h i q) (λ x same. agent_is k (role_by x) (ap (is_agent_on k) (sym same) ∙ e))
 
-was_taken : (o : Option Bool) → unwrap_or o false ≡ true → o ≡ Some true
+pub was_taken : (o : Option Bool) → unwrap_or o false ≡ true → o ≡ Some true
 was_taken None e = absurd cc
 was_taken (Some true) e = refl
 was_taken (Some false) e = absurd cc

@@ -3,3 +3,5 @@ pub use Rattle.gs_reasons.proofs.Places.{go_on, place_all, place_more, place_nil
 pub use Rattle.gs_reasons.proofs.Heard.{and_true}
 pub use Rattle.gs_reasons.proofs.Says.{test_eq}
 pub use Rattle.gs_reasons.proofs.Verdicts.{because_of}
+pub use Rattle.gs_reasons.proofs.ExplainedRefusals.{explained_refusal}
+pub use Rattle.gs_reasons.proofs.Finding.{commit_free, free_then, late_free, told_free}

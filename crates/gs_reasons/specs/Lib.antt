@@ -4,6 +4,9 @@ pub mod Cause
 pub mod Because
 pub mod Entries
 pub mod Explains
+pub mod Named
+pub mod Refused
+pub mod ExplainsRefusal
 pub mod Marks
 pub mod Kept
 pub mod Group
