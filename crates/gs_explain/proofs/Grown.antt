@@ -74,12 +74,12 @@ commit_grown room s mask m r t =
     (λ i c b o g h' is there settles p. grown_then m.history g h' p (settles_grown room s g c b (verdict s g c b) o h' settles)) t.others first in
     subst (λ (q : Landings). GrowsTo m.history q.history) (sym t.whole) rest
 
-stamped_history : (m : State) (c t : ℕ) (f : Flags) (o : Option (ℕ × ℕ)) (k : Option Known) → (stamps_with m c t f o k).1.history ≡ m.history
+pub stamped_history : (m : State) (c t : ℕ) (f : Flags) (o : Option (ℕ × ℕ)) (k : Option Known) → (stamps_with m c t f o k).1.history ≡ m.history
 stamped_history m c t f (Some a) (Some k) = refl
 stamped_history m c t f (Some a) None = refl
 stamped_history m c t f None k = refl
 
-all_history : (m : State) (xs : List Choice) → (stamps_all m xs).history ≡ m.history
+pub all_history : (m : State) (xs : List Choice) → (stamps_all m xs).history ≡ m.history
 all_history m [] = refl
 all_history m (x ∷ xs) = all_history (stamps m x.cpu x.tid (single x.preempt)).1 xs ∙ stamped_history m x.cpu x.tid (single x.preempt) (active m.history) (view m x.tid)
 

@@ -7,6 +7,8 @@ mod Values
 mod Moments
 mod Meeting
 mod Runs
+mod Refusing
+mod Finding
 mod WorkedRows
 mod Stamps
 mod Lasting

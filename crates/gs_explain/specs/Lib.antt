@@ -4,6 +4,7 @@ pub mod Moment
 pub mod Landings
 pub mod Marked
 pub mod Refusals
+pub mod Commands
 pub mod Rows
 pub mod Objects
 pub mod Explained

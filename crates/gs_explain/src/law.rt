@@ -1,13 +1,21 @@
-ghost use Rattle.std.specs.Prelude.{◌≡◌, Bool, List, ℕ, map, length, [], ◌∷◌};
+ghost use Rattle.std.specs.Prelude.{◌≡◌, ◌≤◌, Some, Bool, List, ℕ, map, length, [], ◌∷◌};
 ghost use Rattle.gs_policy.specs.declared.any.AnyPolicy.{AnyPolicy};
 ghost use Rattle.gs_kernel.specs.declared.landing.Landing.{Landing};
+ghost use Rattle.gs_replies.specs.declared.config.Config.{Config};
 ghost use Rattle.gs_replies.specs.declared.reply.Reply.{Reply};
 ghost use Rattle.gs_core.specs.declared.event.Event.{Event};
 ghost use Rattle.gs_core.specs.declared.event.Event.TheVariants as events;
 ghost use Rattle.gs_replies.specs.declared.reply.Reply.TheVariants as replies;
-ghost use Rattle.gs_core.specs.Machine.{State, Step, planned};
+ghost use Rattle.gs_core.specs.Machine.{Plan, State, Step, is_given_all, planned, start};
 ghost use Rattle.gs_core.specs.Safe.{Run};
 ghost use Rattle.gs_trace.specs.Output.{any_plans};
+ghost use Rattle.gs_layout.specs.declared.refusal.Refusal.{Refusal};
+ghost use Rattle.gs_layout.specs.declared.refusal.Refusal.TheVariants as refusals;
+ghost use Rattle.gs_journal.specs.State.{IsNumbered};
+ghost use Rattle.gs_kernel.specs.declared.command.Command.{Command};
+ghost use Rattle.gs_reasons.specs.ExplainsRefusal.{ExplainsRefusal, FindsFree};
+ghost use Rattle.gs_explain.specs.Commands.{command_of};
+ghost use Rattle.gs_explain.specs.Refusals.{refusal_sign};
 ghost use Rattle.gs_explain.specs.Noted.{Noted};
 ghost use Rattle.gs_explain.specs.Explained.{Explains, Line, Show};
 ghost use Rattle.gs_explain.specs.Met.{AreJudged};
@@ -26,4 +34,22 @@ pub fn explained_is_run()
 pub fn landings_are_met()
     ensures commit { (m n : State) (mask : ℕ) (ls : List Landing) (t : Bool) → Step m (events.Commit mask) (replies.Landed ls t) n → AreJudged m.settings n.history (length m.history) ls }
     ensures late { (m n : State) (k : ℕ) (l : Landing) (t : Bool) → Step m (events.Late k) (replies.Late k l t) n → AreJudged m.settings n.history (length m.history) (l ∷ []) }
+{}
+
+/// States that an explanation of a refused command names the entry that explains the refusal (gs_reasons). It is the last
+/// that is a sign of what the explanation asks for, and it says what refuses the command. So it is of a crash and of the
+/// beginning of a new agent too. It is claimed of machines whose messages are numbered as a kernel's are. Nothing is
+/// claimed if memory ran out, or if a slot was not idle. It does nothing when it runs.
+#[tactic(auto, using(crate::proofs::Refusing::refused_explained))]
+pub fn refusals_are_explained()
+    ensures { (m n : State) (e : Event AnyPolicy) (c : Command) (r : Refusal) → command_of e ≡ Some c → IsNumbered m.settings.first_tseq m.history → Step m (planned any_plans e) (replies.Refused r) n → (r ≡ refusals.OutOfMemory → ⊥) → (r ≡ refusals.SlotOpen → ⊥) → ExplainsRefusal (refusal_sign e r) r m.settings m.history (is_given_all m) c }
+{}
+
+/// States that each placing of a machine finds its CPU free: so it is in the beginning, and each step keeps it, of a machine
+/// that has no more slots than CPUs. Of such histories gs_reasons says which entry took a thread off its CPU. It does
+/// nothing when it runs.
+#[tactic(auto, using(crate::proofs::Finding::start_free, crate::proofs::Finding::step_free))]
+pub fn placings_find_free()
+    ensures start { (c : Config AnyPolicy) → FindsFree (start c).history }
+    ensures step { (m n : State) (e : Event Plan) (r : Reply) → length m.slots ≤ m.settings.cpus → Step m e r n → FindsFree m.history → FindsFree n.history }
 {}

@@ -20,5 +20,5 @@ mod teller;
 mod telling;
 mod whys;
 
-pub use law::{explained_is_run, landings_are_met};
+pub use law::{explained_is_run, landings_are_met, placings_find_free, refusals_are_explained};
 pub use run::{Explanation, explain_script};
