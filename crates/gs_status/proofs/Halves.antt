@@ -1,6 +1,6 @@
 -- A mask as two words: the CPUs of the low one, and behind them those of the high one.
-use Rattle.std.proofs.Common.{◌≡◌, ◌≢◌, ℕ, ◌+◌, ◌-◌, ◌*◌, ◌^◌, ◌/◌, ◌%◌, ◌<◌, ◌≤◌, ◌⊎◌, inl, inr, Bool, true, false, ◌&&◌, Option, None, Some, ap, ◌∙◌, sym, refl, arith, min}
-use Rattle.std.specs.Prelude.{bit_and, ◌==◌}
+use Rattle.std.proofs.Common.{◌≡◌, ◌≢◌, ℕ, ◌+◌, ◌-◌, ◌*◌, ◌^◌, ◌/◌, ◌%◌, ◌<◌, ◌≤◌, ⊎_elim, true, false, ◌&&◌, None, Some, ap, ◌∙◌, sym, arith, min}
+use Rattle.std.specs.Prelude.{bit_and}
 use Rattle.std.specs.Int.{bit_at}
 use Rattle.std.proofs.lemmas.Bool.{cases_lt}
 use Rattle.std.proofs.lemmas.Bool.Decides.{nat_tests}
@@ -10,7 +10,7 @@ use Rattle.gs_status.specs.declared.bit_word.TheConstants.{WORD_BITS}
 use Rattle.gs_status.specs.declared.mask.TheConstants.{MOST_CPUS}
 use Rattle.gs_status.specs.Masks.{has, has_none, least}
 use Rattle.gs_status.proofs.Least.{least_before, least_found, least_none, least_passes}
-use Rattle.gs_status.proofs.Masks.{has_by_bit, has_same, has_shifted, is_zero, nobody, none_past_word}
+use Rattle.gs_status.proofs.Masks.{has_same, has_shifted, is_zero, nobody}
 
 -- the bits of both words, the high one's behind those of the low one
 abbrev pub joined : ℕ → ℕ → ℕ
@@ -44,67 +44,30 @@ in_high high low c fits past =
 -- no other CPU is in or out if one changes in the low word
 pub low_changed : (high low low' cpu : ℕ) → low < 2 ^ WORD_BITS → low' < 2 ^ WORD_BITS → ((c : ℕ) → c ≢ cpu → has low' c ≡ has low c)
     → (c : ℕ) → c ≢ cpu → has (joined high low') c ≡ has (joined high low) c
-low_changed high low low' cpu fits fits' kept c other = by_place (cases_lt c WORD_BITS)
-  where
-    before : low < 2 ^ WORD_BITS
-    before = fits
-
-    after : low' < 2 ^ WORD_BITS
-    after = fits'
-
-    same : has low' c ≡ has low c
-    same = kept c other
-
-    by_place : (c < WORD_BITS) ⊎ (WORD_BITS ≤ c) → has (joined high low') c ≡ has (joined high low) c
-    by_place (inl below) = in_low high low' c after below ∙ (same ∙ sym (in_low high low c before below))
-    by_place (inr past) = in_high high low' c after past ∙ sym (in_high high low c before past)
+low_changed high low low' cpu fits fits' kept c other =
+    ⊎_elim
+    (λ below. in_low high low' c fits' below ∙ (kept c other ∙ sym (in_low high low c fits below)))
+    (λ past. in_high high low' c fits' past ∙ sym (in_high high low c fits past))
+    (cases_lt c WORD_BITS)
 
 -- nor if one changes in the high word
 pub high_changed : (high high' low cpu : ℕ) → low < 2 ^ WORD_BITS → WORD_BITS ≤ cpu → ((n : ℕ) → n ≢ cpu - WORD_BITS → has high' n ≡ has high n)
     → (c : ℕ) → c ≢ cpu → has (joined high' low) c ≡ has (joined high low) c
-high_changed high high' low cpu fits far kept c other = by_place (cases_lt c WORD_BITS)
-  where
-    fits' : low < 2 ^ WORD_BITS
-    fits' = fits
-
-    kept' : (n : ℕ) → n ≢ cpu - WORD_BITS → has high' n ≡ has high n
-    kept' = kept
-
-    other' : WORD_BITS ≤ c → c - WORD_BITS ≢ cpu - WORD_BITS
-    other' past = λ e. other (omega (arith, e, past, far))
-
-    by_place : (c < WORD_BITS) ⊎ (WORD_BITS ≤ c) → has (joined high' low) c ≡ has (joined high low) c
-    by_place (inl below) = in_low high' low c fits' below ∙ sym (in_low high low c fits' below)
-    by_place (inr past) = in_high high' low c fits' past ∙ (kept' (c - WORD_BITS) (other' past) ∙ sym (in_high high low c fits' past))
+high_changed high high' low cpu fits far kept c other =
+    ⊎_elim
+    (λ below. in_low high' low c fits below ∙ sym (in_low high low c fits below))
+    (λ past. in_high high' low c fits past ∙ (kept (c - WORD_BITS) (λ e. other (omega (arith, e, past, far))) ∙ sym (in_high high low c fits past)))
+    (cases_lt c WORD_BITS)
 
 -- a CPU is in both masks if it is in both words of its half
 pub in_both : (high low high' low' high'' low'' : ℕ) → low < 2 ^ WORD_BITS → low' < 2 ^ WORD_BITS → low'' < 2 ^ WORD_BITS
     → ((n : ℕ) → has high'' n ≡ (has high n && has high' n)) → ((n : ℕ) → has low'' n ≡ (has low n && has low' n))
     → (c : ℕ) → has (joined high'' low'') c ≡ (has (joined high low) c && has (joined high' low') c)
-in_both high low high' low' high'' low'' fits fits' fits'' highs lows c = by_place (cases_lt c WORD_BITS)
-  where
-    one : low < 2 ^ WORD_BITS
-    one = fits
-
-    two : low' < 2 ^ WORD_BITS
-    two = fits'
-
-    three : low'' < 2 ^ WORD_BITS
-    three = fits''
-
-    highs' : (n : ℕ) → has high'' n ≡ (has high n && has high' n)
-    highs' = highs
-
-    lows' : (n : ℕ) → has low'' n ≡ (has low n && has low' n)
-    lows' = lows
-
-    by_place : (c < WORD_BITS) ⊎ (WORD_BITS ≤ c) → has (joined high'' low'') c ≡ (has (joined high low) c && has (joined high' low') c)
-    by_place (inl below) =
-        in_low high'' low'' c three below
-        ∙ (lows' c ∙ (λ i. sym (in_low high low c one below) i && sym (in_low high' low' c two below) i))
-    by_place (inr past) =
-        in_high high'' low'' c three past
-        ∙ (highs' (c - WORD_BITS) ∙ (λ i. sym (in_high high low c one past) i && sym (in_high high' low' c two past) i))
+in_both high low high' low' high'' low'' fits fits' fits'' highs lows c =
+    ⊎_elim
+    (λ below. in_low high'' low'' c fits'' below ∙ (lows c ∙ (λ i. sym (in_low high low c fits below) i && sym (in_low high' low' c fits' below) i)))
+    (λ past. in_high high'' low'' c fits'' past ∙ (highs (c - WORD_BITS) ∙ (λ i. sym (in_high high low c fits past) i && sym (in_high high' low' c fits' past) i)))
+    (cases_lt c WORD_BITS)
 
 -- a mask has no CPU if neither word has
 pub empty_halves : (high low : ℕ) → (has_none low && has_none high) ≡ has_none (joined high low)
@@ -124,26 +87,15 @@ none_in_low high low c fits none below = in_low high low c fits below ∙ (ap (�
 pub least_high : (high low c : ℕ) → low < 2 ^ WORD_BITS → has_none low ≡ true → Some c ≡ least (has high) WORD_BITS → c < WORD_BITS
     → Some (c + WORD_BITS) ≡ least (has (joined high low)) MOST_CPUS
 least_high high low c fits none first below =
-    sym (least_found (has (joined high low)) MOST_CPUS (c + WORD_BITS) (omega (arith, below)) there (λ k lt. before k lt (cases_lt k WORD_BITS)))
-  where
-    fits' : low < 2 ^ WORD_BITS
-    fits' = fits
-
-    empty : has_none low ≡ true
-    empty = none
-
-    found : least (has high) WORD_BITS ≡ Some c
-    found = sym first
-
-    back : c + WORD_BITS - WORD_BITS ≡ c
-    back = omega arith
-
-    there : has (joined high low) (c + WORD_BITS) ≡ true
-    there = in_high high low (c + WORD_BITS) fits' (omega arith) ∙ (ap (has high) back ∙ least_passes (has high) WORD_BITS c found)
-
-    before : (k : ℕ) → k < c + WORD_BITS → (k < WORD_BITS) ⊎ (WORD_BITS ≤ k) → has (joined high low) k ≡ false
-    before k lt (inl under) = none_in_low high low k fits' empty under
-    before k lt (inr past) = in_high high low k fits' past ∙ least_before (has high) WORD_BITS c found (k - WORD_BITS) (omega (arith, lt, past))
+    let found : least (has high) WORD_BITS ≡ Some c = sym first in
+    let back : c + WORD_BITS - WORD_BITS ≡ c = omega arith in
+    sym (least_found (has (joined high low)) MOST_CPUS (c + WORD_BITS) (omega (arith, below))
+    (in_high high low (c + WORD_BITS) fits (omega arith) ∙ (ap (has high) back ∙ least_passes (has high) WORD_BITS c found))
+    (λ k lt.
+    ⊎_elim
+    (λ under. none_in_low high low k fits none under)
+    (λ past. in_high high low k fits past ∙ least_before (has high) WORD_BITS c found (k - WORD_BITS) (omega (arith, lt, past)))
+    (cases_lt k WORD_BITS)))
 
 -- if neither word has a CPU there is none
 pub least_of_neither : (high low : ℕ) → has_none low ≡ true → has_none high ≡ true → None ≡ least (has (joined high low)) MOST_CPUS

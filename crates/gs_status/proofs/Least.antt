@@ -1,5 +1,5 @@
 -- The least number that passes a test.
-use Rattle.std.proofs.Common.{◌≡◌, ℕ, zero, suc, ◌+◌, ◌<◌, ◌≤◌, ◌⊎◌, inl, inr, Bool, true, false, Option, None, Some, ap, ◌∙◌, sym, refl, arith}
+use Rattle.std.proofs.Common.{◌≡◌, ℕ, zero, suc, ◌+◌, ◌<◌, ◌≤◌, ◌⊎◌, ⊎_elim, inl, inr, Bool, true, false, Option, None, Some, ap, ◌∙◌, sym, refl, arith}
 use Rattle.std.proofs.lemmas.Bool.{cases_lt}
 use Rattle.gs_status.specs.Masks.{least, found_or}
 
@@ -15,23 +15,14 @@ least_none test (suc n) none =
 pub least_found : (test : ℕ → Bool) (n c : ℕ) → c < n → test c ≡ true → ((i : ℕ) → i < c → test i ≡ false) → least test n ≡ Some c
 unfolding least
 least_found test zero c within passes none = absurd (omega arith)
-least_found test (suc n) c within passes none = by_place (least_found test n c) (cases_lt c n)
-  where
-    none' : (i : ℕ) → i < c → test i ≡ false
-    none' = none
-
-    passes' : test c ≡ true
-    passes' = passes
-
-    within' : c < suc n
-    within' = within
-
-    by_place : (c < n → test c ≡ true → ((i : ℕ) → i < c → test i ≡ false) → least test n ≡ Some c) → (c < n) ⊎ (n ≤ c) → found_or (least test n) (test n) n ≡ Some c
-    by_place more (inl below) = ap (λ (o : Option ℕ). found_or o (test n) n) (more below passes' none')
-    by_place more (inr here) =
-        let e : n ≡ c = omega (arith, within', here) in
-        ap (λ (o : Option ℕ). found_or o (test n) n) (least_none test n (λ i l. none' i (omega (arith, l, e))))
-        ∙ (ap (λ (b : Bool). found_or None b n) (ap test e ∙ passes') ∙ ap Some e)
+least_found test (suc n) c within passes none =
+    ⊎_elim
+    (λ below. ap (λ (o : Option ℕ). found_or o (test n) n) (least_found test n c below passes none))
+    (λ here.
+    let e : n ≡ c = omega (arith, within, here) in
+    ap (λ (o : Option ℕ). found_or o (test n) n) (least_none test n (λ i l. none i (omega (arith, l, e))))
+    ∙ (ap (λ (b : Bool). found_or None b n) (ap test e ∙ passes) ∙ ap Some e))
+    (cases_lt c n)
 
 -- it goes by the test below n alone
 pub least_same : (test other : ℕ → Bool) (n : ℕ) → ((i : ℕ) → i < n → test i ≡ other i) → least test n ≡ least other n
@@ -72,14 +63,11 @@ unfolding least
 least_is_all test zero none c within = absurd (omega arith)
 least_is_all test (suc n) none c within = by_place (least_is_all test n) (least test n) refl (test n) refl none (cases_lt c n)
   where
-    within' : c < suc n
-    within' = within
-
     by_place : (least test n ≡ None → (c : ℕ) → c < n → test c ≡ false) → (o : Option ℕ) → least test n ≡ o → (b : Bool) → test n ≡ b → found_or o b n ≡ None → (c < n) ⊎ (n ≤ c) → test c ≡ false
     by_place more (Some d) is b here e place = absurd cc
     by_place more None is true here e place = absurd cc
     by_place more None is false here e (inl below) = more is c below
-    by_place more None is false here e (inr past) = let same : c ≡ n = omega (arith, within', past) in ap test same ∙ here
+    by_place more None is false here e (inr past) = let same : c ≡ n = omega (arith, within, past) in ap test same ∙ here
 
 -- below the least number that passes none does
 pub least_before : (test : ℕ → Bool) (n c : ℕ) → least test n ≡ Some c → (k : ℕ) → k < c → test k ≡ false
@@ -87,11 +75,8 @@ unfolding least
 least_before test zero c found k lt = absurd cc
 least_before test (suc n) c found k lt = by_place (least_before test n c) (least test n) refl (test n) refl found
   where
-    is_below : k < c
-    is_below = lt
-
     by_place : (least test n ≡ Some c → (k : ℕ) → k < c → test k ≡ false) → (o : Option ℕ) → least test n ≡ o → (b : Bool) → test n ≡ b
         → found_or o b n ≡ Some c → test k ≡ false
-    by_place more (Some d) is b here e = more (is ∙ e) k is_below
-    by_place more None is true here e = let same : n ≡ c = cc in least_is_all test n is k (omega (arith, same, is_below))
+    by_place more (Some d) is b here e = more (is ∙ e) k lt
+    by_place more None is true here e = let same : n ≡ c = cc in least_is_all test n is k (omega (arith, same, lt))
     by_place more None is false here e = absurd cc

@@ -1,5 +1,5 @@
 -- A shift says which bits are left, and a bit that is set or cleared says which CPUs are in the mask.
-use Rattle.std.proofs.Common.{◌≡◌, ◌≢◌, ℕ, ◌+◌, ◌*◌, ◌^◌, ◌/◌, ◌%◌, ◌<◌, ◌≤◌, ◌⊎◌, inl, inr, Bool, true, false, zero, suc, ◌&&◌, None, Some, ap, ◌∙◌, sym, subst, refl, arith, min, w64}
+use Rattle.std.proofs.Common.{◌≡◌, ◌≢◌, ℕ, ◌+◌, ◌*◌, ◌^◌, ◌/◌, ◌%◌, ◌<◌, ◌≤◌, ◌⊎◌, ⊎_elim, inl, inr, Bool, true, false, zero, suc, ◌&&◌, None, Some, ap, ◌∙◌, sym, subst, refl, arith, min, w64}
 use Rattle.std.specs.Prelude.{nat_le, not, ◌==◌, bit_and, bit_or}
 use Rattle.std.specs.Int.{bit_at, bit_not, trailing_zeros}
 use Rattle.std.proofs.lemmas.Bool.{cases_lt}
@@ -95,24 +95,11 @@ without_here n c within = has_by_bit (without_bit n c) c ∙ ap (λ (k : ℕ). k
 
 -- a bit from the 64th on is zero before and after
 pub without_others : (n c : ℕ) → n < 2 ^ WORD_BITS → c < WORD_BITS → (i : ℕ) → i ≢ c → has (without_bit n c) i ≡ has n i
-without_others n c small within i other = has_same (without_bit n c) n i (by_place (cases_lt i WORD_BITS))
-  where
-    fits : n < 2 ^ WORD_BITS
-    fits = small
-
-    inside : c < WORD_BITS
-    inside = within
-
-    differs : i ≢ c
-    differs = other
-
-    by_place : (i < WORD_BITS) ⊎ (WORD_BITS ≤ i) → bit_at (without_bit n c) i ≡ bit_at n i
-    by_place (inl below) = bit_at_clear_other w64 n c inside i below differs
-    by_place (inr past) =
-        let before : bit_at n i ≡ 0 = bit_at_above n WORD_BITS i fits past in
-        let after : bit_at (without_bit n c) i ≡ min (bit_at n i) (bit_at (bit_not w64 (1 * 2 ^ c % 2 ^ WORD_BITS)) i) =
-        bit_at_and n (bit_not w64 (1 * 2 ^ c % 2 ^ WORD_BITS)) i in
-        omega (arith, before, after)
+without_others n c small within i other = has_same (without_bit n c) n i (
+    ⊎_elim
+    (λ below. bit_at_clear_other w64 n c within i below other)
+    (λ past. omega (arith, bit_at_above n WORD_BITS i small past, bit_at_and n (bit_not w64 (1 * 2 ^ c % 2 ^ WORD_BITS)) i))
+    (cases_lt i WORD_BITS))
 
 -- both masks have a CPU if its bit is one in both
 both_bits : (x y : ℕ) → x < 2 → y < 2 → (min x y == 1) ≡ ((x == 1) && (y == 1))
