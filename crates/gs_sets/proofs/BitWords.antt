@@ -1,5 +1,5 @@
 -- A word that was written, added or shifted, and the numbers that are in the set.
-use Rattle.std.proofs.Common.{◌≡◌, ◌≢◌, ap, sym, ◌∙◌, ℕ, ◌+◌, ◌-◌, ◌*◌, ◌/◌, ◌%◌, ◌^◌, ◌<◌, ◌≤◌, ◌⊎◌, inl, inr, Bool, true, false, List, length, get_or, set, arith, Some, get_or-set_same, get_or-set_other}
+use Rattle.std.proofs.Common.{◌≡◌, ◌≢◌, ap, sym, ◌∙◌, ℕ, ◌+◌, ◌-◌, ◌*◌, ◌/◌, ◌%◌, ◌^◌, ◌<◌, ◌≤◌, ◌⊎◌, inl, inr, Bool, true, false, List, length, get_or, set, arith, Some, get_or-set_same, get_or-set_other, ⊎_elim}
 use Rattle.std.proofs.Math.Nat.{div-one, zero-div}
 use Rattle.std.proofs.lemmas.Bool.{cases_lt}
 use Rattle.std.proofs.lemmas.List.{get_or_past}
@@ -39,22 +39,10 @@ pub words_grown : (old new : List ℕ) (n : ℕ) → length new ≡ n → ((k d 
     → ((k d : ℕ) → length old ≤ k → k < n → get_or new k d ≡ 0) → length old ≤ n → (w : ℕ) → get_or new w 0 ≡ get_or old w 0
 words_grown old new n is kept added more w = by_place (cases_lt w (length old)) (cases_lt w n)
   where
-    count : length new ≡ n
-    count = is
-
-    kept' : (k d : ℕ) → k < n → k < length old → get_or new k d ≡ get_or old k d
-    kept' = kept
-
-    added' : (k d : ℕ) → length old ≤ k → k < n → get_or new k d ≡ 0
-    added' = added
-
-    more' : length old ≤ n
-    more' = more
-
     by_place : (w < length old) ⊎ (length old ≤ w) → (w < n) ⊎ (n ≤ w) → get_or new w 0 ≡ get_or old w 0
-    by_place (inl lt) _ = kept' w 0 (omega (arith, lt, more')) lt
-    by_place (inr ge) (inl lt) = added' w 0 ge lt ∙ sym (get_or_past old w 0 ge)
-    by_place (inr ge) (inr ge') = get_or_past new w 0 (omega (arith, ge', count)) ∙ sym (get_or_past old w 0 ge)
+    by_place (inl lt) _ = kept w 0 (omega (arith, lt, more)) lt
+    by_place (inr ge) (inl lt) = added w 0 ge lt ∙ sym (get_or_past old w 0 ge)
+    by_place (inr ge) (inr ge') = get_or_past new w 0 (omega (arith, ge', is)) ∙ sym (get_or_past old w 0 ge)
 
 -- the same words, the same numbers
 pub same_words : (words words' : List ℕ) (n : ℕ) → ((w : ℕ) → get_or words' w 0 ≡ get_or words w 0) → is_in words' n ≡ is_in words n
@@ -73,11 +61,7 @@ past_end words n past = ap (λ v. has v (n % WORD)) (get_or_past words (n / WORD
 
 -- so a number that is in the set stands in one of the words
 pub in_within : (words : List ℕ) (t : ℕ) → is_in words t ≡ true → t < WORD * length words
-in_within words t there = by_place (cases_lt t (WORD * length words))
-  where
-    by_place : (t < WORD * length words) ⊎ (WORD * length words ≤ t) → t < WORD * length words
-    by_place (inl lt) = lt
-    by_place (inr past) = let away = past_end words t (omega (arith, past)) in let here = there in absurd cc
+in_within words t there = ⊎_elim (λ lt. lt) (λ past. let away = past_end words t (omega (arith, past)) in let here = there in absurd cc) (cases_lt t (WORD * length words))
 
 -- what is left of a word has the numbers from the first one on
 in_word : (words : List ℕ) (n c : ℕ) → n % WORD + c < WORD → is_in words (n + c) ≡ has (left_of_word words n) c
@@ -137,23 +121,7 @@ left_whole words w =
 -- none below a number if none is left of the word before
 pub none_later : (words : List ℕ) (from at : ℕ) → ((k : ℕ) → from ≤ k → k < at → is_in words k ≡ false)
     → has_none (left_of_word words at) ≡ true → (k : ℕ) → from ≤ k → k < (at / WORD + 1) * WORD → is_in words k ≡ false
-none_later words from at none left k le lt = by_place (cases_lt k at)
-  where
-    before : (k : ℕ) → from ≤ k → k < at → is_in words k ≡ false
-    before = none
-
-    nothing : has_none (left_of_word words at) ≡ true
-    nothing = left
-
-    not_before : from ≤ k
-    not_before = le
-
-    below : k < (at / WORD + 1) * WORD
-    below = lt
-
-    by_place : (k < at) ⊎ (at ≤ k) → is_in words k ≡ false
-    by_place (inl lt') = before k not_before lt'
-    by_place (inr ge) = none_left words at nothing k ge (omega (arith, below, ge))
+none_later words from at none left k le lt = ⊎_elim (λ lt'. none k le lt') (λ ge. none_left words at left k ge (omega (arith, lt, ge))) (cases_lt k at)
 
 -- the first from a place on, if none is before that place
 pub first_later : (test : ℕ → Bool) (from at n : ℕ) → IsFirst test at n → from ≤ at
@@ -165,27 +133,15 @@ first_later test from at n first le none =
       none_before = λ k ge lt. by_place k ge lt (cases_lt k at);
     }
   where
-    before : (k : ℕ) → from ≤ k → k < at → test k ≡ false
-    before = none
-
-    found : IsFirst test at n
-    found = first
-
     by_place : (k : ℕ) → from ≤ k → k < n → (k < at) ⊎ (at ≤ k) → test k ≡ false
-    by_place k ge lt (inl lt') = before k ge lt'
-    by_place k ge lt (inr ge') = found.none_before k ge' lt
+    by_place k ge lt (inl lt') = none k ge lt'
+    by_place k ge lt (inr ge') = first.none_before k ge' lt
 
 -- none from a number on, if the words end before the next
 pub none_past : (words : List ℕ) (from at : ℕ) → ((k : ℕ) → from ≤ k → k < at → is_in words k ≡ false)
     → length words ≤ at / WORD → IsNone (is_in words) from
 none_past words from at none past = λ k ge. by_place k ge (cases_lt k at)
   where
-    before : (k : ℕ) → from ≤ k → k < at → is_in words k ≡ false
-    before = none
-
-    ended : length words ≤ at / WORD
-    ended = past
-
     by_place : (k : ℕ) → from ≤ k → (k < at) ⊎ (at ≤ k) → is_in words k ≡ false
-    by_place k ge (inl lt) = before k ge lt
-    by_place k ge (inr ge') = past_end words k (omega (arith, ended, ge'))
+    by_place k ge (inl lt) = none k ge lt
+    by_place k ge (inr ge') = past_end words k (omega (arith, past, ge'))

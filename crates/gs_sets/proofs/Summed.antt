@@ -1,7 +1,7 @@
 -- The places of the words that are not empty, beside the words.
-use Rattle.std.proofs.Common.{◌≡◌, refl, ap, sym, ◌∙◌, ℕ, ◌+◌, ◌*◌, ◌/◌, ◌^◌, ◌<◌, ◌≤◌, ◌⊎◌, inl, inr, Bool, true, false, List, [], length, get_or, arith}
+use Rattle.std.proofs.Common.{◌≡◌, ap, sym, ◌∙◌, ℕ, ◌+◌, ◌*◌, ◌/◌, ◌^◌, ◌<◌, ◌≤◌, ◌⊎◌, inl, inr, true, false, List, [], length, get_or, arith}
 use Rattle.std.specs.Prelude.{not}
-use Rattle.std.proofs.lemmas.Bool.{cases_lt}
+use Rattle.std.proofs.lemmas.Bool.{cases_lt, not-false}
 use Rattle.std.proofs.lemmas.List.{get_or_past}
 use Rattle.gs_sets.specs.declared.bits.TheConstants.{WORD}
 use Rattle.gs_status.specs.Masks.{has_none}
@@ -10,29 +10,16 @@ use Rattle.gs_sets.proofs.BitWords.{empty_word, none_left, left_whole, past_end,
 
 -- a number whose word is not among those that are not empty is not in
 pub unsummed : (words sums : List ℕ) (n : ℕ) → IsSummed words sums → is_in sums (n / WORD) ≡ false → is_in words n ≡ false
-unsummed words sums n summed none = empty_word words n (by_test (has_none (get_or words (n / WORD) 0)) (sym (summed.same (n / WORD)) ∙ none))
-  where
-    by_test : (b : Bool) → not b ≡ false → b ≡ true
-    by_test true e = refl
-    by_test false e = absurd cc
+unsummed words sums n summed none = empty_word words n (not-false (has_none (get_or words (n / WORD) 0)) (sym (summed.same (n / WORD)) ∙ none))
 
 -- none from a number on, if none is left of its word and no later word has any
 pub none_beyond : (words sums : List ℕ) (from : ℕ) → IsSummed words sums → has_none (left_of_word words from) ≡ true
     → IsNone (is_in sums) (from / WORD + 1) → IsNone (is_in words) from
 none_beyond words sums from summed left none = λ n ge. by_word n ge (cases_lt (n / WORD) (from / WORD + 1))
   where
-    nothing : has_none (left_of_word words from) ≡ true
-    nothing = left
-
-    later : IsNone (is_in sums) (from / WORD + 1)
-    later = none
-
-    pair : IsSummed words sums
-    pair = summed
-
     by_word : (n : ℕ) → from ≤ n → (n / WORD < from / WORD + 1) ⊎ (from / WORD + 1 ≤ n / WORD) → is_in words n ≡ false
-    by_word n ge (inl same) = none_left words from nothing n ge (omega (arith, same, ge))
-    by_word n ge (inr after) = unsummed words sums n pair (later (n / WORD) after)
+    by_word n ge (inl same) = none_left words from left n ge (omega (arith, same, ge))
+    by_word n ge (inr after) = unsummed words sums n summed (none (n / WORD) after)
 
 -- the first of the next word that has any
 pub first_beyond : (words sums : List ℕ) (from w n : ℕ) → IsFirst (is_in words) (w * WORD) n → IsFirst (is_in sums) (from / WORD + 1) w
@@ -44,22 +31,10 @@ first_beyond words sums from w n first word summed left =
       none_before = λ k ge lt. by_word k ge lt (cases_lt (k / WORD) (from / WORD + 1)) (cases_lt k (w * WORD));
     }
   where
-    nothing : has_none (left_of_word words from) ≡ true
-    nothing = left
-
-    of_word : IsFirst (is_in words) (w * WORD) n
-    of_word = first
-
-    next : IsFirst (is_in sums) (from / WORD + 1) w
-    next = word
-
-    pair : IsSummed words sums
-    pair = summed
-
     by_word : (k : ℕ) → from ≤ k → k < n → (k / WORD < from / WORD + 1) ⊎ (from / WORD + 1 ≤ k / WORD) → (k < w * WORD) ⊎ (w * WORD ≤ k) → is_in words k ≡ false
-    by_word k ge lt (inl same) _ = none_left words from nothing k ge (omega (arith, same, ge))
-    by_word k ge lt (inr after) (inl before) = unsummed words sums k pair (next.none_before (k / WORD) after (omega (arith, before)))
-    by_word k ge lt _ (inr in_word) = of_word.none_before k in_word lt
+    by_word k ge lt (inl same) _ = none_left words from left k ge (omega (arith, same, ge))
+    by_word k ge lt (inr after) (inl before) = unsummed words sums k summed (word.none_before (k / WORD) after (omega (arith, before)))
+    by_word k ge lt _ (inr in_word) = first.none_before k in_word lt
 
 -- a word that is not empty has a first number
 pub word_has : (words sums : List ℕ) (w : ℕ) → IsSummed words sums → is_in sums w ≡ true → has_none (left_of_word words (w * WORD)) ≡ true → ⊥
