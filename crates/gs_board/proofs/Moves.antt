@@ -1,5 +1,6 @@
 -- Each step keeps the board, and tells what it says.
-use Rattle.std.proofs.Common.{◌≡◌, ℕ, zero, suc, ◌<◌, ◌^◌, List, [], ◌∷◌, ◌++◌, set, true, false, true≢false, refl, sym, ap, ◌∙◌, subst, ⊎_elim}
+use Rattle.std.proofs.Common.{◌≡◌, ℕ, zero, suc, ◌<◌, ◌^◌, List, [], ◌∷◌, ◌++◌, set, true, refl, sym, ap, ◌∙◌, subst, ⊎_elim}
+use Rattle.std.proofs.lemmas.Bool.{false≢true}
 use Rattle.std.specs.Prelude.{slice_index, slice_set}
 use mathlib.Core.Option.{Option, some, some-ne-none, some-injective}
 use lib.ListN.{get_elem?}
@@ -101,9 +102,6 @@ publishes_high k slots id me st n able s kept counts at bound =
       refl,
     )
 
-off : false ≡ true → ⊥
-off e = true≢false (sym e)
-
 pub splits : (k : Key) (id : ℕ) (v : View) → Splits (Holds k) id v v newcomer
 splits k id v s kept at = record {
   writer = kept.writer;
@@ -112,7 +110,7 @@ splits k id v s kept at = record {
   rises = kept.rises;
   fits = λ j u e. ⊎_elim
       (λ was. kept.fits j u (subst (λ l. get_elem? l j ≡ some u) (set_again s.views id v at) was))
-      (λ (same : newcomer ≡ u). subst (Fits kept.writer kept.published j) same ((λ y. absurd (off y)), ((kept.published.roles, refl), (kept.published.lows, refl), (kept.published.highs, refl))))
+      (λ (same : newcomer ≡ u). subst (Fits kept.writer kept.published j) same ((λ y. absurd (false≢true y)), ((kept.published.roles, refl), (kept.published.lows, refl), (kept.published.highs, refl))))
       (at_snoc (set s.views id v) newcomer u j e);
 }
 
