@@ -1,16 +1,10 @@
 -- What a spelling holds is read back from it.
-use Rattle.std.proofs.Common.{◌≡◌, Bool, true, false, cond, ℕ, ◌^◌, ◌<◌, ◌⊎◌, inl, inr, Option, None, Some, List, [], ◌++◌, length, take, drop, refl, ap, sym, ◌∙◌, append_assoc, arith}
-use Rattle.std.specs.Prelude.{◌==◌, if◌then◌else◌, unwrap_or}
+use Rattle.std.proofs.Common.{◌≡◌, Bool, true, false, ℕ, ◌⊎◌, inl, inr, Option, None, Some, List, [], ◌++◌, length, take, drop, refl, ap, sym, ◌∙◌, append_assoc, arith}
+use Rattle.std.specs.Prelude.{unwrap_or}
 use Rattle.std.proofs.lemmas.List.{drop_at, take_at}
 use Rattle.std.proofs.lemmas.Bool.{false≢true}
-use Rattle.std.proofs.lemmas.Bool.Decides.{nat_tests}
 use Rattle.byteorder.specs.Endian.{little_bytes, little_number}
-use Rattle.byteorder.specs.Numbers.{little_number-reads_back}
-use Rattle.gs_layout.specs.declared.cpu.TheConstants.{NO_CPU}
 use Rattle.gs_layout.specs.declared.wire.TheConstants.{KIND_AT, MASK_AT, MASK_LEN, TID_AT, TSEQ_AT}
-use Rattle.gs_status.specs.declared.mask.TheConstants.{MOST_CPUS}
-use Rattle.gs_layout.specs.declared.facts.Class.{Class}
-use Rattle.gs_layout.specs.declared.facts.Class.TheVariants.{Zero, One}
 use Rattle.gs_layout.specs.declared.facts.Facts.{Facts}
 use Rattle.gs_layout.specs.declared.kind.Kind.{Kind}
 use Rattle.gs_layout.specs.declared.kind.Kind.TheVariants as kinds
@@ -18,11 +12,10 @@ use Rattle.gs_layout.specs.declared.message.Change.{Change}
 use Rattle.gs_layout.specs.declared.message.Change.TheVariants.{Created, Blocked, Wakeup, Preempted, Yield, Dead, Affinity}
 use Rattle.gs_layout.specs.declared.message.Message.{Message}
 use Rattle.gs_layout.specs.declared.message.Message.TheVariants.{Thread, TimerTick}
-use Rattle.gs_layout.specs.Class.{class_number}
 use Rattle.gs_layout.specs.Kind.{kind_number}
 use Rattle.gs_layout.specs.Spelling.{AreNumbers, IsSpellable, IsSpellableChange, kind_of, mask_of, padding, spelling}
 use Rattle.gs_layout.proofs.Shared.{class_back, cpu_back, flag_back, reads}
-use Rattle.gs_layout.specs.Reading.{Begins, change_with, class_numbered, cpu_numbered, facts_in, kind_in, kind_numbered, message_in, message_with, number_at}
+use Rattle.gs_layout.specs.Reading.{Begins, change_with, facts_in, kind_in, kind_numbered, message_in, message_with, number_at}
 
 name_back : (name rest : List ℕ) → take (length name) ((name ++ padding (length name)) ++ rest) ≡ name
 name_back name rest =
