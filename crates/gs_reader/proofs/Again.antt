@@ -1,19 +1,15 @@
 -- A spelling is read again as itself, whatever follows it.
-use Rattle.std.proofs.Common.{◌≡◌, Bool, true, false, ℕ, ◌+◌, ◌-◌, ◌^◌, ◌<◌, ◌≤◌, Option, None, Some, Ok, List, [], ◌++◌, length, take, drop, refl, ap, sym, ◌∙◌, length-append, arith}
+use Rattle.std.proofs.Common.{◌≡◌, Bool, true, false, ℕ, ◌+◌, ◌-◌, ◌<◌, ◌≤◌, Option, None, Some, Ok, List, [], ◌++◌, length, take, drop, refl, ap, sym, ◌∙◌, length-append, arith}
 use Rattle.std.specs.Prelude.{◌==◌, ◌&&◌, ◌||◌, not, nat_le, nat_lt, if◌then◌else◌, slice_index}
 use Rattle.std.specs.List.{list_all}
-use Rattle.std.proofs.lemmas.Bool.{and_from, and_parts, cond-true, eq-eqb, le-leb, leb-true, lt-ltb, or_left}
+use Rattle.std.proofs.lemmas.Bool.{and_from, and_parts, cond-true, eq-eqb, lt-ltb, or_left}
 use Rattle.std.proofs.lemmas.Bool.Decides.{nat_tests}
 use Rattle.std.proofs.lemmas.List.{drop-drop, drop_at, take_at}
 use Rattle.byteorder.specs.Endian.{little_bytes, little_number}
-use Rattle.byteorder.specs.Numbers.{little_number-reads_back}
 use Rattle.gs_layout.specs.declared.cpu.TheConstants.{NO_CPU}
-use Rattle.gs_layout.specs.declared.message.TheConstants.{MOST_TIDS}
 use Rattle.gs_layout.specs.declared.name.TheConstants.{MOST_NAME_LEN}
 use Rattle.gs_layout.specs.declared.wire.TheConstants.{CLASS_AT, HEADER_LEN, MASK_AT, MASK_LEN, NAME_AT, NAME_LEN_AT, TID_AT, TSEQ_AT}
 use Rattle.gs_status.specs.declared.mask.TheConstants.{MOST_CPUS}
-use Rattle.gs_layout.specs.declared.facts.Class.{Class}
-use Rattle.gs_layout.specs.declared.facts.Class.TheVariants.{Zero, One}
 use Rattle.gs_layout.specs.declared.facts.Facts.{Facts}
 use Rattle.gs_layout.specs.declared.kind.Kind.{Kind}
 use Rattle.gs_layout.specs.declared.kind.Kind.TheVariants as kinds
@@ -21,7 +17,6 @@ use Rattle.gs_layout.specs.declared.message.Change.{Change}
 use Rattle.gs_layout.specs.declared.message.Change.TheVariants.{Created, Blocked, Wakeup, Preempted, Yield, Dead, Affinity}
 use Rattle.gs_layout.specs.declared.message.Message.{Message}
 use Rattle.gs_layout.specs.declared.message.Message.TheVariants.{Thread, TimerTick}
-use Rattle.gs_layout.specs.Class.{class_number}
 use Rattle.gs_layout.specs.Kind.{kind_number}
 use Rattle.gs_layout.specs.Name.{is_name, is_name_byte}
 use Rattle.gs_layout.specs.Reading.{are_zeros, Begins, kind_numbered, message_in, name_in, number_at}

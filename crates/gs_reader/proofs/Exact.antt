@@ -1,6 +1,6 @@
 -- Reading is the spelling backwards, and each fault is returned exactly if it is the first in the order.
 use Rattle.std.proofs.Common.{◌≡◌, Bool, true, false, cond, ℕ, ◌≤◌, Option, None, Some, Result, Ok, Err, List, ◌++◌, length, take, drop, refl, ap, sym, subst, ◌∙◌, arith}
-use Rattle.std.specs.Prelude.{◌==◌, IfOk, IfErr}
+use Rattle.std.specs.Prelude.{IfOk, IfErr}
 use Rattle.std.proofs.lemmas.List.{length-take, take-append-drop}
 use Rattle.gs_layout.specs.declared.wire.TheConstants.{FRONT_LEN, LEAST_PAD_LEN}
 use Rattle.gs_layout.specs.declared.kind.Kind.{Kind}

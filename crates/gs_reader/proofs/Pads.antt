@@ -1,7 +1,7 @@
 -- A PAD is read exactly where one stands.
-use Rattle.std.proofs.Common.{◌≡◌, true, false, cond, ℕ, ◌+◌, ◌-◌, ◌≤◌, Option, None, Some, Ok, List, [], ◌++◌, length, drop, replicate, refl, ap, sym, ◌∙◌, inl, inr, length-append, arith}
+use Rattle.std.proofs.Common.{◌≡◌, true, cond, ℕ, ◌+◌, ◌-◌, ◌≤◌, Option, None, Some, Ok, List, [], ◌++◌, length, drop, replicate, refl, ap, sym, ◌∙◌, inl, inr, length-append, arith}
 use Rattle.std.specs.Prelude.{◌==◌, nat_le}
-use Rattle.std.proofs.lemmas.Bool.{and_parts, cases_Bool, cond-false, cond-true, eqb-false, eqb-true, leb-true, or_cases, or_left, or_right}
+use Rattle.std.proofs.lemmas.Bool.{and_parts, cases_Bool, cond-false, cond-true, eqb-false, leb-true}
 use Rattle.std.proofs.lemmas.Bool.Decides.{nat_tests}
 use Rattle.std.proofs.lemmas.List.{length-drop, length-replicate, take_at}
 use Rattle.byteorder.specs.Endian.{little_bytes}
@@ -11,7 +11,7 @@ use Rattle.gs_layout.specs.declared.kind.Kind.{Kind}
 use Rattle.gs_layout.specs.declared.kind.Kind.TheVariants as kinds
 use Rattle.gs_layout.specs.Pad.{IsPadSize, pad}
 use Rattle.gs_layout.specs.Reading.{are_zeros, kind_numbered, number_at}
-use Rattle.gs_layout.proofs.Laws.{IsBytes, at_place, reads, zeros_are, zeros_pass}
+use Rattle.gs_layout.proofs.Laws.{IsBytes, at_place, zeros_are, zeros_pass}
 use Rattle.gs_reader.specs.declared.item.Item.TheVariants as items
 use Rattle.gs_reader.specs.Fault.{front_fault, has_length, is_kind, kind_number_in, length_in}
 use Rattle.gs_reader.specs.Reading.{IsWhole, item_in, read, with_length}

@@ -1,10 +1,8 @@
 -- What the tests of a message's fields say.
-use Rattle.std.proofs.Common.{◌≡◌, true, false, cond, ℕ, zero, suc, ◌^◌, ◌<◌, Option, None, Some, List, [], ◌∷◌, length, replicate, refl, ap, sym, subst, ◌∙◌, inl, inr, arith}
-use Rattle.std.specs.Prelude.{◌==◌, ◌&&◌, ◌||◌, not, nat_le, nat_lt, unwrap_or}
-use Rattle.std.specs.List.{list_all}
-use Rattle.std.proofs.lemmas.Bool.{and_from, and_parts, cases_Bool, cond-false, cond-true, eqb-true, leb-true, ltb-true, or_cases}
+use Rattle.std.proofs.Common.{◌≡◌, true, false, cond, ℕ, ◌<◌, Option, None, Some, List, refl, ap, sym, subst, ◌∙◌, inl, inr, arith}
+use Rattle.std.specs.Prelude.{◌==◌, ◌&&◌, ◌||◌, not, nat_lt, unwrap_or}
+use Rattle.std.proofs.lemmas.Bool.{and_from, and_parts, cases_Bool, cond-false, cond-true, eqb-true, ltb-true, or_cases}
 use Rattle.gs_layout.specs.declared.cpu.TheConstants.{NO_CPU}
-use Rattle.gs_layout.specs.declared.message.TheConstants.{MOST_TIDS}
 use Rattle.gs_layout.specs.declared.wire.TheConstants.{CPU_AT, FLAGS_AT, TID_AT, TSEQ_AT}
 use Rattle.gs_status.specs.declared.mask.TheConstants.{MOST_CPUS}
 use Rattle.gs_layout.specs.declared.kind.Kind.{Kind}

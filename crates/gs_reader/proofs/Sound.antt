@@ -1,6 +1,6 @@
 -- Bytes whose fields are all in range are the spelling of the message that they name.
-use Rattle.std.proofs.Common.{◌≡◌, true, false, ℕ, zero, suc, ◌+◌, ◌-◌, ◌^◌, ◌<◌, ◌≤◌, Option, Some, List, [], ◌∷◌, ◌++◌, length, drop, replicate, refl, ap, sym, subst, ◌∙◌, arith}
-use Rattle.std.specs.Prelude.{◌==◌, ◌&&◌, ◌||◌, not, nat_le, nat_lt, slice_index, unwrap_or}
+use Rattle.std.proofs.Common.{◌≡◌, true, ℕ, ◌+◌, ◌-◌, ◌^◌, ◌<◌, ◌≤◌, Option, Some, List, [], ◌∷◌, ◌++◌, length, drop, replicate, refl, ap, sym, subst, ◌∙◌, arith}
+use Rattle.std.specs.Prelude.{◌==◌, ◌&&◌, not, nat_le, nat_lt, slice_index, unwrap_or}
 use Rattle.std.proofs.Math.Seq.{drop-cons}
 use Rattle.std.proofs.lemmas.Bool.{and_parts, eqb-true, ltb-true}
 use Rattle.std.proofs.lemmas.Bool.Decides.{nat_tests}
@@ -8,18 +8,16 @@ use Rattle.std.proofs.lemmas.List.{drop-drop, drop_all, length-drop, length-take
 use Rattle.byteorder.specs.Endian.{little_bytes}
 use Rattle.byteorder.specs.Numbers.{little_from-lt}
 use Rattle.gs_layout.specs.declared.cpu.TheConstants.{NO_CPU}
-use Rattle.gs_layout.specs.declared.message.TheConstants.{MOST_TIDS}
 use Rattle.gs_layout.specs.declared.name.TheConstants.{MOST_NAME_LEN}
-use Rattle.gs_layout.specs.declared.wire.TheConstants.{AFFINITY_LEN, CLASS_AT, CPU_AT, FLAGS_AT, HEADER_LEN, KIND_AT, LEAST_CREATION_LEN, LEN_AT, MASK_AT, MASK_LEN, MOST_MESSAGE_LEN, NAME_AT, NAME_LEN_AT, TID_AT, TSEQ_AT}
+use Rattle.gs_layout.specs.declared.wire.TheConstants.{AFFINITY_LEN, CLASS_AT, CPU_AT, FLAGS_AT, HEADER_LEN, KIND_AT, LEAST_CREATION_LEN, LEN_AT, MASK_AT, MASK_LEN, NAME_AT, NAME_LEN_AT, TID_AT, TSEQ_AT}
 use Rattle.gs_status.specs.declared.mask.TheConstants.{MOST_CPUS}
 use Rattle.gs_layout.specs.declared.kind.Kind.{Kind}
 use Rattle.gs_layout.specs.declared.kind.Kind.TheVariants as kinds
 use Rattle.gs_layout.specs.declared.message.Message.{Message}
-use Rattle.gs_layout.specs.Class.{class_number}
 use Rattle.gs_layout.specs.Kind.{kind_number}
 use Rattle.gs_layout.specs.Message.{tseq_of}
 use Rattle.gs_layout.specs.Name.{is_name}
-use Rattle.gs_layout.specs.Reading.{are_zeros, class_numbered, facts_in, message_in, message_with, name_in, number_at}
+use Rattle.gs_layout.specs.Reading.{are_zeros, facts_in, message_in, message_with, name_in, number_at}
 use Rattle.gs_layout.specs.Spelling.{IsMask, AreNumbers, are_numbers, IsSpellable, cpu_number, cpu_of, facts_bytes, flags_of, header_bytes, kind_of, more_of, name_bytes, padding, round_up, size_of, spelling, tid_of}
 use Rattle.gs_layout.proofs.Laws.{IsBytes, IsBytes-drop, at_place, class_again, cpu_again, flag_again, numbers_from, zeros_are}
 use Rattle.gs_reader.specs.Fault.{has_length, kind_number_in}
@@ -108,51 +106,20 @@ mask_is text fits e =
     let low : 0 < number_at MASK_AT MASK_LEN text = grind (arith, nat_tests) in
     (low, high)
 
-short_more : (text : List ℕ) → length text ≡ HEADER_LEN → [] ≡ drop HEADER_LEN text
-short_more text n = sym (drop_all HEADER_LEN text (omega arith))
-
-sound_blocked : (text : List ℕ) → Named kinds.Blocked text → Fit kinds.Blocked text → IsSound kinds.Blocked text
-sound_blocked text w f =
-    let n = eqb-true (length text) HEADER_LEN w.one in (
-      spelled_by (message_with kinds.Blocked text) text (omega (arith, n)) w.fits (record { len = sym (w.size ∙ n); kind = w.kind; tid = refl; tseq = refl; cpu = refl; flags = sym (eqb-true (number_at FLAGS_AT 2 text) 0 f.flags); more = short_more text n }),
-      (numbers text w.fits f.numbers, ltb-true (number_at CPU_AT 2 text) MOST_CPUS f.cpu),
-    )
-
-sound_preempted : (text : List ℕ) → Named kinds.Preempted text → Fit kinds.Preempted text → IsSound kinds.Preempted text
-sound_preempted text w f =
-    let n = eqb-true (length text) HEADER_LEN w.one in (
-      spelled_by (message_with kinds.Preempted text) text (omega (arith, n)) w.fits (record { len = sym (w.size ∙ n); kind = w.kind; tid = refl; tseq = refl; cpu = refl; flags = sym (eqb-true (number_at FLAGS_AT 2 text) 0 f.flags); more = short_more text n }),
-      (numbers text w.fits f.numbers, ltb-true (number_at CPU_AT 2 text) MOST_CPUS f.cpu),
-    )
-
-sound_yield : (text : List ℕ) → Named kinds.Yield text → Fit kinds.Yield text → IsSound kinds.Yield text
-sound_yield text w f =
-    let n = eqb-true (length text) HEADER_LEN w.one in (
-      spelled_by (message_with kinds.Yield text) text (omega (arith, n)) w.fits (record { len = sym (w.size ∙ n); kind = w.kind; tid = refl; tseq = refl; cpu = refl; flags = sym (eqb-true (number_at FLAGS_AT 2 text) 0 f.flags); more = short_more text n }),
-      (numbers text w.fits f.numbers, ltb-true (number_at CPU_AT 2 text) MOST_CPUS f.cpu),
-    )
-
-sound_wakeup : (text : List ℕ) → Named kinds.Wakeup text → Fit kinds.Wakeup text → IsSound kinds.Wakeup text
-sound_wakeup text w f =
-    let n = eqb-true (length text) HEADER_LEN w.one in (
-      spelled_by (message_with kinds.Wakeup text) text (omega (arith, n)) w.fits (record { len = sym (w.size ∙ n); kind = w.kind; tid = refl; tseq = refl; cpu = sym (eqb-true (number_at CPU_AT 2 text) NO_CPU f.cpu); flags = sym (eqb-true (number_at FLAGS_AT 2 text) 0 f.flags); more = short_more text n }),
-      (numbers text w.fits f.numbers, tt),
-    )
-
-sound_dead : (text : List ℕ) → Named kinds.Dead text → Fit kinds.Dead text → IsSound kinds.Dead text
-sound_dead text w f =
-    let n = eqb-true (length text) HEADER_LEN w.one in (
-      spelled_by (message_with kinds.Dead text) text (omega (arith, n)) w.fits (record { len = sym (w.size ∙ n); kind = w.kind; tid = refl; tseq = refl; cpu = cpu_again (number_at CPU_AT 2 text); flags = sym (eqb-true (number_at FLAGS_AT 2 text) 0 f.flags); more = short_more text n }),
-      (numbers text w.fits f.numbers, cpu_or_none (number_at CPU_AT 2 text) f.cpu),
-    )
-
-sound_tick : (text : List ℕ) → Named kinds.TimerTick text → Fit kinds.TimerTick text → IsSound kinds.TimerTick text
-sound_tick text w f =
-    let n = eqb-true (length text) HEADER_LEN w.one in
-    let zeros = and_parts (number_at TID_AT 4 text == 0) (number_at TSEQ_AT 4 text == 0) f.numbers in (
-      spelled_by (message_with kinds.TimerTick text) text (omega (arith, n)) w.fits (record { len = sym (w.size ∙ n); kind = w.kind; tid = sym (eqb-true (number_at TID_AT 4 text) 0 zeros.0); tseq = sym (eqb-true (number_at TSEQ_AT 4 text) 0 zeros.1); cpu = refl; flags = sym (eqb-true (number_at FLAGS_AT 2 text) 0 f.flags); more = short_more text n }),
-      ltb-true (number_at CPU_AT 2 text) MOST_CPUS f.cpu,
-    )
+-- a message of a header alone is spelled by bytes that have its fields
+short : (k : Kind) (m : Message) (text : List ℕ) → Named k text → (length text == HEADER_LEN) ≡ true → (number_at FLAGS_AT 2 text == 0) ≡ true → size_of m ≡ HEADER_LEN → kind_of m ≡ k → flags_of m ≡ 0 → more_of m ≡ []
+    → tid_of m ≡ number_at TID_AT 4 text → tseq_of m ≡ number_at TSEQ_AT 4 text → cpu_number (cpu_of m) ≡ number_at CPU_AT 2 text → spelling m ≡ text
+short k m text w one none size kind flags more tid tseq cpu =
+    let n = eqb-true (length text) HEADER_LEN one in
+    spelled_by m text (omega (arith, n)) w.fits (record {
+      len = size ∙ sym (w.size ∙ n);
+      kind = ap kind_number kind ∙ w.kind;
+      tid = tid;
+      tseq = tseq;
+      cpu = cpu;
+      flags = flags ∙ sym (eqb-true (number_at FLAGS_AT 2 text) 0 none);
+      more = more ∙ sym (drop_all HEADER_LEN text (omega (arith, n)));
+    })
 
 sound_affinity : (text : List ℕ) → Named kinds.Affinity text → Fit kinds.Affinity text → IsSound kinds.Affinity text
 sound_affinity text w f =
@@ -190,13 +157,22 @@ sound_created text w f =
 
 sound_kind : (k : Kind) (text : List ℕ) → Named k text → Fit k text → IsSound k text
 sound_kind kinds.Created text w f = sound_created text w f
-sound_kind kinds.Blocked text w f = sound_blocked text w f
-sound_kind kinds.Wakeup text w f = sound_wakeup text w f
-sound_kind kinds.Preempted text w f = sound_preempted text w f
-sound_kind kinds.Yield text w f = sound_yield text w f
-sound_kind kinds.Dead text w f = sound_dead text w f
+sound_kind kinds.Blocked text w f =
+    (short kinds.Blocked (message_with kinds.Blocked text) text w w.one f.flags refl refl refl refl refl refl refl, (numbers text w.fits f.numbers, ltb-true (number_at CPU_AT 2 text) MOST_CPUS f.cpu))
+sound_kind kinds.Wakeup text w f =
+    (short kinds.Wakeup (message_with kinds.Wakeup text) text w w.one f.flags refl refl refl refl refl refl (sym (eqb-true (number_at CPU_AT 2 text) NO_CPU f.cpu)), (numbers text w.fits f.numbers, tt))
+sound_kind kinds.Preempted text w f =
+    (short kinds.Preempted (message_with kinds.Preempted text) text w w.one f.flags refl refl refl refl refl refl refl, (numbers text w.fits f.numbers, ltb-true (number_at CPU_AT 2 text) MOST_CPUS f.cpu))
+sound_kind kinds.Yield text w f =
+    (short kinds.Yield (message_with kinds.Yield text) text w w.one f.flags refl refl refl refl refl refl refl, (numbers text w.fits f.numbers, ltb-true (number_at CPU_AT 2 text) MOST_CPUS f.cpu))
+sound_kind kinds.Dead text w f =
+    (short kinds.Dead (message_with kinds.Dead text) text w w.one f.flags refl refl refl refl refl refl (cpu_again (number_at CPU_AT 2 text)), (numbers text w.fits f.numbers, cpu_or_none (number_at CPU_AT 2 text) f.cpu))
 sound_kind kinds.Affinity text w f = sound_affinity text w f
-sound_kind kinds.TimerTick text w f = sound_tick text w f
+sound_kind kinds.TimerTick text w f =
+    let zeros = and_parts (number_at TID_AT 4 text == 0) (number_at TSEQ_AT 4 text == 0) f.numbers in
+    let tid = sym (eqb-true (number_at TID_AT 4 text) 0 zeros.0) in
+    let tseq = sym (eqb-true (number_at TSEQ_AT 4 text) 0 zeros.1) in
+    (short kinds.TimerTick (message_with kinds.TimerTick text) text w w.one f.flags refl refl refl refl tid tseq refl, ltb-true (number_at CPU_AT 2 text) MOST_CPUS f.cpu)
 
 -- bytes whose fields are in range are the spelling of the message that they name, and that message has a spelling
 pub sound : (k : Kind) (text : List ℕ) → IsBytes text → IsWhole (Some k) text → fields_fit k text ≡ true → IsRef text
