@@ -1,8 +1,8 @@
 -- A page is read back from its spelling, and bytes without a fault are the spelling of the page that they name.
 use Rattle.std.proofs.Common.{◌≡◌, Bool, true, false, ℕ, zero, suc, ◌+◌, ◌*◌, ◌^◌, ◌<◌, ◌≤◌, Option, None, Some, List, [], ◌∷◌, ◌++◌, length, take, drop, map, refl, ap, sym, subst, ◌∙◌, inl, inr, arith, length-append}
-use Rattle.std.specs.Prelude.{◌==◌, ◌&&◌, ◌||◌, not, nat_le, nat_lt, if◌then◌else◌, unwrap_or, IfSome}
+use Rattle.std.specs.Prelude.{◌==◌, ◌&&◌, ◌||◌, not, nat_lt, if◌then◌else◌, unwrap_or, IfSome}
 use Rattle.std.specs.List.{flat_map, list_any, AllByRecursion}
-use Rattle.std.proofs.lemmas.Bool.{and_from, and_parts, cond-false, cond-true, eqb-true, le-leb, leb-true, lt-ltb, or_cases, or_left, or_parts, or_right, false≢true}
+use Rattle.std.proofs.lemmas.Bool.{and_from, and_parts, cond-false, cond-true, eqb-true, lt-ltb, or_cases, or_parts, or_right, false≢true, le-ltb, ltb-false, not-false, not_from_false, ne_eqb}
 use Rattle.std.proofs.lemmas.Bool.Decides.{nat_tests}
 use Rattle.std.proofs.Math.Nat.{add_comm, mul-suc}
 use Rattle.gs_dump.specs.declared.wire.TheConstants.{COUNT_AT, HEADER_LEN, LAST_AT, NEXT_AT, VERSION_LEN}
@@ -21,9 +21,9 @@ use Rattle.gs_dump.specs.declared.version.Version.TheVariants as versions
 use Rattle.gs_dump.specs.Version.{record_len, version_number, version_numbered}
 use Rattle.gs_dump.specs.Record.{FitsIn, IsLive, record_spelling}
 use Rattle.gs_dump.specs.Page.{Contents, IsPage, end_number, header_bytes, rises, spelling_in}
-use Rattle.gs_dump.specs.Reading.{IsFault, IsSpelled, count_in, end_fits, end_in, fault_of, field_fault, is_bad, is_headless, is_other_version, next_in, next_number_in, page_fault, page_in, record_in, record_read, size_in, sized_fault, texts, texts_in, version_of}
+use Rattle.gs_dump.specs.Reading.{IsFault, IsSpelled, count_in, end_fits, end_in, fault_of, field_fault, is_bad, is_headless, is_other_version, next_in, next_number_in, page_fault, page_in, record_in, size_in, sized_fault, texts, texts_in, version_of}
 use Rattle.gs_dump.specs.Scan.{Faults}
-use Rattle.gs_dump.proofs.Records.{length-record_spelling, not_false, record_again, record_back, record_sound}
+use Rattle.gs_dump.proofs.Records.{length-record_spelling, record_again, record_back, record_sound}
 
 -- ---- what is spelled is read back
 
@@ -114,14 +114,11 @@ no_field_fault v p h f =
 abbrev judged : Bool → Bool → Option PageFault → Option PageFault
 judged short long o = if short then Some faults.Short else if long then Some faults.Trailing else o
 
-not_lt : (a b : ℕ) → b ≤ a → nat_lt a b ≡ false
-not_lt a b le = grind (arith, nat_tests)
-
 no_size_fault : (v : Version) (p : Contents) → IsPage p → Fit v p.records → sized_fault v (spelling_in v p) ≡ None
 no_size_fault v p h f =
     let bytes = spelling_in v p in
     let size = size_back v p h in
-    (λ i. judged (not_lt (length bytes) (size_in v bytes) (omega (arith, size)) i) (not_lt (size_in v bytes) (length bytes) (omega (arith, size)) i) (no_field_fault v p h f i))
+    (λ i. judged (le-ltb (length bytes) (size_in v bytes) (omega (arith, size)) i) (le-ltb (size_in v bytes) (length bytes) (omega (arith, size)) i) (no_field_fault v p h f i))
 
 -- the version of a spelling that has a record
 number_back : (v : Version) → version_numbered (little_number 2 (little_bytes 2 (version_number v) ++ [])) ≡ Some v
@@ -132,19 +129,16 @@ number_back versions.Two = refl
 pub version_back : (v : Version) (p : Contents) → IsPage p → Fit v p.records → (w : Version) × (version_of (spelling_in v p) ≡ Some w) × Fit w p.records × (spelling_in v p ≡ spelling_in w p)
 version_back v p h f = by_records p.records refl f
   where
-    is : IsPage p
-    is = h
-
     by_records : (rs : List DumpRecord) → p.records ≡ rs → Fit v rs → (w : Version) × (version_of (spelling_in v p) ≡ Some w) × Fit w p.records × (spelling_in v p ≡ spelling_in w p)
     by_records [] e g =
-        let none : (count_in (spelling_in v p) == 0) ≡ true = ap (λ (n : ℕ). n == 0) (count_back v p is ∙ ap length e) in (
+        let none : (count_in (spelling_in v p) == 0) ≡ true = ap (λ (n : ℕ). n == 0) (count_back v p h ∙ ap length e) in (
           versions.Two,
           cond-true (count_in (spelling_in v p) == 0) (Some versions.Two) (version_numbered (number_at HEADER_LEN 2 (spelling_in v p))) none,
           subst (Fit versions.Two) (sym e) tt,
           ap (λ (rs : List DumpRecord). header_bytes p ++ flat_map (record_spelling v) rs) e ∙ sym (ap (λ (rs : List DumpRecord). header_bytes p ++ flat_map (record_spelling versions.Two) rs) e),
         )
     by_records (r ∷ rs) e g =
-        let n : count_in (spelling_in v p) ≡ suc (length rs) = count_back v p is ∙ ap length e in
+        let n : count_in (spelling_in v p) ≡ suc (length rs) = count_back v p h ∙ ap length e in
         let z : (suc (length rs) == 0) ≡ false = grind (arith, nat_tests) in
         let some : (count_in (spelling_in v p) == 0) ≡ false = ap (λ (k : ℕ). k == 0) n ∙ z in
         let first : number_at HEADER_LEN 2 (spelling_in v p) ≡ little_number 2 (little_bytes 2 (version_number v) ++ []) = ap (λ (xs : List DumpRecord). little_number 2 (flat_map (record_spelling v) xs)) e in (
@@ -159,21 +153,18 @@ headed : (l c : ℕ) → HEADER_LEN ≤ l → ((c == 0) ≡ false → HEADER_LEN
 headed l c least more = by_test (c == 0) more
   where
     by_test : (b : Bool) → (b ≡ false → HEADER_LEN + VERSION_LEN ≤ l) → (nat_lt l HEADER_LEN || (not b && nat_lt l (HEADER_LEN + VERSION_LEN))) ≡ false
-    by_test true q = λ i. not_lt l HEADER_LEN least i || false
-    by_test false q = λ i. not_lt l HEADER_LEN least i || not_lt l (HEADER_LEN + VERSION_LEN) (q refl) i
+    by_test true q = λ i. le-ltb l HEADER_LEN least i || false
+    by_test false q = λ i. le-ltb l HEADER_LEN least i || le-ltb l (HEADER_LEN + VERSION_LEN) (q refl) i
 
 headless_back : (v : Version) (p : Contents) → IsPage p → is_headless (spelling_in v p) ≡ false
 headless_back v p h = headed (length (spelling_in v p)) (count_in (spelling_in v p)) (omega arith) (λ some. by_records p.records refl h.live some)
   where
-    is : IsPage p
-    is = h
-
     long : (r : DumpRecord) → IsLive r → 2 ≤ length (record_spelling v r)
     long r live = omega arith
 
     by_records : (rs : List DumpRecord) → p.records ≡ rs → AreLive rs → (count_in (spelling_in v p) == 0) ≡ false → HEADER_LEN + VERSION_LEN ≤ length (spelling_in v p)
     by_records [] e live some =
-        let none : (count_in (spelling_in v p) == 0) ≡ true = ap (λ (n : ℕ). n == 0) (count_back v p is ∙ ap length e) in
+        let none : (count_in (spelling_in v p) == 0) ≡ true = ap (λ (n : ℕ). n == 0) (count_back v p h ∙ ap length e) in
         absurd (false≢true (sym some ∙ none))
     by_records (r ∷ rs) e live some =
         let size = ap (λ (xs : List DumpRecord). length (flat_map (record_spelling v) xs)) e ∙ length-append (record_spelling v r) (flat_map (record_spelling v) rs) in
@@ -248,18 +239,15 @@ header_again bytes fits long =
     let b = little_bytes 2 (end_in bytes) in
     ap (λ (r : List ℕ). a ++ (b ++ r)) (at_place 4 NEXT_AT bytes (omega arith) fits) ∙ ap (λ (r : List ℕ). a ++ r) (at_place 2 LAST_AT bytes (omega arith) fits) ∙ at_place 2 COUNT_AT bytes (omega arith) fits
 
-not_less : (a b : ℕ) → nat_lt a b ≡ false → b ≤ a
-not_less a b e = grind (arith, nat_tests)
-
 pub sound_in : (v : Version) (bytes : List ℕ) → IsBytes bytes → HEADER_LEN ≤ length bytes → sized_fault v bytes ≡ None → IsSpelled bytes (page_in v bytes)
 sound_in v bytes fits long e =
     let ts = texts_in v bytes in
     let j = unjudged (nat_lt (length bytes) (size_in v bytes)) (nat_lt (size_in v bytes) (length bytes)) (field_fault v (end_fits bytes) true 0 (next_in bytes) ts) e in
-    let least : size_in v bytes ≤ length bytes = not_less (length bytes) (size_in v bytes) j.0 in
-    let most : length bytes ≤ size_in v bytes = not_less (size_in v bytes) (length bytes) j.1 in
+    let least : size_in v bytes ≤ length bytes = ltb-false (length bytes) (size_in v bytes) j.0 in
+    let most : length bytes ≤ size_in v bytes = ltb-false (size_in v bytes) (length bytes) j.1 in
     let f = no_faults (list_any (is_other_version v) ts) (not (end_fits bytes) || list_any (is_bad v) ts) (rises 0 (map (record_in v) ts) (next_in bytes)) j.2 in
     let g = or_parts (not (end_fits bytes)) (list_any (is_bad v) ts) f.field in
-    let end = end_again (end_in bytes) (next_number_in bytes) (not_false (end_fits bytes) g.0) in
+    let end = end_again (end_in bytes) (next_number_in bytes) (not-false (end_fits bytes) g.0) in
     let count : length (map (record_in v) ts) ≡ count_in bytes = length-texts v (count_in bytes) (drop HEADER_LEN bytes) in
     let below : count_in bytes < 2 ^ 16 = little_from-lt 0 2 bytes fits in
     let r = texts_sound v (count_in bytes) (drop HEADER_LEN bytes) (IsBytes-drop HEADER_LEN bytes fits) (omega (arith, length-drop HEADER_LEN bytes, long, least, most)) f.version g.1 in
@@ -279,36 +267,23 @@ pub record Read (bytes : List ℕ) : Type 0 where
 pub page_sound : (bytes : List ℕ) → IsBytes bytes → page_fault bytes ≡ None → Read bytes
 page_sound bytes fits e = by_head (is_headless bytes) refl e
   where
-    small : IsBytes bytes
-    small = fits
-
     by_version : HEADER_LEN ≤ length bytes → (o : Option Version) → version_of bytes ≡ o → fault_of o bytes ≡ None → Read bytes
     by_version long None q f = absurd cc
-    by_version long (Some v) q f = record { version = v; is = q; spelled = sound_in v bytes small long f }
+    by_version long (Some v) q f = record { version = v; is = q; spelled = sound_in v bytes fits long f }
 
     by_head : (b : Bool) → is_headless bytes ≡ b → headed_fault b (fault_of (version_of bytes) bytes) ≡ None → Read bytes
     by_head true q f = absurd cc
-    by_head false q f = by_version (not_less (length bytes) HEADER_LEN (or_parts (nat_lt (length bytes) HEADER_LEN) (not (count_in bytes == 0) && nat_lt (length bytes) (HEADER_LEN + VERSION_LEN)) q).0) (version_of bytes) refl f
+    by_head false q f = by_version (ltb-false (length bytes) HEADER_LEN (or_parts (nat_lt (length bytes) HEADER_LEN) (not (count_in bytes == 0) && nat_lt (length bytes) (HEADER_LEN + VERSION_LEN)) q).0) (version_of bytes) refl f
 
 -- ---- what the clauses say
 
 pub headless_page : (bytes : List ℕ) → is_headless bytes ≡ true → page_fault bytes ≡ Some faults.Short
 headless_page bytes e = λ i. headed_fault (e i) (fault_of (version_of bytes) bytes)
 
-pub few_bytes : (bytes : List ℕ) → length bytes < HEADER_LEN → is_headless bytes ≡ true
-few_bytes bytes lt = or_left (nat_lt (length bytes) HEADER_LEN) (not (count_in bytes == 0) && nat_lt (length bytes) (HEADER_LEN + VERSION_LEN)) (lt-ltb (length bytes) HEADER_LEN lt)
-
 pub few_for_version : (bytes : List ℕ) → (count_in bytes ≡ 0 → ⊥) → length bytes < HEADER_LEN + VERSION_LEN → is_headless bytes ≡ true
 few_for_version bytes some lt =
-    let z : not (count_in bytes == 0) ≡ true = by_test (count_in bytes == 0) refl in
+    let z : not (count_in bytes == 0) ≡ true = not_from_false (count_in bytes == 0) (ne_eqb (count_in bytes) 0 some) in
     or_right (nat_lt (length bytes) HEADER_LEN) (not (count_in bytes == 0) && nat_lt (length bytes) (HEADER_LEN + VERSION_LEN)) (and_from (not (count_in bytes == 0)) (nat_lt (length bytes) (HEADER_LEN + VERSION_LEN)) z (lt-ltb (length bytes) (HEADER_LEN + VERSION_LEN) lt))
-  where
-    never : count_in bytes ≡ 0 → ⊥
-    never = some
-
-    by_test : (b : Bool) → (count_in bytes == 0) ≡ b → not (count_in bytes == 0) ≡ true
-    by_test true e = absurd (never (eqb-true (count_in bytes) 0 e))
-    by_test false e = ap not e
 
 pub has_head : (bytes : List ℕ) → HEADER_LEN ≤ length bytes → ((count_in bytes ≡ 0 → ⊥) → HEADER_LEN + VERSION_LEN ≤ length bytes) → is_headless bytes ≡ false
 has_head bytes long more = headed (length bytes) (count_in bytes) long (λ e. more (λ z. false≢true (sym e ∙ ap (λ (n : ℕ). n == 0) z)))
@@ -323,10 +298,10 @@ pub short_page : (v : Version) (bytes : List ℕ) → length bytes < size_in v b
 short_page v bytes lt = λ i. judged (lt-ltb (length bytes) (size_in v bytes) lt i) (nat_lt (size_in v bytes) (length bytes)) (field_fault v (end_fits bytes) true 0 (next_in bytes) (texts_in v bytes))
 
 pub long_page : (v : Version) (bytes : List ℕ) → size_in v bytes < length bytes → sized_fault v bytes ≡ Some faults.Trailing
-long_page v bytes lt = λ i. judged (not_lt (length bytes) (size_in v bytes) (omega (arith, lt)) i) (lt-ltb (size_in v bytes) (length bytes) lt i) (field_fault v (end_fits bytes) true 0 (next_in bytes) (texts_in v bytes))
+long_page v bytes lt = λ i. judged (le-ltb (length bytes) (size_in v bytes) (omega (arith, lt)) i) (lt-ltb (size_in v bytes) (length bytes) lt i) (field_fault v (end_fits bytes) true 0 (next_in bytes) (texts_in v bytes))
 
 pub sized_page : (v : Version) (bytes : List ℕ) → size_in v bytes ≤ length bytes → length bytes ≤ size_in v bytes → sized_fault v bytes ≡ field_fault v (end_fits bytes) true 0 (next_in bytes) (texts_in v bytes)
-sized_page v bytes least most = λ i. judged (not_lt (length bytes) (size_in v bytes) least i) (not_lt (size_in v bytes) (length bytes) most i) (field_fault v (end_fits bytes) true 0 (next_in bytes) (texts_in v bytes))
+sized_page v bytes least most = λ i. judged (le-ltb (length bytes) (size_in v bytes) least i) (le-ltb (size_in v bytes) (length bytes) most i) (field_fault v (end_fits bytes) true 0 (next_in bytes) (texts_in v bytes))
 
 some_version : (v w : Version) → Some v ≡ Some w → v ≡ w
 some_version v w e = cc
@@ -356,14 +331,3 @@ none_found faults.BadVersion o h e = absurd (let w : Some faults.BadVersion ≡ 
 none_found faults.BadField o h e = absurd (let w : Some faults.BadField ≡ None = sym h ∙ e in cc)
 none_found faults.BadOrder o h e = absurd (let w : Some faults.BadOrder ≡ None = sym h ∙ e in cc)
 none_found faults.OutOfMemory o h e = refl
-
-some_is : (f g : PageFault) → Some f ≡ Some g → f ≡ g
-some_is f g e = cc
-
-pub one_found : (f g : PageFault) (o : Option PageFault) → Faults f o → o ≡ Some g → f ≡ g
-one_found faults.Short g o h e = some_is faults.Short g (sym h ∙ e)
-one_found faults.Trailing g o h e = some_is faults.Trailing g (sym h ∙ e)
-one_found faults.BadVersion g o h e = some_is faults.BadVersion g (sym h ∙ e)
-one_found faults.BadField g o h e = some_is faults.BadField g (sym h ∙ e)
-one_found faults.BadOrder g o h e = some_is faults.BadOrder g (sym h ∙ e)
-one_found faults.OutOfMemory g o h e = absurd (let w : None ≡ Some g = sym h ∙ e in cc)

@@ -1,12 +1,12 @@
 -- A record is read back from its spelling, and bytes whose fields fit are the spelling of the record that they name. Versions differ in how many bytes
 -- a mask has, and so in where the name begins.
-use Rattle.std.proofs.Common.{◌≡◌, Bool, true, false, cond, ℕ, ◌+◌, ◌-◌, ◌^◌, ◌<◌, ◌≤◌, Option, None, Some, List, [], ◌∷◌, ◌++◌, length, take, drop, replicate, refl, ap, sym, subst, ◌∙◌, inl, inr, arith, length-append}
-use Rattle.std.specs.Prelude.{◌==◌, ◌&&◌, ◌||◌, not, nat_le, nat_lt, if◌then◌else◌, slice_index, IfSome}
+use Rattle.std.proofs.Common.{◌≡◌, Bool, true, false, ℕ, ◌+◌, ◌-◌, ◌^◌, ◌<◌, ◌≤◌, Option, None, Some, List, ◌∷◌, ◌++◌, length, take, drop, replicate, refl, ap, sym, subst, ◌∙◌, inl, inr, arith, length-append}
+use Rattle.std.specs.Prelude.{◌==◌, ◌&&◌, ◌||◌, not, nat_le, nat_lt, slice_index, IfSome}
 use Rattle.std.proofs.Math.Seq.{drop-cons}
-use Rattle.std.proofs.lemmas.Bool.{and_from, and_parts, cond-true, eqb-true, le-leb, leb-true, lt-ltb, ltb-true, or_cases}
+use Rattle.std.proofs.lemmas.Bool.{and_from, and_parts, cond-true, eqb-true, le-leb, leb-true, lt-ltb, ltb-true, or_cases, not-false}
 use Rattle.std.proofs.lemmas.Bool.Decides.{nat_tests}
 use Rattle.std.proofs.lemmas.List.{drop-drop, drop_at, take_at, length-drop, length-take, length-replicate, take-append-drop}
-use Rattle.byteorder.specs.Endian.{little_bytes, little_number}
+use Rattle.byteorder.specs.Endian.{little_bytes}
 use Rattle.byteorder.specs.Numbers.{little_from-lt, little_number-reads_back}
 use Rattle.gs_status.specs.declared.mask.TheConstants.{MOST_CPUS}
 use Rattle.gs_status.specs.Masks.{has}
@@ -14,7 +14,7 @@ use Rattle.gs_layout.specs.declared.cpu.TheConstants.{NO_CPU}
 use Rattle.gs_layout.specs.declared.name.TheConstants.{MOST_NAME_LEN}
 use Rattle.gs_layout.specs.Name.{is_name}
 use Rattle.gs_layout.specs.Reading.{are_zeros, cpu_numbered}
-use Rattle.gs_layout.specs.Spelling.{AreNumbers, IsCpuOrNone, IsMask, are_numbers, cpu_number}
+use Rattle.gs_layout.specs.Spelling.{IsCpuOrNone, IsMask, are_numbers, cpu_number}
 use Rattle.gs_layout.proofs.Laws.{IsBytes, IsBytes-drop, at_place, class_again, class_back, class_passes, cpu_again, cpu_back, cpu_below, flag_again, flag_back, flag_passes, mask_passes, name_short, numbers_from, numbers_pass, reads, zeros_are, zeros_pass}
 use Rattle.gs_dump.specs.declared.record.DumpRecord.{DumpRecord}
 use Rattle.gs_dump.specs.declared.version.Version.{Version}
@@ -224,12 +224,8 @@ live v t fits f =
       runs = runs.1;
     }
 
-pub not_false : (b : Bool) → not b ≡ false → b ≡ true
-not_false true e = refl
-not_false false e = sym e
-
 -- bytes of a version whose fields fit are the spelling of the record that they name, which is in its ranges
 pub record_sound : (v : Version) (t : List ℕ) → IsBytes t → length t ≡ record_len v → is_other_version v t ≡ false → is_bad v t ≡ false → (record_spelling v (record_in v t) ≡ t) × IsLive (record_in v t) × FitsIn v (record_in v t)
 record_sound v t fits size version good =
-    let f = fits_from v t (not_false (record_fits v t) good) in
-    (spelled v t fits size (eqb-true (version_in t) (version_number v) (not_false (version_in t == version_number v) version)) f, live v t fits f, mask_low v t fits)
+    let f = fits_from v t (not-false (record_fits v t) good) in
+    (spelled v t fits size (eqb-true (version_in t) (version_number v) (not-false (version_in t == version_number v) version)) f, live v t fits f, mask_low v t fits)

@@ -1,5 +1,6 @@
 -- The pass over the records, one after another.
 use Rattle.std.proofs.Common.{◌≡◌, Bool, true, false, ℕ, suc, ◌+◌, ◌-◌, ◌*◌, ◌<◌, ◌≤◌, Option, None, Some, Result, Ok, Err, List, [], ◌∷◌, ◌++◌, take, drop, map, refl, ap, sym, ◌∙◌, append_assoc, arith}
+use Rattle.std.proofs.Math.Bool.{and_assoc}
 use Rattle.std.specs.Prelude.{◌&&◌, ◌||◌, not, nat_lt, if◌then◌else◌}
 use Rattle.std.specs.List.{list_any}
 use Rattle.std.proofs.lemmas.List.{append-nil}
@@ -38,16 +39,12 @@ bad_is true b x f e other = absurd (other cc)
 bad_is false true x f e other = (refl, refl)
 bad_is false false x f e other = absurd cc
 
-and_from_left : (a b c : Bool) → (a && (b && c)) ≡ ((a && b) && c)
-and_from_left true b c = refl
-and_from_left false b c = refl
-
 step_ok : (v : Version) (fit rise : Bool) (last : ℕ) (next : Option ℕ) (t : List ℕ) (ts : List (List ℕ)) (r : DumpRecord) → record_read v t ≡ Ok r
     → field_fault v fit rise last next (t ∷ ts) ≡ field_fault v fit (rise && nat_lt last r.tid) r.tid next ts
 step_ok v fit rise last next t ts r e =
     let h = ok_is (is_other_version v t) (is_bad v t) (record_in v t) r e in
     (λ i. faulted (h.0 i || list_any (is_other_version v) ts) (not fit || (h.1 i || list_any (is_bad v) ts)) (rise && (nat_lt last (h.2 i).tid && rises (h.2 i).tid (map (record_in v) ts) next)))
-    ∙ ap (faulted (list_any (is_other_version v) ts) (not fit || list_any (is_bad v) ts)) (and_from_left rise (nat_lt last r.tid) (rises r.tid (map (record_in v) ts) next))
+    ∙ ap (faulted (list_any (is_other_version v) ts) (not fit || list_any (is_bad v) ts)) (sym (and_assoc rise (nat_lt last r.tid) (rises r.tid (map (record_in v) ts) next)))
 
 step_version : (v : Version) (fit rise : Bool) (last : ℕ) (next : Option ℕ) (t : List ℕ) (ts : List (List ℕ)) → record_read v t ≡ Err faults.BadVersion
     → field_fault v fit rise last next (t ∷ ts) ≡ Some faults.BadVersion
@@ -131,8 +128,3 @@ none_is_bad false order e h = absurd cc
 pub left_size : (v : Version) (count i len rest : ℕ) → i < count → len ≡ record_len v * (count - i) → rest ≡ len - record_len v → rest ≡ record_len v * (count - (i + 1))
 left_size versions.One count i len rest lt e d = omega (arith, lt, e, d)
 left_size versions.Two count i len rest lt e d = omega (arith, lt, e, d)
-
--- and that there are enough for it
-pub enough_left : (v : Version) (count i len : ℕ) → i < count → len ≡ record_len v * (count - i) → record_len v ≤ len
-enough_left versions.One count i len lt e = omega (arith, lt, e)
-enough_left versions.Two count i len lt e = omega (arith, lt, e)
