@@ -1,7 +1,7 @@
 -- Index and slab agree, and go on to when a record is put, renewed or removed.
-use Rattle.std.proofs.Common.{◌≡◌, ◌≢◌, ◌⊎◌, inl, inr, refl, ap, sym, ◌∙◌, ℕ, suc, ◌+◌, ◌<◌, ◌≤◌, Bool, true, false, cond, count_by, Option, None, Some, is_some, List, [], length, get_or, set, arith}
+use Rattle.std.proofs.Common.{◌≡◌, ◌≢◌, ◌⊎◌, inl, inr, refl, ap, sym, ◌∙◌, ℕ, suc, ◌+◌, ◌<◌, ◌≤◌, true, cond, count_by, Option, None, Some, is_some, List, [], length, get_or, set, arith, ⊎_elim}
 use Rattle.std.specs.Prelude.{◌==◌}
-use Rattle.std.proofs.lemmas.Bool.{cases_eq}
+use Rattle.std.proofs.lemmas.Bool.{cases_eq, ne_eqb}
 use Rattle.std.proofs.lemmas.Bool.Decides.{nat_tests}
 use Rattle.std.proofs.lemmas.List.Sums.{sum_by-set}
 use Rattle.slab.specs.Slab.{Slab, ContainsKey, Updates, get, slab_len, with_value}
@@ -28,39 +28,26 @@ with_here : (t : ℕ) (o : Option Known) (v : Look) → with_known t o v t ≡ o
 with_here t o v = ap (λ b. cond b o (v t)) (let e : (t == t) ≡ true = grind (arith, nat_tests) in e)
 
 with_other : (t u : ℕ) (o : Option Known) (v : Look) → u ≢ t → with_known t o v u ≡ v u
-with_other t u o v differs = ap (λ b. cond b o (v u)) (apart (t == u) refl)
-  where
-    apart : (b : Bool) → (t == u) ≡ b → b ≡ false
-    apart true e = absurd (differs (let same : u ≡ t = grind (arith, nat_tests) in same))
-    apart false e = refl
+with_other t u o v differs = ap (λ b. cond b o (v u)) (ne_eqb t u (λ e. differs (sym e)))
 
 -- two looks are one if they agree at a thread and at all others
 by_thread : (v w : Look) (t : ℕ) → v t ≡ w t → ((u : ℕ) → u ≢ t → v u ≡ w u) → (u : ℕ) → v u ≡ w u
-by_thread v w t here others u = by_place (cases_eq u t)
-  where
-    here' : v t ≡ w t
-    here' = here
-
-    others' : (u : ℕ) → u ≢ t → v u ≡ w u
-    others' = others
-
-    by_place : (u ≡ t) ⊎ (u ≢ t) → v u ≡ w u
-    by_place (inl e) = ap v e ∙ (here' ∙ ap w (sym e))
-    by_place (inr differs) = others' u differs
+by_thread v w t here others u = ⊎_elim (λ e. ap v e ∙ (here ∙ ap w (sym e))) (λ differs. others u differs) (cases_eq u t)
 
 -- what a change of what is known of one thread makes of the list
-look_changed : (i i' : IndexState) (s s' : Slab Known) (t : ℕ) (o : Option Known) → ((u : ℕ) → known_by i' s' u ≡ with_known t o (known_by i s) u)
+look_changed : (i i' : IndexState) (s s' : Slab Known) (t : ℕ) (o : Option Known) → known_by i' s' t ≡ o → ((u : ℕ) → u ≢ t → known_by i' s' u ≡ known_by i s u)
     → (u : ℕ) → look_up (state_of i' s').entries u ≡ with_known t o (look_up (state_of i s).entries) u
-look_changed i i' s s' t o changed u = look_known i' s' u ∙ (changed u ∙ ap (cond (t == u) o) (sym (look_known i s u)))
+look_changed i i' s s' t o here others u =
+    let look = look_up (state_of i s).entries in
+    by_thread (look_up (state_of i' s').entries) (with_known t o look) t (look_known i' s' t ∙ (here ∙ sym (with_here t o look)))
+    (λ u differs. look_known i' s' u ∙ (others u differs ∙ (sym (look_known i s u) ∙ sym (with_other t u o look differs)))) u
 
 -- to take out the record of a thread without a key changes nothing
 pub unknown : (i : IndexState) (s : Slab Known) (t : ℕ) → key_of i t ≡ None → (u : ℕ)
     → look_up (state_of i s).entries u ≡ with_known t None (look_up (state_of i s).entries) u
-unknown i s t none = by_thread look (with_known t None look) t (look_known i s t ∙ (ap (record_under s) none ∙ sym (with_here t None look)))
-    (λ u differs. sym (with_other t u None look differs))
-  where
-    look : Look
-    look = look_up (state_of i s).entries
+unknown i s t none =
+    let look = look_up (state_of i s).entries in
+    by_thread look (with_known t None look) t (look_known i s t ∙ (ap (record_under s) none ∙ sym (with_here t None look))) (λ u differs. sym (with_other t u None look differs))
 
 -- what an index and a slab are after a change of one thread: they agree, and of that thread this is known
 pub record Changed (i i' : IndexState) (s s' : Slab Known) (t : ℕ) (o : Option Known) : Type 0 where
@@ -100,17 +87,11 @@ renewed i s t key k agree is =
         apart = agree.apart;
         all = length_kept (known_by i s') (known_by i s) 0 (places i) (λ u. still u (cases_eq u t)) ∙ (agree.all ∙ sym (slab_len_set s key k there));
       };
-      known = look_changed i i s s' t (Some k) changed;
+      known = look_changed i i s s' t (Some k) here other;
     }
   where
     s' : Slab Known
     s' = with_value s key k
-
-    it : Agree i s
-    it = agree
-
-    own : key_of i t ≡ Some key
-    own = is
 
     there : ContainsKey s key
     there = agree.present t key is
@@ -119,23 +100,19 @@ renewed i s t key k agree is =
     written = Updates-with_value s key k there
 
     here : known_by i s' t ≡ Some k
-    here = ap (record_under s') own ∙ written.changed
+    here = ap (record_under s') is ∙ written.changed
 
     other : (u : ℕ) → u ≢ t → known_by i s' u ≡ known_by i s u
-    other u differs = others_kept i s s' key (Some k) written u (λ n e same. differs (it.apart u t key (e ∙ ap (λ (m : ℕ). Some m) same) own))
-
-    changed : (u : ℕ) → known_by i s' u ≡ with_known t (Some k) (known_by i s) u
-    changed = by_thread (known_by i s') (with_known t (Some k) (known_by i s)) t (here ∙ sym (with_here t (Some k) (known_by i s)))
-        (λ u differs. other u differs ∙ sym (with_other t u (Some k) (known_by i s) differs))
+    other u differs = others_kept i s s' key (Some k) written u (λ n e same. differs (agree.apart u t key (e ∙ ap (λ (m : ℕ). Some m) same) is))
 
     still : (u : ℕ) → (u ≡ t) ⊎ (u ≢ t) → is_some (known_by i s' u) ≡ is_some (known_by i s u)
     still u (inl e) =
-        ap (λ n. is_some (known_by i s' n)) e ∙ (ap is_some here ∙ sym (ap (λ n. is_some (known_by i s n)) e ∙ (ap (λ o. is_some (record_under s o)) own ∙ there)))
+        ap (λ n. is_some (known_by i s' n)) e ∙ (ap is_some here ∙ sym (ap (λ n. is_some (known_by i s n)) e ∙ (ap (λ o. is_some (record_under s o)) is ∙ there)))
     still u (inr differs) = ap is_some (other u differs)
 
     present : (u n : ℕ) → key_of i u ≡ Some n → (n ≡ key) ⊎ (n ≢ key) → is_some (get s' n) ≡ true
     present u n e (inl same) = ap (λ m. is_some (get s' m)) same ∙ ap is_some written.changed
-    present u n e (inr differs) = ap is_some (written.others n differs) ∙ it.present u n e
+    present u n e (inr differs) = ap is_some (written.others n differs) ∙ agree.present u n e
 
 -- a record was put under a key that was free, and the thread was given the key
 pub inserted : (i i' : IndexState) (s s' : Slab Known) (t key : ℕ) (k : Known) → Agree i s → t < places i → key_of i t ≡ None
@@ -151,60 +128,41 @@ inserted i i' s s' t key k agree place none free written len now same count =
             ∙ (length_more (known_by i s) (known_by i' s') k 0 (places i) t (omega arith) (omega (arith, place)) was here other
             ∙ (ap suc agree.all ∙ (let e : suc (slab_len s) ≡ slab_len s' = omega (arith, len) in e)));
       };
-      known = look_changed i i' s s' t (Some k) changed;
+      known = look_changed i i' s s' t (Some k) here other;
     }
   where
-    it : Agree i s
-    it = agree
-
-    own : key_of i' t ≡ Some key
-    own = now
-
-    others : (u : ℕ) → u ≢ t → key_of i' u ≡ key_of i u
-    others = same
-
-    is_free : get s key ≡ None
-    is_free = free
-
-    update : Updates s s' key (Some k)
-    update = written
-
     was : known_by i s t ≡ None
     was = ap (record_under s) none
 
     here : known_by i' s' t ≡ Some k
-    here = ap (record_under s') own ∙ update.changed
+    here = ap (record_under s') now ∙ written.changed
 
     -- no thread had the free key
     not_free : (u n : ℕ) → key_of i u ≡ Some n → n ≢ key
-    not_free u n e same = let there : is_some (get s n) ≡ true = it.present u n e in let gone = ap (λ m. is_some (get s m)) same ∙ ap is_some is_free in absurd cc
+    not_free u n e same = let there : is_some (get s n) ≡ true = agree.present u n e in let gone = ap (λ m. is_some (get s m)) same ∙ ap is_some free in absurd cc
 
     other : (u : ℕ) → u ≢ t → known_by i' s' u ≡ known_by i s u
-    other u differs = ap (record_under s') (others u differs) ∙ others_kept i s s' key (Some k) update u (not_free u)
-
-    changed : (u : ℕ) → known_by i' s' u ≡ with_known t (Some k) (known_by i s) u
-    changed = by_thread (known_by i' s') (with_known t (Some k) (known_by i s)) t (here ∙ sym (with_here t (Some k) (known_by i s)))
-        (λ u differs. other u differs ∙ sym (with_other t u (Some k) (known_by i s) differs))
+    other u differs = ap (record_under s') (same u differs) ∙ others_kept i s s' key (Some k) written u (not_free u)
 
     present : (u n : ℕ) → key_of i' u ≡ Some n → (u ≡ t) ⊎ (u ≢ t) → is_some (get s' n) ≡ true
     present u n e (inl this) =
-        let its : n ≡ key = let f : Some n ≡ Some key = sym e ∙ (ap (key_of i') this ∙ own) in cc in
-        ap (λ m. is_some (get s' m)) its ∙ ap is_some update.changed
+        let its : n ≡ key = let f : Some n ≡ Some key = sym e ∙ (ap (key_of i') this ∙ now) in cc in
+        ap (λ m. is_some (get s' m)) its ∙ ap is_some written.changed
     present u n e (inr differs) =
-        let old : key_of i u ≡ Some n = sym (others u differs) ∙ e in
-        ap is_some (update.others n (not_free u n old)) ∙ it.present u n old
+        let old : key_of i u ≡ Some n = sym (same u differs) ∙ e in
+        ap is_some (written.others n (not_free u n old)) ∙ agree.present u n old
 
     -- the new key is that of t alone
     own_alone : (u n : ℕ) → key_of i' u ≡ Some n → key_of i' t ≡ Some n → u ≢ t → u ≡ t
     own_alone u n e f differs =
-        let its : n ≡ key = let g : Some n ≡ Some key = sym f ∙ own in cc in
-        absurd (not_free u n (sym (others u differs) ∙ e) its)
+        let its : n ≡ key = let g : Some n ≡ Some key = sym f ∙ now in cc in
+        absurd (not_free u n (sym (same u differs) ∙ e) its)
 
     apart : (u x n : ℕ) → key_of i' u ≡ Some n → key_of i' x ≡ Some n → (u ≡ t) ⊎ (u ≢ t) → (x ≡ t) ⊎ (x ≢ t) → u ≡ x
     apart u x n e f (inl this) (inl that) = this ∙ sym that
     apart u x n e f (inl this) (inr differs) = this ∙ sym (own_alone x n f (ap (key_of i') (sym this) ∙ e) differs)
     apart u x n e f (inr differs) (inl that) = own_alone u n e (ap (key_of i') (sym that) ∙ f) differs ∙ sym that
-    apart u x n e f (inr differs) (inr apart') = it.apart u x n (sym (others u differs) ∙ e) (sym (others x apart') ∙ f)
+    apart u x n e f (inr differs) (inr apart') = agree.apart u x n (sym (same u differs) ∙ e) (sym (same x apart') ∙ f)
 
 -- a thread's record was taken out, and its key taken away
 pub removed : (i i' : IndexState) (s s' : Slab Known) (t key : ℕ) → Agree i s → key_of i t ≡ Some key
@@ -216,65 +174,43 @@ removed i i' s s' t key agree is written len gone same count =
       agree = record {
         present = λ u n e. present u n e (cases_eq u t);
         apart = λ u x n e f. apart u x n e f (cases_eq u t) (cases_eq x t);
-        all = by_record (get s key) refl (it.present t key own);
+        all = by_record (get s key) refl (agree.present t key is);
       };
-      known = look_changed i i' s s' t None changed;
+      known = look_changed i i' s s' t None here other;
     }
   where
-    it : Agree i s
-    it = agree
-
-    own : key_of i t ≡ Some key
-    own = is
-
-    none : key_of i' t ≡ None
-    none = gone
-
-    others : (u : ℕ) → u ≢ t → key_of i' u ≡ key_of i u
-    others = same
-
-    update : Updates s s' key None
-    update = written
-
-    fewer : slab_len s' + 1 ≡ slab_len s
-    fewer = len
-
     here : known_by i' s' t ≡ None
-    here = ap (record_under s') none
+    here = ap (record_under s') gone
 
     -- no other thread had the key
     not_own : (u n : ℕ) → u ≢ t → key_of i u ≡ Some n → n ≢ key
-    not_own u n differs e f = differs (it.apart u t key (e ∙ ap (λ (m : ℕ). Some m) f) own)
+    not_own u n differs e f = differs (agree.apart u t key (e ∙ ap (λ (m : ℕ). Some m) f) is)
 
     other : (u : ℕ) → u ≢ t → known_by i' s' u ≡ known_by i s u
-    other u differs = ap (record_under s') (others u differs) ∙ others_kept i s s' key None update u (λ n e. not_own u n differs e)
-
-    changed : (u : ℕ) → known_by i' s' u ≡ with_known t None (known_by i s) u
-    changed = by_thread (known_by i' s') (with_known t None (known_by i s)) t (here ∙ sym (with_here t None (known_by i s)))
-        (λ u differs. other u differs ∙ sym (with_other t u None (known_by i s) differs))
+    other u differs = ap (record_under s') (same u differs) ∙ others_kept i s s' key None written u (λ n e. not_own u n differs e)
 
     present : (u n : ℕ) → key_of i' u ≡ Some n → (u ≡ t) ⊎ (u ≢ t) → is_some (get s' n) ≡ true
-    present u n e (inl this) = let f : None ≡ Some n = sym (ap (key_of i') this ∙ none) ∙ e in absurd cc
+    present u n e (inl this) = let f : None ≡ Some n = sym (ap (key_of i') this ∙ gone) ∙ e in absurd cc
     present u n e (inr differs) =
-        let old : key_of i u ≡ Some n = sym (others u differs) ∙ e in
-        ap is_some (update.others n (not_own u n differs old)) ∙ it.present u n old
+        let old : key_of i u ≡ Some n = sym (same u differs) ∙ e in
+        ap is_some (written.others n (not_own u n differs old)) ∙ agree.present u n old
 
     apart : (u x n : ℕ) → key_of i' u ≡ Some n → key_of i' x ≡ Some n → (u ≡ t) ⊎ (u ≢ t) → (x ≡ t) ⊎ (x ≢ t) → u ≡ x
-    apart u x n e f (inl this) _ = let g : None ≡ Some n = sym (ap (key_of i') this ∙ none) ∙ e in absurd cc
-    apart u x n e f _ (inl that) = let g : None ≡ Some n = sym (ap (key_of i') that ∙ none) ∙ f in absurd cc
-    apart u x n e f (inr differs) (inr apart') = it.apart u x n (sym (others u differs) ∙ e) (sym (others x apart') ∙ f)
+    apart u x n e f (inl this) _ = let g : None ≡ Some n = sym (ap (key_of i') this ∙ gone) ∙ e in absurd cc
+    apart u x n e f _ (inl that) = let g : None ≡ Some n = sym (ap (key_of i') that ∙ gone) ∙ f in absurd cc
+    apart u x n e f (inr differs) (inr apart') = agree.apart u x n (sym (same u differs) ∙ e) (sym (same x apart') ∙ f)
 
     by_record : (o : Option Known) → get s key ≡ o → is_some o ≡ true → length (listed (known_by i' s') 0 (places i')) ≡ slab_len s'
     by_record None e some = absurd cc
     by_record (Some k) e some =
         let more : length (listed (known_by i s) 0 (places i)) ≡ suc (length (listed (known_by i' s') 0 (places i))) =
         length_more (known_by i' s') (known_by i s) k 0 (places i) t (omega arith)
-        (omega (arith, key_within i t (ap is_some own))) here (ap (record_under s) own ∙ e) (λ u differs. sym (other u differs))
+        (omega (arith, key_within i t (ap is_some is))) here (ap (record_under s) is ∙ e) (λ u differs. sym (other u differs))
         in
         let counted : length (listed (known_by i' s') 0 (places i')) ≡ length (listed (known_by i' s') 0 (places i)) =
         ap (λ n. length (listed (known_by i' s') 0 n)) count
         in
-        omega (arith, more, counted, it.all, fewer)
+        omega (arith, more, counted, agree.all, len)
 
 -- nothing is listed if no tid has a key
 pub entries_none : (i : IndexState) (s : Slab Known) → ((t : ℕ) → key_of i t ≡ None) → (state_of i s).entries ≡ []

@@ -1,5 +1,5 @@
 -- A key that is given or taken, and words and places that are added.
-use Rattle.std.proofs.Common.{◌≡◌, ◌≢◌, refl, ap, sym, ◌∙◌, ℕ, ◌<◌, ◌≤◌, ◌⊎◌, inl, inr, Bool, true, false, cond, is_some, List, length, get_or, set, arith, None, Some, get_or-set_same, get_or-set_other}
+use Rattle.std.proofs.Common.{◌≡◌, ◌≢◌, refl, ap, sym, ◌∙◌, ℕ, ◌<◌, ◌≤◌, ◌⊎◌, inl, inr, Bool, true, false, cond, is_some, List, length, get_or, set, arith, None, Some, get_or-set_same, get_or-set_other, ⊎_elim}
 use Rattle.std.proofs.lemmas.Bool.{cases_lt}
 use Rattle.gs_sets.specs.Bits.{is_in}
 use Rattle.gs_sets.proofs.Laws.{past_end}
@@ -32,11 +32,7 @@ key_past i t past = ap (λ b. cond b (Some (get_or i.keys t 0)) None) (past_end 
 
 -- so a tid with a key has a place
 pub key_within : (i : IndexState) (t : ℕ) → is_some (key_of i t) ≡ true → t < places i
-key_within i t some = by_place (cases_lt t (places i))
-  where
-    by_place : (t < places i) ⊎ (places i ≤ t) → t < places i
-    by_place (inl lt) = lt
-    by_place (inr past) = let none = ap is_some (key_past i t past) in let there = some in absurd cc
+key_within i t some = ⊎_elim (λ lt. lt) (λ past. let none = ap is_some (key_past i t past) in let there = some in absurd cc) (cases_lt t (places i))
 
 -- a tid has a key if it is in the set, and only then
 pub key_there : (i : IndexState) (t : ℕ) → is_in i.live t ≡ is_some (key_of i t)
@@ -64,12 +60,9 @@ unfolding key_of
 keys_grown i live keys in_set same t =
     ap (λ b. cond b (Some (get_or keys t 0)) None) (in_set t) ∙ by_place (cases_lt t (places i))
   where
-    kept : (k : ℕ) → k < places i → get_or keys k 0 ≡ get_or i.keys k 0
-    kept = same
-
     by_place : (t < places i) ⊎ (places i ≤ t)
         → cond (is_in i.live t) (Some (get_or keys t 0)) None ≡ cond (is_in i.live t) (Some (get_or i.keys t 0)) None
-    by_place (inl lt) = ap (λ k. cond (is_in i.live t) (Some k) None) (kept t lt)
+    by_place (inl lt) = ap (λ k. cond (is_in i.live t) (Some k) None) (same t lt)
     by_place (inr past) =
         let none = past_end i.live t (omega (arith, past)) in
         ap (λ b. cond b (Some (get_or keys t 0)) None) none ∙ sym (ap (λ b. cond b (Some (get_or i.keys t 0)) None) none)

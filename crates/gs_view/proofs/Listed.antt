@@ -22,12 +22,7 @@ at_same : (t : ℕ) → is_at (nat_cmp t) t ≡ true
 at_same t = grind (arith, nat_tests)
 
 at_other : (t u : ℕ) → t ≢ u → is_at (nat_cmp t) u ≡ false
-at_other t u differs = by_place (cases_lt t u) (cases_lt u t)
-  where
-    by_place : (t < u) ⊎ (u ≤ t) → (u < t) ⊎ (t ≤ u) → is_at (nat_cmp t) u ≡ false
-    by_place (inl lt) _ = grind (arith, nat_tests)
-    by_place _ (inl gt) = grind (arith, nat_tests)
-    by_place (inr le) (inr ge) = absurd (differs (omega (arith, le, ge)))
+at_other t u differs = grind (arith, nat_tests)
 
 -- of a tid that is none of its own the list has nothing
 outside_listed : (v : Look) (t n u : ℕ) → ((w : ℕ) → t ≤ w → w < t + n → w ≢ u) → look_up (listed v t n) u ≡ None
@@ -48,12 +43,6 @@ unfolding listed
 within_listed v t zero u le lt = absurd (omega arith)
 within_listed v t (suc n) u le lt = by_place (cases_lt t u) (within_listed v (t + 1) n u)
   where
-    after : t ≤ u
-    after = le
-
-    before : u < t + suc n
-    before = lt
-
     by_known : (o : Option Known) → v t ≡ o → t ≡ u → look_up (listed_one t o (listed v (t + 1) n)) u ≡ v u
     by_known None is e = outside_listed v (t + 1) n u (λ w le' _ e'. omega (arith, e, le', e')) ∙ (sym is ∙ ap v e)
     by_known (Some k) is e = rw (ap (is_at (nat_cmp u)) e ∙ at_same u) (sym is ∙ ap v e)
@@ -64,19 +53,16 @@ within_listed v t (suc n) u le lt = by_place (cases_lt t u) (within_listed v (t 
 
     by_place : (t < u) ⊎ (u ≤ t) → (t + 1 ≤ u → u < t + 1 + n → look_up (listed v (t + 1) n) u ≡ v u)
         → look_up (listed_one t (v t) (listed v (t + 1) n)) u ≡ v u
-    by_place (inl lt') later = passed (v t) lt' ∙ later (omega (arith, lt')) (omega (arith, before))
-    by_place (inr ge) later = by_known (v t) refl (omega (arith, after, ge))
+    by_place (inl lt') later = passed (v t) lt' ∙ later (omega (arith, lt')) (omega (arith, lt))
+    by_place (inr ge) later = by_known (v t) refl (omega (arith, le, ge))
 
 -- the list has of each thread what is known, if nothing is known past its end
 pub look_listed : (v : Look) (n : ℕ) → NoneFrom v n → (t : ℕ) → look_up (listed v 0 n) t ≡ v t
 look_listed v n none t = by_place (cases_lt t n)
   where
-    nothing : NoneFrom v n
-    nothing = none
-
     by_place : (t < n) ⊎ (n ≤ t) → look_up (listed v 0 n) t ≡ v t
     by_place (inl lt) = within_listed v 0 n t (omega arith) (omega (arith, lt))
-    by_place (inr ge) = outside_listed v 0 n t (λ w _ lt e. omega (arith, lt, e, ge)) ∙ sym (nothing t ge)
+    by_place (inr ge) = outside_listed v 0 n t (λ w _ lt e. omega (arith, lt, e, ge)) ∙ sym (none t ge)
 
 -- the same list, if the same is known
 pub same_listed : (v w : Look) (t n : ℕ) → ((u : ℕ) → t ≤ u → v u ≡ w u) → listed v t n ≡ listed w t n

@@ -27,20 +27,14 @@ whole_shown i s =
 pub known_key : (i : IndexState) (s : Slab Known) → Agree i s → (t : ℕ) → is_known (state_of i s) t ≡ has_key i t
 known_key i s agree t = ap is_some (look_known i s t) ∙ by_key (key_of i t) refl
   where
-    it : Agree i s
-    it = agree
-
     by_key : (o : Option ℕ) → key_of i t ≡ o → is_some (record_under s (key_of i t)) ≡ is_some (key_of i t)
     by_key None e = ap (λ (o : Option ℕ). is_some (record_under s o)) e ∙ sym (ap is_some e)
-    by_key (Some key) e = ap (λ (o : Option ℕ). is_some (record_under s o)) e ∙ (it.present t key e ∙ sym (ap is_some e))
+    by_key (Some key) e = ap (λ (o : Option ℕ). is_some (record_under s o)) e ∙ (agree.present t key e ∙ sym (ap is_some e))
 
 -- of a tid that a walk has not reached, or of which nothing is known, it has nothing to show
 nothing_at : (r : RecordsState) (from t : ℕ) → (from ≤ t → is_known r t ≡ false) → known_from from r t ≡ None
 nothing_at r from t none = by_place (cases_lt t from)
   where
-    nothing : from ≤ t → is_known r t ≡ false
-    nothing = none
-
     by_known : (o : Option Known) → is_some o ≡ false → o ≡ None
     by_known None e = refl
     by_known (Some k) e = absurd cc
@@ -51,7 +45,7 @@ nothing_at r from t none = by_place (cases_lt t from)
         ap (λ b. cond b (look_up r.entries t) None) before
     by_place (inr le) =
         let reached : nat_le from t ≡ true = grind (arith, nat_tests) in
-        ap (λ b. cond b (look_up r.entries t) None) reached ∙ by_known (look_up r.entries t) (nothing le)
+        ap (λ b. cond b (look_up r.entries t) None) reached ∙ by_known (look_up r.entries t) (none le)
 
 -- nothing is shown any more if nothing is known from there on
 pub spent_shown : (r : RecordsState) (from : ℕ) → IsNone (is_known r) from → shown_from from r ≡ []
@@ -67,9 +61,6 @@ first_shown r from t k first within known =
     (nothing_at r (t + 1) t (λ le. absurd (omega (arith, le))))
     (λ u differs. by_place u differs (cases_lt u t))
   where
-    it : IsFirst (is_known r) from t
-    it = first
-
     there : (from u : ℕ) → from ≤ u → known_from from r u ≡ look_up r.entries u
     there from u le =
         let reached : nat_le from u ≡ true = grind (arith, nat_tests) in
@@ -77,5 +68,5 @@ first_shown r from t k first within known =
 
     by_place : (u : ℕ) → u ≢ t → (u < t) ⊎ (t ≤ u) → known_from (t + 1) r u ≡ known_from from r u
     by_place u differs (inl lt) =
-        nothing_at r (t + 1) u (λ le. absurd (omega (arith, le, lt))) ∙ sym (nothing_at r from u (λ le. it.none_before u le lt))
-    by_place u differs (inr ge) = there (t + 1) u (omega (arith, ge, differs)) ∙ sym (there from u (omega (arith, ge, it.after)))
+        nothing_at r (t + 1) u (λ le. absurd (omega (arith, le, lt))) ∙ sym (nothing_at r from u (λ le. first.none_before u le lt))
+    by_place u differs (inr ge) = there (t + 1) u (omega (arith, ge, differs)) ∙ sym (there from u (omega (arith, ge, first.after)))

@@ -26,26 +26,11 @@ unfolding listed
 length_more v w k t zero u le lt none some same = absurd (omega arith)
 length_more v w k t (suc n) u le lt none some same = by_place (cases_lt t u) (λ le' lt'. length_more v w k (t + 1) n u le' lt' none some same)
   where
-    nothing : v u ≡ None
-    nothing = none
-
-    known : w u ≡ Some k
-    known = some
-
-    others : (x : ℕ) → x ≢ u → w x ≡ v x
-    others = same
-
-    after : t ≤ u
-    after = le
-
-    within : u < t + suc n
-    within = lt
-
     here : t ≡ u → length (listed_one t (w t) (listed w (t + 1) n)) ≡ suc (length (listed_one t (v t) (listed v (t + 1) n)))
     here e =
-        let there : w t ≡ Some k = ap w e ∙ known in
-        let was : v t ≡ None = ap v e ∙ nothing in
-        let rest : listed w (t + 1) n ≡ listed v (t + 1) n = same_listed w v (t + 1) n (λ x ge. others x (λ f. omega (arith, e, f, ge))) in
+        let there : w t ≡ Some k = ap w e ∙ some in
+        let was : v t ≡ None = ap v e ∙ none in
+        let rest : listed w (t + 1) n ≡ listed v (t + 1) n = same_listed w v (t + 1) n (λ x ge. same x (λ f. omega (arith, e, f, ge))) in
         rw (there, was) (ap (λ es. suc (length es)) rest)
 
     by_known : (o : Option Known) → length (listed w (t + 1) n) ≡ suc (length (listed v (t + 1) n))
@@ -56,9 +41,9 @@ length_more v w k t (suc n) u le lt none some same = by_place (cases_lt t u) (λ
     by_place : (t < u) ⊎ (u ≤ t) → (t + 1 ≤ u → u < t + 1 + n → length (listed w (t + 1) n) ≡ suc (length (listed v (t + 1) n)))
         → length (listed_one t (w t) (listed w (t + 1) n)) ≡ suc (length (listed_one t (v t) (listed v (t + 1) n)))
     by_place (inl lt') later =
-        ap (λ (o : Option Known). length (listed_one t o (listed w (t + 1) n))) (others t (λ e. omega (arith, e, lt')))
-        ∙ by_known (v t) (later (omega (arith, lt')) (omega (arith, within)))
-    by_place (inr ge) later = here (omega (arith, after, ge))
+        ap (λ (o : Option Known). length (listed_one t o (listed w (t + 1) n))) (same t (λ e. omega (arith, e, lt')))
+        ∙ by_known (v t) (later (omega (arith, lt')) (omega (arith, lt)))
+    by_place (inr ge) later = here (omega (arith, le, ge))
 
 -- the first thread of which something is known stands first, and then the others
 pub first_listed : (v w : Look) (k : Known) (t n u : ℕ) → t ≤ u → u < t + n → v u ≡ Some k → ((x : ℕ) → x < u → v x ≡ None)
@@ -67,35 +52,17 @@ unfolding listed
 first_listed v w k t zero u le lt some first none same = absurd (omega arith)
 first_listed v w k t (suc n) u le lt some first none same = by_place (cases_lt t u) (λ le' lt'. first_listed v w k (t + 1) n u le' lt' some first none same)
   where
-    known : v u ≡ Some k
-    known = some
-
-    nothing_before : (x : ℕ) → x < u → v x ≡ None
-    nothing_before = first
-
-    gone : w u ≡ None
-    gone = none
-
-    others : (x : ℕ) → x ≢ u → w x ≡ v x
-    others = same
-
-    after : t ≤ u
-    after = le
-
-    within : u < t + suc n
-    within = lt
-
     here : t ≡ u → listed_one t (v t) (listed v (t + 1) n) ≡ (u, k) ∷ listed_one t (w t) (listed w (t + 1) n)
     here e =
-        let there : v t ≡ Some k = ap v e ∙ known in
-        let is : w t ≡ None = ap w e ∙ gone in
-        let rest : listed v (t + 1) n ≡ listed w (t + 1) n = same_listed v w (t + 1) n (λ x ge. sym (others x (λ f. omega (arith, e, f, ge)))) in
+        let there : v t ≡ Some k = ap v e ∙ some in
+        let is : w t ≡ None = ap w e ∙ none in
+        let rest : listed v (t + 1) n ≡ listed w (t + 1) n = same_listed v w (t + 1) n (λ x ge. sym (same x (λ f. omega (arith, e, f, ge)))) in
         rw (there, is) (ap (λ x. (x, k) ∷ listed v (t + 1) n) e ∙ ap (λ es. (u, k) ∷ es) rest)
 
     by_place : (t < u) ⊎ (u ≤ t) → (t + 1 ≤ u → u < t + 1 + n → listed v (t + 1) n ≡ (u, k) ∷ listed w (t + 1) n)
         → listed_one t (v t) (listed v (t + 1) n) ≡ (u, k) ∷ listed_one t (w t) (listed w (t + 1) n)
     by_place (inl lt') later =
-        let was : v t ≡ None = nothing_before t lt' in
-        let is : w t ≡ None = others t (λ e. omega (arith, e, lt')) ∙ was in
-        rw (was, is) (later (omega (arith, lt')) (omega (arith, within)))
-    by_place (inr ge) later = here (omega (arith, after, ge))
+        let was : v t ≡ None = first t lt' in
+        let is : w t ≡ None = same t (λ e. omega (arith, e, lt')) ∙ was in
+        rw (was, is) (later (omega (arith, lt')) (omega (arith, lt)))
+    by_place (inr ge) later = here (omega (arith, le, ge))

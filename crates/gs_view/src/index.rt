@@ -48,6 +48,7 @@ fn lengthen(keys: &mut Vec<usize>, len: usize) -> Result<(), AllocError>
 
 impl KeyIndex {
     /// Makes an index in which no tid has a key or a place. It does not allocate.
+    #[tactic(auto, using(crate::proofs::Indexed::key_past))]
     pub(crate) fn new(alloc: Global) -> KeyIndex
         ensures none { (t : ℕ) → key_of result t ≡ None }
         ensures places { places result ≡ 0 }

@@ -36,6 +36,7 @@ impl Model for Records {
 
 impl Records {
     /// Makes the records of which nothing is known. It does not allocate.
+    #[tactic(auto, using(crate::proofs::Agreed::agree_none, crate::proofs::Agreed::entries_none))]
     pub(crate) fn new(alloc: Global) -> Records
         ensures { result.entries ≡ [] }
     {
@@ -72,6 +73,7 @@ impl Records {
     }
 
     /// Returns the first tid, not below `from`, of a thread of which something is known.
+    #[tactic(auto, using(gs_sets::proofs::Laws::first_alike, crate::proofs::Showing::known_key))]
     pub(crate) fn next_from(&self, from: usize) -> Option<usize>
         ensures first { MatchOption result (IsNone (is_known self.now) from) (IsFirst (is_known self.now) from) }
         ensures within { IfSome result (λ t. (t < self.now.tids) × (t < 2 ^ 32)) }
@@ -84,6 +86,7 @@ impl Records {
     /// # Errors
     ///
     /// `AllocError` if out of memory. Either way the records stay as they are.
+    #[tactic(auto, using(crate::proofs::Agreed::agree_grown, crate::proofs::Agreed::entries_grown))]
     pub(crate) fn reserve(&mut self, tid: u32, records: usize) -> Result<(), AllocError>
         ensures place { OnOk result (tid < self.new.tids) }
         ensures room { OnOk result (records ≤ self.new.room) }

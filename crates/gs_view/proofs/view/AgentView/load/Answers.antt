@@ -1,4 +1,4 @@
-use Rattle.std.proofs.Common.{◌≡◌, ◌+◌, ◌++◌, ◌∷◌, ap, sym, ◌∙◌, ℕ, List, [], Some, arith, length, refl, take, get_or}
+use Rattle.std.proofs.Common.{◌≡◌, ◌+◌, ◌++◌, ◌∷◌, ap, sym, ◌∙◌, ℕ, List, [], arith, length, refl, take, get_or}
 use Rattle.std.proofs.lemmas.List.{take_all, take_more}
 use Rattle.std.proofs.lemmas.Option.{slice_get_read}
 use Rattle.gs_layout.specs.declared.known.Known.{Known}
@@ -6,7 +6,6 @@ use Rattle.gs_layout.specs.View.{Look, look_up}
 use Rattle.gs_dump.specs.declared.record.DumpRecord.{DumpRecord}
 use Rattle.gs_dump.specs.Page.{Contents}
 use Rattle.gs_view.specs.Loaded.{HasRoomFor, loaded}
-use Rattle.gs_view.specs.Records.{with_known}
 use Rattle.gs_view.proofs.Loading.{loaded_more}
 use Rattle.gs_view.proofs.view.AgentView.load.Goals as goal
 
