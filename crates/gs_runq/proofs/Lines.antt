@@ -2,7 +2,7 @@
 use Rattle.std.proofs.Common.{◌≡◌, ◌≢◌, refl, ap, sym, ◌∙◌, subst, ℕ, zero, suc, ◌+◌, ◌-◌, ◌<◌, ◌≤◌, ◌⊎◌, inl, inr, Bool, true, false, not, ◌==◌, ◌||◌, List, [], ◌∷◌, ◌++◌, length, arith, set, get_or, get_or-set_other, get_or-set_same, length-set}
 use Rattle.std.specs.Prelude.{slice_index}
 use Rattle.std.proofs.lemmas.Grind.{common_steps}
-use Rattle.std.proofs.lemmas.Bool.{cases_lt, eqb-false, eqb-true}
+use Rattle.std.proofs.lemmas.Bool.{cases_lt, eqb-false, eqb-true, true_from_ne_false}
 use Rattle.std.proofs.lemmas.List.Elements.{All-nil, All-cons}
 use Rattle.std.specs.List.{All}
 use Rattle.gs_runq.specs.Line.{LineState}
@@ -100,29 +100,19 @@ line_longer ns ps ns' ps' k t i longer longer' most =
     )
 
 there_if : (ns ps : List ℕ) (k t : ℕ) → IsLine ns ps k → 0 < t → t < length ns → get_or ns t 0 ≢ t → is_in t (threads_of ns k) ≡ true
-there_if ns ps k t i pos lt moved = by_test (is_in t (threads_of ns k)) refl
-  where
-    by_test : (b : Bool) → is_in t (threads_of ns k) ≡ b → is_in t (threads_of ns k) ≡ true
-    by_test true e = e
-    by_test false e = absurd (moved (i.absent t pos lt (out_from t (threads_of ns k) e)))
+there_if ns ps k t i pos lt moved = true_from_ne_false (is_in t (threads_of ns k)) (λ e. moved (i.absent t pos lt (out_from t (threads_of ns k) e)))
 
 -- whether a thread is there
 pub line_has : (ns ps : List ℕ) (k t : ℕ) → IsLine ns ps k → 0 < t → t < length ns → (get_or ns t 0 ≡ t → is_in t (threads_of ns k) ≡ false) × (get_or ns t 0 ≢ t → is_in t (threads_of ns k) ≡ true)
 line_has ns ps k t i pos lt = (λ e. by_test (is_in t (threads_of ns k)) refl e, there_if ns ps k t i pos lt)
   where
-    inv : IsLine ns ps k
-    inv = i
-
-    positive : 0 < t
-    positive = pos
-
     by_test : (b : Bool) → is_in t (threads_of ns k) ≡ b → get_or ns t 0 ≡ t → is_in t (threads_of ns k) ≡ false
     by_test false e same = e
     by_test true e same =
         let s = split_at t (threads_of ns k) e in
-        let l : Linked (slice_index ns) (slice_index ps) 0 (s.0 ++ t ∷ s.1) 0 = subst (λ (ys : List ℕ). Linked (slice_index ns) (slice_index ps) 0 ys 0) s.2 inv.linked in
-        let a : Apart (s.0 ++ t ∷ s.1) = subst Apart s.2 inv.apart in
-        absurd (after_not (slice_index ns) (slice_index ps) t 0 t 0 s.0 s.1 l (apart_after t s.0 s.1 a) (λ z. absurd (omega (arith, z, positive))) same)
+        let l : Linked (slice_index ns) (slice_index ps) 0 (s.0 ++ t ∷ s.1) 0 = subst (λ (ys : List ℕ). Linked (slice_index ns) (slice_index ps) 0 ys 0) s.2 i.linked in
+        let a : Apart (s.0 ++ t ∷ s.1) = subst Apart s.2 i.apart in
+        absurd (after_not (slice_index ns) (slice_index ps) t 0 t 0 s.0 s.1 l (apart_after t s.0 s.1 a) (λ z. absurd (omega (arith, z, pos))) same)
 
 pub nobody_past : (ns ps : List ℕ) (k t : ℕ) → IsLine ns ps k → length ns ≤ t → IsOut t (threads_of ns k)
 nobody_past ns ps k t i h = past (length ns) t (threads_of ns k) h i.within

@@ -1,5 +1,6 @@
 -- Who is in the queue after a change, and that nobody stands in it twice.
 use Rattle.std.proofs.Common.{◌≡◌, ◌≢◌, refl, ap, sym, ◌∙◌, subst, ℕ, ◌||◌, ◌&&◌, not, ◌==◌, Bool, true, false, cond, List, [], ◌∷◌, ◌++◌, arith, append_assoc}
+use Rattle.std.proofs.lemmas.Bool.{or_parts}
 use Rattle.std.proofs.Math.Bool.{and-false, and-or_distrib_right, or-false, or_assoc, or_comm}
 use Rattle.std.proofs.lemmas.Bool.Decides.{nat_tests}
 use Rattle.gs_layout.specs.declared.facts.Class.{Class}
@@ -18,18 +19,10 @@ in_append t (x ∷ xs) ys = by_test (x == t) (in_append t xs ys)
 
 -- who is among neither
 pub not_left : (t : ℕ) (xs ys : List ℕ) → is_in t (xs ++ ys) ≡ false → is_in t xs ≡ false
-not_left t xs ys h = by_test (is_in t xs) (is_in t ys) (sym (in_append t xs ys) ∙ h)
-  where
-    by_test : (a b : Bool) → (a || b) ≡ false → a ≡ false
-    by_test true b e = e
-    by_test false b e = refl
+not_left t xs ys h = (or_parts (is_in t xs) (is_in t ys) (sym (in_append t xs ys) ∙ h)).0
 
 pub not_right : (t : ℕ) (xs ys : List ℕ) → is_in t (xs ++ ys) ≡ false → is_in t ys ≡ false
-not_right t xs ys h = by_test (is_in t xs) (is_in t ys) (sym (in_append t xs ys) ∙ h)
-  where
-    by_test : (a b : Bool) → (a || b) ≡ false → b ≡ false
-    by_test true b e = absurd cc
-    by_test false b e = e
+not_right t xs ys h = (or_parts (is_in t xs) (is_in t ys) (sym (in_append t xs ys) ∙ h)).1
 
 -- nobody stands twice once a thread that was not there is put between these and those, or is taken out
 apart_middle : (t : ℕ) (xs ys : List ℕ) → Apart (xs ++ ys) → IsOut t (xs ++ ys) → Apart (xs ++ (t ∷ ys))
