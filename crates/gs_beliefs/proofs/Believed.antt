@@ -19,7 +19,7 @@ use Rattle.gs_beliefs.specs.Belief.{hears, heard_at, shows_place, after_outcome}
 abbrev none : (X : Type 0) → Option X
 none X = None
 
-nothing_on : {X : Type 0} (n c : ℕ) → (c < n) ⊎ (n ≤ c) → get_or (replicate n (none X)) c None ≡ None
+pub nothing_on : {X : Type 0} (n c : ℕ) → (c < n) ⊎ (n ≤ c) → get_or (replicate n (none X)) c None ≡ None
 nothing_on {X} n c (inl lt) = get_or-replicate n c (none X) None lt
 nothing_on {X} n c (inr le) =
     let past : length (replicate n (none X)) ≤ c = omega (arith, length-replicate n (none X)) in get_or_past (replicate n (none X)) c None past

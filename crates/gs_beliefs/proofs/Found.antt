@@ -1,11 +1,12 @@
 -- Beliefs and the threads that they are of.
 use Rattle.std.proofs.Common.{Bool, true, false, cond, ◌≡◌, ◌≢◌, ℕ, ◌<◌, ◌≤◌, ◌⊎◌, inl, inr, ◌||◌, Option, None, Some, List, [], ◌∷◌, length, map, set, get_or, replicate, zero, suc, ap, sym, subst, ◌∙◌, refl}
+use Rattle.gs_beliefs.proofs.Believed.{nothing_on}
 use Rattle.std.specs.Prelude.{◌==◌}
 use Rattle.std.specs.List.{list_any}
 use Rattle.std.proofs.Math.ListN as listn
 use Rattle.std.proofs.Math.Seq.{map-set_same}
-use Rattle.std.proofs.lemmas.Bool.{cases_lt, cases_eq, cases_Bool, cond-true, cond-false, eqb-true, eqb-false}
-use Rattle.std.proofs.lemmas.List.{length-set, length-map, length-replicate, get_or-replicate, get_or-set_same, get_or-set_other, get_or_past, map-set, ext_get_or}
+use Rattle.std.proofs.lemmas.Bool.{cases_lt, cases_eq, cases_Bool, cond-true, cond-false, eqb-true, eqb-false, false_from_ne_true}
+use Rattle.std.proofs.lemmas.List.{length-set, length-map, length-replicate, get_or-set_same, get_or-set_other, get_or_past, map-set, ext_get_or}
 use Rattle.gs_beliefs.specs.declared.running.Running.{Running}
 use Rattle.gs_beliefs.specs.ByThread.{StandApart, stands}
 use Rattle.gs_beliefs.specs.Cpus.{Cpus, cleared_at, clears, is_just, raised_at, raises, runs, running, ticked}
@@ -68,20 +69,8 @@ just_some t (Some k) e = ap (λ (n : ℕ). Some n) (eqb-true k t e)
 
 -- a thread is believed to run on one CPU
 only_one : (xs : List (Option Running)) (ts ss : List (Option ℕ)) (t c : ℕ) → IsCpus xs ts ss → is_just t (stands ts c) ≡ true → (d : ℕ) → d ≢ c → runs t (get_or xs d None) ≡ false
-only_one xs ts ss t c is here d other = at (runs t (get_or xs d None)) refl
-  where
-    is' : IsCpus xs ts ss
-    is' = is
-
-    here' : stands ts c ≡ Some t
-    here' = just_some t (stands ts c) here
-
-    other' : d ≢ c
-    other' = other
-
-    at : (b : Bool) → runs t (get_or xs d None) ≡ b → runs t (get_or xs d None) ≡ false
-    at true e = absurd (other' (is'.apart d c t (just_some t (stands ts d) (runs_at xs ts ss t d is' ∙ e)) here'))
-    at false e = e
+only_one xs ts ss t c is here d other = false_from_ne_true (runs t (get_or xs d None)) (λ e.
+    other (is.apart d c t (just_some t (stands ts d) (runs_at xs ts ss t d is ∙ e)) (just_some t (stands ts c) here)))
 
 -- a list that a function changes at one place alone, or nowhere
 changed_one : (f : Option Running → Option Running) → f None ≡ None → (xs : List (Option Running)) (c : ℕ) (y : Option Running) → f (get_or xs c None) ≡ y
@@ -92,18 +81,12 @@ changed_one f none xs c y here others =
     mapped : (d : ℕ) → get_or (map f xs) d None ≡ f (get_or xs d None)
     mapped d = ap (get_or (map f xs) d) (sym none) ∙ listn.get_or-map f xs d None
 
-    here' : f (get_or xs c None) ≡ y
-    here' = here
-
-    others' : (d : ℕ) → d ≢ c → f (get_or xs d None) ≡ get_or xs d None
-    others' = others
-
     at : (d : ℕ) → d < length (set xs c y) → (d ≡ c) ⊎ (d ≢ c) → get_or (set xs c y) d None ≡ get_or (map f xs) d None
     at d lt (inl e) =
         let inside : c < length xs = subst (λ k. k < length xs) e (subst (λ n. d < n) (length-set xs c y) lt) in
         subst (λ k. get_or (set xs c y) k None ≡ get_or (map f xs) k None) (sym e)
-        (get_or-set_same xs c y None inside ∙ (sym here' ∙ sym (mapped c)))
-    at d lt (inr other) = get_or-set_other xs c d y None other ∙ (sym (others' d other) ∙ sym (mapped d))
+        (get_or-set_same xs c y None inside ∙ (sym here ∙ sym (mapped c)))
+    at d lt (inr other) = get_or-set_other xs c d y None other ∙ (sym (others d other) ∙ sym (mapped d))
 
 changed_nowhere : (f : Option Running → Option Running) → f None ≡ None → (xs : List (Option Running)) → ((d : ℕ) → f (get_or xs d None) ≡ get_or xs d None) → xs ≡ map f xs
 changed_nowhere f none xs same =
@@ -150,9 +133,6 @@ raises_nobody xs ts ss a t n is none =
     ap (λ (ys : List (Option Running)). cpus_of ys ss a)
     (changed_nowhere (raised_at t n) refl xs (λ d. raised_other t n (get_or xs d None) (sym (runs_at xs ts ss t d is) ∙ none d)))
 
-some_none : (n : ℕ) → Some n ≡ None → ⊥
-some_none n e = cc
-
 -- threads stay apart if whoever comes to a CPU stands on no other
 apart_set : (ts : List (Option ℕ)) (c : ℕ) (o : Option ℕ) → StandApart ts → ((d t : ℕ) → d ≢ c → o ≡ Some t → stands ts d ≡ Some t → ⊥) → StandApart (set ts c o)
 apart_set ts c o apart alone d e t one two = at (cases_eq d c) (cases_eq e c)
@@ -160,28 +140,16 @@ apart_set ts c o apart alone d e t one two = at (cases_eq d c) (cases_eq e c)
     there : (k : ℕ) → k ≡ c → stands (set ts c o) k ≡ Some t → (c < length ts) ⊎ (length ts ≤ c) → o ≡ Some t
     there k is found (inl lt) = sym (get_or-set_same ts c o None lt) ∙ subst (λ i. stands (set ts c o) i ≡ Some t) is found
     there k is found (inr past) =
-        absurd (some_none t (sym (subst (λ i. stands (set ts c o) i ≡ Some t) is found) ∙ get_or_past (set ts c o) c None (subst (λ n. n ≤ c) (sym (length-set ts c o)) past)))
+        absurd (let none : Some t ≡ None = sym (subst (λ i. stands (set ts c o) i ≡ Some t) is found) ∙ get_or_past (set ts c o) c None (subst (λ n. n ≤ c) (sym (length-set ts c o)) past) in cc)
 
     elsewhere : (k : ℕ) → k ≢ c → stands (set ts c o) k ≡ Some t → stands ts k ≡ Some t
     elsewhere k other found = sym (get_or-set_other ts c k o None other) ∙ found
 
-    apart' : StandApart ts
-    apart' = apart
-
-    alone' : (k u : ℕ) → k ≢ c → o ≡ Some u → stands ts k ≡ Some u → ⊥
-    alone' = alone
-
-    one' : stands (set ts c o) d ≡ Some t
-    one' = one
-
-    two' : stands (set ts c o) e ≡ Some t
-    two' = two
-
     at : (d ≡ c) ⊎ (d ≢ c) → (e ≡ c) ⊎ (e ≢ c) → d ≡ e
     at (inl p) (inl q) = p ∙ sym q
-    at (inl p) (inr q) = absurd (alone' e t q (there d p one' (cases_lt c (length ts))) (elsewhere e q two'))
-    at (inr p) (inl q) = absurd (alone' d t p (there e q two' (cases_lt c (length ts))) (elsewhere d p one'))
-    at (inr p) (inr q) = apart' d e t (elsewhere d p one') (elsewhere e q two')
+    at (inl p) (inr q) = absurd (alone e t q (there d p one (cases_lt c (length ts))) (elsewhere e q two))
+    at (inr p) (inl q) = absurd (alone d t p (there e q two (cases_lt c (length ts))) (elsewhere d p one))
+    at (inr p) (inr q) = apart d e t (elsewhere d p one) (elsewhere e q two)
 
 -- a belief of another thread, or of none, in the place of one
 cpus_set : (xs : List (Option Running)) (ts ss us : List (Option ℕ)) (c : ℕ) (o : Option Running) → IsCpus xs ts ss → us ≡ set ts c (thread_of o)
@@ -202,34 +170,20 @@ not_cleared : (t : ℕ) (o : Option Running) → thread_of (cleared_at t o) ≡ 
 not_cleared t None e = cc
 not_cleared t (Some r) e = at (cases_Bool (r.tid == t))
   where
-    e' : thread_of (cond (r.tid == t) None (Some r)) ≡ Some t
-    e' = e
-
     at : ((r.tid == t) ≡ true) ⊎ ((r.tid == t) ≡ false) → ⊥
-    at (inl same) = let none : None ≡ Some t = ap thread_of (sym (cond-true (r.tid == t) None (Some r) same)) ∙ e' in cc
-    at (inr differs) = let some : Some r.tid ≡ Some t = ap thread_of (sym (cond-false (r.tid == t) None (Some r) differs)) ∙ e' in eqb-false r.tid t differs cc
+    at (inl same) = let none : None ≡ Some t = ap thread_of (sym (cond-true (r.tid == t) None (Some r) same)) ∙ e in cc
+    at (inr differs) = let some : Some r.tid ≡ Some t = ap thread_of (sym (cond-false (r.tid == t) None (Some r) differs)) ∙ e in eqb-false r.tid t differs cc
 
 pub cpus_placed : (xs ys : List (Option Running)) (ts ss us : List (Option ℕ)) (c t n : ℕ) → IsCpus xs ts ss → xs ≡ map (cleared_at t) ys → us ≡ set ts c (Some t) → IsCpus (set xs c (Some (running t n))) us ss
 cpus_placed xs ys ts ss us c t n is cleared e = cpus_set xs ts ss us c (Some (running t n)) is e alone
   where
-    is' : IsCpus xs ts ss
-    is' = is
-
-    cleared' : xs ≡ map (cleared_at t) ys
-    cleared' = cleared
-
     there : (d : ℕ) → stands ts d ≡ thread_of (cleared_at t (get_or ys d None))
     there d =
-        ap (λ (vs : List (Option ℕ)). stands vs d) is'.found
-        ∙ (stands_of xs d ∙ ap thread_of (ap (λ (zs : List (Option Running)). get_or zs d None) cleared' ∙ listn.get_or-map (cleared_at t) ys d None))
+        ap (λ (vs : List (Option ℕ)). stands vs d) is.found
+        ∙ (stands_of xs d ∙ ap thread_of (ap (λ (zs : List (Option Running)). get_or zs d None) cleared ∙ listn.get_or-map (cleared_at t) ys d None))
 
     alone : (d u : ℕ) → d ≢ c → Some t ≡ Some u → stands ts d ≡ Some u → ⊥
     alone d u other same found = not_cleared t (get_or ys d None) (sym (there d) ∙ (found ∙ sym same))
-
--- nothing is believed yet
-nobody_stands : (n c : ℕ) → (c < n) ⊎ (n ≤ c) → stands (replicate n None) c ≡ None
-nobody_stands n c (inl lt) = get_or-replicate n c None None lt
-nobody_stands n c (inr le) = get_or_past (replicate n None) c None (subst (λ k. k ≤ c) (sym (length-replicate n None)) le)
 
 found_none : (n : ℕ) → replicate n None ≡ map thread_of (replicate n None)
 found_none zero = refl
@@ -247,9 +201,6 @@ cpus_unknown n xs ts ss most x t s =
     count : length xs ≡ n
     count = ap length x ∙ length-replicate n None
 
-    t' : ts ≡ replicate n None
-    t' = t
-
     nowhere : {A : Type 0} (c u : ℕ) → stands ts c ≡ Some u → A
     nowhere c u found =
-        let none : None ≡ Some u = sym (ap (λ (vs : List (Option ℕ)). stands vs c) t' ∙ nobody_stands n c (cases_lt c n)) ∙ found in absurd cc
+        let none : None ≡ Some u = sym (ap (λ (vs : List (Option ℕ)). stands vs c) t ∙ nothing_on n c (cases_lt c n)) ∙ found in absurd cc

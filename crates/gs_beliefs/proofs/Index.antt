@@ -1,8 +1,10 @@
 -- How the CPUs of a thread are found.
 use Rattle.std.proofs.Common.{Bool, true, false, not, ◌≡◌, ◌≢◌, ℕ, ◌%◌, ◌<◌, ◌≤◌, ◌⊎◌, inl, inr, ◌&&◌, ◌||◌, Option, None, Some, List, length, set, get_or, replicate, ap, sym, subst, ◌∙◌, refl, arith}
+use Rattle.std.proofs.Math.Bool.{and-true}
+use Rattle.gs_beliefs.proofs.Believed.{nothing_on}
 use Rattle.std.specs.Prelude.{nat_lt, ◌==◌, is_none}
 use Rattle.std.specs.List.{list_any}
-use Rattle.std.proofs.lemmas.Bool.{cases_lt, cases_eq, cases_Bool, eqb-true, eq-eqb, both_ways}
+use Rattle.std.proofs.lemmas.Bool.{cases_lt, cases_eq, eqb-true, eq-eqb, both_ways, false_from_ne_true}
 use Rattle.std.proofs.lemmas.Bool.Decides.{nat_tests}
 use Rattle.std.proofs.lemmas.List.{length-set, length-replicate, get_or-replicate, get_or-set_same, get_or-set_other, get_or_past}
 use Rattle.std.proofs.lemmas.List.Elements.{All-from_get_or}
@@ -15,14 +17,7 @@ use Rattle.gs_beliefs.specs.Cpus.{is_just}
 -- who is not in a thread's bucket is another thread
 pub not_in_bucket : (t : ℕ) (o : Option ℕ) → is_in_bucket (t % 256) o ≡ false → is_just t o ≡ false
 not_in_bucket t None e = refl
-not_in_bucket t (Some k) e = at (cases_Bool (k == t))
-  where
-    apart : (k % 256 == t % 256) ≡ false
-    apart = e
-
-    at : ((k == t) ≡ true) ⊎ ((k == t) ≡ false) → (k == t) ≡ false
-    at (inl same) = absurd (both_ways (k % 256 == t % 256) apart (eq-eqb (k % 256) (t % 256) (ap (λ (x : ℕ). x % 256) (eqb-true k t same))))
-    at (inr other) = other
+not_in_bucket t (Some k) e = false_from_ne_true (k == t) (λ same. both_ways (k % 256 == t % 256) e (eq-eqb (k % 256) (t % 256) (ap (λ (x : ℕ). x % 256) (eqb-true k t same))))
 
 pub stands_within : (xs : List (Option ℕ)) (t c : ℕ) → is_just t (stands xs c) ≡ true → (c < length xs) ⊎ (length xs ≤ c) → c < length xs
 stands_within xs t c e (inl lt) = lt
@@ -38,10 +33,6 @@ stands_nowhere xs t none = list_any_none (is_just t) xs (All-from_get_or (λ o. 
 abbrev none : (X : Type 0) → Option X
 none X = None
 
-nobody : (n c : ℕ) → (c < n) ⊎ (n ≤ c) → stands (replicate n (none ℕ)) c ≡ None
-nobody n c (inl lt) = get_or-replicate n c (none ℕ) None lt
-nobody n c (inr le) = get_or_past (replicate n (none ℕ)) c None (subst (λ k. k ≤ c) (sym (length-replicate n (none ℕ))) le)
-
 abbrev IsZero : ℕ → Type 0
 IsZero n = n ≡ 0
 
@@ -52,10 +43,6 @@ empty : (n i : ℕ) → (i < n) ⊎ (n ≤ i) → IsZero (get_or (zeros n) i 0)
 empty n i (inl lt) = get_or-replicate n i 0 0 lt
 empty n i (inr le) = get_or_past (zeros n) i 0 (subst (λ k. k ≤ i) (sym (length-replicate n 0)) le)
 
-and_alone : (a : Bool) → a ≡ (a && true)
-and_alone true = refl
-and_alone false = refl
-
 -- nobody stands on any of so many CPUs
 pub indexed_none : (n : ℕ) (xs : List (Option ℕ)) (buckets : List ℕ) (vacant : ℕ) → n ≤ 128 → xs ≡ replicate n None → buckets ≡ zeros 256 → ((c : ℕ) → has vacant c ≡ nat_lt c n) → IsIndexed xs buckets vacant
 indexed_none n xs buckets vacant most begun is below =
@@ -65,11 +52,11 @@ indexed_none n xs buckets vacant most begun is below =
       in_buckets = λ bucket c.
           ap (λ (ms : List ℕ). has (get_or ms bucket 0) c) is
           ∙ (ap (λ (m : ℕ). has m c) (empty 256 bucket (cases_lt bucket 256))
-          ∙ (has_nobody c ∙ sym (ap (is_in_bucket bucket) (nobody n c (cases_lt c n)))));
+          ∙ (has_nobody c ∙ sym (ap (is_in_bucket bucket) (nothing_on n c (cases_lt c n)))));
       on_vacant = λ c.
           below c
-          ∙ (and_alone (nat_lt c n)
-          ∙ sym (ap (λ (k : ℕ). nat_lt c k && is_none (stands (replicate n (none ℕ)) c)) count ∙ ap (λ (o : Option ℕ). nat_lt c n && is_none o) (nobody n c (cases_lt c n))));
+          ∙ (sym (and-true (nat_lt c n))
+          ∙ sym (ap (λ (k : ℕ). nat_lt c k && is_none (stands (replicate n (none ℕ)) c)) count ∙ ap (λ (o : Option ℕ). nat_lt c n && is_none o) (nothing_on n c (cases_lt c n))));
     })
   where
     count : length (replicate n (none ℕ)) ≡ n
@@ -95,41 +82,38 @@ pub indexed_set : (xs : List (Option ℕ)) (buckets left entered : List ℕ) (va
     → IsIndexed (set xs c o) entered vacant'
 indexed_set xs buckets left entered vacant vacant' c o m =
     record {
-      most = subst (λ k. k ≤ 128) (sym count) moved.indexed.most;
-      count = moved.count;
+      most = subst (λ k. k ≤ 128) (sym count) m.indexed.most;
+      count = m.count;
       in_buckets = λ bucket d. in_bucket bucket d (cases_eq d c);
       on_vacant = λ d. on_vacant d (cases_eq d c);
     }
   where
-    moved : IsMoved xs buckets left entered vacant vacant' c o
-    moved = m
-
     count : length (set xs c o) ≡ length xs
     count = length-set xs c o
 
     placed : stands (set xs c o) c ≡ o
-    placed = get_or-set_same xs c o None moved.within
+    placed = get_or-set_same xs c o None m.within
 
     in_bucket : (bucket d : ℕ) → (d ≡ c) ⊎ (d ≢ c) → has (get_or entered bucket 0) d ≡ is_in_bucket bucket (stands (set xs c o) d)
     in_bucket bucket d (inl e) =
         subst (λ k. has (get_or entered bucket 0) k ≡ is_in_bucket bucket (stands (set xs c o) k)) (sym e)
-        (moved.here bucket
-        ∙ (ap (λ (b : Bool). b || is_in_bucket bucket o) (moved.left_here bucket)
-        ∙ (left_out (has (get_or buckets bucket 0) c) (is_in_bucket bucket (stands xs c)) (is_in_bucket bucket o) (moved.indexed.in_buckets bucket c)
+        (m.here bucket
+        ∙ (ap (λ (b : Bool). b || is_in_bucket bucket o) (m.left_here bucket)
+        ∙ (left_out (has (get_or buckets bucket 0) c) (is_in_bucket bucket (stands xs c)) (is_in_bucket bucket o) (m.indexed.in_buckets bucket c)
         ∙ ap (is_in_bucket bucket) (sym placed))))
     in_bucket bucket d (inr other) =
-        moved.others bucket d other
-        ∙ (moved.left_others bucket d other
-        ∙ (moved.indexed.in_buckets bucket d ∙ ap (is_in_bucket bucket) (sym (get_or-set_other xs c d o None other))))
+        m.others bucket d other
+        ∙ (m.left_others bucket d other
+        ∙ (m.indexed.in_buckets bucket d ∙ ap (is_in_bucket bucket) (sym (get_or-set_other xs c d o None other))))
 
     on_vacant : (d : ℕ) → (d ≡ c) ⊎ (d ≢ c) → has vacant' d ≡ (nat_lt d (length (set xs c o)) && is_none (stands (set xs c o) d))
     on_vacant d (inl e) =
-        let inside : c < length (set xs c o) = subst (λ k. c < k) (sym count) moved.within in
+        let inside : c < length (set xs c o) = subst (λ k. c < k) (sym count) m.within in
         let below : nat_lt c (length (set xs c o)) ≡ true = grind (arith, nat_tests) in
         subst (λ k. has vacant' k ≡ (nat_lt k (length (set xs c o)) && is_none (stands (set xs c o) k))) (sym e)
-        (moved.vacant_here ∙ (ap is_none (sym placed) ∙ sym (ap (λ (b : Bool). b && is_none (stands (set xs c o) c)) below)))
+        (m.vacant_here ∙ (ap is_none (sym placed) ∙ sym (ap (λ (b : Bool). b && is_none (stands (set xs c o) c)) below)))
     on_vacant d (inr other) =
-        moved.vacant_others d other
-        ∙ (moved.indexed.on_vacant d
+        m.vacant_others d other
+        ∙ (m.indexed.on_vacant d
         ∙ (ap (λ (k : ℕ). nat_lt d k && is_none (stands xs d)) (sym count)
         ∙ ap (λ (p : Option ℕ). nat_lt d (length (set xs c o)) && is_none p) (sym (get_or-set_other xs c d o None other))))

@@ -1,8 +1,9 @@
 -- Sets of CPUs: those that are not in a mask, those below a number, and how many are left of a mask.
-use Rattle.std.proofs.Common.{Bool, true, false, not, ◌≡◌, ◌≢◌, ℕ, zero, suc, ◌+◌, ◌-◌, ◌^◌, ◌<◌, ◌≤◌, ◌⊎◌, inl, inr, ◌&&◌, ap, sym, ◌∙◌, refl, arith}
+use Rattle.std.proofs.Common.{Bool, true, false, not, ◌≡◌, ◌≢◌, ℕ, zero, suc, ◌+◌, ◌-◌, ◌^◌, ◌<◌, ◌≤◌, ◌⊎◌, inl, inr, ◌&&◌, ap, sym, ◌∙◌, refl, arith, ⊎_elim}
+use Rattle.std.proofs.Math.Bool.{and-true}
 use Rattle.std.specs.Prelude.{nat_lt, ◌==◌}
 use Rattle.std.specs.Int.{bit_at, bit_not, w128}
-use Rattle.std.proofs.lemmas.Bool.{cases_lt, cases_eq}
+use Rattle.std.proofs.lemmas.Bool.{cases_lt, cases_eq, ne_eqb}
 use Rattle.std.proofs.lemmas.Bool.Decides.{nat_tests}
 use Rattle.std.proofs.lemmas.Nat.Bits.{bit_at-lt, bit_at_not}
 use Rattle.gs_status.specs.Masks.{has}
@@ -17,14 +18,11 @@ flipped (suc (suc x)) lt = absurd (omega arith)
 pub has_others : (n c : ℕ) → n < 2 ^ 128 → has (bit_not w128 n) c ≡ (nat_lt c 128 && not (has n c))
 has_others n c fits = by_place (cases_lt c 128)
   where
-    small : n < 2 ^ 128
-    small = fits
-
     by_place : (c < 128) ⊎ (128 ≤ c) → has (bit_not w128 n) c ≡ (nat_lt c 128 && not (has n c))
     by_place (inl lt) =
         let below : nat_lt c 128 ≡ true = grind (arith, nat_tests) in
         has_by_bit (bit_not w128 n) c
-        ∙ (ap (λ (k : ℕ). k == 1) (bit_at_not w128 n c small lt)
+        ∙ (ap (λ (k : ℕ). k == 1) (bit_at_not w128 n c fits lt)
         ∙ (flipped (bit_at n c) (bit_at-lt n c)
         ∙ (ap not (sym (has_by_bit n c)) ∙ sym (ap (λ (b : Bool). b && not (has n c)) below))))
     by_place (inr past) =
@@ -36,18 +34,9 @@ has_others n c fits = by_place (cases_lt c 128)
 pub below_more : (m m' n : ℕ) → ((c : ℕ) → has m c ≡ nat_lt c n) → has m' n ≡ true → ((c : ℕ) → c ≢ n → has m' c ≡ has m c) → (c : ℕ) → has m' c ≡ nat_lt c (n + 1)
 below_more m m' n below here others c = at (cases_eq c n)
   where
-    here' : has m' n ≡ true
-    here' = here
-
-    others' : (d : ℕ) → d ≢ n → has m' d ≡ has m d
-    others' = others
-
-    below' : (d : ℕ) → has m d ≡ nat_lt d n
-    below' = below
-
     at : (c ≡ n) ⊎ (c ≢ n) → has m' c ≡ nat_lt c (n + 1)
-    at (inl e) = let within : true ≡ nat_lt c (n + 1) = grind (arith, nat_tests) in ap (has m') e ∙ (here' ∙ within)
-    at (inr other) = let same : nat_lt c n ≡ nat_lt c (n + 1) = grind (arith, nat_tests) in others' c other ∙ (below' c ∙ same)
+    at (inl e) = let within : true ≡ nat_lt c (n + 1) = grind (arith, nat_tests) in ap (has m') e ∙ (here ∙ within)
+    at (inr other) = let same : nat_lt c n ≡ nat_lt c (n + 1) = grind (arith, nat_tests) in others c other ∙ (below c ∙ same)
 
 abbrev one_if : Bool → ℕ
 one_if true = 1
@@ -95,22 +84,8 @@ fewer_left m m' c lt is_in gone others = one_less (has m) (has m') 128 c lt is_i
 
 -- a CPU that no mask has is not missed
 pub without_past : (m a c : ℕ) → m < 2 ^ 128 → 128 ≤ a → has m c ≡ (has m c && not (a == c))
-without_past m a c fits past = by_place (cases_eq a c)
-  where
-    fits' : m < 2 ^ 128
-    fits' = fits
-
-    past' : 128 ≤ a
-    past' = past
-
-    both : (x : Bool) → x ≡ (x && true)
-    both true = refl
-    both false = refl
-
-    by_place : (a ≡ c) ⊎ (a ≢ c) → has m c ≡ (has m c && not (a == c))
-    by_place (inl e) =
-        let none : has m c ≡ false = has_none_past m c fits' (omega arith) in
-        none ∙ sym (ap (λ (x : Bool). x && not (a == c)) none)
-    by_place (inr other) =
-        let differs : (a == c) ≡ false = grind (arith, nat_tests) in
-        both (has m c) ∙ sym (ap (λ (x : Bool). has m c && not x) differs)
+without_past m a c fits past =
+    ⊎_elim
+    (λ e. let none : has m c ≡ false = has_none_past m c fits (omega (arith, e, past)) in none ∙ sym (ap (λ (x : Bool). x && not (a == c)) none))
+    (λ other. sym (ap (λ (x : Bool). has m c && not x) (ne_eqb a c other) ∙ and-true (has m c)))
+    (cases_eq a c)
