@@ -1,5 +1,6 @@
 -- Those of a set of CPUs that pass a test, gathered CPU by CPU.
 use Rattle.std.proofs.Common.{Bool, true, false, ◌≡◌, ◌≢◌, ℕ, ◌⊎◌, inl, inr, ◌&&◌, ◌||◌, ap, sym, subst, ◌∙◌, refl, arith}
+use Rattle.std.proofs.Math.Bool.{and-true, and-false, or-false}
 use Rattle.std.specs.Prelude.{nat_le, Option, None, Some}
 use Rattle.std.proofs.lemmas.Bool.{cases_eq, and_parts}
 use Rattle.std.proofs.lemmas.Bool.Decides.{nat_tests}
@@ -19,43 +20,19 @@ pub gathered_more : (test all : ℕ → Bool) (left left' found found' c : ℕ) 
     → has found' c ≡ (has found c || passes) → passes ≡ test c → ((d : ℕ) → d ≢ c → has found' d ≡ has found d) → IsGathered test all left' found'
 gathered_more test all left left' found found' c passes is here gone others with is_test others' d = at (cases_eq d c)
   where
-    before : IsGathered test all left found
-    before = is
-
-    out : has left' c ≡ false
-    out = gone
-
-    kept : (e : ℕ) → e ≢ c → has left' e ≡ has left e
-    kept = others
-
-    kept' : (e : ℕ) → e ≢ c → has found' e ≡ has found e
-    kept' = others'
-
-    none : (b : Bool) → b ≡ (b || false)
-    none true = refl
-    none false = refl
-
     looked : (has found c || (has left c && test c)) ≡ (has found' c || (has left' c && test c))
     looked =
         ap (λ (b : Bool). has found c || (b && test c)) here
         ∙ (ap (λ (b : Bool). has found c || b) (sym is_test)
-        ∙ (sym with ∙ (none (has found' c) ∙ ap (λ (b : Bool). has found' c || (b && test c)) (sym out))))
+        ∙ (sym with ∙ (sym (or-false (has found' c)) ∙ ap (λ (b : Bool). has found' c || (b && test c)) (sym gone))))
 
     at : (d ≡ c) ⊎ (d ≢ c) → (all d && test d) ≡ (has found' d || (has left' d && test d))
-    at (inl e) = subst (λ k. (all k && test k) ≡ (has found' k || (has left' k && test k))) (sym e) (before c ∙ looked)
+    at (inl e) = subst (λ k. (all k && test k) ≡ (has found' k || (has left' k && test k))) (sym e) (is c ∙ looked)
     at (inr other) =
-        before d ∙ (ap (λ (b : Bool). b || (has left d && test d)) (sym (kept' d other)) ∙ ap (λ (b : Bool). has found' d || (b && test d)) (sym (kept d other)))
-
--- at first all are left, and in the end none is
-pub gathered_none : (test : ℕ → Bool) (left found : ℕ) → ((c : ℕ) → has found c ≡ false) → IsGathered test (has left) left found
-gathered_none test left found none c = sym (ap (λ (b : Bool). b || (has left c && test c)) (none c))
+        is d ∙ (ap (λ (b : Bool). b || (has left d && test d)) (sym (others' d other)) ∙ ap (λ (b : Bool). has found' d || (b && test d)) (sym (others d other)))
 
 pub gathered_all : (test all : ℕ → Bool) (left found : ℕ) → IsGathered test all left found → ((c : ℕ) → has left c ≡ false) → (c : ℕ) → has found c ≡ (all c && test c)
-gathered_all test all left found is none c = sym (is c ∙ (ap (λ (b : Bool). has found c || (b && test c)) (none c) ∙ or_false (has found c)))
-  where
-    or_false : (b : Bool) → (b || false) ≡ b
-    or_false true = refl
-    or_false false = refl
+gathered_all test all left found is none c = sym (is c ∙ (ap (λ (b : Bool). has found c || (b && test c)) (none c) ∙ or-false (has found c)))
 
 -- whoever has had a slice has had no tick at least
 had_none : (slice : ℕ) (v : Look) (o : Option Running) → has_had slice v o ≡ true → has_had 0 v o ≡ true
@@ -63,16 +40,8 @@ had_none slice v None e = e
 had_none slice v (Some r) e = let known = and_parts (is_known_one (v r.tid)) (nat_le slice r.ticks) e in grind (arith, nat_tests, known.0)
 
 and_within : (u a b h : Bool) → h ≡ (u && a) → (b ≡ true → a ≡ true) → (h && b) ≡ (u && b)
-and_within u a true h is within = ap (λ (x : Bool). x && true) (is ∙ ap (λ (x : Bool). u && x) (within refl)) ∙ twice u
-  where
-    twice : (u : Bool) → ((u && true) && true) ≡ (u && true)
-    twice true = refl
-    twice false = refl
-and_within u a false h is within = none h ∙ sym (none u)
-  where
-    none : (x : Bool) → (x && false) ≡ false
-    none true = refl
-    none false = refl
+and_within u a true h is within = ap (λ (x : Bool). x && true) (is ∙ ap (λ (x : Bool). u && x) (within refl)) ∙ and-true (u && true)
+and_within u a false h is within = and-false h ∙ sym (and-false u)
 
 pub runs_slice : (s : Shown) (slice c : ℕ) (h : Bool) → h ≡ runs_one 0 s c → (h && has_had slice s.view (believed_on s.cpus c)) ≡ runs_one slice s c
 runs_slice s slice c h is =

@@ -2,7 +2,7 @@
 use Rattle.std.proofs.Common.{◌≡◌, refl, ap, sym, ◌∙◌, ℕ, ◌+◌, ◌-◌, ◌≤◌, Bool, true, false, ◌&&◌, ◌||◌, Option, None, Some, List, [], ◌∷◌, ◌++◌, arith, length, append-nil, append_assoc, length-append}
 use Rattle.std.specs.Prelude.{not, nat_lt, is_none}
 use Rattle.std.proofs.Math.Bool.{and-true}
-use Rattle.std.proofs.lemmas.Bool.{and_parts, both_ways, eqb-true}
+use Rattle.std.proofs.lemmas.Bool.{and_parts, both_ways, eqb-true, false_from_ne_true}
 use Rattle.std.proofs.lemmas.Bool.Decides.{nat_tests}
 use Rattle.std.proofs.lemmas.List.Folds.{list_any-append}
 use Rattle.gs_layout.specs.declared.facts.Class.{Class}
@@ -181,17 +181,7 @@ past_last c n a past = let e : nat_lt c n ≡ false = grind (arith, nat_tests) i
 
 -- none that may be taken is past the last
 none_past : (s : Shown) (p : Class → ℕ → Bool) (class : Class) (c : ℕ) → IsTaking s p → length s.cpus.believed ≤ c → p class c ≡ false
-none_past s p class c taking past = by_test (p class c) refl
-  where
-    taking' : IsTaking s p
-    taking' = taking
-
-    unusable : is_usable s.cpus s.taken c ≡ false
-    unusable = past_last c (length s.cpus.believed) _ past
-
-    by_test : (b : Bool) → p class c ≡ b → p class c ≡ false
-    by_test true e = absurd (both_ways (is_usable s.cpus s.taken c) unusable (taking'.usable class c e))
-    by_test false e = e
+none_past s p class c taking past = false_from_ne_true (p class c) (λ e. both_ways (is_usable s.cpus s.taken c) (past_last c (length s.cpus.believed) _ past) (taking.usable class c e))
 
 -- what is planned among the free CPUs and those that may be taken is the plan
 pub plan_all : (may_take : Taking) (s : Shown) (l : Candidates) → length s.cpus.believed ≤ 128 → ((c : ℕ) → has l.free c ≡ is_free s.cpus s.taken c) → IsTaking s (may_take s)
@@ -206,9 +196,6 @@ plan_all may_take s l most free taking taken =
       busy_past = λ class c past. none_past s (may_take s) class c taking past;
     })
   where
-    taken' : AreTakenBy (may_take s) l.zero_class l.one_class
-    taken' = taken
-
     by_class : (class : Class) (c : ℕ) → is_busy_for l class c ≡ may_take s class c
-    by_class Zero c = taken'.by_zero c
-    by_class One c = taken'.by_one c
+    by_class Zero c = taken.by_zero c
+    by_class One c = taken.by_one c

@@ -42,29 +42,14 @@ turn_beside : (n : ℕ) (f : ℕ → Bool) (p : Class → ℕ → Bool) (v : Loo
     → chooses (planned n f p v (xs ++ ys) ts) t ≡ false → c < n → f c ≡ true → has k.facts.mask c ≡ true → uses (planned n f p v (xs ++ ys) ts) c ≡ true
 turn_beside n f p v xs ts t c k ys is unchosen within free mask = by_least (least (is_open f k xs) n) refl
   where
-    unchosen' : chooses (planned n f p v (xs ++ ys) ts) t ≡ false
-    unchosen' = unchosen
-
-    is' : ys ≡ choice n f p xs t (Some k)
-    is' = is
-
-    within' : c < n
-    within' = within
-
-    free' : f c ≡ true
-    free' = free
-
-    mask' : has k.facts.mask c ≡ true
-    mask' = mask
-
     by_least : (o : Option ℕ) → least (is_open f k xs) n ≡ o → uses (planned n f p v (xs ++ ys) ts) c ≡ true
     by_least (Some d) e =
-        let ys_are : ys ≡ placed t (Some d) (least (is_open (p k.facts.class) k xs) n) = is' ∙ ap (λ (z : Option ℕ). placed t z (least (is_open (p k.facts.class) k xs) n)) e in
+        let ys_are : ys ≡ placed t (Some d) (least (is_open (p k.facts.class) k xs) n) = is ∙ ap (λ (z : Option ℕ). placed t z (least (is_open (p k.facts.class) k xs) n)) e in
         let here : chooses (xs ++ ys) t ≡ true =
         chooses_append xs ys t ∙ or_right (chooses xs t) (chooses ys t) (ap (λ (zs : List Choice). chooses zs t) ys_are ∙ placed_chooses t d (least (is_open (p k.facts.class) k xs) n)) in
-        absurd (both_ways (chooses (planned n f p v (xs ++ ys) ts) t) unchosen' (chosen_stays n f p v (xs ++ ys) ts t here))
+        absurd (both_ways (chooses (planned n f p v (xs ++ ys) ts) t) unchosen (chosen_stays n f p v (xs ++ ys) ts t here))
     by_least None e =
-        let used : uses xs c ≡ true = used_if (f c) (has k.facts.mask c) (uses xs c) free' mask' (least_is_all (is_open f k xs) n e c within') in
+        let used : uses xs c ≡ true = used_if (f c) (has k.facts.mask c) (uses xs c) free mask (least_is_all (is_open f k xs) n e c within) in
         uses_stays n f p v (xs ++ ys) ts c (uses_append xs ys c ∙ or_left (uses xs c) (uses ys c) used)
 
 planned_beside : (n : ℕ) (f : ℕ → Bool) (p : Class → ℕ → Bool) (v : Look) (xs : List Choice) (ts : List ℕ) (t c : ℕ) (k : Known) → is_in t ts ≡ true → v t ≡ Some k
@@ -73,28 +58,13 @@ planned_beside n f p v xs [] t c k waits known unchosen within free mask = absur
 planned_beside n f p v xs (u ∷ ts) t c k waits known unchosen within free mask =
     by_turn (planned_beside n f p v (xs ++ choice n f p xs u (v u)) ts t c k) (u == t) refl waits
   where
-    known' : v t ≡ Some k
-    known' = known
-
-    unchosen' : chooses (planned n f p v (xs ++ choice n f p xs u (v u)) ts) t ≡ false
-    unchosen' = unchosen
-
-    within' : c < n
-    within' = within
-
-    free' : f c ≡ true
-    free' = free
-
-    mask' : has k.facts.mask c ≡ true
-    mask' = mask
-
     by_turn : (is_in t ts ≡ true → v t ≡ Some k → chooses (planned n f p v (xs ++ choice n f p xs u (v u)) ts) t ≡ false → c < n → f c ≡ true → has k.facts.mask c ≡ true → uses (planned n f p v (xs ++ choice n f p xs u (v u)) ts) c ≡ true)
         → (b : Bool) → (u == t) ≡ b → (b || is_in t ts) ≡ true → uses (planned n f p v (xs ++ choice n f p xs u (v u)) ts) c ≡ true
     by_turn more true e waits' =
         let same : u ≡ t = eqb-true u t e in
-        let is : choice n f p xs u (v u) ≡ choice n f p xs t (Some k) = ap (λ (z : ℕ). choice n f p xs z (v z)) same ∙ ap (choice n f p xs t) known' in
-        turn_beside n f p v xs ts t c k (choice n f p xs u (v u)) is unchosen' within' free' mask'
-    by_turn more false e waits' = more waits' known' unchosen' within' free' mask'
+        let is : choice n f p xs u (v u) ≡ choice n f p xs t (Some k) = ap (λ (z : ℕ). choice n f p xs z (v z)) same ∙ ap (choice n f p xs t) known in
+        turn_beside n f p v xs ts t c k (choice n f p xs u (v u)) is unchosen within free mask
+    by_turn more false e waits' = more waits' known unchosen within free mask
 
 below_count : (a b : Bool) (c n : ℕ) → ((nat_lt c n && a) && b) ≡ true → c < n
 below_count a b c n e = ltb-true c n (and_parts (nat_lt c n) a (and_parts (nat_lt c n && a) b e).0).0
