@@ -1,16 +1,15 @@
 -- How a ring's parts go on agreeing.
-use Rattle.std.proofs.Common.{◌≡◌, true, ℕ, zero, suc, ◌+◌, ◌-◌, ◌*◌, ◌%◌, ◌^◌, ◌<◌, ◌≤◌, List, [], ◌∷◌, ◌++◌, length, drop, refl, ap, sym, subst, ◌∙◌, append_assoc, arith, length-append}
+use Rattle.std.proofs.Common.{◌≡◌, true, ℕ, zero, suc, ◌+◌, ◌-◌, ◌*◌, ◌%◌, ◌<◌, ◌≤◌, List, [], ◌∷◌, ◌++◌, length, drop, refl, ap, sym, subst, ◌∙◌, append_assoc, arith, length-append}
 use Rattle.std.specs.Prelude.{All}
 use Rattle.std.proofs.lemmas.List.{append-nil, drop_at}
 use Rattle.std.proofs.lemmas.List.Elements.{All-head, All-nil, All-push, All-tail}
 use Rattle.gs_ring.specs.declared.ends.TheConstants.{MOST_POSTS}
 use Rattle.gs_layout.specs.declared.wire.TheConstants.{ALIGNMENT, MOST_MESSAGE_LEN, MOST_PAD_LEN}
 use Rattle.gs_layout.specs.declared.message.Message.{Message}
-use Rattle.gs_layout.specs.Spelling.{IsSpellable}
+use Rattle.gs_layout.specs.Spelling.{IsSpellable, spelling}
 use Rattle.gs_ring.specs.declared.place.Place.{Place}
 use Rattle.gs_ring.specs.Block.{IsHeld, IsRing, block_with, messages_in, put_at, ring_of, seen}
 use Rattle.gs_ring.specs.Ends.{place_behind-grows}
-use Rattle.gs_layout.specs.Spelling.{spelling}
 use Rattle.gs_ring.specs.Places.{bytes, is_capacity, need, pad_bytes, pad_len, place_behind, record_len}
 use Rattle.gs_ring.specs.RingState.{RingState, end, free, posts}
 use Rattle.gs_ring.proofs.Pads.{IsWide, length-pad_bytes, need_is, pad_fits, record_fits, wide}

@@ -4,15 +4,11 @@ use Rattle.std.specs.Prelude.{◌==◌, min}
 use Rattle.std.proofs.lemmas.Bool.{cases_lt}
 use Rattle.std.proofs.lemmas.List.{drop_at, take-append-drop, take-append-le, take_at}
 use Rattle.std.proofs.lemmas.List.Elements.{All-head}
-use Rattle.gs_layout.specs.declared.wire.TheConstants.{FRONT_LEN, HEADER_LEN, KIND_AT, LEN_AT, PAD}
-use Rattle.gs_layout.specs.declared.message.Change.{Change}
-use Rattle.gs_layout.specs.declared.message.Change.TheVariants.{Created, Blocked, Wakeup, Preempted, Yield, Dead, Affinity}
+use Rattle.gs_layout.specs.declared.wire.TheConstants.{FRONT_LEN, KIND_AT, LEN_AT, PAD}
 use Rattle.gs_layout.specs.declared.message.Message.{Message}
-use Rattle.gs_layout.specs.declared.message.Message.TheVariants.{Thread, TimerTick}
 use Rattle.gs_layout.specs.Pad.{pad}
 use Rattle.gs_layout.specs.Reading.{number_at}
-use Rattle.gs_layout.specs.Spelling.{IsSpellable, size_of, size_of_change, spelling}
-use Rattle.gs_layout.proofs.Laws.{spelled_length}
+use Rattle.gs_layout.specs.Spelling.{IsSpellable, spelling}
 use Rattle.gs_ring.specs.Block.{IsRing, Lies, record_index, ring_of, seen}
 use Rattle.gs_ring.specs.Ends.{Ahead, Passed, Passed-join, Passed-none, place_behind-append, place_behind-grows}
 use Rattle.gs_ring.specs.Places.{bytes, need, pad_bytes, pad_len, place_behind, record_len, rest}

@@ -1,19 +1,14 @@
 -- How long records and PADs are.
-use Rattle.std.proofs.Common.{◌≡◌, Bool, true, false, cond, ℕ, ◌+◌, ◌-◌, ◌%◌, ◌<◌, ◌≤◌, ◌⊎◌, inl, inr, ⊎_elim, List, [], length, refl, ap, sym, subst, ◌∙◌, arith}
+use Rattle.std.proofs.Common.{◌≡◌, Bool, true, false, cond, ℕ, ◌+◌, ◌-◌, ◌%◌, ◌<◌, ◌≤◌, ◌⊎◌, inl, inr, ⊎_elim, [], length, refl, ap, sym, subst, ◌∙◌, arith}
 use Rattle.std.specs.Prelude.{nat_le, ◌==◌}
 use Rattle.std.proofs.lemmas.Bool.Decides.{nat_tests}
 use Rattle.std.proofs.lemmas.Bool.{cases_lt}
 use Rattle.std.proofs.lemmas.List.{length-replicate}
-use Rattle.gs_layout.specs.declared.name.TheConstants.{MOST_NAME_LEN}
 use Rattle.gs_ring.specs.declared.block.TheConstants.{LEAST_CAPACITY, MOST_CAPACITY}
-use Rattle.gs_layout.specs.declared.wire.TheConstants.{ALIGNMENT, FRONT_LEN, HEADER_LEN, MOST_MESSAGE_LEN}
-use Rattle.gs_layout.specs.declared.message.Change.{Change}
-use Rattle.gs_layout.specs.declared.message.Change.TheVariants.{Created, Blocked, Wakeup, Preempted, Yield, Dead, Affinity}
+use Rattle.gs_layout.specs.declared.wire.TheConstants.{ALIGNMENT, FRONT_LEN}
 use Rattle.gs_layout.specs.declared.message.Message.{Message}
-use Rattle.gs_layout.specs.declared.message.Message.TheVariants.{Thread, TimerTick}
-use Rattle.gs_layout.specs.Name.{is_name}
 use Rattle.gs_layout.specs.Pad.{pad}
-use Rattle.gs_layout.specs.Spelling.{IsSpellable, IsSpellableChange, size_of, size_of_change, spelling}
+use Rattle.gs_layout.specs.Spelling.{IsSpellable}
 use Rattle.gs_layout.proofs.Laws.{IsSize, size_message, spelled_length}
 use Rattle.gs_ring.specs.Places.{is_capacity, need, pad_bytes, pad_len, record_len, rest}
 use Rattle.gs_ring.proofs.Around.{mod_round, mod_whole}

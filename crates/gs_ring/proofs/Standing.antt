@@ -1,8 +1,7 @@
 -- The messages of two segments of bytes.
-use Rattle.std.proofs.Common.{◌^◌, ◌≡◌, Bool, true, false, ℕ, suc, ◌%◌, ◌<◌, ◌≤◌, ◌⊎◌, inl, inr, ⊎_elim, List, [], ◌∷◌, ◌++◌, length, refl, ap, sym, subst, ◌∙◌, append_assoc, arith, length-append}
+use Rattle.std.proofs.Common.{◌^◌, ◌≡◌, true, false, ℕ, suc, ◌%◌, ◌<◌, ◌≤◌, ◌⊎◌, inl, inr, ⊎_elim, List, [], ◌∷◌, ◌++◌, length, refl, ap, sym, subst, ◌∙◌, append_assoc, arith, length-append}
 use Rattle.std.specs.Prelude.{All, ◌==◌, ◌||◌}
-use Rattle.std.proofs.lemmas.Bool.{cases_lt}
-use Rattle.std.proofs.lemmas.Bool.Decides.{nat_tests}
+use Rattle.std.proofs.lemmas.Bool.{cases_lt, or_from, or_right, ne_eqb}
 use Rattle.std.proofs.lemmas.List.{append-nil}
 use Rattle.std.proofs.lemmas.List.Elements.{All-cons, All-head, All-nil, All-tail}
 use Rattle.gs_layout.specs.declared.wire.TheConstants.{ALIGNMENT, FRONT_LEN, KIND_AT, PAD}
@@ -73,21 +72,11 @@ stands_row ms fits = record {
   second_is = refl;
 }
 
-or_false : (a b : Bool) → a ≡ false → b ≡ false → (a || b) ≡ false
-or_false a b p q = rw p (rw q refl)
-
-or_right : (a b : Bool) → b ≡ true → (a || b) ≡ true
-or_right true b e = refl
-or_right false b e = e
-
-none_long : (n : ℕ) → 0 < n → (n == 0) ≡ false
-none_long n h = grind (arith, nat_tests)
-
 goes_on : (m : Message) (more : List ℕ) → IsSpellable m → is_ended (spelling m ++ more) ≡ false
 unfolding is_ended
 goes_on m more fits =
-    or_false (length (spelling m ++ more) == 0) (number_at KIND_AT 2 (spelling m ++ more) == PAD)
-    (none_long (length (spelling m ++ more)) (omega (arith, length-append (spelling m) more, (record_size m fits).least)))
+    or_from (length (spelling m ++ more) == 0) (number_at KIND_AT 2 (spelling m ++ more) == PAD)
+    (ne_eqb (length (spelling m ++ more)) 0 (λ e. omega (arith, e, length-append (spelling m) more, (record_size m fits).least)))
     (message_kind m more)
 
 -- at most a PAD is left

@@ -5,7 +5,7 @@ use Rattle.gs_layout.specs.declared.message.Change.{Change}
 use Rattle.gs_layout.specs.declared.message.Change.TheVariants.{Created, Blocked, Wakeup, Preempted, Yield, Dead, Affinity}
 use Rattle.gs_layout.specs.declared.message.Message.{Message}
 use Rattle.gs_layout.specs.declared.message.Message.TheVariants.{Thread, TimerTick}
-use Rattle.gs_layout.specs.Spelling.{AreNumbers, IsCpuOrNone, IsSpellable, IsSpellableChange}
+use Rattle.gs_layout.specs.Spelling.{IsCpuOrNone, IsSpellable, IsSpellableChange}
 use Rattle.gs_reader.specs.RefHeld.{IsRef}
 
 cpu_prop : (c : Option ℕ) → IsProp (IsCpuOrNone c)

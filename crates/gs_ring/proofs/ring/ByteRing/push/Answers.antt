@@ -1,17 +1,16 @@
-use Rattle.std.proofs.Common.{◌≡◌, ℕ, ◌+◌, ◌%◌, ◌^◌, ◌<◌, ◌≤◌, List, [], ◌∷◌, ◌++◌, length, arith, refl, ap, sym, subst, ◌∙◌}
+use Rattle.std.proofs.Common.{◌≡◌, ℕ, ◌+◌, ◌%◌, ◌≤◌, List, [], ◌∷◌, ◌++◌, length, arith, refl, ap, sym, subst, ◌∙◌}
 use Rattle.std.proofs.lemmas.Bool.{false≢true}
 use Rattle.std.proofs.lemmas.List.{with_items_is}
-use Rattle.std.specs.Vec.{vec_len, with_items}
-use Rattle.gs_ring.specs.declared.ends.TheConstants.{MOST_POSTS}
+use Rattle.std.specs.Vec.{with_items}
 use Rattle.gs_layout.specs.declared.message.Message.{Message}
-use Rattle.gs_layout.specs.Spelling.{IsSpellable}
 use Rattle.gs_ring.specs.declared.ring.ByteRing.TheInside.{Inside}
 use Rattle.gs_ring.specs.Block.{IsRing, block_with, ring_of}
 use Rattle.gs_ring.specs.Places.{pad_len, record_len}
-use Rattle.gs_ring.specs.RingState.{RingState, free, need_of, posts}
+use Rattle.gs_ring.specs.RingState.{RingState, need_of}
 use Rattle.gs_ring.proofs.Held.{Fitting, fitting, need_in, pushed, written_later}
 use Rattle.gs_ring.proofs.Pads.{wide}
 use Rattle.gs_ring.proofs.ring.ByteRing.push.Goals as goal
+use Rattle.gs_ring.proofs.ring.ByteRing.push.Goals.{After-pad_len-pad, After-write}
 
 record Known (i : Inside) (v : RingState) (m : Message) (k : ℕ) : Type 0 where
   pub pad : k ≡ pad_len (length i.block.items) i.written.count (record_len m)
@@ -19,52 +18,40 @@ record Known (i : Inside) (v : RingState) (m : Message) (k : ℕ) : Type 0 where
   pub needs : k + record_len m ≡ need_of v m
 
 -- what the measures of the code say
-known : (i : Inside) (v : RingState) (m : Message) (k n len : ℕ) → IsRing i.block.items i.read.count i.written.count i.consumed i.posts → ring_of i.block.items i.read.count i.written.count i.consumed i.posts ≡ v
-    → IsSpellable m → k ≡ pad_len n i.written.count len → n ≡ vec_len i.block → len ≡ record_len m → Known i v m k
-known i v m k n len h view fits is_pad is_capacity is_len =
-    let e : k ≡ pad_len (length i.block.items) i.written.count (record_len m) =
-    is_pad ∙ ap (λ x. pad_len x i.written.count len) (is_capacity ∙ i.block.ok.0) ∙ ap (λ x. pad_len (length i.block.items) i.written.count x) is_len in
+known : (c : After-pad_len-pad) → Known c.self.inside c.args.self.now c.args.message.now c.pad_len-pad.result
+known c =
+    let i = c.self.inside in
+    let h = c.self.invariant.ring in
+    let m = c.args.message.now in
+    let e : c.pad_len-pad.result ≡ pad_len (length i.block.items) i.written.count (record_len m) =
+    c.pad_len-pad.ensures.value ∙ ap (λ x. pad_len x i.written.count c.record_len-len.result) (c.len-capacity.ensures ∙ i.block.ok.0) ∙ ap (λ x. pad_len (length i.block.items) i.written.count x) c.record_len-len.ensures in
     record {
       pad = e;
-      sizes = fitting i.block.items i.read.count i.written.count i.consumed i.posts m k h fits e;
-      needs = need_in i.block.items i.read.count i.written.count i.consumed i.posts v k (record_len m) h view e;
+      sizes = fitting i.block.items i.read.count i.written.count i.consumed i.posts m c.pad_len-pad.result h c.requires.spellable e;
+      needs = need_in i.block.items i.read.count i.written.count i.consumed i.posts c.args.self.now c.pad_len-pad.result (record_len m) h c.self.view_is e;
     }
 
 pub overflow_add-pad : goal.overflow_add-pad
-overflow_add-pad c =
-    let x = known c.self.inside c.args.self.now c.args.message.now c.pad_len-pad.result c.len-capacity.result c.record_len-len.result
-    c.self.invariant.ring c.self.view_is c.requires.spellable c.pad_len-pad.ensures.value c.len-capacity.ensures c.record_len-len.ensures in
-    omega (arith, x.sizes.low, c.record_len-len.ensures)
+overflow_add-pad c = omega (arith, (known (goal.at.overflow_add-pad c).After-pad_len-pad).sizes.low, c.record_len-len.ensures)
 
 pub returns-then-pad-len-clause-exact : goal.returns-then-pad-len-clause-exact
 returns-then-pad-len-clause-exact c =
-    let x = known c.self.inside c.args.self.now c.args.message.now c.pad_len-pad.result c.len-capacity.result c.record_len-len.result
-    c.self.invariant.ring c.self.view_is c.requires.spellable c.pad_len-pad.ensures.value c.len-capacity.ensures c.record_len-len.ensures in
+    let x = known (goal.at.returns-then-pad-len-clause-exact c).After-pad_len-pad in
     ((λ _. omega (arith, x.needs, c.free.ensures.value, c.if-pad-len.true, c.record_len-len.ensures)), (λ _. refl))
 
 pub write-requires-clause-fits : goal.write-requires-clause-fits
-write-requires-clause-fits c =
-    let x = known c.self.inside c.args.self.now c.args.message.now c.pad_len-pad.result c.len-capacity.result c.record_len-len.result
-    c.self.invariant.ring c.self.view_is c.requires.spellable c.pad_len-pad.ensures.value c.len-capacity.ensures c.record_len-len.ensures in
-    subst (λ (b : List ℕ). c.self.inside.written.count % length b + c.pad_len-pad.result ≤ length b) (sym c.as_mut_slice.ensures.value) x.sizes.fits
+write-requires-clause-fits c = subst (λ (b : List ℕ). c.self.inside.written.count % length b + c.pad_len-pad.result ≤ length b) (sym c.as_mut_slice.ensures.value) (known (goal.at.write-requires-clause-fits c).After-pad_len-pad).sizes.fits
 
 pub write-requires-clause-whole : goal.write-requires-clause-whole
-write-requires-clause-whole c =
-    let x = known c.self.inside c.args.self.now c.args.message.now c.pad_len-pad.result c.len-capacity.result c.record_len-len.result
-    c.self.invariant.ring c.self.view_is c.requires.spellable c.pad_len-pad.ensures.value c.len-capacity.ensures c.record_len-len.ensures in
-    x.sizes.whole
+write-requires-clause-whole c = (known (goal.at.write-requires-clause-whole c).After-pad_len-pad).sizes.whole
 
 pub write-requires-clause-most : goal.write-requires-clause-most
-write-requires-clause-most c =
-    let x = known c.self.inside c.args.self.now c.args.message.now c.pad_len-pad.result c.len-capacity.result c.record_len-len.result
-    c.self.invariant.ring c.self.view_is c.requires.spellable c.pad_len-pad.ensures.value c.len-capacity.ensures c.record_len-len.ensures in
-    omega (arith, x.sizes.low)
+write-requires-clause-most c = omega (arith, (known (goal.at.write-requires-clause-most c).After-pad_len-pad).sizes.low)
 
 pub write-requires-clause-behind : goal.write-requires-clause-behind
 write-requires-clause-behind c =
-    let x = known c.self.inside c.args.self.now c.args.message.now c.pad_len-pad.result c.len-capacity.result c.record_len-len.result
-    c.self.invariant.ring c.self.view_is c.requires.spellable c.pad_len-pad.ensures.value c.len-capacity.ensures c.record_len-len.ensures in
-    subst (λ (b : List ℕ). (c.self.inside.written.count + c.pad_len-pad.result) % length b + record_len c.args.message.now ≤ length b) (sym c.as_mut_slice.ensures.value) x.sizes.behind
+    subst (λ (b : List ℕ). (c.self.inside.written.count + c.pad_len-pad.result) % length b + record_len c.args.message.now ≤ length b) (sym c.as_mut_slice.ensures.value)
+    (known (goal.at.write-requires-clause-behind c).After-pad_len-pad).sizes.behind
 
 -- the ring after the message was written into its block
 record Done (i : Inside) (v : RingState) (m : Message) (k len : ℕ) (new : List ℕ) : Type 0 where
@@ -72,57 +59,50 @@ record Done (i : Inside) (v : RingState) (m : Message) (k len : ℕ) (new : List
   pub size : length (with_items i.block new).items ≡ length i.block.items
   pub state : ring_of (with_items i.block new).items i.read.count (i.written.count + (k + len)) i.consumed (i.posts + 1) ≡ record { capacity = v.capacity; consumed = v.consumed; read = v.read; unread = v.unread ++ m ∷ [] }
 
-done : (i : Inside) (v : RingState) (m : Message) (k len : ℕ) (old new : List ℕ) → Known i v m k → IsRing i.block.items i.read.count i.written.count i.consumed i.posts
-    → ring_of i.block.items i.read.count i.written.count i.consumed i.posts ≡ v → IsSpellable m → posts v < MOST_POSTS → len ≡ record_len m → k + len ≤ free v
-    → old ≡ i.block.items → new ≡ block_with old i.written.count k m → Done i v m k len new
-done i v m k len old new x h view fits few is_len room is_old is_new =
+done : (c : After-write) → Known c.self.inside c.args.self.now c.args.message.now c.pad_len-pad.result → Done c.self.inside c.args.self.now c.args.message.now c.pad_len-pad.result c.record_len-len.result c.write.new.block
+done c x =
+    let i = c.self.inside in
+    let k = c.pad_len-pad.result in
+    let m = c.args.message.now in
     let b = block_with i.block.items i.written.count k m in
-    let p = pushed i.block.items i.read.count i.written.count i.consumed i.posts v m k h view fits few x.pad (omega (arith, room, is_len)) in
-    let e : new ≡ b = is_new ∙ ap (λ (o : List ℕ). block_with o i.written.count k m) is_old in
-    let f : (with_items i.block new).items ≡ b = with_items_is i.block new (ap length e ∙ p.size ∙ sym i.block.ok.0) ∙ e in
-    let z : i.written.count + k + record_len m ≡ i.written.count + (k + len) = omega (arith, is_len) in
+    let p = pushed i.block.items i.read.count i.written.count i.consumed i.posts c.args.self.now m k c.self.invariant.ring c.self.view_is c.requires.spellable c.requires.few x.pad
+    (omega (arith, c.free.ensures.value, c.if-pad-len.false, c.record_len-len.ensures)) in
+    let e : c.write.new.block ≡ b = c.write.ensures ∙ ap (λ (o : List ℕ). block_with o i.written.count k m) c.as_mut_slice.ensures.value in
+    let f : (with_items i.block c.write.new.block).items ≡ b = with_items_is i.block c.write.new.block (ap length e ∙ p.size ∙ sym i.block.ok.0) ∙ e in
+    let z : i.written.count + k + record_len m ≡ i.written.count + (k + c.record_len-len.result) = omega (arith, c.record_len-len.ensures) in
     record {
       size = ap length f ∙ p.size;
-      ring = subst (λ (o : List ℕ). IsRing o i.read.count (i.written.count + (k + len)) i.consumed (i.posts + 1)) (sym f) (subst (λ (w : ℕ). IsRing b i.read.count w i.consumed (i.posts + 1)) z p.ring);
-      state = ap (λ (o : List ℕ). ring_of o i.read.count (i.written.count + (k + len)) i.consumed (i.posts + 1)) f
+      ring = subst (λ (o : List ℕ). IsRing o i.read.count (i.written.count + (k + c.record_len-len.result)) i.consumed (i.posts + 1)) (sym f) (subst (λ (w : ℕ). IsRing b i.read.count w i.consumed (i.posts + 1)) z p.ring);
+      state = ap (λ (o : List ℕ). ring_of o i.read.count (i.written.count + (k + c.record_len-len.result)) i.consumed (i.posts + 1)) f
           ∙ ap (λ (w : ℕ). ring_of b i.read.count w i.consumed (i.posts + 1)) (sym z)
           ∙ p.state
-          ∙ ap (λ (y : RingState). let z : RingState = record { capacity = y.capacity; consumed = y.consumed; read = y.read; unread = y.unread ++ m ∷ [] } in z) view;
+          ∙ ap (λ (y : RingState). let z : RingState = record { capacity = y.capacity; consumed = y.consumed; read = y.read; unread = y.unread ++ m ∷ [] } in z) c.self.view_is;
     }
 
 pub further-self-inside-requires-clause-most : goal.further-self-inside-requires-clause-most
 further-self-inside-requires-clause-most c =
-    let x = known c.self.inside c.args.self.now c.args.message.now c.pad_len-pad.result c.len-capacity.result c.record_len-len.result
-    c.self.invariant.ring c.self.view_is c.requires.spellable c.pad_len-pad.ensures.value c.len-capacity.ensures c.record_len-len.ensures in
+    let x = known (goal.at.further-self-inside-requires-clause-most c).After-pad_len-pad in
     omega (arith, x.sizes.low, c.record_len-len.ensures, c.len-capacity.ensures, c.self.inside.block.ok.0, (wide (length c.self.inside.block.items) c.self.invariant.ring.size).least)
 
 pub further-self-inside-requires-clause-low : goal.further-self-inside-requires-clause-low
 further-self-inside-requires-clause-low c =
-    let x = known c.self.inside c.args.self.now c.args.message.now c.pad_len-pad.result c.len-capacity.result c.record_len-len.result
-    c.self.invariant.ring c.self.view_is c.requires.spellable c.pad_len-pad.ensures.value c.len-capacity.ensures c.record_len-len.ensures in
+    let x = known (goal.at.further-self-inside-requires-clause-low c).After-pad_len-pad in
     omega (arith, x.sizes.low, c.record_len-len.ensures, c.self.invariant.ring.low, c.self.invariant.ring.few)
 
 pub invariant_of-self : goal.invariant_of-self
 invariant_of-self c =
-    let x = known c.self.inside c.args.self.now c.args.message.now c.pad_len-pad.result c.len-capacity.result c.record_len-len.result
-    c.self.invariant.ring c.self.view_is c.requires.spellable c.pad_len-pad.ensures.value c.len-capacity.ensures c.record_len-len.ensures in
     let i = c.self.inside in
-    let d = done i c.args.self.now c.args.message.now c.pad_len-pad.result c.record_len-len.result c.as_mut_slice.result.now c.write.new.block x
-    c.self.invariant.ring c.self.view_is c.requires.spellable c.requires.few c.record_len-len.ensures (omega (arith, c.free.ensures.value, c.if-pad-len.false)) c.as_mut_slice.ensures.value c.write.ensures in
+    let d = done (goal.at.invariant_of-self c).After-write (known (goal.at.invariant_of-self c).After-pad_len-pad) in
     written_later (with_items i.block c.write.new.block).items i.read i.written c.further-self-inside.result i.consumed (i.posts + 1) c.len-capacity.result (c.pad_len-pad.result + c.record_len-len.result)
     (c.len-capacity.ensures ∙ i.block.ok.0 ∙ sym d.size) d.ring c.further-self-inside.ensures.count c.further-self-inside.ensures.at (c.self.invariant.read_at ∙ ap (λ n. i.read.count % n) (sym d.size))
 
 pub returns-clause-exact : goal.returns-clause-exact
 returns-clause-exact c =
-    let x = known c.self.inside c.args.self.now c.args.message.now c.pad_len-pad.result c.len-capacity.result c.record_len-len.result
-    c.self.invariant.ring c.self.view_is c.requires.spellable c.pad_len-pad.ensures.value c.len-capacity.ensures c.record_len-len.ensures in
+    let x = known (goal.at.returns-clause-exact c).After-pad_len-pad in
     ((λ h. absurd (false≢true h)), (λ h. absurd (omega (arith, h, x.needs, c.free.ensures.value, c.if-pad-len.false, c.record_len-len.ensures))))
 
 pub returns-clause-ok : goal.returns-clause-ok
 returns-clause-ok c =
-    let x = known c.self.inside c.args.self.now c.args.message.now c.pad_len-pad.result c.len-capacity.result c.record_len-len.result
-    c.self.invariant.ring c.self.view_is c.requires.spellable c.pad_len-pad.ensures.value c.len-capacity.ensures c.record_len-len.ensures in
     let i = c.self.inside in
-    let d = done i c.args.self.now c.args.message.now c.pad_len-pad.result c.record_len-len.result c.as_mut_slice.result.now c.write.new.block x
-    c.self.invariant.ring c.self.view_is c.requires.spellable c.requires.few c.record_len-len.ensures (omega (arith, c.free.ensures.value, c.if-pad-len.false)) c.as_mut_slice.ensures.value c.write.ensures in
+    let d = done (goal.at.returns-clause-ok c).After-write (known (goal.at.returns-clause-ok c).After-pad_len-pad) in
     ap (λ (w : ℕ). ring_of (with_items i.block c.write.new.block).items i.read.count w i.consumed (i.posts + 1)) c.further-self-inside.ensures.count ∙ d.state
