@@ -1,6 +1,6 @@
 -- What the ends of the ring between threads mean.
 use Rattle.std.proofs.Common.{◌⊎◌, inl, inr, ⊎_elim, refl, ap, ◌∙◌, sym, append_assoc, append-nil}
-use Rattle.std.specs.Prelude.{◌≡◌, ◌≤◌, ℕ, List, [], ◌∷◌, ◌++◌, length}
+use Rattle.std.specs.Prelude.{◌≡◌, ◌≤◌, ℕ, List, [], ◌++◌, length}
 use Rattle.rtrb.specs.Ring.{IsPair, SameConsumer, SameProducer, known_items, producer_capacity, received, sent}
 use Rattle.gs_ring.specs.Splits.{two_splits}
 use Rattle.gs_layout.specs.declared.message.Message.{Message}

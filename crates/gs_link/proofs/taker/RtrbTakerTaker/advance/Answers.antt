@@ -1,6 +1,5 @@
-use Rattle.std.proofs.Common.{◌≡◌, List, [], ◌∷◌, ◌++◌, append-nil, sym, ap, ◌∙◌}
+use Rattle.std.proofs.Common.{◌≡◌, [], ◌∷◌, ◌++◌, append-nil, sym, ap, ◌∙◌}
 use Rattle.rtrb.specs.Ring.{known_items, received}
-use Rattle.gs_layout.specs.declared.message.Message.{Message}
 use Rattle.gs_link.proofs.taker.RtrbTakerTaker.advance.Goals as goal
 
 pub returns : goal.returns
