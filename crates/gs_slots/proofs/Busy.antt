@@ -1,9 +1,9 @@
 -- Slots that are other than idle.
-use Rattle.std.proofs.Common.{◌≡◌, ◌≢◌, Bool, true, false, not, ℕ, zero, suc, ◌+◌, ◌-◌, ◌<◌, ◌≤◌, ◌⊎◌, inl, inr, Option, None, Some, Ok, List, [], ◌∷◌, ◌++◌, length, replicate, take, drop, slice_get, slice_set, refl, ap, sym, subst, ◌∙◌, arith}
+use Rattle.std.proofs.Common.{◌≡◌, ◌≢◌, Bool, true, false, not, ℕ, zero, suc, ◌+◌, ◌-◌, ◌<◌, ◌≤◌, ◌⊎◌, inl, inr, Option, None, Some, Ok, List, ◌++◌, length, replicate, take, drop, slice_get, refl, ap, sym, subst, ◌∙◌, arith, ⊎_elim}
 use Rattle.std.specs.Prelude.{◌==◌, ◌||◌, nat_eq, unwrap_or}
 use Rattle.std.specs.Cmp.Lexicographic.{bytes_decides, pointwise}
 use Rattle.std.specs.Int.{bit_at, bit_not, w128}
-use Rattle.std.proofs.lemmas.Bool.{cases_eq, cases_lt, eqb-true, or_parts}
+use Rattle.std.proofs.lemmas.Bool.{cases_eq, cases_lt, eqb-true, or_parts, not-false, both_ways}
 use Rattle.std.proofs.lemmas.List.{length-replicate}
 use Rattle.std.proofs.lemmas.Nat.Bits.{bit_at-lt, bit_at_not, shr_and_one}
 use Rattle.gs_slots.specs.declared.wire.TheConstants.{SLOT_LEN}
@@ -29,11 +29,7 @@ busy_by_test xs fits size =
 -- a slot that is not busy is idle
 pub quiet_bytes : (xs : List ℕ) → is_busy xs ≡ false → xs ≡ idle_bytes
 unfolding is_busy
-quiet_bytes xs e = (bytes_decides xs idle_bytes).0 (flip (pointwise nat_eq xs idle_bytes) e)
-  where
-    flip : (b : Bool) → not b ≡ false → b ≡ true
-    flip true e = refl
-    flip false e = absurd cc
+quiet_bytes xs e = (bytes_decides xs idle_bytes).0 (not-false (pointwise nat_eq xs idle_bytes) e)
 
 pub quiet_read : (k : ℕ) (xs : List ℕ) → is_busy xs ≡ false → state_in k xs ≡ Ok Idle
 quiet_read k xs e = ap (state_in k) (quiet_bytes xs e) ∙ idle_read k
@@ -53,13 +49,6 @@ none_busy zero (suc c) = refl
 none_busy (suc n) zero = idle_quiet
 none_busy (suc n) (suc c) = none_busy n c
 
-set_other : (xs : List (List ℕ)) (k c : ℕ) (x : List ℕ) → c ≢ k → slice_get (slice_set xs k x) c ≡ slice_get xs c
-set_other [] k c x other = refl
-set_other (y ∷ ys) zero zero x other = absurd (other refl)
-set_other (y ∷ ys) zero (suc c) x other = refl
-set_other (y ∷ ys) (suc k) zero x other = refl
-set_other (y ∷ ys) (suc k) (suc c) x other = set_other ys k c x (λ e. other (ap suc e))
-
 -- of the mask of all ones, each CPU is in it
 pub all_ones : (c : ℕ) → c < MOST_CPUS → has (bit_not w128 0) c ≡ true
 all_ones c lt = ap (λ (k : ℕ). k == 1) (shr_and_one (bit_not w128 0) c) ∙ ap (λ (k : ℕ). k == 1) (bit_at_not w128 0 c (omega arith) lt ∙ flipped (bit_at 0 c) (bit_at-lt 0 c) none)
@@ -74,10 +63,7 @@ all_ones c lt = ap (λ (k : ℕ). k == 1) (shr_and_one (bit_not w128 0) c) ∙ a
 
 -- a mask that has all is a region's, whatever is in its slots
 pub all_covered : (xs : List (List ℕ)) → CoversBusy xs (bit_not w128 0)
-all_covered xs c lt e = absurd (not_both (all_ones c lt) e)
-  where
-    not_both : has (bit_not w128 0) c ≡ true → has (bit_not w128 0) c ≡ false → ⊥
-    not_both p q = cc
+all_covered xs c lt e = absurd (both_ways (has (bit_not w128 0) c) e (all_ones c lt))
 
 -- ---- a walk through the CPUs that may be busy
 
@@ -89,32 +75,16 @@ ahead left = MOST_CPUS - unwrap_or (least (has left) MOST_CPUS) MOST_CPUS
 pub goes_up : (left left' k : ℕ) → least (has left) MOST_CPUS ≡ Some k → k < MOST_CPUS → has left' k ≡ false → ((c : ℕ) → c ≢ k → has left' c ≡ has left c) → ahead left' < ahead left
 goes_up left left' k found lt gone rest = subst (λ (o : Option ℕ). ahead left' < MOST_CPUS - unwrap_or o MOST_CPUS) (sym found) (by_next (least (has left') MOST_CPUS) refl)
   where
-    found' : least (has left) MOST_CPUS ≡ Some k
-    found' = found
-
-    below : k < MOST_CPUS
-    below = lt
-
-    gone' : has left' k ≡ false
-    gone' = gone
-
-    rest' : (c : ℕ) → c ≢ k → has left' c ≡ has left c
-    rest' = rest
-
-    never : (c : ℕ) → has left' c ≡ true → has left' c ≡ false → ⊥
-    never c p q = cc
-
     later : (j : ℕ) → has left' j ≡ true → (j < k + 1) ⊎ (k + 1 ≤ j) → k + 1 ≤ j
     later j there (inr past) = past
-    later j there (inl early) = by_place (cases_eq j k)
-      where
-        by_place : (j ≡ k) ⊎ (j ≢ k) → k + 1 ≤ j
-        by_place (inl e) = absurd (never j there (ap (has left') e ∙ gone'))
-        by_place (inr other) = let before : j < k = omega arith in absurd (never j there (rest' j other ∙ least_before (has left) MOST_CPUS k found' j before))
+    later j there (inl early) = absurd (⊎_elim
+        (λ e. both_ways (has left' j) (ap (has left') e ∙ gone) there)
+        (λ other. both_ways (has left' j) (rest j other ∙ least_before (has left) MOST_CPUS k found j (omega (arith, early, other))) there)
+        (cases_eq j k))
 
     by_next : (o : Option ℕ) → least (has left') MOST_CPUS ≡ o → MOST_CPUS - unwrap_or o MOST_CPUS < MOST_CPUS - k
-    by_next None e = omega (arith, below)
-    by_next (Some j) e = let past : k + 1 ≤ j = later j (least_passes (has left') MOST_CPUS j e) (cases_lt j (k + 1)) in omega (arith, below, past)
+    by_next None e = omega (arith, lt)
+    by_next (Some j) e = let past : k + 1 ≤ j = later j (least_passes (has left') MOST_CPUS j e) (cases_lt j (k + 1)) in omega (arith, lt, past)
 
 -- those of the CPUs that the walk passed that are found are the busy ones; those that are left are all there
 pub record IsFound (slots : List (List ℕ)) (busy left : ℕ) : Type 0 where
@@ -127,30 +97,10 @@ found_first slots lent covers = record { right = λ c lt free. free ∙ sym (cov
 -- one CPU more was looked at
 pub found_more : (slots : List (List ℕ)) (busy busy' left left' k : ℕ) → IsFound slots busy left
     → has busy' k ≡ is_busy_at slots k → ((c : ℕ) → c ≢ k → has busy' c ≡ has busy c) → has left' k ≡ false → ((c : ℕ) → c ≢ k → has left' c ≡ has left c) → IsFound slots busy' left'
-found_more slots busy busy' left left' k i here others gone rest = record { right = right'; kept = kept' }
-  where
-    others' : (c : ℕ) → c ≢ k → has busy' c ≡ has busy c
-    others' = others
-
-    rest' : (c : ℕ) → c ≢ k → has left' c ≡ has left c
-    rest' = rest
-
-    right' : (c : ℕ) → c < MOST_CPUS → has left' c ≡ false → has busy' c ≡ is_busy_at slots c
-    right' c below passed = at (cases_eq c k)
-      where
-        at : (c ≡ k) ⊎ (c ≢ k) → has busy' c ≡ is_busy_at slots c
-        at (inl e) = ap (has busy') e ∙ (here ∙ ap (is_busy_at slots) (sym e))
-        at (inr other) = others' c other ∙ i.right c below (sym (rest' c other) ∙ passed)
-
-    never : (c : ℕ) → has left' c ≡ true → has left' c ≡ false → ⊥
-    never c p q = cc
-
-    kept' : (c : ℕ) → has left' c ≡ true → has busy' c ≡ true
-    kept' c there = at (cases_eq c k)
-      where
-        at : (c ≡ k) ⊎ (c ≢ k) → has busy' c ≡ true
-        at (inl e) = absurd (never c there (ap (has left') e ∙ gone))
-        at (inr other) = others' c other ∙ i.kept c (sym (rest' c other) ∙ there)
+found_more slots busy busy' left left' k i here others gone rest = record {
+  right = λ c below passed. ⊎_elim (λ e. ap (has busy') e ∙ (here ∙ ap (is_busy_at slots) (sym e))) (λ other. others c other ∙ i.right c below (sym (rest c other) ∙ passed)) (cases_eq c k);
+  kept = λ c there. ⊎_elim (λ e. absurd (both_ways (has left' c) (ap (has left') e ∙ gone) there)) (λ other. others c other ∙ i.kept c (sym (rest c other) ∙ there)) (cases_eq c k);
+}
 
 -- a slot that is not busy has no flag
 quiet_flag : (slots : List (List ℕ)) (c : ℕ) → is_busy_at slots c ≡ false → is_flagged_at slots c ≡ false
@@ -173,20 +123,12 @@ looked_first slots lent covers = record { found = found_first slots lent covers;
 
 pub looked_more : (slots : List (List ℕ)) (busy busy' : ℕ) (flagged flagged' : Bool) (left left' k : ℕ) → IsLooked slots busy flagged left → IsFound slots busy' left' → flagged' ≡ (flagged || is_flagged_at slots k)
     → ((c : ℕ) → c ≢ k → has left' c ≡ has left c) → IsLooked slots busy' flagged' left'
-looked_more slots busy busy' flagged flagged' left left' k i found is rest = record { found = found; single = single' }
-  where
-    rest' : (c : ℕ) → c ≢ k → has left' c ≡ has left c
-    rest' = rest
-
-    single' : flagged' ≡ false → (c : ℕ) → c < MOST_CPUS → has left' c ≡ false → is_flagged_at slots c ≡ false
-    single' e c lt passed = by_place (cases_eq c k)
-      where
-        parts : (flagged ≡ false) × (is_flagged_at slots k ≡ false)
-        parts = or_parts flagged (is_flagged_at slots k) (sym is ∙ e)
-
-        by_place : (c ≡ k) ⊎ (c ≢ k) → is_flagged_at slots c ≡ false
-        by_place (inl same) = ap (is_flagged_at slots) same ∙ parts.1
-        by_place (inr other) = i.single parts.0 c lt (sym (rest' c other) ∙ passed)
+looked_more slots busy busy' flagged flagged' left left' k i found is rest = record {
+  found = found;
+  single = λ e c lt passed.
+      let parts = or_parts flagged (is_flagged_at slots k) (sym is ∙ e) in
+      ⊎_elim (λ same. ap (is_flagged_at slots) same ∙ parts.1) (λ other. i.single parts.0 c lt (sym (rest c other) ∙ passed)) (cases_eq c k);
+}
 
 -- the mask of no CPU has none
 pub none_left : (left : ℕ) → (left == 0) ≡ true → (c : ℕ) → has left c ≡ false

@@ -1,5 +1,5 @@
 -- The flag of a group in the bytes of a slot, and in what is read of them.
-use Rattle.std.proofs.Common.{◌≡◌, Bool, true, false, ℕ, zero, suc, ◌+◌, ◌⊎◌, inl, inr, Some, Ok, Err, List, [], ◌∷◌, cond, slice_get, refl, ap, sym, ◌∙◌, arith}
+use Rattle.std.proofs.Common.{◌≡◌, Bool, true, false, ℕ, zero, suc, ◌+◌, ◌⊎◌, inl, inr, Some, Ok, Err, List, [], ◌∷◌, cond, slice_get, refl, ap, sym, ◌∙◌, arith, ⊎_elim}
 use Rattle.std.specs.Prelude.{◌&&◌, ◌==◌, slice_index}
 use Rattle.std.specs.Option.{option_map}
 use Rattle.gs_slots.specs.declared.wire.TheConstants.{DONE, STAMPED, STATE_AT}
@@ -46,11 +46,7 @@ still_idle k = by_state (state_in k idle_bytes)
 
 -- and then there is nothing more to collect
 pub clears_once : (k : ℕ) (b : List ℕ) → collected_in k (collected_in k b) ≡ collected_in k b
-clears_once k b = by_case (idle_or_same k b)
-  where
-    by_case : (collected_in k b ≡ b) ⊎ (collected_in k b ≡ idle_bytes) → collected_in k (collected_in k b) ≡ collected_in k b
-    by_case (inl same) = ap (collected_in k) same
-    by_case (inr idle) = ap (collected_in k) idle ∙ (still_idle k ∙ sym idle)
+clears_once k b = ⊎_elim (λ same. ap (collected_in k) same) (λ idle. ap (collected_in k) idle ∙ (still_idle k ∙ sym idle)) (idle_or_same k b)
 
 -- one of the slots that were changed, each as it is that of its CPU
 pub by_cpu_at : {X Y : Type 0} (f : ℕ → X → Y) (first : ℕ) (xs : List X) (k : ℕ) → slice_get (by_cpu f first xs) k ≡ option_map (f (first + k)) (slice_get xs k)

@@ -32,17 +32,6 @@ pub states_count : (first : ℕ) (xs : List (List ℕ)) → length (states_in fi
 states_count first [] = refl
 states_count first (x ∷ xs) = ap suc (states_count (suc first) xs)
 
-get_map : {X Y : Type 0} (f : X → Y) (xs : List X) (k : ℕ) (x : X) → slice_get xs k ≡ Some x → slice_get (map f xs) k ≡ Some (f x)
-get_map f [] k x e = absurd cc
-get_map f (y ∷ ys) zero x e = let same : Some (f y) ≡ Some (f x) = cc in same
-get_map f (y ∷ ys) (suc k) x e = get_map f ys k x e
-
--- what one of several slots tells an agent
-pub told_at : (k : ℕ) (xs : List (List ℕ)) (x : List ℕ) → slice_get xs k ≡ Some x → slice_get (told_by 0 xs) k ≡ Some (state_or_idle (state_in k x))
-told_at k xs x e =
-    let own : 0 + k ≡ k = omega arith in
-    get_map state_or_idle (states_in 0 xs) k (state_in k x) (state_at 0 k xs x e ∙ ap (λ (n : ℕ). Some (state_in n x)) own)
-
 -- ---- slots of which none is malformed
 
 pub get_held : (zs : List SlotState) (k : ℕ) (h : Held) → slice_get (map Ok zs) k ≡ Some h → slice_get zs k ≡ Some (state_or_idle h)
