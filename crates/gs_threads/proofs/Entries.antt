@@ -18,9 +18,6 @@ same_eqb t = grind (arith, nat_tests)
 pub eqb_same : (t u : ℕ) → (t == u) ≡ true → t ≡ u
 eqb_same t u e = grind (arith, nat_tests)
 
-pub eqb_other : (t u : ℕ) → (t == u) ≡ false → t ≡ u → ⊥
-eqb_other t u e same = grind (arith, nat_tests)
-
 pub some_of : (o : Option ThreadRow) → IsSome o → (row : ThreadRow) × (o ≡ Some row)
 some_of (Some row) there = (row, refl)
 some_of None there = absurd cc

@@ -1,7 +1,6 @@
 -- Who lives after a row was added or changed, and the set of those.
-use Rattle.std.proofs.Common.{◌≡◌, ◌≢◌, refl, ap, sym, ◌∙◌, ℕ, zero, suc, ◌+◌, ◌-◌, ◌*◌, ◌<◌, ◌≤◌, ◌⊎◌, inl, inr, true, false, Some, slice_get, List, [], ◌∷◌, ◌++◌, length, get_or, set, arith, length-append, length-set, get_or-set_same, get_or-set_other}
-use Rattle.std.proofs.lemmas.Bool.{cases_lt}
-use Rattle.std.proofs.lemmas.Option.{slice_get-get_or, slice_get_past}
+use Rattle.std.proofs.Common.{◌≡◌, ◌≢◌, refl, ap, sym, ◌∙◌, ℕ, zero, suc, ◌+◌, ◌-◌, ◌*◌, ◌<◌, ◌≤◌, ◌⊎◌, inl, inr, true, false, Some, slice_get, List, [], ◌∷◌, ◌++◌, length, get_or, set, arith, length-append, length-set, get_or-set_same}
+use Rattle.std.proofs.lemmas.Bool.{cases_eq}
 use Rattle.gs_sets.specs.declared.bits.TheConstants.{WORD}
 use Rattle.gs_sets.specs.Bits.{is_in}
 use Rattle.gs_threads.specs.declared.row.ThreadRow.{ThreadRow}
@@ -15,23 +14,18 @@ lives_at : (rows : List ThreadRow) (t : ℕ) (d : ThreadRow) → 0 < t → t ≤
 unfolding lives
 lives_at rows t d pos le = ap row_lives (row_there rows t d pos le)
 
+set_other : (rows : List ThreadRow) (k n : ℕ) (row : ThreadRow) → n ≢ k → slice_get (set rows k row) n ≡ slice_get rows n
+set_other [] k n row other = refl
+set_other (r ∷ rows) zero zero row other = absurd (other refl)
+set_other (r ∷ rows) zero (suc n) row other = refl
+set_other (r ∷ rows) (suc k) zero row other = refl
+set_other (r ∷ rows) (suc k) (suc n) row other = set_other rows k n row (λ e. other (ap suc e))
+
 -- the row of another thread stays
 row_other : (rows : List ThreadRow) (t u : ℕ) (row : ThreadRow) → 0 < t → u ≢ t → row_of (set rows (t - 1) row) u ≡ row_of rows u
 unfolding row_of
 row_other rows t zero row pos other = refl
-row_other rows t (suc n) row pos other = at_place (cases_lt n (length rows))
-  where
-    differs : n ≢ t - 1
-    differs e = other (omega (arith, e, pos))
-
-    at_place : (n < length rows) ⊎ (length rows ≤ n) → slice_get (set rows (t - 1) row) n ≡ slice_get rows n
-    at_place (inl lt) =
-        let within : n < length (set rows (t - 1) row) = omega (arith, lt, length-set rows (t - 1) row) in
-        slice_get-get_or (set rows (t - 1) row) n row within
-        ∙ (ap Some (get_or-set_other rows (t - 1) n row row differs) ∙ sym (slice_get-get_or rows n row lt))
-    at_place (inr past) =
-        let past' : length (set rows (t - 1) row) ≤ n = omega (arith, past, length-set rows (t - 1) row) in
-        slice_get_past (set rows (t - 1) row) n past' ∙ sym (slice_get_past rows n past)
+row_other rows t (suc n) row pos other = set_other rows (t - 1) n row (λ e. other (omega (arith, e, pos)))
 
 -- the set follows if a row was changed
 pub changed : (words words' : List ℕ) (rows : List ThreadRow) (t : ℕ) (row : ThreadRow) → IsOfRows words rows → 0 < t → t ≤ length rows
@@ -40,37 +34,17 @@ pub changed : (words words' : List ℕ) (rows : List ThreadRow) (t : ℕ) (row :
 unfolding lives
 changed words words' rows t row kept pos le here others room =
     record {
-      live = λ u. by_place u (cases_lt u t) (cases_lt t u);
+      live = λ u. by_place u (cases_eq u t);
       room = omega (arith, kept.room, room, length-set rows (t - 1) row);
     }
   where
-    before : IsOfRows words rows
-    before = kept
-
-    same : (u : ℕ) → u ≢ t → is_in words' u ≡ is_in words u
-    same = others
-
-    positive : 0 < t
-    positive = pos
-
-    within : t ≤ length rows
-    within = le
-
-    at_t : is_in words' t ≡ is_live row.record
-    at_t = here
-
-    elsewhere : (u : ℕ) → u ≢ t → is_in words' u ≡ row_lives (row_of (set rows (t - 1) row) u)
-    elsewhere u other = same u other ∙ (before.live u ∙ ap row_lives (sym (row_other rows t u row positive other)))
-
-    by_place : (u : ℕ) → (u < t) ⊎ (t ≤ u) → (t < u) ⊎ (u ≤ t) → is_in words' u ≡ row_lives (row_of (set rows (t - 1) row) u)
-    by_place u (inl below) _ = elsewhere u (λ e. omega (arith, e, below))
-    by_place u _ (inl above) = elsewhere u (λ e. omega (arith, e, above))
-    by_place u (inr ge) (inr le') =
-        let e : u ≡ t = omega (arith, ge, le') in
-        let is : get_or (set rows (t - 1) row) (t - 1) row ≡ row = get_or-set_same rows (t - 1) row row (omega (arith, positive, within)) in
+    by_place : (u : ℕ) → (u ≡ t) ⊎ (u ≢ t) → is_in words' u ≡ row_lives (row_of (set rows (t - 1) row) u)
+    by_place u (inr other) = others u other ∙ (kept.live u ∙ ap row_lives (sym (row_other rows t u row pos other)))
+    by_place u (inl e) =
+        let is : get_or (set rows (t - 1) row) (t - 1) row ≡ row = get_or-set_same rows (t - 1) row row (omega (arith, pos, le)) in
         ap (is_in words') e
-        ∙ (at_t ∙ (ap (λ (r : ThreadRow). is_live r.record) (sym is)
-        ∙ (ap row_lives (sym (row_there (set rows (t - 1) row) t row positive (omega (arith, within, length-set rows (t - 1) row))))
+        ∙ (here ∙ (ap (λ (r : ThreadRow). is_live r.record) (sym is)
+        ∙ (ap row_lives (sym (row_there (set rows (t - 1) row) t row pos (omega (arith, le, length-set rows (t - 1) row))))
         ∙ ap (λ v. row_lives (row_of (set rows (t - 1) row) v)) (sym e))))
 
 -- the set stays if the thread of a row that was changed lives on, or is dead still
@@ -106,33 +80,15 @@ created words words' rows row kept alive free here others room =
       room = omega (arith, free, room, length-append rows (row ∷ []));
     }
   where
-    before : IsOfRows words rows
-    before = kept
-
-    same : (u : ℕ) → u ≢ length rows + 1 → is_in words' u ≡ is_in words u
-    same = others
-
-    at_last : is_in words' (length rows + 1) ≡ true
-    at_last = here
-
-    is_alive : is_live row.record ≡ true
-    is_alive = alive
-
-    elsewhere : (n : ℕ) → n ≢ length rows → is_in words' (suc n) ≡ row_lives (slice_get (rows ++ row ∷ []) n)
-    elsewhere n other = same (suc n) (λ e. other (omega (arith, e))) ∙ (before.live (suc n) ∙ ap row_lives (sym (row_before rows row n other)))
-
-    by_place : (n : ℕ) → (n < length rows) ⊎ (length rows ≤ n) → (length rows < n) ⊎ (n ≤ length rows)
-        → is_in words' (suc n) ≡ row_lives (slice_get (rows ++ row ∷ []) n)
-    by_place n (inl below) _ = elsewhere n (λ e. omega (arith, e, below))
-    by_place n _ (inl above) = elsewhere n (λ e. omega (arith, e, above))
-    by_place n (inr ge) (inr le) =
-        let e : n ≡ length rows = omega (arith, ge, le) in
+    by_place : (n : ℕ) → (n ≡ length rows) ⊎ (n ≢ length rows) → is_in words' (suc n) ≡ row_lives (slice_get (rows ++ row ∷ []) n)
+    by_place n (inr other) = others (suc n) (λ e. other (omega (arith, e))) ∙ (kept.live (suc n) ∙ ap row_lives (sym (row_before rows row n other)))
+    by_place n (inl e) =
         let e' : suc n ≡ length rows + 1 = omega (arith, e) in
-        ap (is_in words') e' ∙ (at_last ∙ sym (ap (λ k. row_lives (slice_get (rows ++ row ∷ []) k)) e ∙ (ap row_lives (row_last rows row) ∙ is_alive)))
+        ap (is_in words') e' ∙ (here ∙ sym (ap (λ k. row_lives (slice_get (rows ++ row ∷ []) k)) e ∙ (ap row_lives (row_last rows row) ∙ alive)))
 
     by_tid : (u : ℕ) → is_in words' u ≡ row_lives (row_of (rows ++ row ∷ []) u)
-    by_tid zero = same 0 (λ e. omega (arith, e)) ∙ before.live 0
-    by_tid (suc n) = by_place n (cases_lt n (length rows)) (cases_lt (length rows) n)
+    by_tid zero = others 0 (λ e. omega (arith, e)) ∙ kept.live 0
+    by_tid (suc n) = by_place n (cases_eq n (length rows))
 
 -- nobody lives if there are no rows
 pub of_no_rows : (words : List ℕ) (rows : List ThreadRow) → words ≡ [] → rows ≡ [] → IsOfRows words rows

@@ -1,5 +1,6 @@
 -- A table that mirrors the history still does after a message, once the table took it in.
 use Rattle.std.proofs.Common.{◌≡◌, refl, ap, sym, ◌∙◌, subst, ℕ, zero, suc, ◌+◌, ◌==◌, Bool, true, false, inr, ◌↔◌, cond, None, Some, List, [], ◌∷◌, ◌++◌, length, arith, slice_get, length-append}
+use Rattle.std.proofs.lemmas.Bool.{eqb-false}
 use Rattle.std.specs.Option.{option_map}
 use Rattle.std.proofs.lemmas.List.{append-nil}
 use Rattle.gs_layout.specs.declared.facts.Facts.{Facts}
@@ -16,7 +17,7 @@ use Rattle.gs_threads.specs.Rows.{new_row, row_after}
 use Rattle.gs_threads.specs.Table.{row_of, rows_after, record_at, number_at, place_at}
 use Rattle.gs_threads.specs.Mirrors.{Mirrors, IsNext}
 use Rattle.gs_threads.proofs.Lookups.{row_never}
-use Rattle.gs_threads.proofs.Entries.{eqb_same, eqb_other, some_of, messages_about, messages_other, record_by, record_more, seq_by, seq_first, seq_next, push_some, on_kept, on_left}
+use Rattle.gs_threads.proofs.Entries.{eqb_same, some_of, messages_about, messages_other, record_by, record_more, seq_by, seq_first, seq_next, push_some, on_kept, on_left}
 use Rattle.gs_threads.proofs.Told.{row_other, row_about, length-rows_after, record_by_row, number_by_row, place_by_row, record_row, number_row, place_row, record_none, place_after}
 
 pub mirrors_posted : (first : ℕ) (h : History) (rows : List ThreadRow) (m : Message) → Mirrors first h rows → IsNext first h rows m → Mirrors first (h ++ Posted m ∷ []) (rows_after rows m)
@@ -160,7 +161,7 @@ mirrors_created first h rows f was =
     now u q = row_new rows (new_row first f) u (eqb_same (length rows + 1) u q)
 
     before : (u : ℕ) → (length rows + 1 == u) ≡ false → row_of more u ≡ row_of rows u
-    before u q = row_old rows (new_row first f) u (eqb_other (length rows + 1) u q)
+    before u q = row_old rows (new_row first f) u (eqb-false (length rows + 1) u q)
 
     absent : (u : ℕ) → (row_of more u ≡ None) ↔ (messages later u ≡ [])
     absent u = by_about (length rows + 1 == u) refl

@@ -1,5 +1,6 @@
 -- A table that mirrors the history still does after an entry that is no message, once the thread was placed.
 use Rattle.std.proofs.Common.{◌≡◌, refl, ap, sym, ◌∙◌, subst, ℕ, ◌==◌, Bool, true, false, ◌⊎◌, inl, inr, ◌↔◌, cond, Option, None, Some, List, [], ◌∷◌, ◌++◌, length, IsSome}
+use Rattle.std.proofs.lemmas.Bool.{eqb-false}
 use Rattle.std.specs.Option.{option_map, option_map_or}
 use Rattle.gs_layout.specs.declared.record.Record.TheVariants.{Absent}
 use Rattle.std.specs.List.{filter}
@@ -15,7 +16,7 @@ use Rattle.gs_threads.specs.Table.{row_of, rows_placed, record_at, number_at, pl
 use Rattle.gs_threads.specs.Cleared.{SameButPlaces}
 use Rattle.gs_threads.specs.Mirrors.{Mirrors, is_quiet}
 use Rattle.gs_threads.proofs.Lookups.{length-change_row, row_of-change, row_of-change_other}
-use Rattle.gs_threads.proofs.Entries.{same_eqb, eqb_same, eqb_other, some_of, record_by, seq_by}
+use Rattle.gs_threads.proofs.Entries.{same_eqb, eqb_same, some_of, record_by, seq_by}
 use Rattle.gs_threads.proofs.Told.{place_by_row, place_row}
 
 pub row_placed_other : (rows : List ThreadRow) (t u : ℕ) (cpu : Option ℕ) → (t ≡ u → ⊥) → row_of (rows_placed rows t cpu) u ≡ row_of rows u
@@ -79,7 +80,7 @@ placed_keeps rows t cpu = record { count = length-rows_placed rows t cpu; kept =
   where
     by_thread : (u : ℕ) (b : Bool) → (t == u) ≡ b
         → (row_of (rows_placed rows t cpu) u ≡ row_of rows u) ⊎ ((to : Option ℕ) × (row_of (rows_placed rows t cpu) u ≡ option_map (λ row. row_placed row to) (row_of rows u)))
-    by_thread u false q = inl (row_placed_other rows t u cpu (eqb_other t u q))
+    by_thread u false q = inl (row_placed_other rows t u cpu (eqb-false t u q))
     by_thread u true q =
         let P : ℕ → Type 0 = λ k. row_of (rows_placed rows t cpu) k ≡ option_map (λ row. row_placed row cpu) (row_of rows k) in
         inr (cpu, subst P (eqb_same t u q) (row_placed_same rows t cpu))
@@ -130,17 +131,17 @@ mirrors_placed first h rows t s c g was there nowhere nobody =
         by_both true q false k =
             let same : t ≡ u = eqb_same t u q in
             let put : place_at (rows_placed rows t (Some c)) u ≡ Some c = ap (place_at (rows_placed rows t (Some c))) (sym same) ∙ place_set rows t (Some c) there in (
-              λ x. absurd (eqb_other c d k (let y : Some c ≡ Some d = sym put ∙ x in cc)),
+              λ x. absurd (eqb-false c d k (let y : Some c ≡ Some d = sym put ∙ x in cc)),
               λ x. absurd (let y : place_at rows u ≡ Some d = (was.same_place u d).1 (sym (on_elsewhere h t s c g d k) ∙ x) in let z : place_at rows u ≡ None = ap (place_at rows) (sym same) ∙ nowhere in cc),
             )
         by_both false q true k =
             let here : c ≡ d = eqb_same c d k in (
-              λ x. absurd (let y : on h d ≡ Some u = (was.same_place u d).0 (sym (place_other rows t u (Some c) (eqb_other t u q)) ∙ x) in let z : on h d ≡ None = ap (on h) (sym here) ∙ nobody in cc),
-              λ x. absurd (eqb_other t u q (let y : Some t ≡ Some u = sym (on_here h t s c g d here) ∙ x in cc)),
+              λ x. absurd (let y : on h d ≡ Some u = (was.same_place u d).0 (sym (place_other rows t u (Some c) (eqb-false t u q)) ∙ x) in let z : on h d ≡ None = ap (on h) (sym here) ∙ nobody in cc),
+              λ x. absurd (eqb-false t u q (let y : Some t ≡ Some u = sym (on_here h t s c g d here) ∙ x in cc)),
             )
         by_both false q false k = (
-          λ x. on_elsewhere h t s c g d k ∙ (was.same_place u d).0 (sym (place_other rows t u (Some c) (eqb_other t u q)) ∙ x),
-          λ x. place_other rows t u (Some c) (eqb_other t u q) ∙ (was.same_place u d).1 (sym (on_elsewhere h t s c g d k) ∙ x),
+          λ x. on_elsewhere h t s c g d k ∙ (was.same_place u d).0 (sym (place_other rows t u (Some c) (eqb-false t u q)) ∙ x),
+          λ x. place_other rows t u (Some c) (eqb-false t u q) ∙ (was.same_place u d).1 (sym (on_elsewhere h t s c g d k) ∙ x),
         )
 
 pub posts_nothing : (e : Entry) → is_quiet e ≡ true → posted_by e ≡ []

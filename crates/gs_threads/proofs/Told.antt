@@ -1,5 +1,6 @@
 -- What one more message makes of a row.
 use Rattle.std.proofs.Common.{◌≡◌, refl, ap, sym, ◌∙◌, subst, ℕ, ◌==◌, Bool, true, false, cond, Option, None, Some, List, length}
+use Rattle.std.proofs.lemmas.Bool.{eqb-false}
 use Rattle.std.specs.Option.{option_map, option_map_or}
 use Rattle.gs_layout.specs.declared.message.Change.{Change}
 use Rattle.gs_layout.specs.declared.message.Message.{Message}
@@ -10,12 +11,12 @@ use Rattle.gs_threads.specs.declared.row.ThreadRow.{ThreadRow}
 use Rattle.gs_threads.specs.Rows.{row_after}
 use Rattle.gs_threads.specs.Table.{row_of, change_row, rows_after, record_at, number_at, place_at, cpu_of}
 use Rattle.gs_threads.proofs.Lookups.{length-change_row, row_of-change, row_of-change_other}
-use Rattle.gs_threads.proofs.Entries.{eqb_same, eqb_other}
+use Rattle.gs_threads.proofs.Entries.{eqb_same}
 
 pub row_other : (rows : List ThreadRow) (m : Message) (u : ℕ) → is_about u m ≡ false → row_of (rows_after rows m) u ≡ row_of rows u
 unfolding rows_after
 row_other rows (TimerTick c) u other = refl
-row_other rows (Thread t s c) u other = row_of-change_other rows t u (λ row. row_after row (Thread t s c)) (eqb_other t u other)
+row_other rows (Thread t s c) u other = row_of-change_other rows t u (λ row. row_after row (Thread t s c)) (eqb-false t u other)
 
 pub row_about : (rows : List ThreadRow) (m : Message) (u : ℕ) → is_about u m ≡ true → row_of (rows_after rows m) u ≡ option_map (λ row. row_after row m) (row_of rows u)
 unfolding rows_after

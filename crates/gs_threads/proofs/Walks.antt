@@ -31,12 +31,9 @@ from_here n t (row ∷ rows) le =
 not_shown : (from n : ℕ) (row : ThreadRow) → (from ≤ n → is_live row.record ≡ false) → (nat_le from n && is_live row.record) ≡ false
 not_shown from n row dead = by_place (cases_lt n from)
   where
-    is_dead : from ≤ n → is_live row.record ≡ false
-    is_dead = dead
-
     by_place : (n < from) ⊎ (from ≤ n) → (nat_le from n && is_live row.record) ≡ false
     by_place (inl lt) = let not_yet : nat_le from n ≡ false = grind (arith, nat_tests) in ap (λ b. b && is_live row.record) not_yet
-    by_place (inr le) = let reached : nat_le from n ≡ true = grind (arith, nat_tests) in ap (λ b. b && is_live row.record) reached ∙ is_dead le
+    by_place (inr le) = let reached : nat_le from n ≡ true = grind (arith, nat_tests) in ap (λ b. b && is_live row.record) reached ∙ dead le
 
 -- if none of the rows from a tid on lives, there is nothing to show
 none_from : (g : ℕ → Option ThreadRow) (from n : ℕ) (rows : List ThreadRow) → ((k : ℕ) → slice_get rows k ≡ g (n + k))
@@ -60,41 +57,26 @@ first_from g from r row n (row' ∷ rows) same le after none there live =
     first_from g from r row (n + 1) rows (λ k. same (suc k) ∙ ap g (let e : n + suc k ≡ n + 1 + k = omega arith in e)) (omega arith) after none there live)
     (let here : Some row' ≡ g n = same 0 ∙ ap g (let e : n + 0 ≡ n = omega arith in e) in here)
   where
-    dead : (t : ℕ) → from ≤ t → t < r → row_lives (g t) ≡ false
-    dead = none
-
-    at_r : g r ≡ Some row
-    at_r = there
-
-    lives_on : is_live row.record ≡ true
-    lives_on = live
-
-    within : n ≤ r
-    within = le
-
-    reached : from ≤ r
-    reached = after
-
     -- behind the first, the row of thread n is not shown again
     passed : rows_from (r + 1) n (row' ∷ rows) ≡ rows_from (r + 1) (n + 1) rows
-    passed = ap (λ b. shown_if b (n, row') (rows_from (r + 1) (n + 1) rows)) (not_shown (r + 1) n row' (λ le'. absurd (omega (arith, le', within))))
+    passed = ap (λ b. shown_if b (n, row') (rows_from (r + 1) (n + 1) rows)) (not_shown (r + 1) n row' (λ le'. absurd (omega (arith, le', le))))
 
     by_place : (n < r) ⊎ (r ≤ n) → (n < r → rows_from from (n + 1) rows ≡ (r, row) ∷ rows_from (r + 1) (n + 1) rows) → Some row' ≡ g n
         → rows_from from n (row' ∷ rows) ≡ (r, row) ∷ rows_from (r + 1) n (row' ∷ rows)
     by_place (inl lt) more here =
-        ap (λ b. shown_if b (n, row') (rows_from from (n + 1) rows)) (not_shown from n row' (λ le'. ap row_lives here ∙ dead n le' lt))
+        ap (λ b. shown_if b (n, row') (rows_from from (n + 1) rows)) (not_shown from n row' (λ le'. ap row_lives here ∙ none n le' lt))
         ∙ (more lt ∙ ap (λ w. (r, row) ∷ w) (sym passed))
     by_place (inr ge) more here =
-        let e : n ≡ r = omega (arith, ge, within) in
-        let is : row' ≡ row = let s : Some row' ≡ Some row = here ∙ (ap g e ∙ at_r) in cc in
+        let e : n ≡ r = omega (arith, ge, le) in
+        let is : row' ≡ row = let s : Some row' ≡ Some row = here ∙ (ap g e ∙ there) in cc in
         let shows : (nat_le from n && is_live row'.record) ≡ true =
-        let at : nat_le from n ≡ true = let start = reached in grind (arith, nat_tests) in
-        ap (λ b. b && is_live row'.record) at ∙ (ap (λ (w : ThreadRow). is_live w.record) is ∙ lives_on)
+        let at : nat_le from n ≡ true = let start = after in grind (arith, nat_tests) in
+        ap (λ b. b && is_live row'.record) at ∙ (ap (λ (w : ThreadRow). is_live w.record) is ∙ live)
         in
         ap (λ b. shown_if b (n, row') (rows_from from (n + 1) rows)) shows
         ∙ (ap (λ m. (m, row') ∷ rows_from from (n + 1) rows) e
         ∙ (ap (λ w. (r, w) ∷ rows_from from (n + 1) rows) is
-        ∙ (ap (λ w. (r, row) ∷ w) (from_here (n + 1) from rows (omega (arith, reached, ge)) ∙ sym (from_here (n + 1) (r + 1) rows (omega (arith, ge))))
+        ∙ (ap (λ w. (r, row) ∷ w) (from_here (n + 1) from rows (omega (arith, after, ge)) ∙ sym (from_here (n + 1) (r + 1) rows (omega (arith, ge))))
         ∙ ap (λ w. (r, row) ∷ w) (sym passed))))
 
 -- there is no row for tid 0, nor past the end
@@ -103,14 +85,11 @@ unfolding lives row_of
 lives_within rows zero live = absurd cc
 lives_within rows (suc n) live = by_place (cases_lt n (length rows))
   where
-    alive : row_lives (slice_get rows n) ≡ true
-    alive = live
-
     by_place : (n < length rows) ⊎ (length rows ≤ n) → (0 < suc n) × (suc n ≤ length rows)
     by_place (inl lt) = (omega arith, omega (arith, lt))
     by_place (inr past) =
         let away : row_lives (slice_get rows n) ≡ false = ap row_lives (slice_get_past rows n past) in
-        let here = alive in
+        let here = live in
         absurd cc
 
 -- a walk from a tid on shows nothing if no thread from there on lives
