@@ -206,12 +206,9 @@ walk_more group old s left left' k region m region' m' i lt within there least_i
   few = omega arith;
   ahead = ahead';
   there = there';
-  quiet = λ c from below none. let other : c ≢ k = omega arith in i.quiet c (later c from) below (sym (rest' c other) ∙ none);
+  quiet = λ c from below none. let other : c ≢ k = omega arith in i.quiet c (later c from) below (sym (rest c other) ∙ none);
 }
   where
-    rest' : (c : ℕ) → c ≢ k → has left' c ≡ has left c
-    rest' = rest
-
     start : i.at ≤ k
     start = i.ahead k there
 
@@ -224,21 +221,18 @@ walk_more group old s left left' k region m region' m' i lt within there least_i
     before : (c : ℕ) → c < k → has left c ≡ false
     before = none_before (has left) 128 k least_is
 
-    is_gone : has left' k ≡ false
-    is_gone = gone
-
     not_it : (c : ℕ) → has left' c ≡ true → c ≢ k
-    not_it c is e = never c is (ap (has left') e ∙ is_gone)
+    not_it c is e = never c is (ap (has left') e ∙ gone)
 
     there' : (c : ℕ) → c < 128 → has left' c ≡ true → c < length old
-    there' c below is = i.there c below (sym (rest' c (not_it c is)) ∙ is)
+    there' c below is = i.there c below (sym (rest c (not_it c is)) ∙ is)
 
     ahead' : (c : ℕ) → has left' c ≡ true → k + 1 ≤ c
     ahead' c is = at_least (cases_lt c (k + 1))
       where
         at_least : (c < k + 1) ⊎ (k + 1 ≤ c) → k + 1 ≤ c
         at_least (inr le) = le
-        at_least (inl early) = let other : c ≢ k = not_it c is in absurd (never c is (rest' c other ∙ before c (omega arith)))
+        at_least (inl early) = let other : c ≢ k = not_it c is in absurd (never c is (rest c other ∙ before c (omega arith)))
 
 -- if none is left, all below 128 count as collected
 pub walk_ends : (group : Bool) (old : List (List ℕ)) (s : MindState) (left : ℕ) (region : List (List ℕ)) (m : MindState) → IsWalked group old s left region m → (left == 0) ≡ true → IsCollected group old s (min (length old) 128) region m
@@ -248,9 +242,6 @@ walk_ends group old s left region m i e =
     let w : at ≤ length old = i.within in
     let f : at ≤ 128 = i.few in
     quiet_until group old s at (min (length old) 128) region m i.done (omega arith) (omega arith) (λ c from lt. let below : c < 128 = omega arith in i.quiet c from below (none c))
-
-pub min_within : (n m : ℕ) → min n m ≤ n
-min_within n m = omega arith
 
 pub next_within : (k n : ℕ) → k < n → k + 1 ≤ n
 next_within k n lt = omega arith
@@ -334,6 +325,10 @@ left_all : (k : ℕ) (old : List (List ℕ)) → by_cpu (left_if false) k (by_cp
 left_all k [] = refl
 left_all k (x ∷ old) = λ i. left_twice k x i ∷ left_all (suc k) old i
 
+idle_either_way : (b : Bool) → cond b Idle Idle ≡ Idle
+idle_either_way true = refl
+idle_either_way false = refl
+
 -- what the slots of a group tell
 told_first : (k : ℕ) (bytes : List ℕ) → told_if true k bytes ≡ if_grouped (state_or_idle (state_in k bytes))
 told_first k bytes = by_case (flag_is k bytes)
@@ -341,12 +336,8 @@ told_first k bytes = by_case (flag_is k bytes)
     told : SlotState
     told = state_or_idle (state_in k bytes)
 
-    either : (b : Bool) → cond b Idle Idle ≡ Idle
-    either true = refl
-    either false = refl
-
     by_case : (told ≡ Idle) ⊎ (is_grouped told ≡ is_flagged bytes) → cond (is_flagged bytes) told Idle ≡ cond (is_grouped told) told Idle
-    by_case (inl idle) = ap (λ (z : SlotState). cond (is_flagged bytes) z Idle) idle ∙ (either (is_flagged bytes) ∙ (sym (either (is_grouped told)) ∙ ap (λ (z : SlotState). cond (is_grouped told) z Idle) (sym idle)))
+    by_case (inl idle) = ap (λ (z : SlotState). cond (is_flagged bytes) z Idle) idle ∙ (idle_either_way (is_flagged bytes) ∙ (sym (idle_either_way (is_grouped told)) ∙ ap (λ (z : SlotState). cond (is_grouped told) z Idle) (sym idle)))
     by_case (inr same) = ap (λ (b : Bool). cond b told Idle) (sym same)
 
 all_first : (k : ℕ) (old : List (List ℕ)) → by_cpu (told_if true) k old ≡ map if_grouped (told_by k old)
@@ -391,12 +382,8 @@ told_then k bytes p = by_flag (is_flagged bytes) refl (flag_is k bytes)
     told : SlotState
     told = state_or_idle (state_in k bytes)
 
-    either : (b : Bool) → cond b Idle Idle ≡ Idle
-    either true = refl
-    either false = refl
-
     single_idle : told ≡ Idle → if_single told ≡ Idle
-    single_idle idle = ap (λ (z : SlotState). cond (is_grouped told) Idle z) idle ∙ either (is_grouped told)
+    single_idle idle = ap (λ (z : SlotState). cond (is_grouped told) Idle z) idle ∙ idle_either_way (is_grouped told)
 
     cleared : collected_in k bytes ≡ idle_bytes → state_or_idle (state_in k (collected_in k bytes)) ≡ Idle
     cleared e = ap (λ (x : List ℕ). state_or_idle (state_in k x)) e ∙ ap state_or_idle (quiet_read k idle_bytes idle_quiet)

@@ -1,21 +1,19 @@
 -- A drain, one message at a time.
-use Rattle.std.proofs.Common.{◌≡◌, refl, ap, sym, subst, ◌∙◌, ℕ, ◌+◌, ◌<◌, ◌≤◌, ◌||◌, Bool, true, false, Option, None, Some, List, [], ◌∷◌, ◌++◌, length, drop, arith, cond, take, ◌⊎◌, ⊎_elim, append-nil, append_assoc, length-append}
+use Rattle.std.proofs.Common.{◌≡◌, refl, ap, sym, subst, ◌∙◌, ℕ, ◌+◌, ◌<◌, ◌≤◌, Bool, true, false, Option, None, Some, List, [], ◌∷◌, ◌++◌, length, drop, arith, cond, take, ◌⊎◌, ⊎_elim, append_assoc, length-append}
+use Rattle.std.proofs.lemmas.Bool.{or_from}
 use Rattle.std.specs.List.{list_any}
-use Rattle.std.specs.Prelude.{IsSome, count_by, is_some}
+use Rattle.std.specs.Prelude.{count_by, is_some}
 use Rattle.std.proofs.lemmas.List.{drop_at, take_at}
 use Rattle.std.proofs.lemmas.List.Folds.{list_any-append}
 use Rattle.std.proofs.lemmas.List.Sums.{sum_by-append}
 use Rattle.gs_layout.specs.declared.message.Message.{Message}
 use Rattle.gs_layout.specs.declared.known.Word.{Word}
 use Rattle.gs_layout.specs.View.{Look, look_up, apply, catch_up, is_gap, is_orphan, is_skipped, word, words}
-use Rattle.gs_view.specs.Begins.{begins}
 use Rattle.gs_view.specs.declared.news.News.{News}
 use Rattle.gs_view.specs.declared.news.News.TheVariants.{Applied, Skipped, Orphan}
 use Rattle.gs_view.specs.News.{word_of}
 use Rattle.gs_agent.specs.declared.drained.Drained.{Drained}
-use Rattle.gs_agent.specs.declared.drained.Stop.{Stop}
-use Rattle.gs_agent.specs.declared.drained.Stop.TheVariants as stops
-use Rattle.gs_agent.specs.Drains.{Followed, FollowedFirst, count_word}
+use Rattle.gs_agent.specs.Drains.{Followed, count_word}
 use Rattle.gs_agent.proofs.Laws.{view_after_messages}
 use Rattle.gs_agent.specs.Mind.{MindState, picture_of}
 use Rattle.gs_agent.specs.Picture.{Picture, after_message, after_messages}
@@ -27,9 +25,6 @@ messages_push p (x ∷ ms) m = messages_push (after_message x p) ms m
 words_push : (v : Look) (ms : List Message) (m : Message) → words v (ms ++ m ∷ []) ≡ words v ms ++ word (catch_up v ms) m ∷ []
 words_push v [] m = refl
 words_push v (x ∷ ms) m = ap (λ w. word v x ∷ w) (words_push (apply v x) ms m)
-
-or_none : (a b : Bool) → a ≡ false → b ≡ false → (a || (b || false)) ≡ false
-or_none a b p q = rw p (rw q refl)
 
 count_push : {A : Type 0} (p : A → Bool) (xs : List A) (x : A) → count_by p (xs ++ x ∷ []) ≡ count_by p xs + cond (p x) 1 0
 count_push p xs x = sum_by-append (λ y. cond (p y) 1 0) xs (x ∷ []) ∙ ap (λ n. count_by p xs + n) (let e : 0 + cond (p x) 1 0 ≡ cond (p x) 1 0 = omega arith in e)
@@ -44,17 +39,6 @@ no_gap_followed Applied = refl
 no_gap_followed Skipped = refl
 no_gap_followed Orphan = refl
 
-none_is_some : {A : Type 0} (o : Option A) → o ≡ None → IsSome o → ⊥
-none_is_some None e h = cc
-none_is_some (Some x) e h = cc
-
-none_is_none : {A : Type 0} (o : Option A) (x : A) → o ≡ None → o ≡ Some x → ⊥
-none_is_none None x e h = cc
-none_is_none (Some y) x e h = cc
-
-some_same : (s t : Stop) → Some s ≡ Some t → s ≡ t
-some_same s t e = cc
-
 pub followed_more : (p p' p'' : Picture) (ms : List Message) (m : Message) (w : Word) (d : Drained) → Followed p ms d p' → w ≡ word p'.view m → is_gap w ≡ false → p'' ≡ after_message m p' → Followed p (ms ++ m ∷ []) (count_word d w) p''
 followed_more p p' p'' ms m w d t is gap next =
     let is' : word (catch_up p.view ms) m ≡ w = ap (λ (x : Look). word x m) (sym t.view) ∙ sym is in
@@ -62,7 +46,7 @@ followed_more p p' p'' ms m w d t is gap next =
     let all : words p.view (ms ++ m ∷ []) ≡ words p.view ms ++ w ∷ [] = words_push p.view ms m ∙ ap (λ x. words p.view ms ++ x ∷ []) is' in
     record {
       count = omega (arith, t.count, length-append ms (m ∷ []));
-      none_gap = ap (list_any is_gap) all ∙ (list_any-append is_gap (words p.view ms) (w ∷ []) ∙ or_none _ _ t.none_gap gap);
+      none_gap = ap (list_any is_gap) all ∙ (list_any-append is_gap (words p.view ms) (w ∷ []) ∙ or_from _ _ t.none_gap (or_from (is_gap w) false gap refl));
       skipped = ap (λ n. n + cond (is_skipped w) 1 0) t.skipped ∙ (sym (count_push is_skipped (words p.view ms) w) ∙ ap (count_by is_skipped) (sym all));
       orphans = ap (λ n. n + cond (is_orphan w) 1 0) t.orphans ∙ (sym (count_push is_orphan (words p.view ms) w) ∙ ap (count_by is_orphan) (sym all));
       picture = last;
@@ -70,11 +54,6 @@ followed_more p p' p'' ms m w d t is gap next =
       few_skipped = omega (arith, t.few_skipped, at_most_one (is_skipped w));
       few_orphans = omega (arith, t.few_orphans, at_most_one (is_orphan w));
     }
-
--- why it stopped is no part of that
-pub followed_stop : (p p' : Picture) (ms : List Message) (d : Drained) (s : Option Stop) → Followed p ms d p' → Followed p ms (record d { stop = s }) p'
-followed_stop p p' ms d s t =
-    record { count = t.count; none_gap = t.none_gap; skipped = t.skipped; orphans = t.orphans; picture = t.picture; view = t.view; few_skipped = t.few_skipped; few_orphans = t.few_orphans }
 
 -- of a batch these messages were followed so far, and these are left
 pub record FollowedSoFar (batch : List Message) (max : ℕ) (d : Drained) (v : MindState) (d' : Drained) (v' : MindState) (left : List Message) : Type 0 where
@@ -86,10 +65,6 @@ pub record FollowedSoFar (batch : List Message) (max : ℕ) (d : Drained) (v : M
   pub few_skipped : d'.skipped ≤ d'.count
   pub few_orphans : d'.orphans ≤ d'.count
   pub followed : (p : Picture) (ms : List Message) → Followed p ms d (picture_of v) → Followed p (ms ++ done) d' (picture_of v')
-
-pub none_followed : (batch : List Message) (max : ℕ) (d : Drained) (v : MindState) → d.count ≤ max → d.skipped ≤ d.count → d.orphans ≤ d.count → d.stop ≡ None → FollowedSoFar batch max d v d v batch
-none_followed batch max d v most skipped orphans goes_on =
-    record { done = []; all = refl; count = omega arith; most = most; goes_on = goes_on; few_skipped = skipped; few_orphans = orphans; followed = λ p ms t. subst (λ l. Followed p l d (picture_of v)) (sym (append-nil ms)) t }
 
 pub followed_one : (batch : List Message) (max : ℕ) (d : Drained) (v : MindState) (d' : Drained) (v' : MindState) (m : Message) (left : List Message) (w : Word) (d'' : Drained) (v'' : MindState)
     → FollowedSoFar batch max d v d' v' (m ∷ left) → d'.count < max → d'' ≡ count_word d' w → word (look_up v'.records) m ≡ w → is_gap w ≡ false → picture_of v'' ≡ after_message m (picture_of v')
@@ -110,37 +85,6 @@ followed_one batch max d v d' v' m left w d'' v'' t lt counted is gap next =
           (followed_more p (picture_of v') (picture_of v'') (ms ++ t.done) m w d' (t.followed p ms h) (sym is) gap next));
     }
 
--- when the walk ends, all of a batch was followed, or as many as might be
-pub followed_all : (batch : List Message) (max : ℕ) (d : Drained) (v : MindState) (d' : Drained) (v' : MindState) (left : List Message) → FollowedSoFar batch max d v d' v' left → (d'.count < max → left ≡ []) → FollowedFirst batch max d v d' v'
-followed_all batch max d v d' v' left t ends = record {
-  done = t.done;
-  left = left;
-  all = t.all;
-  count = t.count;
-  most = t.most;
-  followed = t.followed;
-  whole = λ _ lt. ends lt;
-  early = λ h. absurd (none_is_some d'.stop t.goes_on h);
-  gap = λ h. absurd (none_is_none d'.stop stops.Gap t.goes_on h);
-  memory = λ h. absurd (none_is_none d'.stop stops.Memory t.goes_on h);
-}
-
-pub followed_to_stop : (batch : List Message) (max : ℕ) (d : Drained) (v : MindState) (d' : Drained) (v' : MindState) (m : Message) (left : List Message) (s : Stop) (v'' : MindState)
-    → FollowedSoFar batch max d v d' v' (m ∷ left) → d'.count < max → v'' ≡ v' → (s ≡ stops.Gap → is_gap (word (look_up v'.records) m) ≡ true) → (s ≡ stops.Memory → begins (look_up v'.records) m ≡ true)
-    → FollowedFirst batch max d v (record d' { stop = Some s }) v''
-followed_to_stop batch max d v d' v' m left s v'' t lt same gap memory = record {
-  done = t.done;
-  left = m ∷ left;
-  all = t.all;
-  count = t.count;
-  most = t.most;
-  followed = λ p ms h. subst (λ (x : MindState). Followed p (ms ++ t.done) (record d' { stop = Some s }) (picture_of x)) (sym same) (followed_stop p (picture_of v') (ms ++ t.done) d' (Some s) (t.followed p ms h));
-  whole = λ h. absurd (none_is_none (Some s) s h refl);
-  early = λ _. lt;
-  gap = λ h. (m, left, refl, subst (λ (x : MindState). is_gap (word (look_up x.records) m) ≡ true) (sym same) (gap (some_same s stops.Gap h)));
-  memory = λ h. (m, left, refl, subst (λ (x : MindState). begins (look_up x.records) m ≡ true) (sym same) (memory (some_same s stops.Memory h)));
-}
-
 -- what is ahead behind the messages of a batch that passed
 pub left_ahead : (done left more : List Message) → done ++ more ≡ done ++ left → more ≡ left
 left_ahead done left more e = sym (drop_at done more (length done) refl) ∙ ap (λ l. drop (length done) l) e ∙ drop_at done left (length done) refl
@@ -148,10 +92,6 @@ left_ahead done left more e = sym (drop_at done more (length done) refl) ∙ ap 
 -- as many as were followed are those
 pub first_done : (all done left : List Message) (n : ℕ) → all ≡ done ++ left → length done ≡ n → take n all ≡ done
 first_done all done left n e count = ap (λ l. take n l) e ∙ take_at done left n count
-
-pub no_messages : (ms : List Message) → length ms ≡ 0 → ms ≡ []
-no_messages [] e = refl
-no_messages (m ∷ ms) e = absurd (omega (arith, e))
 
 pub none_where : {A : Type 0} (o : Option A) → is_some o ≡ false → o ≡ None
 none_where None e = refl

@@ -92,12 +92,9 @@ room_more v q q' more h = record { least = h.least; most = h.most; room = λ t e
 pub room_set : (r : DumpRecord) (v v' : Look) (q : Queue) → IsTid r.tid → MOST_TIDS ≤ q.room → HasRoom v q → ((t : ℕ) → v' t ≡ with_record r v t) → HasRoom v' q
 room_set r v v' q tid room h known = record { least = λ t e. (which t e).0; most = λ t e. (which t e).1; room = λ t e. room }
   where
-    it : HasRoom v q
-    it = h
-
     by_test : (t : ℕ) (b : Bool) → (r.tid == t) ≡ b → is_some (cond b (Some r.known) (v t)) ≡ true → IsTid t
     by_test t true same e = subst IsTid (eqb-true r.tid t same) tid
-    by_test t false other e = (it.least t e, it.most t e)
+    by_test t false other e = (h.least t e, h.most t e)
 
     which : (t : ℕ) → is_some (v' t) ≡ true → IsTid t
     which t e = by_test t (r.tid == t) refl (ap (λ (o : Option Known). is_some o) (sym (known t)) ∙ e)

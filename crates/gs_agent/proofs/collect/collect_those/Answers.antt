@@ -1,13 +1,14 @@
 use Rattle.std.proofs.Common.{◌≡◌, ◌∙◌, ◌<◌, ◌≤◌, List, ℕ, ap, length, min, subst, sym}
+use Rattle.std.proofs.Math.Nat.{min-le_left}
 use Rattle.gs_agent.specs.Collected.{IsCollected}
-use Rattle.gs_agent.proofs.Collecting.{all_collected_is, collected_length, collected_one, min_within, next_within}
+use Rattle.gs_agent.proofs.Collecting.{all_collected_is, collected_length, collected_one, next_within}
 use Rattle.gs_agent.proofs.collect.collect_those.Goals as goal
 
 pub loop-cpu-init : goal.loop-cpu-init
 loop-cpu-init c =
     let old : List (List ℕ) = c.args.region.now in
     let few : ℕ = min (length old) 128 in
-    let within : few ≤ length old = min_within (length old) 128 in
+    let within : few ≤ length old = min-le_left (length old) 128 in
     let size : length c.collect_busy.new.region ≡ length old = collected_length c.args.group old c.args.mind.now few c.collect_busy.new.region c.collect_busy.new.mind c.collect_busy.ensures in
     let is : c.min-cpu.result ≡ few = c.min-cpu.ensures ∙ ap (λ (n : ℕ). min n 128) (c.cpus-cpus.ensures ∙ size) in
     record {
