@@ -1,5 +1,6 @@
 -- What a command leaves of a machine.
 use Rattle.std.proofs.Common.{◌≡◌, refl, ap, sym, subst, ◌∙◌, ℕ, Bool, true, false, not, ◌&&◌, Option, None, Some, [], ◌∷◌, ◌++◌, append_assoc, unwrap_or}
+use Rattle.std.proofs.Math.Bool.{and-false}
 use Rattle.std.proofs.lemmas.Bool.{false≢true}
 use Rattle.std.specs.Option.{is_none, is_some, option_map}
 use Rattle.gs_layout.specs.declared.refusal.Refusal.TheVariants as refusals
@@ -67,13 +68,9 @@ needs_none : (s : Settings) (h : History) (o : Option ℕ) (c : ℕ) → activat
 unfolding activate_refusal
 needs_none s h o c e = by_page o (first_passed (not (is_some (attaching h) && is_none o)) refusals.NotAttaching (take_refusal s h c) e).0
   where
-    both : (b : Bool) → not (b && false) ≡ true
-    both true = refl
-    both false = refl
-
     by_page : (o : Option ℕ) → not (is_some (attaching h) && is_none o) ≡ false → o ≡ None
     by_page None p = refl
-    by_page (Some t) p = absurd (false≢true (sym p ∙ both (is_some (attaching h))))
+    by_page (Some t) p = absurd (false≢true (sym p ∙ ap not (and-false (is_some (attaching h)))))
 
 -- a machine whose agent and slots follow an entry
 abbrev pub left_by : State → Entry → History → State

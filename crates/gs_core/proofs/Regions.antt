@@ -77,11 +77,6 @@ idle_region bs n m e is = ap (states_in 0) e ∙ (all_idle_read 0 n ∙ ap (λ (
 pub collected_region : (bs left : List (List ℕ)) (zs : List SlotState) → AreRead bs zs → left ≡ all_collected 0 bs → AreRead left (map collected zs)
 collected_region bs left zs e is = ap (states_in 0) is ∙ collected_read 0 bs zs e
 
-pub get_below : {X : Type 0} (xs : List X) (k : ℕ) (x : X) → slice_get xs k ≡ Some x → k < length xs
-get_below [] k x e = absurd cc
-get_below (y ∷ ys) zero x e = omega arith
-get_below (y ∷ ys) (suc k) x e = omega (arith, get_below ys k x e)
-
 -- ---- a stamp
 
 -- what a stamp leaves of the states: in the slot what was stamped, if it was

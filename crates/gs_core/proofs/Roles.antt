@@ -1,5 +1,5 @@
 -- Whoever is active or attaches after an event was so before it, unless an agent begins, or is active on a CPU from then on.
-use Rattle.std.proofs.Common.{◌≡◌, refl, ap, sym, subst, ◌∙◌, ℕ, Option, None, Some, List, [], ◌∷◌, ◌++◌}
+use Rattle.std.proofs.Common.{◌≡◌, refl, ap, sym, subst, ◌∙◌, ℕ, Option, None, Some, List, [], ◌∷◌, ◌++◌, append_assoc}
 use Rattle.gs_journal.specs.Standing.{standing, last_of}
 use Rattle.gs_layout.specs.declared.message.Message.{Message}
 use Rattle.gs_layout.specs.declared.outcome.Outcome.{Outcome}
@@ -12,7 +12,6 @@ use Rattle.gs_kernel.specs.declared.settings.Settings.{Settings}
 use Rattle.gs_kernel.specs.Kernel.{preemption}
 use Rattle.gs_kernel.specs.declared.effect.Effect.TheVariants.{Append}
 use Rattle.gs_kernel.specs.Legal.{Room, entries_in}
-use Rattle.std.proofs.Common.{append_assoc}
 use Rattle.gs_kernel.specs.Landing.{verdict, placing}
 use Rattle.gs_kernel.specs.Lands.{Landings, LandsAll, Settles}
 use Rattle.gs_kernel.proofs.Laws.{SameBeside, active_none, all_keep, attaching_none, beside_placed, beside_posted, beside_quiet, landing_keeps}

@@ -221,14 +221,8 @@ one_shows s h h' g fit n v page true k (Stamped b) rest known given seen shows e
     has_seen : IsSeen h v b
     has_seen = seen b refl
 
-    all_known : AllWas s.first_tseq h v
-    all_known = known
-
-    all_given : (t : ℕ) → is_given page t ≡ true
-    all_given = given
-
     by_flag : (f : Bool) → (are_to_place s h g g ≡ true → list_all (would_place s h g) (cond f ((k, b) ∷ []) [] ++ rest) ≡ true) → Shows h' n v page (done_if f b (With s h h' g fit k b))
-    by_flag true e = member_shows s h h' g fit n v page k b all_known all_given has_seen (λ p. (and_parts (would_place s h g (k, b)) (list_all (would_place s h g) rest) (e p)).0)
+    by_flag true e = member_shows s h h' g fit n v page k b known given has_seen (λ p. (and_parts (would_place s h g (k, b)) (list_all (would_place s h g) rest) (e p)).0)
     by_flag false e = tt
 
 rest_place : (p : ℕ × Stamp → Bool) (w : Bool) (k : ℕ) (z : SlotState) (rest : Group) → list_all p (grouped w k z ++ rest) ≡ true → list_all p rest ≡ true

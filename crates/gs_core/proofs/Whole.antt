@@ -10,7 +10,7 @@ use Rattle.gs_journal.specs.History.{posted, messages, seq, record_in, on, activ
 use Rattle.gs_journal.specs.State.{state}
 use Rattle.gs_kernel.specs.declared.settings.Settings.{Settings}
 use Rattle.gs_core.specs.declared.transaction.Transaction.{Transaction}
-use Rattle.gs_core.specs.Machine.{Plan, State, planning, start}
+use Rattle.gs_core.specs.Machine.{Plan, State, planning, start, refusal, view, plan_of, stamps, stamps_all, stamps_with}
 use Rattle.gs_core.specs.Safe.{IsIn, IsBacked, OnOne}
 use Rattle.gs_core.specs.Good.{Good}
 use Rattle.gs_replies.specs.declared.config.Config.{Config}
@@ -18,7 +18,6 @@ use Rattle.gs_replies.specs.Config.{settings_of}
 use Rattle.gs_core.specs.declared.event.Event.{Event}
 use Rattle.gs_core.specs.declared.event.Event.TheVariants as events
 use Rattle.gs_core.specs.Desk.{AreBelow}
-use Rattle.gs_core.specs.Machine.{refusal, view, plan_of, stamps, stamps_all, stamps_with}
 use Rattle.gs_layout.specs.declared.known.Known.{Known}
 use Rattle.gs_policy.specs.declared.choice.Choice.{Choice}
 use Rattle.gs_kernel.proofs.Laws.{first_passed}

@@ -1,4 +1,5 @@
 use Rattle.std.proofs.Common.{◌≡◌, ◌||◌, Bool, Some, None, true, false, refl, ap, sym, subst, ◌∙◌, unwrap_or}
+use Rattle.std.proofs.Math.Bool.{or-false}
 use Rattle.std.specs.Option.{is_none, is_some, option_map}
 use Rattle.gs_journal.specs.History.{attaching, posted}
 use Rattle.gs_ring.specs.Ends.{Posted}
@@ -19,10 +20,6 @@ use Rattle.gs_core.proofs.Paging.{kept_paged}
 use Rattle.gs_core.proofs.Serving.{lent_mut, role_there}
 use Rattle.gs_core.proofs.Suiting.{suits_paged}
 use Rattle.gs_core.proofs.machine.Machine.page.Goals as goal
-
-or_none : (b : Bool) → (b || false) ≡ b
-or_none true = refl
-or_none false = refl
 
 pub unwrap-role-requires : goal.unwrap-role-requires
 unwrap-role-requires g c =
@@ -62,7 +59,7 @@ invariant_of-self-2 g c =
     let paged : k.paged ≡ is_none r'.next =
     ap (λ (x : KernelOf RingState). x.paged) noted
     ∙ (ap (λ b. paged_after page b) (i.suits.given some ∙ ap is_none (ap page_of there ∙ next))
-    ∙ (or_none (is_none page.next) ∙ ap is_none (sym goes))) in
+    ∙ (or-false (is_none page.next) ∙ ap is_none (sym goes))) in
     record {
       kept = subst Kept left (kept_paged m (agent_of r) from c.args.max r'.mind there next some known i.kept);
       told = subst (λ (x : KernelOf RingState). Posted x.poster (posted x.history)) (sym noted) i.told;

@@ -1,5 +1,4 @@
-use Rattle.std.proofs.Common.{◌∙◌, Ok, map, ap}
-use Rattle.std.proofs.Common.{length, replicate}
+use Rattle.std.proofs.Common.{◌∙◌, Ok, map, ap, length, replicate}
 use Rattle.gs_slots.specs.declared.state.SlotState.TheVariants.{Idle}
 use Rattle.gs_slots.proofs.Laws.{told_is}
 use Rattle.gs_core.proofs.Regions.{count_is, idle_region, read_told}

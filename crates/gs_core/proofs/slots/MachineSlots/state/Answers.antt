@@ -1,5 +1,4 @@
-use Rattle.std.proofs.Common.{◌∙◌, Ok, map, ap}
-use Rattle.std.proofs.Common.{sym, Some, arith}
+use Rattle.std.proofs.Common.{◌∙◌, Ok, map, ap, sym, Some, arith}
 use Rattle.gs_core.proofs.Regions.{count_is, or_idle, slot_state}
 use Rattle.gs_core.proofs.slots.MachineSlots.state.Goals as goal
 
