@@ -1,5 +1,5 @@
 -- Why a transaction was not placed, as a sentence.
-use Rattle.std.specs.Prelude.{ℕ, Option, None, Some, List, [], ◌++◌, codes, decimal}
+use Rattle.std.specs.Prelude.{ℕ, Option, None, Some, List, ◌++◌, decimal}
 use Rattle.gs_layout.specs.declared.outcome.Outcome.{Outcome}
 use Rattle.gs_layout.specs.declared.outcome.Outcome.TheVariants as outcomes
 use Rattle.gs_lines.specs.Lines.{outcome_text}

@@ -1,5 +1,5 @@
 -- Why an event was refused, as a sentence.
-use Rattle.std.specs.Prelude.{Bool, true, false, ℕ, ◌-◌, ◌==◌, Option, None, Some, List, [], ◌++◌, codes, decimal, if◌then◌else◌}
+use Rattle.std.specs.Prelude.{Bool, true, false, ℕ, ◌-◌, ◌==◌, Option, None, Some, List, ◌++◌, decimal, if◌then◌else◌}
 use Rattle.gs_layout.specs.declared.refusal.Refusal.{Refusal}
 use Rattle.gs_layout.specs.declared.refusal.Refusal.TheVariants as refusals
 use Rattle.gs_policy.specs.declared.any.AnyPolicy.{AnyPolicy}
@@ -8,10 +8,9 @@ use Rattle.gs_journal.specs.declared.entry.Entry.TheVariants.{Begin}
 use Rattle.gs_kernel.specs.declared.command.Command.TheVariants as commands
 use Rattle.gs_core.specs.declared.event.Event.{Event}
 use Rattle.gs_core.specs.declared.event.Event.TheVariants as events
-use Rattle.gs_sentences.specs.Told.{Cause}
+use Rattle.gs_sentences.specs.Told.{Cause, Refused}
 use Rattle.gs_sentences.specs.declared.numbers.Numbers.{Numbers}
 use Rattle.gs_sentences.specs.declared.numbers.Waiting.{Waiting}
-use Rattle.gs_sentences.specs.Told.{Refused}
 use Rattle.gs_sentences.specs.Shared.{agent_text, dead_text, held_text, place_text, seat_text, since_text, torn_text}
 use Rattle.gs_sentences.specs.Landed.{full_text}
 use Rattle.gs_sentences.specs.Subject.{cpu_of, mask_of, tid_of}

@@ -1,4 +1,4 @@
-use Rattle.std.proofs.Common.{◌≡◌, ◌≤◌, sym, subst, List, ℕ, [], arith, drop}
+use Rattle.std.proofs.Common.{◌≡◌, ◌≤◌, sym, subst, [], arith, drop}
 use Rattle.std.specs.Str.{IsUtf8}
 use Rattle.std.proofs.lemmas.List.{drop_all}
 use Rattle.std.proofs.lemmas.Str.{IsUtf8-nil}
