@@ -1,17 +1,11 @@
 -- One more word.
 use denote.Ref.{Bor}
-use Rattle.std.proofs.Common.{◌≡◌, ◌≤◌, ◌<◌, ◌∙◌, ℕ, nat_le, Bool, true, false, List, [], ◌∷◌, ◌++◌, Option, None, Some, refl, sym, ap, subst, inl, inr, arith}
+use Rattle.std.proofs.lemmas.Bool.{leb-false, leb-true}
+use Rattle.std.proofs.Common.{◌≡◌, ◌≤◌, ◌<◌, ℕ, nat_le, true, false, List, [], ◌∷◌, ◌++◌, Option, None, Some, refl, subst, arith}
 use Rattle.std.specs.List.{All, Contains}
-use Rattle.std.proofs.lemmas.Bool.Decides.{nat_tests}
 use Rattle.std.proofs.lemmas.List.Elements.{All-append, All-cons, All-nil, All-weaker, Contains-append_left, Contains-push}
 use Rattle.gs_hints.specs.declared.near.Candidate.{Candidate}
 use Rattle.gs_hints.specs.Nearest.{IsBest, distance, is_near, most_edits}
-
-above : (a b : ℕ) → nat_le a b ≡ false → b < a
-above a b h = grind (arith, nat_tests)
-
-within : (a b : ℕ) → nat_le a b ≡ true → a ≤ b
-within a b h = grind (arith, nat_tests)
 
 alone : (P : Bor (List ℕ) → Type 0) (x : Bor (List ℕ)) → P x → All P (x ∷ [])
 alone P x p = All-cons P x [] p (All-nil P)
@@ -22,7 +16,7 @@ pub passed_over : (word : List ℕ) (words : List (Bor (List ℕ))) (best : Opti
 passed_over word words None other far known all =
     All-append (λ (o : Bor (List ℕ)). is_near word o.now ≡ false) words (other.word ∷ []) all (alone (λ (o : Bor (List ℕ)). is_near word o.now ≡ false) other.word (subst (λ (n : ℕ). nat_le n (most_edits word) ≡ false) known far))
 passed_over word words (Some best) other far known (is, (has, near, all)) =
-    let more : distance word best.word.now ≤ distance word other.word.now = omega (arith, above other.edits (most_edits word) far, within (distance word best.word.now) (most_edits word) near) in
+    let more : distance word best.word.now ≤ distance word other.word.now = omega (arith, leb-false other.edits (most_edits word) far, leb-true (distance word best.word.now) (most_edits word) near) in
     let kept : Contains (words ++ other.word ∷ []) best.word = Contains-append_left words (other.word ∷ []) best.word has in
     let least = All-append (λ (o : Bor (List ℕ)). distance word best.word.now ≤ distance word o.now) words (other.word ∷ []) all (alone (λ (o : Bor (List ℕ)). distance word best.word.now ≤ distance word o.now) other.word more) in
     (is, (kept, near, least))
@@ -36,24 +30,21 @@ as_near word words best other less known (is, (has, near, all)) =
     let least = All-append (λ (o : Bor (List ℕ)). distance word best.word.now ≤ distance word o.now) words (other.word ∷ []) all (alone (λ (o : Bor (List ℕ)). distance word best.word.now ≤ distance word o.now) other.word more) in
     (is, (kept, near, least))
 
-here : (words : List (Bor (List ℕ))) (x : Bor (List ℕ)) → Contains (words ++ x ∷ []) x
-here words x = Contains-push words x
-
 pub nearer : (word : List ℕ) (words : List (Bor (List ℕ))) (best other : Candidate) → other.edits < best.edits → nat_le other.edits (most_edits word) ≡ true → other.edits ≡ distance word other.word.now
     → IsBest word words (Some best) → IsBest word (words ++ other.word ∷ []) (Some other)
 nearer word words best other less near known (is, (has, was_near, all)) =
     let below : (x : Bor (List ℕ)) → distance word best.word.now ≤ distance word x.now → distance word other.word.now ≤ distance word x.now = λ x h. omega arith in
     let least = All-append (λ (o : Bor (List ℕ)). distance word other.word.now ≤ distance word o.now) words (other.word ∷ []) (All-weaker (λ (o : Bor (List ℕ)). distance word best.word.now ≤ distance word o.now) (λ (o : Bor (List ℕ)). distance word other.word.now ≤ distance word o.now) below words all) (alone (λ (o : Bor (List ℕ)). distance word other.word.now ≤ distance word o.now) other.word (omega arith)) in
-    (known, (here words other.word, subst (λ (n : ℕ). nat_le n (most_edits word) ≡ true) known near, least))
+    (known, (Contains-push words other.word, subst (λ (n : ℕ). nat_le n (most_edits word) ≡ true) known near, least))
 
 pub first_near : (word : List ℕ) (words : List (Bor (List ℕ))) (other : Candidate) → nat_le other.edits (most_edits word) ≡ true → other.edits ≡ distance word other.word.now → IsBest word words None
     → IsBest word (words ++ other.word ∷ []) (Some other)
 first_near word words other near known all =
-    let low = within other.edits (most_edits word) near in
+    let low = leb-true other.edits (most_edits word) near in
     let below : (x : Bor (List ℕ)) → is_near word x.now ≡ false → distance word other.word.now ≤ distance word x.now =
-    λ x h. omega (arith, low, above (distance word x.now) (most_edits word) h) in
+    λ x h. omega (arith, low, leb-false (distance word x.now) (most_edits word) h) in
     let least = All-append (λ (o : Bor (List ℕ)). distance word other.word.now ≤ distance word o.now) words (other.word ∷ []) (All-weaker (λ (o : Bor (List ℕ)). is_near word o.now ≡ false) (λ (o : Bor (List ℕ)). distance word other.word.now ≤ distance word o.now) below words all) (alone (λ (o : Bor (List ℕ)). distance word other.word.now ≤ distance word o.now) other.word (omega arith)) in
-    (known, (here words other.word, subst (λ (n : ℕ). nat_le n (most_edits word) ≡ true) known near, least))
+    (known, (Contains-push words other.word, subst (λ (n : ℕ). nat_le n (most_edits word) ≡ true) known near, least))
 
 -- a near word, if the best one before it is not as near
 pub chosen : (word : List ℕ) (words : List (Bor (List ℕ))) (best : Option Candidate) (other : Candidate) → ((b : Candidate) → best ≡ Some b → other.edits < b.edits) → nat_le other.edits (most_edits word) ≡ true

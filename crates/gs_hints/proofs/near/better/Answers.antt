@@ -1,6 +1,6 @@
-use Rattle.std.proofs.Common.{◌≡◌, ◌<◌, Option, None, Some, false, true, nat_le, subst, sym, ◌∙◌, arith}
+use Rattle.std.proofs.Common.{◌≡◌, ◌<◌, Option, Some, subst, sym, ◌∙◌, arith}
 use Rattle.gs_hints.specs.declared.near.Candidate.{Candidate}
-use Rattle.gs_hints.specs.Nearest.{IsBest, most_edits}
+use Rattle.gs_hints.specs.Nearest.{IsBest}
 use Rattle.gs_hints.proofs.Better.{passed_over, as_near, chosen}
 use Rattle.gs_hints.proofs.near.better.Goals.{in_default-via-in-Some+else-first-other, in_default-via-in_default}
 use Rattle.gs_hints.proofs.near.better.Goals as goal

@@ -1,4 +1,4 @@
-use Rattle.std.proofs.Common.{◌≡◌, ◌+◌, ◌∷◌, ◌++◌, [], List, ℕ, Option, None, length, take, get_or, subst, sym, arith}
+use Rattle.std.proofs.Common.{◌≡◌, List, ℕ, Option, take, subst, sym, arith}
 use denote.Ref.{Bor}
 use Rattle.std.proofs.lemmas.List.{take_all, take_more}
 use Rattle.gs_hints.specs.declared.near.Candidate.{Candidate}
