@@ -1,30 +1,17 @@
 -- What the program's command line takes.
-use Rattle.std.proofs.Common.{◌≡◌, ◌≤◌, ◌⊎◌, inl, inr, is_some, length, drop, ℕ, suc, zero, Bool, List, [], ◌∷◌, ◌++◌, true, false, refl, codes, cond, fold, ◌∙◌, ap, sym, subst, Option, None, Some, arith}
+use Rattle.std.proofs.Common.{◌≡◌, ◌≤◌, is_some, ℕ, Bool, List, [], ◌∷◌, true, false, refl, codes, cond, ◌∙◌, ap, sym, subst, Option, None, Some, arith}
 use Rattle.std.specs.Fmt.{digits}
-use Rattle.std.specs.Prelude.{decimal, ⊤, not, nat_le, nat_lt, Result, Ok, Err, encode_utf8, ◌&&◌, bytes_eq, find, option_map, option_and_then, slice_get}
-use Rattle.std.specs.List.{list_all}
-use Rattle.std.specs.Str.{chars}
+use Rattle.std.specs.Prelude.{decimal, nat_le, nat_lt, Result, Ok, Err, ◌&&◌, bytes_eq, option_map, option_and_then}
 use Rattle.std.specs.Str.Parse.{ParsesBool, ParsesUnsigned, digits_value, without_leading_plus}
-use Rattle.std.specs.Option.{option_map_or}
 use Rattle.std.proofs.lemmas.Bool.{and_parts}
 use Rattle.std.proofs.lemmas.Bool.Decides.{nat_tests}
 use Rattle.std.proofs.lemmas.Slice.Eq.{bytes_eq-Decides}
-use Rattle.clap.specs.Words.{Row, Rule, Shape, Text, takes, one_of, is_simple, built}
-use Rattle.clap.specs.Kinds.{Kinds, or_else, values_kinds}
-use Rattle.clap.specs.Faults.{fault_of, is_simple_and_free, use_fault, settle_fault, react_fault, option_fault, long_fault, short_fault, bundle_step_fault, flags_fault, bundle_fault, flag_word_fault, word_fault, turn_fault, walk_fault, level_fault, step_fault, entered_fault, defaults_fault, check_fault}
-use Rattle.clap.specs.ValueTests.{accepts, is_unsigned_in}
+use Rattle.clap.specs.Words.{Row, Text, takes, one_of, is_simple}
+use Rattle.clap.specs.Faults.{is_simple_and_free}
+use Rattle.clap.specs.ValueTests.{is_unsigned_in}
 use Rattle.clap.specs.Matches.{ReadsOne}
 use Rattle.clap.proofs.ValueTestLemmas.{accepts-Accepts, Accepts-accepts}
-use Rattle.clap.specs.Lexer.{long_of, short_of}
-use Rattle.clap.specs.Values.{read_as}
-use Rattle.clap.specs.Walk.{Held, Names, Outcome, Walk, Waiting, Step, at_row, used, used_by_id, with_values, settled, reacted, takes_values, option_met, long_met, short_met, bundle_met, bundle_step, bundle, walked, walk_from, word_met, after_step, finished, walk, nothing_held, rows_after, arg_by_id, arg_by_long, arg_by_short, settled_rows, flag_met, attached_value, done, waits, plain, refused, idle, option, positional, next, trailing, subcommand, value, plain_word, option_word, after_flag, long_or_other, short_or_plain, subcommand_met, walked_from, with_default, has_long, has_row, has_short, more_values, row_text, answers_to, stop_after}
-use Rattle.clap.specs.Simple.{argument_words, entered, filled, help_rule, label_of, names_of, rows_at, with_index}
-use Rattle.clap.specs.declared.builder.value_parser.Reading.{Reading}
-use Rattle.clap.specs.declared.error.kind.ErrorKind.TheVariants.{TooManyValues, ValueValidation}
-use Rattle.clap.specs.declared.builder.value_parser.Reading.TheVariants.{AsWritten}
 use Rattle.clap.specs.declared.builder.value_parser.ValueParser.TheVariants as vp
-use Rattle.clap.specs.declared.parser.matches.ValueSource.{ValueSource}
-use Rattle.clap.specs.declared.parser.matches.ValueSource.TheVariants.{CommandLine, DefaultValue}
 use Rattle.clap.proofs.OnLiterals.{clap_on_literals}
 use Rattle.gs_arguments.specs.declared.arguments.Command.{Command}
 use Rattle.gs_arguments.specs.declared.arguments.Command.TheVariants.{Run, Explain, Report, Journal, Timeline, Threads}

@@ -1,5 +1,5 @@
 use Rattle.std.proofs.Common.{rules, ◌≡◌, inl, inr, subst, Some, None, [], ◌∷◌, false, map, sym, ◌∙◌, ap, ap₂}
-use Rattle.clap.specs.Words.{App, kind_of, is_simple, takes, subcommand_of}
+use Rattle.clap.specs.Words.{App, kind_of, is_simple, takes, subcommand_of, subcommand_rows_of}
 use Rattle.clap.specs.Kinds.{Kinds, HasKind}
 use Rattle.clap.specs.declared.error.Error.{Error}
 use Rattle.clap.specs.declared.error.kind.ErrorKind.{ErrorKind}
@@ -9,17 +9,29 @@ use Rattle.gs_arguments.specs.declared.arguments.Command.TheVariants.{Run, Repor
 use Rattle.gs_arguments.specs.Arguments.{ghost_program, command_from, command_in, file_from}
 use Rattle.gs_arguments.proofs.Given.{run_taken, report_taken, journal_taken, run_is_run, report_is_ten, journal_is_lines, ghost_is_simple, ghost_is_free, in_range}
 use Rattle.gs_arguments.proofs.arguments.settings.Goals as goal
+use Rattle.gs_arguments.proofs.arguments.settings.Goals.{In_err-matches, In_ok-matches}
 
 or_one_more : (k : ErrorKind) (kinds : Kinds) (e : Error) → HasKind kinds e → HasKind (k ∷ kinds) e
 or_one_more k kinds e (inl h) = inl h
 or_one_more k kinds e (inr h) = inr (inr h)
 
+-- an error has a kind of the words' faults
+had : (g : _) (c : In_err-matches g) → HasKind (fault_of ghost_program (map g.S.AsStr.text c.args.words.now)) c.in_err-matches.field-0.0
+had g c =
+    subst (λ (app : App). HasKind (fault_of app (map g.S.AsStr.text c.args.words.now)) c.in_err-matches.field-0.0) c.in_ok-command_line.ensures
+    (c.in_err-matches.ensures.kinds (ap is_simple_and_free c.in_ok-command_line.ensures ∙ ghost_is_free))
+
+-- what was found is what the words give
+met : (g : _) (c : In_ok-matches g) → subcommand_rows_of c.in_ok-matches.matches ≡ subcommand_of ghost_program (map g.S.AsStr.text c.args.words.now)
+met g c =
+    (c.in_ok-matches.ensures.ok.2 (ap is_simple c.in_ok-command_line.ensures ∙ ghost_is_simple)).1
+    ∙ ap (λ app. subcommand_of app (map g.S.AsStr.text c.args.words.now)) c.in_ok-command_line.ensures
+
 pub returns-in_err-matches-clause-failed : goal.returns-in_err-matches-clause-failed
 returns-in_err-matches-clause-failed g c =
-    let words = map g.S.AsStr.text c.args.words.now in
+    let faults = fault_of ghost_program (map g.S.AsStr.text c.args.words.now) in
     let e = c.in_err-matches.field-0.0 in
-    let had : HasKind (fault_of ghost_program words) e = subst (λ (app : App). HasKind (fault_of app words) e) c.in_ok-command_line.ensures (c.in_err-matches.ensures.kinds (ap is_simple_and_free c.in_ok-command_line.ensures ∙ ghost_is_free)) in
-    let more : HasKind (MissingSubcommand ∷ ValueValidation ∷ fault_of ghost_program words) e = or_one_more MissingSubcommand (ValueValidation ∷ fault_of ghost_program words) e (or_one_more ValueValidation (fault_of ghost_program words) e had) in
+    let more : HasKind (MissingSubcommand ∷ ValueValidation ∷ faults) e = or_one_more MissingSubcommand (ValueValidation ∷ faults) e (or_one_more ValueValidation faults e (had g (goal.at.returns-in_err-matches-clause-failed g c).In_err-matches)) in
     search (rules, more)
 
 pub returns-in_err-matches-clause-run : goal.returns-in_err-matches-clause-run
@@ -42,16 +54,10 @@ returns-in-Some-clause-faultless g c =
     sym (ap (λ app. fault_of app (map g.S.AsStr.text c.args.words.now)) c.in_ok-command_line.ensures) ∙ c.in_ok-matches.ensures.kinds (ap is_simple_and_free c.in_ok-command_line.ensures ∙ ghost_is_free)
 
 pub returns-in-Some-clause-given : goal.returns-in-Some-clause-given
-returns-in-Some-clause-given g c =
-    let words = map g.S.AsStr.text c.args.words.now in
-    let met = (c.in_ok-matches.ensures.ok.2 (ap is_simple c.in_ok-command_line.ensures ∙ ghost_is_simple)).1 ∙ ap (λ app. subcommand_of app words) c.in_ok-command_line.ensures in
-    sym (c.in-Some.ensures ∙ ap command_from met)
+returns-in-Some-clause-given g c = sym (c.in-Some.ensures ∙ ap command_from (met g (goal.at.returns-in-Some-clause-given g c).In_ok-matches))
 
 pub returns-in-Some-clause-file : goal.returns-in-Some-clause-file
-returns-in-Some-clause-file g c =
-    let words = map g.S.AsStr.text c.args.words.now in
-    let met = (c.in_ok-matches.ensures.ok.2 (ap is_simple c.in_ok-command_line.ensures ∙ ghost_is_simple)).1 ∙ ap (λ app. subcommand_of app words) c.in_ok-command_line.ensures in
-    c.file_of.ensures ∙ ap file_from met
+returns-in-Some-clause-file g c = c.file_of.ensures ∙ ap file_from (met g (goal.at.returns-in-Some-clause-file g c).In_ok-matches)
 
 pub returns-in-Some-clause-allowed : goal.returns-in-Some-clause-allowed
 returns-in-Some-clause-allowed g c =
@@ -69,20 +75,17 @@ returns-in-Some-clause-journal g c name h =
 
 pub returns-clause-journal : goal.returns-clause-journal
 returns-clause-journal g c name h =
-    let met = (c.in_ok-matches.ensures.ok.2 (ap is_simple c.in_ok-command_line.ensures ∙ ghost_is_simple)).1 ∙ ap₂ subcommand_of c.in_ok-command_line.ensures h in
-    let given : None ≡ Some (Journal false) = c.in-None.ensures ∙ ap command_from met ∙ journal_is_lines name in
+    let given : None ≡ Some (Journal false) = c.in-None.ensures ∙ ap command_from (met g (goal.at.returns-clause-journal g c).In_ok-matches) ∙ ap command_in h ∙ journal_is_lines name in
     absurd (cc)
 
 pub returns-clause-run : goal.returns-clause-run
 returns-clause-run g c name h =
-    let met = (c.in_ok-matches.ensures.ok.2 (ap is_simple c.in_ok-command_line.ensures ∙ ghost_is_simple)).1 ∙ ap₂ subcommand_of c.in_ok-command_line.ensures h in
-    let given : None ≡ Some Run = c.in-None.ensures ∙ ap command_from met ∙ run_is_run name in
+    let given : None ≡ Some Run = c.in-None.ensures ∙ ap command_from (met g (goal.at.returns-clause-run g c).In_ok-matches) ∙ ap command_in h ∙ run_is_run name in
     absurd (cc)
 
 pub returns-clause-report : goal.returns-clause-report
 returns-clause-report g c name h =
-    let met = (c.in_ok-matches.ensures.ok.2 (ap is_simple c.in_ok-command_line.ensures ∙ ghost_is_simple)).1 ∙ ap₂ subcommand_of c.in_ok-command_line.ensures h in
-    let given : None ≡ Some (Report 10) = c.in-None.ensures ∙ ap command_from met ∙ report_is_ten name in
+    let given : None ≡ Some (Report 10) = c.in-None.ensures ∙ ap command_from (met g (goal.at.returns-clause-report g c).In_ok-matches) ∙ ap command_in h ∙ report_is_ten name in
     absurd (cc)
 
 -- words that have no fault fail only if out of memory
@@ -93,10 +96,7 @@ only_memory (k ∷ ks) e none (inr h) = absurd (cc)
 
 pub returns-in_err-matches-clause-answered : goal.returns-in_err-matches-clause-answered
 returns-in_err-matches-clause-answered g c none command is =
-    let words = map g.S.AsStr.text c.args.words.now in
-    let e = c.in_err-matches.field-0.0 in
-    let had : HasKind (fault_of ghost_program words) e = subst (λ (app : App). HasKind (fault_of app words) e) c.in_ok-command_line.ensures (c.in_err-matches.ensures.kinds (ap is_simple_and_free c.in_ok-command_line.ensures ∙ ghost_is_free)) in
-    let kind : kind_of e ≡ OutOfMemory = only_memory (fault_of ghost_program words) e none had in
+    let kind : kind_of c.in_err-matches.field-0.0 ≡ OutOfMemory = only_memory (fault_of ghost_program (map g.S.AsStr.text c.args.words.now)) c.in_err-matches.field-0.0 none (had g (goal.at.returns-in_err-matches-clause-answered g c).In_err-matches) in
     search (rules, kind)
 
 pub returns-in-Some-clause-answered : goal.returns-in-Some-clause-answered
@@ -106,17 +106,11 @@ returns-in-Some-clause-answered g c none command is =
 
 pub returns-clause-answered : goal.returns-clause-answered
 returns-clause-answered g c none command is =
-    let words = map g.S.AsStr.text c.args.words.now in
-    let met = (c.in_ok-matches.ensures.ok.2 (ap is_simple c.in_ok-command_line.ensures ∙ ghost_is_simple)).1 ∙ ap (λ app. subcommand_of app words) c.in_ok-command_line.ensures in
-    let given : None ≡ Some command = c.in-None.ensures ∙ ap command_from met ∙ is in
+    let given : None ≡ Some command = c.in-None.ensures ∙ ap command_from (met g (goal.at.returns-clause-answered g c).In_ok-matches) ∙ is in
     absurd (cc)
 
 pub returns-in_err-matches-clause-told : goal.returns-in_err-matches-clause-told
-returns-in_err-matches-clause-told g c faulty =
-    let words = map g.S.AsStr.text c.args.words.now in
-    let e = c.in_err-matches.field-0.0 in
-    let had : HasKind (fault_of ghost_program words) e = subst (λ (app : App). HasKind (fault_of app words) e) c.in_ok-command_line.ensures (c.in_err-matches.ensures.kinds (ap is_simple_and_free c.in_ok-command_line.ensures ∙ ghost_is_free)) in
-    search (rules, had)
+returns-in_err-matches-clause-told g c faulty = search (rules, had g (goal.at.returns-in_err-matches-clause-told g c).In_err-matches)
 
 pub returns-clause-told : goal.returns-clause-told
 returns-clause-told g c faulty =
