@@ -31,25 +31,6 @@ pub kept : (x : Option (List ℕ)) → Keeps x x
 kept None = tt
 kept (Some xs) = refl
 
-pub none_read : (x : Option (List ℕ)) → ConsumesAtMost MOST_READ_BYTES x x
-none_read None = ([], tt, omega arith)
-none_read (Some xs) = ([], refl, omega arith)
-
-pub script_ended : (w : Wanted) (had left before after : Option (List ℕ)) (ended : Ended) → AnswersAll (Answers w) ended had before after
-    → AnswersRead (Answers w) ended had left before after → ConsumesAtMost MOST_READ_BYTES had left → Does (Script w) had left before after (Ok ended)
-script_ended w had left before after ended all read bounded = record { ended = (all, read); bounded = bounded; unwritten = tt; begun = tt; said = tt }
-
-pub script_failed : (w : Wanted) (had left before after : Option (List ℕ)) (fault : TraceFault) → ConsumesAtMost MOST_READ_BYTES had left → (fault ≢ WriteFailed → Keeps before after)
-    → (fault ≡ WriteFailed → BeginsAnswer (Answers w) had before after) → Does (Script w) had left before after (Err (failures.Script fault))
-script_failed w had left before after fault bounded unwritten begun = record { ended = tt; bounded = bounded; unwritten = unwritten; begun = begun; said = tt }
-
-pub workers_ended : (work : Work) (shown : Shown) (had before after : Option (List ℕ)) → (out : List ℕ) × IsText work shown out × Appends before after out → Does (Workers work shown) had had before after (Ok Ran)
-workers_ended work shown had before after written = record { ended = (refl, kept had, written); bounded = none_read had; unwritten = tt; begun = tt; said = tt }
-
-pub workers_failed : (work : Work) (shown : Shown) (had before after : Option (List ℕ)) (fault : WorkFault) → (fault ≢ works.WriteFailed → Keeps before after)
-    → (fault ≡ works.WriteFailed → BeginsText work shown before after) → WhyUntold work fault → Does (Workers work shown) had had before after (Err (failures.Work fault))
-workers_failed work shown had before after fault unwritten begun why = record { ended = tt; bounded = none_read had; unwritten = unwritten; begun = begun; said = why }
-
 -- what a command may ask for, its task may be
 pub may_be : (command : Command) → AsksAllowed command → MayBe (task_asked command)
 may_be commands.Run allowed = tt
