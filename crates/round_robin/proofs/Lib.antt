@@ -1,3 +1,2 @@
 mod Rows
 mod Events
-mod Known
