@@ -306,13 +306,13 @@ fn is_right(alloc: Global, kernel: &mut Kernel<ByteRing>, row: &Row) -> Option<b
     begin(kernel, ticks)?;
     let mut region = Region::new(alloc, kernel.settings().cpus).ok()?;
     stamp_all(&mut region, tried)?;
-    let before = kernel.journal().entries().len();
+    let before = kernel.journal().len();
     if region.cpus() != kernel.settings().cpus {
         return None;
     }
     let mask = Mask::new(0b111111);
     let landings = kernel.txns_commit(alloc, &mut region, mask).ok()?;
-    let after = kernel.journal().entries().len();
+    let after = kernel.journal().len();
     Some(are_landed(&landings, &region, wanted) && after.checked_sub(before) == Some(entries))
 }
 

@@ -66,7 +66,8 @@ fn first_wrong_step(journal: &mut Journal) -> Option<usize> {
 fn makes_room(rt: HostRuntime) {
     let mut journal = Journal::new(rt.alloc(), 0, 2);
     assert_eq!(rt; first_wrong_step(&mut journal), None);
-    let is_kept = matches!(journal.entries(), [Entry::Role { .. }, Entry::Torn]);
+    let kept = (journal.get(0), journal.get(1), journal.get(2));
+    let is_kept = matches!(kept, (Some(Entry::Role { .. }), Some(Entry::Torn), None));
     assert!(rt; is_kept);
 }
 
@@ -167,6 +168,63 @@ fn tells_a_life(rt: HostRuntime) {
     assert_eq!(rt; first_wrong_life(&journal), None);
     // Only the CPUs below the count are looked at.
     assert_eq!(rt; journal.at(2, 1, 1), None);
+}
+
+/// A new mask for thread 1.
+fn masked(tseq: u32, cpu: Option<u16>, mask: u128) -> Entry {
+    let mask = Mask::new(mask);
+    let off = cpu.is_some();
+    posted(tseq, Change::Affinity { cpu, off, mask })
+}
+
+/// An entry of each kind, with two of each that has facts or a mask.
+fn each_kind(web: Facts, db: Facts) -> [Entry; 17] {
+    let tick = Message::TimerTick { cpu: 3 };
+    [
+        FIRST_ROLE,
+        posted(1, Change::Created { facts: web }),
+        placed(1, 1),
+        masked(2, Some(1), 1),
+        posted(2, Change::Created { facts: db }),
+        posted(3, Change::Wakeup),
+        posted(4, Change::Blocked { cpu: 5 }),
+        posted(5, Change::Preempted { cpu: 6 }),
+        masked(6, None, u128::MAX),
+        posted(7, Change::Yield { cpu: 7 }),
+        posted(8, Change::Dead { cpu: Some(8) }),
+        posted(9, Change::Dead { cpu: None }),
+        Entry::Posted { message: tick },
+        Entry::Begin { generation: 9 },
+        Entry::Left,
+        Entry::Taken { cpu: 10 },
+        Entry::Given { cpu: 11 },
+    ]
+}
+
+/// The first place at which a journal has another entry, or one too few or too many.
+fn first_other(journal: &Journal, entries: &[Entry]) -> Option<usize> {
+    for place in 0..journal.len().max(entries.len()) {
+        match (journal.get(place), entries.get(place)) {
+            (Some(entry), Some(wanted)) if entry == *wanted => {}
+            _ => return Some(place),
+        }
+    }
+    None
+}
+
+/// Whether a journal with no room at first gives back each entry that it took, and the last one.
+fn gives_back(alloc: Global) -> Option<bool> {
+    let entries = each_kind(facts(b"web")?, facts(b"db")?);
+    let mut journal = Journal::new(alloc, 0, 20);
+    add_all(&mut journal, &entries).ok()?;
+    let is_last = matches!(journal.last(), Some(Entry::Given { cpu: 11 }));
+    Some(is_last && first_other(&journal, &entries).is_none())
+}
+
+#[test]
+fn gives_back_each_entry(rt: HostRuntime) {
+    assert_eq!(rt; gives_back(rt.alloc()), Some(true));
+    assert!(rt; Journal::new(rt.alloc(), 0, 20).last().is_none());
 }
 
 /// Agents come and go, the other class takes CPU 1 for a while, and the enclave is torn down.

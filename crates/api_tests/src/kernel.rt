@@ -2,7 +2,7 @@
 
 use crate::messages::Tried;
 use gs_dump::Page;
-use gs_journal::Entry;
+use gs_journal::{Entry, Journal};
 use gs_kernel::{Command, Executed, Kernel, Landing, Settings, ThreadEvent};
 use gs_layout::{Change, Class, Facts, Message, Name, Outcome, Refusal};
 use gs_ring::ByteRing;
@@ -271,7 +271,7 @@ fn posted(message: &Message) -> Came {
 
 fn came_of(kernel: &Kernel<ByteRing>, came: Result<Executed, Refusal>) -> Came {
     match came {
-        Ok(Executed::Done) => entry_of(kernel.last()),
+        Ok(Executed::Done) => entry_of(&kernel.last()),
         Ok(Executed::Torn) => Torn,
         Err(refusal) => Refused(refusal),
     }
@@ -353,10 +353,11 @@ fn told(page: Result<Page, Refusal>, threads: &[Shown], next: Option<u32>) -> Op
 }
 
 /// What the last entry but one tells.
-fn last_but_one(entries: &[Entry]) -> Option<Came> {
-    let (_, before) = entries.split_last()?;
-    let (entry, _) = before.split_last()?;
-    Some(entry_of(entry))
+fn last_but_one(journal: &Journal) -> Option<Came> {
+    match journal.len() {
+        0 | 1 => None,
+        len => Some(entry_of(&journal.entry(len - 2))),
+    }
 }
 
 /// What a deed came to, if it could be done.
@@ -373,7 +374,7 @@ fn came_to(alloc: Global, kernel: &mut Kernel<ByteRing>, deed: &Deed) -> Option<
         Deed::Dump(from, max, threads, next) => {
             told(kernel.dump(alloc, *from, *max), threads, *next)
         }
-        Deed::LastButOne => last_but_one(kernel.journal().entries()),
+        Deed::LastButOne => last_but_one(kernel.journal()),
     }
 }
 
@@ -486,7 +487,7 @@ fn commit_broken(
     kernel: &mut Kernel<ByteRing>,
     region: &mut Region,
 ) -> Option<(Vec<Landing>, usize)> {
-    let before = kernel.journal().entries().len();
+    let before = kernel.journal().len();
     if region.cpus() < 2 || region.cpus() != kernel.settings().cpus {
         return None;
     }
@@ -494,7 +495,7 @@ fn commit_broken(
     break_slot(region.slot(1));
     let mask = Mask::new(2);
     let landings = kernel.txns_commit(alloc, region, mask).ok()?;
-    let entries = kernel.journal().entries().len();
+    let entries = kernel.journal().len();
     Some((landings, entries.saturating_sub(before)))
 }
 

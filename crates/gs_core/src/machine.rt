@@ -405,12 +405,12 @@ impl<P: Counted + Copy> Machine<P> {
         match event {
             Event::Kernel { command } => {
                 let executed = self.execute_command(command)?;
-                Ok(Reply::executed(executed, self.kernel.last()))
+                Ok(Reply::executed(executed, &self.kernel.last()))
             }
             Event::Crash => self.crash(),
             Event::Begin { policy } => {
                 let executed = self.begin(*policy)?;
-                Ok(Reply::executed(executed, self.kernel.last()))
+                Ok(Reply::executed(executed, &self.kernel.last()))
             }
             Event::Page { max } => self.page(*max),
             Event::Drain { max } => self.drain(*max),

@@ -6,11 +6,11 @@ use crate::moment::Scene;
 use gs_sentences::Cause;
 
 /// Returns the entry at a place, with the line that added it.
-pub(crate) fn cause_at<'a>(scene: &Scene<'a>, place: Option<usize>) -> Option<Cause<'a>>
+pub(crate) fn cause_at(scene: &Scene<'_>, place: Option<usize>) -> Option<Cause>
     ensures { causes_given result ≡ cause_at (moment_of scene.now) place }
 {
     let place = place?;
-    match (scene.noted.entries.get(place), scene.entries.get(place)) {
+    match (scene.noted.entries.get(place), scene.journal.get(place)) {
         (Some(line), Some(entry)) => Some(Cause {
             line: *line,
             place,

@@ -4,7 +4,7 @@ ghost use Rattle.std.specs.Prelude.{◌≡◌, ◌+◌, ◌<◌, ◌≤◌, IfOk
 ghost use Rattle.gs_reasons.specs.Kept.{HasHeard};
 ghost use Rattle.gs_explain.specs.Landings.{after_landing, is_placing, steps_to_placing};
 
-use gs_journal::Entry;
+use gs_journal::{Entry, Journal};
 use gs_layout::Outcome;
 use gs_reasons::Index;
 use std::alloc::AllocError;
@@ -18,24 +18,24 @@ fn is_placing(entry: &Entry) -> bool
 
 /// Lets an index hear the next entry.
 
-fn hear_next(index: &mut Index, entries: &[Entry], heard: usize) -> Result<(), AllocError>
-    requires within { heard < length entries.now }
-    requires heard { HasHeard index.old (take heard entries.now) }
-    ensures { OnOk result (HasHeard index.new (take (heard + 1) entries.now)) }
+fn hear_next(index: &mut Index, journal: &Journal, heard: usize) -> Result<(), AllocError>
+    requires within { heard < length journal.now.entries }
+    requires heard { HasHeard index.old (take heard journal.now.entries) }
+    ensures { OnOk result (HasHeard index.new (take (heard + 1) journal.now.entries)) }
 {
-    index.hear(heard, &entries[heard])
+    index.hear(heard, &journal.entry(heard))
 }
 
 /// Lets an index hear all entries, of which it heard so many.
 
-pub(crate) fn hear_all(index: &mut Index, entries: &[Entry], heard: usize) -> Result<(), AllocError>
-    requires within { heard ≤ length entries.now }
-    requires heard { HasHeard index.old (take heard entries.now) }
-    ensures { OnOk result (HasHeard index.new entries.now) }
+pub(crate) fn hear_all(index: &mut Index, journal: &Journal, heard: usize) -> Result<(), AllocError>
+    requires within { heard ≤ length journal.now.entries }
+    requires heard { HasHeard index.old (take heard journal.now.entries) }
+    ensures { OnOk result (HasHeard index.new journal.now.entries) }
 {
     let mut n = heard;
-    while n < entries.len() {
-        hear_next(index, entries, n)?;
+    while n < journal.len() {
+        hear_next(index, journal, n)?;
         n += 1;
     }
     Ok(())
@@ -44,17 +44,17 @@ pub(crate) fn hear_all(index: &mut Index, entries: &[Entry], heard: usize) -> Re
 /// Lets an index hear the entries up to the next placing, that one with them, or all if there is none. Returns how
 /// many it has heard then.
 #[tactic(auto, using(crate::proofs::Heard::placing_here, crate::proofs::Heard::placing_later, crate::proofs::Heard::placing_never))]
-fn hear_placing(index: &mut Index, entries: &[Entry], heard: usize) -> Result<usize, AllocError>
-    requires within { heard ≤ length entries.now }
-    requires heard { HasHeard index.old (take heard entries.now) }
-    ensures count { IfOk result (λ n. n ≡ heard + steps_to_placing (drop heard entries.now)) }
-    ensures within { IfOk result (λ n. n ≤ length entries.now) }
-    ensures heard { IfOk result (λ n. HasHeard index.new (take n entries.now)) }
+fn hear_placing(index: &mut Index, journal: &Journal, heard: usize) -> Result<usize, AllocError>
+    requires within { heard ≤ length journal.now.entries }
+    requires heard { HasHeard index.old (take heard journal.now.entries) }
+    ensures count { IfOk result (λ n. n ≡ heard + steps_to_placing (drop heard journal.now.entries)) }
+    ensures within { IfOk result (λ n. n ≤ length journal.now.entries) }
+    ensures heard { IfOk result (λ n. HasHeard index.new (take n journal.now.entries)) }
 {
     let mut n = heard;
-    while n < entries.len() {
-        hear_next(index, entries, n)?;
-        if is_placing(&entries[n]) {
+    while n < journal.len() {
+        hear_next(index, journal, n)?;
+        if is_placing(&journal.entry(n)) {
             return Ok(n + 1);
         }
         n += 1;
@@ -66,21 +66,21 @@ fn hear_placing(index: &mut Index, entries: &[Entry], heard: usize) -> Result<us
 
 pub(crate) fn hear_landing(
     index: &mut Index,
-    entries: &[Entry],
+    journal: &Journal,
     heard: usize,
     outcome: Outcome,
 ) -> Result<usize, AllocError>
-    requires within { heard ≤ length entries.now }
-    requires heard { HasHeard index.old (take heard entries.now) }
-    ensures count { IfOk result (λ n. n ≡ after_landing outcome entries.now heard) }
-    ensures within { IfOk result (λ n. n ≤ length entries.now) }
-    ensures heard { IfOk result (λ n. HasHeard index.new (take n entries.now)) }
+    requires within { heard ≤ length journal.now.entries }
+    requires heard { HasHeard index.old (take heard journal.now.entries) }
+    ensures count { IfOk result (λ n. n ≡ after_landing outcome journal.now.entries heard) }
+    ensures within { IfOk result (λ n. n ≤ length journal.now.entries) }
+    ensures heard { IfOk result (λ n. HasHeard index.new (take n journal.now.entries)) }
 {
     match outcome {
-        Outcome::Placed => hear_placing(index, entries, heard),
+        Outcome::Placed => hear_placing(index, journal, heard),
         Outcome::Gone => {
-            hear_all(index, entries, heard)?;
-            Ok(entries.len())
+            hear_all(index, journal, heard)?;
+            Ok(journal.len())
         }
         _ => Ok(heard),
     }

@@ -139,15 +139,15 @@ fn overflow_if(torn: bool, overflow: Overflow) -> Option<Overflow>
 
 /// Returns why a transaction landed so. An index has heard the first entries, so many.
 #[inline(always)]
-pub(crate) fn landed<'a>(
-    scene: &Scene<'a>,
+pub(crate) fn landed(
+    scene: &Scene<'_>,
     index: &Index,
     fault: Option<GroupFault>,
     stood: bool,
     heard: usize,
     landing: &Landing,
-) -> Landed<'a>
-    requires heard { HasHeard index.now (take heard scene.now.entries.now) }
+) -> Landed
+    requires heard { HasHeard index.now (take heard scene.now.journal.now.entries) }
     requires marked { IsMarked scene.now.last.now.places.items scene.now.transactions.now }
     ensures { landed_given result ≡ landed (moment_of scene.now) fault stood heard landing.now }
 {

@@ -27,7 +27,7 @@ fn write_why(
     heard: usize,
     landing: &Landing,
 ) -> Result<(), AllocError>
-    requires heard { HasHeard index.now (take heard scene.now.entries.now) }
+    requires heard { HasHeard index.now (take heard scene.now.journal.now.entries) }
     requires marked { IsMarked scene.now.last.now.places.items scene.now.transactions.now }
     ensures { OnOk result (out.new ≡ out.old ++ because (why_landed (moment_of scene.now) fault stood heard landing.now)) }
 {
@@ -47,7 +47,7 @@ fn write_landed(
     heard: usize,
     landing: &Landing,
 ) -> Result<(), AllocError>
-    requires heard { HasHeard index.now (take heard scene.now.entries.now) }
+    requires heard { HasHeard index.now (take heard scene.now.journal.now.entries) }
     requires marked { IsMarked scene.now.last.now.places.items scene.now.transactions.now }
     ensures { OnOk result (out.new ≡ out.old ++ line (landing_text landing.now) ++ because (why_landed (moment_of scene.now) fault stood heard landing.now)) }
 {
@@ -64,18 +64,18 @@ pub(crate) fn write_landings(
     heard: usize,
     landings: &[Landing],
 ) -> Result<usize, AllocError>
-    requires within { heard ≤ length scene.now.entries.now }
-    requires heard { HasHeard index.old (take heard scene.now.entries.now) }
+    requires within { heard ≤ length scene.now.journal.now.entries }
+    requires heard { HasHeard index.old (take heard scene.now.journal.now.entries) }
     requires marked { IsMarked scene.now.last.now.places.items scene.now.transactions.now }
     ensures shown { OnOk result (out.new ≡ out.old ++ landings_shown (moment_of scene.now) fault true heard landings.now) }
-    ensures within { IfOk result (λ n. n ≤ length scene.now.entries.now) }
-    ensures heard { IfOk result (λ n. HasHeard index.new (take n scene.now.entries.now)) }
+    ensures within { IfOk result (λ n. n ≤ length scene.now.journal.now.entries) }
+    ensures heard { IfOk result (λ n. HasHeard index.new (take n scene.now.journal.now.entries)) }
 {
     let mut n = heard;
     let mut stood = true;
     let mut rest = landings;
     'landings: while let Some((landing, behind)) = rest.split_first() {
-        n = hear_landing(index, scene.entries, n, landing.outcome)?;
+        n = hear_landing(index, scene.journal, n, landing.outcome)?;
         write_landed(out, scene, index, fault, stood, n, landing)?;
         stood = stood && !is_gone(landing.outcome);
         rest = behind;
@@ -92,14 +92,14 @@ pub(crate) fn write_late_landing(
     number: u32,
     landing: &Landing,
 ) -> Result<usize, AllocError>
-    requires within { heard ≤ length scene.now.entries.now }
-    requires heard { HasHeard index.old (take heard scene.now.entries.now) }
+    requires within { heard ≤ length scene.now.journal.now.entries }
+    requires heard { HasHeard index.old (take heard scene.now.journal.now.entries) }
     requires marked { IsMarked scene.now.last.now.places.items scene.now.transactions.now }
     ensures shown { OnOk result (out.new ≡ out.old ++ late_shown (moment_of scene.now) heard number landing.now) }
-    ensures within { IfOk result (λ n. n ≤ length scene.now.entries.now) }
-    ensures heard { IfOk result (λ n. HasHeard index.new (take n scene.now.entries.now)) }
+    ensures within { IfOk result (λ n. n ≤ length scene.now.journal.now.entries) }
+    ensures heard { IfOk result (λ n. HasHeard index.new (take n scene.now.journal.now.entries)) }
 {
-    let n = hear_landing(index, scene.entries, heard, landing.outcome)?;
+    let n = hear_landing(index, scene.journal, heard, landing.outcome)?;
     out.late(number, landing)?;
     write_why(out, scene, index, None, true, n, landing)?;
     Ok(n)

@@ -1,6 +1,6 @@
 use crate::noted::Lines;
 use gs_core::{Event, Machine, Transaction};
-use gs_journal::Entry;
+use gs_journal::Journal;
 use gs_policy::AnyPolicy;
 use gs_reasons::Marks;
 
@@ -12,8 +12,8 @@ pub(crate) struct Scene<'a> {
     pub(crate) event: &'a Event<AnyPolicy>,
     /// The machine that the event left.
     pub(crate) machine: &'a Machine<AnyPolicy>,
-    /// All its entries, the event's too.
-    pub(crate) entries: &'a [Entry],
+    /// Its journal, with the event's entries too.
+    pub(crate) journal: &'a Journal,
     pub(crate) transactions: &'a [Transaction],
     /// The place of the last transaction for each CPU.
     pub(crate) last: &'a Marks,

@@ -124,14 +124,14 @@ fn write_object(
     reply: &Reply,
 ) -> Result<(), AllocError>
     requires text { is_text said.now.bytes.now ≡ true }
-    requires within { first ≤ length scene.now.entries.now }
-    requires heard { HasHeard index.old (take first scene.now.entries.now) }
+    requires within { first ≤ length scene.now.journal.now.entries }
+    requires heard { HasHeard index.old (take first scene.now.journal.now.entries) }
     requires marked { IsMarked scene.now.last.now.places.items scene.now.transactions.now }
     ensures shown { OnOk result (out.new ≡ out.old ++ object_row (said_line said.now) (moment_of scene.now) first reply.now) }
-    ensures heard { OnOk result (HasHeard index.new scene.now.entries.now) }
+    ensures heard { OnOk result (HasHeard index.new scene.now.journal.now.entries) }
 {
     let why = whys(out.alloc, scene, index, first, reply)?;
-    let end = scene.entries.len();
+    let end = scene.journal.len();
     let object = object_text(out.alloc, said, first, end, reply, why)?;
     out.text.push_str(object.as_str())?;
     out.text.end_line()

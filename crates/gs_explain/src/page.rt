@@ -131,7 +131,7 @@ impl Page {
     }
 
     /// Adds why a transaction was not placed, in a line of its own.
-    pub(crate) fn landed(&mut self, landed: &Landed<'_>) -> Result<(), AllocError>
+    pub(crate) fn landed(&mut self, landed: &Landed) -> Result<(), AllocError>
         ensures { OnOk result (self.new ≡ self.old ++ because (Some (reasons.Landed (landed_given landed.now)))) }
     {
         self.sentence.clear();
@@ -142,7 +142,7 @@ impl Page {
     }
 
     /// Adds why an event was refused, in a line of its own.
-    pub(crate) fn refused(&mut self, refused: &Refused<'_>) -> Result<(), AllocError>
+    pub(crate) fn refused(&mut self, refused: &Refused) -> Result<(), AllocError>
         ensures { OnOk result (self.new ≡ self.old ++ because (Some (reasons.Refused (refused_given refused.now)))) }
     {
         self.sentence.clear();
@@ -153,7 +153,7 @@ impl Page {
     }
 
     /// Adds a reason in a line of its own.
-    pub(crate) fn reason(&mut self, reason: &Reason<'_>) -> Result<(), AllocError>
+    pub(crate) fn reason(&mut self, reason: &Reason) -> Result<(), AllocError>
         ensures { OnOk result (self.new ≡ self.old ++ because (Some (reason_given reason.now))) }
     {
         self.sentence.clear();

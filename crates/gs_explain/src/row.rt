@@ -50,7 +50,7 @@ fn write_plain(
     index: &Index,
     reply: &Reply,
 ) -> Result<(), AllocError>
-    requires heard { HasHeard index.now scene.now.entries.now }
+    requires heard { HasHeard index.now scene.now.journal.now.entries }
     requires marked { IsMarked scene.now.last.now.places.items scene.now.transactions.now }
     ensures { OnOk result (out.new ≡ out.old ++ plain_shown (moment_of scene.now) reply.now) }
 {
@@ -72,11 +72,11 @@ fn write_shown(
     first: usize,
     reply: &Reply,
 ) -> Result<(), AllocError>
-    requires within { first ≤ length scene.now.entries.now }
-    requires heard { HasHeard index.old (take first scene.now.entries.now) }
+    requires within { first ≤ length scene.now.journal.now.entries }
+    requires heard { HasHeard index.old (take first scene.now.journal.now.entries) }
     requires marked { IsMarked scene.now.last.now.places.items scene.now.transactions.now }
     ensures shown { OnOk result (out.new ≡ out.old ++ reply_shown (moment_of scene.now) first reply.now) }
-    ensures heard { OnOk result (HasHeard index.new scene.now.entries.now) }
+    ensures heard { OnOk result (HasHeard index.new scene.now.journal.now.entries) }
 {
     match reply {
         Reply::Landed { landings, torn } => {
@@ -84,7 +84,7 @@ fn write_shown(
             out.none(landings)?;
             let fault = group_fault(scene, landings);
             let heard = write_landings(out, scene, index, fault, first, landings)?;
-            hear_all(index, scene.entries, heard)?;
+            hear_all(index, scene.journal, heard)?;
             out.torn(*torn)
         }
         Reply::Late {
@@ -93,11 +93,11 @@ fn write_shown(
             torn,
         } => {
             let heard = write_late_landing(out, scene, index, first, *number, landing)?;
-            hear_all(index, scene.entries, heard)?;
+            hear_all(index, scene.journal, heard)?;
             out.torn(*torn)
         }
         _ => {
-            hear_all(index, scene.entries, first)?;
+            hear_all(index, scene.journal, first)?;
             write_plain(out, scene, index, reply)
         }
     }
@@ -114,15 +114,15 @@ fn write_row(
     reply: &Reply,
 ) -> Result<(), AllocError>
     requires text { is_text said.now.bytes.now ≡ true }
-    requires within { first ≤ length scene.now.entries.now }
-    requires heard { HasHeard index.old (take first scene.now.entries.now) }
+    requires within { first ≤ length scene.now.journal.now.entries }
+    requires heard { HasHeard index.old (take first scene.now.journal.now.entries) }
     requires marked { IsMarked scene.now.last.now.places.items scene.now.transactions.now }
     ensures shown { OnOk result (out.new ≡ out.old ++ row (said_line said.now) (moment_of scene.now) first reply.now) }
-    ensures heard { OnOk result (HasHeard index.new scene.now.entries.now) }
+    ensures heard { OnOk result (HasHeard index.new scene.now.journal.now.entries) }
 {
     out.heading(said)?;
     write_shown(out, scene, index, first, reply)?;
-    out.added(first, scene.entries.len())
+    out.added(first, scene.journal.len())
 }
 
 /// Adds what explains what came of a command.
@@ -133,7 +133,7 @@ fn write_came(
     came: Result<Executed, Refusal>,
     last: &Entry,
 ) -> Result<(), AllocError>
-    requires heard { HasHeard index.now scene.now.entries.now }
+    requires heard { HasHeard index.now scene.now.journal.now.entries }
     requires marked { IsMarked scene.now.last.now.places.items scene.now.transactions.now }
     ensures { OnOk result (out.new ≡ out.old ++ plain_shown (moment_of scene.now) (reply_of came last.now)) }
 {
@@ -157,16 +157,16 @@ fn write_command_row(
     last: &Entry,
 ) -> Result<(), AllocError>
     requires text { is_text said.now.bytes.now ≡ true }
-    requires within { first ≤ length scene.now.entries.now }
-    requires heard { HasHeard index.old (take first scene.now.entries.now) }
+    requires within { first ≤ length scene.now.journal.now.entries }
+    requires heard { HasHeard index.old (take first scene.now.journal.now.entries) }
     requires marked { IsMarked scene.now.last.now.places.items scene.now.transactions.now }
     ensures shown { OnOk result (out.new ≡ out.old ++ row (said_line said.now) (moment_of scene.now) first (reply_of came last.now)) }
-    ensures heard { OnOk result (HasHeard index.new scene.now.entries.now) }
+    ensures heard { OnOk result (HasHeard index.new scene.now.journal.now.entries) }
 {
     out.heading(said)?;
-    hear_all(index, scene.entries, first)?;
+    hear_all(index, scene.journal, first)?;
     write_came(out, scene, index, came, last)?;
-    out.added(first, scene.entries.len())
+    out.added(first, scene.journal.len())
 }
 
 impl Teller for Page {

@@ -35,11 +35,11 @@ pub(crate) trait Teller: Drop {
         reply: &Reply,
     ) -> Result<(), AllocError>
         requires text { is_text said.now.bytes.now ≡ true }
-        requires within { first ≤ length scene.now.entries.now }
-        requires heard { HasHeard index.old (take first scene.now.entries.now) }
+        requires within { first ≤ length scene.now.journal.now.entries }
+        requires heard { HasHeard index.old (take first scene.now.journal.now.entries) }
         requires marked { IsMarked scene.now.last.now.places.items scene.now.transactions.now }
         ensures shown { OnOk result (bytes self.new ≡ bytes self.old ++ show (said_line said.now) (moment_of scene.now) first reply.now) }
-        ensures heard { OnOk result (HasHeard index.new scene.now.entries.now) };
+        ensures heard { OnOk result (HasHeard index.new scene.now.journal.now.entries) };
 
     /// Adds a command by what came of it and the kernel's last entry, as [`Teller::row`] adds it with the reply.
     fn command_row(
@@ -52,9 +52,9 @@ pub(crate) trait Teller: Drop {
         last: &Entry,
     ) -> Result<(), AllocError>
         requires text { is_text said.now.bytes.now ≡ true }
-        requires within { first ≤ length scene.now.entries.now }
-        requires heard { HasHeard index.old (take first scene.now.entries.now) }
+        requires within { first ≤ length scene.now.journal.now.entries }
+        requires heard { HasHeard index.old (take first scene.now.journal.now.entries) }
         requires marked { IsMarked scene.now.last.now.places.items scene.now.transactions.now }
         ensures shown { OnOk result (bytes self.new ≡ bytes self.old ++ show (said_line said.now) (moment_of scene.now) first (reply_of came last.now)) }
-        ensures heard { OnOk result (HasHeard index.new scene.now.entries.now) };
+        ensures heard { OnOk result (HasHeard index.new scene.now.journal.now.entries) };
 }

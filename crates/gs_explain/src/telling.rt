@@ -48,20 +48,26 @@ fn explain_command<T: Teller>(
     if is_short_command(came) {
         return Err(AllocError);
     }
-    let entries = machine.kernel().journal().entries();
+    let journal = machine.kernel().journal();
     let transactions = machine.transactions();
     mark_last(last, transactions, stamped)?;
     let latest = machine.kernel().last();
-    lines.note_command(said.number, came, latest, entries.len(), transactions.len())?;
+    lines.note_command(
+        said.number,
+        came,
+        &latest,
+        journal.len(),
+        transactions.len(),
+    )?;
     let scene = Scene {
         noted: lines,
         event,
         machine,
-        entries,
+        journal,
         transactions,
         last,
     };
-    out.command_row(said, &scene, index, first, came, latest)
+    out.command_row(said, &scene, index, first, came, &latest)
 }
 
 /// Lets an event happen that is no command, and adds what explains it, as [`explain_one`] does.
@@ -85,15 +91,15 @@ fn explain_other<T: Teller>(
     if is_short(slice::from_ref(&reply)) {
         return Err(AllocError);
     }
-    let entries = machine.kernel().journal().entries();
+    let journal = machine.kernel().journal();
     let transactions = machine.transactions();
     mark_last(last, transactions, stamped)?;
-    lines.note(said.number, &reply, entries.len(), transactions.len())?;
+    lines.note(said.number, &reply, journal.len(), transactions.len())?;
     let scene = Scene {
         noted: lines,
         event,
         machine,
-        entries,
+        journal,
         transactions,
         last,
     };
@@ -142,7 +148,7 @@ pub(crate) fn explain_all<T: Teller>(
     let mut index = Index::new(alloc);
     let mut last = Marks::new(alloc);
     let mut out = teller;
-    hear_all(&mut index, machine.kernel().journal().entries(), 0)?;
+    hear_all(&mut index, machine.kernel().journal(), 0)?;
     mark_last(&mut last, machine.transactions(), 0)?;
     let mut rest = left;
     let mut n = 0;

@@ -54,7 +54,7 @@ fn refusal_word(refusal: Refusal) -> &'static str
 }
 
 /// Returns a reason in a word: the outcome, the refusal, or what else it is.
-fn reason_word(reason: &Reason<'_>) -> &'static str
+fn reason_word(reason: &Reason) -> &'static str
     ensures { result.now ≡ reason_word (reason_given reason.now) }
 {
     match reason {
@@ -69,7 +69,7 @@ fn reason_word(reason: &Reason<'_>) -> &'static str
 }
 
 /// Returns the last entry that made it so, if one did.
-fn reason_cause<'a>(reason: &Reason<'a>) -> Option<Cause<'a>>
+fn reason_cause(reason: &Reason) -> Option<Cause>
     ensures { causes_given result ≡ reason_cause (reason_given reason.now) }
 {
     match reason {
@@ -80,8 +80,8 @@ fn reason_cause<'a>(reason: &Reason<'a>) -> Option<Cause<'a>>
 }
 
 /// Returns the place of an entry that is a reason.
-fn place_of_cause(cause: Option<Cause<'_>>) -> Option<usize>
-    ensures { result ≡ place_of_cause (causes_given cause.entry) }
+fn place_of_cause(cause: &Option<Cause>) -> Option<usize>
+    ensures { result ≡ place_of_cause (causes_given cause.now) }
 {
     match cause {
         Some(cause) => Some(cause.place),
@@ -90,8 +90,8 @@ fn place_of_cause(cause: Option<Cause<'_>>) -> Option<usize>
 }
 
 /// Returns the line that added an entry that is a reason.
-fn line_of_cause(cause: Option<Cause<'_>>) -> Option<usize>
-    ensures { result ≡ line_of_cause (causes_given cause.entry) }
+fn line_of_cause(cause: &Option<Cause>) -> Option<usize>
+    ensures { result ≡ line_of_cause (causes_given cause.now) }
 {
     match cause {
         Some(cause) => Some(cause.line),
@@ -113,7 +113,7 @@ fn why_value(
 }
 
 /// Returns a reason as JSON.
-fn reason_value(alloc: Global, reason: &Reason<'_>) -> Result<Value, AllocError>
+fn reason_value(alloc: Global, reason: &Reason) -> Result<Value, AllocError>
     ensures { IfOk result (λ value. view value ≡ reason_data (reason_given reason.now)) }
 {
     let cause = reason_cause(reason);
@@ -122,15 +122,15 @@ fn reason_value(alloc: Global, reason: &Reason<'_>) -> Result<Value, AllocError>
     let text = sentence.as_str();
     why_value(
         alloc,
-        place_of_cause(cause),
-        line_of_cause(cause),
+        place_of_cause(&cause),
+        line_of_cause(&cause),
         reason_word(reason),
         text,
     )
 }
 
 /// Adds a reason.
-fn push_reason(alloc: Global, why: &mut Vec<Value>, reason: &Reason<'_>) -> Result<(), AllocError>
+fn push_reason(alloc: Global, why: &mut Vec<Value>, reason: &Reason) -> Result<(), AllocError>
     ensures { OnOk result (map view why.new.items ≡ map view why.old.items ++ reason_data (reason_given reason.now) ∷ []) }
 {
     why.push(reason_value(alloc, reason)?)?;
@@ -148,7 +148,7 @@ fn push_landed(
     heard: usize,
     landing: &Landing,
 ) -> Result<(), AllocError>
-    requires heard { HasHeard index.now (take heard scene.now.entries.now) }
+    requires heard { HasHeard index.now (take heard scene.now.journal.now.entries) }
     requires marked { IsMarked scene.now.last.now.places.items scene.now.transactions.now }
     ensures { OnOk result (map view why.new.items ≡ map view why.old.items ++ listed (why_landed (moment_of scene.now) fault stood heard landing.now)) }
 {
@@ -169,18 +169,18 @@ fn push_landings(
     heard: usize,
     landings: &[Landing],
 ) -> Result<usize, AllocError>
-    requires within { heard ≤ length scene.now.entries.now }
-    requires heard { HasHeard index.old (take heard scene.now.entries.now) }
+    requires within { heard ≤ length scene.now.journal.now.entries }
+    requires heard { HasHeard index.old (take heard scene.now.journal.now.entries) }
     requires marked { IsMarked scene.now.last.now.places.items scene.now.transactions.now }
     ensures shown { OnOk result (map view why.new.items ≡ map view why.old.items ++ landings_why (moment_of scene.now) fault true heard landings.now) }
-    ensures within { IfOk result (λ n. n ≤ length scene.now.entries.now) }
-    ensures heard { IfOk result (λ n. HasHeard index.new (take n scene.now.entries.now)) }
+    ensures within { IfOk result (λ n. n ≤ length scene.now.journal.now.entries) }
+    ensures heard { IfOk result (λ n. HasHeard index.new (take n scene.now.journal.now.entries)) }
 {
     let mut n = heard;
     let mut stood = true;
     let mut rest = landings;
     'landings: while let Some((landing, behind)) = rest.split_first() {
-        n = hear_landing(index, scene.entries, n, landing.outcome)?;
+        n = hear_landing(index, scene.journal, n, landing.outcome)?;
         push_landed(alloc, why, scene, index, fault, stood, n, landing)?;
         stood = stood && !is_gone(landing.outcome);
         rest = behind;
@@ -222,7 +222,7 @@ fn push_plain(
     index: &Index,
     reply: &Reply,
 ) -> Result<(), AllocError>
-    requires heard { HasHeard index.now scene.now.entries.now }
+    requires heard { HasHeard index.now scene.now.journal.now.entries }
     requires marked { IsMarked scene.now.last.now.places.items scene.now.transactions.now }
     ensures { OnOk result (map view why.new.items ≡ map view why.old.items ++ plain_whys (moment_of scene.now) reply.now) }
 {
@@ -249,11 +249,11 @@ fn push_whys(
     first: usize,
     reply: &Reply,
 ) -> Result<(), AllocError>
-    requires within { first ≤ length scene.now.entries.now }
-    requires heard { HasHeard index.old (take first scene.now.entries.now) }
+    requires within { first ≤ length scene.now.journal.now.entries }
+    requires heard { HasHeard index.old (take first scene.now.journal.now.entries) }
     requires marked { IsMarked scene.now.last.now.places.items scene.now.transactions.now }
     ensures shown { OnOk result (map view why.new.items ≡ map view why.old.items ++ whys (moment_of scene.now) first reply.now) }
-    ensures heard { OnOk result (HasHeard index.new scene.now.entries.now) }
+    ensures heard { OnOk result (HasHeard index.new scene.now.journal.now.entries) }
 {
     match reply {
         Reply::Landed { landings, torn: _ } => {
@@ -261,15 +261,15 @@ fn push_whys(
             push_none(alloc, why, landings)?;
             let fault = group_fault(scene, landings);
             let heard = push_landings(alloc, why, scene, index, fault, first, landings)?;
-            hear_all(index, scene.entries, heard)
+            hear_all(index, scene.journal, heard)
         }
         Reply::Late { landing, .. } => {
-            let heard = hear_landing(index, scene.entries, first, landing.outcome)?;
+            let heard = hear_landing(index, scene.journal, first, landing.outcome)?;
             push_landed(alloc, why, scene, index, None, true, heard, landing)?;
-            hear_all(index, scene.entries, heard)
+            hear_all(index, scene.journal, heard)
         }
         _ => {
-            hear_all(index, scene.entries, first)?;
+            hear_all(index, scene.journal, first)?;
             push_plain(alloc, why, scene, index, reply)
         }
     }
@@ -284,11 +284,11 @@ pub(crate) fn whys(
     first: usize,
     reply: &Reply,
 ) -> Result<Vec<Value>, AllocError>
-    requires within { first ≤ length scene.now.entries.now }
-    requires heard { HasHeard index.old (take first scene.now.entries.now) }
+    requires within { first ≤ length scene.now.journal.now.entries }
+    requires heard { HasHeard index.old (take first scene.now.journal.now.entries) }
     requires marked { IsMarked scene.now.last.now.places.items scene.now.transactions.now }
     ensures value { IfOk result (λ why. map view why.items ≡ whys (moment_of scene.now) first reply.now) }
-    ensures heard { OnOk result (HasHeard index.new scene.now.entries.now) }
+    ensures heard { OnOk result (HasHeard index.new scene.now.journal.now.entries) }
 {
     let mut why = Vec::new(alloc);
     push_whys(alloc, &mut why, scene, index, first, reply)?;

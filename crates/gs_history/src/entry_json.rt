@@ -7,7 +7,7 @@ ghost use Rattle.gs_lines.specs.Lines.{line};
 ghost use Rattle.gs_history.specs.Json.{json_lines};
 ghost use Rattle.gs_history.specs.Pieces.{changed_pieces, cpu_piece, created_pieces, entry_pieces, held_pieces, left_pieces, affinity_pieces, place_piece, placed_pieces, posted_pieces, thread_piece, woken_pieces};
 
-use gs_journal::Entry;
+use gs_journal::{Entry, Journal};
 use gs_layout::{Change, Facts, Message, Name};
 use gs_lines::{Text, name_str};
 use gs_status::Mask;
@@ -321,12 +321,12 @@ fn write_line(alloc: Global, out: &mut Text, place: usize, entry: &Entry) -> Res
 /// # Errors
 ///
 /// `AllocError` if out of memory.
-pub fn json_text(alloc: Global, entries: &[Entry]) -> Result<Vec<u8>, AllocError>
-    ensures { IfOk result (λ bytes. bytes.items ≡ json_lines entries.now) }
+pub fn json_text(alloc: Global, journal: &Journal) -> Result<Vec<u8>, AllocError>
+    ensures { IfOk result (λ bytes. bytes.items ≡ json_lines journal.now.entries) }
 {
     let mut out = Text::new(alloc);
-    for (place, entry) in entries.iter().enumerate() {
-        write_line(alloc, &mut out, place, entry)?;
+    for place in 0..journal.len() {
+        write_line(alloc, &mut out, place, &journal.entry(place))?;
     }
     Ok(out.into_bytes())
 }

@@ -2,7 +2,7 @@ ghost use Rattle.std.specs.Prelude.{◌≡◌, ◌++◌, IfOk, OnOk};
 ghost use Rattle.gs_lines.specs.Lines.{line};
 ghost use Rattle.gs_history.specs.Journal.{entry_words, fields_text, journal_lines, mask_text, numbered, off_text, posted_words};
 
-use gs_journal::Entry;
+use gs_journal::{Entry, Journal};
 use gs_layout::{Change, Message};
 use gs_lines::{Text, change_name, write_cpu, write_facts, write_placed};
 use std::alloc::{AllocError, Global};
@@ -108,12 +108,12 @@ fn write_line(out: &mut Text, place: usize, entry: &Entry) -> Result<(), AllocEr
 /// # Errors
 ///
 /// `AllocError` if out of memory.
-pub fn journal_text(alloc: Global, entries: &[Entry]) -> Result<Text, AllocError>
-    ensures { IfOk result (λ text. text ≡ journal_lines entries.now) }
+pub fn journal_text(alloc: Global, journal: &Journal) -> Result<Text, AllocError>
+    ensures { IfOk result (λ text. text ≡ journal_lines journal.now.entries) }
 {
     let mut out = Text::new(alloc);
-    for (place, entry) in entries.iter().enumerate() {
-        write_line(&mut out, place, entry)?;
+    for place in 0..journal.len() {
+        write_line(&mut out, place, &journal.entry(place))?;
     }
     Ok(out)
 }

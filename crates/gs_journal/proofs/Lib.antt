@@ -1,3 +1,4 @@
+mod Lists
 mod Steps
 mod Past
 mod Folds

@@ -1,10 +1,9 @@
 -- What one more entry changes.
-use Rattle.std.proofs.Common.{◌≡◌, refl, ap, sym, ◌∙◌, subst, ℕ, zero, suc, ◌+◌, ◌-◌, ◌<◌, ◌≤◌, ◌⊎◌, inl, inr, ◌==◌, Bool, true, false, Option, None, Some, List, [], ◌∷◌, ◌++◌, length, take, get_or, arith, cond, slice_get, ◌||◌, length-append, unwrap_or, count_by}
+use Rattle.std.proofs.Common.{◌≡◌, refl, ap, sym, ◌∙◌, subst, ℕ, zero, suc, ◌+◌, ◌-◌, ◌<◌, ◌≤◌, ◌⊎◌, inl, inr, ◌==◌, Bool, true, false, Option, None, Some, List, [], ◌∷◌, ◌++◌, length, take, get_or, arith, cond, slice_get, ◌||◌, length-append, unwrap_or}
 use Rattle.std.specs.List.{list_any, filter, flat_map}
 use Rattle.std.proofs.lemmas.List.Folds.{list_any-append}
 use Rattle.std.proofs.lemmas.List.{append-nil, take_more}
 use Rattle.std.proofs.lemmas.List.Elements.{filter-append}
-use Rattle.std.proofs.lemmas.List.Sums.{length-filter}
 use Rattle.std.proofs.lemmas.Grind.{flat_map-append}
 use Rattle.std.proofs.lemmas.Bool.Decides.{nat_tests}
 use Rattle.gs_layout.specs.declared.facts.Facts.{Facts}
@@ -245,18 +244,17 @@ count_posted t (Taken c) = refl
 count_posted t (Given c) = refl
 count_posted t Torn = refl
 
-count_filtered : (h : History) (t : ℕ) → length (messages h t) ≡ length (filter (posts_about t) h)
-unfolding messages posted
-count_filtered [] t = refl
-count_filtered (e ∷ es) t =
-    ap length (filter-append (is_about t) (posted_by e) (flat_map posted_by es))
-    ∙ (length-append (filter (is_about t) (posted_by e)) (filter (is_about t) (flat_map posted_by es))
-    ∙ (ap (λ k. k + length (filter (is_about t) (flat_map posted_by es))) (count_posted t e)
-    ∙ (ap (λ k. cond (posts_about t e) 1 0 + k) (count_filtered es t) ∙ sym (count_cons (posts_about t e) e (filter (posts_about t) es)))))
+count_push : (t : ℕ) (h : History) (e : Entry) → length (messages (h ++ e ∷ []) t) ≡ length (messages h t) + cond (posts_about t e) 1 0
+count_push t h e =
+    ap length (messages-push h e t) ∙ (length-append (messages h t) (filter (is_about t) (posted_by e)) ∙ ap (λ k. length (messages h t) + k) (count_posted t e))
 
--- a thread has as many messages as there are entries that post one about it
-pub count_is : (h : History) (t : ℕ) → length (messages h t) ≡ count_by (posts_about t) h
-count_is h t = count_filtered h t ∙ length-filter (posts_about t) h
+pub count_nil : (t : ℕ) → length (messages [] t) ≡ 0
+unfolding messages posted
+count_nil t = refl
+
+-- a thread has one message more where an entry posts one about it
+pub count_more : (es : History) (i t : ℕ) (d : Entry) → i < length es → length (messages (take (i + 1) es) t) ≡ length (messages (take i es) t) + cond (posts_about t (get_or es i d)) 1 0
+count_more es i t d lt = more (λ h. length (messages h t)) (λ e k. k + cond (posts_about t e) 1 0) (count_push t) es i d lt
 
 -- the sequence number of a thread with so many messages
 pub seq_is : (first : ℕ) (h : History) (t : ℕ) → seq first h t ≡ seq_after first (length (messages h t))

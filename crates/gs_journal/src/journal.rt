@@ -1,9 +1,12 @@
-ghost use Rattle.std.specs.Prelude.{◌≡◌, ◌↔◌, ◌⊎◌, ◌+◌, ◌^◌, ◌<◌, ◌≤◌, ◌==◌, [], ◌∷◌, ◌++◌, length, take, vec_len, vec_capacity, OnOk, OnErr, IfErr, IsErrOf, IsOk};
+ghost use Rattle.std.specs.Prelude.{◌≡◌, ◌↔◌, ◌⊎◌, ◌+◌, ◌-◌, ◌<◌, ◌≤◌, ◌==◌, [], ◌∷◌, ◌++◌, Some, get_or, length, slice_get, take, OnOk, OnErr, IfErr, IsErrOf, IsOk};
 ghost use Rattle.gs_journal.specs.History.{active, at, on, record_in, seq, taken, torn};
 
 use crate::entry::Entry;
+use crate::narrow::Narrow;
 use crate::query;
-use gs_layout::{Record, Refusal};
+use crate::room::{grow, more_room};
+use crate::wide::{push_copy, push_wide};
+use gs_layout::{Change, Record, Refusal};
 use std::alloc::Global;
 use std::marker::Model;
 
@@ -11,32 +14,43 @@ use std::marker::Model;
 ///
 /// A query says what the first `n` entries say, or what all of them say if there are no more than `n`. It
 /// walks the entries: it is not meant to be fast.
+///
+/// An entry takes 16 bytes. What is wide of it, the facts of a new thread or a new mask, stands in a second list.
 #[derive(Drop)]
 pub struct Journal {
-    entries: Vec<Entry>,
+    narrow: Vec<Narrow>,
+    /// What is wide of the entries, in order. It has room for each entry that the other list has room for.
+    wide: Vec<Change>,
     limit: u32,
     first_tseq: u32,
 }
 
 impl Model for Journal {
-    ghost use Rattle.std.specs.Prelude.{◌-◌, ◌≤◌, min, vec_len, vec_capacity};
+    ghost use Rattle.std.specs.Prelude.{◌-◌, ◌≤◌, length, min, vec_len, vec_capacity};
     ghost use Rattle.gs_journal.specs.JournalState.{JournalState};
+    ghost use Rattle.gs_journal.specs.Narrow.{AllWithin, entries_of};
 
     ghost Value = { JournalState };
 
     ghost view = { λ j. record {
-      entries = j.entries.items;
+      entries = entries_of j.wide.items j.narrow.items;
       limit = j.limit;
       first_tseq = j.first_tseq;
-      room = min (vec_capacity j.entries - vec_len j.entries) (j.limit - vec_len j.entries);
+      room = min (vec_capacity j.narrow - vec_len j.narrow) (j.limit - vec_len j.narrow);
     } };
 
-    ghost invariant = { λ j. vec_len j.entries ≤ j.limit };
+    ghost invariant = { λ j. record {
+      within : vec_len j.narrow ≤ j.limit;
+      fewer : vec_len j.wide ≤ vec_len j.narrow;
+      placed : AllWithin (length j.wide.items) j.narrow.items;
+      beside : vec_capacity j.narrow - vec_len j.narrow ≤ vec_capacity j.wide - vec_len j.wide;
+    } };
 }
 
 impl Journal {
     /// Makes a journal in which nothing has happened, of at most `limit` entries. A thread's sequence numbers
     /// begin above `first_tseq`. It does not allocate.
+    #[tactic(auto, using(crate::proofs::Lists::entries_none))]
     pub fn new(alloc: Global, first_tseq: u32, limit: u32) -> Journal
         ensures entries { result.entries ≡ [] }
         ensures limit { result.limit ≡ limit }
@@ -44,7 +58,8 @@ impl Journal {
         ensures room { result.room ≡ 0 }
     {
         Journal {
-            entries: Vec::new(alloc),
+            narrow: Vec::new(alloc),
+            wide: Vec::new(alloc),
             limit,
             first_tseq,
         }
@@ -56,6 +71,7 @@ impl Journal {
     ///
     /// `HistoryFull` if the limit leaves fewer, and else `OutOfMemory` if out of memory. Nothing changes
     /// then.
+    #[tactic(auto, using(crate::proofs::Lists::length_entries))]
     pub fn reserve(&mut self, additional: usize) -> Result<(), Refusal>
         ensures room { OnOk result (additional ≤ self.new.room) }
         ensures full { IsErrOf result Refusal.HistoryFull ↔ (self.old.limit < length self.old.entries + additional) }
@@ -69,11 +85,16 @@ impl Journal {
         if left < additional {
             return Err(Refusal::HistoryFull);
         }
-        Ok(self.entries.reserve(additional)?)
+        if additional <= self.narrow.capacity() - self.narrow.len() {
+            return Ok(());
+        }
+        let more = more_room(additional, self.narrow.len(), left);
+        Ok(grow(&mut self.narrow, &mut self.wide, more)?)
     }
 
     /// Appends an entry, for which room was made before.
     #[inline(always)]
+    #[tactic(auto, using(crate::proofs::Lists::length_entries, crate::proofs::Lists::entries_more, crate::proofs::Lists::all_within_more))]
     pub fn append(&mut self, entry: Entry)
         requires { 0 < self.old.room }
         ensures entries { self.new.entries ≡ self.old.entries ++ entry ∷ [] }
@@ -81,29 +102,59 @@ impl Journal {
         ensures first_tseq { self.new.first_tseq ≡ self.old.first_tseq }
         ensures room { self.old.room ≤ self.new.room + 1 }
     {
-        push_copy(&mut self.entries, &entry);
+        let narrow = Narrow::of(self.wide.len() as u32, &entry);
+        push_wide(&mut self.wide, &entry);
+        push_copy(&mut self.narrow, &narrow);
     }
 
-    /// Lends all entries, the oldest first.
-    pub fn entries(&self) -> &[Entry]
-        ensures { result.now ≡ self.now.entries }
+    /// Returns the entry at a place, counted from 0.
+    #[inline(always)]
+    #[tactic(auto, using(crate::proofs::Lists::length_entries, crate::proofs::Lists::within_at, crate::proofs::Lists::entry_at, crate::proofs::Lists::entry_is))]
+    pub fn entry(&self, place: usize) -> Entry
+        requires { place < length self.now.entries }
+        ensures value { slice_get self.now.entries place ≡ Some result }
+        ensures item { result ≡ get_or self.now.entries place result }
     {
-        self.entries.as_slice()
+        self.narrow[place].entry(self.wide.as_slice())
+    }
+
+    /// Returns the entry at a place, counted from 0, or `None` if there are no more entries.
+    pub fn get(&self, place: usize) -> Option<Entry>
+        ensures { result ≡ slice_get self.now.entries place }
+    {
+        if place < self.len() {
+            Some(self.entry(place))
+        } else {
+            None
+        }
+    }
+
+    /// Returns the last entry, or `None` if nothing has happened.
+    #[inline(always)]
+    pub fn last(&self) -> Option<Entry>
+        ensures { result ≡ slice_get self.now.entries (length self.now.entries - 1) }
+    {
+        match self.len() {
+            0 => None,
+            n => Some(self.entry(n - 1)),
+        }
     }
 
     /// Returns how many entries there are.
+    #[tactic(auto, using(crate::proofs::Lists::length_entries))]
     pub fn len(&self) -> usize
         ensures value { result ≡ length self.now.entries }
         ensures within { result ≤ self.now.limit }
     {
-        self.entries.len()
+        self.narrow.len()
     }
 
     /// Returns whether nothing has happened.
+    #[tactic(auto, using(crate::proofs::Lists::length_entries))]
     pub fn is_empty(&self) -> bool
         ensures { result ≡ (length self.now.entries == 0) }
     {
-        self.entries.is_empty()
+        self.narrow.is_empty()
     }
 
     /// Returns the most entries that there may be.
@@ -120,21 +171,11 @@ impl Journal {
         self.first_tseq
     }
 
-    /// Lends the first entries, all if there are no more.
-    fn first(&self, n: usize) -> &[Entry]
-        ensures value { result.now ≡ take n self.now.entries }
-        ensures within { length result.now < 2 ^ 32 }
-    {
-        // The limit is of 32 bits, as a proof knows of a number once it is read.
-        let _limit = self.limit;
-        &self.entries[..n.min(self.len())]
-    }
-
     /// Returns a thread's record.
     pub fn facts_at(&self, n: usize, tid: u32) -> Record
         ensures { result ≡ record_in (take n self.now.entries) tid }
     {
-        query::last_record(self.first(n), tid)
+        query::last_record(self, n, tid)
     }
 
     /// Returns a thread's sequence number: `first_tseq` and one more for each message about the thread, or 0
@@ -143,7 +184,9 @@ impl Journal {
     pub fn seq_at(&self, n: usize, tid: u32) -> u64
         ensures { result ≡ seq self.now.first_tseq (take n self.now.entries) tid }
     {
-        match query::count_messages(self.first(n), tid) {
+        // There are no more messages than the limit, which is of 32 bits, as a proof knows of a number once it is read.
+        let _limit = self.limit;
+        match query::count_messages(self, n, tid) {
             0 => 0,
             count => self.first_tseq as u64 + count as u64,
         }
@@ -153,45 +196,34 @@ impl Journal {
     pub fn on_cpu(&self, n: usize, cpu: u16) -> Option<u32>
         ensures { result ≡ on (take n self.now.entries) cpu }
     {
-        query::thread_on(self.first(n), cpu)
+        query::thread_on(self, n, cpu)
     }
 
     /// Returns the CPU that a thread is on, the least of those below the count, or `None` if it is on none.
     pub fn at(&self, n: usize, tid: u32, cpus: u16) -> Option<u16>
         ensures { result ≡ at cpus (take n self.now.entries) tid }
     {
-        query::cpu_of(self.first(n), tid, cpus)
+        query::cpu_of(self, n, tid, cpus)
     }
 
     /// Returns the active agent, its generation and CPU, or `None` if no agent is active.
     pub fn active(&self, n: usize) -> Option<(u32, u16)>
         ensures { result ≡ active (take n self.now.entries) }
     {
-        query::active_agent(self.first(n))
+        query::active_agent(self, n)
     }
 
     /// Returns whether the other class holds a CPU.
     pub fn is_taken(&self, n: usize, cpu: u16) -> bool
         ensures { result ≡ taken (take n self.now.entries) cpu }
     {
-        query::is_taken(self.first(n), cpu)
+        query::is_taken(self, n, cpu)
     }
 
     /// Returns whether the enclave was torn down.
     pub fn is_torn(&self, n: usize) -> bool
         ensures { result ≡ torn (take n self.now.entries) }
     {
-        query::was_torn(self.first(n))
+        query::was_torn(self, n)
     }
-}
-
-/// Appends a copy of an item, for which there is room.
-#[inline(always)]
-fn push_copy<T: Copy>(items: &mut Vec<T>, item: &T)
-    requires { vec_len items.old < vec_capacity items.old }
-    ensures items { items.new.items ≡ items.old.items ++ item.now ∷ [] }
-    ensures len { vec_len items.new ≡ vec_len items.old + 1 }
-    ensures capacity { vec_capacity items.new ≡ vec_capacity items.old }
-{
-    items.push_reserved(*item);
 }

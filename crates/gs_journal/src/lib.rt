@@ -6,7 +6,10 @@
 mod entry;
 mod journal;
 mod law;
+mod narrow;
 mod query;
+mod room;
+mod wide;
 
 pub use entry::Entry;
 pub use journal::Journal;

@@ -1,10 +1,11 @@
-ghost use Rattle.std.specs.Prelude.{◌≡◌, ◌↔◌, ◌≤◌, ◌||◌, IsTrue, length};
+ghost use Rattle.std.specs.Prelude.{◌≡◌, ◌↔◌, ◌+◌, ◌<◌, ◌≤◌, ◌||◌, if◌then◌else◌, IsTrue, length, take};
 ghost use Rattle.gs_layout.specs.Message.{is_about, takes_off};
 ghost use Rattle.gs_journal.specs.Standing.{then_latest, then_stands};
 ghost use Rattle.gs_journal.specs.History.{active, at, ends_role, ends_run, is_torn, messages, on, placed_on, record_in, role_by, taken, taken_by, torn};
 ghost use Rattle.gs_journal.specs.Walk.{posts_about, record_then};
 
 use crate::entry::Entry;
+use crate::journal::Journal;
 use gs_layout::{Change, Message, Record};
 
 /// Returns whether a message is about a thread. A tick is about none.
@@ -29,12 +30,12 @@ fn record_then(tid: u32, before: Record, entry: &Entry) -> Record
 
 /// Returns a thread's record.
 #[tactic(auto, using(crate::proofs::Steps::record_more, crate::proofs::Steps::record_nil))]
-pub fn last_record(entries: &[Entry], tid: u32) -> Record
-    ensures { result ≡ record_in entries.now tid }
+pub(crate) fn last_record(journal: &Journal, n: usize, tid: u32) -> Record
+    ensures { result ≡ record_in (take n journal.now.entries) tid }
 {
     let mut found = Record::Absent;
-    for entry in entries {
-        found = record_then(tid, found, entry);
+    for place in 0..n.min(journal.len()) {
+        found = record_then(tid, found, &journal.entry(place));
     }
     found
 }
@@ -49,16 +50,29 @@ fn posts_about(tid: u32, entry: &Entry) -> bool
     }
 }
 
-/// Returns how many messages about a thread were posted.
-#[tactic(auto, using(crate::proofs::Steps::count_is))]
-pub fn count_messages(entries: &[Entry], tid: u32) -> usize
-    ensures value { result ≡ length (messages entries.now tid) }
-    ensures within { result ≤ length entries.now }
+/// Returns how many messages about a thread were posted after one more entry, if there were so many before.
+fn count_then(tid: u32, before: usize, entry: &Entry) -> usize
+    requires { before < usize.MAX }
+    ensures { result ≡ before + (if posts_about tid entry.now then 1 else 0) }
 {
-    entries
-        .iter()
-        .filter(|entry| posts_about(tid, entry))
-        .count()
+    if posts_about(tid, entry) {
+        before + 1
+    } else {
+        before
+    }
+}
+
+/// Returns how many messages about a thread were posted.
+#[tactic(auto, using(crate::proofs::Steps::count_more, crate::proofs::Steps::count_nil))]
+pub(crate) fn count_messages(journal: &Journal, n: usize, tid: u32) -> usize
+    ensures value { result ≡ length (messages (take n journal.now.entries) tid) }
+    ensures within { result ≤ journal.now.limit }
+{
+    let mut count = 0;
+    for place in 0..n.min(journal.len()) {
+        count = count_then(tid, count, &journal.entry(place));
+    }
+    count
 }
 
 /// Returns whether a message takes a thread off its CPU.
@@ -97,21 +111,21 @@ pub fn thread_then(cpu: u16, before: Option<u32>, entry: &Entry) -> Option<u32>
 
 /// Returns who is on a CPU.
 #[tactic(auto, using(crate::proofs::Steps::on_more, crate::proofs::Steps::on_nil))]
-pub fn thread_on(entries: &[Entry], cpu: u16) -> Option<u32>
-    ensures { result ≡ on entries.now cpu }
+pub(crate) fn thread_on(journal: &Journal, n: usize, cpu: u16) -> Option<u32>
+    ensures { result ≡ on (take n journal.now.entries) cpu }
 {
     let mut thread = None;
-    for entry in entries {
-        thread = thread_then(cpu, thread, entry);
+    for place in 0..n.min(journal.len()) {
+        thread = thread_then(cpu, thread, &journal.entry(place));
     }
     thread
 }
 
 /// Returns whether a thread is on a CPU.
-fn is_on(entries: &[Entry], tid: u32, cpu: u16) -> bool
-    ensures { IsTrue result ↔ (on entries.now cpu ≡ Some tid) }
+fn is_on(journal: &Journal, n: usize, tid: u32, cpu: u16) -> bool
+    ensures { IsTrue result ↔ (on (take n journal.now.entries) cpu ≡ Some tid) }
 {
-    match thread_on(entries, cpu) {
+    match thread_on(journal, n, cpu) {
         Some(other) => other == tid,
         None => false,
     }
@@ -119,11 +133,11 @@ fn is_on(entries: &[Entry], tid: u32, cpu: u16) -> bool
 
 /// Returns the least CPU below the count that a thread is on.
 #[tactic(auto, using(crate::proofs::Steps::at_found, crate::proofs::Steps::at_not, crate::proofs::Steps::at_is))]
-pub fn cpu_of(entries: &[Entry], tid: u32, cpus: u16) -> Option<u16>
-    ensures { result ≡ at cpus entries.now tid }
+pub(crate) fn cpu_of(journal: &Journal, n: usize, tid: u32, cpus: u16) -> Option<u16>
+    ensures { result ≡ at cpus (take n journal.now.entries) tid }
 {
     for cpu in 0..cpus {
-        if is_on(entries, tid, cpu) {
+        if is_on(journal, n, tid, cpu) {
             return Some(cpu);
         }
     }
@@ -143,12 +157,12 @@ fn role_then(before: Option<(u32, u16)>, entry: &Entry) -> Option<(u32, u16)>
 
 /// Returns the active agent: its generation and CPU.
 #[tactic(auto, using(crate::proofs::Steps::active_more, crate::proofs::Steps::active_nil))]
-pub fn active_agent(entries: &[Entry]) -> Option<(u32, u16)>
-    ensures { result ≡ active entries.now }
+pub(crate) fn active_agent(journal: &Journal, n: usize) -> Option<(u32, u16)>
+    ensures { result ≡ active (take n journal.now.entries) }
 {
     let mut role = None;
-    for entry in entries {
-        role = role_then(role, entry);
+    for place in 0..n.min(journal.len()) {
+        role = role_then(role, &journal.entry(place));
     }
     role
 }
@@ -166,12 +180,12 @@ fn taken_then(cpu: u16, before: Option<bool>, entry: &Entry) -> Option<bool>
 
 /// Returns whether the other class holds a CPU.
 #[tactic(auto, using(crate::proofs::Steps::taken_more, crate::proofs::Steps::taken_nil), unfolding(crate::specs::History::taken))]
-pub fn is_taken(entries: &[Entry], cpu: u16) -> bool
-    ensures { result ≡ taken entries.now cpu }
+pub(crate) fn is_taken(journal: &Journal, n: usize, cpu: u16) -> bool
+    ensures { result ≡ taken (take n journal.now.entries) cpu }
 {
     let mut last = None;
-    for entry in entries {
-        last = taken_then(cpu, last, entry);
+    for place in 0..n.min(journal.len()) {
+        last = taken_then(cpu, last, &journal.entry(place));
     }
     last.unwrap_or(false)
 }
@@ -185,12 +199,12 @@ fn torn_then(before: bool, entry: &Entry) -> bool
 
 /// Returns whether the enclave was torn down.
 #[tactic(auto, using(crate::proofs::Steps::torn_more, crate::proofs::Steps::torn_nil))]
-pub fn was_torn(entries: &[Entry]) -> bool
-    ensures { result ≡ torn entries.now }
+pub(crate) fn was_torn(journal: &Journal, n: usize) -> bool
+    ensures { result ≡ torn (take n journal.now.entries) }
 {
     let mut before = false;
-    for entry in entries {
-        before = torn_then(before, entry);
+    for place in 0..n.min(journal.len()) {
+        before = torn_then(before, &journal.entry(place));
     }
     before
 }

@@ -104,11 +104,12 @@ impl<P: Poster> Kernel<P> {
         &self.journal
     }
 
-    /// Lends the last thing that happened.
-    pub fn last(&self) -> &Entry
-        ensures { result.now ≡ last_entry self.now.history }
+    /// Returns the last thing that happened.
+    #[inline(always)]
+    pub fn last(&self) -> Entry
+        ensures { result ≡ last_entry self.now.history }
     {
-        match self.journal.entries().last() {
+        match self.journal.last() {
             Some(entry) => entry,
             None => unreachable!(),
         }

@@ -3,7 +3,7 @@ ghost use Rattle.gs_reasons.specs.Cause.{cause_of, sign_of};
 
 use crate::place::last_place;
 use crate::sign::Sign;
-use gs_journal::Entry;
+use gs_journal::Journal;
 use gs_kernel::Landing;
 use gs_layout::Outcome;
 
@@ -33,10 +33,10 @@ pub fn sign_of(landing: &Landing) -> Option<Sign>
 
 /// Returns the place of the last entry that made a landing what it is, among the entries that there were when
 /// it landed. It is `None` if it was placed, or if no entry did.
-pub fn cause(entries: &[Entry], landing: &Landing) -> Option<usize>
-    ensures value { result ≡ cause_of entries.now landing.now }
-    ensures within { IfSome result (λ i. i < length entries.now) }
+pub fn cause(journal: &Journal, landing: &Landing) -> Option<usize>
+    ensures value { result ≡ cause_of journal.now.entries landing.now }
+    ensures within { IfSome result (λ i. i < length journal.now.entries) }
 {
     let sign = sign_of(landing)?;
-    last_place(entries, &sign)
+    last_place(journal, &sign)
 }

@@ -1,5 +1,5 @@
 -- How the receipts of a thread are kept. What the reply to a command that the kernel did says is its last entry, which stands in the journal and is kept nowhere else.
-use Rattle.std.specs.Prelude.{◌≡◌, ⊤, ℕ, ◌+◌, ◌<◌, List, length, map, get_or, All}
+use Rattle.std.specs.Prelude.{◌≡◌, ⊤, ℕ, ◌+◌, ◌<◌, List, map, get_or, All}
 use Rattle.gs_journal.specs.History.{History}
 use Rattle.gs_replies.specs.declared.reply.Reply.{Reply}
 use Rattle.gs_replies.specs.declared.reply.Reply.TheVariants as replies

@@ -40,7 +40,7 @@ pub enum CallRef<'a> {
 /// The calls that were accepted, in order. Clauses see them as a list of calls.
 #[derive(Drop)]
 pub struct Calls<'a> {
-    journal: &'a [Entry],
+    journal: &'a Journal,
     kept: &'a [Kept],
     others: &'a [Call],
 }
@@ -52,9 +52,9 @@ impl<'a> Model for Calls<'a> {
 
     ghost Value = { List Call };
 
-    ghost view = { λ c. calls_kept c.journal.now c.others.now c.kept.now };
+    ghost view = { λ c. calls_kept c.journal.now.entries c.others.now c.kept.now };
 
-    ghost invariant = { λ c. AllWithin (length c.journal.now) (length c.others.now) c.kept.now };
+    ghost invariant = { λ c. AllWithin (length c.journal.now.entries) (length c.others.now) c.kept.now };
 }
 
 impl<'a> Calls<'a> {
@@ -64,7 +64,7 @@ impl<'a> Calls<'a> {
         ensures { result ≡ calls_kept journal.now.entries list.now.others.items list.now.kept.items }
     {
         Calls {
-            journal: journal.entries(),
+            journal,
             kept: list.kept.as_slice(),
             others: list.others.as_slice(),
         }
@@ -112,31 +112,33 @@ impl<'a> Calls<'a> {
 }
 
 /// Returns the last of so many entries.
-pub(crate) fn entry_before(journal: &[Entry], end: usize) -> Entry
-    requires { end ≤ length journal.now }
-    ensures { result ≡ entry_before journal.now end }
+pub(crate) fn entry_before(journal: &Journal, end: usize) -> Entry
+    requires { end ≤ length journal.now.entries }
+    ensures { result ≡ entry_before journal.now.entries end }
 {
-    match journal[..end].last() {
-        Some(entry) => *entry,
-        None => Entry::Torn,
+    match end {
+        0 => Entry::Torn,
+        n => journal.entry(n - 1),
     }
 }
 
 /// Returns whether the kernel was told this command if the last of so many entries is the last that it added.
-pub(crate) fn is_told_before(journal: &[Entry], end: usize, command: &Command) -> bool
-    requires { end ≤ length journal.now }
-    ensures { IsTrue result → Commands.Kernel (command_by (entry_before journal.now end)) ≡ command.now }
+pub(crate) fn is_told_before(journal: &Journal, end: usize, command: &Command) -> bool
+    requires { end ≤ length journal.now.entries }
+    ensures { IsTrue result → Commands.Kernel (command_by (entry_before journal.now.entries end)) ≡ command.now }
 {
-    match (command, journal[..end].last()) {
-        (Command::Kernel { command }, Some(last)) => same_told(&command_by(last), command),
+    match command {
+        Command::Kernel { command } => {
+            same_told(&command_by(&entry_before(journal, end)), command)
+        }
         _ => false,
     }
 }
 
 /// Shows a call that is kept so.
-fn show<'a>(journal: &[Entry], others: &'a [Call], kept: &Kept) -> CallRef<'a>
-    requires { IsWithin (length journal.now) (length others.now) kept.now }
-    ensures { shown_call result ≡ call_kept journal.now others.now kept.now }
+fn show<'a>(journal: &Journal, others: &'a [Call], kept: &Kept) -> CallRef<'a>
+    requires { IsWithin (length journal.now.entries) (length others.now) kept.now }
+    ensures { shown_call result ≡ call_kept journal.now.entries others.now kept.now }
 {
     match kept {
         Kept::Told { at, end } => {
@@ -187,15 +189,12 @@ fn is_done(last: &Entry, command: &Command, reply: &Reply) -> bool
     }
 }
 
-/// Returns the same of the last of so many entries, which is read where it lies.
-fn is_last(journal: &[Entry], end: u32, command: &Command, reply: &Reply) -> bool
-    requires { end ≤ length journal.now }
-    ensures { IsTrue result ↔ (Commands.Kernel (command_by (entry_before journal.now end)) ≡ command.now) × (Reply.Done (entry_before journal.now end) ≡ reply.now) }
+/// Returns the same of the last of so many entries.
+fn is_last(journal: &Journal, end: u32, command: &Command, reply: &Reply) -> bool
+    requires { end ≤ length journal.now.entries }
+    ensures { IsTrue result ↔ (Commands.Kernel (command_by (entry_before journal.now.entries end)) ≡ command.now) × (Reply.Done (entry_before journal.now.entries end) ≡ reply.now) }
 {
-    match journal[..end as usize].last() {
-        Some(last) => is_done(last, command, reply),
-        None => is_done(&Entry::Torn, command, reply),
-    }
+    is_done(&entry_before(journal, end as usize), command, reply)
 }
 
 /// Returns whether a call has this command, and the receipt's place, count of entries and reply.
@@ -214,15 +213,15 @@ fn is_other(call: &Call, command: &Command, receipt: &Receipt) -> bool
 
 /// Returns whether a call that is kept so has this command, and the receipt's place, count of entries and reply.
 fn is_call(
-    journal: &[Entry],
+    journal: &Journal,
     others: &[Call],
     kept: &Kept,
     command: &Command,
     receipt: &Receipt,
 ) -> bool
-    requires within { IsWithin (length journal.now) (length others.now) kept.now }
-    requires answered { answers_command (call_kept journal.now others.now kept.now) ≡ true }
-    ensures { IsTrue result ↔ (call_kept journal.now others.now kept.now ≡ call_of command.now receipt.now) }
+    requires within { IsWithin (length journal.now.entries) (length others.now) kept.now }
+    requires answered { answers_command (call_kept journal.now.entries others.now kept.now) ≡ true }
+    ensures { IsTrue result ↔ (call_kept journal.now.entries others.now kept.now ≡ call_of command.now receipt.now) }
 {
     match kept {
         Kept::Told { at, end } => {
@@ -237,16 +236,16 @@ fn is_call(
 /// Returns whether one of the calls that are kept so has this command, and the receipt's place, count of entries and reply.
 /// Their places never fall, so it looks no further than the receipt's.
 fn stands(
-    journal: &[Entry],
+    journal: &Journal,
     others: &[Call],
     kept: &[Kept],
     command: &Command,
     receipt: &Receipt,
 ) -> bool
-    requires within { AllWithin (length journal.now) (length others.now) kept.now }
-    requires answered { list_all answers_command (calls_kept journal.now others.now kept.now) ≡ true }
+    requires within { AllWithin (length journal.now.entries) (length others.now) kept.now }
+    requires answered { list_all answers_command (calls_kept journal.now.entries others.now kept.now) ≡ true }
     requires order { IsNonDecreasingBy (kept_at others.now) kept.now }
-    ensures { IsTrue result ↔ Stands (calls_kept journal.now others.now kept.now) command.now receipt.now }
+    ensures { IsTrue result ↔ Stands (calls_kept journal.now.entries others.now kept.now) command.now receipt.now }
 {
     match kept.split_first() {
         Some((first, rest)) => {
@@ -260,18 +259,18 @@ fn stands(
 
 /// Returns the same, if the first so many of these calls were made before the receipt's.
 pub(crate) fn stands_behind(
-    journal: &[Entry],
+    journal: &Journal,
     others: &[Call],
     kept: &[Kept],
     before: usize,
     command: &Command,
     receipt: &Receipt,
 ) -> bool
-    requires within { AllWithin (length journal.now) (length others.now) kept.now }
-    requires answered { list_all answers_command (calls_kept journal.now others.now kept.now) ≡ true }
+    requires within { AllWithin (length journal.now.entries) (length others.now) kept.now }
+    requires answered { list_all answers_command (calls_kept journal.now.entries others.now kept.now) ≡ true }
     requires order { IsNonDecreasingBy (kept_at others.now) kept.now }
     requires before { AreBefore others.now receipt.now.at kept.now before }
-    ensures { IsTrue result ↔ Stands (calls_kept journal.now others.now kept.now) command.now receipt.now }
+    ensures { IsTrue result ↔ Stands (calls_kept journal.now.entries others.now kept.now) command.now receipt.now }
 {
     let (_, later) = kept.split_at(before);
     stands(journal, others, later, command, receipt)

@@ -123,7 +123,7 @@ impl Receipts {
         ensures { option_map shown_receipt result ≡ slice_get (receipts_in journal.now.entries self.now) index }
     {
         let slip = self.slips.get(index)?;
-        Some(show(journal.entries(), self.others.as_slice(), slip))
+        Some(show(journal, self.others.as_slice(), slip))
     }
 
     /// Lends the receipts as they are kept.
@@ -143,16 +143,16 @@ impl Receipts {
 }
 
 /// Returns the last of so many entries, or of all if there are fewer.
-fn last_before(journal: &[Entry], end: usize) -> Entry
-    ensures { result ≡ entry_before journal.now end }
+fn last_before(journal: &Journal, end: usize) -> Entry
+    ensures { result ≡ entry_before journal.now.entries end }
 {
     let most = journal.len();
     entry_before(journal, if end < most { end } else { most })
 }
 
 /// Returns the receipt of a command that the kernel did, by its place and its count of entries.
-pub(crate) fn done_receipt(journal: &[Entry], at: u32, entries: u32) -> Receipt
-    ensures { result ≡ done_receipt journal.now at entries }
+pub(crate) fn done_receipt(journal: &Journal, at: u32, entries: u32) -> Receipt
+    ensures { result ≡ done_receipt journal.now.entries at entries }
 {
     Receipt {
         at,
@@ -173,9 +173,9 @@ pub(crate) fn slip_at(others: &[Receipt], slip: &Slip) -> u32
 }
 
 /// Shows a receipt that is kept so.
-fn show<'a>(journal: &[Entry], others: &'a [Receipt], slip: &Slip) -> ReceiptRef<'a>
+fn show<'a>(journal: &Journal, others: &'a [Receipt], slip: &Slip) -> ReceiptRef<'a>
     requires { IsInside (length others.now) slip.now }
-    ensures { shown_receipt result ≡ receipt_kept journal.now others.now slip.now }
+    ensures { shown_receipt result ≡ receipt_kept journal.now.entries others.now slip.now }
 {
     match slip {
         Slip::Done { at, entries } => ReceiptRef::Done {

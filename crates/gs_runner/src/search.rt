@@ -12,13 +12,13 @@ use crate::calls::{is_told_before, place, stands_behind};
 use crate::command::Command;
 use crate::kept::{CallList, Kept};
 use crate::receipts::done_receipt;
-use gs_journal::{Entry, Journal};
+use gs_journal::Journal;
 use std::marker::Model;
 
 /// A search that goes on from the place of the receipt before. Clauses see the journal, the calls, and that place.
 #[derive(Drop)]
 pub(crate) struct Search<'a> {
-    journal: &'a [Entry],
+    journal: &'a Journal,
     others: &'a [Call],
     kept: &'a [Kept],
     /// How many of the calls are known to be made before the place.
@@ -35,9 +35,9 @@ impl<'a> Model for Search<'a> {
 
     ghost Value = { SearchOf };
 
-    ghost view = { λ s. record { entries = s.journal.now; calls = calls_kept s.journal.now s.others.now s.kept.now; at = s.at } };
+    ghost view = { λ s. record { entries = s.journal.now.entries; calls = calls_kept s.journal.now.entries s.others.now s.kept.now; at = s.at } };
 
-    ghost invariant = { λ s. AllWithin (length s.journal.now) (length s.others.now) s.kept.now × (list_all answers_command (calls_kept s.journal.now s.others.now s.kept.now) ≡ true) × IsNonDecreasingBy (kept_at s.others.now) s.kept.now × AreBefore s.others.now s.at s.kept.now s.passed };
+    ghost invariant = { λ s. AllWithin (length s.journal.now.entries) (length s.others.now) s.kept.now × (list_all answers_command (calls_kept s.journal.now.entries s.others.now s.kept.now) ≡ true) × IsNonDecreasingBy (kept_at s.others.now) s.kept.now × AreBefore s.others.now s.at s.kept.now s.passed };
 }
 
 impl<'a> Search<'a> {
@@ -49,7 +49,7 @@ impl<'a> Search<'a> {
         ensures { result ≡ record { entries = journal.now.entries; calls = calls_kept journal.now.entries list.now.others.items list.now.kept.items; at = 0 } }
     {
         Search {
-            journal: journal.entries(),
+            journal,
             others: list.others.as_slice(),
             kept: list.kept.as_slice(),
             passed: 0,
@@ -112,7 +112,7 @@ fn is_between(from: u32, end: u32, at: u32, entries: u32) -> bool
 /// Returns whether the next call is that the kernel was told this command, and did it, at this place and with so many
 /// entries. It need not be: others may stand at the place before it.
 fn is_next(
-    journal: &[Entry],
+    journal: &Journal,
     others: &[Call],
     kept: &[Kept],
     passed: usize,
@@ -120,8 +120,8 @@ fn is_next(
     at: u32,
     entries: u32,
 ) -> bool
-    requires { AllWithin (length journal.now) (length others.now) kept.now }
-    ensures { IsTrue result → Stands (calls_kept journal.now others.now kept.now) command.now (done_receipt journal.now at entries) }
+    requires { AllWithin (length journal.now.entries) (length others.now) kept.now }
+    ensures { IsTrue result → Stands (calls_kept journal.now.entries others.now kept.now) command.now (done_receipt journal.now.entries at entries) }
 {
     match kept.get(passed) {
         Some(Kept::Told { at: place, end }) => {

@@ -10,7 +10,7 @@ use Rattle.gs_sentences.specs.Reason.{Reason}
 use Rattle.gs_sentences.specs.Reason as reasons
 
 abbrev pub cause_given : lent_cause.Cause → Cause
-cause_given c = record { line = c.line; place = c.place; entry = c.entry.now }
+cause_given c = record { line = c.line; place = c.place; entry = c.entry }
 
 abbrev pub causes_given : Option lent_cause.Cause → Option Cause
 causes_given None = None
@@ -20,7 +20,7 @@ abbrev pub landed_given : lent_landed.Landed → Landed
 landed_given x = record { landing = x.landing; stamped = x.stamped; cause = causes_given x.cause; overflow = x.overflow; fault = x.fault; entries = x.entries; limit = x.limit }
 
 abbrev pub refused_given : lent_refused.Refused → Refused
-refused_given x = record { refusal = x.refusal; event = x.event.now; cause = causes_given x.cause; numbers = x.numbers }
+refused_given x = record { refusal = x.refusal; event = x.event; cause = causes_given x.cause; numbers = x.numbers }
 
 abbrev pub reason_given : lent_reason.Reason → Reason
 reason_given (lent.Landed x) = reasons.Landed (landed_given x)

@@ -9,17 +9,17 @@ use gs_journal::Entry;
 
 /// An entry of the journal that is a reason, and where it is from.
 #[derive(Clone, Copy)]
-pub struct Cause<'a> {
+pub struct Cause {
     /// The script's line whose event added it, counted from 1 over all lines.
     pub line: usize,
     /// Its place in the journal, counted from 0.
     pub place: usize,
-    pub entry: &'a Entry,
+    pub entry: Entry,
 }
 
 /// Puts words, and behind them the line and the place.
 #[inline(always)]
-pub(crate) fn put_place(to: &mut Sentence, words: Words, cause: &Cause<'_>)
+pub(crate) fn put_place(to: &mut Sentence, words: Words, cause: &Cause)
     requires { length to.old + 232 ≤ SENTENCE_LEN }
     ensures value { to.new ≡ said words ++ place_text (cause_given cause.now) ++ to.old }
     ensures short { length to.new ≤ length to.old + 232 }
@@ -30,7 +30,7 @@ pub(crate) fn put_place(to: &mut Sentence, words: Words, cause: &Cause<'_>)
 }
 
 /// Puts since when something is so, if an entry made it so.
-pub(crate) fn put_since(to: &mut Sentence, cause: &Option<Cause<'_>>)
+pub(crate) fn put_since(to: &mut Sentence, cause: &Option<Cause>)
     requires { length to.old + 232 ≤ SENTENCE_LEN }
     ensures value { to.new ≡ since_text (causes_given cause.now) ++ to.old }
     ensures short { length to.new ≤ length to.old + 232 }
@@ -42,7 +42,7 @@ pub(crate) fn put_since(to: &mut Sentence, cause: &Option<Cause<'_>>)
 }
 
 /// Puts when something happened, if an entry tells of it.
-pub(crate) fn put_on(to: &mut Sentence, cause: &Option<Cause<'_>>)
+pub(crate) fn put_on(to: &mut Sentence, cause: &Option<Cause>)
     requires { length to.old + 232 ≤ SENTENCE_LEN }
     ensures value { to.new ≡ on_text (causes_given cause.now) ++ to.old }
     ensures short { length to.new ≤ length to.old + 232 }

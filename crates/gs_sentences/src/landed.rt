@@ -31,11 +31,11 @@ pub struct Stamped {
 
 /// A transaction that landed and was not placed, and what a sentence may tell of it.
 #[derive(Clone, Copy)]
-pub struct Landed<'a> {
+pub struct Landed {
     pub landing: Landing,
     pub stamped: Stamped,
     /// The last entry that made the landing what it is, if one did.
-    pub cause: Option<Cause<'a>>,
+    pub cause: Option<Cause>,
     /// What did not fit, if the landing tore the enclave down.
     pub overflow: Option<Overflow>,
     /// What failed its group, if that failed.
@@ -69,7 +69,7 @@ pub(crate) fn put_full(to: &mut Sentence, entries: usize, limit: u32)
 }
 
 /// Puts the tear-down that took a transaction with it.
-fn put_gone(to: &mut Sentence, landed: &Landed<'_>)
+fn put_gone(to: &mut Sentence, landed: &Landed)
     requires { length to.old + 296 ≤ SENTENCE_LEN }
     ensures value { to.new ≡ gone_text (landed_given landed.now) landed.now.overflow ++ to.old }
     ensures short { length to.new ≤ length to.old + 296 }
@@ -116,7 +116,7 @@ fn put_somewhere(to: &mut Sentence, at: Option<u16>)
 }
 
 /// Puts why a transaction was not placed: a sentence that has no full stop and no newline.
-pub fn put_landed(to: &mut Sentence, landed: &Landed<'_>)
+pub fn put_landed(to: &mut Sentence, landed: &Landed)
     requires { length to.old + MOST_REASON_LEN ≤ SENTENCE_LEN }
     ensures value { to.new ≡ landed_text (landed_given landed.now) ++ to.old }
     ensures short { length to.new ≤ length to.old + MOST_REASON_LEN }

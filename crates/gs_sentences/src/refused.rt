@@ -19,16 +19,16 @@ use gs_status::Mask;
 
 /// An event that was refused, and what a sentence may tell of that.
 #[derive(Clone, Copy)]
-pub struct Refused<'a> {
+pub struct Refused {
     pub refusal: Refusal,
-    pub event: &'a Event<AnyPolicy>,
+    pub event: Event<AnyPolicy>,
     /// The last entry that made the refusal so, if one did.
-    pub cause: Option<Cause<'a>>,
+    pub cause: Option<Cause>,
     pub numbers: Numbers,
 }
 
 /// Puts that there is no such thread.
-fn put_no_thread(to: &mut Sentence, event: &Event<AnyPolicy>, cause: &Option<Cause<'_>>)
+fn put_no_thread(to: &mut Sentence, event: &Event<AnyPolicy>, cause: &Option<Cause>)
     requires { length to.old + 400 ≤ SENTENCE_LEN }
     ensures value { to.new ≡ no_thread_text event.now (causes_given cause.now) ++ to.old }
     ensures short { length to.new ≤ length to.old + 400 }
@@ -40,7 +40,7 @@ fn put_no_thread(to: &mut Sentence, event: &Event<AnyPolicy>, cause: &Option<Cau
 }
 
 /// Puts that a thread is on no CPU.
-fn put_off(to: &mut Sentence, tid: u32, cause: &Option<Cause<'_>>)
+fn put_off(to: &mut Sentence, tid: u32, cause: &Option<Cause>)
     requires { length to.old + 316 ≤ SENTENCE_LEN }
     ensures value { to.new ≡ off_text tid (causes_given cause.now) ++ to.old }
     ensures short { length to.new ≤ length to.old + 316 }
@@ -83,7 +83,7 @@ fn put_bad_cpu(to: &mut Sentence, cpu: u16, cpus: u16)
 }
 
 /// Puts that the other class does not hold a CPU.
-fn put_given(to: &mut Sentence, cpu: u16, cause: &Option<Cause<'_>>)
+fn put_given(to: &mut Sentence, cpu: u16, cause: &Option<Cause>)
     requires { length to.old + 316 ≤ SENTENCE_LEN }
     ensures value { to.new ≡ given_text cpu (causes_given cause.now) ++ to.old }
     ensures short { length to.new ≤ length to.old + 316 }
@@ -111,7 +111,7 @@ fn put_page(to: &mut Sentence, generation: u32, page: Option<usize>)
 }
 
 /// Puts why no agent attaches at this point.
-fn put_attaching(to: &mut Sentence, cause: &Option<Cause<'_>>, page: Option<usize>)
+fn put_attaching(to: &mut Sentence, cause: &Option<Cause>, page: Option<usize>)
     requires { length to.old + 400 ≤ SENTENCE_LEN }
     ensures value { to.new ≡ attaching_text (causes_given cause.now) page ++ to.old }
     ensures short { length to.new ≤ length to.old + 400 }
@@ -128,7 +128,7 @@ fn put_attaching(to: &mut Sentence, cause: &Option<Cause<'_>>, page: Option<usiz
 }
 
 /// Puts whose sequence numbers are spent.
-fn put_spent(to: &mut Sentence, event: &Event<AnyPolicy>, cause: &Option<Cause<'_>>)
+fn put_spent(to: &mut Sentence, event: &Event<AnyPolicy>, cause: &Option<Cause>)
     requires { length to.old + 464 ≤ SENTENCE_LEN }
     ensures value { to.new ≡ spent_text event.now (causes_given cause.now) ++ to.old }
     ensures short { length to.new ≤ length to.old + 464 }
@@ -149,7 +149,7 @@ fn put_spent(to: &mut Sentence, event: &Event<AnyPolicy>, cause: &Option<Cause<'
 }
 
 /// Puts what has come to its last number.
-fn put_last(to: &mut Sentence, words: Words, cause: &Option<Cause<'_>>)
+fn put_last(to: &mut Sentence, words: Words, cause: &Option<Cause>)
     requires { length to.old + 296 ≤ SENTENCE_LEN }
     ensures value { to.new ≡ last_text (said words) (causes_given cause.now) ++ to.old }
     ensures short { length to.new ≤ length to.old + 296 }
@@ -213,7 +213,7 @@ fn put_transactions(to: &mut Sentence, transactions: usize)
 }
 
 /// Puts that a thread may run, and since when.
-fn put_runs(to: &mut Sentence, tid: u32, cause: &Option<Cause<'_>>)
+fn put_runs(to: &mut Sentence, tid: u32, cause: &Option<Cause>)
     requires { length to.old + 380 ≤ SENTENCE_LEN }
     ensures value { to.new ≡ runs_text tid (causes_given cause.now) ++ to.old }
     ensures short { length to.new ≤ length to.old + 380 }
@@ -224,12 +224,12 @@ fn put_runs(to: &mut Sentence, tid: u32, cause: &Option<Cause<'_>>)
 }
 
 /// Puts why an event was refused: a sentence that has no full stop and no newline.
-pub fn put_refused(to: &mut Sentence, refused: &Refused<'_>)
+pub fn put_refused(to: &mut Sentence, refused: &Refused)
     requires { length to.old + MOST_REASON_LEN ≤ SENTENCE_LEN }
     ensures value { to.new ≡ refused_text (refused_given refused.now) ++ to.old }
     ensures short { length to.new ≤ length to.old + MOST_REASON_LEN }
 {
-    let event = refused.event;
+    let event = &refused.event;
     let cause = &refused.cause;
     let numbers = &refused.numbers;
     match refused.refusal {

@@ -33,7 +33,7 @@ fn put_agent_by(to: &mut Sentence, entry: &Entry)
 }
 
 /// Puts which agent there is, and since when.
-pub(crate) fn put_agent(to: &mut Sentence, cause: &Option<Cause<'_>>)
+pub(crate) fn put_agent(to: &mut Sentence, cause: &Option<Cause>)
     requires { length to.old + 400 ≤ SENTENCE_LEN }
     ensures value { to.new ≡ agent_text (causes_given cause.now) ++ to.old }
     ensures short { length to.new ≤ length to.old + 400 }
@@ -41,14 +41,14 @@ pub(crate) fn put_agent(to: &mut Sentence, cause: &Option<Cause<'_>>)
     match cause {
         Some(cause) => {
             put_place(to, Words::SinceLine, cause);
-            put_agent_by(to, cause.entry);
+            put_agent_by(to, &cause.entry);
         }
         None => put_words(to, Words::ThereNeverWasAnAgent),
     }
 }
 
 /// Puts that a thread is no more, or never was.
-pub(crate) fn put_dead(to: &mut Sentence, tid: u32, cause: &Option<Cause<'_>>)
+pub(crate) fn put_dead(to: &mut Sentence, tid: u32, cause: &Option<Cause>)
     requires { length to.old + 400 ≤ SENTENCE_LEN }
     ensures value { to.new ≡ dead_text tid (causes_given cause.now) ++ to.old }
     ensures short { length to.new ≤ length to.old + 400 }
@@ -76,7 +76,7 @@ fn put_thread_by(to: &mut Sentence, entry: &Entry)
 }
 
 /// Puts who is on a CPU, and since when.
-pub(crate) fn put_seat(to: &mut Sentence, cpu: u16, cause: &Option<Cause<'_>>)
+pub(crate) fn put_seat(to: &mut Sentence, cpu: u16, cause: &Option<Cause>)
     requires { length to.old + 400 ≤ SENTENCE_LEN }
     ensures value { to.new ≡ seat_text cpu (causes_given cause.now) ++ to.old }
     ensures short { length to.new ≤ length to.old + 400 }
@@ -85,14 +85,14 @@ pub(crate) fn put_seat(to: &mut Sentence, cpu: u16, cause: &Option<Cause<'_>>)
         Some(cause) => {
             put_place(to, Words::SinceLine, cause);
             put_numbered(to, Words::IsOnCpu, cpu as u64);
-            put_thread_by(to, cause.entry);
+            put_thread_by(to, &cause.entry);
         }
         None => put_numbered(to, Words::AThreadIsOnCpu, cpu as u64),
     }
 }
 
 /// Puts that the other class holds a CPU, and since when.
-pub(crate) fn put_held(to: &mut Sentence, cpu: u16, cause: &Option<Cause<'_>>)
+pub(crate) fn put_held(to: &mut Sentence, cpu: u16, cause: &Option<Cause>)
     requires { length to.old + 316 ≤ SENTENCE_LEN }
     ensures value { to.new ≡ held_text cpu (causes_given cause.now) ++ to.old }
     ensures short { length to.new ≤ length to.old + 316 }
@@ -102,7 +102,7 @@ pub(crate) fn put_held(to: &mut Sentence, cpu: u16, cause: &Option<Cause<'_>>)
 }
 
 /// Puts that the enclave was torn down, and when.
-pub(crate) fn put_torn_down(to: &mut Sentence, cause: &Option<Cause<'_>>)
+pub(crate) fn put_torn_down(to: &mut Sentence, cause: &Option<Cause>)
     requires { length to.old + 296 ≤ SENTENCE_LEN }
     ensures value { to.new ≡ torn_text (causes_given cause.now) ++ to.old }
     ensures short { length to.new ≤ length to.old + 296 }
@@ -139,13 +139,13 @@ fn told_words(entry: &Entry) -> Words
 }
 
 /// Puts by what a thread has its sequence number.
-pub(crate) fn put_told(to: &mut Sentence, cause: &Option<Cause<'_>>)
+pub(crate) fn put_told(to: &mut Sentence, cause: &Option<Cause>)
     requires { length to.old + 232 ≤ SENTENCE_LEN }
     ensures value { to.new ≡ told_text (causes_given cause.now) ++ to.old }
     ensures short { length to.new ≤ length to.old + 232 }
 {
     match cause {
-        Some(cause) => put_place(to, told_words(cause.entry), cause),
+        Some(cause) => put_place(to, told_words(&cause.entry), cause),
         None => {}
     }
 }
@@ -184,7 +184,7 @@ fn put_mask_by(to: &mut Sentence, entry: &Entry)
 }
 
 /// Puts a thread's mask, and since when it has it.
-pub(crate) fn put_mask(to: &mut Sentence, cause: &Option<Cause<'_>>)
+pub(crate) fn put_mask(to: &mut Sentence, cause: &Option<Cause>)
     requires { length to.old + 272 ≤ SENTENCE_LEN }
     ensures value { to.new ≡ mask_text (causes_given cause.now) ++ to.old }
     ensures short { length to.new ≤ length to.old + 272 }
@@ -192,7 +192,7 @@ pub(crate) fn put_mask(to: &mut Sentence, cause: &Option<Cause<'_>>)
     match cause {
         Some(cause) => {
             put_place(to, Words::SinceLine, cause);
-            put_mask_by(to, cause.entry);
+            put_mask_by(to, &cause.entry);
         }
         None => {}
     }

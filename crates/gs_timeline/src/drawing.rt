@@ -11,7 +11,7 @@ use crate::spans::{Hold, holds, reigns};
 use crate::stay::Stay;
 use crate::text::push_number;
 use crate::walk::stays;
-use gs_journal::Entry;
+use gs_journal::Journal;
 use std::alloc::{AllocError, Global};
 
 /// The least width of a picture: that of the line that says what the marks mean.
@@ -41,7 +41,7 @@ fn write_stays(
     out: &mut String,
     part: &Part,
     cpu: u16,
-    entries: &[Entry],
+    journal: &Journal,
     lives: &[Life],
     stays: &[Stay],
 ) -> Result<(), AllocError> {
@@ -50,7 +50,13 @@ fn write_stays(
         if part.width(stay.from, stay.to) > 0 {
             blur.write(out, part)?;
             let life = life_of(lives, stay.tid);
-            write_stay(out, part, stay, life, reason_of(entries.get(stay.to)))?;
+            write_stay(
+                out,
+                part,
+                stay,
+                life,
+                reason_of(journal.get(stay.to).as_ref()),
+            )?;
         } else if part.shown(stay.from, stay.to) > 0 {
             blur.add(out, part, stay)?;
         }
@@ -63,18 +69,18 @@ fn write_rows(
     out: &mut String,
     alloc: Global,
     part: &Part,
-    entries: &[Entry],
+    journal: &Journal,
     lives: &mut [Life],
     cpus: u16,
 ) -> Result<(), AllocError> {
-    let lanes = stays(alloc, entries, cpus)?;
-    let held = holds(alloc, entries, cpus)?;
+    let lanes = stays(alloc, journal, cpus)?;
+    let held = holds(alloc, journal, cpus)?;
     for cpu in 0..cpus {
         let (Some(lane), Some(held)) = (lanes.get(cpu as usize), held.get(cpu as usize)) else {
             break;
         };
         write_row(out, part, cpu, held.ended())?;
-        write_stays(out, part, cpu, entries, lives, lane.stays())?;
+        write_stays(out, part, cpu, journal, lives, lane.stays())?;
         add_stays(lives, part, lane.stays())?;
     }
     Ok(())
@@ -131,23 +137,23 @@ fn write_head(
 pub fn picture(
     alloc: Global,
     cpus: u16,
-    entries: &[Entry],
+    journal: &Journal,
     from: usize,
     to: usize,
 ) -> Result<String, AllocError> {
-    let part = Part::new(entries.len(), from, to);
-    let mut lives = lives(alloc, entries, &part)?;
+    let part = Part::new(journal.len(), from, to);
+    let mut lives = lives(alloc, journal, &part)?;
     let mut out = String::new(alloc);
     let end = end_of_foot(cpus, lives.len());
-    write_head(&mut out, &part, end, entries.len())?;
+    write_head(&mut out, &part, end, journal.len())?;
     write_axis(&mut out, &part, cpus, end)?;
     push_number(&mut out, "<text x=\"10\" y=\"", TOP + 17)?;
     out.push_str("\">agent</text>\n")?;
-    write_rows(&mut out, alloc, &part, entries, &mut lives, cpus)?;
-    for reign in &reigns(alloc, entries)? {
+    write_rows(&mut out, alloc, &part, journal, &mut lives, cpus)?;
+    for reign in &reigns(alloc, journal)? {
         write_reign(&mut out, &part, cpus, reign)?;
     }
-    write_marks(&mut out, &part, cpus, entries)?;
+    write_marks(&mut out, &part, cpus, journal)?;
     end_strips(&mut lives)?;
     write_foot(&mut out, cpus, &lives)?;
     out.push_str("</svg>\n")?;

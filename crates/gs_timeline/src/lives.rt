@@ -1,7 +1,7 @@
 use crate::part::Part;
 use crate::stay::Stay;
 use crate::strip::Strip;
-use gs_journal::Entry;
+use gs_journal::{Entry, Journal};
 use gs_layout::{Change, Class, Facts, Message, Name};
 use std::alloc::{AllocError, Global};
 
@@ -129,26 +129,26 @@ pub(crate) fn end_strips(lives: &mut [Life]) -> Result<(), AllocError> {
 /// `AllocError` if out of memory.
 pub(crate) fn lives(
     alloc: Global,
-    entries: &[Entry],
+    journal: &Journal,
     part: &Part,
 ) -> Result<Vec<Life>, AllocError> {
     let mut lives = Vec::new(alloc);
-    for (place, entry) in entries.iter().enumerate() {
-        match entry {
+    for place in 0..journal.len() {
+        match journal.entry(place) {
             Entry::Posted {
                 message: Message::Thread {
                     tid,
                     change: Change::Created { facts },
                     ..
                 },
-            } => lives.push(Life::new(alloc, *tid, facts, place))?,
+            } => lives.push(Life::new(alloc, tid, &facts, place))?,
             Entry::Posted {
                 message: Message::Thread { tid, change, .. },
-            } => tell(&mut lives, part, place, *tid, change)?,
+            } => tell(&mut lives, part, place, tid, &change)?,
             Entry::Torn => end_all(&mut lives, part, place)?,
             _ => {}
         }
     }
-    end_all(&mut lives, part, entries.len())?;
+    end_all(&mut lives, part, journal.len())?;
     Ok(lives)
 }

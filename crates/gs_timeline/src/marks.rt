@@ -4,7 +4,7 @@ use crate::rect::{Rect, write_from_to};
 use crate::spans::{Hold, Reign};
 use crate::text::push_number;
 use crate::threads::{digits, room_for};
-use gs_journal::Entry;
+use gs_journal::{Entry, Journal};
 use gs_layout::Message;
 use std::alloc::AllocError;
 
@@ -118,22 +118,22 @@ pub(crate) fn write_marks(
     out: &mut String,
     part: &Part,
     cpus: u16,
-    entries: &[Entry],
+    journal: &Journal,
 ) -> Result<(), AllocError> {
     out.push_str("<g class=\"tick\">\n")?;
-    for (place, entry) in entries.iter().enumerate() {
+    for place in 0..journal.len() {
         if let Entry::Posted {
             message: Message::TimerTick { cpu },
-        } = entry
+        } = journal.entry(place)
         {
-            if *cpu < cpus && part.has(place) {
-                write_tick(out, part, place, *cpu)?;
+            if cpu < cpus && part.has(place) {
+                write_tick(out, part, place, cpu)?;
             }
         }
     }
     out.push_str("</g>\n")?;
-    for (place, entry) in entries.iter().enumerate() {
-        if matches!(entry, Entry::Torn) && part.has(place) {
+    for place in 0..journal.len() {
+        if matches!(journal.entry(place), Entry::Torn) && part.has(place) {
             write_torn(out, part, cpus, place)?;
         }
     }

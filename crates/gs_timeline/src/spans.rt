@@ -1,4 +1,4 @@
-use gs_journal::Entry;
+use gs_journal::{Entry, Journal};
 use std::alloc::{AllocError, Global};
 
 /// An agent, from the entry by which it began to attach or became active on a CPU to the one that ended that.
@@ -20,13 +20,13 @@ pub(crate) struct Hold {
 }
 
 /// Returns the agents, in order.
-pub(crate) fn reigns(alloc: Global, entries: &[Entry]) -> Result<Vec<Reign>, AllocError> {
+pub(crate) fn reigns(alloc: Global, journal: &Journal) -> Result<Vec<Reign>, AllocError> {
     let mut reigns = Vec::new(alloc);
     let mut now: Option<Reign> = None;
-    for (place, entry) in entries.iter().enumerate() {
-        let next = match entry {
-            Entry::Role { generation, cpu } => Some((*generation, Some(*cpu))),
-            Entry::Begin { generation } => Some((*generation, None)),
+    for place in 0..journal.len() {
+        let next = match journal.entry(place) {
+            Entry::Role { generation, cpu } => Some((generation, Some(cpu))),
+            Entry::Begin { generation } => Some((generation, None)),
             Entry::Left | Entry::Torn => None,
             _ => continue,
         };
@@ -42,7 +42,7 @@ pub(crate) fn reigns(alloc: Global, entries: &[Entry]) -> Result<Vec<Reign>, All
     }
     if let Some(reign) = now {
         reigns.push(Reign {
-            to: entries.len(),
+            to: journal.len(),
             ..reign
         })?;
     }
@@ -91,20 +91,20 @@ fn never_held(alloc: Global, cpus: u16) -> Result<Vec<HeldTimes>, AllocError> {
 /// Returns when the other class held each of so many CPUs. It walks the entries once.
 pub(crate) fn holds(
     alloc: Global,
-    entries: &[Entry],
+    journal: &Journal,
     cpus: u16,
 ) -> Result<Vec<HeldTimes>, AllocError> {
     let mut all = never_held(alloc, cpus)?;
-    for (place, entry) in entries.iter().enumerate() {
-        match entry {
+    for place in 0..journal.len() {
+        match journal.entry(place) {
             Entry::Taken { cpu } => {
-                if let Some(held) = all.get_mut(*cpu as usize) {
+                if let Some(held) = all.get_mut(cpu as usize) {
                     held.since = Some(place);
                 }
             }
             Entry::Given { cpu } => {
-                if let Some(held) = all.get_mut(*cpu as usize) {
-                    held.end(*cpu, place)?;
+                if let Some(held) = all.get_mut(cpu as usize) {
+                    held.end(cpu, place)?;
                 }
             }
             _ => {}
@@ -112,7 +112,7 @@ pub(crate) fn holds(
     }
     for cpu in 0..cpus {
         if let Some(held) = all.get_mut(cpu as usize) {
-            held.end(cpu, entries.len())?;
+            held.end(cpu, journal.len())?;
         }
     }
     Ok(all)

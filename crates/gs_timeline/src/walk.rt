@@ -4,7 +4,7 @@ ghost use Rattle.gs_timeline.specs.Lanes.{LaneOf, each_then, empties, lane_then,
 ghost use Rattle.gs_timeline.specs.Stays.{stays};
 
 use crate::lane::Lane;
-use gs_journal::Entry;
+use gs_journal::{Entry, Journal};
 use gs_layout::Message;
 use std::alloc::{AllocError, Global};
 
@@ -90,15 +90,15 @@ fn vacant_lanes(alloc: Global, cpus: u16) -> Result<Vec<Lane>, AllocError>
 /// # Errors
 ///
 /// `AllocError` if out of memory.
-pub fn stays(alloc: Global, entries: &[Entry], cpus: u16) -> Result<Vec<Lane>, AllocError>
+pub fn stays(alloc: Global, journal: &Journal, cpus: u16) -> Result<Vec<Lane>, AllocError>
     ensures count { IfOk result (λ lanes. length lanes.items ≡ cpus) }
-    ensures stays { IfOk result (λ lanes. (c : ℕ) → c < cpus → option_map (λ (lane : LaneOf). lane.ended) (slice_get lanes.items c) ≡ Some (stays entries.now c)) }
+    ensures stays { IfOk result (λ lanes. (c : ℕ) → c < cpus → option_map (λ (lane : LaneOf). lane.ended) (slice_get lanes.items c) ≡ Some (stays journal.now.entries c)) }
 {
     let mut lanes = vacant_lanes(alloc, cpus)?;
-    for (place, entry) in entries.iter().enumerate() {
-        hear(lanes.as_mut_slice(), place, entry)?;
+    for place in 0..journal.len() {
+        hear(lanes.as_mut_slice(), place, &journal.entry(place))?;
     }
-    let end = entries.len();
+    let end = journal.len();
     end_each(lanes.as_mut_slice(), 0, end)?;
     Ok(lanes)
 }

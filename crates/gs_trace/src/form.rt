@@ -6,7 +6,7 @@ ghost use Rattle.gs_trace.specs.Adding.{ShowsRun};
 use crate::running::{Nothing, run_into};
 use gs_core::{Event, Machine};
 use gs_history::{journal_text, json_text};
-use gs_journal::Entry;
+use gs_journal::Journal;
 use gs_lines::Text;
 use gs_policy::AnyPolicy;
 use gs_report::Report;
@@ -45,12 +45,12 @@ pub enum Form {
 }
 
 /// Returns the journal in this notation.
-fn show_journal(alloc: Global, notation: Notation, entries: &[Entry]) -> Result<Vec<u8>, AllocError>
-    ensures { IfOk result (λ bytes. bytes.items ≡ history_shown notation entries.now) }
+fn show_journal(alloc: Global, notation: Notation, journal: &Journal) -> Result<Vec<u8>, AllocError>
+    ensures { IfOk result (λ bytes. bytes.items ≡ history_shown notation journal.now.entries) }
 {
     match notation {
-        Notation::Lines => Ok(journal_text(alloc, entries)?.into_bytes()),
-        Notation::Json => json_text(alloc, entries),
+        Notation::Lines => Ok(journal_text(alloc, journal)?.into_bytes()),
+        Notation::Json => json_text(alloc, journal),
     }
 }
 
@@ -89,7 +89,7 @@ fn show_history(
     ensures { IfOk result (λ bytes. ShowsRun (shown_as (Form.Journal notation)) (planning any_plans machine.old) (map (planned any_plans) events.now) (planning any_plans machine.new) bytes.items) }
 {
     run_into(machine, events, Nothing)?;
-    show_journal(alloc, notation, machine.kernel().journal().entries())
+    show_journal(alloc, notation, machine.kernel().journal())
 }
 
 /// Runs events, and returns a picture of the entries from one place in the journal on to another.
@@ -105,7 +105,7 @@ fn show_picture(
     run_into(machine, events, Nothing)?;
     let kernel = machine.kernel();
     let cpus = kernel.settings().cpus;
-    let text = picture(alloc, cpus, kernel.journal().entries(), from, to)?;
+    let text = picture(alloc, cpus, kernel.journal(), from, to)?;
     Ok(text.into_bytes())
 }
 

@@ -38,6 +38,6 @@ pub(crate) fn shown_text(
 {
     match shown {
         Shown::Line => settled_line(alloc, finished),
-        Shown::Journal => journal_text(alloc, finished.closed.journal().entries()),
+        Shown::Journal => journal_text(alloc, finished.closed.journal()),
     }
 }

@@ -5,7 +5,7 @@ use crate::told::tell_all;
 use gs_agent::Drained;
 use gs_core::{Machine, Transaction};
 use gs_dump::DumpRecord;
-use gs_journal::Entry;
+use gs_journal::{Entry, Journal};
 use gs_kernel::Kernel;
 use gs_layout::{Known, Message};
 use gs_policy::AnyPolicy;
@@ -152,6 +152,21 @@ fn transactions_of(
     Ok(transactions)
 }
 
+/// Appends a copy of an item.
+fn add_copy<T: Copy + Drop>(items: &mut Vec<T>, item: &T) -> Result<(), AllocError> {
+    items.push(*item)?;
+    Ok(())
+}
+
+/// Returns all entries, in order.
+fn entries_of(alloc: Global, journal: &Journal) -> Result<Vec<Entry>, AllocError> {
+    let mut entries = Vec::new(alloc);
+    for place in 0..journal.len() {
+        add_copy(&mut entries, &journal.entry(place))?;
+    }
+    Ok(entries)
+}
+
 /// Returns a copy of items.
 fn copied<T: Copy + Drop>(alloc: Global, items: &[T]) -> Result<Vec<T>, AllocError> {
     let mut copy = Vec::new(alloc);
@@ -197,7 +212,7 @@ impl Looks {
             state: kernel.live_threads(alloc)?,
             view: view_of(alloc, machine)?,
             unread: unread_of(alloc, kernel)?,
-            journal: copied(alloc, kernel.journal().entries())?,
+            journal: entries_of(alloc, kernel.journal())?,
             slots: slots_of(alloc, machine.region())?,
             transactions: transactions_of(alloc, machine)?,
             agent: Agent::of(machine),

@@ -6,10 +6,10 @@ use Rattle.gs_explain.proofs.hearing.hear_placing.Given as goal
 abbrev pub invariant-loop-n : goal.invariant-loop-n
 invariant-loop-n l =
     record {
-      within : l.n ≤ length l.entries;
-      heard : HasHeard l.index (take l.n l.entries);
-      left : l.n + steps_to_placing (drop l.n l.entries) ≡ l.fn.heard + steps_to_placing (drop l.fn.heard l.entries);
+      within : l.n ≤ length l.journal.entries;
+      heard : HasHeard l.index (take l.n l.journal.entries);
+      left : l.n + steps_to_placing (drop l.n l.journal.entries) ≡ l.fn.heard + steps_to_placing (drop l.fn.heard l.journal.entries);
     }
 
 abbrev pub decreases-loop-n : goal.decreases-loop-n
-decreases-loop-n l = length l.entries - l.n
+decreases-loop-n l = length l.journal.entries - l.n

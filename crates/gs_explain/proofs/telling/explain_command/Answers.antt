@@ -1,5 +1,4 @@
-use Rattle.std.proofs.Common.{◌≡◌, ◌∙◌, ◌≤◌, ap, sym, subst, false, ℕ, List, ◌∷◌, [], ◌++◌, ◌||◌, Bool, arith, length, take}
-use Rattle.gs_journal.specs.History.{History}
+use Rattle.std.proofs.Common.{◌≡◌, ◌∙◌, ◌≤◌, ap, sym, subst, false, ℕ, ◌++◌, ◌||◌, Bool, arith, length, take}
 use Rattle.gs_policy.specs.declared.any.AnyPolicy.{AnyPolicy}
 use Rattle.gs_journal.specs.declared.entry.Entry.{Entry}
 use Rattle.gs_kernel.specs.Kernel.{last_entry}
@@ -13,7 +12,7 @@ use Rattle.gs_explain.specs.SaidLines.{said_line}
 use Rattle.gs_trace.specs.Output.{any_plans}
 use Rattle.gs_explain.specs.Marked.{IsMarked}
 use Rattle.gs_explain.specs.Moment.{Moment, moment}
-use Rattle.gs_explain.specs.Noted.{Noted, noted_after}
+use Rattle.gs_explain.specs.Noted.{Noted, filled, noted_after}
 use Rattle.gs_explain.specs.Telling.{noted_of}
 use Rattle.gs_explain.proofs.Grown.{stamps_kept, stamps_longer, step_keeps, step_longer}
 use Rattle.gs_explain.proofs.Moments.{both_ok, made, moment_is, noted, noted_is}
@@ -24,7 +23,7 @@ command_row-requires-clause-within g c =
     let m = planning any_plans c.args.machine.now in
     let next = planning any_plans c.command-came.new.self in
     let first : c.len-first.result ≡ length m.history = c.len-first.ensures.value ∙ ap length (c.journal.ensures.entries ∙ c.kernel.ensures.history) in
-    let entries : c.entries-entries.result.now ≡ next.history = c.entries-entries.ensures ∙ (c.journal-2.ensures.entries ∙ c.kernel-2.ensures.history) in
+    let entries : c.journal-journal.result.now.entries ≡ next.history = c.journal-journal.ensures.entries ∙ c.kernel-2.ensures.history in
     let longer : length m.history ≤ length next.history = step_longer m (events.Kernel c.args.command.now) (reply_of c.command-came.result (last_entry c.command-came.new.self.history)) next c.command-came.ensures.step in
     omega (arith, first, ap length entries, longer)
 
@@ -33,9 +32,9 @@ command_row-requires-clause-heard g c =
     let m = planning any_plans c.args.machine.now in
     let next = planning any_plans c.command-came.new.self in
     let first : c.len-first.result ≡ length m.history = c.len-first.ensures.value ∙ ap length (c.journal.ensures.entries ∙ c.kernel.ensures.history) in
-    let entries : c.entries-entries.result.now ≡ next.history = c.entries-entries.ensures ∙ (c.journal-2.ensures.entries ∙ c.kernel-2.ensures.history) in
-    let same : take c.len-first.result c.entries-entries.result.now ≡ m.history =
-    ap (λ (k : ℕ). take k c.entries-entries.result.now) first ∙ ap (take (length m.history)) entries ∙ step_keeps m (events.Kernel c.args.command.now) (reply_of c.command-came.result (last_entry c.command-came.new.self.history)) next c.command-came.ensures.step in
+    let entries : c.journal-journal.result.now.entries ≡ next.history = c.journal-journal.ensures.entries ∙ c.kernel-2.ensures.history in
+    let same : take c.len-first.result c.journal-journal.result.now.entries ≡ m.history =
+    ap (λ (k : ℕ). take k c.journal-journal.result.now.entries) first ∙ ap (take (length m.history)) entries ∙ step_keeps m (events.Kernel c.args.command.now) (reply_of c.command-came.result (last_entry c.command-came.new.self.history)) next c.command-came.ensures.step in
     subst (HasHeard c.args.index.now) (sym same) c.requires.heard
 
 pub mark_last-requires-clause-within : goal.mark_last-requires-clause-within
@@ -59,18 +58,18 @@ returns g c =
     let next = planning any_plans c.command-came.new.self in
     let e = c.args.event.now in
     let came = c.command-came.result in
-    let latest : c.last-latest.result.now ≡ last_entry next.history = c.last-latest.ensures ∙ ap last_entry c.kernel-3.ensures.history in
-    let r : Reply = reply_of came c.last-latest.result.now in
+    let latest : c.last-latest.result ≡ last_entry next.history = c.last-latest.ensures ∙ ap last_entry c.kernel-3.ensures.history in
+    let r : Reply = reply_of came c.last-latest.result in
     let x = said_line c.args.said.now in
     let n : Noted = noted_of c.args.lines.now in
     let after : Noted = noted_after x.0 r next n in
     let first : c.len-first.result ≡ length m.history = c.len-first.ensures.value ∙ ap length (c.journal.ensures.entries ∙ c.kernel.ensures.history) in
-    let entries : c.entries-entries.result.now ≡ next.history = c.entries-entries.ensures ∙ (c.journal-2.ensures.entries ∙ c.kernel-2.ensures.history) in
+    let entries : c.journal-journal.result.now.entries ≡ next.history = c.journal-journal.ensures.entries ∙ c.kernel-2.ensures.history in
     let transactions : c.transactions-transactions.result.now ≡ next.transactions = c.transactions-transactions.ensures in
     let lines : noted c.note_command.new.self.entries.items c.note_command.new.self.stamped.items c.note_command.new.self.page ≡ after =
-    noted_is x.0 r next n c.entries-entries.result.now c.transactions-transactions.result.now c.note_command.new.self.entries.items c.note_command.new.self.stamped.items c.note_command.new.self.page entries transactions c.in_ok-note_command.ensures.entries c.in_ok-note_command.ensures.stamped c.in_ok-note_command.ensures.page in
-    let at_hand : made c.note_command.new.self.entries.items c.note_command.new.self.stamped.items c.note_command.new.self.page e c.entries-entries.result.now c.transactions-transactions.result.now next ≡ moment after e next =
-    moment_is after e next c.note_command.new.self.entries.items c.note_command.new.self.stamped.items c.note_command.new.self.page c.entries-entries.result.now c.transactions-transactions.result.now
+    noted_is x.0 r next n c.journal-journal.result.now.entries c.transactions-transactions.result.now c.note_command.new.self.entries.items c.note_command.new.self.stamped.items c.note_command.new.self.page entries transactions (c.in_ok-note_command.ensures.entries ∙ ap (λ (k : ℕ). filled k x.0 n.lines) c.len.ensures.value) c.in_ok-note_command.ensures.stamped c.in_ok-note_command.ensures.page in
+    let at_hand : made c.note_command.new.self.entries.items c.note_command.new.self.stamped.items c.note_command.new.self.page e c.journal-journal.result.now.entries c.transactions-transactions.result.now next ≡ moment after e next =
+    moment_is after e next c.note_command.new.self.entries.items c.note_command.new.self.stamped.items c.note_command.new.self.page c.journal-journal.result.now.entries c.transactions-transactions.result.now
     (ap (λ (w : Noted). w.lines) lines) (ap (λ (w : Noted). w.stamped) lines) (ap (λ (w : Noted). w.page) lines) entries transactions in
     both_ok c.command_row.result _ _ _
     (λ shown heard. record {
@@ -80,7 +79,7 @@ returns g c =
           (subst (λ (ev : Event AnyPolicy). Step m (planned any_plans ev) (reply_of came (last_entry next.history)) next) (sym c.requires.given) c.command-came.ensures.step);
       safe = c.command-came.ensures.safe;
       faithful = c.command-came.ensures.faithful;
-      sufficed = ap (λ (b : Bool). b || false) (sym (c.is_short_command.ensures c.last-latest.result.now) ∙ c.if-is_short_command.false);
+      sufficed = ap (λ (b : Bool). b || false) (sym (c.is_short_command.ensures c.last-latest.result) ∙ c.if-is_short_command.false);
       lines = lines;
       heard = subst (HasHeard c.command_row.new.index) entries heard;
       marked = subst (IsMarked c.mark_last.new.last.places.items) transactions c.in_ok-mark_last.ensures;

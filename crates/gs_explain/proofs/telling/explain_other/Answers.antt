@@ -1,6 +1,5 @@
-use Rattle.std.proofs.Common.{◌≡◌, ◌∙◌, ◌≤◌, ap, sym, subst, false, ℕ, List, ◌∷◌, [], ◌++◌, arith, length, take}
+use Rattle.std.proofs.Common.{◌≡◌, ◌∙◌, ◌≤◌, ap, sym, subst, ℕ, ◌++◌, arith, length, take}
 use Rattle.std.specs.List.{list_any}
-use Rattle.gs_journal.specs.History.{History}
 use Rattle.gs_core.specs.Machine.{planned, planning}
 use Rattle.gs_core.specs.Short.{wants_memory}
 use Rattle.gs_replies.specs.declared.reply.Reply.{Reply}
@@ -9,7 +8,7 @@ use Rattle.gs_explain.specs.SaidLines.{said_line}
 use Rattle.gs_trace.specs.Output.{any_plans}
 use Rattle.gs_explain.specs.Marked.{IsMarked}
 use Rattle.gs_explain.specs.Moment.{Moment, moment}
-use Rattle.gs_explain.specs.Noted.{Noted, noted_after}
+use Rattle.gs_explain.specs.Noted.{Noted, filled, noted_after}
 use Rattle.gs_explain.specs.Telling.{noted_of}
 use Rattle.gs_explain.proofs.Grown.{stamps_kept, stamps_longer, step_keeps, step_longer}
 use Rattle.gs_explain.proofs.Moments.{both_ok, made, moment_is, noted, noted_is}
@@ -20,7 +19,7 @@ row-requires-clause-within g c =
     let m = planning any_plans c.args.machine.now in
     let next = planning any_plans c.step-reply.new.self in
     let first : c.len-first.result ≡ length m.history = c.len-first.ensures.value ∙ ap length (c.journal.ensures.entries ∙ c.kernel.ensures.history) in
-    let entries : c.entries-entries.result.now ≡ next.history = c.entries-entries.ensures ∙ (c.journal-2.ensures.entries ∙ c.kernel-2.ensures.history) in
+    let entries : c.journal-journal.result.now.entries ≡ next.history = c.journal-journal.ensures.entries ∙ c.kernel-2.ensures.history in
     let longer : length m.history ≤ length next.history = step_longer m (planned any_plans c.args.event.now) c.step-reply.result next c.step-reply.ensures.step in
     omega (arith, first, ap length entries, longer)
 
@@ -29,9 +28,9 @@ row-requires-clause-heard g c =
     let m = planning any_plans c.args.machine.now in
     let next = planning any_plans c.step-reply.new.self in
     let first : c.len-first.result ≡ length m.history = c.len-first.ensures.value ∙ ap length (c.journal.ensures.entries ∙ c.kernel.ensures.history) in
-    let entries : c.entries-entries.result.now ≡ next.history = c.entries-entries.ensures ∙ (c.journal-2.ensures.entries ∙ c.kernel-2.ensures.history) in
-    let same : take c.len-first.result c.entries-entries.result.now ≡ m.history =
-    ap (λ (k : ℕ). take k c.entries-entries.result.now) first ∙ ap (take (length m.history)) entries ∙ step_keeps m (planned any_plans c.args.event.now) c.step-reply.result next c.step-reply.ensures.step in
+    let entries : c.journal-journal.result.now.entries ≡ next.history = c.journal-journal.ensures.entries ∙ c.kernel-2.ensures.history in
+    let same : take c.len-first.result c.journal-journal.result.now.entries ≡ m.history =
+    ap (λ (k : ℕ). take k c.journal-journal.result.now.entries) first ∙ ap (take (length m.history)) entries ∙ step_keeps m (planned any_plans c.args.event.now) c.step-reply.result next c.step-reply.ensures.step in
     subst (HasHeard c.args.index.now) (sym same) c.requires.heard
 
 pub mark_last-requires-clause-within : goal.mark_last-requires-clause-within
@@ -59,12 +58,12 @@ returns g c =
     let n : Noted = noted_of c.args.lines.now in
     let after : Noted = noted_after x.0 r next n in
     let first : c.len-first.result ≡ length m.history = c.len-first.ensures.value ∙ ap length (c.journal.ensures.entries ∙ c.kernel.ensures.history) in
-    let entries : c.entries-entries.result.now ≡ next.history = c.entries-entries.ensures ∙ (c.journal-2.ensures.entries ∙ c.kernel-2.ensures.history) in
+    let entries : c.journal-journal.result.now.entries ≡ next.history = c.journal-journal.ensures.entries ∙ c.kernel-2.ensures.history in
     let transactions : c.transactions-transactions.result.now ≡ next.transactions = c.transactions-transactions.ensures in
     let lines : noted c.note.new.self.entries.items c.note.new.self.stamped.items c.note.new.self.page ≡ after =
-    noted_is x.0 r next n c.entries-entries.result.now c.transactions-transactions.result.now c.note.new.self.entries.items c.note.new.self.stamped.items c.note.new.self.page entries transactions c.in_ok-note.ensures.entries c.in_ok-note.ensures.stamped c.in_ok-note.ensures.page in
-    let at_hand : made c.note.new.self.entries.items c.note.new.self.stamped.items c.note.new.self.page e c.entries-entries.result.now c.transactions-transactions.result.now next ≡ moment after e next =
-    moment_is after e next c.note.new.self.entries.items c.note.new.self.stamped.items c.note.new.self.page c.entries-entries.result.now c.transactions-transactions.result.now
+    noted_is x.0 r next n c.journal-journal.result.now.entries c.transactions-transactions.result.now c.note.new.self.entries.items c.note.new.self.stamped.items c.note.new.self.page entries transactions (c.in_ok-note.ensures.entries ∙ ap (λ (k : ℕ). filled k x.0 n.lines) c.len.ensures.value) c.in_ok-note.ensures.stamped c.in_ok-note.ensures.page in
+    let at_hand : made c.note.new.self.entries.items c.note.new.self.stamped.items c.note.new.self.page e c.journal-journal.result.now.entries c.transactions-transactions.result.now next ≡ moment after e next =
+    moment_is after e next c.note.new.self.entries.items c.note.new.self.stamped.items c.note.new.self.page c.journal-journal.result.now.entries c.transactions-transactions.result.now
     (ap (λ (w : Noted). w.lines) lines) (ap (λ (w : Noted). w.stamped) lines) (ap (λ (w : Noted). w.page) lines) entries transactions in
     both_ok c.row.result _ _ _
     (λ shown heard. record {

@@ -12,9 +12,9 @@ stands-requires t c =
     let whole : c.args.kept.now ≡ c.in-Some.first.now ∷ c.in-Some.rest.now = c.in-Some.ensures.cases.0 in (
       omega (arith, ap length whole),
       (
-        All-rest (IsWithin (length c.args.journal.now) (length c.args.others.now)) c.in-Some.first.now c.in-Some.rest.now c.args.kept.now whole c.requires.within,
+        All-rest (IsWithin (length c.args.journal.now.entries) (length c.args.others.now)) c.in-Some.first.now c.in-Some.rest.now c.args.kept.now whole c.requires.within,
         (
-          answered_later c.args.journal.now c.args.others.now c.in-Some.first.now c.in-Some.rest.now c.args.kept.now whole c.requires.answered,
+          answered_later c.args.journal.now.entries c.args.others.now c.in-Some.first.now c.in-Some.rest.now c.args.kept.now whole c.requires.answered,
           rest_rises c.args.others.now (c.in-Some.first.now ∷ []) c.in-Some.rest.now (subst (λ (l : List Kept). IsNonDecreasingBy (kept_at c.args.others.now) l) whole c.requires.order),
         ),
       ),
@@ -23,10 +23,10 @@ stands-requires t c =
 pub returns-then-place-receipt : goal.returns-then-place-receipt
 returns-then-place-receipt t c =
     let whole : c.args.kept.now ≡ c.in-Some.first.now ∷ c.in-Some.rest.now = c.in-Some.ensures.cases.0 in
-    stands_exactly (call_kept c.args.journal.now c.args.others.now c.in-Some.first.now) (calls_kept c.args.journal.now c.args.others.now c.in-Some.rest.now) (calls_kept c.args.journal.now c.args.others.now c.args.kept.now)
-    c.args.command.now c.args.receipt.now c.is_call.result c.stands.result (ap (calls_kept c.args.journal.now c.args.others.now) whole) c.is_call.ensures c.if-is_call.false c.stands.ensures
+    stands_exactly (call_kept c.args.journal.now.entries c.args.others.now c.in-Some.first.now) (calls_kept c.args.journal.now.entries c.args.others.now c.in-Some.rest.now) (calls_kept c.args.journal.now.entries c.args.others.now c.args.kept.now)
+    c.args.command.now c.args.receipt.now c.is_call.result c.stands.result (ap (calls_kept c.args.journal.now.entries c.args.others.now) whole) c.is_call.ensures c.if-is_call.false c.stands.ensures
 
 pub returns-else-place-receipt : goal.returns-else-place-receipt
 returns-else-place-receipt t c =
     let whole : c.args.kept.now ≡ c.in-Some.first.now ∷ c.in-Some.rest.now = c.in-Some.ensures.cases.0 in
-    none_exactly c.args.journal.now c.args.others.now c.in-Some.first.now c.in-Some.rest.now c.args.kept.now c.args.command.now c.args.receipt.now c.place.result whole c.requires.order c.place.ensures (omega (arith, c.if-place-receipt.false))
+    none_exactly c.args.journal.now.entries c.args.others.now c.in-Some.first.now c.in-Some.rest.now c.args.kept.now c.args.command.now c.args.receipt.now c.place.result whole c.requires.order c.place.ensures (omega (arith, c.if-place-receipt.false))

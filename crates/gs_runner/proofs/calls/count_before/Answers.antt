@@ -1,6 +1,5 @@
-use Rattle.std.proofs.Common.{ℕ, Bool, true, false, List, rules}
+use Rattle.std.proofs.Common.{Bool, List, rules}
 use Rattle.std.specs.Prelude.{ltb}
-use Rattle.std.specs.List.Sorted.{IsPartitionPoint}
 use Rattle.std.proofs.lemmas.List.Sorted.{IsPartitionPoint-from_clause, IsPartitionedBy-ltb}
 use Rattle.gs_runner.specs.declared.kept.Kept.{Kept}
 use Rattle.gs_runner.specs.Kept.{kept_at}

@@ -6,7 +6,7 @@ use Rattle.gs_runner.proofs.search.is_next.Goals as goal
 
 pub returns-then-is_between : goal.returns-then-is_between
 returns-then-is_between c =
-    let h = c.args.journal.now in
+    let h = c.args.journal.now.entries in
     let ks = c.args.kept.now in
     let here = c.in-Some-Told.ensures.lookup in
     let found : slice_get ks c.args.passed ≡ Some (Told c.in-Some-Told.place c.in-Some-Told.end) = slice_get_read ks (length ks) c.args.passed c.in-Some-Told.field-0.now refl here.3.0 here.1 ∙ ap Some c.in-Some-Told.field-0-is in

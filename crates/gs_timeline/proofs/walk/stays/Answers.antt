@@ -14,28 +14,28 @@ changed f n xs ys seen value len is =
 
 pub loop-place-init : goal.loop-place-init
 loop-place-init c = (
-  subst (AreLanes c.args.entries.now 0 0) (sym c.in_ok-lanes.ensures) (lanes_none c.args.entries.now c.args.cpus 0),
+  subst (AreLanes c.args.journal.now.entries 0 0) (sym c.in_ok-lanes.ensures) (lanes_none c.args.journal.now.entries c.args.cpus 0),
   ap length c.in_ok-lanes.ensures ∙ length-replicate c.args.cpus vacant,
 )
 
 pub loop-place-preserved : goal.loop-place-preserved
 loop-place-preserved c =
     let n = c.loop-place.place in
-    let x = c.index-entries-place.result in
+    let x = c.entry.result in
     let xs = c.loop-place.lanes.items in
     let s = c.as_mut_slice.ensures in
     let whole = changed (lane_then n x) c.loop-place.lanes.len xs c.hear.new.lanes c.as_mut_slice.result.now s.value s.len c.in_ok-hear.ensures in (
-      subst (AreLanes c.args.entries.now (n + 1) 0) (sym whole) (lanes_more c.args.entries.now n x c.loop-place-test.true c.index-entries-place.is 0 xs c.loop-place.invariant.0),
+      subst (AreLanes c.args.journal.now.entries (n + 1) 0) (sym whole) (lanes_more c.args.journal.now.entries n x (omega (arith, c.loop-place-test.true, c.len-place-end.ensures.value)) c.entry.ensures.item 0 xs c.loop-place.invariant.0),
       ap length whole ∙ (length_each (lane_then n x) 0 xs ∙ c.loop-place.invariant.1),
     )
 
 pub returns-clause-stays : goal.returns-clause-stays
 returns-clause-stays c = λ d lt.
-    let h = c.args.entries.now in
+    let h = c.args.journal.now.entries in
     let xs = c.loop-place.lanes.items in
     let s = c.as_mut_slice-2.ensures in
-    let whole = changed (λ e. left e (length h)) c.loop-place.lanes.len xs c.end_each.new.lanes c.as_mut_slice-2.result.now s.value s.len c.in_ok-end_each.ensures in
-    let all : c.loop-place.place ≡ length h = omega (arith, c.loop-place-test.false, c.loop-place.auto.place-end) in
+    let whole = changed (λ e. left e (length h)) c.loop-place.lanes.len xs c.end_each.new.lanes c.as_mut_slice-2.result.now s.value s.len (c.in_ok-end_each.ensures ∙ ap (λ (e : ℕ). each_then (λ (k : ℕ). left k e) 0 c.as_mut_slice-2.result.now) c.len-end.ensures.value) in
+    let all : c.loop-place.place ≡ length h = omega (arith, c.loop-place-test.false, c.loop-place.auto.place-end, c.len-place-end.ensures.value) in
     ap (λ (ls : List LaneOf). option_map (λ (l : LaneOf). l.ended) (slice_get ls d)) whole
     ∙ lanes_ended h (length h) 0 xs refl (subst (λ (m : ℕ). AreLanes h m 0 xs) all c.loop-place.invariant.0) d (omega (arith, lt, c.loop-place.invariant.1))
     ∙ ap (λ (e : ℕ). Some (stays h e)) (omega arith)

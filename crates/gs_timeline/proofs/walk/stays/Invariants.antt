@@ -3,4 +3,4 @@ use Rattle.gs_timeline.proofs.Walked.{AreLanes}
 use Rattle.gs_timeline.proofs.walk.stays.Given as goal
 
 abbrev pub invariant-loop-place : goal.invariant-loop-place
-invariant-loop-place l = AreLanes l.entries l.place 0 l.lanes.items × (length l.lanes.items ≡ l.cpus)
+invariant-loop-place l = AreLanes l.journal.entries l.place 0 l.lanes.items × (length l.lanes.items ≡ l.cpus)

@@ -8,7 +8,7 @@ use Rattle.gs_trace.proofs.form.show_history.Goals as goal
 
 pub returns : goal.returns
 returns c =
-    let history : c.entries.result.now ≡ c.run_into.new.machine.history = c.entries.ensures ∙ (c.journal.ensures.entries ∙ c.kernel.ensures.history) in
+    let history : c.journal.result.now.entries ≡ c.run_into.new.machine.history = c.journal.ensures.entries ∙ c.kernel.ensures.history in
     IfOk-weaker c.show_journal.result _ _
     (λ bytes e.
     all_added _ (shown_as (Journal c.args.notation)) (planning any_plans c.args.machine.now) (map (planned any_plans) c.args.events.now) (planning any_plans c.run_into.new.machine) c.in_ok-run_into.field-0 bytes.items c.in_ok-run_into.ensures (λ rs h. e ∙ ap (history_shown c.args.notation) history))

@@ -1,4 +1,4 @@
-use Rattle.std.proofs.Common.{◌≡◌, ◌≤◌, ap, arith}
+use Rattle.std.proofs.Common.{◌≡◌, ap, arith}
 use Rattle.gs_runner.specs.Holds.{SearchOf}
 use Rattle.gs_runner.proofs.Places.{before_later}
 use Rattle.gs_runner.proofs.search.Search.holds.Goals as goal
