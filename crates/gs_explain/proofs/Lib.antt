@@ -2,7 +2,6 @@ mod Heard
 mod Grown
 mod Told
 mod Overflows
-mod Saying
 mod Values
 mod Moments
 mod Meeting

@@ -1,4 +1,3 @@
-pub mod SaidLines
 pub mod Noted
 pub mod Moment
 pub mod Landings

@@ -1,5 +1,5 @@
 -- What has been explained so far.
-use Rattle.std.specs.Prelude.{◌≡◌, Option, List, [], ◌∷◌, ◌++◌, ℕ, false, length}
+use Rattle.std.specs.Prelude.{◌≡◌, Option, List, [], ◌∷◌, ◌++◌, ℕ, false, Result, Ok}
 use Rattle.std.specs.List.{list_any}
 use Rattle.gs_policy.specs.declared.any.AnyPolicy.{AnyPolicy}
 use Rattle.gs_replies.specs.declared.reply.Reply.{Reply}
@@ -9,6 +9,8 @@ use Rattle.gs_core.specs.Safe.{Safe, IsFaithful}
 use Rattle.gs_core.specs.Short.{wants_memory}
 use Rattle.gs_reasons.specs.declared.index.Index.{Index}
 use Rattle.gs_reasons.specs.Kept.{HasHeard}
+use Rattle.gs_script.specs.declared.fault.ScriptFault.{ScriptFault}
+use Rattle.gs_script.specs.Unread.{with_front}
 use Rattle.gs_trace.specs.Output.{any_plans}
 use Rattle.gs_explain.specs.declared.noted.Lines.{Lines}
 use Rattle.gs_explain.specs.Noted.{Noted, noted_after}
@@ -31,14 +33,24 @@ pub record ExplainsOne (show : Show) (n : Noted) (m : State) (x : Line) (e : Eve
   pub marked : IsMarked marks next.transactions
   pub shown : new ≡ old ++ row_of show n m x e reply next
 
--- the events up to those that are left were explained, each by its line
-pub record ToldSoFar (show : Show) (n : Noted) (m : State) (es : List (Event AnyPolicy)) (xs : List Line) (noted : Noted) (now : State) (left : List (Event AnyPolicy)) (others : List Line) (out : List ℕ) : Type 0 where
+-- these events were explained, each by its line, and further ones of further lines follow
+pub record ToldSoFar (show : Show) (n : Noted) (m : State) (es : List (Event AnyPolicy)) (xs : List Line) (noted : Noted) (now : State) (out : List ℕ) : Type 0 where
   pub replies : List Reply
-  pub leads : (more : List Reply) (end : State) (rest : List ℕ) → Explains show noted now left more others end rest → Explains show n m es (replies ++ more) xs end (out ++ rest)
+  pub leads : (left : List (Event AnyPolicy)) (others : List Line) (more : List Reply) (end : State) (rest : List ℕ) → Explains show noted now left more others end rest → Explains show n m (es ++ left) (replies ++ more) (xs ++ others) end (out ++ rest)
   pub sufficed : list_any wants_memory replies ≡ false
 
+-- the same of the events of a script, and of the lines that say them, up to those that were not read
+pub record ToldUpTo (show : Show) (n : Noted) (m : State) (script left : Result (List (Event AnyPolicy)) ScriptFault) (shown others : List Line) (noted : Noted) (now : State) (out : List ℕ) : Type 0 where
+  pub events : List (Event AnyPolicy)
+  pub lines : List Line
+  pub is : script ≡ with_front events left
+  pub says : shown ≡ lines ++ others
+  pub told : ToldSoFar show n m events lines noted now out
+
 -- all of them were, and memory sufficed
-pub record IsToldOf (show : Show) (n : Noted) (m : State) (es : List (Event AnyPolicy)) (xs : List Line) (end : State) (out : List ℕ) : Type 0 where
+pub record IsToldAll (show : Show) (n : Noted) (m : State) (script : Result (List (Event AnyPolicy)) ScriptFault) (says : List Line) (end : State) (out : List ℕ) : Type 0 where
+  pub events : List (Event AnyPolicy)
+  pub is : script ≡ Ok events
   pub replies : List Reply
-  pub explains : Explains show n m es replies xs end out
+  pub explains : Explains show n m events replies says end out
   pub sufficed : list_any wants_memory replies ≡ false

@@ -15,7 +15,6 @@ mod page;
 mod refused;
 mod row;
 mod run;
-mod said;
 mod teller;
 mod telling;
 mod whys;

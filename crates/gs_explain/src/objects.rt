@@ -11,10 +11,9 @@ ghost use Rattle.gs_script.specs.Words.{is_text};
 ghost use Rattle.gs_explain.specs.Marked.{IsMarked};
 ghost use Rattle.gs_explain.specs.Moment.{moment_of};
 ghost use Rattle.gs_explain.specs.Objects.{object_row, row_data, whys};
-ghost use Rattle.gs_explain.specs.SaidLines.{said_line};
+ghost use Rattle.gs_script.specs.Unread.{said_line};
 
 use crate::moment::Scene;
-use crate::said::Said;
 use crate::teller::Teller;
 use crate::whys::whys;
 use gs_core::Reply;
@@ -23,6 +22,7 @@ use gs_kernel::Executed;
 use gs_layout::Refusal;
 use gs_lines::{Text, write_reply};
 use gs_reasons::Index;
+use gs_script::SaidLine;
 use serde_json::{Value, json};
 use std::alloc::{AllocError, Global};
 use std::marker::Model;
@@ -64,7 +64,7 @@ fn reply_strings(alloc: Global, reply: &Reply) -> Result<Vec<Value>, AllocError>
 
 /// Lends a line as text.
 #[tactic(auto, using(gs_script::proofs::Texts::text_is_utf8))]
-fn line_text<'a>(said: &Said<'a>) -> &'a str
+fn line_text<'a>(said: &SaidLine<'a>) -> &'a str
     requires { is_text said.now.bytes.now ≡ true }
     ensures { result.now ≡ said.now.bytes.now }
 {
@@ -74,7 +74,7 @@ fn line_text<'a>(said: &Said<'a>) -> &'a str
 /// Returns an event as a JSON value.
 fn row_value(
     alloc: Global,
-    said: &Said<'_>,
+    said: &SaidLine<'_>,
     first: usize,
     end: usize,
     reply: &Reply,
@@ -99,7 +99,7 @@ fn row_value(
 /// Returns an event as the text of an object.
 fn object_text(
     alloc: Global,
-    said: &Said<'_>,
+    said: &SaidLine<'_>,
     first: usize,
     end: usize,
     reply: &Reply,
@@ -117,7 +117,7 @@ fn object_text(
 #[tactic(auto, using(crate::proofs::Values::whys_plain))]
 fn write_object(
     out: &mut Objects,
-    said: &Said<'_>,
+    said: &SaidLine<'_>,
     scene: &Scene<'_>,
     index: &mut Index,
     first: usize,
@@ -164,7 +164,7 @@ impl Teller for Objects {
 
     fn row(
         &mut self,
-        said: &Said<'_>,
+        said: &SaidLine<'_>,
         scene: &Scene<'_>,
         index: &mut Index,
         first: usize,
@@ -175,7 +175,7 @@ impl Teller for Objects {
 
     fn command_row(
         &mut self,
-        said: &Said<'_>,
+        said: &SaidLine<'_>,
         scene: &Scene<'_>,
         index: &mut Index,
         first: usize,

@@ -8,14 +8,14 @@ ghost use Rattle.gs_sentences.specs.Given.{landed_given, reason_given, refused_g
 ghost use Rattle.gs_sentences.specs.Reason as reasons;
 ghost use Rattle.gs_explain.specs.Landings.{because};
 ghost use Rattle.gs_explain.specs.Rows.{added, heading, none_shown};
-ghost use Rattle.gs_explain.specs.SaidLines.{said_line};
+ghost use Rattle.gs_script.specs.Unread.{said_line};
 
-use crate::said::Said;
 use gs_core::Reply;
 use gs_journal::Entry;
 use gs_kernel::{Executed, Landing};
 use gs_layout::Refusal;
 use gs_lines::{Text, write_executed, write_landing, write_late, write_reply, write_torn};
+use gs_script::SaidLine;
 use gs_sentences::{Landed, Reason, Refused, Sentence, put_landed, put_reason, put_refused};
 use std::alloc::{AllocError, Global};
 use std::marker::Model;
@@ -57,7 +57,7 @@ impl Page {
 
     /// Adds a script's line, with its number.
     #[tactic(auto, using(gs_script::proofs::Texts::text_is_utf8))]
-    pub(crate) fn heading(&mut self, said: &Said<'_>) -> Result<(), AllocError>
+    pub(crate) fn heading(&mut self, said: &SaidLine<'_>) -> Result<(), AllocError>
         requires { is_text said.now.bytes.now ≡ true }
         ensures { OnOk result (self.new ≡ self.old ++ heading (said_line said.now)) }
     {

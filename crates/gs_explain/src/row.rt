@@ -3,7 +3,7 @@
 ghost use Rattle.std.specs.Prelude.{◌≡◌, ◌≤◌, ◌++◌, OnOk, length, take, true};
 ghost use Rattle.gs_reasons.specs.Kept.{HasHeard};
 ghost use Rattle.gs_script.specs.Words.{is_text};
-ghost use Rattle.gs_explain.specs.SaidLines.{said_line};
+ghost use Rattle.gs_script.specs.Unread.{said_line};
 ghost use Rattle.gs_replies.specs.Replies.{reply_of};
 ghost use Rattle.gs_explain.specs.Marked.{IsMarked};
 ghost use Rattle.gs_explain.specs.Moment.{moment_of};
@@ -16,7 +16,6 @@ use crate::moment::Scene;
 use crate::overflow::overflow_of;
 use crate::page::Page;
 use crate::refused::why_refused;
-use crate::said::Said;
 use crate::teller::Teller;
 use gs_agent::Drained;
 use gs_core::Reply;
@@ -24,6 +23,7 @@ use gs_journal::Entry;
 use gs_kernel::Executed;
 use gs_layout::Refusal;
 use gs_reasons::Index;
+use gs_script::SaidLine;
 use gs_sentences::Reason;
 use std::alloc::AllocError;
 
@@ -107,7 +107,7 @@ fn write_shown(
 /// the entries before the event, so many, and hears those of the event. It fails only if out of memory.
 fn write_row(
     out: &mut Page,
-    said: &Said<'_>,
+    said: &SaidLine<'_>,
     scene: &Scene<'_>,
     index: &mut Index,
     first: usize,
@@ -149,7 +149,7 @@ fn write_came(
 /// the reply to it.
 fn write_command_row(
     out: &mut Page,
-    said: &Said<'_>,
+    said: &SaidLine<'_>,
     scene: &Scene<'_>,
     index: &mut Index,
     first: usize,
@@ -176,7 +176,7 @@ impl Teller for Page {
 
     fn row(
         &mut self,
-        said: &Said<'_>,
+        said: &SaidLine<'_>,
         scene: &Scene<'_>,
         index: &mut Index,
         first: usize,
@@ -187,7 +187,7 @@ impl Teller for Page {
 
     fn command_row(
         &mut self,
-        said: &Said<'_>,
+        said: &SaidLine<'_>,
         scene: &Scene<'_>,
         index: &mut Index,
         first: usize,

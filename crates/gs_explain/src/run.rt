@@ -1,19 +1,18 @@
-ghost use Rattle.gs_replies.specs.Config.{config_fault};
-ghost use Rattle.std.specs.Prelude.{◌≡◌, ◌≢◌, [], None, Ok, IfOk, IfErr, IsErrOf};
+ghost use Rattle.std.specs.Prelude.{◌≡◌, ◌≢◌, [], IfOk, IfErr, IsErrOf};
 ghost use Rattle.std.specs.Io.KnownBytes.{Keeps};
+ghost use Rattle.gs_trace.specs.declared.run.Ended.TheVariants.{Ran};
 ghost use Rattle.gs_trace.specs.Streams.{AnswersAll, AnswersOf, BeginsAnswer, ConsumesAtMost};
-ghost use Rattle.gs_explain.specs.Explained.{IsExplained, TellsOf, shown_by};
-ghost use Rattle.gs_script.specs.Held.{seen};
+ghost use Rattle.gs_explain.specs.Explained.{IsExplained, IsExplainedOf};
+ghost use Rattle.gs_script.specs.Held.{Faults};
 ghost use Rattle.gs_script.specs.Said.{said_in};
 ghost use Rattle.gs_script.specs.Script.{script_of};
 
 use crate::objects::Objects;
 use crate::page::Page;
-use crate::said::{Rest, next_said};
 use crate::teller::Teller;
 use crate::telling::explain_all;
 use gs_core::Machine;
-use gs_script::{Script, ScriptError, lines_say_events, read_script};
+use gs_script::{Opened, ScriptError, open_script};
 use gs_trace::{
     Ended, InputError, Kept, MOST_READ_BYTES, TraceFault, fault_text, read_all, write_out,
 };
@@ -36,45 +35,32 @@ struct Answer {
     bytes: Vec<u8>,
 }
 
-/// Has what explains a script told, whose bytes these are. It fails only if out of memory.
-#[tactic(auto, using(crate::proofs::Saying::few_said, crate::proofs::Saying::says_script, crate::proofs::Saying::says_behind, crate::proofs::Saying::says_no_header))]
-fn told<T: Teller>(alloc: Global, input: &[u8], script: &Script, teller: T) -> Result<T, AllocError>
-    requires says { script_of input.now ≡ Ok (seen script.now) }
-    requires fits { config_fault script.now.config ≡ None }
-    requires empty { T.bytes teller ≡ [] }
-    ensures { IfOk result (λ told. TellsOf T.show (said_in input.now) (seen script.now) (T.bytes told)) }
+/// Has what explains the script told that an input says. It fails with the script's first fault, or out of memory.
+fn told<T: Teller>(alloc: Global, input: &[u8], teller: T) -> Result<T, ScriptError>
+    requires { T.bytes teller ≡ [] }
+    ensures told { IfOk result (λ told. IsExplainedOf T.show (said_in input.now) (script_of input.now) Ran (T.bytes told)) }
+    ensures fault { IfErr result (λ e. Faults e (script_of input.now)) }
 {
-    lines_say_events();
-    let all = Rest {
-        number: 1,
-        text: Some(input),
-    };
-    let Some((header, said)) = next_said(all) else {
-        unreachable!()
-    };
+    let Opened {
+        config,
+        header,
+        reading,
+    } = open_script(alloc, input)?;
     // (a configuration that was read can be opened, unless out of memory)
-    let Ok(mut machine) = Machine::new(alloc, script.config) else {
-        return Err(AllocError);
+    let Ok(mut machine) = Machine::new(alloc, config) else {
+        return Err(ScriptError::OutOfMemory);
     };
-    let events = script.events.as_slice();
-    let told = explain_all(alloc, &mut machine, header.number, said, events, teller)?;
-    Ok(told)
+    explain_all(alloc, &mut machine, header, reading, teller)
 }
 
-/// Returns what explains a script, whose bytes these are. It fails only if out of memory.
-fn explained(
-    alloc: Global,
-    how: Explanation,
-    input: &[u8],
-    script: &Script,
-) -> Result<Vec<u8>, AllocError>
-    requires says { script_of input.now ≡ Ok (seen script.now) }
-    requires fits { config_fault script.now.config ≡ None }
-    ensures { IfOk result (λ bytes. TellsOf (shown_by how) (said_in input.now) (seen script.now) bytes.items) }
+/// Returns what explains the script that an input says. It fails with the script's first fault, or out of memory.
+fn explained(alloc: Global, how: Explanation, input: &[u8]) -> Result<Vec<u8>, ScriptError>
+    ensures told { IfOk result (λ bytes. IsExplained how input.now Ran bytes.items) }
+    ensures fault { IfErr result (λ e. Faults e (script_of input.now)) }
 {
     match how {
-        Explanation::Lines => Ok(told(alloc, input, script, Page::new(alloc))?.into_bytes()),
-        Explanation::Json => Ok(told(alloc, input, script, Objects::new(alloc))?.into_bytes()),
+        Explanation::Lines => Ok(told(alloc, input, Page::new(alloc))?.into_bytes()),
+        Explanation::Json => Ok(told(alloc, input, Objects::new(alloc))?.into_bytes()),
     }
 }
 
@@ -82,19 +68,16 @@ fn explained(
 fn answer_to(alloc: Global, how: Explanation, input: &[u8]) -> Result<Answer, AllocError>
     ensures { IfOk result (λ answer. IsExplained how input.now answer.ended answer.bytes.items) }
 {
-    match read_script(alloc, input) {
-        Ok(script) => Ok(Answer {
+    match explained(alloc, how, input) {
+        Ok(bytes) => Ok(Answer {
             ended: Ended::Ran,
-            bytes: explained(alloc, how, input, &script)?,
+            bytes,
         }),
         Err(ScriptError::OutOfMemory) => Err(AllocError),
-        Err(ScriptError::Fault(fault)) => {
-            let text = fault_text(alloc, fault)?;
-            Ok(Answer {
-                ended: Ended::Faulted,
-                bytes: text.into_bytes(),
-            })
-        }
+        Err(ScriptError::Fault(fault)) => Ok(Answer {
+            ended: Ended::Faulted,
+            bytes: fault_text(alloc, fault)?.into_bytes(),
+        }),
     }
 }
 

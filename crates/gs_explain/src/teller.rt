@@ -5,15 +5,15 @@ ghost use Rattle.gs_script.specs.Words.{is_text};
 ghost use Rattle.gs_explain.specs.Explained.{Show};
 ghost use Rattle.gs_explain.specs.Marked.{IsMarked};
 ghost use Rattle.gs_explain.specs.Moment.{moment_of};
-ghost use Rattle.gs_explain.specs.SaidLines.{said_line};
+ghost use Rattle.gs_script.specs.Unread.{said_line};
 
 use crate::moment::Scene;
-use crate::said::Said;
 use gs_core::Reply;
 use gs_journal::Entry;
 use gs_kernel::Executed;
 use gs_layout::Refusal;
 use gs_reasons::Index;
+use gs_script::SaidLine;
 use std::alloc::AllocError;
 
 /// What writes what explains a script, event by event.
@@ -28,7 +28,7 @@ pub(crate) trait Teller: Drop {
     /// It fails only if out of memory.
     fn row(
         &mut self,
-        said: &Said<'_>,
+        said: &SaidLine<'_>,
         scene: &Scene<'_>,
         index: &mut Index,
         first: usize,
@@ -44,7 +44,7 @@ pub(crate) trait Teller: Drop {
     /// Adds a command by what came of it and the kernel's last entry, as [`Teller::row`] adds it with the reply.
     fn command_row(
         &mut self,
-        said: &Said<'_>,
+        said: &SaidLine<'_>,
         scene: &Scene<'_>,
         index: &mut Index,
         first: usize,

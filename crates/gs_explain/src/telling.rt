@@ -1,27 +1,26 @@
 //! A run of events, each of which is explained as it happens.
 
-ghost use Rattle.std.specs.Prelude.{◌≡◌, ◌≤◌, ◌<◌, ◌+◌, ◌^◌, IfOk, OnOk, [], length, take, true};
+ghost use Rattle.std.specs.Prelude.{◌≡◌, IfOk, IfErr, OnOk, [], true};
 ghost use Rattle.gs_core.specs.Machine.{planned, planning};
 ghost use Rattle.gs_reasons.specs.Kept.{HasHeard};
-ghost use Rattle.gs_script.specs.Plain.{lines_left};
-ghost use Rattle.gs_script.specs.Said.{SayEach};
+ghost use Rattle.gs_script.specs.Held.{Faults};
+ghost use Rattle.gs_script.specs.Unread.{events_unread, said_line, said_unread};
 ghost use Rattle.gs_script.specs.Words.{is_text};
 ghost use Rattle.gs_trace.specs.Output.{any_plans};
 ghost use Rattle.gs_explain.specs.Marked.{IsMarked};
 ghost use Rattle.gs_explain.specs.Noted.{noted_first};
-ghost use Rattle.gs_explain.specs.SaidLines.{said_left, said_line};
-ghost use Rattle.gs_explain.specs.Telling.{ExplainsOne, IsToldOf, noted_of};
+ghost use Rattle.gs_explain.specs.Telling.{ExplainsOne, IsToldAll, noted_of};
 
 use crate::hearing::hear_all;
 use crate::marking::mark_last;
 use crate::moment::Scene;
 use crate::noted::Lines;
-use crate::said::{Rest, Said, next_said};
 use crate::teller::Teller;
 use gs_core::{Event, Machine, is_short, is_short_command};
 use gs_kernel::Command;
 use gs_policy::AnyPolicy;
 use gs_reasons::{Index, Marks};
+use gs_script::{Reading, SaidLine, ScriptError};
 use std::alloc::{AllocError, Global};
 use std::slice;
 
@@ -32,7 +31,7 @@ fn explain_command<T: Teller>(
     index: &mut Index,
     last: &mut Marks,
     out: &mut T,
-    said: &Said<'_>,
+    said: &SaidLine<'_>,
     event: &Event<AnyPolicy>,
     command: &Command,
 ) -> Result<(), AllocError>
@@ -77,7 +76,7 @@ fn explain_other<T: Teller>(
     index: &mut Index,
     last: &mut Marks,
     out: &mut T,
-    said: &Said<'_>,
+    said: &SaidLine<'_>,
     event: &Event<AnyPolicy>,
 ) -> Result<(), AllocError>
     requires text { is_text said.now.bytes.now ≡ true }
@@ -113,7 +112,7 @@ fn explain_one<T: Teller>(
     index: &mut Index,
     last: &mut Marks,
     out: &mut T,
-    said: &Said<'_>,
+    said: &SaidLine<'_>,
     event: &Event<AnyPolicy>,
 ) -> Result<(), AllocError>
     requires text { is_text said.now.bytes.now ≡ true }
@@ -129,20 +128,18 @@ fn explain_one<T: Teller>(
     }
 }
 
-/// Lets events happen, and has what explains them told. Each is said by the next line of what is left of a script, and
-/// the header's line is given. It fails only if out of memory, or if a reply tells of that.
+/// Lets the events of a script happen as they are read, each before the next is read, and has what explains them told.
+/// The header's line is given. It fails with the first fault of their lines, or out of memory, also if a reply tells of that.
 pub(crate) fn explain_all<T: Teller>(
     alloc: Global,
     machine: &mut Machine<AnyPolicy>,
     header: usize,
-    left: Rest<'_>,
-    events: &[Event<AnyPolicy>],
+    script: Reading<'_>,
     teller: T,
-) -> Result<T, AllocError>
-    requires empty { T.bytes teller ≡ [] }
-    requires few { left.number + length (lines_left left.text) < 2 ^ 62 }
-    requires says { SayEach (said_left left) events.now }
-    ensures { IfOk result (λ told. IsToldOf T.show (noted_first header) (planning any_plans machine.old) events.now (said_left left.entry) (planning any_plans machine.new) (T.bytes told)) }
+) -> Result<T, ScriptError>
+    requires { T.bytes teller ≡ [] }
+    ensures told { IfOk result (λ told. IsToldAll T.show (noted_first header) (planning any_plans machine.old) (events_unread script.entry) (said_unread script.entry) (planning any_plans machine.new) (T.bytes told)) }
+    ensures fault { IfErr result (λ e. Faults e (events_unread script.entry)) }
 {
     let mut lines = Lines::new(alloc, header)?;
     let mut index = Index::new(alloc);
@@ -150,17 +147,13 @@ pub(crate) fn explain_all<T: Teller>(
     let mut out = teller;
     hear_all(&mut index, machine.kernel().journal(), 0)?;
     mark_last(&mut last, machine.transactions(), 0)?;
-    let mut rest = left;
-    let mut n = 0;
-    while n < events.len() {
-        let Some((said, behind)) = next_said(rest) else {
-            unreachable!()
-        };
+    let mut script = script;
+    let mut event = Vec::new(alloc);
+    'events: while let Some(said) = script.next(&mut event)? {
         explain_one(
-            machine, &mut lines, &mut index, &mut last, &mut out, &said, &events[n],
+            machine, &mut lines, &mut index, &mut last, &mut out, &said, &event[0],
         )?;
-        rest = behind;
-        n += 1;
+        event.clear();
     }
     Ok(out)
 }

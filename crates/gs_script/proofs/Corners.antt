@@ -15,7 +15,7 @@ use Rattle.gs_script.specs.Grammar.{Form, Number, line_fault, first_fault, liter
 use Rattle.gs_script.specs.Rows.{event_of, u16s, u32s}
 use Rattle.gs_script.specs.Header.{header_of, histories}
 use Rattle.gs_script.specs.Script.{script_of, fault}
-use Rattle.gs_script.specs.declared.script.LineError.TheVariants as line_errors
+use Rattle.gs_script.specs.declared.line.LineError.TheVariants as line_errors
 use Rattle.gs_script.specs.declared.script.ScriptError.TheVariants as script_errors
 use Rattle.gs_script.specs.Held.{placed, begins_plainly}
 

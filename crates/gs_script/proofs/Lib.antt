@@ -17,5 +17,6 @@ pub mod Fits
 pub mod Worked
 pub mod Corners
 pub mod Saying
+pub mod Unread
 pub mod Marking
 mod WorkedSpots

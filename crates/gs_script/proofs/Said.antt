@@ -2,8 +2,8 @@
 use Rattle.std.proofs.Common.{◌≡◌, ℕ, List, Bool, true, false, cond, not, refl, ap, sym, ◌∙◌, Option, None, Some, Result, Ok, Err}
 use Rattle.gs_script.specs.declared.fault.Reason.{Reason}
 use Rattle.gs_script.specs.declared.fault.Reason.TheVariants.{BadByte}
-use Rattle.gs_script.specs.declared.script.LineError.{LineError}
-use Rattle.gs_script.specs.declared.script.LineError.TheVariants as errors
+use Rattle.gs_script.specs.declared.line.LineError.{LineError}
+use Rattle.gs_script.specs.declared.line.LineError.TheVariants as errors
 use Rattle.gs_script.specs.Words.{is_text, words_of}
 use Rattle.gs_script.specs.Held.{Gives}
 use Rattle.gs_script.specs.Script.{is_passed_over, says, some_of}

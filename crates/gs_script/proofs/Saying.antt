@@ -1,10 +1,7 @@
 -- The lines that say something, and the events that they say.
-use Rattle.std.proofs.Common.{◌≡◌, refl, ap, sym, subst, ◌∙◌, ℕ, ◌+◌, ◌==◌, nat_lt, Bool, true, false, not, ◌&&◌, cond, Option, None, Result, Ok, Err, List, [], ◌∷◌, ◌++◌, append_assoc, filter, length, map, arith}
+use Rattle.std.proofs.Common.{◌≡◌, refl, ap, sym, subst, ◌∙◌, ℕ, ◌+◌, ◌==◌, nat_lt, Bool, true, false, not, ◌&&◌, cond, Option, None, Result, Ok, Err, List, [], ◌∷◌, ◌++◌, filter, length, arith}
 use Rattle.std.specs.List.{onto_first, slice_split}
 use Rattle.std.proofs.lemmas.List.Splits.{slice_split-cons_no, slice_split-cons_yes}
-use denote.Ref.{Bor}
-use Rattle.gs_script.specs.Plain.{FirstLine, lines_left}
-use Rattle.gs_script.specs.declared.said_line.SaidLine.{SaidLine}
 use Rattle.std.proofs.lemmas.Bool.Decides.{nat_tests}
 use Rattle.gs_policy.specs.declared.any.AnyPolicy.{AnyPolicy}
 use Rattle.gs_replies.specs.declared.config.Config.{Config}
@@ -17,7 +14,7 @@ use Rattle.gs_script.specs.Words.{is_text, is_word, lines_of, words_of}
 use Rattle.gs_script.specs.Rows.{event_of}
 use Rattle.gs_script.specs.Header.{header_of}
 use Rattle.gs_script.specs.Script.{before, events_of, fault, headed, is_passed_over, script_from, script_of, some_of, with_config, with_event}
-use Rattle.gs_script.specs.Said.{SayEach, SayScript, line_if, line_of, said, said_in, says_something}
+use Rattle.gs_script.specs.Said.{SayEach, SayScript, line_if, said, said_in}
 
 -- a space in front changes no word
 pub words_behind : (line : List ℕ) → words_of (32 ∷ line) ≡ words_of line
@@ -77,14 +74,3 @@ script_said bytes = by_len (nat_lt MOST_BYTES (length bytes))
     by_len : (b : Bool) → SayScript (cond b [] (said 1 (lines_of bytes))) (cond b (Err (fault 0 TooLong)) (script_from 1 (lines_of bytes)))
     by_len true = tt
     by_len false = from_said 1 1 (lines_of bytes)
-
--- one more line was looked at
-pub said_more : (n : ℕ) (old new : List SaidLine) (text : List ℕ) (left : Option (Bor (List ℕ))) (whole : List (ℕ × List ℕ)) → FirstLine (λ line. map line_of new ≡ map line_of old ++ line_if (says_something line) n line) text left
-    → map line_of old ++ said n (lines_of text) ≡ whole → map line_of new ++ said (n + 1) (lines_left left) ≡ whole
-said_more n old new text left whole f so_far =
-    ap (λ xs. xs ++ said (n + 1) (lines_left left)) f.is
-    ∙ (append_assoc (map line_of old) (line_if (says_something f.line) n f.line) (said (n + 1) (lines_left left)) ∙ (ap (λ ls. map line_of old ++ said n ls) (sym f.cut) ∙ so_far))
-
--- one line fewer is left
-pub one_fewer : (text : List ℕ) (left : Option (Bor (List ℕ))) (P : List ℕ → Type 0) → FirstLine P text left → length (lines_of text) ≡ length (lines_left left) + 1
-one_fewer text left P f = let e = ap length f.cut in omega arith

@@ -8,8 +8,8 @@ use Rattle.gs_script.specs.declared.fault.ScriptFault.{ScriptFault}
 use Rattle.gs_script.specs.declared.script.Script.{Script as TheScript}
 use Rattle.gs_script.specs.declared.script.ScriptError.{ScriptError}
 use Rattle.gs_script.specs.declared.script.ScriptError.TheVariants as errors
-use Rattle.gs_script.specs.declared.script.LineError.{LineError}
-use Rattle.gs_script.specs.declared.script.LineError.TheVariants as lines
+use Rattle.gs_script.specs.declared.line.LineError.{LineError}
+use Rattle.gs_script.specs.declared.line.LineError.TheVariants as lines
 use Rattle.gs_script.specs.Words.{is_shortest}
 use Rattle.gs_script.specs.Rows.{event_of}
 use Rattle.gs_script.specs.Plain.{FirstLine, IsRead}
@@ -25,11 +25,15 @@ Gives (Ok x) read = read ≡ Ok x
 Gives (Err (lines.Fault reason)) read = read ≡ Err reason
 Gives (Err lines.OutOfMemory) read = Unit {0}
 
--- the same of a script, whose value is seen by a view
+-- what is read has this fault, unless memory ran out
+abbrev pub Faults : {A : Type 0} → ScriptError → Result A ScriptFault → Type 0
+Faults (errors.Fault f) read = read ≡ Err f
+Faults errors.OutOfMemory read = Unit {0}
+
+-- a script is read so, whose value is seen by a view
 abbrev pub GivesBy : {A B : Type 0} → (A → B) → Result A ScriptError → Result B ScriptFault → Type 0
 GivesBy view (Ok x) read = read ≡ Ok (view x)
-GivesBy view (Err (errors.Fault f)) read = read ≡ Err f
-GivesBy view (Err errors.OutOfMemory) read = Unit {0}
+GivesBy view (Err e) read = Faults e read
 
 abbrev pub seen : TheScript → Script
 seen s = record { config = s.config; events = s.events.items }

@@ -6,5 +6,6 @@ pub mod Script
 pub mod Plain
 pub mod Held
 pub mod Said
+pub mod Unread
 pub mod Spot
 pub mod Found

@@ -4,7 +4,6 @@ use Rattle.gs_policy.specs.declared.any.AnyPolicy.{AnyPolicy}
 use Rattle.gs_core.specs.declared.event.Event.{Event}
 use Rattle.gs_script.specs.declared.fault.ScriptFault.{ScriptFault}
 use Rattle.gs_script.specs.declared.script.TheConstants.{MOST_BYTES}
-use Rattle.gs_script.specs.declared.said_line.SaidLine.{SaidLine}
 use Rattle.gs_script.specs.Words.{is_text, lines_of, words_of}
 use Rattle.gs_script.specs.Rows.{event_of}
 use Rattle.gs_script.specs.Script.{Script, is_passed_over}
@@ -26,10 +25,6 @@ said n (line ∷ lines) = line_if (says_something line) n line ++ said (n + 1) l
 -- those of a script's bytes, the header's first: none, if there are too many bytes
 abbrev pub said_in : List ℕ → List (ℕ × List ℕ)
 said_in bytes = if nat_lt MOST_BYTES (length bytes) then [] else said 1 (lines_of bytes)
-
--- as they are shown
-abbrev pub line_of : SaidLine → ℕ × List ℕ
-line_of x = (x.number, x.text.now)
 
 -- each of these lines says the event beside it
 abbrev pub SayEach : List (ℕ × List ℕ) → List (Event AnyPolicy) → Type 0

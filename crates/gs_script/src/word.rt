@@ -8,7 +8,7 @@ use gs_layout::Name;
 use std::alloc::AllocError;
 
 /// Whether each byte may stand in a line.
-fn is_printed(line: &[u8]) -> bool
+pub(crate) fn is_printed(line: &[u8]) -> bool
     ensures { result ≡ is_text line.now }
 {
     line.iter().all(|byte| 32 <= *byte && *byte <= 126)

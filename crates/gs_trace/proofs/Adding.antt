@@ -1,54 +1,81 @@
 -- The replies of a run, added one by one.
-use Rattle.std.proofs.Common.{◌≡◌, refl, sym, subst, ◌∙◌, ap, ℕ, false, ◌+◌, ◌<◌, ◌≤◌, List, [], ◌∷◌, ◌++◌, append-nil, append_assoc, add-one, drop, drop-cons, get_or, length, map}
+use Rattle.std.proofs.Common.{◌≡◌, refl, sym, subst, ◌∙◌, ap, ℕ, false, List, [], ◌∷◌, ◌++◌, append-nil, append_assoc, map, Result, Ok}
+use Rattle.std.proofs.lemmas.List.{map-append}
 use Rattle.std.specs.List.{list_any}
-use Rattle.std.proofs.lemmas.List.{drop_all}
 use Rattle.std.proofs.lemmas.List.Folds.{list_any-append}
 use Rattle.gs_core.specs.declared.event.Event.{Event}
 use Rattle.gs_replies.specs.declared.reply.Reply.{Reply}
-use Rattle.gs_core.specs.Machine.{Plan, State, Step}
+use Rattle.gs_policy.specs.declared.any.AnyPolicy.{AnyPolicy}
+use Rattle.gs_replies.specs.declared.config.Config.{Config}
+use Rattle.gs_core.specs.Machine.{Plan, State, Step, planned, planning, start}
 use Rattle.gs_core.specs.Safe.{Safe, IsFaithful, Run}
 use Rattle.gs_core.specs.Short.{wants_memory}
 use Rattle.gs_journal.specs.History.{History}
 use Rattle.gs_lines.specs.Lines.{lines, reply_lines}
 use Rattle.gs_lines.proofs.Laws.{lines_more}
-use Rattle.gs_trace.specs.Adding.{ShowsRun, AddedSoFar}
+use Rattle.gs_script.specs.declared.fault.ScriptFault.{ScriptFault}
+use Rattle.gs_script.specs.Script.{Script, with_config, with_event}
+use Rattle.gs_script.proofs.Lines.{with_front_nil}
+use Rattle.gs_script.proofs.Unread.{front_more, front_none}
+use Rattle.gs_trace.specs.declared.run.Ended.TheVariants.{Ran}
+use Rattle.gs_trace.specs.Output.{IsShownOf, any_plans}
+use Rattle.gs_trace.specs.Adding.{AddedSoFar, AddedUpTo, AddsOne, ShowsRun}
 
-pub none_added : {T : Type 0} (Has : T → List Reply → Type 0) (m : State) (es : List (Event Plan)) (taken : T) → Has taken [] → AddedSoFar Has m es es m taken
-none_added Has m es taken h = record { replies = []; leads = λ more end run. run; sufficed = refl; has = h }
+pub none_added : {T : Type 0} (Has : T → List Reply → Type 0) (m : State) (script : Result (List (Event AnyPolicy)) ScriptFault) (sink : T) → Has sink [] → AddedUpTo Has m script script m sink
+none_added Has m script sink h = record { events = []; is = sym (with_front_nil script); added = record { replies = []; leads = λ left more end run. run; sufficed = refl; has = h } }
 
 suffices : (rs : List Reply) (r : Reply) → list_any wants_memory rs ≡ false → list_any wants_memory (r ∷ []) ≡ false → list_any wants_memory (rs ++ r ∷ []) ≡ false
 suffices rs r h k = rw (list_any-append wants_memory rs (r ∷ []), h, k) refl
 
-pub added_more : {T : Type 0} (Has : T → List Reply → Type 0) (m : State) (es left rest : List (Event Plan)) (now next : State) (e : Event Plan) (r : Reply) (old new : T)
-    → AddedSoFar Has m es left now old → left ≡ e ∷ rest → Step now e r next → Safe next → IsFaithful next → list_any wants_memory (r ∷ []) ≡ false
-    → ((rs : List Reply) → Has old rs → Has new (rs ++ r ∷ [])) → AddedSoFar Has m es rest next new
-added_more Has m es left rest now next e r old new so_far is step safe faithful fine grows =
+one_added : {T : Type 0} (Has : T → List Reply → Type 0) (m : State) (es : List (Event Plan)) (now next : State) (e : Event Plan) (r : Reply) (old new : T)
+    → AddedSoFar Has m es now old → Step now e r next → Safe next → IsFaithful next → list_any wants_memory (r ∷ []) ≡ false → ((rs : List Reply) → Has old rs → Has new (rs ++ r ∷ [])) → AddedSoFar Has m (es ++ e ∷ []) next new
+one_added Has m es now next e r old new so_far step safe faithful fine grows =
     record {
       replies = so_far.replies ++ r ∷ [];
       leads =
-          λ more end run.
-          subst (λ (rs : List Reply). Run m es rs end) (sym (append_assoc so_far.replies (r ∷ []) more))
-          (so_far.leads (r ∷ more) end (subst (λ (es : List (Event Plan)). Run now es (r ∷ more) end) (sym is) (next, step, safe, faithful, run)));
+          λ left more end run.
+          subst (λ (ds : List (Event Plan)). Run m ds ((so_far.replies ++ r ∷ []) ++ more) end) (sym (append_assoc es (e ∷ []) left))
+          (subst (λ (rs : List Reply). Run m (es ++ e ∷ left) rs end) (sym (append_assoc so_far.replies (r ∷ []) more))
+          (so_far.leads (e ∷ left) (r ∷ more) end (next, step, safe, faithful, run)));
       sufficed = suffices so_far.replies r so_far.sufficed fine;
       has = grows so_far.replies so_far.has;
     }
 
-pub all_added : {T : Type 0} (Has : T → List Reply → Type 0) (Shows : List Reply → ℕ → History → List ℕ → Type 0) (m : State) (es : List (Event Plan)) (end : State) (taken : T) (out : List ℕ)
-    → AddedSoFar Has m es [] end taken → ((rs : List Reply) → Has taken rs → Shows rs end.settings.cpus end.history out) → ShowsRun Shows m es end out
-all_added Has Shows m es end taken out t shows =
+-- one more event was read and run
+pub added_more : {T : Type 0} (Has : T → List Reply → Type 0) (m : State) (script left rest : Result (List (Event AnyPolicy)) ScriptFault) (now next : State) (e : Event AnyPolicy) (old new : T)
+    → AddedUpTo Has m script left now old → left ≡ with_event e rest → AddsOne Has now (planned any_plans e) next old new → AddedUpTo Has m script rest next new
+added_more Has m script left rest now next e old new so_far is one =
     record {
-      replies = t.replies;
-      run = subst (λ (rs : List Reply). Run m es rs end) (append-nil t.replies) (t.leads [] end refl);
-      sufficed = t.sufficed;
-      shown = shows t.replies t.has;
+      events = so_far.events ++ e ∷ [];
+      is = front_more so_far.events e left rest script so_far.is is;
+      added =
+          subst (λ (es : List (Event Plan)). AddedSoFar Has m es next new) (sym (map-append (planned any_plans) so_far.events (e ∷ [])))
+          (one_added Has m (map (planned any_plans) so_far.events) now next (planned any_plans e) one.reply old new so_far.added one.step one.safe one.faithful one.sufficed one.grows);
     }
 
--- what is left is one item and what is left behind it
-pub one_left : {A B : Type 0} (f : A → B) (xs : List A) (i : ℕ) (d : A) → i < length xs → map f (drop i xs) ≡ f (get_or xs i d) ∷ map f (drop (i + 1) xs)
-one_left f xs i d h = rw add-one (ap (map f) (drop-cons xs i d h))
+pub all_added : {T : Type 0} (Has : T → List Reply → Type 0) (Shows : List Reply → ℕ → History → List ℕ → Type 0) (m : State) (script : Result (List (Event AnyPolicy)) ScriptFault) (end : State) (sink : T) (out : List ℕ)
+    → AddedUpTo Has m script (Ok []) end sink → ((rs : List Reply) → Has sink rs → Shows rs end.settings.cpus end.history out) → ShowsRun Shows m script end out
+all_added Has Shows m script end sink out t shows =
+    let es : List (Event Plan) = map (planned any_plans) t.events in
+    record {
+      events = t.events;
+      is = front_none t.events (Ok []) script t.is refl;
+      replies = t.added.replies;
+      run =
+          subst (λ (ds : List (Event Plan)). Run m ds t.added.replies end) (append-nil es)
+          (subst (λ (rs : List Reply). Run m (es ++ []) rs end) (append-nil t.added.replies) (t.added.leads [] [] end refl));
+      sufficed = t.added.sufficed;
+      shown = shows t.added.replies t.added.has;
+    }
 
-pub none_left : {A B : Type 0} (f : A → B) (xs : List A) (i : ℕ) → length xs ≤ i → map f (drop i xs) ≡ []
-none_left f xs i h = ap (map f) (drop_all i xs h)
+-- what shows a run of the events behind a header shows the script
+pub shown_of : (Shows : List Reply → ℕ → History → List ℕ → Type 0) (script : Result Script ScriptFault) (c : Config AnyPolicy) (behind : Result (List (Event AnyPolicy)) ScriptFault) (m end : State) (out : List ℕ)
+    → script ≡ with_config c behind → m ≡ planning any_plans (start c) → ShowsRun Shows m behind end out → IsShownOf Shows script Ran out
+shown_of Shows script c behind m end out is begun t =
+    subst (λ (s : Result Script ScriptFault). IsShownOf Shows s Ran out) (sym (is ∙ ap (with_config c) t.is)) (
+      refl,
+      record { replies = t.replies; left = end; run = subst (λ (n : State). Run n (map (planned any_plans) t.events) t.replies end) begun t.run; sufficed = t.sufficed; shown = t.shown },
+    )
 
 -- a text of the lines of replies, and of one more
 pub text_more : (old new : List ℕ) (r : Reply) → new ≡ old ++ reply_lines r → (rs : List Reply) → old ≡ lines rs → new ≡ lines (rs ++ r ∷ [])

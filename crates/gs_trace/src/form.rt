@@ -1,15 +1,18 @@
-ghost use Rattle.std.specs.Prelude.{◌≡◌, IfOk, map};
-ghost use Rattle.gs_core.specs.Machine.{planned, planning};
+ghost use Rattle.std.specs.Prelude.{◌≡◌, IfOk, IfErr};
+ghost use Rattle.gs_core.specs.Machine.{planning};
+ghost use Rattle.gs_script.specs.Held.{Faults};
+ghost use Rattle.gs_script.specs.Unread.{events_unread};
 ghost use Rattle.gs_trace.specs.Output.{any_plans, history_shown, shown_as};
 ghost use Rattle.gs_trace.specs.Adding.{ShowsRun};
 
 use crate::running::{Nothing, run_into};
-use gs_core::{Event, Machine};
+use gs_core::Machine;
 use gs_history::{journal_text, json_text};
 use gs_journal::Journal;
 use gs_lines::Text;
 use gs_policy::AnyPolicy;
 use gs_report::Report;
+use gs_script::{Reading, ScriptError};
 use gs_timeline::picture;
 use std::alloc::{AllocError, Global};
 
@@ -54,75 +57,81 @@ fn show_journal(alloc: Global, notation: Notation, journal: &Journal) -> Result<
     }
 }
 
-/// Runs events, and returns the lines of their replies.
+/// Runs a script's events, and returns the lines of their replies.
 fn show_lines(
     alloc: Global,
     machine: &mut Machine<AnyPolicy>,
-    events: &[Event<AnyPolicy>],
-) -> Result<Vec<u8>, AllocError>
-    ensures { IfOk result (λ bytes. ShowsRun (shown_as Form.Lines) (planning any_plans machine.old) (map (planned any_plans) events.now) (planning any_plans machine.new) bytes.items) }
+    script: Reading<'_>,
+) -> Result<Vec<u8>, ScriptError>
+    ensures shown { IfOk result (λ bytes. ShowsRun (shown_as Form.Lines) (planning any_plans machine.old) (events_unread script.entry) (planning any_plans machine.new) bytes.items) }
+    ensures fault { IfErr result (λ e. Faults e (events_unread script.entry)) }
 {
-    let text = run_into(machine, events, Text::new(alloc))?;
+    let text = run_into(alloc, machine, script, Text::new(alloc))?;
     Ok(text.into_bytes())
 }
 
-/// Runs events, and returns a report of their replies, with so many of the last lines.
+/// Runs a script's events, and returns a report of their replies, with so many of the last lines.
 fn show_report(
     alloc: Global,
     last: usize,
     machine: &mut Machine<AnyPolicy>,
-    events: &[Event<AnyPolicy>],
-) -> Result<Vec<u8>, AllocError>
-    ensures { IfOk result (λ bytes. ShowsRun (shown_as (Form.Report last)) (planning any_plans machine.old) (map (planned any_plans) events.now) (planning any_plans machine.new) bytes.items) }
+    script: Reading<'_>,
+) -> Result<Vec<u8>, ScriptError>
+    ensures shown { IfOk result (λ bytes. ShowsRun (shown_as (Form.Report last)) (planning any_plans machine.old) (events_unread script.entry) (planning any_plans machine.new) bytes.items) }
+    ensures fault { IfErr result (λ e. Faults e (events_unread script.entry)) }
 {
-    let report = run_into(machine, events, Report::new(alloc))?;
+    let report = run_into(alloc, machine, script, Report::new(alloc))?;
     Ok(report.to_line(alloc, last)?.into_bytes())
 }
 
-/// Runs events, and returns the journal of all that happened, in this notation.
+/// Runs a script's events, and returns the journal of all that happened, in this notation.
 fn show_history(
     alloc: Global,
     notation: Notation,
     machine: &mut Machine<AnyPolicy>,
-    events: &[Event<AnyPolicy>],
-) -> Result<Vec<u8>, AllocError>
-    ensures { IfOk result (λ bytes. ShowsRun (shown_as (Form.Journal notation)) (planning any_plans machine.old) (map (planned any_plans) events.now) (planning any_plans machine.new) bytes.items) }
+    script: Reading<'_>,
+) -> Result<Vec<u8>, ScriptError>
+    ensures shown { IfOk result (λ bytes. ShowsRun (shown_as (Form.Journal notation)) (planning any_plans machine.old) (events_unread script.entry) (planning any_plans machine.new) bytes.items) }
+    ensures fault { IfErr result (λ e. Faults e (events_unread script.entry)) }
 {
-    run_into(machine, events, Nothing)?;
-    show_journal(alloc, notation, machine.kernel().journal())
+    run_into(alloc, machine, script, Nothing)?;
+    let bytes = show_journal(alloc, notation, machine.kernel().journal())?;
+    Ok(bytes)
 }
 
-/// Runs events, and returns a picture of the entries from one place in the journal on to another.
+/// Runs a script's events, and returns a picture of the entries from one place in the journal on to another.
 fn show_picture(
     alloc: Global,
     from: usize,
     to: usize,
     machine: &mut Machine<AnyPolicy>,
-    events: &[Event<AnyPolicy>],
-) -> Result<Vec<u8>, AllocError>
-    ensures { IfOk result (λ bytes. ShowsRun (shown_as (Form.Timeline from to)) (planning any_plans machine.old) (map (planned any_plans) events.now) (planning any_plans machine.new) bytes.items) }
+    script: Reading<'_>,
+) -> Result<Vec<u8>, ScriptError>
+    ensures shown { IfOk result (λ bytes. ShowsRun (shown_as (Form.Timeline from to)) (planning any_plans machine.old) (events_unread script.entry) (planning any_plans machine.new) bytes.items) }
+    ensures fault { IfErr result (λ e. Faults e (events_unread script.entry)) }
 {
-    run_into(machine, events, Nothing)?;
+    run_into(alloc, machine, script, Nothing)?;
     let kernel = machine.kernel();
     let cpus = kernel.settings().cpus;
     let text = picture(alloc, cpus, kernel.journal(), from, to)?;
     Ok(text.into_bytes())
 }
 
-/// Runs events, and shows what came of them in this form: their replies, and the machine that they leave. It fails only
-/// if out of memory, or if a reply tells of that.
+/// Runs a script's events, and shows what came of them in this form: their replies, and the machine that they leave. It
+/// fails with the first fault of their lines, or out of memory, also if a reply tells of that.
 pub(crate) fn show(
     alloc: Global,
     form: Form,
     machine: &mut Machine<AnyPolicy>,
-    events: &[Event<AnyPolicy>],
-) -> Result<Vec<u8>, AllocError>
-    ensures { IfOk result (λ bytes. ShowsRun (shown_as form) (planning any_plans machine.old) (map (planned any_plans) events.now) (planning any_plans machine.new) bytes.items) }
+    script: Reading<'_>,
+) -> Result<Vec<u8>, ScriptError>
+    ensures shown { IfOk result (λ bytes. ShowsRun (shown_as form) (planning any_plans machine.old) (events_unread script.entry) (planning any_plans machine.new) bytes.items) }
+    ensures fault { IfErr result (λ e. Faults e (events_unread script.entry)) }
 {
     match form {
-        Form::Lines => show_lines(alloc, machine, events),
-        Form::Report { last } => show_report(alloc, last, machine, events),
-        Form::Journal(notation) => show_history(alloc, notation, machine, events),
-        Form::Timeline { from, to } => show_picture(alloc, from, to, machine, events),
+        Form::Lines => show_lines(alloc, machine, script),
+        Form::Report { last } => show_report(alloc, last, machine, script),
+        Form::Journal(notation) => show_history(alloc, notation, machine, script),
+        Form::Timeline { from, to } => show_picture(alloc, from, to, machine, script),
     }
 }

@@ -1,13 +1,16 @@
 ghost use Rattle.std.specs.Prelude.{◌≡◌, ◌≢◌, IfOk, IfErr, IsErrOf, string_bytes};
 ghost use Rattle.std.specs.Io.KnownBytes.{Keeps};
+ghost use Rattle.gs_trace.specs.declared.run.Ended.TheVariants.{Ran};
 ghost use Rattle.gs_trace.specs.declared.run.TraceFault.TheVariants.{OutOfMemory};
 ghost use Rattle.gs_trace.specs.Output.{IsOutput, IsReport, IsShown, fault_line, reason_text, shown_as};
+ghost use Rattle.gs_script.specs.Held.{Faults};
+ghost use Rattle.gs_script.specs.Script.{script_of};
 ghost use Rattle.gs_trace.specs.Streams.{AnswersAll, AnswersOf, AnswersRead, BeginsAnswer, ConsumesAtMost};
 
 use crate::form::{Form, show};
 use crate::pipe::{InputError, MOST_READ_BYTES, read_all, write_out};
 use gs_core::Machine;
-use gs_script::{Reason, ScriptError, ScriptFault, read_script};
+use gs_script::{Opened, Reason, ScriptError, ScriptFault, open_script};
 use std::alloc::{AllocError, Global};
 use std::io::{Read, Write};
 use thiserror::Error;
@@ -17,7 +20,7 @@ use thiserror::Error;
 pub enum Ended {
     /// Its events were run, and each had its reply.
     Ran,
-    /// It has a fault, and no event was run.
+    /// It has a fault, and nothing of its events was shown.
     Faulted,
 }
 
@@ -83,30 +86,39 @@ pub fn fault_text(alloc: Global, fault: ScriptFault) -> Result<String, AllocErro
     Ok(text)
 }
 
+/// Runs the script that an input says, and returns what came of it in this form. It fails with the script's first
+/// fault, or out of memory.
+fn run_input(alloc: Global, input: &[u8], form: Form) -> Result<Vec<u8>, ScriptError>
+    ensures shown { IfOk result (λ bytes. IsShown (shown_as form) input.now Ran bytes.items) }
+    ensures fault { IfErr result (λ e. Faults e (script_of input.now)) }
+{
+    let Opened {
+        config,
+        header: _,
+        reading,
+    } = open_script(alloc, input)?;
+    // (a configuration that was read can be opened, unless out of memory)
+    let Ok(mut machine) = Machine::new(alloc, config) else {
+        return Err(ScriptError::OutOfMemory);
+    };
+    show(alloc, form, &mut machine, reading)
+}
+
 /// Returns what is to be written for an input, in this form. It fails only if out of memory.
 fn answer_to(alloc: Global, input: &[u8], form: Form) -> Result<Answer, AllocError>
     ensures { IfOk result (λ answer. IsShown (shown_as form) input.now answer.ended answer.bytes.items) }
 {
-    let script = match read_script(alloc, input) {
-        Ok(script) => script,
-        Err(ScriptError::OutOfMemory) => return Err(AllocError),
-        Err(ScriptError::Fault(fault)) => {
-            let text = fault_text(alloc, fault)?;
-            return Ok(Answer {
-                ended: Ended::Faulted,
-                bytes: text.into_bytes(),
-            });
-        }
-    };
-    // (a configuration that was read can be opened, unless out of memory)
-    let Ok(mut machine) = Machine::new(alloc, script.config) else {
-        return Err(AllocError);
-    };
-    let bytes = show(alloc, form, &mut machine, &script.events)?;
-    Ok(Answer {
-        ended: Ended::Ran,
-        bytes,
-    })
+    match run_input(alloc, input, form) {
+        Ok(bytes) => Ok(Answer {
+            ended: Ended::Ran,
+            bytes,
+        }),
+        Err(ScriptError::OutOfMemory) => Err(AllocError),
+        Err(ScriptError::Fault(fault)) => Ok(Answer {
+            ended: Ended::Faulted,
+            bytes: fault_text(alloc, fault)?.into_bytes(),
+        }),
+    }
 }
 
 /// Reads a script to its end, or until it is too long, runs it, and writes the lines of its replies.

@@ -1,12 +1,14 @@
 //! A run whose replies are added to a sink one by one, none of which is kept.
 
-ghost use Rattle.std.specs.Prelude.{◌≡◌, List, [], ◌∷◌, ◌++◌, IfOk, OnOk, false, map};
+ghost use Rattle.std.specs.Prelude.{◌≡◌, List, [], ◌∷◌, ◌++◌, IfOk, IfErr, OnOk, Ok, false};
 ghost use Rattle.gs_core.specs.Machine.{planned, planning};
 ghost use Rattle.gs_core.specs.Short.{wants_memory};
 ghost use Rattle.gs_replies.specs.declared.reply.Reply as replies;
 ghost use Rattle.gs_lines.specs.Lines.{lines};
 ghost use Rattle.gs_report.specs.Report.{ReportsOn};
-ghost use Rattle.gs_trace.specs.Adding.{AddedSoFar, AddsOne};
+ghost use Rattle.gs_script.specs.Held.{Faults};
+ghost use Rattle.gs_script.specs.Unread.{events_unread};
+ghost use Rattle.gs_trace.specs.Adding.{AddedUpTo, AddsOne};
 ghost use Rattle.gs_trace.specs.Came.{reply_in};
 ghost use Rattle.gs_trace.specs.Output.{any_plans};
 
@@ -17,7 +19,8 @@ use gs_layout::Refusal;
 use gs_lines::{Text, write_executed, write_reply};
 use gs_policy::AnyPolicy;
 use gs_report::Report;
-use std::alloc::AllocError;
+use gs_script::{Reading, ScriptError};
+use std::alloc::{AllocError, Global};
 use std::slice;
 
 /// What came of an event, where it lies.
@@ -120,18 +123,24 @@ fn run_one<S: Sink>(
     add_to(sink, Came::Replied(&reply))
 }
 
-/// Runs events, and adds each reply to a sink. It fails only if out of memory, or if a reply tells of that.
+/// Runs the events of a script as they are read, each before the next is read, and adds each reply to a sink. It
+/// fails with the first fault of their lines, or out of memory, also if a reply tells of that.
 pub(crate) fn run_into<S: Sink>(
+    alloc: Global,
     machine: &mut Machine<AnyPolicy>,
-    events: &[Event<AnyPolicy>],
+    script: Reading<'_>,
     sink: S,
-) -> Result<S, AllocError>
+) -> Result<S, ScriptError>
     requires { S.has sink [] }
-    ensures { IfOk result (λ full. AddedSoFar S.has (planning any_plans machine.old) (map (planned any_plans) events.now) [] (planning any_plans machine.new) full) }
+    ensures added { IfOk result (λ full. AddedUpTo S.has (planning any_plans machine.old) (events_unread script.entry) (Ok []) (planning any_plans machine.new) full) }
+    ensures fault { IfErr result (λ e. Faults e (events_unread script.entry)) }
 {
+    let mut script = script;
     let mut sink = sink;
-    for event in events {
-        run_one(machine, event, &mut sink)?;
+    let mut event = Vec::new(alloc);
+    'events: while let Some(_) = script.next(&mut event)? {
+        run_one(machine, &event[0], &mut sink)?;
+        event.clear();
     }
     Ok(sink)
 }

@@ -4,7 +4,7 @@ use Rattle.std.proofs.lemmas.Result.{IfOk-weaker}
 use Rattle.serde_json.specs.View.{view}
 use Rattle.serde_json.specs.Written.{compact_text, has_float}
 use Rattle.gs_lines.specs.Lines.{reply_lines}
-use Rattle.gs_explain.specs.SaidLines.{said_line}
+use Rattle.gs_script.specs.Unread.{said_line}
 use Rattle.gs_explain.proofs.Values.{has_no_float}
 use Rattle.gs_explain.proofs.objects.object_text.Goals as goal
 

@@ -1,15 +1,21 @@
-use Rattle.std.proofs.Common.{ap, arith}
+use Rattle.std.proofs.Common.{ap}
+use Rattle.std.proofs.lemmas.Result.{IfErr-weaker, IfOk-weaker}
 use Rattle.gs_core.specs.Machine.{planning}
-use Rattle.gs_script.specs.Held.{seen}
+use Rattle.gs_script.specs.Said.{said_in}
+use Rattle.gs_script.specs.Script.{script_of}
+use Rattle.gs_script.proofs.HeaderLines.{fault_behind}
 use Rattle.gs_trace.specs.Output.{any_plans}
-use Rattle.gs_explain.specs.SaidLines.{said_left, said_line}
-use Rattle.gs_explain.proofs.Saying.{few_said, tells}
+use Rattle.gs_explain.proofs.Told.{explained_of}
 use Rattle.gs_explain.proofs.run.told.Goals as goal
 
-pub explain_all-requires-clause-few : goal.explain_all-requires-clause-few
-explain_all-requires-clause-few g c = let all = few_said c.args.input.now (seen c.args.script.now) c.requires.says in omega (arith, all, c.in-Some.ensures.few)
+pub returns-clause-told : goal.returns-clause-told
+returns-clause-told g c =
+    let opened = c.in_ok-config.field-0 in
+    IfOk-weaker c.explain_all.result _ _
+    (λ told t. explained_of g.T.Teller.show (script_of c.args.input.now) (said_in c.args.input.now) opened.config opened.header opened.reading (planning any_plans c.in-Ok.machine) (planning any_plans c.explain_all.new.machine) (g.T.Teller.bytes told) c.in_ok-config.ensures.opened (ap (planning any_plans) c.in-Ok.ensures.ok) t)
+    c.explain_all.ensures.told
 
-pub returns : goal.returns
-returns g c =
-    tells g.T.Teller.show c.args.input.now (seen c.args.script.now) (said_line c.in-Some.header) (said_left c.in-Some.said) (planning any_plans c.in-Ok.machine) (planning any_plans c.explain_all.new.machine) c.as_slice-events.result.now (g.T.Teller.bytes c.in_ok-told.told)
-    c.requires.says c.in-Some.ensures.is (ap (planning any_plans) c.in-Ok.ensures.ok) c.as_slice-events.ensures.value c.in_ok-told.ensures
+pub returns-clause-fault : goal.returns-clause-fault
+returns-clause-fault g c =
+    let opened = c.in_ok-config.field-0 in
+    IfErr-weaker c.explain_all.result _ _ (λ e f. fault_behind c.args.input.now opened.config opened.header opened.reading e c.in_ok-config.ensures.opened f) c.explain_all.ensures.fault

@@ -1,45 +1,60 @@
-use Rattle.std.proofs.Common.{rules, ◌≡◌, ◌+◌, ◌<◌, ◌∙◌, ap, sym, subst, List, [], ◌∷◌, arith, drop, length}
-use Rattle.std.proofs.lemmas.List.{drop_all}
+use Rattle.std.proofs.Common.{rules, ◌≡◌, ◌∙◌, ◌++◌, ◌∷◌, [], ℕ, List, ap, sym, subst}
+use Rattle.std.proofs.lemmas.Option.{MatchOption-at_none, MatchOption-at_some}
 use Rattle.gs_policy.specs.declared.any.AnyPolicy.{AnyPolicy}
 use Rattle.gs_core.specs.declared.event.Event.{Event}
 use Rattle.gs_core.specs.Machine.{planning}
+use Rattle.gs_reasons.specs.Kept.{HasHeard}
+use Rattle.gs_explain.specs.Marked.{IsMarked}
+use Rattle.gs_script.specs.Unread.{ReadsNext, ReadsNone, events_unread, said_line, said_unread}
 use Rattle.gs_trace.specs.Output.{any_plans}
-use Rattle.gs_explain.specs.Noted.{noted_first}
-use Rattle.gs_explain.specs.SaidLines.{said_left, said_line}
-use Rattle.gs_explain.specs.Telling.{ToldSoFar, noted_of}
+use Rattle.gs_explain.specs.Noted.{Noted, noted_first}
+use Rattle.gs_explain.specs.Telling.{ExplainsOne, ToldUpTo, noted_of}
 use Rattle.gs_explain.proofs.Lasting.{none_marked}
-use Rattle.gs_explain.proofs.Told.{all_told, no_line_left, one_event, one_told, says_one}
+use Rattle.gs_explain.proofs.Told.{all_told, none_told, one_told}
 use Rattle.gs_explain.proofs.telling.explain_all.Goals as goal
 
 pub mark_last-requires-clause-marked : goal.mark_last-requires-clause-marked
 mark_last-requires-clause-marked g c = none_marked c.new-last.result.places.items c.new-last.ensures
 
-pub unreachable-requires : goal.unreachable-requires
-unreachable-requires g c = no_line_left (said_left c.loop-n.rest) c.args.events.now c.loop-n.n c.loop-n-test.true c.loop-n.invariant.says (search rules)
-
-pub loop-n-preserved : goal.loop-n-preserved
-loop-n-preserved g c =
-    let n = c.loop-n.n in
-    let is = c.in-Some.ensures in
-    let e : Event AnyPolicy = c.index-events-n.result in
-    let left : n < length c.args.events.now = c.loop-n-test.true in
-    let rest : List (Event AnyPolicy) = drop (n + 1) c.args.events.now in
-    let is_left : drop n c.args.events.now ≡ e ∷ rest = one_event c.args.events.now n e left ∙ ap (λ (d : Event AnyPolicy). d ∷ rest) (sym c.index-events-n.is) in
-    let one = c.in_ok-explain_one.ensures in
+pub events-init : goal.events-init
+events-init g c =
+    let show = g.T.Teller.show in
+    let m = planning any_plans c.args.machine.now in
+    let script = events_unread c.args.script in
+    let says = said_unread c.args.script in
+    let entries : c.journal.result.now.entries ≡ m.history = c.journal.ensures.entries ∙ c.kernel.ensures.history in
+    let lines : noted_of c.in_ok-lines.lines ≡ noted_first c.args.header = λ i. record { lines = c.in_ok-lines.ensures.entries i; stamped = c.in_ok-lines.ensures.stamped i; page = c.in_ok-lines.ensures.page i } in
     record {
-      within = omega (arith, left);
-      heard = one.heard;
-      marked = one.marked;
-      few = omega (arith, c.loop-n.invariant.few, is.few);
-      says = says_one (said_left c.loop-n.rest) (said_left c.in-Some.behind) (said_line c.in-Some.said) (drop n c.args.events.now) rest e is.is is_left c.loop-n.invariant.says;
+      heard = subst (HasHeard c.hear_all.new.index) entries c.in_ok-hear_all.ensures;
+      marked = subst (IsMarked c.mark_last.new.last.places.items) c.transactions.ensures c.in_ok-mark_last.ensures;
       told =
-          one_told g.T.Teller.show (noted_first c.args.header) (planning any_plans c.args.machine.now) c.args.events.now (said_left c.args.left) (noted_of c.loop-n.lines) (planning any_plans c.loop-n.machine) (drop n c.args.events.now) rest (said_left c.loop-n.rest) (said_left c.in-Some.behind)
-          e (said_line c.in-Some.said) (g.T.Teller.bytes c.loop-n.out) (planning any_plans c.explain_one.new.machine) (noted_of c.explain_one.new.lines) c.explain_one.new.index c.explain_one.new.last.places.items (g.T.Teller.bytes c.explain_one.new.out) c.loop-n.invariant.told is_left is.is one;
+          subst (λ (out : List ℕ). ToldUpTo show (noted_first c.args.header) m script script says says (noted_of c.in_ok-lines.lines) m out) (sym c.requires)
+          (subst (λ (n : Noted). ToldUpTo show (noted_first c.args.header) m script script says says n m []) (sym lines) (none_told show (noted_first c.args.header) m script says));
+      one = c.new-event.ensures.items;
     }
 
-pub returns : goal.returns
-returns g c =
-    let none_left : drop c.loop-n.n c.args.events.now ≡ [] = drop_all c.loop-n.n c.args.events.now c.loop-n-test.false in
-    all_told g.T.Teller.show (noted_first c.args.header) (planning any_plans c.args.machine.now) c.args.events.now (said_left c.args.left) (noted_of c.loop-n.lines) (planning any_plans c.loop-n.machine) (said_left c.loop-n.rest) (g.T.Teller.bytes c.loop-n.out)
-    (subst (λ (left : List (Event AnyPolicy)). ToldSoFar g.T.Teller.show (noted_first c.args.header) (planning any_plans c.args.machine.now) c.args.events.now (said_left c.args.left) (noted_of c.loop-n.lines) (planning any_plans c.loop-n.machine) left (said_left c.loop-n.rest) (g.T.Teller.bytes c.loop-n.out)) none_left
-    c.loop-n.invariant.told)
+pub events-preserved : goal.events-preserved
+events-preserved g c =
+    let show = g.T.Teller.show in
+    let now = planning any_plans c.events.machine in
+    let next = planning any_plans c.explain_one.new.machine in
+    let line = said_line c.in-Some.said in
+    let read = MatchOption-at_some (ReadsNone c.events.script c.events.event.items c.next.new.events.items) (ReadsNext c.events.script c.next.new.self c.events.event.items c.next.new.events.items) c.in-Some.said c.in-Some.is c.in_ok-said.ensures.read in
+    let only : c.next.new.events.items ≡ read.event ∷ [] = read.added ∙ ap (λ es. es ++ read.event ∷ []) c.events.invariant.one in
+    let is : c.index.result.now ≡ read.event = search rules in
+    let one =
+    subst (λ (e : Event AnyPolicy). ExplainsOne show (noted_of c.events.lines) now line e next (noted_of c.explain_one.new.lines) c.explain_one.new.index c.explain_one.new.last.places.items (g.T.Teller.bytes c.events.out) (g.T.Teller.bytes c.explain_one.new.out)) is c.in_ok-explain_one.ensures in
+    record {
+      heard = one.heard;
+      marked = one.marked;
+      told =
+          one_told show (noted_first c.args.header) (planning any_plans c.args.machine.now) (events_unread c.args.script) (events_unread c.events.script) (events_unread c.next.new.self) (said_unread c.args.script) (said_unread c.events.script) (said_unread c.next.new.self)
+          (noted_of c.events.lines) now read.event line (g.T.Teller.bytes c.events.out) next (noted_of c.explain_one.new.lines) c.explain_one.new.index c.explain_one.new.last.places.items (g.T.Teller.bytes c.explain_one.new.out) c.events.invariant.told read.is read.says one;
+      one = c.clear.ensures.items;
+    }
+
+pub returns-clause-told : goal.returns-clause-told
+returns-clause-told g c =
+    let read = MatchOption-at_none (ReadsNone c.events.script c.events.event.items c.next.new.events.items) (ReadsNext c.events.script c.next.new.self c.events.event.items c.next.new.events.items) c.in_default.is c.in_ok-said.ensures.read in
+    all_told g.T.Teller.show (noted_first c.args.header) (planning any_plans c.args.machine.now) (events_unread c.args.script) (events_unread c.events.script) (said_unread c.args.script) (said_unread c.events.script) (noted_of c.events.lines) (planning any_plans c.events.machine) (g.T.Teller.bytes c.events.out)
+    c.events.invariant.told read.is read.says

@@ -8,7 +8,7 @@ use Rattle.gs_replies.specs.Replies.{reply_of}
 use Rattle.gs_core.specs.Machine.{Step, planned, planning}
 use Rattle.gs_replies.specs.declared.reply.Reply.{Reply}
 use Rattle.gs_reasons.specs.Kept.{HasHeard}
-use Rattle.gs_explain.specs.SaidLines.{said_line}
+use Rattle.gs_script.specs.Unread.{said_line}
 use Rattle.gs_trace.specs.Output.{any_plans}
 use Rattle.gs_explain.specs.Marked.{IsMarked}
 use Rattle.gs_explain.specs.Moment.{Moment, moment}

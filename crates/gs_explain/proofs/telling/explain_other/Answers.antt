@@ -4,7 +4,7 @@ use Rattle.gs_core.specs.Machine.{planned, planning}
 use Rattle.gs_core.specs.Short.{wants_memory}
 use Rattle.gs_replies.specs.declared.reply.Reply.{Reply}
 use Rattle.gs_reasons.specs.Kept.{HasHeard}
-use Rattle.gs_explain.specs.SaidLines.{said_line}
+use Rattle.gs_script.specs.Unread.{said_line}
 use Rattle.gs_trace.specs.Output.{any_plans}
 use Rattle.gs_explain.specs.Marked.{IsMarked}
 use Rattle.gs_explain.specs.Moment.{Moment, moment}

@@ -1,14 +1,14 @@
 -- The search finds these too. They are written so that a wrong body fails at them at once.
 use Rattle.gs_trace.proofs.form.show.Goals as goal
 
-pub returns-in-Lines : goal.returns-in-Lines
-returns-in-Lines c = rw c.in-Lines.is c.show_lines.ensures
+pub returns-in-Lines-clause-shown : goal.returns-in-Lines-clause-shown
+returns-in-Lines-clause-shown c = rw c.in-Lines.is c.show_lines.ensures.shown
 
-pub returns-in-Report : goal.returns-in-Report
-returns-in-Report c = rw c.in-Report.is c.show_report.ensures
+pub returns-in-Report-clause-shown : goal.returns-in-Report-clause-shown
+returns-in-Report-clause-shown c = rw c.in-Report.is c.show_report.ensures.shown
 
-pub returns-in-Journal : goal.returns-in-Journal
-returns-in-Journal c = rw c.in-Journal.is c.show_history.ensures
+pub returns-in-Journal-clause-shown : goal.returns-in-Journal-clause-shown
+returns-in-Journal-clause-shown c = rw c.in-Journal.is c.show_history.ensures.shown
 
-pub returns-in-Timeline : goal.returns-in-Timeline
-returns-in-Timeline c = rw c.in-Timeline.is c.show_picture.ensures
+pub returns-in-Timeline-clause-shown : goal.returns-in-Timeline-clause-shown
+returns-in-Timeline-clause-shown c = rw c.in-Timeline.is c.show_picture.ensures.shown

@@ -1,8 +1,16 @@
-use Rattle.std.proofs.Common.{drop, map}
-use Rattle.gs_core.specs.Machine.{planned, planning}
+use Rattle.std.proofs.Common.{◌≡◌, [], length}
+use Rattle.gs_core.specs.Machine.{planning}
+use Rattle.gs_script.specs.Unread.{events_unread}
 use Rattle.gs_trace.specs.Output.{any_plans}
-use Rattle.gs_trace.specs.Adding.{AddedSoFar}
+use Rattle.gs_trace.specs.Adding.{AddedUpTo}
 use Rattle.gs_trace.proofs.running.run_into.Given as goal
 
-abbrev pub invariant-loop-event : goal.invariant-loop-event
-invariant-loop-event g l = AddedSoFar g.S.Sink.has (planning any_plans l.fn.machine) (map (planned any_plans) l.events) (map (planned any_plans) (drop l.event-index l.events)) (planning any_plans l.machine) l.sink
+abbrev pub invariant-events : goal.invariant-events
+invariant-events g l =
+    record {
+      added : AddedUpTo g.S.Sink.has (planning any_plans l.fn.machine) (events_unread l.fn.script) (events_unread l.script) (planning any_plans l.machine) l.sink;
+      one : l.event.items ≡ [];
+    }
+
+abbrev pub decreases-events : goal.decreases-events
+decreases-events g l = length l.script.lines

@@ -2,7 +2,7 @@ use Rattle.std.proofs.Common.{rules, ◌≡◌, Some, Ok, Err}
 use Rattle.gs_script.specs.Rows.{event_of, shown}
 use Rattle.gs_script.specs.Script.{says}
 use Rattle.gs_script.proofs.Said.{reason_said}
-use Rattle.gs_script.proofs.script.event_line.Goals as goal
+use Rattle.gs_script.proofs.line.event_line.Goals as goal
 
 pub returns-in-Err : goal.returns-in-Err
 returns-in-Err c =

@@ -1,6 +1,6 @@
 use Rattle.std.proofs.Common.{rules, ◌≡◌, ◌∙◌, ◌∷◌, ◌++◌, [], ap, sym, None, Some, Ok}
 use Rattle.gs_script.specs.Plain.{lines_left}
-use Rattle.gs_script.proofs.script.add_event.Goals as goal
+use Rattle.gs_script.proofs.line.add_event.Goals as goal
 
 pub returns-in-None-with_left-clause-ok : goal.returns-in-None-with_left-clause-ok
 returns-in-None-with_left-clause-ok c =

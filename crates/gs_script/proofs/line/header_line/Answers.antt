@@ -3,7 +3,7 @@ use Rattle.gs_script.specs.Rows.{shown}
 use Rattle.gs_script.specs.Header.{header_of}
 use Rattle.gs_script.specs.Script.{says}
 use Rattle.gs_script.proofs.Said.{reason_said}
-use Rattle.gs_script.proofs.script.header_line.Goals as goal
+use Rattle.gs_script.proofs.line.header_line.Goals as goal
 
 pub returns-clause-exact : goal.returns-clause-exact
 returns-clause-exact c =

@@ -1,0 +1,18 @@
+use Rattle.std.proofs.Common.{◌≡◌, ◌+◌, ◌≤◌, length}
+use Rattle.gs_script.specs.Plain.{lines_left}
+use Rattle.gs_script.specs.Said.{said}
+use Rattle.gs_script.specs.Script.{events_of}
+use Rattle.gs_script.proofs.reading.add_next.Given as goal
+
+abbrev pub invariant-lines : goal.invariant-lines
+invariant-lines l =
+    record {
+      events : events_of l.number (lines_left l.rest) ≡ events_of l.fn.first (lines_left l.fn.text);
+      says : said l.number (lines_left l.rest) ≡ said l.fn.first (lines_left l.fn.text);
+      few : l.number + length (lines_left l.rest) ≤ l.fn.first + length (lines_left l.fn.text);
+      fewer : length (lines_left l.rest) ≤ length (lines_left l.fn.text);
+      same : l.events.items ≡ l.fn.events.items;
+    }
+
+abbrev pub decreases-lines : goal.decreases-lines
+decreases-lines l = length (lines_left l.rest)

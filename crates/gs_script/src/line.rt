@@ -1,0 +1,137 @@
+//! What a line of a script says.
+
+ghost use Rattle.std.specs.Prelude.{◌≡◌, ◌<◌, IfOk, IfErr, IfSome, MatchOption, None, Some, Ok, if◌then◌else◌, vec_capacity, vec_len};
+ghost use Rattle.std.specs.Result.{result_map_both};
+ghost use Rattle.gs_replies.specs.Config.{config_fault};
+ghost use Rattle.gs_script.specs.Rows.{event_of, shown};
+ghost use Rattle.gs_script.specs.Header.{header_of};
+ghost use Rattle.gs_script.specs.Script.{says, is_passed_over};
+ghost use Rattle.gs_script.specs.Held.{Adds, Fails, Gives, placed};
+
+use crate::cursor::first_line;
+use crate::event_line::event;
+use crate::fault::{Reason, ScriptFault};
+use crate::header::header;
+use crate::plain_line::add_plain;
+use crate::script::ScriptError;
+use crate::word::{split, text};
+use gs_core::{Config, Event};
+use gs_policy::AnyPolicy;
+use std::alloc::Global;
+
+/// Why a line wasn't read.
+#[derive(Clone, Copy, PartialEq, Eq, Debug)]
+pub(crate) enum LineError {
+    Fault(Reason),
+    OutOfMemory,
+}
+
+/// Returns a line's error as the script's.
+pub(crate) fn at(line: usize, error: LineError) -> ScriptError
+    ensures { result ≡ placed line error }
+{
+    match error {
+        LineError::Fault(reason) => ScriptError::Fault(ScriptFault { line, reason }),
+        LineError::OutOfMemory => ScriptError::OutOfMemory,
+    }
+}
+
+/// Returns whether a line of these words says nothing.
+fn is_comment(words: &[&str]) -> bool
+    ensures { result ≡ is_passed_over (shown words.now) }
+{
+    match words.first() {
+        None => true,
+        Some(first) => first.as_bytes().first() == Some(&b'#'),
+    }
+}
+
+/// Returns whether a line says anything, by its words, which it leaves in the place of those that are there.
+fn words_said<'a>(line: &'a [u8], words: &mut Vec<&'a str>) -> Result<bool, LineError>
+    ensures { Gives (result_map_both (λ said. if said then Some (shown words.new.items) else None) (λ e. e) result) (says Ok line.now) }
+{
+    let Some(text) = text(line) else {
+        return Err(LineError::Fault(Reason::BadByte));
+    };
+    if split(text, words).is_err() {
+        return Err(LineError::OutOfMemory);
+    }
+    Ok(!is_comment(words))
+}
+
+/// Returns what an event line says, or `None` if it says nothing. Its words are left in the place of those that are
+/// there.
+#[tactic(auto, using(crate::proofs::Said::value_said, crate::proofs::Said::reason_said, crate::proofs::Said::nothing_said, crate::proofs::Said::error_said))]
+#[inline(never)]
+fn event_line<'a>(
+    line: &'a [u8],
+    words: &mut Vec<&'a str>,
+) -> Result<Option<Event<AnyPolicy>>, LineError>
+    ensures { Gives result (says event_of line.now) }
+{
+    if !words_said(line, words)? {
+        return Ok(None);
+    }
+    match event(words) {
+        Ok(event) => Ok(Some(event)),
+        Err(reason) => Err(LineError::Fault(reason)),
+    }
+}
+
+/// Returns what a line in the header's place says, or `None` if it says nothing.
+#[tactic(auto, using(crate::proofs::Said::value_said, crate::proofs::Said::reason_said, crate::proofs::Said::nothing_said, crate::proofs::Said::error_said))]
+pub(crate) fn header_line(
+    alloc: Global,
+    line: &[u8],
+) -> Result<Option<Config<AnyPolicy>>, LineError>
+    ensures exact { Gives result (says header_of line.now) }
+    ensures fits { IfOk result (λ o. IfSome o (λ config. config_fault config ≡ None)) }
+{
+    let mut words = Vec::new(alloc);
+    if !words_said(line, &mut words)? {
+        return Ok(None);
+    }
+    match header(&words) {
+        Ok(config) => Ok(Some(config)),
+        Err(reason) => Err(LineError::Fault(reason)),
+    }
+}
+
+/// Returns an event, if there is one, with what is left behind its line.
+fn with_left<'a>(
+    event: Option<Event<AnyPolicy>>,
+    left: Option<&'a [u8]>,
+) -> Option<(Event<AnyPolicy>, Option<&'a [u8]>)>
+    ensures { MatchOption result (event ≡ None) (λ p. (event ≡ Some p.0) × (p.1 ≡ left.entry)) }
+{
+    match event {
+        Some(event) => Some((event, left)),
+        None => None,
+    }
+}
+
+/// Adds the event that the first line of a text says, if it says one, and returns what is left behind the
+/// line. A plain line is read in one pass, and any other by its words.
+pub(crate) fn add_event<'a>(
+    text: &'a [u8],
+    words: &mut Vec<&'a str>,
+    events: &mut Vec<Event<AnyPolicy>>,
+) -> Result<Option<&'a [u8]>, LineError>
+    requires { vec_len events.old < vec_capacity events.old }
+    ensures ok { IfOk result (λ left. Adds text.now left events.old.items events.new.items) }
+    ensures err { IfErr result (λ e. Fails text.now e) }
+{
+    match add_plain(text, events) {
+        Some(left) => Ok(left),
+        None => {
+            let (line, left) = first_line(text);
+            match with_left(event_line(line, words)?, left) {
+                None => Ok(left),
+                Some((event, left)) => match events.push(event) {
+                    Ok(()) => Ok(left),
+                    Err(_) => Err(LineError::OutOfMemory),
+                },
+            }
+        }
+    }
+}

@@ -1,0 +1,203 @@
+//! A script, read line by line: its header, and then its events, one after another.
+
+ghost use Rattle.std.specs.Prelude.{◌≡◌, ◌+◌, ◌<◌, ◌≤◌, ◌∷◌, ◌^◌, [], IfOk, IfErr, IfSome, MatchOption, Ok, None, length};
+ghost use Rattle.gs_replies.specs.Config.{config_fault};
+ghost use Rattle.gs_script.specs.Words.{lines_of};
+ghost use Rattle.gs_script.specs.Plain.{FirstLine, lines_left};
+ghost use Rattle.gs_script.specs.Script.{script_from, script_of};
+ghost use Rattle.gs_script.specs.Said.{said};
+ghost use Rattle.gs_script.specs.Held.{Faults};
+ghost use Rattle.gs_script.specs.Unread.{IsOpened, IsCut, Opens, ReadsNext, ReadsNone, events_unread};
+
+use crate::cursor::first_line;
+use crate::fault::{Reason, ScriptFault};
+use crate::line::{add_event, at, header_line};
+use crate::script::{MOST_BYTES, ScriptError};
+use gs_core::{Config, Event};
+use gs_policy::AnyPolicy;
+use std::alloc::Global;
+use std::marker::Model;
+
+/// A line of a script that says something. Its bytes are text.
+#[derive(Clone, Copy)]
+pub struct SaidLine<'a> {
+    /// Its number, counted from 1 over all lines.
+    pub number: usize,
+    pub bytes: &'a [u8],
+}
+
+/// The lines of a script behind its header that were not read yet. Clauses see them, and the number of the first.
+#[derive(Drop)]
+pub struct Reading<'a> {
+    number: usize,
+    text: Option<&'a [u8]>,
+    /// The words of a line that is not plain. Their room is there for the next one.
+    words: Vec<&'a str>,
+}
+
+impl<'a> Model for Reading<'a> {
+    ghost use Rattle.std.specs.Prelude.{◌+◌, ◌<◌, ◌^◌, length};
+    ghost use Rattle.gs_script.specs.Plain.{lines_left};
+    ghost use Rattle.gs_script.specs.Unread.{Unread};
+
+    ghost Value = { Unread };
+
+    ghost view = { λ r. record { number = r.number; lines = lines_left r.text } };
+
+    ghost invariant = { λ r. r.number + length (lines_left r.text) < 2 ^ 62 };
+}
+
+/// A script whose header was read.
+#[derive(Drop)]
+pub struct Opened<'a> {
+    pub config: Config<AnyPolicy>,
+    /// The number of the header's line.
+    pub header: usize,
+    /// What stands behind the header.
+    pub reading: Reading<'a>,
+}
+
+/// Returns the first line of a text, by what is left behind it.
+#[inline(always)]
+#[tactic(auto, using(crate::proofs::Unread::whole_text, crate::proofs::Unread::line_taken))]
+fn line_before<'a>(text: &'a [u8], left: Option<&[u8]>) -> &'a [u8]
+    requires { IsCut text.now left }
+    ensures { lines_of text.now ≡ result.now ∷ lines_left left.entry }
+{
+    match left {
+        None => text,
+        Some(left) => &text[..text.len() - left.len() - 1],
+    }
+}
+
+/// Reads on up to the next event, and adds it. Returns the line that says it with what is left behind that, or `None`
+/// if no event is left. The first line has this number.
+#[inline(always)]
+fn add_next<'a>(
+    first: usize,
+    text: Option<&'a [u8]>,
+    words: &mut Vec<&'a str>,
+    events: &mut Vec<Event<AnyPolicy>>,
+) -> Result<Option<(SaidLine<'a>, Option<&'a [u8]>)>, ScriptError>
+    requires { first + length (lines_left text) < 2 ^ 62 }
+    ensures read { IfOk result (λ o. MatchOption o (ReadsNone (record { number = first; lines = lines_left text.entry }) events.old.items events.new.items) (λ p. ReadsNext (record { number = first; lines = lines_left text.entry }) (record { number = p.0.number + 1; lines = lines_left p.1 }) events.old.items events.new.items p.0)) }
+    ensures few { IfOk result (λ o. IfSome o (λ p. p.0.number + 1 + length (lines_left p.1) ≤ first + length (lines_left text.entry))) }
+    ensures fault { IfErr result (λ e. Faults e (events_unread (record { number = first; lines = lines_left text.entry }))) }
+{
+    let mut rest = text;
+    let mut number = first;
+    let count = events.len();
+    'lines: while let Some(text) = rest {
+        events.reserve(1)?;
+        let left = match add_event(text, words, events) {
+            Ok(left) => left,
+            Err(error) => return Err(at(number, error)),
+        };
+        if count < events.len() {
+            let bytes = line_before(text, left);
+            return Ok(Some((SaidLine { number, bytes }, left)));
+        }
+        rest = left;
+        number += 1;
+    }
+    Ok(None)
+}
+
+impl<'a> Reading<'a> {
+    /// Reads on up to the next event, and adds it to these. Returns the line that says it, or `None` if no event is
+    /// left.
+    ///
+    /// # Errors
+    ///
+    /// The first fault of the lines that were not read yet, or out of memory.
+    #[inline(always)]
+    pub fn next(
+        &mut self,
+        events: &mut Vec<Event<AnyPolicy>>,
+    ) -> Result<Option<SaidLine<'a>>, ScriptError>
+        ensures read { IfOk result (λ o. MatchOption o (ReadsNone self.old events.old.items events.new.items) (ReadsNext self.old self.new events.old.items events.new.items)) }
+        ensures fault { IfErr result (λ e. Faults e (events_unread self.old)) }
+    {
+        match add_next(self.number, self.text, &mut self.words, events)? {
+            None => Ok(None),
+            Some((said, left)) => {
+                self.number = said.number + 1;
+                self.text = left;
+                Ok(Some(said))
+            }
+        }
+    }
+
+    /// Reads all events that were not read yet.
+    ///
+    /// # Errors
+    ///
+    /// As of [`Reading::next`].
+    pub(crate) fn read_all(self, alloc: Global) -> Result<Vec<Event<AnyPolicy>>, ScriptError>
+        ensures read { IfOk result (λ events. events_unread self.entry ≡ Ok events.items) }
+        ensures fault { IfErr result (λ e. Faults e (events_unread self.entry)) }
+    {
+        let mut reading = self;
+        let mut events = Vec::new(alloc);
+        'events: while reading.next(&mut events)?.is_some() {}
+        Ok(events)
+    }
+}
+
+/// Reads the lines of a text up to the header.
+fn open_text(alloc: Global, text: &[u8]) -> Result<Opened<'_>, ScriptError>
+    requires { length (lines_of text.now) < 2 ^ 61 }
+    ensures opened { IfOk result (λ o. Opens (script_from 1 (lines_of text.now)) (said 1 (lines_of text.now)) o.config o.header o.reading) }
+    ensures fits { IfOk result (λ o. config_fault o.config ≡ None) }
+    ensures fault { IfErr result (λ e. Faults e (script_from 1 (lines_of text.now))) }
+{
+    let mut rest = Some(text);
+    let mut header = 1;
+    'lines: while let Some(text) = rest {
+        let (line, left) = first_line(text);
+        match header_line(alloc, line) {
+            Ok(None) => {}
+            Ok(Some(config)) => {
+                return Ok(Opened {
+                    config,
+                    header,
+                    reading: Reading {
+                        number: header + 1,
+                        text: left,
+                        words: Vec::new(alloc),
+                    },
+                });
+            }
+            Err(error) => return Err(at(header, error)),
+        }
+        header += 1;
+        rest = left;
+    }
+    let fault = ScriptFault {
+        line: 0,
+        reason: Reason::NoHeader,
+    };
+    Err(ScriptError::Fault(fault))
+}
+
+/// Reads the header of the script that these bytes say. Its configuration is one that an enclave can be opened with,
+/// unless out of memory.
+///
+/// # Errors
+///
+/// `Fault` if the bytes are too many, if there is no header, or if a line up to it has a fault. Or out of memory.
+#[tactic(auto, using(crate::proofs::HeaderLines::few_lines))]
+pub fn open_script(alloc: Global, bytes: &[u8]) -> Result<Opened<'_>, ScriptError>
+    ensures opened { IfOk result (λ o. IsOpened bytes.now o.config o.header o.reading) }
+    ensures fits { IfOk result (λ o. config_fault o.config ≡ None) }
+    ensures fault { IfErr result (λ e. Faults e (script_of bytes.now)) }
+{
+    if bytes.len() > MOST_BYTES {
+        let fault = ScriptFault {
+            line: 0,
+            reason: Reason::TooLong,
+        };
+        return Err(ScriptError::Fault(fault));
+    }
+    open_text(alloc, bytes)
+}
