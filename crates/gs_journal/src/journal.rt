@@ -1,4 +1,4 @@
-ghost use Rattle.std.specs.Prelude.{◌≡◌, ◌↔◌, ◌⊎◌, ◌+◌, ◌-◌, ◌<◌, ◌≤◌, ◌==◌, [], ◌∷◌, ◌++◌, Some, get_or, length, slice_get, take, OnOk, OnErr, IfErr, IsErrOf, IsOk};
+ghost use Rattle.std.specs.Prelude.{◌≡◌, ◌↔◌, ◌⊎◌, ◌+◌, ◌-◌, ◌<◌, ◌≤◌, ◌==◌, [], ◌∷◌, ◌++◌, Some, get_or, length, option_copied, slice_get, take, OnOk, OnErr, IfErr, IsErrOf, IsOk};
 ghost use Rattle.gs_journal.specs.History.{active, at, on, record_in, seq, taken, torn};
 
 use crate::entry::Entry;
@@ -75,6 +75,7 @@ impl Journal {
     ///
     /// `HistoryFull` if the limit leaves fewer, and else `OutOfMemory` if out of memory. Nothing changes
     /// then.
+    #[inline(always)]
     #[tactic(auto, using(crate::proofs::Lists::length_entries))]
     pub fn reserve(&mut self, additional: usize) -> Result<(), Refusal>
         ensures room { OnOk result (additional ≤ self.new.room) }
@@ -134,14 +135,14 @@ impl Journal {
         }
     }
 
-    /// Returns the last entry, or `None` if nothing has happened.
+    /// Lends the last entry, or returns `None` if nothing has happened.
     #[inline(always)]
-    pub fn last(&self) -> Option<Entry>
-        ensures { result ≡ slice_get self.now.entries (length self.now.entries - 1) }
+    pub fn last(&self) -> Option<&Entry>
+        ensures { option_copied result ≡ slice_get self.now.entries (length self.now.entries - 1) }
     {
         match self.len() {
             0 => None,
-            _ => Some(self.last),
+            _ => Some(&self.last),
         }
     }
 

@@ -104,10 +104,10 @@ impl<P: Poster> Kernel<P> {
         &self.journal
     }
 
-    /// Returns the last thing that happened.
+    /// Lends the last thing that happened.
     #[inline(always)]
-    pub fn last(&self) -> Entry
-        ensures { result ≡ last_entry self.now.history }
+    pub fn last(&self) -> &Entry
+        ensures { result.now ≡ last_entry self.now.history }
     {
         match self.journal.last() {
             Some(entry) => entry,

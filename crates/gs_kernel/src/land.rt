@@ -57,6 +57,7 @@ impl<P: Poster> Kernel<P> {
 
     /// Returns whether a CPU may be given to a thread, by a transaction that takes the thread there off or
     /// does not.
+    #[inline(always)]
     fn cpu_verdict(&self, cpu: u16, preempt: bool) -> Outcome
         requires { cpu < self.now.settings.cpus }
         ensures value { result ≡ cpu_verdict self.now.settings self.now.history cpu preempt }

@@ -67,6 +67,7 @@ impl<P: Poster> Kernel<P> {
 
 /// Posts the message, if there is one, to the ring and to the journal together, or to neither if it does not
 /// fit into the ring. Returns whether it fits.
+#[inline(always)]
 fn send<P: Poster>(journal: &mut Journal, poster: &mut P, effect: &Effect) -> bool
     requires room { length (listed_message (message_in effect.now)) ≤ journal.old.room }
     requires few { P.count poster.old < MOST_POSTS }
@@ -91,6 +92,7 @@ fn send<P: Poster>(journal: &mut Journal, poster: &mut P, effect: &Effect) -> bo
 }
 
 /// Appends the entry behind the message, if there is one.
+#[inline(always)]
 fn append(journal: &mut Journal, effect: &Effect)
     requires { length (listed_entry (behind effect.now)) ≤ journal.old.room }
     ensures entries { journal.new.entries ≡ journal.old.entries ++ listed_entry (behind effect.now) }
@@ -104,6 +106,7 @@ fn append(journal: &mut Journal, effect: &Effect)
 }
 
 /// Changes the rows and the seats by all that a step adds.
+#[inline(always)]
 fn update(threads: &mut ThreadTable, running: &mut [Option<u32>], effect: &Effect)
     requires room { IfSome (message_in effect.now) (λ m. is_some (created_in m) ≡ true → 0 < threads.old.room) }
     requires seats { IfSome (message_in effect.now) (λ m. (c : ℕ) → left_by m ≡ Some c → c < length running.old) }
@@ -117,6 +120,7 @@ fn update(threads: &mut ThreadTable, running: &mut [Option<u32>], effect: &Effec
 }
 
 /// Changes the rows and the seats by the message, if there is one.
+#[inline(always)]
 fn follow(threads: &mut ThreadTable, running: &mut [Option<u32>], effect: &Effect)
     requires room { IfSome (message_in effect.now) (λ m. is_some (created_in m) ≡ true → 0 < threads.old.room) }
     requires seats { IfSome (message_in effect.now) (λ m. (c : ℕ) → left_by m ≡ Some c → c < length running.old) }
@@ -151,6 +155,7 @@ fn follow_message(threads: &mut ThreadTable, running: &mut [Option<u32>], messag
 }
 
 /// Changes the rows and the seats by the entry behind the message, if there is one.
+#[inline(always)]
 fn seat(threads: &mut ThreadTable, running: &mut [Option<u32>], effect: &Effect)
     requires { IfSome (behind effect.now) (SeatsBelow (length running.old)) }
     ensures rows { threads.new.rows ≡ rows_seated threads.old.rows (behind effect.now) }
@@ -168,6 +173,7 @@ fn seat(threads: &mut ThreadTable, running: &mut [Option<u32>], effect: &Effect)
 }
 
 /// Frees a seat, if one is named.
+#[inline(always)]
 fn free(running: &mut [Option<u32>], seat: Option<u16>)
     requires { (c : ℕ) → seat ≡ Some c → c < length running.old }
     ensures { running.new ≡ freed running.old seat }
@@ -178,6 +184,7 @@ fn free(running: &mut [Option<u32>], seat: Option<u16>)
 }
 
 /// Returns the facts of the thread that a message creates, if it does.
+#[inline(always)]
 fn created_in(message: &Message) -> Option<&Facts>
     ensures { option_copied result ≡ created_in message.now }
 {
@@ -191,6 +198,7 @@ fn created_in(message: &Message) -> Option<&Facts>
 }
 
 /// Returns the CPU that a message takes its thread off, if it does.
+#[inline(always)]
 fn left_by(message: &Message) -> Option<u16>
     ensures { result ≡ left_by message.now }
 {
@@ -201,6 +209,7 @@ fn left_by(message: &Message) -> Option<u16>
 }
 
 /// Returns the CPU that a change takes its thread off, if it does.
+#[inline(always)]
 fn left_in(change: &Change) -> Option<u16>
     ensures { result ≡ left_in change.now }
 {
@@ -213,6 +222,7 @@ fn left_in(change: &Change) -> Option<u16>
 }
 
 /// Returns the agents after the entry behind the message, if there is one.
+#[inline(always)]
 fn lead(agents: Agents, effect: &Effect) -> Agents
     ensures { result ≡ agents_by (behind effect.now) agents }
 {
@@ -236,6 +246,7 @@ fn lead(agents: Agents, effect: &Effect) -> Agents
 }
 
 /// Returns the CPUs that the other class holds after the entry behind the message, if there is one.
+#[inline(always)]
 fn hold(taken: Mask, effect: &Effect) -> Mask
     requires { IfSome (behind effect.now) HoldsNear }
     ensures { (c : ℕ) → has result c ≡ held_by (behind effect.now) c (has taken c) }

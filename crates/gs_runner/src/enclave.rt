@@ -129,7 +129,7 @@ impl<L: Site> Enclave<L> {
         let end = entries(&self.kernel);
         self.log
             .accept_told(board, share, &self.kernel, command, executed, at, end);
-        Receipt::executed(at, end - at, executed, &self.kernel.last())
+        Receipt::executed(at, end - at, executed, self.kernel.last())
     }
 
     /// Serves a command of which the kernel is not told as it is.

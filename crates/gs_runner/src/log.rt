@@ -54,7 +54,7 @@ impl<L: Site> Log<L> {
         ensures shown { IsShown self.new.seat kernel.now.history }
     {
         self.list
-            .push_told(command, executed, &kernel.last(), at, end);
+            .push_told(command, executed, kernel.last(), at, end);
         share.count(&mut self.book);
         match executed {
             Executed::Done if posts_alone(command) => {}
