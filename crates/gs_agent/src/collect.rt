@@ -68,6 +68,7 @@ fn collect_busy(mind: &mut Mind, region: &mut Region, busy: Mask, group: bool)
 }
 
 /// Collects the slot of a CPU if it is one of those that are wanted.
+#[inline(always)]
 fn collect_one(mind: &mut Mind, region: &mut Region, cpu: u16, group: bool)
     requires { cpu < length region.old }
     ensures region { (bytes : List ℕ) → slice_get region.old cpu ≡ Some bytes → region.new ≡ slice_set region.old cpu (left_if group cpu bytes) }

@@ -122,6 +122,7 @@ impl Beliefs {
     }
 
     /// Clears the belief of a thread, so that it is believed to run nowhere.
+    #[inline(always)]
     pub fn clear(&mut self, tid: u32)
         ensures { self.new ≡ clears tid self.old }
     {
@@ -175,6 +176,7 @@ impl Beliefs {
 
     /// Begins the belief that a thread runs on a CPU, at this sequence number and with no tick yet, and
     /// nowhere else. Whoever was believed to run there does so no more.
+    #[inline(always)]
     pub fn place(&mut self, cpu: u16, tid: u32, tseq: u32)
         ensures { self.new ≡ places cpu tid tseq self.old }
     {

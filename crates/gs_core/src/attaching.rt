@@ -47,7 +47,7 @@ impl<P: Counted + Copy> Machine<P> {
         ensures policy { self.new.policy ≡ self.old.policy }
     {
         let executed = self.kernel.execute(command)?;
-        follow(&mut self.role, &self.kernel.last());
+        follow(&mut self.role, self.kernel.last());
         Ok(executed)
     }
 

@@ -383,6 +383,7 @@ impl<P: Counted + Copy> Machine<P> {
     /// # Errors
     ///
     /// The first refusal that applies, and then nothing changes.
+    #[inline(always)]
     pub fn command(&mut self, command: &Command) -> Result<Executed, Refusal>
         ensures step { Step (planning P.chosen self.old) (Event.Kernel command.now) (reply_of result (last_entry self.new.history)) (planning P.chosen self.new) }
         ensures safe { Safe (planning P.chosen self.new) }
@@ -405,12 +406,12 @@ impl<P: Counted + Copy> Machine<P> {
         match event {
             Event::Kernel { command } => {
                 let executed = self.execute_command(command)?;
-                Ok(Reply::executed(executed, &self.kernel.last()))
+                Ok(Reply::executed(executed, self.kernel.last()))
             }
             Event::Crash => self.crash(),
             Event::Begin { policy } => {
                 let executed = self.begin(*policy)?;
-                Ok(Reply::executed(executed, &self.kernel.last()))
+                Ok(Reply::executed(executed, self.kernel.last()))
             }
             Event::Page { max } => self.page(*max),
             Event::Drain { max } => self.drain(*max),

@@ -77,6 +77,7 @@ pub fn message_len(message: &Message) -> usize
     size(message) as usize
 }
 
+#[inline(always)]
 fn header_of(message: &Message) -> Header
     ensures { numbered result ≡ header_of message.now }
 {
@@ -91,6 +92,7 @@ fn header_of(message: &Message) -> Header
 }
 
 /// Writes the header of a message.
+#[inline(always)]
 fn write_header(header: &Header, out: &mut [u8])
     requires { HEADER_LEN ≤ length out.old }
     ensures { out.new ≡ numbered header.now ++ drop HEADER_LEN out.old }
@@ -152,6 +154,7 @@ fn write_more(message: &Message, out: &mut [u8])
 
 /// Writes the message at the front of `out` and leaves the rest as it was. Returns how many bytes it wrote,
 /// which is [`message_len`] of the message.
+#[inline(always)]
 pub fn encode_message(message: &Message, out: &mut [u8]) -> usize
     requires { length (spelling message.now) ≤ length out.old }
     ensures count { result ≡ length (spelling message.now) }

@@ -64,6 +64,7 @@ fn write_pad(block: &mut [u8], at: usize, len: usize)
 }
 
 /// Writes a message at an index of the block.
+#[inline(always)]
 fn write_record(block: &mut [u8], at: usize, message: &Message)
     requires { at + record_len message.now ≤ length block.old }
     ensures { block.new ≡ put_at at (spelling message.now) block.old }
@@ -72,6 +73,7 @@ fn write_record(block: &mut [u8], at: usize, message: &Message)
 }
 
 /// Writes a message at a place, behind a PAD of so many bytes.
+#[inline(always)]
 pub(crate) fn write(block: &mut [u8], place: Place, pad: usize, message: &Message)
     requires size { 0 < length block.old }
     requires small { length block.old ≤ MOST_CAPACITY }

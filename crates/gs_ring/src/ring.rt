@@ -108,6 +108,7 @@ impl ByteRing {
     /// # Errors
     ///
     /// `Full` exactly if the message needs more bytes than are free. The ring stays as it is.
+    #[inline(always)]
     pub(crate) fn push(&mut self, message: &Message) -> Result<(), Full>
         requires few { posts self.old < MOST_POSTS }
         requires spellable { IsSpellable message.now }
@@ -195,6 +196,7 @@ impl Poster for ByteRing {
 
     ghost same = { SameCapacity };
 
+    #[inline(always)]
     fn post(&mut self, message: &Message) -> Result<(), Full>
         requires few { posts self.old < MOST_POSTS }
         requires spellable { IsSpellable message.now }

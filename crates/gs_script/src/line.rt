@@ -112,6 +112,7 @@ fn with_left<'a>(
 
 /// Adds the event that the first line of a text says, if it says one, and returns what is left behind the
 /// line. A plain line is read in one pass, and any other by its words.
+#[inline(always)]
 pub(crate) fn add_event<'a>(
     text: &'a [u8],
     words: &mut Vec<&'a str>,

@@ -117,6 +117,7 @@ impl ThreadTable {
 
     /// Takes in a message: the row of its thread becomes what the message makes of it. A timer tick changes
     /// nothing, nor does a message about a thread that never was.
+    #[inline(always)]
     #[tactic(auto, using(crate::proofs::Lookups::after_is, crate::proofs::Lookups::after_none, crate::proofs::Lookups::after_tick))]
     pub fn apply(&mut self, message: &Message)
         ensures { self.new ≡ record self.old { rows = rows_after self.old.rows message.now } }
