@@ -1,7 +1,8 @@
-mod Names
-mod WorkedLines
-mod Corners
 mod Choices
-mod Utf8
+mod Corners
+mod Names
 mod Replies
+mod Utf8
+mod WorkedLines
+pub mod Grown
 pub mod Laws

@@ -1,4 +1,4 @@
-ghost use Rattle.std.specs.Prelude.{◌≡◌, ◌+◌, ◌<◌, ◌≤◌, ◌++◌, ◌∷◌, [], codes, decimal, length, OnOk};
+ghost use Rattle.std.specs.Prelude.{◌≡◌, ◌+◌, ◌-◌, ◌≤◌, ◌++◌, ◌∷◌, [], codes, decimal, drop, length, take, vec_len, OnOk};
 ghost use Rattle.std.specs.Str.{IsUtf8};
 ghost use Rattle.gs_lines.specs.Lines.{line, thread_text};
 
@@ -15,23 +15,70 @@ const SIZE: usize = 80;
 /// Room for words and three numbers.
 const LONG_SIZE: usize = 112;
 
+/// So many bytes are copied of an array that has at most as many to add. A copy whose length is known takes no call.
+const SHORT_LEN: usize = 48;
+
+/// So many zeros are added at once.
+const BLOCK_LEN: usize = 1024;
+
 /// A text that grows at its end, for lines of words and numbers. A word and the numbers behind it are put together in
 /// a small array, the last digit first, and added at once. What adds to it fails only if out of memory.
 /// Clauses see its bytes, which are UTF-8.
 #[derive(Drop)]
 pub struct Text {
+    /// The bytes of the text, and behind them zeros, or what else was copied there.
     bytes: Vec<u8>,
+    /// How many bytes the text has.
+    len: usize,
 }
 
 impl Model for Text {
-    ghost use Rattle.std.specs.Prelude.{List, ℕ, ◌≡◌, true};
+    ghost use Rattle.std.specs.Prelude.{List, ℕ, ◌≡◌, ◌≤◌, true, take, vec_len};
     ghost use Rattle.std.specs.Str.{is_utf8};
 
     ghost Value = { List ℕ };
 
-    ghost view = { λ t. t.bytes.items };
+    ghost view = { λ t. take t.len t.bytes.items };
 
-    ghost invariant = { λ t. is_utf8 t.bytes.items ≡ true };
+    ghost invariant = { λ t. record {
+      within : t.len ≤ vec_len t.bytes;
+      utf8 : is_utf8 (take t.len t.bytes.items) ≡ true;
+    } };
+}
+
+/// Copies more bytes into these, behind so many of them.
+#[inline(always)]
+fn copy_behind(bytes: &mut [u8], len: usize, more: &[u8])
+    requires { len + length more.now ≤ length bytes.old }
+    ensures { bytes.new ≡ take len bytes.old ++ more.now ++ drop (len + length more.now) bytes.old }
+{
+    bytes[len..len + more.len()].copy_from_slice(more);
+}
+
+/// Adds a block of zeros.
+#[inline(never)]
+fn add_block(bytes: &mut Vec<u8>, len: usize) -> Result<(), AllocError>
+    requires { len ≤ vec_len bytes.old }
+    ensures room { OnOk result (len + BLOCK_LEN ≤ vec_len bytes.new) }
+    ensures within { len ≤ vec_len bytes.new }
+    ensures same { take len bytes.new.items ≡ take len bytes.old.items }
+{
+    bytes.extend_from_slice(&[0; BLOCK_LEN])
+}
+
+/// Makes room for a short copy behind so many bytes, which stay as they are.
+#[inline(always)]
+fn make_room(bytes: &mut Vec<u8>, len: usize) -> Result<(), AllocError>
+    requires { len ≤ vec_len bytes.old }
+    ensures room { OnOk result (len + SHORT_LEN ≤ vec_len bytes.new) }
+    ensures within { len ≤ vec_len bytes.new }
+    ensures same { take len bytes.new.items ≡ take len bytes.old.items }
+{
+    if SHORT_LEN <= bytes.len() - len {
+        Ok(())
+    } else {
+        add_block(bytes, len)
+    }
 }
 
 impl Text {
@@ -41,6 +88,7 @@ impl Text {
     {
         Text {
             bytes: Vec::new(alloc),
+            len: 0,
         }
     }
 
@@ -48,21 +96,23 @@ impl Text {
     pub fn as_bytes(&self) -> &[u8]
         ensures { result.now ≡ self.now }
     {
-        &self.bytes
+        &self.bytes[..self.len]
     }
 
     /// Lends the text. Each call reads it all, to see that it is UTF-8.
     pub fn as_str(&self) -> &str
         ensures { result.now ≡ self.now }
     {
-        str::from_utf8(&self.bytes).unwrap()
+        str::from_utf8(&self.bytes[..self.len]).unwrap()
     }
 
     /// Returns the bytes of the text, to keep.
     pub fn into_bytes(self) -> Vec<u8>
         ensures { result.items ≡ self }
     {
-        let Text { bytes } = self;
+        let Text { bytes, len } = self;
+        let mut bytes = bytes;
+        bytes.truncate(len);
         bytes
     }
 
@@ -72,19 +122,41 @@ impl Text {
         requires { IsUtf8 bytes.now }
         ensures { OnOk result (self.new ≡ self.old ++ bytes.now) }
     {
-        self.bytes.extend_from_slice(bytes)
+        if bytes.len() > self.bytes.len() - self.len {
+            return self.append_behind(bytes);
+        }
+        copy_behind(&mut self.bytes, self.len, bytes);
+        self.len += bytes.len();
+        Ok(())
     }
 
-    /// Adds a character of ASCII.
-    #[inline(always)]
-    fn push_byte(&mut self, byte: u8) -> Result<(), AllocError>
-        requires { byte < 128 }
-        ensures { OnOk result (self.new ≡ self.old ++ byte ∷ []) }
+    /// Adds bytes that are UTF-8, for which there are not enough zeros.
+    #[inline(never)]
+    fn append_behind(&mut self, bytes: &[u8]) -> Result<(), AllocError>
+        requires { IsUtf8 bytes.now }
+        ensures { OnOk result (self.new ≡ self.old ++ bytes.now) }
     {
-        match self.bytes.push(byte) {
-            Ok(()) => Ok(()),
-            Err(_) => Err(AllocError),
+        self.bytes.truncate(self.len);
+        self.bytes.extend_from_slice(bytes)?;
+        self.len = self.bytes.len();
+        Ok(())
+    }
+
+    /// Adds the bytes of an array from one place on to another, behind which it has as many as are copied at once.
+    #[inline(always)]
+    fn append_part(&mut self, array: &[u8], from: usize, to: usize) -> Result<(), AllocError>
+        requires order { from ≤ to }
+        requires behind { to + SHORT_LEN ≤ length array.now }
+        requires utf8 { IsUtf8 (take (to - from) (drop from array.now)) }
+        ensures { OnOk result (self.new ≡ self.old ++ take (to - from) (drop from array.now)) }
+    {
+        if to - from > SHORT_LEN {
+            return self.append(&array[from..to]);
         }
+        make_room(&mut self.bytes, self.len)?;
+        copy_behind(&mut self.bytes, self.len, &array[from..from + SHORT_LEN]);
+        self.len += to - from;
+        Ok(())
     }
 
     /// Adds words.
@@ -99,7 +171,7 @@ impl Text {
     pub(crate) fn push_space(&mut self) -> Result<(), AllocError>
         ensures { OnOk result (self.new ≡ self.old ++ 32 ∷ []) }
     {
-        self.push_byte(b' ')
+        self.append(b" ")
     }
 
     /// Ends a line.
@@ -107,7 +179,7 @@ impl Text {
     pub fn end_line(&mut self) -> Result<(), AllocError>
         ensures { OnOk result (self.new ≡ self.old ++ 10 ∷ []) }
     {
-        self.push_byte(b'\n')
+        self.append(b"\n")
     }
 
     /// Adds a word of at most [`MOST_WORD_LEN`] bytes and a number behind it.
@@ -130,11 +202,12 @@ impl Text {
         requires { length word.now + length behind.now ≤ MOST_WORD_LEN }
         ensures { OnOk result (self.new ≡ self.old ++ word.now ++ decimal number ++ behind.now) }
     {
-        let mut array = [0; SIZE];
-        let at = put(&mut array, SIZE, behind);
-        let at = put_number(&mut array, at, number);
-        let at = put(&mut array, at, word);
-        self.append(&array[at..])
+        let mut array = [0; SIZE + SHORT_LEN];
+        let line = &mut array[..SIZE];
+        let at = put(line, SIZE, behind);
+        let at = put_number(line, at, number);
+        let at = put(line, at, word);
+        self.append_part(&array, at, SIZE)
     }
 
     /// Adds a mask between two words, which have at most [`MOST_WORD_LEN`] bytes together.
@@ -143,11 +216,12 @@ impl Text {
         requires { length word.now + length behind.now ≤ MOST_WORD_LEN }
         ensures { OnOk result (self.new ≡ self.old ++ word.now ++ decimal mask ++ behind.now) }
     {
-        let mut array = [0; SIZE];
-        let at = put(&mut array, SIZE, behind);
-        let at = put_mask(&mut array, at, mask);
-        let at = put(&mut array, at, word);
-        self.append(&array[at..])
+        let mut array = [0; SIZE + SHORT_LEN];
+        let line = &mut array[..SIZE];
+        let at = put(line, SIZE, behind);
+        let at = put_mask(line, at, mask);
+        let at = put(line, at, word);
+        self.append_part(&array, at, SIZE)
     }
 
     /// Adds two numbers, each behind a word, and a word behind them. The words have at most [`MOST_WORD_LEN`] bytes together.
@@ -163,13 +237,14 @@ impl Text {
         requires { length word.now + length between.now + length behind.now ≤ MOST_WORD_LEN }
         ensures { OnOk result (self.new ≡ self.old ++ word.now ++ decimal first ++ between.now ++ decimal second ++ behind.now) }
     {
-        let mut array = [0; SIZE];
-        let at = put(&mut array, SIZE, behind);
-        let at = put_number(&mut array, at, second);
-        let at = put(&mut array, at, between);
-        let at = put_number(&mut array, at, first);
-        let at = put(&mut array, at, word);
-        self.append(&array[at..])
+        let mut array = [0; SIZE + SHORT_LEN];
+        let line = &mut array[..SIZE];
+        let at = put(line, SIZE, behind);
+        let at = put_number(line, at, second);
+        let at = put(line, at, between);
+        let at = put_number(line, at, first);
+        let at = put(line, at, word);
+        self.append_part(&array, at, SIZE)
     }
 
     /// Adds a word of at most [`MOST_WORD_LEN`] bytes, a thread's tid and a sequence number of the thread.
@@ -178,9 +253,10 @@ impl Text {
         requires { length word.now ≤ MOST_WORD_LEN }
         ensures { OnOk result (self.new ≡ self.old ++ word.now ++ codes " " ++ decimal tid ++ codes " seq " ++ decimal tseq) }
     {
-        let mut array = [0; SIZE];
-        let at = put_thread(&mut array, SIZE, word, tid, tseq);
-        self.append(&array[at..])
+        let mut array = [0; SIZE + SHORT_LEN];
+        let line = &mut array[..SIZE];
+        let at = put_thread(line, SIZE, word, tid, tseq);
+        self.append_part(&array, at, SIZE)
     }
 
     /// Adds a line of such a word and these numbers.
@@ -195,10 +271,11 @@ impl Text {
         requires { length word.now ≤ MOST_WORD_LEN }
         ensures { OnOk result (self.new ≡ self.old ++ line (word.now ++ codes " " ++ decimal tid ++ codes " seq " ++ decimal tseq)) }
     {
-        let mut array = [0; SIZE];
-        let at = put(&mut array, SIZE, "\n");
-        let at = put_thread(&mut array, at, word, tid, tseq);
-        self.append(&array[at..])
+        let mut array = [0; SIZE + SHORT_LEN];
+        let line = &mut array[..SIZE];
+        let at = put(line, SIZE, "\n");
+        let at = put_thread(line, at, word, tid, tseq);
+        self.append_part(&array, at, SIZE)
     }
 
     /// Adds a line: a number behind a word, a space, another word, a thread's tid and a sequence number of the thread. The
@@ -215,12 +292,13 @@ impl Text {
         requires { length head.now + length word.now ≤ MOST_WORD_LEN }
         ensures { OnOk result (self.new ≡ self.old ++ line (head.now ++ decimal number ++ codes " " ++ thread_text word.now tid tseq)) }
     {
-        let mut line = [0; LONG_SIZE];
-        let at = put(&mut line, LONG_SIZE, "\n");
-        let at = put_thread(&mut line, at, word, tid, tseq);
-        let at = put(&mut line, at, " ");
-        let at = put_number(&mut line, at, number);
-        let at = put(&mut line, at, head);
-        self.append(&line[at..])
+        let mut array = [0; LONG_SIZE + SHORT_LEN];
+        let long = &mut array[..LONG_SIZE];
+        let at = put(long, LONG_SIZE, "\n");
+        let at = put_thread(long, at, word, tid, tseq);
+        let at = put(long, at, " ");
+        let at = put_number(long, at, number);
+        let at = put(long, at, head);
+        self.append_part(&array, at, LONG_SIZE)
     }
 }
