@@ -1,3 +1,7 @@
+pub mod Endings
 pub mod Escapes
 pub mod Lanes
+pub mod Marks
+pub mod Places
+pub mod Shapes
 pub mod Stays

@@ -1,12 +1,15 @@
+ghost use Rattle.std.specs.Prelude.{◌≡◌, ◌+◌, ◌-◌, ◌*◌};
+ghost use Rattle.gs_timeline.specs.Places.{x_of};
+ghost use Rattle.gs_timeline.specs.declared.layout.TheConstants.{BAR, RING, ROW};
+
 use crate::layout::{BAR, row_of};
 use crate::lives::Life;
 use crate::part::Part;
 use crate::rect::{Rect, write_from_to};
 use crate::stay::Stay;
 use crate::text::push_number;
-use crate::threads::{write_colour, write_label, write_thread};
-use gs_journal::Entry;
-use gs_layout::{Change, Class, Message};
+use crate::threads::{shade_of, write_label, write_thread};
+use gs_layout::Class;
 use std::alloc::AllocError;
 
 /// How much lower the bar of a thread of class 1 is than that of one of class 0.
@@ -18,29 +21,13 @@ const BORDERED: u64 = 6;
 /// The least width of a bar with a letter below its end.
 const LETTERED: u64 = 8;
 
-/// Returns why a stay ended, by the entry that ended it.
-pub(crate) fn reason_of(entry: Option<&Entry>) -> &'static str {
-    match entry {
-        Some(
-            Entry::Posted {
-                message: Message::Thread { change, .. },
-            },
-        ) => match change {
-            Change::Preempted { .. } => "preempted",
-            Change::Blocked { .. } => "blocked",
-            Change::Yield { .. } => "yielded",
-            Change::Dead { .. } => "died",
-            Change::Affinity { .. } => "affinity",
-            Change::Created { .. } | Change::Wakeup => "unknown",
-        },
-        Some(Entry::Torn) => "torn",
-        Some(_) => "replaced",
-        None => "still there",
-    }
-}
-
-/// Returns the bar of a stay. That of a thread of class 1 is lower.
-fn bar_of(part: &Part, stay: &Stay, life: Option<&Life>) -> Rect {
+/// Returns the bar of a stay, which is where its entries are and as wide as they are, and stands on the ground of its CPU's
+/// row. That of a thread of class 1 is lower.
+fn bar_of(part: &Part<'_>, stay: &Stay, life: Option<&Life>) -> Rect
+    ensures place { result.x ≡ x_of part.now.first part.now.count part.now.sharing part.now.unit stay.now.from }
+    ensures width { result.width ≡ x_of part.now.first part.now.count part.now.sharing part.now.unit stay.now.to - x_of part.now.first part.now.count part.now.sharing part.now.unit stay.now.from }
+    ensures row { result.y + result.height ≡ RING + ROW * (stay.now.cpu + 1) + BAR }
+{
     let lower = match life.map(|life| life.class) {
         Some(Class::One) => LOWER,
         _ => 0,
@@ -54,7 +41,12 @@ fn bar_of(part: &Part, stay: &Stay, life: Option<&Life>) -> Rect {
 }
 
 /// Adds the first letter of why a stay ended, below the end of its bar. It adds nothing if that end is not shown.
-fn write_end(out: &mut String, part: &Part, stay: &Stay, reason: &str) -> Result<(), AllocError> {
+fn write_end(
+    out: &mut String,
+    part: &Part<'_>,
+    stay: &Stay,
+    reason: &str,
+) -> Result<(), AllocError> {
     if !part.has(stay.to) {
         return Ok(());
     }
@@ -71,6 +63,7 @@ fn write_end(out: &mut String, part: &Part, stay: &Stay, reason: &str) -> Result
 /// Adds what the title of a bar says.
 fn write_stay_title(
     out: &mut String,
+    part: &Part<'_>,
     stay: &Stay,
     life: Option<&Life>,
     reason: &str,
@@ -78,7 +71,7 @@ fn write_stay_title(
     out.push_str("<title>")?;
     write_thread(out, stay.tid, life)?;
     push_number(out, ", on CPU ", u64::from(stay.cpu))?;
-    write_from_to(out, stay.from, stay.to)?;
+    write_from_to(out, part, stay.from, stay.to)?;
     out.push_str(": ")?;
     out.push_str(reason)?;
     out.push_str("</title>")
@@ -87,20 +80,22 @@ fn write_stay_title(
 /// Adds the bar of a stay that is at least a pixel wide.
 pub(crate) fn write_stay(
     out: &mut String,
-    part: &Part,
+    part: &Part<'_>,
     stay: &Stay,
     life: Option<&Life>,
     reason: &str,
 ) -> Result<(), AllocError> {
     let bar = bar_of(part, stay, life);
     bar.write(out)?;
-    if bar.width >= BORDERED {
-        out.push_str("\" rx=\"3\" class=\"wide")?;
-    }
-    out.push_str("\" fill=\"")?;
-    write_colour(out, stay.tid)?;
+    let wide = bar.width >= BORDERED;
+    out.push_str(if wide {
+        "\" rx=\"3\" class=\"wide "
+    } else {
+        "\" class=\"bar "
+    })?;
+    out.push_str(shade_of(stay.tid, life.map(|life| life.class)))?;
     out.push_str("\">")?;
-    write_stay_title(out, stay, life, reason)?;
+    write_stay_title(out, part, stay, life, reason)?;
     out.push_str("</rect>\n")?;
     write_label(out, &bar, stay.tid, life)?;
     if bar.width >= LETTERED {

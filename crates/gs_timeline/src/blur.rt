@@ -29,7 +29,7 @@ impl Blur {
     pub(crate) fn add(
         &mut self,
         out: &mut String,
-        part: &Part,
+        part: &Part<'_>,
         stay: &Stay,
     ) -> Result<(), AllocError> {
         if part.width(self.to, stay.from) > 1 {
@@ -44,7 +44,7 @@ impl Blur {
     }
 
     /// Draws the stays as one bar, if there are any, and lets go of them.
-    pub(crate) fn write(&mut self, out: &mut String, part: &Part) -> Result<(), AllocError> {
+    pub(crate) fn write(&mut self, out: &mut String, part: &Part<'_>) -> Result<(), AllocError> {
         if self.stays > 0 {
             let bar = Rect {
                 x: part.x(self.from),
@@ -55,7 +55,7 @@ impl Blur {
             bar.write(out)?;
             push_number(out, "\" class=\"blur\"><title>stays: ", self.stays)?;
             push_number(out, ", on CPU ", u64::from(self.cpu))?;
-            write_from_to(out, self.from, self.to)?;
+            write_from_to(out, part, self.from, self.to)?;
             out.push_str("</title></rect>\n")?;
         }
         self.stays = 0;

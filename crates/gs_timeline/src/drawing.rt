@@ -1,37 +1,74 @@
-use crate::bars::{reason_of, write_stay};
+use crate::agents::{steps, write_pages, write_reign, write_steps};
+use crate::bars::write_stay;
 use crate::blur::Blur;
+use crate::counts::{Counts, counted, write_counted, write_sums};
+use crate::decided::write_decided;
+use crate::ending::Ending;
 use crate::foot::{end_of_foot, write_foot};
+use crate::groups::write_groups;
+use crate::lane::Lane;
 use crate::layout::{BAR, TOP, row_of};
-use crate::legend::{STYLE, write_legend};
+use crate::legend::{write_legend, write_style};
+use crate::listing::listing;
 use crate::lives::{Life, add_stays, end_strips, life_of, lives};
-use crate::marks::{write_axis, write_hold, write_marks, write_reign};
-use crate::part::{LEFT, Part};
-use crate::rect::Rect;
+use crate::marks::{write_axis, write_hold, write_marks};
+use crate::notes::{Listed, Notes};
+use crate::part::{EDGE, LEFT, Part};
+use crate::rect::{Rect, write_entry};
+use crate::ring::write_ring;
+use crate::slots::{clearings, marks_by_cpu, write_stamped};
 use crate::spans::{Hold, holds, reigns};
 use crate::stay::Stay;
-use crate::text::push_number;
+use crate::text::{begin_text, push_number};
 use crate::walk::stays;
-use gs_journal::Journal;
+use gs_journal::{Entry, Journal};
 use std::alloc::{AllocError, Global};
 
-/// The least width of a picture: that of the line that says what the marks mean.
-const LEAST_WIDTH: u64 = 720;
+/// How far from one another a wide picture repeats the names of its rows.
+const AGAIN: u64 = 1_000;
 
-/// Adds the row of a CPU: its name, and when the other class held it.
-fn write_row(out: &mut String, part: &Part, cpu: u16, holds: &[Hold]) -> Result<(), AllocError> {
+/// The least width of a picture: that of the line that says what the marks mean.
+const LEAST_WIDTH: u64 = 910;
+
+/// Adds the background of a row whose bars begin at `y`.
+fn write_back(out: &mut String, part: &Part<'_>, y: u64) -> Result<(), AllocError> {
     let row = Rect {
         x: LEFT,
-        y: row_of(cpu),
+        y,
         width: part.width(part.first(), part.behind()),
         height: BAR,
     };
-    push_number(out, "<text x=\"10\" y=\"", row.y.saturating_add(17))?;
-    push_number(out, "\">CPU ", u64::from(cpu))?;
-    out.push_str("</text>\n")?;
     row.write(out)?;
-    out.push_str("\" class=\"row\"/>\n")?;
+    out.push_str("\" class=\"row\"/>\n")
+}
+
+/// Adds the row of a CPU: its name, and when the other class held it.
+fn write_row(
+    out: &mut String,
+    part: &Part<'_>,
+    cpu: u16,
+    holds: &[Hold],
+) -> Result<(), AllocError> {
+    let y = row_of(cpu);
+    begin_text(out, 10, y.saturating_add(17), "label")?;
+    push_number(out, "CPU ", u64::from(cpu))?;
+    out.push_str("</text>\n")?;
+    write_back(out, part, y)?;
     for hold in holds {
         write_hold(out, part, hold)?;
+    }
+    Ok(())
+}
+
+/// Adds the name of a CPU's row again, where a wide picture repeats it.
+fn write_again(out: &mut String, part: &Part<'_>, cpu: u16) -> Result<(), AllocError> {
+    let y = row_of(cpu).saturating_add(BAR + 10);
+    let places = part.width(part.first(), part.behind()) / AGAIN;
+    for place in 1..places {
+        let x = LEFT.saturating_add(place.saturating_mul(AGAIN));
+        begin_text(out, x, y, "again")?;
+        push_number(out, "CPU ", u64::from(cpu))?;
+        out.push_str("</text>\n")?;
     }
     Ok(())
 }
@@ -39,7 +76,7 @@ fn write_row(out: &mut String, part: &Part, cpu: u16, holds: &[Hold]) -> Result<
 /// Adds the bars of the threads on a CPU.
 fn write_stays(
     out: &mut String,
-    part: &Part,
+    part: &Part<'_>,
     cpu: u16,
     journal: &Journal,
     lives: &[Life],
@@ -55,7 +92,7 @@ fn write_stays(
                 part,
                 stay,
                 life,
-                reason_of(journal.get(stay.to).as_ref()),
+                Ending::of(journal.get(stay.to).as_ref()).name(),
             )?;
         } else if part.shown(stay.from, stay.to) > 0 {
             blur.add(out, part, stay)?;
@@ -64,16 +101,16 @@ fn write_stays(
     blur.write(out, part)
 }
 
-/// Adds the rows of the CPUs, and notes in each life when its thread was on one.
+/// Adds the rows of the CPUs, with who was on each.
 fn write_rows(
     out: &mut String,
     alloc: Global,
-    part: &Part,
+    part: &Part<'_>,
     journal: &Journal,
-    lives: &mut [Life],
+    lives: &[Life],
+    lanes: &[Lane],
     cpus: u16,
 ) -> Result<(), AllocError> {
-    let lanes = stays(alloc, journal, cpus)?;
     let held = holds(alloc, journal, cpus)?;
     for cpu in 0..cpus {
         let (Some(lane), Some(held)) = (lanes.get(cpu as usize), held.get(cpu as usize)) else {
@@ -81,9 +118,48 @@ fn write_rows(
         };
         write_row(out, part, cpu, held.ended())?;
         write_stays(out, part, cpu, journal, lives, lane.stays())?;
-        add_stays(lives, part, lane.stays())?;
+        write_again(out, part, cpu)?;
     }
     Ok(())
+}
+
+/// Adds what was decided of the CPUs, above the bars of each.
+fn write_decisions(
+    out: &mut String,
+    alloc: Global,
+    part: &Part<'_>,
+    journal: &Journal,
+    lives: &[Life],
+    cpus: u16,
+    notes: &Notes<'_>,
+) -> Result<(), AllocError> {
+    let slots = marks_by_cpu(alloc, notes.marks, cpus)?;
+    let cleared = clearings(alloc, journal)?;
+    for cpu in 0..cpus {
+        let Some(slot) = slots.get(cpu as usize) else {
+            break;
+        };
+        let marks = slot.as_slice();
+        write_stamped(out, part, cpu, marks, cleared.as_slice(), journal.len())?;
+        write_decided(out, alloc, part, lives, cpu, marks)?;
+    }
+    write_groups(out, alloc, part, lives, cpus, notes.marks)
+}
+
+/// Adds the row of the agents, and where each was active.
+fn write_agents(
+    out: &mut String,
+    alloc: Global,
+    part: &Part<'_>,
+    journal: &Journal,
+    cpus: u16,
+    notes: &Notes<'_>,
+) -> Result<(), AllocError> {
+    for reign in &reigns(alloc, journal)? {
+        write_reign(out, part, cpus, reign)?;
+    }
+    write_steps(out, part, steps(alloc, journal, notes.agents)?.as_slice())?;
+    write_pages(out, part, notes.agents)
 }
 
 /// Adds a width and a height.
@@ -93,40 +169,78 @@ fn write_size(out: &mut String, width: u64, height: u64) -> Result<(), AllocErro
     out.push_str("\"")
 }
 
-/// Adds the heading: which entries are shown, of how many.
-fn write_heading(out: &mut String, part: &Part, entries: usize) -> Result<(), AllocError> {
+/// Adds the heading: which entries are shown, of how many, and whether the last of all is a tear-down.
+fn write_heading(out: &mut String, part: &Part<'_>, journal: &Journal) -> Result<(), AllocError> {
     out.push_str("<text x=\"10\" y=\"22\" font-size=\"14\" font-weight=\"bold\">Who ran where: ")?;
     push_number(out, "", part.count() as u64)?;
-    push_number(out, " of ", entries as u64)?;
+    push_number(out, " of ", journal.len() as u64)?;
     push_number(out, " entries, from entry ", part.first() as u64)?;
     if part.sharing() > 1 {
         push_number(out, ", entries a pixel: ", part.sharing() as u64)?;
         out.push_str("; grey: several stays")?;
     }
+    let last = journal.len().saturating_sub(1);
+    if matches!(journal.get(last), Some(Entry::Torn)) {
+        write_entry(out, part, "; torn down at entry ", last)?;
+        out.push_str(": a message did not fit into the ring")?;
+    }
     out.push_str("</text>\n")
 }
 
-/// Adds the beginning of the picture: its size, how its parts look, its heading and what its marks mean.
-fn write_head(
+/// Adds what a picture is, in words, for whoever does not see it.
+fn write_description(
     out: &mut String,
-    part: &Part,
-    height: u64,
-    entries: usize,
+    cpus: u16,
+    threads: usize,
+    journal: &Journal,
+    counts: &Counts,
 ) -> Result<(), AllocError> {
-    let width = part.x(part.behind()).max(LEAST_WIDTH).saturating_add(30);
-    out.push_str("<svg xmlns=\"http://www.w3.org/2000/svg\"")?;
-    write_size(out, width, height)?;
-    push_number(out, " viewBox=\"0 0 ", width)?;
-    push_number(out, " ", height)?;
-    out.push_str(STYLE)?;
-    out.push_str("<rect")?;
-    write_size(out, width, height)?;
-    out.push_str(" fill=\"#fff\"/>\n")?;
-    write_heading(out, part, entries)?;
-    write_legend(out)
+    out.push_str("<title id=\"title\">Who ran where</title>\n<desc id=\"desc\">")?;
+    push_number(out, "CPUs: ", u64::from(cpus))?;
+    push_number(out, ", threads: ", threads as u64)?;
+    push_number(out, ", entries of the journal: ", journal.len() as u64)?;
+    out.push_str(". ")?;
+    write_sums(out, counts)?;
+    out.push_str(
+        ". A row for each CPU shows which thread was on it from which entry to which, and above that what was decided of it. The agents and the ring have a row each, and threads have a line below the rows.</desc>\n",
+    )
 }
 
-/// Returns a picture of a history as SVG: a row for each of so many CPUs, and in it a bar for each stay of a thread.
+/// What the beginning of a picture tells.
+#[derive(Clone, Copy)]
+struct Head<'a> {
+    height: u64,
+    cpus: u16,
+    threads: usize,
+    journal: &'a Journal,
+    counts: &'a Counts,
+}
+
+/// Adds the beginning of the picture: its size, what it is, how its parts look, its heading and what its marks mean.
+fn write_head(out: &mut String, part: &Part<'_>, head: &Head<'_>) -> Result<(), AllocError> {
+    let width = part.x(part.behind()).saturating_add(EDGE).max(LEAST_WIDTH);
+    out.push_str("<svg xmlns=\"http://www.w3.org/2000/svg\"")?;
+    write_size(out, width, head.height)?;
+    push_number(out, " viewBox=\"0 0 ", width)?;
+    push_number(out, " ", head.height)?;
+    out.push_str(
+        "\" font-family=\"sans-serif\" font-size=\"12\" role=\"img\" aria-labelledby=\"title desc\">\n",
+    )?;
+    write_description(out, head.cpus, head.threads, head.journal, head.counts)?;
+    write_style(out)?;
+    out.push_str("<rect")?;
+    write_size(out, width, head.height)?;
+    out.push_str(" class=\"page-back\"/>\n")?;
+    write_heading(out, part, head.journal)?;
+    write_legend(out)?;
+    write_counted(out, head.counts)
+}
+
+/// Returns a picture of a history as SVG: a row for each of so many CPUs, and in it a bar for each stay of a thread. Above
+/// the bars of a CPU stand the decisions of the notes: each stamp, and each landing that was not placed, with what it
+/// came to. Marks that are near to one another are drawn as one, whose title tells of each of the first ones. Below the
+/// rows threads are listed.
+///
 /// It shows the entries from place `from` to place `to`, that one too. Of more than
 /// [`MOST_SINGLE`](crate::MOST_SINGLE) several share a pixel, and stays that are narrower are drawn together if they
 /// touch.
@@ -138,24 +252,40 @@ pub fn picture(
     alloc: Global,
     cpus: u16,
     journal: &Journal,
+    notes: &Notes<'_>,
     from: usize,
     to: usize,
+    listed: Listed,
 ) -> Result<String, AllocError> {
-    let part = Part::new(journal.len(), from, to);
+    let part = Part::new(journal.len(), notes.lines, from, to);
     let mut lives = lives(alloc, journal, &part)?;
-    let mut out = String::new(alloc);
-    let end = end_of_foot(cpus, lives.len());
-    write_head(&mut out, &part, end, journal.len())?;
-    write_axis(&mut out, &part, cpus, end)?;
-    push_number(&mut out, "<text x=\"10\" y=\"", TOP + 17)?;
-    out.push_str("\">agent</text>\n")?;
-    write_rows(&mut out, alloc, &part, journal, &mut lives, cpus)?;
-    for reign in &reigns(alloc, journal)? {
-        write_reign(&mut out, &part, cpus, reign)?;
+    let lanes = stays(alloc, journal, cpus)?;
+    for lane in &lanes {
+        add_stays(&mut lives, &part, lane.stays())?;
     }
-    write_marks(&mut out, &part, cpus, journal)?;
     end_strips(&mut lives)?;
-    write_foot(&mut out, cpus, &lives)?;
+    let lines = listing(alloc, &lives, listed)?;
+    let counts = counted(alloc, &part, notes.marks)?;
+    let end = end_of_foot(cpus, lines.len());
+    let mut out = String::new(alloc);
+    let head = Head {
+        height: end,
+        cpus,
+        threads: lives.len(),
+        journal,
+        counts: &counts,
+    };
+    write_head(&mut out, &part, &head)?;
+    write_axis(&mut out, &part, cpus, end)?;
+    begin_text(&mut out, 10, TOP + 17, "label")?;
+    out.push_str("agent</text>\n")?;
+    write_back(&mut out, &part, TOP)?;
+    write_ring(&mut out, &part, notes.fills, notes.ring)?;
+    write_rows(&mut out, alloc, &part, journal, &lives, &lanes, cpus)?;
+    write_agents(&mut out, alloc, &part, journal, cpus, notes)?;
+    write_marks(&mut out, &part, cpus, journal)?;
+    write_decisions(&mut out, alloc, &part, journal, &lives, cpus, notes)?;
+    write_foot(&mut out, &part, cpus, &lives, &lines)?;
     out.push_str("</svg>\n")?;
     Ok(out)
 }

@@ -1,60 +1,91 @@
-ghost use Rattle.std.specs.Prelude.{◌≤◌};
-
-use crate::layout::{LINE, THREAD, foot_of};
-use crate::lives::Life;
-use crate::text::push_number;
-use crate::threads::{write_colour, write_thread};
+use crate::layout::{LINE, foot_of};
+use crate::listing::Line;
+use crate::lives::{Life, life_of};
+use crate::part::Part;
+use crate::strip::Strip;
+use crate::text::{begin_text, push_number};
+use crate::threads::{shade_of, write_called, write_thread};
 use gs_layout::Class;
 use std::alloc::AllocError;
 
-/// How many threads are listed below the rows, at most.
-const MOST_LISTED: usize = 1_000;
-
 /// How many lines are above those of the threads, and behind them.
-const LINES: u64 = 4;
+const LINES: u64 = 5;
 
-/// Returns how many of so many threads are listed.
-fn listed(threads: usize) -> u64
-    ensures { result ≤ MOST_LISTED }
-{
-    threads.min(MOST_LISTED) as u64
-}
-
-/// Returns where what is drawn below the rows ends.
-pub(crate) fn end_of_foot(cpus: u16, threads: usize) -> u64 {
-    foot_of(cpus) + LINES * LINE + listed(threads) * THREAD + LINE
+/// Returns where what is drawn below the rows ends, if so many lines are listed there.
+pub(crate) fn end_of_foot(cpus: u16, listed: usize) -> u64 {
+    foot_of(cpus).saturating_add((listed as u64).saturating_add(LINES).saturating_mul(LINE))
 }
 
 /// Adds behind how many entries threads ran, and behind how many they waited.
 fn write_counts(out: &mut String, ran: usize, waited: usize) -> Result<(), AllocError> {
-    push_number(out, ": ran ", ran as u64)?;
-    push_number(out, " entries, waited ", waited as u64)?;
-    out.push_str("</text>\n")
+    if ran == 0 {
+        out.push_str(": never ran, ")?;
+    } else {
+        push_number(out, ": ran ", ran as u64)?;
+        out.push_str(" entries, ")?;
+    }
+    push_number(out, "waited ", waited as u64)
 }
 
-/// Adds the beginning of a path of lengths on the axis.
-fn write_strip(out: &mut String, class: &str, y: u64) -> Result<(), AllocError> {
-    out.push_str("<path class=\"")?;
+/// Adds a path of lengths on the axis, of these classes.
+fn write_strip(
+    out: &mut String,
+    y: u64,
+    class: &str,
+    shade: &str,
+    strip: &Strip,
+) -> Result<(), AllocError> {
+    push_number(out, "<path transform=\"translate(0 ", y)?;
+    out.push_str(")\" class=\"")?;
     out.push_str(class)?;
-    push_number(out, "\" transform=\"translate(0 ", y)?;
-    out.push_str(")\" d=\"")
+    out.push_str(shade)?;
+    out.push_str("\" d=\"")?;
+    out.push_str(strip.data())?;
+    out.push_str("\">")
+}
+
+/// Adds the title of what a thread did.
+fn write_life_title(out: &mut String, life: &Life) -> Result<(), AllocError> {
+    out.push_str("<title>")?;
+    write_thread(out, life.tid, Some(life))?;
+    write_counts(out, life.ran().entries(), life.waited())?;
+    out.push_str("</title></path>\n")
 }
 
 /// Adds what a thread did: behind how many of the shown entries it ran and waited, and when.
-fn write_life(out: &mut String, y: u64, life: &Life) -> Result<(), AllocError> {
-    push_number(out, "<text x=\"10\" y=\"", y)?;
-    out.push_str("\">")?;
-    write_thread(out, life.tid, Some(life))?;
+fn write_life(out: &mut String, part: &Part<'_>, y: u64, life: &Life) -> Result<(), AllocError> {
+    begin_text(out, 10, y, "thread")?;
+    push_number(out, "", u64::from(life.tid))?;
+    if !life.name.as_bytes().is_empty() {
+        out.push(' ')?;
+        write_called(out, life.tid, Some(life))?;
+    }
+    out.push_str("</text>\n")?;
+    let middle = y.saturating_sub(4);
+    let shade = shade_of(life.tid, Some(life.class));
+    write_strip(out, middle, "ready ", shade, life.ready())?;
+    write_life_title(out, life)?;
+    write_strip(out, middle, "ran ", shade, life.ran())?;
+    write_life_title(out, life)?;
+    begin_text(out, part.x(part.behind()).saturating_add(8), y, "thread")?;
+    push_number(out, "class ", life.class.number() as u64)?;
     write_counts(out, life.ran().entries(), life.waited())?;
-    let middle = y.saturating_add(10);
-    write_strip(out, "ready", middle)?;
-    out.push_str(life.ready().data())?;
-    out.push_str("\"/>\n")?;
-    write_strip(out, "ran", middle)?;
-    out.push_str(life.ran().data())?;
-    out.push_str("\" stroke=\"")?;
-    write_colour(out, life.tid)?;
-    out.push_str("\"/>\n")
+    out.push_str("</text>\n")
+}
+
+/// Adds how many more threads of a class there are that ran, or that never did.
+fn write_more(
+    out: &mut String,
+    y: u64,
+    class: Class,
+    ran: bool,
+    count: u64,
+) -> Result<(), AllocError> {
+    begin_text(out, 10, y, "thread")?;
+    push_number(out, "", count)?;
+    push_number(out, " more, of class ", class.number() as u64)?;
+    out.push_str(if ran { ", ran" } else { ", never ran" })?;
+    out.push_str("</text>\n")
 }
 
 /// Adds what the threads of a class did together.
@@ -69,32 +100,40 @@ fn write_class(out: &mut String, y: u64, lives: &[Life], class: Class) -> Result
             threads = threads.saturating_add(1);
         }
     }
-    push_number(out, "<text x=\"10\" y=\"", y)?;
-    push_number(out, "\" font-weight=\"bold\">class ", class.number() as u64)?;
+    begin_text(out, 10, y, "count")?;
+    push_number(out, "class ", class.number() as u64)?;
     push_number(out, ", threads ", threads)?;
-    write_counts(out, ran, waited)
+    write_counts(out, ran, waited)?;
+    out.push_str("</text>\n")
 }
 
-/// Adds what the classes and the threads did.
-pub(crate) fn write_foot(out: &mut String, cpus: u16, lives: &[Life]) -> Result<(), AllocError> {
+/// Adds what the classes did, and what the threads did that are listed.
+pub(crate) fn write_foot(
+    out: &mut String,
+    part: &Part<'_>,
+    cpus: u16,
+    lives: &[Life],
+    lines: &[Line],
+) -> Result<(), AllocError> {
     let mut y = foot_of(cpus).saturating_add(LINE);
     write_class(out, y, lives, Class::Zero)?;
     y = y.saturating_add(LINE);
     write_class(out, y, lives, Class::One)?;
     y = y.saturating_add(LINE);
-    push_number(out, "<text x=\"10\" y=\"", y)?;
+    begin_text(out, 10, y, "small")?;
     out.push_str(
-        "\" class=\"small\">thick: the thread ran; thin: it could run, and waited; nothing: it could not run</text>\n",
+        "Threads, those that never ran first, and then by how long they waited. Thick: it ran; thin: it could run, and waited; nothing: it could not run.</text>\n",
     )?;
-    for life in lives.iter().take(MOST_LISTED) {
-        write_life(out, y.saturating_add(LINE), life)?;
-        y = y.saturating_add(THREAD);
-    }
-    let others = (lives.len() as u64).saturating_sub(listed(lives.len()));
-    if others > 0 {
-        push_number(out, "<text x=\"10\" y=\"", y.saturating_add(LINE))?;
-        push_number(out, "\">threads that are not listed: ", others)?;
-        out.push_str("</text>\n")?;
+    for line in lines {
+        y = y.saturating_add(LINE);
+        match line {
+            Line::Thread { tid } => {
+                if let Some(life) = life_of(lives, *tid) {
+                    write_life(out, part, y, life)?;
+                }
+            }
+            Line::More { class, ran, count } => write_more(out, y, *class, *ran, *count)?,
+        }
     }
     Ok(())
 }

@@ -1,17 +1,27 @@
 //! What a history looks like: who was on which CPU, from when to when, and a picture of it.
 #![tactic(auto)]
 
+mod agents;
 mod bars;
 mod blur;
+mod counts;
+mod decided;
 mod drawing;
+mod ending;
 mod foot;
+mod groups;
 mod lane;
 mod layout;
 mod legend;
+mod listing;
 mod lives;
 mod marks;
+mod notes;
 mod part;
 mod rect;
+mod ring;
+mod shapes;
+mod slots;
 mod spans;
 mod stay;
 mod strip;
@@ -20,7 +30,11 @@ mod threads;
 mod walk;
 
 pub use drawing::picture;
+pub use ending::Ending;
 pub use lane::Lane;
+pub use listing::{FEW, FEW_IDLE};
+pub use notes::{AgentEvent, AgentMark, Fill, Listed, Mark, Notes, What};
 pub use part::MOST_SINGLE;
 pub use stay::Stay;
+pub use text::push_number;
 pub use walk::stays;

@@ -33,7 +33,7 @@ impl Life {
     }
 
     /// Ends the time that it may run, by the entry of this place, if it may.
-    fn end(&mut self, part: &Part, place: usize) -> Result<(), AllocError> {
+    fn end(&mut self, part: &Part<'_>, place: usize) -> Result<(), AllocError> {
         match self.ready_since.take() {
             Some(since) => self.ready.add(part, since, place),
             None => Ok(()),
@@ -76,7 +76,7 @@ pub(crate) fn life_of(lives: &[Life], tid: u32) -> Option<&Life> {
 /// Changes a thread's life as a message about it says.
 fn tell(
     lives: &mut [Life],
-    part: &Part,
+    part: &Part<'_>,
     place: usize,
     tid: u32,
     change: &Change,
@@ -96,7 +96,7 @@ fn tell(
 }
 
 /// Ends the time that each thread may run, by the entry of this place.
-fn end_all(lives: &mut [Life], part: &Part, place: usize) -> Result<(), AllocError> {
+fn end_all(lives: &mut [Life], part: &Part<'_>, place: usize) -> Result<(), AllocError> {
     for life in lives.iter_mut() {
         life.end(part, place)?;
     }
@@ -104,7 +104,11 @@ fn end_all(lives: &mut [Life], part: &Part, place: usize) -> Result<(), AllocErr
 }
 
 /// Adds the stays of threads on a CPU.
-pub(crate) fn add_stays(lives: &mut [Life], part: &Part, stays: &[Stay]) -> Result<(), AllocError> {
+pub(crate) fn add_stays(
+    lives: &mut [Life],
+    part: &Part<'_>,
+    stays: &[Stay],
+) -> Result<(), AllocError> {
     for stay in stays {
         if let Some(life) = lives.get_mut(index_of(stay.tid)) {
             life.ran.add(part, stay.from, stay.to)?;
@@ -130,7 +134,7 @@ pub(crate) fn end_strips(lives: &mut [Life]) -> Result<(), AllocError> {
 pub(crate) fn lives(
     alloc: Global,
     journal: &Journal,
-    part: &Part,
+    part: &Part<'_>,
 ) -> Result<Vec<Life>, AllocError> {
     let mut lives = Vec::new(alloc);
     for place in 0..journal.len() {

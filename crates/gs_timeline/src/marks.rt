@@ -1,9 +1,8 @@
 use crate::layout::{BAR, TOP, foot_of, row_of};
 use crate::part::Part;
-use crate::rect::{Rect, write_from_to};
-use crate::spans::{Hold, Reign};
-use crate::text::push_number;
-use crate::threads::{digits, room_for};
+use crate::rect::{Rect, write_entry, write_from_to};
+use crate::spans::Hold;
+use crate::text::{begin_path, begin_text, push_number};
 use gs_journal::{Entry, Journal};
 use gs_layout::Message;
 use std::alloc::AllocError;
@@ -11,67 +10,14 @@ use std::alloc::AllocError;
 /// The least width of an entry whose tick has a title.
 const TITLED: usize = 4;
 
-/// How many letters stand before the generation of an agent.
-const AGENT: u64 = 6;
+/// How far below its place the line of an entry stands on the axis.
+const LOWER: u64 = 12;
 
-/// Adds the bar of an agent in the row that begins at `y`.
-fn write_reign_at(
-    out: &mut String,
-    part: &Part,
-    reign: &Reign,
-    y: u64,
-    style: &str,
-) -> Result<(), AllocError> {
-    let bar = Rect {
-        x: part.x(reign.from),
-        y,
-        width: part.width(reign.from, reign.to),
-        height: BAR,
-    };
-    if bar.width == 0 {
-        return Ok(());
-    }
-    let generation = u64::from(reign.generation);
-    bar.write(out)?;
-    out.push_str("\" class=\"")?;
-    out.push_str(style)?;
-    push_number(out, "\"><title>agent of generation ", generation)?;
-    out.push_str(", ")?;
-    out.push_str(style)?;
-    out.push_str(",")?;
-    write_from_to(out, reign.from, reign.to)?;
-    out.push_str("</title></rect>\n")?;
-    let letters = digits(generation);
-    if room_for(letters) > bar.width {
-        return Ok(());
-    }
-    bar.write_text(out)?;
-    out.push_str("\" class=\"name on-")?;
-    out.push_str(style)?;
-    let whole = room_for(letters.saturating_add(AGENT)) <= bar.width;
-    push_number(out, if whole { "\">agent " } else { "\">" }, generation)?;
-    out.push_str("</text>\n")
-}
-
-/// Adds an agent: in the row of the agents, and, while it is active, on its CPU.
-pub(crate) fn write_reign(
-    out: &mut String,
-    part: &Part,
-    cpus: u16,
-    reign: &Reign,
-) -> Result<(), AllocError> {
-    let Some(cpu) = reign.cpu else {
-        return write_reign_at(out, part, reign, TOP, "attaching");
-    };
-    write_reign_at(out, part, reign, TOP, "active")?;
-    if cpu < cpus {
-        write_reign_at(out, part, reign, row_of(cpu), "active")?;
-    }
-    Ok(())
-}
+/// How high the axis below the rows is.
+const AXIS: u64 = 26;
 
 /// Adds the hatching of a CPU that the other class holds.
-pub(crate) fn write_hold(out: &mut String, part: &Part, hold: &Hold) -> Result<(), AllocError> {
+pub(crate) fn write_hold(out: &mut String, part: &Part<'_>, hold: &Hold) -> Result<(), AllocError> {
     if part.shown(hold.from, hold.to) == 0 {
         return Ok(());
     }
@@ -84,39 +30,49 @@ pub(crate) fn write_hold(out: &mut String, part: &Part, hold: &Hold) -> Result<(
     bar.write(out)?;
     push_number(out, "\" class=\"held\"><title>CPU ", u64::from(hold.cpu))?;
     out.push_str(" is held by the other class")?;
-    write_from_to(out, hold.from, hold.to)?;
+    write_from_to(out, part, hold.from, hold.to)?;
     out.push_str("</title></rect>\n")
 }
 
 /// Adds the mark of a tick.
-fn write_tick(out: &mut String, part: &Part, place: usize, cpu: u16) -> Result<(), AllocError> {
+fn write_tick(out: &mut String, part: &Part<'_>, place: usize, cpu: u16) -> Result<(), AllocError> {
     push_number(out, "<path d=\"M", part.x(place))?;
     push_number(out, " ", row_of(cpu).saturating_sub(3))?;
     if part.unit() < TITLED {
         return out.push_str("v6\"/>\n");
     }
     push_number(out, "v6\"><title>tick of CPU ", u64::from(cpu))?;
-    push_number(out, ", entry ", place as u64)?;
+    write_entry(out, part, ", entry ", place)?;
     out.push_str("</title></path>\n")
 }
 
 /// Adds the line of a tear-down, through all rows.
-fn write_torn(out: &mut String, part: &Part, cpus: u16, place: usize) -> Result<(), AllocError> {
+fn write_torn(
+    out: &mut String,
+    part: &Part<'_>,
+    cpus: u16,
+    place: usize,
+) -> Result<(), AllocError> {
     let x = part.x(place);
     let end = foot_of(cpus);
     push_number(out, "<path class=\"torn\" d=\"M", x)?;
     push_number(out, " ", TOP.saturating_sub(4))?;
     push_number(out, "V", end)?;
-    push_number(out, "\"><title>torn down at entry ", place as u64)?;
-    push_number(out, "</title></path>\n<text x=\"", x.saturating_add(5))?;
-    push_number(out, "\" y=\"", end.saturating_sub(4))?;
-    out.push_str("\" class=\"on-torn\">torn down</text>\n")
+    write_entry(out, part, "\"><title>torn down at entry ", place)?;
+    out.push_str(": a message did not fit into the ring</title></path>\n")?;
+    begin_text(
+        out,
+        x.saturating_add(5),
+        end.saturating_sub(AXIS),
+        "on-torn",
+    )?;
+    out.push_str("torn down</text>\n")
 }
 
 /// Adds ticks and a tear-down.
 pub(crate) fn write_marks(
     out: &mut String,
-    part: &Part,
+    part: &Part<'_>,
     cpus: u16,
     journal: &Journal,
 ) -> Result<(), AllocError> {
@@ -140,37 +96,57 @@ pub(crate) fn write_marks(
     Ok(())
 }
 
-/// Adds a number of the axis: its middle is at `x`, and its letters stand on `y`.
-fn write_number(out: &mut String, x: u64, y: u64, place: usize) -> Result<(), AllocError> {
-    push_number(out, "<text x=\"", x)?;
-    push_number(out, "\" y=\"", y)?;
-    push_number(out, "\" class=\"axis\">", place as u64)?;
-    out.push_str("</text>\n")
+/// Adds the numbers of the axis at an entry, whose middle is at `x`: its place, and below that the line that added it.
+fn write_numbers(
+    out: &mut String,
+    part: &Part<'_>,
+    x: u64,
+    y: u64,
+    place: usize,
+) -> Result<(), AllocError> {
+    begin_text(out, x, y, "axis")?;
+    push_number(out, "", place as u64)?;
+    out.push_str("</text>\n")?;
+    if let Some(line) = part.line(place) {
+        begin_text(out, x, y.saturating_add(LOWER), "axis")?;
+        push_number(out, "", line as u64)?;
+        out.push_str("</text>\n")?;
+    }
+    Ok(())
+}
+
+/// Adds what the two numbers of the axis are.
+fn write_names(out: &mut String, y: u64) -> Result<(), AllocError> {
+    begin_text(out, 10, y, "small")?;
+    out.push_str("entry</text>\n")?;
+    begin_text(out, 10, y.saturating_add(LOWER), "small")?;
+    out.push_str("line</text>\n")
 }
 
 /// Adds the axis. Each entry of a round place has a line where it begins, through all that is drawn, down to `end`. The
-/// place stands above the rows and below them. If there are fewer entries than a step of the axis, the first has these
-/// too.
+/// place and the line of the script stand above the rows and below them. If there are fewer entries than a step of the
+/// axis, the first has these too.
 pub(crate) fn write_axis(
     out: &mut String,
-    part: &Part,
+    part: &Part<'_>,
     cpus: u16,
     end: u64,
 ) -> Result<(), AllocError> {
     let step = part.step();
-    let above = TOP.saturating_sub(10);
-    let below = foot_of(cpus).saturating_sub(2);
+    let above = TOP.saturating_sub(34);
+    let below = foot_of(cpus).saturating_sub(AXIS - 10);
+    write_names(out, above)?;
+    write_names(out, below)?;
     let first = part.first();
     let few = part.count() < step;
     for place in first..part.behind() {
         if place % step == 0 || (few && place == first) {
             let x = part.x(place);
-            push_number(out, "<path class=\"grid\" d=\"M", x)?;
-            push_number(out, " ", above.saturating_add(3))?;
+            begin_path(out, "grid", x, above.saturating_add(LOWER + 3))?;
             push_number(out, "V", end)?;
             out.push_str("\"/>\n")?;
-            write_number(out, x, above, place)?;
-            write_number(out, x, below, place)?;
+            write_numbers(out, part, x, above, place)?;
+            write_numbers(out, part, x, below, place)?;
         }
     }
     Ok(())

@@ -1,5 +1,6 @@
-ghost use Rattle.std.specs.Prelude.{◌<◌, ◌≤◌};
-ghost use Rattle.gs_timeline.specs.declared.part.TheConstants.{WIDEST};
+ghost use Rattle.std.specs.Prelude.{◌≡◌, ◌<◌, ◌≤◌, ◌*◌, ◌-◌};
+ghost use Rattle.gs_timeline.specs.Places.{x_of};
+ghost use Rattle.gs_timeline.specs.declared.part.TheConstants.{MOST_SINGLE, WIDEST};
 
 /// The most entries of which each has a pixel of its own: a browser still opens a picture of this size. If there are
 /// more, several share a pixel.
@@ -9,30 +10,37 @@ pub const MOST_SINGLE: usize = 100_000;
 const ROOM: usize = 1_600;
 
 /// The most that an entry is wide.
-const WIDEST: usize = 24;
+const WIDEST: usize = 60;
 
 /// Where the first entry begins.
-pub(crate) const LEFT: u64 = 90;
+pub(crate) const LEFT: u64 = 150;
 
-/// The entries that a picture shows, and how wide each is.
+/// How much room is behind the last entry: for the words of what happened there.
+pub(crate) const EDGE: u64 = 230;
+
+/// The entries that a picture shows, how wide each is, and the script's lines that added them.
 #[derive(Clone, Copy)]
-pub(crate) struct Part {
+pub(crate) struct Part<'a> {
+    lines: &'a [usize],
     first: usize,
     count: usize,
     unit: usize,
     sharing: usize,
     ghost unit_bound: { unit ≤ WIDEST },
     ghost sharing_bound: { 0 < sharing },
+    ghost narrow: { count ≤ sharing * MOST_SINGLE },
 }
 
-impl Part {
-    /// Makes the part from entry `from` to entry `to`, that one too, of so many entries.
-    pub(crate) fn new(entries: usize, from: usize, to: usize) -> Part {
+impl<'a> Part<'a> {
+    /// Makes the part from entry `from` to entry `to`, that one too, of so many entries, which these lines added.
+    #[tactic(auto, using(crate::proofs::Shared::shared_by))]
+    pub(crate) fn new(entries: usize, lines: &'a [usize], from: usize, to: usize) -> Part<'a> {
         let behind = entries.min(to.saturating_add(1));
         let count = behind.saturating_sub(from);
         let unit = (ROOM / count.max(1)).clamp(1, WIDEST);
         let sharing = count.saturating_sub(1) / MOST_SINGLE + 1;
         Part {
+            lines,
             first: from,
             count,
             unit,
@@ -70,20 +78,35 @@ impl Part {
         place >= self.first && place < self.behind()
     }
 
+    /// Returns whether what happens before the entry of this place, and behind the one before that, is shown.
+    pub(crate) fn meets(&self, place: usize) -> bool {
+        place >= self.first && place <= self.behind()
+    }
+
+    /// Returns the line of the script that added an entry.
+    pub(crate) fn line(&self, place: usize) -> Option<usize> {
+        self.lines.get(place).copied()
+    }
+
     /// Returns how many of the entries from one on and before another are shown.
     pub(crate) fn shown(&self, from: usize, to: usize) -> usize {
         to.min(self.behind()).saturating_sub(from.max(self.first))
     }
 
     /// Returns where an entry begins. Those before the part begin where it does, and those behind where it ends.
-    pub(crate) fn x(&self, place: usize) -> u64 {
+    #[tactic(auto, using(crate::proofs::Shared::units_fit, crate::proofs::Shared::places_fit))]
+    pub(crate) fn x(&self, place: usize) -> u64
+        ensures { result ≡ x_of self.now.first self.now.count self.now.sharing self.now.unit place }
+    {
         let before = place.saturating_sub(self.first).min(self.count);
-        let units = (before / self.sharing).saturating_mul(self.unit);
-        LEFT.saturating_add(units as u64)
+        let units = before / self.sharing * self.unit;
+        LEFT + units as u64
     }
 
     /// Returns how wide the entries from one on and before another are.
-    pub(crate) fn width(&self, from: usize, to: usize) -> u64 {
+    pub(crate) fn width(&self, from: usize, to: usize) -> u64
+        ensures { result ≡ x_of self.now.first self.now.count self.now.sharing self.now.unit to - x_of self.now.first self.now.count self.now.sharing self.now.unit from }
+    {
         self.x(to).saturating_sub(self.x(from))
     }
 
@@ -92,7 +115,8 @@ impl Part {
         ensures { 0 < result }
     {
         match self.unit {
-            12.. => 5,
+            30.. => 1,
+            12..30 => 5,
             6..12 => 10,
             2..6 => 50,
             _ => self.sharing.saturating_mul(100),

@@ -1,3 +1,4 @@
+use crate::part::Part;
 use crate::text::push_number;
 use std::alloc::AllocError;
 
@@ -28,8 +29,28 @@ impl Rect {
     }
 }
 
+/// Adds an entry by its place, and by the line that added it.
+pub(crate) fn write_entry(
+    out: &mut String,
+    part: &Part<'_>,
+    words: &str,
+    place: usize,
+) -> Result<(), AllocError> {
+    push_number(out, words, place as u64)?;
+    let Some(line) = part.line(place) else {
+        return Ok(());
+    };
+    push_number(out, " (line ", line as u64)?;
+    out.push(')')
+}
+
 /// Adds from which entry on and to which something is.
-pub(crate) fn write_from_to(out: &mut String, from: usize, to: usize) -> Result<(), AllocError> {
-    push_number(out, " from entry ", from as u64)?;
-    push_number(out, " to ", to as u64)
+pub(crate) fn write_from_to(
+    out: &mut String,
+    part: &Part<'_>,
+    from: usize,
+    to: usize,
+) -> Result<(), AllocError> {
+    write_entry(out, part, " from entry ", from)?;
+    write_entry(out, part, " to ", to)
 }

@@ -24,7 +24,12 @@ impl Strip {
     }
 
     /// Adds the entries from one on and before another. One that shares its pixel with others takes the whole of it.
-    pub(crate) fn add(&mut self, part: &Part, from: usize, to: usize) -> Result<(), AllocError> {
+    pub(crate) fn add(
+        &mut self,
+        part: &Part<'_>,
+        from: usize,
+        to: usize,
+    ) -> Result<(), AllocError> {
         let shown = part.shown(from, to);
         if shown == 0 {
             return Ok(());

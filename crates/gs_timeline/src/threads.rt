@@ -1,3 +1,6 @@
+ghost use Rattle.std.specs.Prelude.{◌≡◌};
+ghost use Rattle.gs_timeline.specs.Marks.{shade_of};
+
 use crate::lives::Life;
 use crate::rect::Rect;
 use crate::text::{push_number, write_escaped};
@@ -30,6 +33,26 @@ fn name_of(life: Option<&Life>) -> Option<&Name> {
         .filter(|name| !name.as_bytes().is_empty())
 }
 
+/// Returns how many letters what a thread is called has.
+pub(crate) fn letters_of(tid: u32, life: Option<&Life>) -> u64 {
+    match name_of(life) {
+        Some(name) => name.as_bytes().len() as u64,
+        None => digits(u64::from(tid)),
+    }
+}
+
+/// Adds what a thread is called: its name, or its tid if it has no name.
+pub(crate) fn write_called(
+    out: &mut String,
+    tid: u32,
+    life: Option<&Life>,
+) -> Result<(), AllocError> {
+    match name_of(life) {
+        Some(name) => write_escaped(out, name),
+        None => push_number(out, "", u64::from(tid)),
+    }
+}
+
 /// Adds what a thread is called to its bar: its name, or its tid if it has no name or that does not fit. It adds nothing
 /// if the tid does not fit either.
 pub(crate) fn write_label(
@@ -53,15 +76,22 @@ pub(crate) fn write_label(
     out.push_str("</text>\n")
 }
 
-/// Adds the colour of a thread: those of neighbours differ much, and every eighth one is lighter or darker.
-pub(crate) fn write_colour(out: &mut String, tid: u32) -> Result<(), AllocError> {
-    let hue = u64::from(tid) * 137 % 360;
-    push_number(out, "hsl(", hue)?;
-    out.push_str(match tid / 8 % 3 {
-        0 => ",70%,72%)",
-        1 => ",85%,83%)",
-        _ => ",45%,66%)",
-    })
+/// Returns the class of the style by which a thread is coloured: each class of threads has a hue of its own, and four
+/// shades of it, which its threads take in turn.
+pub(crate) fn shade_of(tid: u32, class: Option<Class>) -> &'static str
+    ensures { result.now ≡ shade_of tid class }
+{
+    match (class, tid % 4) {
+        (Some(Class::Zero), 0) => "z0",
+        (Some(Class::Zero), 1) => "z1",
+        (Some(Class::Zero), 2) => "z2",
+        (Some(Class::Zero), _) => "z3",
+        (Some(Class::One), 0) => "o0",
+        (Some(Class::One), 1) => "o1",
+        (Some(Class::One), 2) => "o2",
+        (Some(Class::One), _) => "o3",
+        (None, _) => "unknown",
+    }
 }
 
 /// Returns the number of a thread's class, or `?` if nothing is known of the thread.

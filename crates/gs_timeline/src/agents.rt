@@ -1,0 +1,212 @@
+//! The agents: their row, with how each began and ended and what pages it was given, and where each is active.
+
+use crate::layout::{ABOVE, BAR, TOP, row_of};
+use crate::notes::{AgentEvent, AgentMark};
+use crate::part::{EDGE, Part};
+use crate::rect::{Rect, write_from_to};
+use crate::spans::Reign;
+use crate::text::{begin_path, begin_text, push_number};
+use crate::threads::{digits, room_for};
+use gs_journal::{Entry, Journal};
+use std::alloc::{AllocError, Global};
+
+/// How many letters stand before the generation of an agent.
+const AGENT: u64 = 6;
+
+/// How high the tick of a page is.
+const PAGE: u64 = 8;
+
+/// How far from one another the ticks of pages at one place are.
+const PAGES: u64 = 4;
+
+/// Adds the bar of an agent in the row that begins at `y`.
+fn write_reign_at(
+    out: &mut String,
+    part: &Part<'_>,
+    reign: &Reign,
+    y: u64,
+    style: &str,
+) -> Result<(), AllocError> {
+    let bar = Rect {
+        x: part.x(reign.from),
+        y,
+        width: part.width(reign.from, reign.to),
+        height: BAR,
+    };
+    if bar.width == 0 {
+        return Ok(());
+    }
+    let generation = u64::from(reign.generation);
+    bar.write(out)?;
+    out.push_str("\" class=\"")?;
+    out.push_str(style)?;
+    push_number(out, "\"><title>agent of generation ", generation)?;
+    out.push_str(", ")?;
+    out.push_str(style)?;
+    out.push_str(",")?;
+    write_from_to(out, part, reign.from, reign.to)?;
+    out.push_str("</title></rect>\n")?;
+    let letters = digits(generation);
+    if room_for(letters) > bar.width {
+        return Ok(());
+    }
+    bar.write_text(out)?;
+    out.push_str("\" class=\"name on-")?;
+    out.push_str(style)?;
+    let whole = room_for(letters.saturating_add(AGENT)) <= bar.width;
+    push_number(out, if whole { "\">agent " } else { "\">" }, generation)?;
+    out.push_str("</text>\n")
+}
+
+/// Adds an agent: in the row of the agents, and, while it is active, on its CPU.
+pub(crate) fn write_reign(
+    out: &mut String,
+    part: &Part<'_>,
+    cpus: u16,
+    reign: &Reign,
+) -> Result<(), AllocError> {
+    let Some(cpu) = reign.cpu else {
+        return write_reign_at(out, part, reign, TOP, "attaching");
+    };
+    write_reign_at(out, part, reign, TOP, "active")?;
+    if cpu < cpus {
+        write_reign_at(out, part, reign, row_of(cpu), "active")?;
+    }
+    Ok(())
+}
+
+/// Something that happened to an agent: the entry that tells it, and the word of the script for it.
+#[derive(Clone, Copy)]
+pub(crate) struct Step {
+    place: usize,
+    word: &'static str,
+}
+
+/// Returns the word for an agent that became active, by whether one is active already, or attaches.
+fn word_of_role(place: usize, active: bool) -> &'static str {
+    if place == 0 {
+        ""
+    } else if active {
+        "handoff"
+    } else {
+        "activate"
+    }
+}
+
+/// Returns the places of the entries by which agents crashed, in order.
+fn crashes(alloc: Global, marks: &[AgentMark]) -> Result<Vec<usize>, AllocError> {
+    let mut places = Vec::new(alloc);
+    for mark in marks {
+        if mark.event == AgentEvent::Crashed {
+            places.push(mark.entries)?;
+        }
+    }
+    Ok(places)
+}
+
+/// Returns what happened to the agents, in order.
+pub(crate) fn steps(
+    alloc: Global,
+    journal: &Journal,
+    marks: &[AgentMark],
+) -> Result<Vec<Step>, AllocError> {
+    let mut steps = Vec::new(alloc);
+    let crashes = crashes(alloc, marks)?;
+    let mut active = false;
+    for place in 0..journal.len() {
+        let word = match journal.entry(place) {
+            Entry::Role { .. } => {
+                let word = word_of_role(place, active);
+                active = true;
+                word
+            }
+            Entry::Begin { .. } => "begin",
+            Entry::Left => {
+                active = false;
+                let crashed = crashes.binary_search(&place).is_ok();
+                if crashed { "crash" } else { "leave" }
+            }
+            _ => continue,
+        };
+        steps.push(Step { place, word })?;
+    }
+    Ok(steps)
+}
+
+/// Adds the word of what happened to an agent, if it ends before `limit`.
+fn write_word(out: &mut String, x: u64, limit: u64, word: &str) -> Result<(), AllocError> {
+    if word.is_empty() || x.saturating_add(room_for(word.len() as u64)) > limit {
+        return Ok(());
+    }
+    begin_text(out, x.saturating_add(2), TOP - ABOVE + 4, "step")?;
+    out.push_str(word)?;
+    out.push_str("</text>\n")
+}
+
+/// Adds the words of what happened to the agents, each where the next one leaves room.
+pub(crate) fn write_steps(
+    out: &mut String,
+    part: &Part<'_>,
+    steps: &[Step],
+) -> Result<(), AllocError> {
+    let mut limit = part.x(part.behind()).saturating_add(EDGE);
+    for step in steps.iter().rev() {
+        if part.has(step.place) {
+            let x = part.x(step.place);
+            write_word(out, x, limit, step.word)?;
+            limit = x;
+        }
+    }
+    Ok(())
+}
+
+/// Adds the tick of a page.
+fn write_page(
+    out: &mut String,
+    x: u64,
+    mark: &AgentMark,
+    count: u16,
+    next: Option<u32>,
+) -> Result<(), AllocError> {
+    begin_path(out, "page", x, TOP + BAR - PAGE)?;
+    push_number(out, "v", PAGE)?;
+    push_number(out, "\"><title>line ", mark.line as u64)?;
+    push_number(out, ", before entry ", mark.entries as u64)?;
+    push_number(out, ": page of threads: ", u64::from(count))?;
+    match next {
+        Some(tid) => push_number(out, ", the next from thread ", u64::from(tid))?,
+        None => out.push_str(", the last one")?,
+    }
+    out.push_str("</title></path>\n")
+}
+
+/// Adds a tick for each page that an agent was given. Those of one place stand before one another.
+pub(crate) fn write_pages(
+    out: &mut String,
+    part: &Part<'_>,
+    marks: &[AgentMark],
+) -> Result<(), AllocError> {
+    let mut last = 0;
+    let mut shift: u64 = 0;
+    for mark in marks.iter().rev() {
+        if let AgentEvent::Page { count, next } = mark.event {
+            let x = part.x(mark.entries);
+            shift = if x == last {
+                shift.saturating_add(PAGES)
+            } else {
+                PAGES
+            };
+            last = x;
+            if part.meets(mark.entries) {
+                write_page(
+                    out,
+                    x.saturating_sub(shift.min(part.unit() as u64)),
+                    mark,
+                    count,
+                    next,
+                )?;
+            }
+        }
+    }
+    Ok(())
+}

@@ -1,0 +1,245 @@
+//! What is decided of a CPU: stamps and landings that were not placed, in a line above its bars.
+
+ghost use Rattle.std.specs.Prelude.{◌≡◌};
+ghost use Rattle.gs_timeline.specs.Marks.{failure_of};
+
+use crate::layout::decided_of;
+use crate::lives::{Life, life_of};
+use crate::notes::{Mark, What};
+use crate::part::{EDGE, Part};
+use crate::shapes::{MIXED, STAMP, shape_of, words_of};
+use crate::text::{begin_path, begin_text, push_number};
+use crate::threads::{letters_of, room_for, write_called, write_thread};
+use gs_layout::Outcome;
+use std::alloc::{AllocError, Global};
+
+/// Marks that are nearer than this to the first of them are drawn as one.
+const NEAR: u64 = 11;
+
+/// How many marks that are drawn as one have a line each in its title, at most.
+const MOST_TOLD: u64 = 8;
+
+/// Where the words of a mark begin, behind its middle.
+const BESIDE: u64 = 8;
+
+/// Returns what a transaction came to that landed and was not placed.
+pub(crate) fn failure_of(mark: &Mark) -> Option<Outcome>
+    ensures { result ≡ failure_of mark.now }
+{
+    match mark.what {
+        What::Stamped { .. }
+        | What::Landed {
+            outcome: Outcome::Placed,
+        }
+        | What::Late {
+            outcome: Outcome::Placed,
+            ..
+        } => None,
+        What::Landed { outcome } | What::Late { outcome, .. } => Some(outcome),
+    }
+}
+
+/// Returns whether a mark says that something was stamped.
+pub(crate) fn is_stamp(mark: &Mark) -> bool {
+    matches!(mark.what, What::Stamped { .. })
+}
+
+/// Adds what an event did to a transaction.
+fn write_what(out: &mut String, what: What) -> Result<(), AllocError> {
+    match what {
+        What::Stamped { preempt, group } => {
+            out.push_str("stamped")?;
+            out.push_str(if preempt { " to preempt" } else { "" })?;
+            out.push_str(if group { " as one of a group" } else { "" })
+        }
+        What::Landed { outcome } => {
+            out.push_str("landed: ")?;
+            out.push_str(words_of(outcome))
+        }
+        What::Late { number, outcome } => {
+            push_number(out, "transaction ", u64::from(number))?;
+            out.push_str(" landed late: ")?;
+            out.push_str(words_of(outcome))
+        }
+    }
+}
+
+/// Adds a mark in words: its line, before which entry it was, what was done, and to which thread and CPU.
+pub(crate) fn write_mark(out: &mut String, lives: &[Life], mark: &Mark) -> Result<(), AllocError> {
+    push_number(out, "line ", mark.line as u64)?;
+    push_number(out, ", before entry ", mark.entries as u64)?;
+    out.push_str(": ")?;
+    write_what(out, mark.what)?;
+    out.push_str(", ")?;
+    write_thread(out, mark.tid, life_of(lives, mark.tid))?;
+    push_number(out, ", on CPU ", u64::from(mark.cpu))
+}
+
+/// Marks of a CPU that are near to one another, and are drawn as one.
+#[derive(Drop)]
+struct Cluster {
+    cpu: u16,
+    x: u64,
+    /// A line for each of the first marks.
+    title: String,
+    marks: u64,
+    stamps: u64,
+    failures: u64,
+    /// The first landing that was not placed, and whether another one came to something else.
+    first: Option<(u32, Outcome)>,
+    mixed: bool,
+}
+
+impl Cluster {
+    /// Makes a cluster of no marks, on this CPU. It does not allocate.
+    fn new(alloc: Global, cpu: u16) -> Cluster {
+        Cluster {
+            cpu,
+            x: 0,
+            title: String::new(alloc),
+            marks: 0,
+            stamps: 0,
+            failures: 0,
+            first: None,
+            mixed: false,
+        }
+    }
+
+    /// Returns whether a mark at this place is so near that it belongs to the marks.
+    fn reaches(&self, x: u64) -> bool {
+        self.marks > 0 && x.saturating_sub(self.x) < NEAR
+    }
+
+    /// Counts a landing that was not placed.
+    fn add_failure(&mut self, tid: u32, outcome: Outcome) {
+        self.failures = self.failures.saturating_add(1);
+        match self.first {
+            None => self.first = Some((tid, outcome)),
+            Some((_, first)) => self.mixed = self.mixed || first != outcome,
+        }
+    }
+
+    /// Adds a mark behind the others.
+    fn add(&mut self, lives: &[Life], mark: &Mark) -> Result<(), AllocError> {
+        if self.marks < MOST_TOLD {
+            if self.marks > 0 {
+                self.title.push('\n')?;
+            }
+            write_mark(&mut self.title, lives, mark)?;
+        }
+        self.marks = self.marks.saturating_add(1);
+        match failure_of(mark) {
+            Some(outcome) => self.add_failure(mark.tid, outcome),
+            None => self.stamps = self.stamps.saturating_add(1),
+        }
+        Ok(())
+    }
+
+    /// Adds the shapes: a ring if something was stamped, and that of an outcome if something was not placed.
+    fn write_shapes(&self, out: &mut String, y: u64) -> Result<(), AllocError> {
+        let class = match self.first {
+            Some(_) => "failed",
+            None => "stamp",
+        };
+        begin_path(out, class, self.x, y)?;
+        if self.stamps > 0 {
+            out.push_str(STAMP)?;
+        }
+        let Some((_, outcome)) = self.first else {
+            return Ok(());
+        };
+        if self.stamps > 0 {
+            push_number(out, "M", self.x)?;
+            push_number(out, " ", y)?;
+        }
+        out.push_str(if self.mixed { MIXED } else { shape_of(outcome) })
+    }
+
+    /// Adds the words beside the shapes, as many as end before `limit`: what came of the first landing that was not
+    /// placed, and of which thread, or how many were not.
+    fn write_words(
+        &self,
+        out: &mut String,
+        lives: &[Life],
+        y: u64,
+        limit: u64,
+    ) -> Result<(), AllocError> {
+        let Some((tid, outcome)) = self.first else {
+            return Ok(());
+        };
+        let life = life_of(lives, tid);
+        let words = if self.mixed {
+            "not placed"
+        } else {
+            words_of(outcome)
+        };
+        let short = words.len() as u64;
+        let whole = short
+            .saturating_add(letters_of(tid, life))
+            .saturating_add(1);
+        let x = self.x.saturating_add(BESIDE);
+        let room = limit.saturating_sub(x);
+        if room_for(short) > room {
+            return Ok(());
+        }
+        begin_text(out, x, y.saturating_add(4), "lost")?;
+        out.push_str(words)?;
+        if room_for(whole) <= room {
+            out.push(' ')?;
+            if self.failures > 1 {
+                push_number(out, "", self.failures)?;
+            } else {
+                write_called(out, tid, life)?;
+            }
+        }
+        out.push_str("</text>\n")
+    }
+
+    /// Draws the marks, if there are any, with words beside them that end before `limit`, and lets go of them.
+    fn write(&mut self, out: &mut String, lives: &[Life], limit: u64) -> Result<(), AllocError> {
+        if self.marks == 0 {
+            return Ok(());
+        }
+        let y = decided_of(self.cpu);
+        self.write_shapes(out, y)?;
+        out.push_str("\"><title>")?;
+        out.push_str(self.title.as_str())?;
+        let others = self.marks.saturating_sub(MOST_TOLD);
+        if others > 0 {
+            push_number(out, "\nand more: ", others)?;
+        }
+        out.push_str("</title></path>\n")?;
+        self.write_words(out, lives, y, limit)?;
+        self.title.clear();
+        self.marks = 0;
+        self.stamps = 0;
+        self.failures = 0;
+        self.first = None;
+        self.mixed = false;
+        Ok(())
+    }
+}
+
+/// Adds the marks of a CPU: those are drawn that are stamps, or landings that were not placed.
+pub(crate) fn write_decided(
+    out: &mut String,
+    alloc: Global,
+    part: &Part<'_>,
+    lives: &[Life],
+    cpu: u16,
+    marks: &[Mark],
+) -> Result<(), AllocError> {
+    let mut cluster = Cluster::new(alloc, cpu);
+    for mark in marks {
+        let drawn = is_stamp(mark) || failure_of(mark).is_some();
+        if drawn && part.meets(mark.entries) {
+            let x = part.x(mark.entries);
+            if !cluster.reaches(x) {
+                cluster.write(out, lives, x)?;
+                cluster.x = x;
+            }
+            cluster.add(lives, mark)?;
+        }
+    }
+    cluster.write(out, lives, part.x(part.behind()).saturating_add(EDGE))
+}

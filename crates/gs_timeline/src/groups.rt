@@ -1,0 +1,96 @@
+//! The groups: those that land together have a bracket that joins their CPUs.
+
+use crate::decided::{failure_of, write_mark};
+use crate::layout::decided_of;
+use crate::lives::Life;
+use crate::notes::{Mark, What};
+use crate::part::Part;
+use crate::text::{begin_path, push_number};
+use std::alloc::{AllocError, Global};
+
+/// How far before their place a bracket stands.
+const BEFORE: u64 = 8;
+
+/// How many of a group have a line each in the title of its bracket, at most.
+const MOST_TOLD: usize = 8;
+
+/// Adds the bracket of a group that landed, if that is shown.
+fn write_group(
+    out: &mut String,
+    part: &Part<'_>,
+    lives: &[Life],
+    group: &[Mark],
+) -> Result<(), AllocError> {
+    let [first, others @ ..] = group else {
+        return Ok(());
+    };
+    if !part.meets(first.entries) {
+        return Ok(());
+    }
+    let last = others.last().unwrap_or(first);
+    let x = part.x(first.entries).saturating_sub(BEFORE);
+    let failed = group.iter().any(|mark| failure_of(mark).is_some());
+    let class = if failed { "group lost-group" } else { "group" };
+    begin_path(out, class, x, decided_of(first.cpu))?;
+    push_number(out, "V", decided_of(last.cpu))?;
+    for mark in group {
+        push_number(out, "M", x)?;
+        push_number(out, " ", decided_of(mark.cpu))?;
+        out.push_str("h4")?;
+    }
+    push_number(out, "\"><title>group of ", group.len() as u64)?;
+    out.push_str(if failed {
+        ": none placed"
+    } else {
+        ": all placed"
+    })?;
+    for mark in group.iter().take(MOST_TOLD) {
+        out.push('\n')?;
+        write_mark(out, lives, mark)?;
+    }
+    let more = group.len().saturating_sub(MOST_TOLD);
+    if more > 0 {
+        push_number(out, "\nand more: ", more as u64)?;
+    }
+    out.push_str("</title></path>\n")
+}
+
+/// Makes the mark of so many CPUs in whose slots nothing of a group is stamped.
+fn none_grouped(alloc: Global, cpus: u16) -> Result<Vec<bool>, AllocError> {
+    let mut grouped = Vec::with_capacity(alloc, cpus as usize)?;
+    for _ in 0..cpus {
+        grouped.push(false)?;
+    }
+    Ok(grouped)
+}
+
+/// Adds a bracket for each group that landed.
+pub(crate) fn write_groups(
+    out: &mut String,
+    alloc: Global,
+    part: &Part<'_>,
+    lives: &[Life],
+    cpus: u16,
+    marks: &[Mark],
+) -> Result<(), AllocError> {
+    let mut grouped = none_grouped(alloc, cpus)?;
+    let mut group: Vec<Mark> = Vec::new(alloc);
+    for mark in marks {
+        let Some(slot) = grouped.get_mut(mark.cpu as usize) else {
+            continue;
+        };
+        match mark.what {
+            What::Stamped { group, .. } => *slot = group,
+            What::Landed { .. } if *slot => {
+                *slot = false;
+                if group.first().is_some_and(|first| first.line != mark.line) {
+                    write_group(out, part, lives, group.as_slice())?;
+                    group.clear();
+                }
+                group.push(*mark)?;
+            }
+            What::Landed { .. } | What::Late { .. } => {}
+        }
+    }
+    write_group(out, part, lives, group.as_slice())
+}

@@ -1,0 +1,115 @@
+//! How full the ring is, as a strip.
+
+use crate::layout::{BAR, RING};
+use crate::notes::Fill;
+use crate::part::{LEFT, Part};
+use crate::text::{begin_text, push_number};
+use std::alloc::AllocError;
+
+/// How high the strip is where so many bytes of so many are in use: as high as a bar if all are, and not flat if some are.
+fn height_of(used: usize, ring: usize) -> u64 {
+    let share = (used.min(ring) as u64).saturating_mul(BAR);
+    share.div_ceil((ring as u64).max(1)).min(BAR)
+}
+
+/// The line above which the strip is empty, as it is drawn.
+#[derive(Clone, Copy)]
+struct Edge {
+    /// Up to where it is drawn.
+    x: u64,
+    /// How high it is at most there, and how high behind that.
+    most: u64,
+    last: u64,
+}
+
+impl Edge {
+    /// Goes on to a place.
+    fn go(&mut self, out: &mut String, x: u64) -> Result<(), AllocError> {
+        if x <= self.x {
+            return Ok(());
+        }
+        push_number(out, "V", (RING + BAR).saturating_sub(self.most))?;
+        if self.most != self.last {
+            push_number(out, "H", self.x.saturating_add(1))?;
+            push_number(out, "V", (RING + BAR).saturating_sub(self.last))?;
+        }
+        push_number(out, "H", x)?;
+        self.x = x;
+        self.most = self.last;
+        Ok(())
+    }
+
+    /// Is so high from a place on. Of those that share a pixel the highest is shown there.
+    fn set(
+        &mut self,
+        out: &mut String,
+        shared: bool,
+        x: u64,
+        height: u64,
+    ) -> Result<(), AllocError> {
+        self.go(out, x)?;
+        self.most = if shared {
+            self.most.max(height)
+        } else {
+            height
+        };
+        self.last = height;
+        Ok(())
+    }
+}
+
+/// Returns how many bytes are in use at most.
+fn most_used(fills: &[Fill]) -> usize {
+    let mut most = 0;
+    for fill in fills {
+        most = most.max(fill.used);
+    }
+    most
+}
+
+/// Adds the strip of a ring of so many bytes, of which it shows how many are in use.
+pub(crate) fn write_ring(
+    out: &mut String,
+    part: &Part<'_>,
+    fills: &[Fill],
+    ring: usize,
+) -> Result<(), AllocError> {
+    begin_text(out, 10, RING + 11, "label")?;
+    out.push_str("ring</text>\n")?;
+    begin_text(out, 10, RING + 24, "small")?;
+    push_number(out, "", ring as u64)?;
+    out.push_str(" bytes</text>\n")?;
+    let end = part.x(part.behind());
+    push_number(out, "<rect x=\"", LEFT)?;
+    push_number(out, "\" y=\"", RING)?;
+    push_number(out, "\" width=\"", end.saturating_sub(LEFT))?;
+    push_number(out, "\" height=\"", BAR)?;
+    out.push_str("\" class=\"row\"/>\n")?;
+    push_number(out, "<path class=\"ring\" d=\"M", LEFT)?;
+    push_number(out, " ", RING + BAR)?;
+    let mut edge = Edge {
+        x: LEFT,
+        most: 0,
+        last: 0,
+    };
+    for fill in fills {
+        if fill.entries <= part.behind() {
+            let shared = part.sharing() > 1 && fill.entries >= part.first();
+            edge.set(
+                out,
+                shared,
+                part.x(fill.entries),
+                height_of(fill.used, ring),
+            )?;
+        }
+    }
+    edge.go(out, end)?;
+    push_number(out, "V", RING + BAR)?;
+    push_number(
+        out,
+        "z\"><title>bytes of the ring in use, at most: ",
+        most_used(fills) as u64,
+    )?;
+    push_number(out, " of ", ring as u64)?;
+    out.push_str("</title></path>\n")
+}
