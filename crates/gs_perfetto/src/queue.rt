@@ -1,0 +1,105 @@
+//! What is counted as a trace goes on: the bytes in the ring, and the threads that may run and are on no CPU.
+
+use crate::tracks::{RING, WAITING};
+use gs_journal::Entry;
+use gs_layout::{Change, Message};
+use gs_timeline::push_number;
+use std::alloc::{AllocError, Global};
+
+/// Adds how many bytes of the ring are in use.
+pub(crate) fn write_fill(out: &mut String, place: usize, used: usize) -> Result<(), AllocError> {
+    push_number(out, RING, place as u64)?;
+    push_number(out, ",\"args\":{\"bytes\":", used as u64)?;
+    out.push_str("}}")
+}
+
+/// Which threads may run, and how many of them are on a CPU.
+#[derive(Drop)]
+pub(crate) struct Queue {
+    /// Whether each thread may run, by tid.
+    ready: Vec<bool>,
+    /// How many may.
+    may_run: usize,
+    running: usize,
+    /// How many were shown to wait.
+    shown: usize,
+}
+
+impl Queue {
+    /// Makes the queue of an enclave without threads.
+    pub(crate) fn new(alloc: Global) -> Queue {
+        Queue {
+            ready: Vec::new(alloc),
+            may_run: 0,
+            running: 0,
+            shown: 0,
+        }
+    }
+
+    /// Notes whether a thread may run from now on.
+    fn set(&mut self, tid: u32, ready: bool) {
+        let Some(before) = self.ready.get_mut((tid as usize).saturating_sub(1)) else {
+            return;
+        };
+        match (*before, ready) {
+            (false, true) => self.may_run = self.may_run.saturating_add(1),
+            (true, false) => self.may_run = self.may_run.saturating_sub(1),
+            _ => {}
+        }
+        *before = ready;
+    }
+
+    /// Notes a message about a thread.
+    fn hear_change(&mut self, tid: u32, change: &Change) -> Result<(), AllocError> {
+        let was_on = match change {
+            Change::Dead { cpu } => cpu.is_some(),
+            _ => change.takes_off_cpu(),
+        };
+        if was_on {
+            self.running = self.running.saturating_sub(1);
+        }
+        match change {
+            Change::Created { facts } => {
+                self.ready.push(false)?;
+                self.set(tid, facts.runnable);
+            }
+            Change::Wakeup => self.set(tid, true),
+            Change::Blocked { .. } | Change::Dead { .. } => self.set(tid, false),
+            Change::Preempted { .. } | Change::Yield { .. } | Change::Affinity { .. } => {}
+        }
+        Ok(())
+    }
+
+    /// Notes an entry.
+    pub(crate) fn hear(&mut self, entry: &Entry) -> Result<(), AllocError> {
+        match entry {
+            Entry::Posted {
+                message: Message::Thread { tid, change, .. },
+            } => self.hear_change(*tid, change)?,
+            Entry::Placed { .. } => self.running = self.running.saturating_add(1),
+            Entry::Torn => {
+                self.may_run = 0;
+                self.running = 0;
+            }
+            _ => {}
+        }
+        Ok(())
+    }
+
+    /// Adds how many threads may run and are on no CPU.
+    pub(crate) fn write(&self, out: &mut String, place: usize) -> Result<(), AllocError> {
+        push_number(out, WAITING, place as u64)?;
+        push_number(out, ",\"args\":{\"threads\":", self.shown as u64)?;
+        out.push_str("}}")
+    }
+
+    /// Adds it if it is not what was shown before.
+    pub(crate) fn show(&mut self, out: &mut String, place: usize) -> Result<(), AllocError> {
+        let waiting = self.may_run.saturating_sub(self.running);
+        if waiting == self.shown {
+            return Ok(());
+        }
+        self.shown = waiting;
+        self.write(out, place)
+    }
+}
