@@ -1,0 +1,5 @@
+mod Knowing
+mod Ticking
+mod Ordering
+mod Lasting
+mod WorkedTurns

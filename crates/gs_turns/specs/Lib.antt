@@ -1,0 +1,5 @@
+pub mod Stances
+pub mod Since
+pub mod Knowing
+pub mod Ticked
+pub mod Turns

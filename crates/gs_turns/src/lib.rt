@@ -1,0 +1,13 @@
+//! How long each thread waited for a CPU and how long it had one: the turns of a history, one for each stay.
+#![tactic(auto)]
+
+mod law;
+mod stance;
+mod threads;
+mod ticks;
+mod turn;
+mod walk;
+
+pub use law::since_is_longest;
+pub use turn::Turn;
+pub use walk::turns;

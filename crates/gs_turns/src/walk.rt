@@ -1,0 +1,103 @@
+ghost use Rattle.std.specs.Prelude.{◌≡◌, ◌++◌, ◌<◌, ◌≤◌, ℕ, IfOk, OnOk, Some, length, map, slice_get};
+ghost use Rattle.std.specs.List.{All};
+ghost use Rattle.std.specs.List.Sorted.{IsNonDecreasingBy};
+ghost use Rattle.gs_timeline.specs.declared.stay.Stay.{Stay};
+ghost use Rattle.gs_turns.specs.Knowing.{AreKnown, known};
+ghost use Rattle.gs_turns.specs.Ticked.{tick_places};
+ghost use Rattle.gs_turns.specs.Turns.{IsTurns, all_stays, turn_of};
+
+use crate::stance::Known;
+use crate::threads::Threads;
+use crate::ticks::{Ticks, ticks_of};
+use crate::turn::Turn;
+use gs_journal::Journal;
+use gs_timeline::{Ending, Stay, stays};
+use std::alloc::{AllocError, Global};
+
+/// Returns all stays on so many CPUs, those of each CPU behind those of the one before.
+fn all_stays(alloc: Global, journal: &Journal, cpus: u16) -> Result<Vec<Stay>, AllocError>
+    ensures { IfOk result (λ all. all.items ≡ all_stays journal.now.entries cpus) }
+{
+    let lanes = stays(alloc, journal, cpus)?;
+    let mut all = Vec::new(alloc);
+    for cpu in 0..cpus {
+        all.extend_from_slice(lanes[cpu as usize].stays())?;
+    }
+    Ok(all)
+}
+
+/// Lets what is known of the threads hear the entries from one on and before another.
+fn hear_up_to(
+    threads: &mut Threads,
+    journal: &Journal,
+    from: usize,
+    to: usize,
+) -> Result<(), AllocError>
+    requires order { from ≤ to }
+    requires within { to ≤ length journal.now.entries }
+    requires known { AreKnown journal.now.entries from threads.old }
+    ensures { OnOk result (AreKnown journal.now.entries to threads.new) }
+{
+    for place in from..to {
+        threads.hear(place, &journal.entry(place))?;
+    }
+    Ok(())
+}
+
+/// Returns the turn of a stay, by what is known of its thread behind the entries before it, and by the ticks of its CPU.
+fn turn_of(journal: &Journal, ticks: &Ticks, stay: &Stay, thread: Known) -> Turn
+    requires known { thread ≡ known journal.now.entries stay.now.from stay.now.tid }
+    requires ticks { ticks.now ≡ tick_places journal.now.entries stay.now.cpu (length journal.now.entries) }
+    ensures { result ≡ turn_of journal.now.entries stay.now }
+{
+    let since = thread.since.unwrap_or(stay.from);
+    Turn {
+        stay: *stay,
+        since,
+        class: thread.class,
+        before: thread.cpu,
+        waited_ticks: ticks.between(since, stay.from),
+        ran_ticks: ticks.between(stay.from, stay.to),
+        ending: Ending::of(journal.get(stay.to).as_ref()),
+    }
+}
+
+/// Returns the turn of each of these stays, in their order. It walks the entries once.
+fn turns_of(
+    alloc: Global,
+    journal: &Journal,
+    ticks: &[Ticks],
+    order: &[Stay],
+) -> Result<Vec<Turn>, AllocError>
+    requires rising { IsNonDecreasingBy (λ (s : Stay). s.from) order.now }
+    requires within { All (λ (s : Stay). (s.from ≤ length journal.now.entries) × (s.cpu < length ticks.now)) order.now }
+    requires ticks { (c : ℕ) → c < length ticks.now → slice_get ticks.now c ≡ Some (tick_places journal.now.entries c (length journal.now.entries)) }
+    ensures { IfOk result (λ turns. turns.items ≡ map (turn_of journal.now.entries) order.now) }
+{
+    let mut threads = Threads::new(alloc);
+    let mut place = 0;
+    let mut turns = Vec::with_capacity(alloc, order.len())?;
+    for stay in order {
+        hear_up_to(&mut threads, journal, place, stay.from)?;
+        place = stay.from;
+        let ticks = &ticks[stay.cpu as usize];
+        turns.push(turn_of(journal, ticks, stay, threads.known(stay.tid)))?;
+    }
+    Ok(turns)
+}
+
+/// Returns the turns of all threads on so many CPUs, in order of the entries that began them.
+///
+/// It walks the entries three times, and sorts the turns.
+///
+/// # Errors
+///
+/// `AllocError` if out of memory.
+pub fn turns(alloc: Global, journal: &Journal, cpus: u16) -> Result<Vec<Turn>, AllocError>
+    ensures { IfOk result (λ turns. IsTurns cpus journal.now.entries turns.items) }
+{
+    let ticks = ticks_of(alloc, journal, cpus)?;
+    let mut order = all_stays(alloc, journal, cpus)?;
+    order.sort_by_key(|stay| stay.from)?;
+    turns_of(alloc, journal, &ticks, &order)
+}
