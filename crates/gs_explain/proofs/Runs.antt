@@ -6,7 +6,7 @@ use Rattle.gs_core.specs.declared.event.Event.{Event}
 use Rattle.gs_core.specs.Machine.{State, planned}
 use Rattle.gs_core.specs.Safe.{Run}
 use Rattle.gs_trace.specs.Output.{any_plans}
-use Rattle.gs_explain.specs.Noted.{Noted, noted_after}
+use Rattle.gs_trace.specs.Noted.{Noted, noted_after}
 use Rattle.gs_explain.specs.Explained.{Explains, Line, Show}
 
 pub run_of : (show : Show) (n : Noted) (m : State) (es : List (Event AnyPolicy)) (rs : List Reply) (xs : List Line) (end : State) (out : List ℕ) → Explains show n m es rs xs end out → Run m (map (planned any_plans) es) rs end

@@ -15,9 +15,9 @@ use Rattle.gs_script.specs.Unread.{Opens, Unread, events_unread, said_unread}
 use Rattle.gs_script.proofs.Lines.{with_front_nil}
 use Rattle.gs_script.proofs.Unread.{front_more, front_none}
 use Rattle.gs_trace.specs.declared.run.Ended.TheVariants.{Ran}
-use Rattle.gs_trace.specs.Output.{any_plans}
-use Rattle.gs_explain.specs.Noted.{Noted, noted_after, noted_first}
-use Rattle.gs_explain.specs.Explained.{Explains, IsExplainedOf, Line, Show, row_of}
+use Rattle.gs_trace.specs.Output.{IsAnswerOf, any_plans}
+use Rattle.gs_trace.specs.Noted.{Noted, noted_after, noted_first}
+use Rattle.gs_explain.specs.Explained.{Explains, Line, Show, TellsOf, row_of}
 use Rattle.gs_explain.specs.Telling.{ExplainsOne, IsToldAll, ToldSoFar, ToldUpTo}
 
 pub none_told : (show : Show) (n : Noted) (m : State) (script : Result (List (Event AnyPolicy)) ScriptFault) (says : List Line) → ToldUpTo show n m script script says says n m []
@@ -73,8 +73,8 @@ all_told show n m script left says others noted now out t none_left no_others =
 
 -- what was told of the lines behind the header's explains the script
 pub explained_of : (show : Show) (script : Result Script ScriptFault) (shown : List Line) (c : Config AnyPolicy) (header : ℕ) (behind : Unread) (m end : State) (out : List ℕ)
-    → Opens script shown c header behind → m ≡ planning any_plans (start c) → IsToldAll show (noted_first header) m (events_unread behind) (said_unread behind) end out → IsExplainedOf show shown script Ran out
+    → Opens script shown c header behind → m ≡ planning any_plans (start c) → IsToldAll show (noted_first header) m (events_unread behind) (said_unread behind) end out → IsAnswerOf (TellsOf show shown) script Ran out
 explained_of show script shown c header behind m end out opened begun t =
-    subst (λ (s : Result Script ScriptFault). IsExplainedOf show shown s Ran out) (sym (opened.is ∙ ap (with_config c) t.is))
-    (subst (λ (xs : List Line). IsExplainedOf show xs (Ok (record { config = c; events = t.events })) Ran out) (sym opened.says)
+    subst (λ (s : Result Script ScriptFault). IsAnswerOf (TellsOf show shown) s Ran out) (sym (opened.is ∙ ap (with_config c) t.is))
+    (subst (λ (xs : List Line). IsAnswerOf (TellsOf show xs) (Ok (record { config = c; events = t.events })) Ran out) (sym opened.says)
     (refl, record { replies = t.replies; left = end; explains = subst (λ (n : State). Explains show (noted_first header) n t.events t.replies (said_unread behind) end out) begun t.explains; sufficed = t.sufficed }))

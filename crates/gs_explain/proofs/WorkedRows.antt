@@ -25,7 +25,7 @@ use Rattle.gs_lines.specs.Lines.{line}
 use Rattle.gs_reasons.specs.Place.{last_place}
 use Rattle.gs_sentences.specs.Words.{said}
 use Rattle.gs_explain.specs.Moment.{Moment}
-use Rattle.gs_explain.specs.Noted.{filled, page_after}
+use Rattle.gs_trace.specs.Noted.{filled, page_after}
 use Rattle.gs_explain.specs.Rows.{row}
 
 abbrev facts : Facts

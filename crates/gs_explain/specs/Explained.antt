@@ -1,5 +1,5 @@
 -- A script, explained.
-use Rattle.std.specs.Prelude.{◌≡◌, ℕ, List, [], ◌∷◌, ◌++◌, false, length, Result, Ok, Err}
+use Rattle.std.specs.Prelude.{◌≡◌, ℕ, List, [], ◌∷◌, ◌++◌, false, length}
 use Rattle.std.specs.List.{list_any}
 use Rattle.gs_policy.specs.declared.any.AnyPolicy.{AnyPolicy}
 use Rattle.gs_replies.specs.declared.reply.Reply.{Reply}
@@ -7,13 +7,11 @@ use Rattle.gs_core.specs.declared.event.Event.{Event}
 use Rattle.gs_core.specs.Machine.{State, Step, planned, planning, start}
 use Rattle.gs_core.specs.Safe.{Safe, IsFaithful}
 use Rattle.gs_core.specs.Short.{wants_memory}
-use Rattle.gs_script.specs.declared.fault.ScriptFault.{ScriptFault}
 use Rattle.gs_script.specs.Said.{said_in}
-use Rattle.gs_script.specs.Script.{Script, script_of}
+use Rattle.gs_script.specs.Script.{Script}
 use Rattle.gs_trace.specs.declared.run.Ended.{Ended}
-use Rattle.gs_trace.specs.declared.run.Ended.TheVariants.{Ran, Faulted}
-use Rattle.gs_trace.specs.Output.{any_plans, fault_line}
-use Rattle.gs_explain.specs.Noted.{Noted, noted_after, noted_first}
+use Rattle.gs_trace.specs.Output.{IsAnswer, any_plans}
+use Rattle.gs_trace.specs.Noted.{Noted, noted_after, noted_first}
 use Rattle.gs_explain.specs.declared.run.Explanation.{Explanation}
 use Rattle.gs_explain.specs.declared.run.Explanation.TheVariants.{Lines, Json}
 use Rattle.gs_explain.specs.Moment.{Moment, moment}
@@ -58,10 +56,10 @@ abbrev pub TellsOf : Show → List Line → Script → List ℕ → Type 0
 TellsOf show [] s out = ⊥
 TellsOf show (x ∷ xs) s out = Tells show x xs s out
 
-abbrev pub IsExplainedOf : Show → List Line → Result Script ScriptFault → Ended → List ℕ → Type 0
-IsExplainedOf show xs (Ok s) ended out = (ended ≡ Ran) × TellsOf show xs s out
-IsExplainedOf show xs (Err f) ended out = (ended ≡ Faulted) × (out ≡ fault_line f)
+-- these bytes explain the script that an input says
+abbrev pub Told : Explanation → List ℕ → Script → List ℕ → Type 0
+Told how input s out = TellsOf (shown_by how) (said_in input) s out
 
 -- what is to be written for an input, and how that ends
 abbrev pub IsExplained : Explanation → List ℕ → Ended → List ℕ → Type 0
-IsExplained how input ended out = IsExplainedOf (shown_by how) (said_in input) (script_of input) ended out
+IsExplained how input ended out = IsAnswer (Told how) input ended out

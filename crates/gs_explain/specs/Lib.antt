@@ -1,4 +1,3 @@
-pub mod Noted
 pub mod Moment
 pub mod Landings
 pub mod Marked

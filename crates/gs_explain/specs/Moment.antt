@@ -19,7 +19,7 @@ use Rattle.gs_trace.specs.Output.{any_plans}
 use Rattle.gs_sentences.specs.Told.{Cause}
 use Rattle.gs_sentences.specs.declared.landed.Overflow.{Overflow}
 use Rattle.gs_explain.specs.declared.moment.Scene.{Scene}
-use Rattle.gs_explain.specs.Noted.{Noted}
+use Rattle.gs_trace.specs.Noted.{Noted}
 
 -- the lines that were noted, this event's too, the event, and the machine that it left, with what did not fit if it tore that down
 pub record Moment : Type 0 where

@@ -12,14 +12,9 @@ use Rattle.gs_reasons.specs.Kept.{HasHeard}
 use Rattle.gs_script.specs.declared.fault.ScriptFault.{ScriptFault}
 use Rattle.gs_script.specs.Unread.{with_front}
 use Rattle.gs_trace.specs.Output.{any_plans}
-use Rattle.gs_explain.specs.declared.noted.Lines.{Lines}
-use Rattle.gs_explain.specs.Noted.{Noted, noted_after}
+use Rattle.gs_trace.specs.Noted.{Noted, noted_after}
 use Rattle.gs_explain.specs.Marked.{IsMarked}
 use Rattle.gs_explain.specs.Explained.{Explains, Line, Show, row_of}
-
--- the lines that were noted
-abbrev pub noted_of : Lines → Noted
-noted_of l = record { lines = l.entries.items; stamped = l.stamped.items; page = l.page }
 
 -- one event of a line happened and was explained: the reply does not tell that memory ran out, the lines are noted, and an index heard what was added
 pub record ExplainsOne (show : Show) (n : Noted) (m : State) (x : Line) (e : Event AnyPolicy) (next : State) (noted : Noted) (index : Index) (marks : List (Option ℕ)) (old new : List ℕ) : Type 0 where

@@ -16,7 +16,7 @@ ghost use Rattle.gs_kernel.specs.declared.command.Command.{Command};
 ghost use Rattle.gs_reasons.specs.ExplainsRefusal.{ExplainsRefusal, FindsFree};
 ghost use Rattle.gs_explain.specs.Commands.{command_of};
 ghost use Rattle.gs_explain.specs.Refusals.{refusal_sign};
-ghost use Rattle.gs_explain.specs.Noted.{Noted};
+ghost use Rattle.gs_trace.specs.Noted.{Noted};
 ghost use Rattle.gs_explain.specs.Explained.{Explains, Line, Show};
 ghost use Rattle.gs_explain.specs.Met.{AreJudged};
 

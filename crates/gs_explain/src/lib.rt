@@ -8,7 +8,6 @@ mod landings;
 mod law;
 mod marking;
 mod moment;
-mod noted;
 mod objects;
 mod overflow;
 mod page;

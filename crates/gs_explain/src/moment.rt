@@ -1,8 +1,8 @@
-use crate::noted::Lines;
 use gs_core::{Event, Machine, Transaction};
 use gs_journal::Journal;
 use gs_policy::AnyPolicy;
 use gs_reasons::Marks;
+use gs_trace::Lines;
 
 /// What is at hand about an event that happened.
 #[derive(Clone, Copy)]

@@ -1,8 +1,9 @@
 ghost use Rattle.std.specs.Prelude.{◌≡◌, ◌≢◌, [], IfOk, IfErr, IsErrOf};
 ghost use Rattle.std.specs.Io.KnownBytes.{Keeps};
 ghost use Rattle.gs_trace.specs.declared.run.Ended.TheVariants.{Ran};
+ghost use Rattle.gs_trace.specs.Output.{IsAnswerOf};
 ghost use Rattle.gs_trace.specs.Streams.{AnswersAll, AnswersOf, BeginsAnswer, ConsumesAtMost};
-ghost use Rattle.gs_explain.specs.Explained.{IsExplained, IsExplainedOf};
+ghost use Rattle.gs_explain.specs.Explained.{IsExplained, TellsOf, Told};
 ghost use Rattle.gs_script.specs.Held.{Faults};
 ghost use Rattle.gs_script.specs.Said.{said_in};
 ghost use Rattle.gs_script.specs.Script.{script_of};
@@ -13,10 +14,8 @@ use crate::teller::Teller;
 use crate::telling::explain_all;
 use gs_core::Machine;
 use gs_script::{Opened, ScriptError, open_script};
-use gs_trace::{
-    Ended, InputError, Kept, MOST_READ_BYTES, TraceFault, fault_text, read_all, write_out,
-};
-use std::alloc::{AllocError, Global};
+use gs_trace::{Answering, Kept, MOST_READ_BYTES, TraceFault, answer_script};
+use std::alloc::Global;
 use std::io::{Read, Write};
 
 /// How what explains a script is written.
@@ -28,17 +27,10 @@ pub enum Explanation {
     Json,
 }
 
-/// What is to be written.
-#[derive(Drop)]
-struct Answer {
-    ended: Ended,
-    bytes: Vec<u8>,
-}
-
 /// Has what explains the script told that an input says. It fails with the script's first fault, or out of memory.
 fn told<T: Teller>(alloc: Global, input: &[u8], teller: T) -> Result<T, ScriptError>
     requires { T.bytes teller ≡ [] }
-    ensures told { IfOk result (λ told. IsExplainedOf T.show (said_in input.now) (script_of input.now) Ran (T.bytes told)) }
+    ensures told { IfOk result (λ told. IsAnswerOf (TellsOf T.show (said_in input.now)) (script_of input.now) Ran (T.bytes told)) }
     ensures fault { IfErr result (λ e. Faults e (script_of input.now)) }
 {
     let Opened {
@@ -64,20 +56,12 @@ fn explained(alloc: Global, how: Explanation, input: &[u8]) -> Result<Vec<u8>, S
     }
 }
 
-/// Returns what is to be written for an input. It fails only if out of memory.
-fn answer_to(alloc: Global, how: Explanation, input: &[u8]) -> Result<Answer, AllocError>
-    ensures { IfOk result (λ answer. IsExplained how input.now answer.ended answer.bytes.items) }
-{
-    match explained(alloc, how, input) {
-        Ok(bytes) => Ok(Answer {
-            ended: Ended::Ran,
-            bytes,
-        }),
-        Err(ScriptError::OutOfMemory) => Err(AllocError),
-        Err(ScriptError::Fault(fault)) => Ok(Answer {
-            ended: Ended::Faulted,
-            bytes: fault_text(alloc, fault)?.into_bytes(),
-        }),
+/// What explains a script, written so.
+impl Answering for Explanation {
+    ghost shows = { Told };
+
+    fn answer(&self, alloc: Global, input: &[u8]) -> Result<Vec<u8>, ScriptError> {
+        explained(alloc, *self, input)
     }
 }
 
@@ -106,14 +90,5 @@ pub fn explain_script<R: Read, W: Write>(
     ensures unwritten { IfErr result (λ e. e ≢ TraceFault.WriteFailed → Keeps (W.contents writer.old) (W.contents writer.new)) }
     ensures begun { IsErrOf result TraceFault.WriteFailed → BeginsAnswer (IsExplained how) (R.remaining reader.old) (W.contents writer.old) (W.contents writer.new) }
 {
-    let input = match read_all(alloc, reader) {
-        Ok(input) => input,
-        Err(InputError::Failed) => return Err(TraceFault::ReadFailed),
-        Err(InputError::OutOfMemory) => return Err(TraceFault::OutOfMemory),
-    };
-    let Answer { ended, bytes } = answer_to(alloc, how, &input)?;
-    match write_out(writer, &bytes) {
-        Ok(()) => Ok(Kept { ended, input }),
-        Err(_) => Err(TraceFault::WriteFailed),
-    }
+    answer_script(alloc, reader, writer, &how)
 }

@@ -8,19 +8,20 @@ ghost use Rattle.gs_script.specs.Unread.{events_unread, said_line, said_unread};
 ghost use Rattle.gs_script.specs.Words.{is_text};
 ghost use Rattle.gs_trace.specs.Output.{any_plans};
 ghost use Rattle.gs_explain.specs.Marked.{IsMarked};
-ghost use Rattle.gs_explain.specs.Noted.{noted_first};
-ghost use Rattle.gs_explain.specs.Telling.{ExplainsOne, IsToldAll, noted_of};
+ghost use Rattle.gs_trace.specs.Noted.{noted_first};
+ghost use Rattle.gs_trace.specs.NotedLines.{noted_of};
+ghost use Rattle.gs_explain.specs.Telling.{ExplainsOne, IsToldAll};
 
 use crate::hearing::hear_all;
 use crate::marking::mark_last;
 use crate::moment::Scene;
-use crate::noted::Lines;
 use crate::teller::Teller;
 use gs_core::{Event, Machine, is_short, is_short_command};
 use gs_kernel::Command;
 use gs_policy::AnyPolicy;
 use gs_reasons::{Index, Marks};
 use gs_script::{Reading, SaidLine, ScriptError};
+use gs_trace::Lines;
 use std::alloc::{AllocError, Global};
 use std::slice;
 
@@ -51,13 +52,7 @@ fn explain_command<T: Teller>(
     let transactions = machine.transactions();
     mark_last(last, transactions, stamped)?;
     let latest = machine.kernel().last();
-    lines.note_command(
-        said.number,
-        came,
-        &latest,
-        journal.len(),
-        transactions.len(),
-    )?;
+    lines.note_command(said.number, came, latest, journal.len(), transactions.len())?;
     let scene = Scene {
         noted: lines,
         event,
@@ -66,7 +61,7 @@ fn explain_command<T: Teller>(
         transactions,
         last,
     };
-    out.command_row(said, &scene, index, first, came, &latest)
+    out.command_row(said, &scene, index, first, came, latest)
 }
 
 /// Lets an event happen that is no command, and adds what explains it, as [`explain_one`] does.

@@ -18,7 +18,7 @@ use Rattle.gs_script.specs.Script.{Script, with_config, with_event}
 use Rattle.gs_script.proofs.Lines.{with_front_nil}
 use Rattle.gs_script.proofs.Unread.{front_more, front_none}
 use Rattle.gs_trace.specs.declared.run.Ended.TheVariants.{Ran}
-use Rattle.gs_trace.specs.Output.{IsShownOf, any_plans}
+use Rattle.gs_trace.specs.Output.{Answers, IsAnswerOf, any_plans}
 use Rattle.gs_trace.specs.Adding.{AddedSoFar, AddedUpTo, AddsOne, ShowsRun}
 
 pub none_added : {T : Type 0} (Has : T → List Reply → Type 0) (m : State) (script : Result (List (Event AnyPolicy)) ScriptFault) (sink : T) → Has sink [] → AddedUpTo Has m script script m sink
@@ -70,9 +70,9 @@ all_added Has Shows m script end sink out t shows =
 
 -- what shows a run of the events behind a header shows the script
 pub shown_of : (Shows : List Reply → ℕ → History → List ℕ → Type 0) (script : Result Script ScriptFault) (c : Config AnyPolicy) (behind : Result (List (Event AnyPolicy)) ScriptFault) (m end : State) (out : List ℕ)
-    → script ≡ with_config c behind → m ≡ planning any_plans (start c) → ShowsRun Shows m behind end out → IsShownOf Shows script Ran out
+    → script ≡ with_config c behind → m ≡ planning any_plans (start c) → ShowsRun Shows m behind end out → IsAnswerOf (Answers Shows) script Ran out
 shown_of Shows script c behind m end out is begun t =
-    subst (λ (s : Result Script ScriptFault). IsShownOf Shows s Ran out) (sym (is ∙ ap (with_config c) t.is)) (
+    subst (λ (s : Result Script ScriptFault). IsAnswerOf (Answers Shows) s Ran out) (sym (is ∙ ap (with_config c) t.is)) (
       refl,
       record { replies = t.replies; left = end; run = subst (λ (n : State). Run n (map (planned any_plans) t.events) t.replies end) begun t.run; sufficed = t.sufficed; shown = t.shown },
     )

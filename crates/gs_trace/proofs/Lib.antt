@@ -4,3 +4,5 @@ mod One
 mod Adding
 mod WorkedRuns
 mod Corners
+pub mod NotedParts
+mod Telling

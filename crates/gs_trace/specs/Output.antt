@@ -19,8 +19,12 @@ use Rattle.gs_report.specs.Report.{report_of}
 use Rattle.gs_history.specs.Journal.{journal_lines}
 use Rattle.gs_history.specs.Json.{json_lines}
 use Rattle.gs_journal.specs.History.{History}
+use Rattle.std.specs.List.Sorted.{IsPermutation}
+use Rattle.gs_timeline.specs.declared.stay.Stay.{Stay}
+use Rattle.gs_perfetto.specs.Events.{slice_front}
+use Rattle.gs_perfetto.specs.Slices.{HasEach, all_stays}
 use Rattle.gs_trace.specs.declared.form.Form.{Form}
-use Rattle.gs_trace.specs.declared.form.Form.TheVariants.{Lines, Report, Journal, Timeline}
+use Rattle.gs_trace.specs.declared.form.Form.TheVariants.{Lines, Report, Journal, Timeline, Trace}
 use Rattle.gs_trace.specs.declared.form.Notation.{Notation}
 use Rattle.gs_trace.specs.declared.form.Notation.TheVariants as notations
 
@@ -57,26 +61,37 @@ pub record Answers (Shows : List Reply → ℕ → History → List ℕ → Type
   pub sufficed : list_any wants_memory replies ≡ false
   pub shown : Shows replies left.settings.cpus left.history out
 
-abbrev pub IsShownOf : (List Reply → ℕ → History → List ℕ → Type 0) → Result Script ScriptFault → Ended → List ℕ → Type 0
-IsShownOf Shows (Ok s) ended out = (ended ≡ Ran) × Answers Shows s out
-IsShownOf Shows (Err f) ended out = (ended ≡ Faulted) × (out ≡ fault_line f)
+-- what is to be written for a script, and how that ends: bytes that show it, or the line of its fault
+abbrev pub IsAnswerOf : (Script → List ℕ → Type 0) → Result Script ScriptFault → Ended → List ℕ → Type 0
+IsAnswerOf Shows (Ok s) ended out = (ended ≡ Ran) × Shows s out
+IsAnswerOf Shows (Err f) ended out = (ended ≡ Faulted) × (out ≡ fault_line f)
 
--- what is to be written for an input if what came of it is shown so, and how that ends
+-- what is to be written for an input if bytes show the script that it says so, and how that ends
+abbrev pub IsAnswer : (List ℕ → Script → List ℕ → Type 0) → List ℕ → Ended → List ℕ → Type 0
+IsAnswer Shows input ended out = IsAnswerOf (Shows input) (script_of input) ended out
+
+-- and if what came of it is shown so
 abbrev pub IsShown : (List Reply → ℕ → History → List ℕ → Type 0) → List ℕ → Ended → List ℕ → Type 0
-IsShown Shows input ended out = IsShownOf Shows (script_of input) ended out
+IsShown Shows input ended out = IsAnswerOf (Answers Shows) (script_of input) ended out
 
 -- the text of a history, in either notation
 abbrev pub history_shown : Notation → History → List ℕ
 history_shown notations.Lines h = journal_lines h
 history_shown notations.Json h = json_lines h
 
+-- a trace of a history: each stay of a thread on a CPU is a slice, in the order in which a list of all of them has them
+abbrev pub IsTrace : ℕ → History → List ℕ → Type 0
+IsTrace cpus h out = (slices : List Stay) × IsPermutation (all_stays h cpus) slices × HasEach (map slice_front slices) out
+
 -- which texts show what came of a script: the lines of its replies, a report with so many of the last of these, or the journal of all
--- that happened, the last event's entries too, and nothing else. Of a picture nothing is said here
+-- that happened, the last event's entries too, and nothing else. Of a picture nothing is said here, and of a trace
+-- that it has each stay
 abbrev pub shown_as : Form → List Reply → ℕ → History → List ℕ → Type 0
 shown_as Lines replies cpus h out = out ≡ lines replies
 shown_as (Report last) replies cpus h out = out ≡ report_of last replies
 shown_as (Journal notation) replies cpus h out = out ≡ history_shown notation h
-shown_as (Timeline from to) replies cpus h out = ⊤
+shown_as (Timeline from to listed) replies cpus h out = ⊤
+shown_as Trace replies cpus h out = IsTrace cpus h out
 
 -- what is to be written for an input: the lines of its replies
 abbrev pub IsOutput : List ℕ → Ended → List ℕ → Type 0

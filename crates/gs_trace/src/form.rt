@@ -6,14 +6,16 @@ ghost use Rattle.gs_trace.specs.Output.{any_plans, history_shown, shown_as};
 ghost use Rattle.gs_trace.specs.Adding.{ShowsRun};
 
 use crate::running::{Nothing, run_into};
+use crate::watching::run_watched;
 use gs_core::Machine;
 use gs_history::{journal_text, json_text};
 use gs_journal::Journal;
 use gs_lines::Text;
+use gs_perfetto::trace_events;
 use gs_policy::AnyPolicy;
 use gs_report::Report;
 use gs_script::{Reading, ScriptError};
-use gs_timeline::picture;
+use gs_timeline::{Listed, picture};
 use std::alloc::{AllocError, Global};
 
 /// How a journal is written.
@@ -44,7 +46,11 @@ pub enum Form {
         from: usize,
         /// That of the last one.
         to: usize,
+        /// Which threads have a line of their own below the rows.
+        listed: Listed,
     },
+    /// A trace in the Chrome trace event format, which is JSON.
+    Trace,
 }
 
 /// Returns the journal in this notation.
@@ -99,30 +105,54 @@ fn show_history(
     Ok(bytes)
 }
 
-/// Runs a script's events, and returns a picture of the entries from one place in the journal on to another.
+/// Runs a script's events, and returns a picture of the entries from one place in the journal on to another, which lists
+/// these threads. The header's line is given.
 fn show_picture(
     alloc: Global,
     from: usize,
     to: usize,
+    listed: Listed,
     machine: &mut Machine<AnyPolicy>,
+    header: usize,
     script: Reading<'_>,
 ) -> Result<Vec<u8>, ScriptError>
-    ensures shown { IfOk result (λ bytes. ShowsRun (shown_as (Form.Timeline from to)) (planning any_plans machine.old) (events_unread script.entry) (planning any_plans machine.new) bytes.items) }
+    ensures shown { IfOk result (λ bytes. ShowsRun (shown_as (Form.Timeline from to listed)) (planning any_plans machine.old) (events_unread script.entry) (planning any_plans machine.new) bytes.items) }
     ensures fault { IfErr result (λ e. Faults e (events_unread script.entry)) }
 {
-    run_into(alloc, machine, script, Nothing)?;
+    let noting = run_watched(alloc, machine, header, script)?;
     let kernel = machine.kernel();
     let cpus = kernel.settings().cpus;
-    let text = picture(alloc, cpus, kernel.journal(), from, to)?;
+    let notes = noting.notes(kernel.poster().capacity());
+    let text = picture(alloc, cpus, kernel.journal(), &notes, from, to, listed)?;
+    Ok(text.into_bytes())
+}
+
+/// Runs a script's events, and returns a trace of all that happened. The header's line is given.
+fn show_trace(
+    alloc: Global,
+    machine: &mut Machine<AnyPolicy>,
+    header: usize,
+    script: Reading<'_>,
+) -> Result<Vec<u8>, ScriptError>
+    ensures shown { IfOk result (λ bytes. ShowsRun (shown_as Form.Trace) (planning any_plans machine.old) (events_unread script.entry) (planning any_plans machine.new) bytes.items) }
+    ensures fault { IfErr result (λ e. Faults e (events_unread script.entry)) }
+{
+    let noting = run_watched(alloc, machine, header, script)?;
+    let kernel = machine.kernel();
+    let cpus = kernel.settings().cpus;
+    let notes = noting.notes(kernel.poster().capacity());
+    let text = trace_events(alloc, cpus, kernel.journal(), notes)?;
     Ok(text.into_bytes())
 }
 
 /// Runs a script's events, and shows what came of them in this form: their replies, and the machine that they leave. It
-/// fails with the first fault of their lines, or out of memory, also if a reply tells of that.
+/// fails with the first fault of their lines, or out of memory, also if a reply tells of that. The header's line is
+/// given.
 pub(crate) fn show(
     alloc: Global,
     form: Form,
     machine: &mut Machine<AnyPolicy>,
+    header: usize,
     script: Reading<'_>,
 ) -> Result<Vec<u8>, ScriptError>
     ensures shown { IfOk result (λ bytes. ShowsRun (shown_as form) (planning any_plans machine.old) (events_unread script.entry) (planning any_plans machine.new) bytes.items) }
@@ -132,6 +162,9 @@ pub(crate) fn show(
         Form::Lines => show_lines(alloc, machine, script),
         Form::Report { last } => show_report(alloc, last, machine, script),
         Form::Journal(notation) => show_history(alloc, notation, machine, script),
-        Form::Timeline { from, to } => show_picture(alloc, from, to, machine, script),
+        Form::Timeline { from, to, listed } => {
+            show_picture(alloc, from, to, listed, machine, header, script)
+        }
+        Form::Trace => show_trace(alloc, machine, header, script),
     }
 }

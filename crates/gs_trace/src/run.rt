@@ -2,13 +2,14 @@ ghost use Rattle.std.specs.Prelude.{◌≡◌, ◌≢◌, IfOk, IfErr, IsErrOf, 
 ghost use Rattle.std.specs.Io.KnownBytes.{Keeps};
 ghost use Rattle.gs_trace.specs.declared.run.Ended.TheVariants.{Ran};
 ghost use Rattle.gs_trace.specs.declared.run.TraceFault.TheVariants.{OutOfMemory};
-ghost use Rattle.gs_trace.specs.Output.{IsOutput, IsReport, IsShown, fault_line, reason_text, shown_as};
+ghost use Rattle.gs_trace.specs.Output.{Answers, IsOutput, IsReport, IsShown, fault_line, reason_text, shown_as};
 ghost use Rattle.gs_script.specs.Held.{Faults};
 ghost use Rattle.gs_script.specs.Script.{script_of};
 ghost use Rattle.gs_trace.specs.Streams.{AnswersAll, AnswersOf, AnswersRead, BeginsAnswer, ConsumesAtMost};
 
+use crate::answering::{Answering, answer_script};
 use crate::form::{Form, show};
-use crate::pipe::{InputError, MOST_READ_BYTES, read_all, write_out};
+use crate::pipe::MOST_READ_BYTES;
 use gs_core::Machine;
 use gs_script::{Opened, Reason, ScriptError, ScriptFault, open_script};
 use std::alloc::{AllocError, Global};
@@ -53,13 +54,6 @@ pub struct Kept {
     pub input: Vec<u8>,
 }
 
-/// What is to be written.
-#[derive(Drop)]
-struct Answer {
-    ended: Ended,
-    bytes: Vec<u8>,
-}
-
 /// The name of a reason.
 fn reason_name(reason: Reason) -> &'static str
     ensures { result.now ≡ reason_text reason }
@@ -94,30 +88,22 @@ fn run_input(alloc: Global, input: &[u8], form: Form) -> Result<Vec<u8>, ScriptE
 {
     let Opened {
         config,
-        header: _,
+        header,
         reading,
     } = open_script(alloc, input)?;
     // (a configuration that was read can be opened, unless out of memory)
     let Ok(mut machine) = Machine::new(alloc, config) else {
         return Err(ScriptError::OutOfMemory);
     };
-    show(alloc, form, &mut machine, reading)
+    show(alloc, form, &mut machine, header, reading)
 }
 
-/// Returns what is to be written for an input, in this form. It fails only if out of memory.
-fn answer_to(alloc: Global, input: &[u8], form: Form) -> Result<Answer, AllocError>
-    ensures { IfOk result (λ answer. IsShown (shown_as form) input.now answer.ended answer.bytes.items) }
-{
-    match run_input(alloc, input, form) {
-        Ok(bytes) => Ok(Answer {
-            ended: Ended::Ran,
-            bytes,
-        }),
-        Err(ScriptError::OutOfMemory) => Err(AllocError),
-        Err(ScriptError::Fault(fault)) => Ok(Answer {
-            ended: Ended::Faulted,
-            bytes: fault_text(alloc, fault)?.into_bytes(),
-        }),
+/// What came of a script, shown in a form.
+impl Answering for Form {
+    ghost shows = { λ form input. Answers (shown_as form) };
+
+    fn answer(&self, alloc: Global, input: &[u8]) -> Result<Vec<u8>, ScriptError> {
+        run_input(alloc, input, *self)
     }
 }
 
@@ -210,14 +196,5 @@ pub fn run_and_keep<R: Read, W: Write>(
     ensures unwritten { IfErr result (λ e. e ≢ TraceFault.WriteFailed → Keeps (W.contents writer.old) (W.contents writer.new)) }
     ensures begun { IsErrOf result TraceFault.WriteFailed → BeginsAnswer (IsShown (shown_as form)) (R.remaining reader.old) (W.contents writer.old) (W.contents writer.new) }
 {
-    let input = match read_all(alloc, reader) {
-        Ok(input) => input,
-        Err(InputError::Failed) => return Err(TraceFault::ReadFailed),
-        Err(InputError::OutOfMemory) => return Err(TraceFault::OutOfMemory),
-    };
-    let Answer { ended, bytes } = answer_to(alloc, &input, form)?;
-    match write_out(writer, &bytes) {
-        Ok(()) => Ok(Kept { ended, input }),
-        Err(_) => Err(TraceFault::WriteFailed),
-    }
+    answer_script(alloc, reader, writer, &form)
 }

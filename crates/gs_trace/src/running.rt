@@ -117,7 +117,7 @@ fn run_one<S: Sink>(
 {
     if let Event::Kernel { command } = event {
         let came = machine.command(command);
-        return add_to(sink, Came::Executed(came, &machine.kernel().last()));
+        return add_to(sink, Came::Executed(came, machine.kernel().last()));
     }
     let reply = machine.step(event);
     add_to(sink, Came::Replied(&reply))

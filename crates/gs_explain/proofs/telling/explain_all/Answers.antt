@@ -7,8 +7,9 @@ use Rattle.gs_reasons.specs.Kept.{HasHeard}
 use Rattle.gs_explain.specs.Marked.{IsMarked}
 use Rattle.gs_script.specs.Unread.{ReadsNext, ReadsNone, events_unread, said_line, said_unread}
 use Rattle.gs_trace.specs.Output.{any_plans}
-use Rattle.gs_explain.specs.Noted.{Noted, noted_first}
-use Rattle.gs_explain.specs.Telling.{ExplainsOne, ToldUpTo, noted_of}
+use Rattle.gs_trace.specs.Noted.{Noted, noted_first}
+use Rattle.gs_trace.specs.NotedLines.{noted_of}
+use Rattle.gs_explain.specs.Telling.{ExplainsOne, ToldUpTo}
 use Rattle.gs_explain.proofs.Lasting.{none_marked}
 use Rattle.gs_explain.proofs.Told.{all_told, none_told, one_told}
 use Rattle.gs_explain.proofs.telling.explain_all.Goals as goal

@@ -4,8 +4,9 @@ use Rattle.gs_reasons.specs.Kept.{HasHeard}
 use Rattle.gs_script.specs.Unread.{events_unread, said_unread}
 use Rattle.gs_trace.specs.Output.{any_plans}
 use Rattle.gs_explain.specs.Marked.{IsMarked}
-use Rattle.gs_explain.specs.Noted.{noted_first}
-use Rattle.gs_explain.specs.Telling.{ToldUpTo, noted_of}
+use Rattle.gs_trace.specs.Noted.{noted_first}
+use Rattle.gs_trace.specs.NotedLines.{noted_of}
+use Rattle.gs_explain.specs.Telling.{ToldUpTo}
 use Rattle.gs_explain.proofs.telling.explain_all.Given as goal
 
 abbrev pub invariant-events : goal.invariant-events

@@ -12,10 +12,11 @@ use Rattle.gs_script.specs.Unread.{said_line}
 use Rattle.gs_trace.specs.Output.{any_plans}
 use Rattle.gs_explain.specs.Marked.{IsMarked}
 use Rattle.gs_explain.specs.Moment.{Moment, moment}
-use Rattle.gs_explain.specs.Noted.{Noted, filled, noted_after}
-use Rattle.gs_explain.specs.Telling.{noted_of}
+use Rattle.gs_trace.specs.Noted.{Noted, filled, noted_after}
+use Rattle.gs_trace.specs.NotedLines.{noted_of}
 use Rattle.gs_explain.proofs.Grown.{stamps_kept, stamps_longer, step_keeps, step_longer}
-use Rattle.gs_explain.proofs.Moments.{both_ok, made, moment_is, noted, noted_is}
+use Rattle.gs_trace.proofs.NotedParts.{noted, noted_is}
+use Rattle.gs_explain.proofs.Moments.{both_ok, made, moment_is}
 use Rattle.gs_explain.proofs.telling.explain_command.Goals as goal
 
 pub command_row-requires-clause-within : goal.command_row-requires-clause-within
@@ -58,8 +59,8 @@ returns g c =
     let next = planning any_plans c.command-came.new.self in
     let e = c.args.event.now in
     let came = c.command-came.result in
-    let latest : c.last-latest.result ≡ last_entry next.history = c.last-latest.ensures ∙ ap last_entry c.kernel-3.ensures.history in
-    let r : Reply = reply_of came c.last-latest.result in
+    let latest : c.last-latest.result.now ≡ last_entry next.history = c.last-latest.ensures ∙ ap last_entry c.kernel-3.ensures.history in
+    let r : Reply = reply_of came c.last-latest.result.now in
     let x = said_line c.args.said.now in
     let n : Noted = noted_of c.args.lines.now in
     let after : Noted = noted_after x.0 r next n in
@@ -79,7 +80,7 @@ returns g c =
           (subst (λ (ev : Event AnyPolicy). Step m (planned any_plans ev) (reply_of came (last_entry next.history)) next) (sym c.requires.given) c.command-came.ensures.step);
       safe = c.command-came.ensures.safe;
       faithful = c.command-came.ensures.faithful;
-      sufficed = ap (λ (b : Bool). b || false) (sym (c.is_short_command.ensures c.last-latest.result) ∙ c.if-is_short_command.false);
+      sufficed = ap (λ (b : Bool). b || false) (sym (c.is_short_command.ensures c.last-latest.result.now) ∙ c.if-is_short_command.false);
       lines = lines;
       heard = subst (HasHeard c.command_row.new.index) entries heard;
       marked = subst (IsMarked c.mark_last.new.last.places.items) transactions c.in_ok-mark_last.ensures;

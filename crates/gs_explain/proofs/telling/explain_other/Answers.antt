@@ -8,10 +8,11 @@ use Rattle.gs_script.specs.Unread.{said_line}
 use Rattle.gs_trace.specs.Output.{any_plans}
 use Rattle.gs_explain.specs.Marked.{IsMarked}
 use Rattle.gs_explain.specs.Moment.{Moment, moment}
-use Rattle.gs_explain.specs.Noted.{Noted, filled, noted_after}
-use Rattle.gs_explain.specs.Telling.{noted_of}
+use Rattle.gs_trace.specs.Noted.{Noted, filled, noted_after}
+use Rattle.gs_trace.specs.NotedLines.{noted_of}
 use Rattle.gs_explain.proofs.Grown.{stamps_kept, stamps_longer, step_keeps, step_longer}
-use Rattle.gs_explain.proofs.Moments.{both_ok, made, moment_is, noted, noted_is}
+use Rattle.gs_trace.proofs.NotedParts.{noted, noted_is}
+use Rattle.gs_explain.proofs.Moments.{both_ok, made, moment_is}
 use Rattle.gs_explain.proofs.telling.explain_other.Goals as goal
 
 pub row-requires-clause-within : goal.row-requires-clause-within

@@ -12,3 +12,6 @@ returns-in-Journal-clause-shown c = rw c.in-Journal.is c.show_history.ensures.sh
 
 pub returns-in-Timeline-clause-shown : goal.returns-in-Timeline-clause-shown
 returns-in-Timeline-clause-shown c = rw c.in-Timeline.is c.show_picture.ensures.shown
+
+pub returns-in-Trace-clause-shown : goal.returns-in-Trace-clause-shown
+returns-in-Trace-clause-shown c = rw c.in-Trace.is c.show_trace.ensures.shown

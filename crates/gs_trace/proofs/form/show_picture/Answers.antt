@@ -7,4 +7,4 @@ use Rattle.gs_trace.proofs.form.show_picture.Goals as goal
 
 pub returns-clause-shown : goal.returns-clause-shown
 returns-clause-shown c =
-    all_added _ (shown_as (Timeline c.args.from c.args.to)) (planning any_plans c.args.machine.now) (events_unread c.args.script) (planning any_plans c.run_into.new.machine) c.in_ok-run_into.field-0 c.into_bytes.result.items c.in_ok-run_into.ensures.added (λ rs h. tt)
+    all_added _ (shown_as (Timeline c.args.from c.args.to c.args.listed)) (planning any_plans c.args.machine.now) (events_unread c.args.script) (planning any_plans c.run_watched.new.machine) c.in_ok-noting.noting c.into_bytes.result.items c.in_ok-noting.ensures.added (λ rs h. tt)

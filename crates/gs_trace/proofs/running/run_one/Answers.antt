@@ -22,7 +22,7 @@ returns-in-Kernel g c =
     let next = c.command-came.new.self in
     let came = c.command-came.result in
     let reply : Reply = reply_of came (last_entry next.history) in
-    let last : reply_of came c.last.result ≡ reply = ap (reply_of came) (c.last.ensures ∙ ap last_entry c.kernel.ensures.history) in
+    let last : reply_of came c.last.result.now ≡ reply = ap (reply_of came) (c.last.ensures ∙ ap last_entry c.kernel.ensures.history) in
     where_ok c.add_to.result _ _
     (λ done. record {
       reply = reply;

@@ -1,6 +1,6 @@
 ghost use Rattle.std.specs.Prelude.{◌≡◌, ◌∷◌, ℕ, [], None, OnOk, IfOk};
 ghost use Rattle.gs_replies.specs.Replies.{reply_of};
-ghost use Rattle.gs_explain.specs.Noted.{filled, page_after};
+ghost use Rattle.gs_trace.specs.Noted.{filled, page_after};
 
 use gs_core::Reply;
 use gs_journal::Entry;
@@ -10,13 +10,13 @@ use std::alloc::{AllocError, Global};
 
 /// What is noted of the lines of a script as its events happen.
 #[derive(Drop)]
-pub(crate) struct Lines {
+pub struct Lines {
     /// The line that added each entry.
-    pub(crate) entries: Vec<usize>,
+    pub entries: Vec<usize>,
     /// The line that stamped each transaction.
-    pub(crate) stamped: Vec<usize>,
+    pub stamped: Vec<usize>,
     /// The line that gave the agent that attaches its last page, if one did.
-    pub(crate) page: Option<usize>,
+    pub page: Option<usize>,
 }
 
 /// Adds a line for each of so many things that has none yet.
@@ -57,7 +57,7 @@ fn page_after_command(
 
 impl Lines {
     /// Notes what is so at the beginning: the header's line added one entry.
-    pub(crate) fn new(alloc: Global, header: usize) -> Result<Lines, AllocError>
+    pub fn new(alloc: Global, header: usize) -> Result<Lines, AllocError>
         ensures entries { IfOk result (λ n. n.entries.items ≡ header ∷ []) }
         ensures stamped { IfOk result (λ n. n.stamped.items ≡ []) }
         ensures page { IfOk result (λ n. n.page ≡ None) }
@@ -73,7 +73,7 @@ impl Lines {
 
     /// Notes an event of a line: by its reply, and by how many entries and transactions there are behind it.
     #[inline(always)]
-    pub(crate) fn note(
+    pub fn note(
         &mut self,
         line: usize,
         reply: &Reply,
@@ -92,7 +92,7 @@ impl Lines {
 
     /// Notes a command of a line, as [`Lines::note`] notes the reply to it.
     #[inline(always)]
-    pub(crate) fn note_command(
+    pub fn note_command(
         &mut self,
         line: usize,
         came: Result<Executed, Refusal>,
