@@ -1,0 +1,4 @@
+mod Noting
+mod Rowing
+mod Tabled
+mod Whole

@@ -1,0 +1,61 @@
+-- A script's tables.
+use Rattle.std.specs.Prelude.{◌≡◌, ℕ, List, [], ◌∷◌, false, Result}
+use Rattle.std.specs.List.{list_any}
+use Rattle.gs_journal.specs.History.{History}
+use Rattle.gs_kernel.specs.declared.landing.Landing.{Landing}
+use Rattle.gs_replies.specs.declared.reply.Reply.{Reply}
+use Rattle.gs_policy.specs.declared.any.AnyPolicy.{AnyPolicy}
+use Rattle.gs_core.specs.declared.event.Event.{Event}
+use Rattle.gs_core.specs.Machine.{State, planning, start}
+use Rattle.gs_core.specs.Short.{wants_memory}
+use Rattle.gs_script.specs.declared.fault.ScriptFault.{ScriptFault}
+use Rattle.gs_script.specs.Said.{said_in}
+use Rattle.gs_script.specs.Script.{Script}
+use Rattle.gs_trace.specs.declared.form.Notation.{Notation}
+use Rattle.gs_trace.specs.declared.run.Ended.{Ended}
+use Rattle.gs_trace.specs.Noted.{Noted, noted_first}
+use Rattle.gs_trace.specs.Output.{IsAnswer, any_plans}
+use Rattle.gs_turns.specs.Turns.{IsTurns}
+use Rattle.gs_turns.specs.declared.turn.Turn.{Turn}
+use Rattle.gs_tables.specs.declared.run.Table.{Table}
+use Rattle.gs_tables.specs.declared.run.Table.TheVariants.{Timehist}
+use Rattle.gs_tables.specs.Notes.{IsNoted, Line, Notes, landings_in}
+use Rattle.gs_tables.specs.Timehist.{table_of}
+
+-- this text is the table of the turns of a history on so many CPUs, whose entries these lines added
+pub record ShowsTurns (notation : Notation) (lines : List ℕ) (cpus : ℕ) (h : History) (out : List ℕ) : Type 0 where
+  pub turns : List Turn
+  pub are : IsTurns cpus h turns
+  pub is : out ≡ table_of notation lines turns
+
+-- which texts show a table: by what became of slots, the lines that added the entries, the count of CPUs and the history
+abbrev pub Shows : Table → List Landing → List ℕ → ℕ → History → List ℕ → Type 0
+Shows (Timehist notation) landings lines cpus h out = ShowsTurns notation lines cpus h out
+
+-- these bytes show a run of the events of a script, from one machine to another, of whose lines this was noted before
+pub record ShowsRun (table : Table) (n : Noted) (m : State) (script : Result (List (Event AnyPolicy)) ScriptFault) (says : List Line) (end : State) (out : List ℕ) : Type 0 where
+  pub last : Noted
+  pub landings : List Landing
+  pub noted : IsNoted n m script says end last landings
+  pub shown : Shows table landings last.lines end.settings.cpus end.history out
+
+-- these bytes show a script of these lines, of which the first is the header's, in a run in which memory sufficed
+pub record Tabulates (table : Table) (header : Line) (xs : List Line) (s : Script) (out : List ℕ) : Type 0 where
+  pub replies : List Reply
+  pub left : State
+  pub noted : Noted
+  pub notes : Notes (noted_first header.0) (planning any_plans (start s.config)) s.events replies xs left noted
+  pub sufficed : list_any wants_memory replies ≡ false
+  pub shown : Shows table (landings_in replies) noted.lines left.settings.cpus left.history out
+
+abbrev pub TabulatesOf : Table → List Line → Script → List ℕ → Type 0
+TabulatesOf table [] s out = ⊥
+TabulatesOf table (x ∷ xs) s out = Tabulates table x xs s out
+
+-- these bytes show the script that an input says
+abbrev pub Tabulated : Table → List ℕ → Script → List ℕ → Type 0
+Tabulated table input s out = TabulatesOf table (said_in input) s out
+
+-- what is to be written for an input, and how that ends
+abbrev pub IsTable : Table → List ℕ → Ended → List ℕ → Type 0
+IsTable table input ended out = IsAnswer (Tabulated table) input ended out
