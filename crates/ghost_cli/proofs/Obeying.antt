@@ -38,7 +38,9 @@ may_be (commands.Explain json) allowed = tt
 may_be (commands.Report last) allowed = tt
 may_be (commands.Journal true) allowed = tt
 may_be (commands.Journal false) allowed = tt
-may_be (commands.Timeline from to) allowed = tt
+may_be (commands.Timeline from to listed) allowed = tt
+may_be (commands.Timehist json) allowed = tt
+may_be commands.Trace allowed = tt
 may_be (commands.Threads workers each journal) (least, few, some, bounded) = record { few = few; bounded = bounded }
 
 -- an error of the arguments tells that nothing was begun

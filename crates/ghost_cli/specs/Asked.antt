@@ -10,10 +10,15 @@ use Rattle.clap.specs.Words.{Text}
 use Rattle.gs_arguments.specs.Arguments.{command_in, file_in, ghost_program}
 use Rattle.gs_arguments.specs.declared.arguments.Command.{Command}
 use Rattle.gs_arguments.specs.declared.arguments.Command.TheVariants as commands
+use Rattle.gs_arguments.specs.declared.arguments.Listed.{Listed as ListedArgument}
+use Rattle.gs_arguments.specs.declared.arguments.Listed.TheVariants as lists
+use Rattle.gs_timeline.specs.declared.notes.Listed.{Listed}
+use Rattle.gs_timeline.specs.declared.notes.Listed.TheVariants as listed
 use Rattle.gs_trace.specs.Output.{IsShown, shown_as}
 use Rattle.gs_trace.specs.Streams.{AnswersAll, AnswersRead, BeginsAnswer, ConsumesAtMost}
 use Rattle.gs_trace.specs.declared.form.Form.{Form}
-use Rattle.gs_trace.specs.declared.form.Form.TheVariants.{Lines, Report, Journal, Timeline}
+use Rattle.gs_trace.specs.declared.form.Form.TheVariants.{Lines, Report, Journal, Timeline, Trace}
+use Rattle.gs_trace.specs.declared.form.Notation.{Notation}
 use Rattle.gs_trace.specs.declared.form.Notation.TheVariants as notations
 use Rattle.gs_trace.specs.declared.pipe.TheConstants.{MOST_READ_BYTES}
 use Rattle.gs_trace.specs.declared.run.Ended.{Ended}
@@ -27,6 +32,8 @@ use Rattle.ghost_cli.specs.Failures.{IsOfTask, IsOfWords, IsOfWriting, IsUnopene
 use Rattle.gs_explain.specs.Explained.{IsExplained}
 use Rattle.gs_explain.specs.declared.run.Explanation.{Explanation}
 use Rattle.gs_explain.specs.declared.run.Explanation.TheVariants as explanations
+use Rattle.gs_tables.specs.Tables.{IsTable}
+use Rattle.gs_tables.specs.declared.run.Table.TheVariants as tables
 use Rattle.ghost_cli.specs.declared.asked.Task.{Task}
 use Rattle.ghost_cli.specs.declared.asked.Task.TheVariants.{Script, Workers}
 use Rattle.ghost_cli.specs.declared.asked.Wanted.{Wanted}
@@ -49,6 +56,18 @@ abbrev pub explanation_asked : Bool → Explanation
 explanation_asked true = explanations.Json
 explanation_asked false = explanations.Lines
 
+-- which threads a picture is to list
+abbrev pub listed_asked : ListedArgument → Listed
+listed_asked lists.Few = listed.Few
+listed_asked (lists.Most count) = listed.Most count
+listed_asked (lists.One tid) = listed.One tid
+listed_asked lists.All = listed.All
+
+-- how a table is to be written
+abbrev pub notation_asked : Bool → Notation
+notation_asked true = notations.Json
+notation_asked false = notations.Lines
+
 -- what a command asks for
 abbrev pub task_asked : Command → Task
 task_asked commands.Run = Script (wanted.Shown Lines)
@@ -56,13 +75,16 @@ task_asked (commands.Explain json) = Script (wanted.Explained (explanation_asked
 task_asked (commands.Report last) = Script (wanted.Shown (Report last))
 task_asked (commands.Journal false) = Script (wanted.Shown (Journal notations.Lines))
 task_asked (commands.Journal true) = Script (wanted.Shown (Journal notations.Json))
-task_asked (commands.Timeline from to) = Script (wanted.Shown (Timeline from to))
+task_asked (commands.Timeline from to l) = Script (wanted.Shown (Timeline from to (listed_asked l)))
+task_asked (commands.Timehist json) = Script (wanted.Tabled (tables.Timehist (notation_asked json)))
+task_asked commands.Trace = Script (wanted.Shown Trace)
 task_asked (commands.Threads workers each journal) = Workers (record { workers = workers; each = each }) (shown_asked journal)
 
 -- what is to be written for a script, and how that ends
 abbrev pub Answers : Wanted → List ℕ → Ended → List ℕ → Type 0
 Answers (wanted.Shown form) = IsShown (shown_as form)
 Answers (wanted.Explained how) = IsExplained how
+Answers (wanted.Tabled table) = IsTable table
 
 -- there are as many workers and creations as there may be
 abbrev pub MayBe : Task → Type 0
@@ -101,7 +123,7 @@ DoesFrom (Some file) task had left before after result = Keeps had left × DoesI
 
 -- whether a word is a command of the program
 abbrev pub is_command : Text → Bool
-is_command word = list_any (bytes_eq word) (codes "run" ∷ codes "explain" ∷ codes "report" ∷ codes "journal" ∷ codes "timeline" ∷ codes "threads" ∷ codes "help" ∷ [])
+is_command word = list_any (bytes_eq word) (codes "run" ∷ codes "explain" ∷ codes "report" ∷ codes "journal" ∷ codes "timeline" ∷ codes "timehist" ∷ codes "trace" ∷ codes "threads" ∷ codes "help" ∷ [])
 
 abbrev pub is_option : Text → Bool
 is_option word = get_or word 0 0 == 45

@@ -7,7 +7,7 @@ ghost use Rattle.gs_arguments.specs.Arguments.{AsksAllowed, command_in, file_in,
 ghost use Rattle.gs_arguments.specs.declared.arguments.Command.{Command};
 ghost use Rattle.gs_trace.specs.Streams.{AnswersAll, AnswersOf, BeginsAnswer, ConsumesAtMost};
 ghost use Rattle.gs_trace.specs.declared.pipe.TheConstants.{MOST_READ_BYTES};
-ghost use Rattle.ghost_cli.specs.Asked.{Answers, Does, DoesFrom, DoesInFile, MayBe, Obeys, ObeysCommand, explanation_asked, shown_asked, task_asked, texts};
+ghost use Rattle.ghost_cli.specs.Asked.{Answers, Does, DoesFrom, DoesInFile, MayBe, Obeys, ObeysCommand, explanation_asked, listed_asked, notation_asked, shown_asked, task_asked, texts};
 ghost use Rattle.ghost_cli.specs.Failures.{IsOfTask, IsOfWords, IsUnreadBy, TellsOneOf};
 
 use crate::failure::{Failure, unopened, unread, unsettled};
@@ -15,7 +15,8 @@ use crate::helping::{help_word, show_help};
 use crate::telling::{await_script, tell_fault};
 use gs_arguments::{Asked, Command, settings};
 use gs_explain::{Explanation, explain_script};
-use gs_trace::{Ended, Form, Kept, Notation, TraceFault, run_and_keep};
+use gs_tables::{Table, write_table};
+use gs_trace::{Ended, Form, Kept, Listed, Notation, TraceFault, run_and_keep};
 use gs_workers::{Shown, Work, run_workers};
 use std::alloc::{AllocError, Global};
 use std::env::Args;
@@ -32,6 +33,8 @@ pub(crate) enum Wanted {
     Shown { form: Form },
     /// Each of its lines with its reply, and why that is so, written so.
     Explained { how: Explanation },
+    /// A table of what happened in it.
+    Tabled { table: Table },
 }
 
 /// What a command asks for.
@@ -83,12 +86,34 @@ fn explanation_of(json: bool) -> Explanation
     }
 }
 
+/// Returns how a table is to be written.
+fn notation_of(json: bool) -> Notation
+    ensures { result ≡ notation_asked json }
+{
+    match json {
+        true => Notation::Json,
+        false => Notation::Lines,
+    }
+}
+
 /// The task of a script whose outcome is shown in a form.
 fn script(form: Form) -> Task
     ensures { result ≡ Task.Script (Wanted.Shown form) }
 {
     Task::Script {
         wanted: Wanted::Shown { form },
+    }
+}
+
+/// Returns which threads a picture is to list.
+fn listed_of(listed: gs_arguments::Listed) -> Listed
+    ensures { result ≡ listed_asked listed }
+{
+    match listed {
+        gs_arguments::Listed::Few => Listed::Few,
+        gs_arguments::Listed::Most { count } => Listed::Most(count),
+        gs_arguments::Listed::One { tid } => Listed::One(tid),
+        gs_arguments::Listed::All => Listed::All,
     }
 }
 
@@ -106,7 +131,17 @@ fn task_of(command: Command) -> Task
         Command::Report { last } => script(Form::Report { last }),
         Command::Journal { json: false } => script(Form::Journal(Notation::Lines)),
         Command::Journal { json: true } => script(Form::Journal(Notation::Json)),
-        Command::Timeline { from, to } => script(Form::Timeline { from, to }),
+        Command::Timeline { from, to, listed } => script(Form::Timeline {
+            from,
+            to,
+            listed: listed_of(listed),
+        }),
+        Command::Timehist { json } => Task::Script {
+            wanted: Wanted::Tabled {
+                table: Table::Timehist(notation_of(json)),
+            },
+        },
+        Command::Trace => script(Form::Trace),
         Command::Threads {
             workers,
             each,
@@ -134,6 +169,7 @@ fn run_wanted<R: Read, W: Write>(
     match wanted {
         Wanted::Shown { form } => run_and_keep(alloc, reader, writer, form),
         Wanted::Explained { how } => explain_script(alloc, reader, writer, how),
+        Wanted::Tabled { table } => write_table(alloc, reader, writer, table),
     }
 }
 

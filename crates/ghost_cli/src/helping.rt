@@ -16,7 +16,15 @@ fn is_command(word: &str) -> bool
 {
     matches!(
         word,
-        "run" | "explain" | "report" | "journal" | "timeline" | "threads" | "help"
+        "run"
+            | "explain"
+            | "report"
+            | "journal"
+            | "timeline"
+            | "timehist"
+            | "trace"
+            | "threads"
+            | "help"
     )
 }
 

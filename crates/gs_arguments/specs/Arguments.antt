@@ -6,7 +6,9 @@ use Rattle.clap.specs.Words.{App, Row, Rule, Text, first_of, new_app, new_rule, 
 use Rattle.clap.specs.declared.builder.action.ArgAction.TheVariants.{SetTrue}
 use Rattle.clap.specs.declared.builder.value_parser.ValueParser.TheVariants as vp
 use Rattle.gs_arguments.specs.declared.arguments.Command.{Command}
-use Rattle.gs_arguments.specs.declared.arguments.Command.TheVariants.{Run, Explain, Report, Journal, Timeline, Threads}
+use Rattle.gs_arguments.specs.declared.arguments.Command.TheVariants.{Run, Explain, Report, Journal, Timeline, Timehist, Trace, Threads}
+use Rattle.gs_arguments.specs.declared.arguments.Listed.{Listed}
+use Rattle.gs_arguments.specs.declared.arguments.Listed.TheVariants.{All, Few, Most, One}
 use Rattle.gs_arguments.specs.declared.arguments.TheConstants.{DEFAULT_LINES, LEAST_COUNT, LEAST_LINES, MOST_EACH, MOST_LINES, MOST_WORKERS}
 
 -- a program without arguments of its own: its version, and the commands, of which one is to be given
@@ -41,12 +43,23 @@ report_alone = reads_script (with_rule (new_app (codes "report")) last_rule)
 abbrev pub journal_alone : App
 journal_alone = reads_script (with_rule (new_app (codes "journal")) (flag_rule (codes "json")))
 
--- an option that takes the place of an entry
+-- an option that takes a number
 abbrev pub place_rule : Text → Rule
 place_rule name = record (new_rule name) { long = Some name; value_names = 1; parser = Some (vp.Unsigned 0 18446744073709551615) }
 
+-- a picture's command, with what says which entries it shows
+abbrev pub timeline_of_part : App
+timeline_of_part = with_rule (with_rule (new_app (codes "timeline")) (place_rule (codes "from"))) (place_rule (codes "to"))
+
+-- and with what says which threads it lists
 abbrev pub timeline_alone : App
-timeline_alone = reads_script (with_rule (with_rule (new_app (codes "timeline")) (place_rule (codes "from"))) (place_rule (codes "to")))
+timeline_alone = reads_script (with_rule (with_rule (with_rule timeline_of_part (place_rule (codes "threads"))) (place_rule (codes "thread"))) (flag_rule (codes "all-threads")))
+
+abbrev pub trace_alone : App
+trace_alone = reads_script (new_app (codes "trace"))
+
+abbrev pub timehist_alone : App
+timehist_alone = reads_script (with_rule (new_app (codes "timehist")) (flag_rule (codes "json")))
 
 -- an option that has to be given: a count, of which this is the most
 abbrev pub count_rule : Text → ℕ → Rule
@@ -57,7 +70,7 @@ threads_alone = with_rule (with_rule (with_rule (new_app (codes "threads")) (cou
 
 abbrev pub ghost_program : App
 ghost_program =
-    with_subcommand (with_subcommand (with_subcommand (with_subcommand (with_subcommand (with_subcommand ghost_alone run_alone.top) explain_alone.top) report_alone.top) journal_alone.top) timeline_alone.top) threads_alone.top
+    with_subcommand (with_subcommand (with_subcommand (with_subcommand (with_subcommand (with_subcommand (with_subcommand (with_subcommand ghost_alone run_alone.top) explain_alone.top) report_alone.top) journal_alone.top) timeline_alone.top) timehist_alone.top) trace_alone.top) threads_alone.top
 
 -- the number that a text spells in decimal digits, of those that 64 bits hold
 abbrev pub number_of : Text → Option ℕ
@@ -75,6 +88,22 @@ count_of most text = option_and_then (λ n. if nat_le LEAST_COUNT n && nat_le n 
 abbrev pub place_in : List Row → Text → ℕ → ℕ
 place_in rows name other = unwrap_or (option_and_then number_of (one_of name rows)) other
 
+-- the number that an option is given, if it is
+abbrev pub number_in : List Row → Text → Option ℕ
+number_in rows name = option_and_then number_of (one_of name rows)
+
+-- which threads a picture lists: all, the one that is named, as many as are said, or a few
+abbrev pub listed_by : Bool → Option ℕ → Option ℕ → Listed
+listed_by true one most = All
+listed_by false (Some tid) most = One tid
+listed_by false None (Some count) = Most count
+listed_by false None None = Few
+
+-- `timeline`, with the values that were given to it
+abbrev pub timeline_given : List Row → Option Command
+timeline_given rows =
+    option_map (λ all. Timeline (place_in rows (codes "from") 0) (place_in rows (codes "to") 18446744073709551615) (listed_by all (number_in rows (codes "thread")) (number_in rows (codes "threads")))) (option_and_then flag_of (one_of (codes "all-threads") rows))
+
 -- `threads`, with the values that were given to it
 abbrev pub threads_given : List Row → Option Command
 threads_given rows =
@@ -91,13 +120,15 @@ command_given given =
     else if bytes_eq given.0 (codes "explain") then option_map Explain (option_and_then flag_of (one_of (codes "json") given.1))
     else if bytes_eq given.0 (codes "report") then option_map Report (option_and_then (count_of MOST_LINES) (one_of (codes "last") given.1))
     else if bytes_eq given.0 (codes "journal") then option_map Journal (option_and_then flag_of (one_of (codes "json") given.1))
-    else if bytes_eq given.0 (codes "timeline") then Some (Timeline (place_in given.1 (codes "from") 0) (place_in given.1 (codes "to") 18446744073709551615))
+    else if bytes_eq given.0 (codes "timeline") then timeline_given given.1
+    else if bytes_eq given.0 (codes "timehist") then option_map Timehist (option_and_then flag_of (one_of (codes "json") given.1))
+    else if bytes_eq given.0 (codes "trace") then Some Trace
     else if bytes_eq given.0 (codes "threads") then threads_given given.1
     else None
 
 -- the first and the last entry that a picture is to show, if the first is above the last
 abbrev pub backward : Command → Option (ℕ × ℕ)
-backward (Timeline from to) = if nat_lt to from then Some (from, to) else None
+backward (Timeline from to listed) = if nat_lt to from then Some (from, to) else None
 backward _ = None
 
 -- a command, unless its picture is to end before it begins
@@ -129,6 +160,8 @@ abbrev pub AsksAllowed : Command → Type 0
 AsksAllowed Run = ⊤
 AsksAllowed (Explain json) = ⊤
 AsksAllowed (Journal json) = ⊤
-AsksAllowed (Timeline from to) = from ≤ to
+AsksAllowed (Timeline from to listed) = from ≤ to
+AsksAllowed (Timehist json) = ⊤
+AsksAllowed Trace = ⊤
 AsksAllowed (Report last) = (LEAST_LINES ≤ last) × (last ≤ MOST_LINES)
 AsksAllowed (Threads workers each journal) = (LEAST_COUNT ≤ workers) × (workers ≤ MOST_WORKERS) × (LEAST_COUNT ≤ each) × (each ≤ MOST_EACH)

@@ -3,7 +3,7 @@ ghost use Rattle.clap.specs.Words.{app_of, first_of, found_of, new_app, kind_of,
 ghost use Rattle.clap.specs.Kinds.{HasKind, Kinds};
 ghost use Rattle.clap.specs.declared.builder.command.Command.TheViews.{out-Command as fields_of};
 ghost use Rattle.clap.specs.Faults.{fault_of};
-ghost use Rattle.gs_arguments.specs.Arguments.{AsksAllowed, backward, command_from, command_given, command_in, count_of, count_rule, explain_alone, file_from, file_in, file_rule, flag_of, flag_rule, ghost_alone, ghost_program, journal_alone, last_rule, number_of, place_rule, report_alone, run_alone, threads_alone, timeline_alone, unless_standard};
+ghost use Rattle.gs_arguments.specs.Arguments.{AsksAllowed, backward, command_from, command_given, command_in, count_of, count_rule, explain_alone, file_from, file_in, file_rule, flag_of, flag_rule, ghost_alone, ghost_program, journal_alone, last_rule, listed_by, number_of, place_rule, report_alone, run_alone, threads_alone, timehist_alone, timeline_alone, timeline_given, timeline_of_part, trace_alone, unless_standard};
 ghost use Rattle.gs_arguments.specs.declared.arguments.Command.{Command};
 ghost use Rattle.gs_arguments.specs.declared.arguments.Command.TheVariants.{Journal, Report};
 
@@ -37,6 +37,18 @@ pub const MOST_WORKERS: usize = 16;
 /// The most threads that each worker creates.
 pub const MOST_EACH: usize = 1_000;
 
+/// Which threads a picture has a line for. The others are counted there.
+#[derive(Clone, Copy, PartialEq, Eq, Debug)]
+pub enum Listed {
+    /// A few.
+    Few,
+    /// The first, so many, of those that never ran, and then of the others by how long they waited.
+    Most { count: usize },
+    /// The one of this tid.
+    One { tid: usize },
+    All,
+}
+
 /// What the program is to do: with a script, but for the last.
 #[derive(Clone, Copy, PartialEq, Eq, Debug)]
 pub enum Command {
@@ -63,7 +75,16 @@ pub enum Command {
         from: usize,
         /// That of the last one, not below `from`.
         to: usize,
+        /// Which threads have a line of their own.
+        listed: Listed,
     },
+    /// Run it, and write a table of the stays of its threads to standard output, each with the wait before it.
+    Timehist {
+        /// As JSON Lines.
+        json: bool,
+    },
+    /// Run it, and write a trace of all that happened to standard output, as JSON.
+    Trace,
     /// Run workers in threads of their own, and write how that ended to standard output.
     Threads {
         /// How many workers there are, from [`LEAST_COUNT`] to [`MOST_WORKERS`].
@@ -117,7 +138,7 @@ fn flag<'a>(alloc: Global, name: &'a str, help: &'a str) -> clap::Arg<'a>
         .action(ArgAction::SetTrue)
 }
 
-/// An option of `timeline` that takes the place of an entry.
+/// An option of `timeline` that takes a number.
 fn place_option<'a>(alloc: Global, name: &'a str, help: &'a str) -> clap::Arg<'a>
     ensures rule { rule_of result ≡ place_rule name.entry.now }
     ensures local { result.global ≡ false }
@@ -202,9 +223,9 @@ fn journal_command<'a>(alloc: Global) -> Result<clap::Command<'a>, AllocError>
         .arg(file_argument(alloc))
 }
 
-/// The command `timeline`.
-fn timeline_command<'a>(alloc: Global) -> Result<clap::Command<'a>, AllocError>
-    ensures shape { IfOk result (λ command. app_of command ≡ timeline_alone) }
+/// The command `timeline`, with what says which entries are shown, and nothing else.
+fn timeline_of_part<'a>(alloc: Global) -> Result<clap::Command<'a>, AllocError>
+    ensures shape { IfOk result (λ command. app_of command ≡ timeline_of_part) }
     ensures local { IfOk result (λ command. (fields_of command).has_globals ≡ false) }
 {
     let first = place_option(
@@ -216,7 +237,58 @@ fn timeline_command<'a>(alloc: Global) -> Result<clap::Command<'a>, AllocError>
     clap::Command::new(alloc, "timeline")
         .about("Runs a script and writes a picture of who ran where to standard output, as SVG")
         .arg(first)?
-        .arg(last)?
+        .arg(last)
+}
+
+/// The command `timeline`.
+fn timeline_command<'a>(alloc: Global) -> Result<clap::Command<'a>, AllocError>
+    ensures shape { IfOk result (λ command. app_of command ≡ timeline_alone) }
+    ensures local { IfOk result (λ command. (fields_of command).has_globals ≡ false) }
+{
+    let threads = place_option(
+        alloc,
+        "threads",
+        "How many threads have a line of their own, those that never ran first",
+    );
+    let thread = place_option(
+        alloc,
+        "thread",
+        "The number of the one thread that has a line of its own",
+    );
+    let all = flag(alloc, "all-threads", "Gives each thread a line of its own");
+    timeline_of_part(alloc)?
+        .arg(threads)?
+        .arg(thread)?
+        .arg(all)?
+        .arg(file_argument(alloc))
+}
+
+/// The command `trace`.
+fn trace_command<'a>(alloc: Global) -> Result<clap::Command<'a>, AllocError>
+    ensures shape { IfOk result (λ command. app_of command ≡ trace_alone) }
+    ensures local { IfOk result (λ command. (fields_of command).has_globals ≡ false) }
+{
+    clap::Command::new(alloc, "trace")
+        .about(
+            "Runs a script and writes a trace, which Perfetto and chrome://tracing show, to standard output",
+        )
+        .arg(file_argument(alloc))
+}
+
+/// The command `timehist`.
+fn timehist_command<'a>(alloc: Global) -> Result<clap::Command<'a>, AllocError>
+    ensures shape { IfOk result (λ command. app_of command ≡ timehist_alone) }
+    ensures local { IfOk result (λ command. (fields_of command).has_globals ≡ false) }
+{
+    clap::Command::new(alloc, "timehist")
+        .about(
+            "Runs a script and writes a line for each stay of a thread on a CPU, with the wait before it, to standard output",
+        )
+        .arg(flag(
+            alloc,
+            "json",
+            "Writes a JSON object for each stay, one a line",
+        ))?
         .arg(file_argument(alloc))
 }
 
@@ -279,6 +351,8 @@ fn with_commands<'a>(
     let report = report_command(alloc)?;
     let journal = journal_command(alloc)?;
     let timeline = timeline_command(alloc)?;
+    let timehist = timehist_command(alloc)?;
+    let trace = trace_command(alloc)?;
     let threads = threads_command(alloc)?;
     alone
         .subcommand(run)?
@@ -286,6 +360,8 @@ fn with_commands<'a>(
         .subcommand(report)?
         .subcommand(journal)?
         .subcommand(timeline)?
+        .subcommand(timehist)?
+        .subcommand(trace)?
         .subcommand(threads)
 }
 
@@ -311,6 +387,30 @@ fn count_in(given: &clap::ArgMatches<'_>, name: &str, most: usize) -> Option<usi
     (LEAST_COUNT <= count && count <= most).then_some(count)
 }
 
+/// Which threads a picture lists: all, the one that is named, as many as are said, or a few.
+fn listed_by(all: bool, one: Option<usize>, most: Option<usize>) -> Listed
+    ensures { result ≡ listed_by all one most }
+{
+    match (all, one, most) {
+        (true, _, _) => Listed::All,
+        (false, Some(tid), _) => Listed::One { tid },
+        (false, None, Some(count)) => Listed::Most { count },
+        (false, None, None) => Listed::Few,
+    }
+}
+
+/// The command `timeline`, with the values of its options.
+fn timeline_given(given: &clap::ArgMatches<'_>) -> Option<Command>
+    ensures { result ≡ timeline_given (rows_of (found_of given.now)) }
+{
+    let all = flag_in(given, "all-threads")?;
+    Some(Command::Timeline {
+        from: number_in(given, "from").unwrap_or(0),
+        to: number_in(given, "to").unwrap_or(usize::MAX),
+        listed: listed_by(all, number_in(given, "thread"), number_in(given, "threads")),
+    })
+}
+
 /// The command that was given, with the values of its options.
 fn command_given(matches: &clap::ArgMatches<'_>) -> Option<Command>
     ensures { result ≡ option_and_then command_given (subcommand_rows_of matches.now) }
@@ -326,10 +426,11 @@ fn command_given(matches: &clap::ArgMatches<'_>) -> Option<Command>
         ("journal", given) => Some(Command::Journal {
             json: flag_in(given, "json")?,
         }),
-        ("timeline", given) => Some(Command::Timeline {
-            from: number_in(given, "from").unwrap_or(0),
-            to: number_in(given, "to").unwrap_or(usize::MAX),
+        ("timeline", given) => timeline_given(given),
+        ("timehist", given) => Some(Command::Timehist {
+            json: flag_in(given, "json")?,
         }),
+        ("trace", _) => Some(Command::Trace),
         ("threads", given) => Some(Command::Threads {
             workers: count_in(given, "workers", MOST_WORKERS)?,
             each: count_in(given, "each", MOST_EACH)?,
@@ -344,7 +445,7 @@ fn backward(command: Command) -> Option<(usize, usize)>
     ensures { result ≡ backward command }
 {
     match command {
-        Command::Timeline { from, to } if from > to => Some((from, to)),
+        Command::Timeline { from, to, .. } if from > to => Some((from, to)),
         _ => None,
     }
 }

@@ -4,6 +4,6 @@
 mod arguments;
 
 pub use arguments::{
-    Asked, Command, DEFAULT_LINES, LEAST_COUNT, LEAST_LINES, MOST_EACH, MOST_LINES, MOST_WORKERS,
-    settings,
+    Asked, Command, DEFAULT_LINES, LEAST_COUNT, LEAST_LINES, Listed, MOST_EACH, MOST_LINES,
+    MOST_WORKERS, settings,
 };
