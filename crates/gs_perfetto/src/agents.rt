@@ -3,7 +3,7 @@
 use crate::events::{begin_event, end_event, end_slice};
 use crate::tracks::{ACTIVE, AGENT_BEGIN, AGENT_END, AGENT_INSTANT, ATTACHING};
 use gs_journal::Entry;
-use gs_timeline::{AgentEvent, AgentMark, push_number};
+use gs_timeline::{AgentEvent, AgentMark, Sheet};
 use std::alloc::AllocError;
 
 /// The track of the agent that there is, if there is one.
@@ -14,42 +14,41 @@ pub(crate) struct Agent {
 
 /// Adds the beginning of an agent that is active on a CPU.
 fn write_active(
-    out: &mut String,
+    out: &mut Sheet,
     line: usize,
     place: usize,
     generation: u32,
     cpu: u16,
 ) -> Result<(), AllocError> {
     begin_event(out, AGENT_BEGIN, ACTIVE, place)?;
-    push_number(out, ",\"name\":\"generation ", u64::from(generation))?;
-    push_number(out, " on CPU ", u64::from(cpu))?;
-    push_number(out, "\",\"args\":{\"generation\":", u64::from(generation))?;
-    push_number(out, ",\"cpu\":", u64::from(cpu))?;
+    out.push_number(",\"name\":\"generation ", u64::from(generation))?;
+    out.push_number(" on CPU ", u64::from(cpu))?;
+    out.push_number("\",\"args\":{\"generation\":", u64::from(generation))?;
+    out.push_number(",\"cpu\":", u64::from(cpu))?;
     end_event(out, ",", line, place)
 }
 
 /// Adds the beginning of an agent that attaches.
 fn write_attaching(
-    out: &mut String,
+    out: &mut Sheet,
     line: usize,
     place: usize,
     generation: u32,
 ) -> Result<(), AllocError> {
     begin_event(out, AGENT_BEGIN, ATTACHING, place)?;
-    push_number(out, ",\"name\":\"generation ", u64::from(generation))?;
-    push_number(out, "\",\"args\":{\"generation\":", u64::from(generation))?;
+    out.push_number(",\"name\":\"generation ", u64::from(generation))?;
+    out.push_number("\",\"args\":{\"generation\":", u64::from(generation))?;
     end_event(out, ",", line, place)
 }
 
 /// Adds what is said of a page: how many threads it told of, and from which the next one goes on.
-fn write_page(out: &mut String, count: u16, next: Option<u32>) -> Result<(), AllocError> {
-    push_number(
-        out,
+fn write_page(out: &mut Sheet, count: u16, next: Option<u32>) -> Result<(), AllocError> {
+    out.push_number(
         ",\"name\":\"page\",\"args\":{\"threads\":",
         u64::from(count),
     )?;
     match next {
-        Some(tid) => push_number(out, ",\"next\":", u64::from(tid))?,
+        Some(tid) => out.push_number(",\"next\":", u64::from(tid))?,
         None => out.push_str(",\"next\":null")?,
     }
     out.push_str(",")
@@ -62,7 +61,7 @@ impl Agent {
     }
 
     /// Ends the agent that there is.
-    pub(crate) fn end(&mut self, out: &mut String, place: usize) -> Result<(), AllocError> {
+    pub(crate) fn end(&mut self, out: &mut Sheet, place: usize) -> Result<(), AllocError> {
         match self.track.take() {
             Some(track) => end_slice(out, AGENT_END, track, place),
             None => Ok(()),
@@ -72,7 +71,7 @@ impl Agent {
     /// Adds what an entry says of the agents.
     pub(crate) fn hear(
         &mut self,
-        out: &mut String,
+        out: &mut Sheet,
         line: usize,
         place: usize,
         entry: &Entry,
@@ -94,7 +93,7 @@ impl Agent {
     }
 
     /// Adds what happened to the agent that no entry tells.
-    pub(crate) fn mark(&self, out: &mut String, mark: &AgentMark) -> Result<(), AllocError> {
+    pub(crate) fn mark(&self, out: &mut Sheet, mark: &AgentMark) -> Result<(), AllocError> {
         let track = self.track.unwrap_or(ATTACHING);
         begin_event(out, AGENT_INSTANT, track, mark.entries)?;
         match mark.event {

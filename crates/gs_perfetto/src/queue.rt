@@ -3,13 +3,13 @@
 use crate::tracks::{RING, WAITING};
 use gs_journal::Entry;
 use gs_layout::{Change, Message};
-use gs_timeline::push_number;
+use gs_timeline::Sheet;
 use std::alloc::{AllocError, Global};
 
 /// Adds how many bytes of the ring are in use.
-pub(crate) fn write_fill(out: &mut String, place: usize, used: usize) -> Result<(), AllocError> {
-    push_number(out, RING, place as u64)?;
-    push_number(out, ",\"args\":{\"bytes\":", used as u64)?;
+pub(crate) fn write_fill(out: &mut Sheet, place: usize, used: usize) -> Result<(), AllocError> {
+    out.push_number(RING, place as u64)?;
+    out.push_number(",\"args\":{\"bytes\":", used as u64)?;
     out.push_str("}}")
 }
 
@@ -87,14 +87,14 @@ impl Queue {
     }
 
     /// Adds how many threads may run and are on no CPU.
-    pub(crate) fn write(&self, out: &mut String, place: usize) -> Result<(), AllocError> {
-        push_number(out, WAITING, place as u64)?;
-        push_number(out, ",\"args\":{\"threads\":", self.shown as u64)?;
+    pub(crate) fn write(&self, out: &mut Sheet, place: usize) -> Result<(), AllocError> {
+        out.push_number(WAITING, place as u64)?;
+        out.push_number(",\"args\":{\"threads\":", self.shown as u64)?;
         out.push_str("}}")
     }
 
     /// Adds it if it is not what was shown before.
-    pub(crate) fn show(&mut self, out: &mut String, place: usize) -> Result<(), AllocError> {
+    pub(crate) fn show(&mut self, out: &mut Sheet, place: usize) -> Result<(), AllocError> {
         let waiting = self.may_run.saturating_sub(self.running);
         if waiting == self.shown {
             return Ok(());

@@ -1,11 +1,11 @@
 //! The stays of threads as slices.
 
-ghost use Rattle.std.specs.Prelude.{◌≡◌, ◌-◌, ◌++◌, OnOk, string_bytes};
+ghost use Rattle.std.specs.Prelude.{◌≡◌, ◌-◌, ◌++◌, OnOk};
 ghost use Rattle.gs_perfetto.specs.Events.{slice_back, slice_front, slice_length};
 
 use crate::events::begin_event;
 use crate::tracks::{CPU_SLICE, cpu_track};
-use gs_timeline::{Stay, push_number};
+use gs_timeline::{Sheet, Stay};
 use std::alloc::AllocError;
 
 /// Returns how many entries a stay lasts.
@@ -16,28 +16,28 @@ fn length_of(stay: &Stay) -> usize
 }
 
 /// Adds how long a stay is, and whose it is.
-fn write_length(out: &mut String, stay: &Stay) -> Result<(), AllocError>
-    ensures { OnOk result (string_bytes out.new ≡ string_bytes out.old ++ slice_length stay.now) }
+fn write_length(out: &mut Sheet, stay: &Stay) -> Result<(), AllocError>
+    ensures { OnOk result (out.new ≡ out.old ++ slice_length stay.now) }
 {
-    push_number(out, ",\"dur\":", length_of(stay) as u64)?;
-    push_number(out, ",\"args\":{\"tid\":", stay.tid as u64)?;
+    out.push_number(",\"dur\":", length_of(stay) as u64)?;
+    out.push_number(",\"args\":{\"tid\":", stay.tid as u64)?;
     Ok(())
 }
 
 /// Adds the beginning of the slice of a stay: its track, when it begins, how long it is, and its thread.
-fn write_front(out: &mut String, stay: &Stay) -> Result<(), AllocError>
-    ensures { OnOk result (string_bytes out.new ≡ string_bytes out.old ++ slice_front stay.now) }
+fn write_front(out: &mut Sheet, stay: &Stay) -> Result<(), AllocError>
+    ensures { OnOk result (out.new ≡ out.old ++ slice_front stay.now) }
 {
     begin_event(out, CPU_SLICE, cpu_track(stay.cpu), stay.from)?;
     write_length(out, stay)
 }
 
 /// Adds the rest of it: what the thread is called, as JSON, and the script's line that placed it.
-fn write_back(out: &mut String, stay: &Stay, line: usize, name: &str) -> Result<(), AllocError>
-    ensures { OnOk result (string_bytes out.new ≡ string_bytes out.old ++ slice_back stay.now line name.now) }
+fn write_back(out: &mut Sheet, stay: &Stay, line: usize, name: &str) -> Result<(), AllocError>
+    ensures { OnOk result (out.new ≡ out.old ++ slice_back stay.now line name.now) }
 {
-    push_number(out, ",\"line\":", line as u64)?;
-    push_number(out, ",\"entry\":", stay.from as u64)?;
+    out.push_number(",\"line\":", line as u64)?;
+    out.push_number(",\"entry\":", stay.from as u64)?;
     out.push_str("},\"name\":")?;
     out.push_str(name)?;
     out.push_str("}")
@@ -45,12 +45,12 @@ fn write_back(out: &mut String, stay: &Stay, line: usize, name: &str) -> Result<
 
 /// Adds a stay as a slice.
 pub(crate) fn write_slice(
-    out: &mut String,
+    out: &mut Sheet,
     stay: &Stay,
     line: usize,
     name: &str,
 ) -> Result<(), AllocError>
-    ensures { OnOk result (string_bytes out.new ≡ string_bytes out.old ++ slice_front stay.now ++ slice_back stay.now line name.now) }
+    ensures { OnOk result (out.new ≡ out.old ++ slice_front stay.now ++ slice_back stay.now line name.now) }
 {
     write_front(out, stay)?;
     write_back(out, stay, line, name)

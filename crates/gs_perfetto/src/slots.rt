@@ -1,6 +1,6 @@
 //! The transactions: stamped into the slot of a CPU, and landed from it, or late.
 
-ghost use Rattle.std.specs.Prelude.{◌≡◌, ◌++◌, OnOk, string_bytes};
+ghost use Rattle.std.specs.Prelude.{◌≡◌, ◌++◌, OnOk};
 ghost use Rattle.gs_perfetto.specs.Events.{outcome_args};
 
 use crate::events::{begin_event, end_event, end_slice};
@@ -9,7 +9,7 @@ use crate::tracks::{
 };
 use gs_layout::Outcome;
 use gs_lines::outcome_name;
-use gs_timeline::{Mark, What, push_number};
+use gs_timeline::{Mark, Sheet, What};
 use std::alloc::{AllocError, Global};
 
 /// Makes a list of nothing for each of so many CPUs.
@@ -70,15 +70,16 @@ pub(crate) struct Slots {
 }
 
 /// Adds the beginning or the end of the way of a transaction.
+#[inline(always)]
 fn write_way(
-    out: &mut String,
+    out: &mut Sheet,
     head: &str,
     track: u64,
     number: u64,
     place: usize,
 ) -> Result<(), AllocError> {
     begin_event(out, head, track, place)?;
-    push_number(out, ",\"id\":", number)?;
+    out.push_number(",\"id\":", number)?;
     out.push_str("}")
 }
 
@@ -94,7 +95,7 @@ fn flags_of(preempt: bool, group: bool) -> &'static str {
 
 /// Adds the time that a transaction is in a slot: up to its landing, if it lands, or else the beginning.
 fn write_stamp(
-    out: &mut String,
+    out: &mut Sheet,
     number: u64,
     mark: &Mark,
     landing: Option<usize>,
@@ -108,18 +109,19 @@ fn write_stamp(
     };
     begin_event(out, head, slot_track(mark.cpu), mark.entries)?;
     if let Some(place) = landing {
-        push_number(out, ",\"dur\":", place.saturating_sub(mark.entries) as u64)?;
+        out.push_number(",\"dur\":", place.saturating_sub(mark.entries) as u64)?;
     }
     out.push_str(",\"name\":")?;
     out.push_str(name)?;
-    push_number(out, ",\"args\":{\"transaction\":", number)?;
-    push_number(out, ",\"tid\":", u64::from(mark.tid))?;
+    out.push_number(",\"args\":{\"transaction\":", number)?;
+    out.push_number(",\"tid\":", u64::from(mark.tid))?;
     end_event(out, flags, mark.line, mark.entries)
 }
 
 /// Adds an outcome: it is what the event is called, and an argument.
-fn write_outcome(out: &mut String, outcome: Outcome) -> Result<(), AllocError>
-    ensures { OnOk result (string_bytes out.new ≡ string_bytes out.old ++ outcome_args outcome) }
+#[inline(always)]
+fn write_outcome(out: &mut Sheet, outcome: Outcome) -> Result<(), AllocError>
+    ensures { OnOk result (out.new ≡ out.old ++ outcome_args outcome) }
 {
     let name = outcome_name(outcome);
     out.push_str(",\"name\":\"")?;
@@ -130,7 +132,7 @@ fn write_outcome(out: &mut String, outcome: Outcome) -> Result<(), AllocError>
 
 /// Adds a landing. A late one is told so.
 fn write_landing(
-    out: &mut String,
+    out: &mut Sheet,
     number: u64,
     mark: &Mark,
     outcome: Outcome,
@@ -138,8 +140,8 @@ fn write_landing(
 ) -> Result<(), AllocError> {
     begin_event(out, SLOT_INSTANT, slot_track(mark.cpu), mark.entries)?;
     write_outcome(out, outcome)?;
-    push_number(out, "\",\"tid\":", u64::from(mark.tid))?;
-    push_number(out, ",\"transaction\":", number)?;
+    out.push_number("\",\"tid\":", u64::from(mark.tid))?;
+    out.push_number(",\"transaction\":", number)?;
     let front = if late { ",\"late\":true," } else { "," };
     end_event(out, front, mark.line, mark.entries)
 }
@@ -165,7 +167,7 @@ impl Slots {
     /// Sets what is in the slot of a CPU, and ends the slice of what was, if that is still to be told.
     fn set(
         &mut self,
-        out: &mut String,
+        out: &mut Sheet,
         cpu: u16,
         place: usize,
         stamped: Option<Stamped>,
@@ -179,7 +181,7 @@ impl Slots {
     /// Adds a stamp, whose transaction lands before this entry, if it does.
     fn stamp(
         &mut self,
-        out: &mut String,
+        out: &mut Sheet,
         mark: &Mark,
         flags: &str,
         landing: Option<usize>,
@@ -199,7 +201,7 @@ impl Slots {
     }
 
     /// Adds a landing from a slot.
-    fn land(&mut self, out: &mut String, mark: &Mark, outcome: Outcome) -> Result<(), AllocError> {
+    fn land(&mut self, out: &mut Sheet, mark: &Mark, outcome: Outcome) -> Result<(), AllocError> {
         let number = match self.replace(mark.cpu, None) {
             Some(stamped) => stamped.number,
             None => 0,
@@ -212,7 +214,7 @@ impl Slots {
     /// and `name` is what the thread is called, as JSON.
     pub(crate) fn hear(
         &mut self,
-        out: &mut String,
+        out: &mut Sheet,
         mark: &Mark,
         landing: Option<usize>,
         name: &str,
@@ -229,7 +231,7 @@ impl Slots {
     }
 
     /// Adds the end of what is stamped in any slot.
-    pub(crate) fn clear(&mut self, out: &mut String, place: usize) -> Result<(), AllocError> {
+    pub(crate) fn clear(&mut self, out: &mut Sheet, place: usize) -> Result<(), AllocError> {
         for cpu in 0..self.cpus {
             self.set(out, cpu, place, None)?;
         }

@@ -1,31 +1,20 @@
-ghost use Rattle.std.specs.Prelude.{◌≡◌, List, [], IfOk, OnOk, map, string_bytes};
+ghost use Rattle.std.specs.Prelude.{◌≡◌, List, [], IfOk, OnOk, map};
 ghost use Rattle.std.specs.List.Sorted.{IsPermutation};
 ghost use Rattle.gs_perfetto.specs.Events.{slice_front};
-ghost use Rattle.gs_perfetto.specs.Slices.{Adds, HasEach, all_stays};
+ghost use Rattle.gs_perfetto.specs.Slices.{Adds, HasEach};
+ghost use Rattle.gs_timeline.specs.Stays.{all_stays};
 
 use crate::slices::write_slice;
 use crate::tracks::write_tracks;
 use crate::walk::Walk;
 use gs_journal::Journal;
-use gs_timeline::{Notes, Stay, stays};
+use gs_timeline::{Notes, Sheet, Stay, all_stays};
 use std::alloc::{AllocError, Global};
 
 /// How many entries are told at once at most.
 const PIECE: usize = 1_024;
 
-/// Returns the stays on each of so many CPUs, one CPU after another.
-fn all_stays(alloc: Global, journal: &Journal, cpus: u16) -> Result<Vec<Stay>, AllocError>
-    ensures { IfOk result (λ all. all.items ≡ all_stays journal.now.entries cpus) }
-{
-    let lanes = stays(alloc, journal, cpus)?;
-    let mut all = Vec::new(alloc);
-    for cpu in 0..cpus {
-        all.extend_from_slice(lanes[cpu as usize].stays())?;
-    }
-    Ok(all)
-}
-
-/// Returns the same stays in the order in which they began.
+/// Returns the stays on so many CPUs in the order in which they began.
 fn stays_in_order(alloc: Global, journal: &Journal, cpus: u16) -> Result<Vec<Stay>, AllocError>
     ensures { IfOk result (λ all. IsPermutation (all_stays journal.now.entries cpus) all.items) }
 {
@@ -37,42 +26,42 @@ fn stays_in_order(alloc: Global, journal: &Journal, cpus: u16) -> Result<Vec<Sta
 /// Adds what a walk tells up to a place, piece by piece, so that what waits to be added stays small. Nothing waits before
 /// that, nor behind it.
 fn write_told(
-    out: &mut String,
-    told: &mut String,
+    out: &mut Sheet,
+    told: &mut Sheet,
     walk: &mut Walk<'_>,
     last: usize,
 ) -> Result<(), AllocError>
-    ensures { OnOk result (Adds [] (string_bytes out.old) (string_bytes out.new)) }
+    ensures { OnOk result (Adds [] out.old out.new) }
 {
     let pieces = walk.left(last) / PIECE;
     for _ in 0..pieces {
         walk.tell_piece(told, PIECE)?;
-        out.push_str(told.as_str())?;
+        out.push_sheet(told)?;
         told.clear();
     }
     walk.tell_up_to(told, last)?;
-    out.push_str(told.as_str())?;
+    out.push_sheet(told)?;
     told.clear();
     Ok(())
 }
 
 /// Adds all that a walk tells, and the stays, each where it begins.
 fn write_events(
-    out: &mut String,
+    out: &mut Sheet,
     alloc: Global,
     walk: &mut Walk<'_>,
     stays: &[Stay],
 ) -> Result<(), AllocError>
-    ensures { OnOk result (Adds (map slice_front stays.now) (string_bytes out.old) (string_bytes out.new)) }
+    ensures { OnOk result (Adds (map slice_front stays.now) out.old out.new) }
 {
-    let mut told = String::new(alloc);
+    let mut told = Sheet::new(alloc);
     for stay in stays {
         write_told(out, &mut told, walk, stay.from)?;
         write_slice(out, stay, walk.line(stay.from), walk.name(stay.tid))?;
     }
     write_told(out, &mut told, walk, walk.end())?;
     walk.finish(&mut told)?;
-    out.push_str(told.as_str())?;
+    out.push_sheet(&told)?;
     Ok(())
 }
 
@@ -90,12 +79,12 @@ pub fn trace_events<'a>(
     cpus: u16,
     journal: &'a Journal,
     notes: Notes<'a>,
-) -> Result<String, AllocError>
-    ensures stays { IfOk result (λ text. (slices : List Stay) × IsPermutation (all_stays journal.now.entries cpus) slices × HasEach (map slice_front slices) (string_bytes text)) }
+) -> Result<Sheet, AllocError>
+    ensures stays { IfOk result (λ text. (slices : List Stay) × IsPermutation (all_stays journal.now.entries cpus) slices × HasEach (map slice_front slices) text) }
 {
     let stays = stays_in_order(alloc, journal, cpus)?;
     let mut walk = Walk::new(alloc, cpus, journal, notes)?;
-    let mut out = String::new(alloc);
+    let mut out = Sheet::new(alloc);
     out.push_str("{\"displayTimeUnit\":\"ns\",\"traceEvents\":[\n")?;
     write_tracks(&mut out, cpus)?;
     walk.begin(&mut out)?;

@@ -3,7 +3,7 @@
 ghost use Rattle.std.specs.Prelude.{◌≡◌};
 ghost use Rattle.gs_perfetto.specs.Events.{cpu_track};
 
-use gs_timeline::push_number;
+use gs_timeline::Sheet;
 use std::alloc::AllocError;
 
 /// The processes that the tracks are of. The number of a track has to follow.
@@ -78,15 +78,15 @@ pub(crate) fn slot_track(cpu: u16) -> u64 {
 }
 
 /// Adds a fact about a process or a track, up to its value: which fact, and of which process and track.
-fn begin_fact(out: &mut String, fact: &str, process: &str, track: u64) -> Result<(), AllocError> {
+fn begin_fact(out: &mut Sheet, fact: &str, process: &str, track: u64) -> Result<(), AllocError> {
     out.push_str(",\n{\"ph\":\"M\",\"name\":\"")?;
     out.push_str(fact)?;
     out.push_str("\"")?;
-    push_number(out, process, track)
+    out.push_number(process, track)
 }
 
 /// Adds what a process is called.
-fn name_process(out: &mut String, process: &str, track: u64, name: &str) -> Result<(), AllocError> {
+fn name_process(out: &mut Sheet, process: &str, track: u64, name: &str) -> Result<(), AllocError> {
     begin_fact(out, "process_name", process, track)?;
     out.push_str(",\"args\":{\"name\":\"")?;
     out.push_str(name)?;
@@ -94,14 +94,14 @@ fn name_process(out: &mut String, process: &str, track: u64, name: &str) -> Resu
 }
 
 /// Adds where a track stands among those of its process.
-fn sort_track(out: &mut String, process: &str, track: u64) -> Result<(), AllocError> {
+fn sort_track(out: &mut Sheet, process: &str, track: u64) -> Result<(), AllocError> {
     begin_fact(out, "thread_sort_index", process, track)?;
-    push_number(out, ",\"args\":{\"sort_index\":", track)?;
+    out.push_number(",\"args\":{\"sort_index\":", track)?;
     out.push_str("}}")
 }
 
 /// Adds what a track is called, and where it stands.
-fn name_track(out: &mut String, process: &str, track: u64, name: &str) -> Result<(), AllocError> {
+fn name_track(out: &mut Sheet, process: &str, track: u64, name: &str) -> Result<(), AllocError> {
     begin_fact(out, "thread_name", process, track)?;
     out.push_str(",\"args\":{\"name\":\"")?;
     out.push_str(name)?;
@@ -111,7 +111,7 @@ fn name_track(out: &mut String, process: &str, track: u64, name: &str) -> Result
 
 /// Adds what the track of a CPU is called, and where it stands: words, and the CPU.
 fn name_track_of(
-    out: &mut String,
+    out: &mut Sheet,
     process: &str,
     track: u64,
     words: &str,
@@ -119,13 +119,13 @@ fn name_track_of(
 ) -> Result<(), AllocError> {
     begin_fact(out, "thread_name", process, track)?;
     out.push_str(",\"args\":{\"name\":\"")?;
-    push_number(out, words, u64::from(cpu))?;
+    out.push_number(words, u64::from(cpu))?;
     out.push_str("\"}}")?;
     sort_track(out, process, track)
 }
 
 /// Adds what all processes and tracks are called. Nothing stands before it but what begins the list.
-pub(crate) fn write_tracks(out: &mut String, cpus: u16) -> Result<(), AllocError> {
+pub(crate) fn write_tracks(out: &mut Sheet, cpus: u16) -> Result<(), AllocError> {
     out.push_str(
         "{\"ph\":\"M\",\"name\":\"process_name\",\"pid\":1,\"args\":{\"name\":\"CPUs\"}}",
     )?;

@@ -7,7 +7,8 @@ use crate::queue::{Queue, write_fill};
 use crate::slots::{Slots, landings_of};
 use crate::tracks::{CPU_BEGIN, CPU_END, EVERYWHERE, cpu_track};
 use gs_journal::{Entry, Journal};
-use gs_timeline::Notes;
+use gs_layout::{Change, Message};
+use gs_timeline::{Notes, Sheet};
 use std::alloc::{AllocError, Global};
 
 /// How far a trace came.
@@ -15,6 +16,7 @@ use std::alloc::{AllocError, Global};
 pub(crate) struct Walk<'a> {
     journal: &'a Journal,
     notes: Notes<'a>,
+    alloc: Global,
     labels: Labels,
     /// Of each mark that is a stamp, before which entry its transaction lands from its slot, if it does.
     landings: Vec<Option<usize>>,
@@ -32,13 +34,13 @@ pub(crate) struct Walk<'a> {
 }
 
 /// Adds the beginning of a time that the other class has a CPU.
-fn write_taken(out: &mut String, line: usize, place: usize, cpu: u16) -> Result<(), AllocError> {
+fn write_taken(out: &mut Sheet, line: usize, place: usize, cpu: u16) -> Result<(), AllocError> {
     begin_event(out, CPU_BEGIN, cpu_track(cpu), place)?;
     end_event(out, ",\"name\":\"other class\",\"args\":{", line, place)
 }
 
 /// Adds a tear-down.
-fn write_torn(out: &mut String, line: usize, place: usize) -> Result<(), AllocError> {
+fn write_torn(out: &mut Sheet, line: usize, place: usize) -> Result<(), AllocError> {
     begin_event(out, EVERYWHERE, cpu_track(0), place)?;
     end_event(out, ",\"name\":\"torn\",\"args\":{", line, place)
 }
@@ -58,7 +60,8 @@ impl<'a> Walk<'a> {
         Ok(Walk {
             journal,
             notes,
-            labels: Labels::new(alloc, journal)?,
+            labels: Labels::new(alloc),
+            alloc,
             landings: landings_of(alloc, notes.marks, cpus)?,
             entry: 0,
             mark: 0,
@@ -83,13 +86,14 @@ impl<'a> Walk<'a> {
     }
 
     /// Adds what is counted at the beginning.
-    pub(crate) fn begin(&self, out: &mut String) -> Result<(), AllocError> {
+    pub(crate) fn begin(&self, out: &mut Sheet) -> Result<(), AllocError> {
         write_fill(out, 0, 0)?;
         self.queue.write(out, 0)
     }
 
     /// Tells what events did to transactions, of those that begin at this place or before.
-    fn tell_marks(&mut self, out: &mut String, place: usize) -> Result<(), AllocError> {
+    #[inline(always)]
+    fn tell_marks(&mut self, out: &mut Sheet, place: usize) -> Result<(), AllocError> {
         let marks = self.notes.marks;
         for at in self.mark..marks.len() {
             let Some(mark) = marks.get(at).filter(|mark| mark.entries <= place) else {
@@ -104,7 +108,8 @@ impl<'a> Walk<'a> {
     }
 
     /// Tells what happened to agents that no entry tells, up to this place.
-    fn tell_agents(&mut self, out: &mut String, place: usize) -> Result<(), AllocError> {
+    #[inline(always)]
+    fn tell_agents(&mut self, out: &mut Sheet, place: usize) -> Result<(), AllocError> {
         let marks = self.notes.agents;
         for at in self.agent_mark..marks.len() {
             let Some(mark) = marks.get(at).filter(|mark| mark.entries <= place) else {
@@ -117,7 +122,7 @@ impl<'a> Walk<'a> {
     }
 
     /// Tells how full the ring is, up to this place.
-    fn tell_fills(&mut self, out: &mut String, place: usize) -> Result<(), AllocError> {
+    fn tell_fills(&mut self, out: &mut Sheet, place: usize) -> Result<(), AllocError> {
         let fills = self.notes.fills;
         for at in self.fill..fills.len() {
             let Some(fill) = fills.get(at).filter(|fill| fill.entries <= place) else {
@@ -140,7 +145,7 @@ impl<'a> Walk<'a> {
     }
 
     /// Ends the time that the other class has a CPU, if it has it.
-    fn give(&mut self, out: &mut String, place: usize, cpu: u16) -> Result<(), AllocError> {
+    fn give(&mut self, out: &mut Sheet, place: usize, cpu: u16) -> Result<(), AllocError> {
         if self.take(cpu, false) {
             end_slice(out, CPU_END, cpu_track(cpu), place)?;
         }
@@ -150,7 +155,7 @@ impl<'a> Walk<'a> {
     /// Tells an entry.
     fn tell_entry(
         &mut self,
-        out: &mut String,
+        out: &mut Sheet,
         place: usize,
         entry: &Entry,
     ) -> Result<(), AllocError> {
@@ -161,6 +166,13 @@ impl<'a> Walk<'a> {
                 write_taken(out, line, place, *cpu)?;
             }
             Entry::Given { cpu } => self.give(out, place, *cpu)?,
+            Entry::Posted {
+                message: Message::Thread {
+                    tid,
+                    change: Change::Created { facts },
+                    ..
+                },
+            } => self.labels.add(self.alloc, *tid, &facts.name)?,
             Entry::Begin { .. } => self.slots.clear(out, place)?,
             Entry::Torn => {
                 self.slots.clear(out, place)?;
@@ -174,7 +186,7 @@ impl<'a> Walk<'a> {
     }
 
     /// Tells all up to a place: what happened before its entry, and that entry.
-    pub(crate) fn tell_up_to(&mut self, out: &mut String, last: usize) -> Result<(), AllocError> {
+    pub(crate) fn tell_up_to(&mut self, out: &mut Sheet, last: usize) -> Result<(), AllocError> {
         let journal = self.journal;
         for place in self.entry..journal.len() {
             if place > last {
@@ -195,11 +207,7 @@ impl<'a> Walk<'a> {
     }
 
     /// Tells so many entries.
-    pub(crate) fn tell_piece(
-        &mut self,
-        out: &mut String,
-        entries: usize,
-    ) -> Result<(), AllocError> {
+    pub(crate) fn tell_piece(&mut self, out: &mut Sheet, entries: usize) -> Result<(), AllocError> {
         self.tell_up_to(out, self.entry.saturating_add(entries).saturating_sub(1))
     }
 
@@ -209,7 +217,7 @@ impl<'a> Walk<'a> {
     }
 
     /// Tells what happened behind the last entry, once all entries were told, and ends what goes on.
-    pub(crate) fn finish(&mut self, out: &mut String) -> Result<(), AllocError> {
+    pub(crate) fn finish(&mut self, out: &mut Sheet) -> Result<(), AllocError> {
         let end = self.journal.len();
         self.tell_marks(out, end)?;
         self.tell_agents(out, end)?;

@@ -14,7 +14,7 @@ use Rattle.gs_journal.specs.Standing.{then_stands}
 use Rattle.gs_journal.proofs.Laws.{on_more, on_nil}
 use Rattle.gs_timeline.specs.declared.stay.Stay.{Stay}
 use Rattle.gs_timeline.specs.Stays.{stay, grown, stays, then_stay}
-use Rattle.gs_timeline.specs.Lanes.{LaneOf, each_then, empties, lane_then, left, placing_cpu, seat, seated, told, vacant}
+use Rattle.gs_timeline.specs.Lanes.{LaneOf, each_then, empties, lane_then, left, placing, seat, seated, told, vacant}
 use Rattle.gs_timeline.proofs.Runs.{first_stays, grown_begins, grown_goes, stays_at, stays_none}
 
 -- the last of some stays, if there is one, ended before an entry
@@ -150,7 +150,7 @@ same_seat : (o : Option ℕ) → option_eq nat_eq o o ≡ true
 same_seat None = refl
 same_seat (Some t) = same_place t
 
-seat_stays : (c n : ℕ) (o : Option ℕ) (l : LaneOf) → o ≡ seat l → seated c n o l ≡ l
+pub seat_stays : (c n : ℕ) (o : Option ℕ) (l : LaneOf) → o ≡ seat l → seated c n o l ≡ l
 seat_stays c n o l e =
     ap (λ (b : Bool). cond b l (record (left c n l) { there = option_map (λ (t : ℕ). (t, n)) o })) (ap (λ (q : Option ℕ). option_eq nat_eq q (seat l)) e ∙ same_seat (seat l))
 
@@ -173,14 +173,14 @@ one_changes n x c (suc i) (y ∷ ys) l e h =
     ap₂ (λ (z : LaneOf) (zs : List LaneOf). z ∷ zs) (sym (lane_stays n x c y (h c (grind (arith, nat_tests))))) (ap (λ (d : ℕ). slice_set ys i (lane_then n x d l)) (omega arith) ∙ one_changes n x (c + 1) i ys l e (λ d f. h d (ap (λ (m : ℕ). m == d) (omega arith) ∙ f)))
 
 -- an entry that takes nobody off leaves each CPU but the one that it places a thread on
-leaves : (x : Entry) → empties x ≡ false → (d : ℕ) → ((c : ℕ) → placing_cpu x ≡ Some c → (c == d) ≡ false) → Leaves x d
+leaves : (x : Entry) → empties x ≡ false → (d : ℕ) → ((t c : ℕ) → placing x ≡ Some (t, c) → (c == d) ≡ false) → Leaves x d
 leaves Torn e d h o = absurd cc
 leaves (Posted (Thread t s c)) e d h None = refl
 leaves (Posted (Thread t s c)) e d h (Some u) = ap (λ (b : Bool). cond (cond b (t == u) false) None (Some u)) e
 leaves (Posted (TimerTick c)) e d h None = refl
 leaves (Posted (TimerTick c)) e d h (Some u) = refl
-leaves (Placed t s c g) e d h None = ap (λ (b : Bool). then_stands (cond b (Some t) None) ends_run (Placed t s c g) None) (h c refl)
-leaves (Placed t s c g) e d h (Some u) = ap (λ (b : Bool). then_stands (cond b (Some t) None) ends_run (Placed t s c g) (Some u)) (h c refl)
+leaves (Placed t s c g) e d h None = ap (λ (b : Bool). then_stands (cond b (Some t) None) ends_run (Placed t s c g) None) (h t c refl)
+leaves (Placed t s c g) e d h (Some u) = ap (λ (b : Bool). then_stands (cond b (Some t) None) ends_run (Placed t s c g) (Some u)) (h t c refl)
 leaves (Role g c) e d h None = refl
 leaves (Role g c) e d h (Some u) = refl
 leaves (Begin g) e d h None = refl
@@ -193,16 +193,19 @@ leaves (Given c) e d h None = refl
 leaves (Given c) e d h (Some u) = refl
 
 -- an entry that places nobody, and takes nobody off
-pub all_stay : (n : ℕ) (x : Entry) (ls : List LaneOf) → empties x ≡ false → placing_cpu x ≡ None → ls ≡ each_then (lane_then n x) 0 ls
-all_stay n x ls e f = sym (each_stays n x 0 ls (λ d le lt. leaves x e d (λ c g. absurd cc)))
+pub all_stay : (n : ℕ) (x : Entry) (ls : List LaneOf) → empties x ≡ false → placing x ≡ None → ls ≡ each_then (lane_then n x) 0 ls
+all_stay n x ls e f = sym (each_stays n x 0 ls (λ d le lt. leaves x e d (λ t c g. absurd cc)))
+
+same_cpu : (p q : ℕ × ℕ) → Some p ≡ Some q → p.1 ≡ q.1
+same_cpu p q e = ap (λ (r : ℕ × ℕ). r.1) (same_Some p q e)
 
 -- one that places a thread on a CPU that is none of these
-pub none_there : (n : ℕ) (x : Entry) (c : ℕ) (ls : List LaneOf) → empties x ≡ false → placing_cpu x ≡ Some c → length ls ≤ c → ls ≡ each_then (lane_then n x) 0 ls
-none_there n x c ls e f le = sym (each_stays n x 0 ls (λ d low lt. leaves x e d (λ k g. let same : k ≡ c = same_Some k c (sym g ∙ f) in let high : d < c = omega (arith, le, lt) in grind (arith, nat_tests))))
+pub none_there : (n : ℕ) (x : Entry) (t c : ℕ) (ls : List LaneOf) → empties x ≡ false → placing x ≡ Some (t, c) → length ls ≤ c → ls ≡ each_then (lane_then n x) 0 ls
+none_there n x t c ls e f le = sym (each_stays n x 0 ls (λ d low lt. leaves x e d (λ u k g. let same : k ≡ c = same_cpu (u, k) (t, c) (sym g ∙ f) in let high : d < c = omega (arith, le, lt) in grind (arith, nat_tests))))
 
 -- one that places a thread on one of these
-pub one_there : (n : ℕ) (x : Entry) (c : ℕ) (ls : List LaneOf) (l : LaneOf) → empties x ≡ false → placing_cpu x ≡ Some c → slice_get ls c ≡ Some l → slice_set ls c (lane_then n x c l) ≡ each_then (lane_then n x) 0 ls
-one_there n x c ls l e f at = ap (λ (d : ℕ). slice_set ls c (lane_then n x d l)) (omega arith) ∙ one_changes n x 0 c ls l at (λ d g. leaves x e d (λ k p. ap (λ (m : ℕ). m == d) (same_Some k c (sym p ∙ f)) ∙ ap (λ (m : ℕ). m == d) (omega arith) ∙ g))
+pub one_there : (n : ℕ) (x : Entry) (t c : ℕ) (ls : List LaneOf) (l : LaneOf) → empties x ≡ false → placing x ≡ Some (t, c) → slice_get ls c ≡ Some l → slice_set ls c (lane_then n x c l) ≡ each_then (lane_then n x) 0 ls
+one_there n x t c ls l e f at = ap (λ (d : ℕ). slice_set ls c (lane_then n x d l)) (omega arith) ∙ one_changes n x 0 c ls l at (λ d g. leaves x e d (λ u k p. ap (λ (m : ℕ). m == d) (same_cpu (u, k) (t, c) (sym p ∙ f)) ∙ ap (λ (m : ℕ). m == d) (omega arith) ∙ g))
 
 -- a slice that is as long as the list that it was taken of stands in that list's place
 pub in_place : {A : Type 0} (n : ℕ) (xs ys : List A) → length xs ≡ n → take n (xs ++ drop (length xs) ys) ≡ xs

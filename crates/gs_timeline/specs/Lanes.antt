@@ -50,10 +50,15 @@ empties Torn = true
 empties (Posted (Thread t s c)) = takes_off_cpu c
 empties _ = false
 
--- the CPU that an entry places a thread on, if it places one
-abbrev pub placing_cpu : Entry → Option ℕ
-placing_cpu (Placed t s c g) = Some c
-placing_cpu _ = None
+-- the thread that an entry places, and on which CPU, if it places one
+abbrev pub placing : Entry → Option (ℕ × ℕ)
+placing (Placed t s c g) = Some (t, c)
+placing _ = None
+
+-- the thread that an entry is about, if it is a message about one
+abbrev pub subject : Entry → Option ℕ
+subject (Posted (Thread t s c)) = Some t
+subject _ = None
 
 -- each CPU from one on after a change
 abbrev pub each_then : (ℕ → LaneOf → LaneOf) → ℕ → List LaneOf → List LaneOf

@@ -1,5 +1,6 @@
 pub mod Endings
 pub mod Escapes
+pub mod Homes
 pub mod Lanes
 pub mod Marks
 pub mod Places

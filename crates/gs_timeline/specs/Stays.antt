@@ -41,3 +41,8 @@ runs c n (Some t ∷ later) = joined (stay c t n (n + 1)) (runs c (n + 1) later)
 -- the stays on a CPU: the longest runs of beginnings of a history at whose end the same thread is on it, in order
 abbrev pub stays : History → ℕ → List Stay
 stays h c = runs c 0 (seats h c (length h))
+
+-- the stays on so many CPUs, those of each CPU behind those of the one before
+unfoldable pub all_stays : History → ℕ → List Stay
+all_stays h zero = []
+all_stays h (suc c) = all_stays h c ++ stays h c

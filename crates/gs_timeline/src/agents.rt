@@ -4,8 +4,9 @@ use crate::layout::{ABOVE, BAR, TOP, row_of};
 use crate::notes::{AgentEvent, AgentMark};
 use crate::part::{EDGE, Part};
 use crate::rect::{Rect, write_from_to};
+use crate::sheet::Sheet;
 use crate::spans::Reign;
-use crate::text::{begin_path, begin_text, push_number};
+use crate::text::{begin_path, begin_text};
 use crate::threads::{digits, room_for};
 use gs_journal::{Entry, Journal};
 use std::alloc::{AllocError, Global};
@@ -19,33 +20,36 @@ const PAGE: u64 = 8;
 /// How far from one another the ticks of pages at one place are.
 const PAGES: u64 = 4;
 
-/// Adds the bar of an agent in the row that begins at `y`.
-fn write_reign_at(
-    out: &mut String,
+/// Adds what is said of an agent in both of its bars, behind the bar's place.
+fn write_title(
+    out: &mut Sheet,
     part: &Part<'_>,
     reign: &Reign,
-    y: u64,
     style: &str,
 ) -> Result<(), AllocError> {
-    let bar = Rect {
-        x: part.x(reign.from),
-        y,
-        width: part.width(reign.from, reign.to),
-        height: BAR,
-    };
-    if bar.width == 0 {
-        return Ok(());
-    }
-    let generation = u64::from(reign.generation);
-    bar.write(out)?;
     out.push_str("\" class=\"")?;
     out.push_str(style)?;
-    push_number(out, "\"><title>agent of generation ", generation)?;
+    out.push_number(
+        "\"><title>agent of generation ",
+        u64::from(reign.generation),
+    )?;
     out.push_str(", ")?;
     out.push_str(style)?;
     out.push_str(",")?;
     write_from_to(out, part, reign.from, reign.to)?;
-    out.push_str("</title></rect>\n")?;
+    out.push_str("</title></rect>\n")
+}
+
+/// Adds the bar of an agent, with what is said of it.
+fn write_bar(
+    out: &mut Sheet,
+    bar: &Rect,
+    generation: u64,
+    style: &str,
+    title: &Sheet,
+) -> Result<(), AllocError> {
+    bar.write(out)?;
+    out.push_sheet(title)?;
     let letters = digits(generation);
     if room_for(letters) > bar.width {
         return Ok(());
@@ -54,25 +58,43 @@ fn write_reign_at(
     out.push_str("\" class=\"name on-")?;
     out.push_str(style)?;
     let whole = room_for(letters.saturating_add(AGENT)) <= bar.width;
-    push_number(out, if whole { "\">agent " } else { "\">" }, generation)?;
+    out.push_number(if whole { "\">agent " } else { "\">" }, generation)?;
     out.push_str("</text>\n")
 }
 
-/// Adds an agent: in the row of the agents, and, while it is active, on its CPU.
+/// Adds an agent: in the row of the agents, and, while it is active, on its CPU. What is said of it is put together in
+/// `title` first.
 pub(crate) fn write_reign(
-    out: &mut String,
+    out: &mut Sheet,
+    title: &mut Sheet,
     part: &Part<'_>,
     cpus: u16,
     reign: &Reign,
 ) -> Result<(), AllocError> {
-    let Some(cpu) = reign.cpu else {
-        return write_reign_at(out, part, reign, TOP, "attaching");
+    let bar = Rect {
+        x: part.x(reign.from),
+        y: TOP,
+        width: part.width(reign.from, reign.to),
+        height: BAR,
     };
-    write_reign_at(out, part, reign, TOP, "active")?;
-    if cpu < cpus {
-        write_reign_at(out, part, reign, row_of(cpu), "active")?;
+    if bar.width == 0 {
+        return Ok(());
     }
-    Ok(())
+    let style = match reign.cpu {
+        Some(_) => "active",
+        None => "attaching",
+    };
+    let generation = u64::from(reign.generation);
+    title.clear();
+    write_title(title, part, reign, style)?;
+    write_bar(out, &bar, generation, style, title)?;
+    match reign.cpu {
+        Some(cpu) if cpu < cpus => {
+            let y = row_of(cpu);
+            write_bar(out, &Rect { y, ..bar }, generation, style, title)
+        }
+        _ => Ok(()),
+    }
 }
 
 /// Something that happened to an agent: the entry that tells it, and the word of the script for it.
@@ -134,7 +156,7 @@ pub(crate) fn steps(
 }
 
 /// Adds the word of what happened to an agent, if it ends before `limit`.
-fn write_word(out: &mut String, x: u64, limit: u64, word: &str) -> Result<(), AllocError> {
+fn write_word(out: &mut Sheet, x: u64, limit: u64, word: &str) -> Result<(), AllocError> {
     if word.is_empty() || x.saturating_add(room_for(word.len() as u64)) > limit {
         return Ok(());
     }
@@ -145,7 +167,7 @@ fn write_word(out: &mut String, x: u64, limit: u64, word: &str) -> Result<(), Al
 
 /// Adds the words of what happened to the agents, each where the next one leaves room.
 pub(crate) fn write_steps(
-    out: &mut String,
+    out: &mut Sheet,
     part: &Part<'_>,
     steps: &[Step],
 ) -> Result<(), AllocError> {
@@ -162,19 +184,19 @@ pub(crate) fn write_steps(
 
 /// Adds the tick of a page.
 fn write_page(
-    out: &mut String,
+    out: &mut Sheet,
     x: u64,
     mark: &AgentMark,
     count: u16,
     next: Option<u32>,
 ) -> Result<(), AllocError> {
     begin_path(out, "page", x, TOP + BAR - PAGE)?;
-    push_number(out, "v", PAGE)?;
-    push_number(out, "\"><title>line ", mark.line as u64)?;
-    push_number(out, ", before entry ", mark.entries as u64)?;
-    push_number(out, ": page of threads: ", u64::from(count))?;
+    out.push_number("v", PAGE)?;
+    out.push_number("\"><title>line ", mark.line as u64)?;
+    out.push_number(", before entry ", mark.entries as u64)?;
+    out.push_number(": page of threads: ", u64::from(count))?;
     match next {
-        Some(tid) => push_number(out, ", the next from thread ", u64::from(tid))?,
+        Some(tid) => out.push_number(", the next from thread ", u64::from(tid))?,
         None => out.push_str(", the last one")?,
     }
     out.push_str("</title></path>\n")
@@ -182,7 +204,7 @@ fn write_page(
 
 /// Adds a tick for each page that an agent was given. Those of one place stand before one another.
 pub(crate) fn write_pages(
-    out: &mut String,
+    out: &mut Sheet,
     part: &Part<'_>,
     marks: &[AgentMark],
 ) -> Result<(), AllocError> {

@@ -2,12 +2,13 @@ ghost use Rattle.std.specs.Prelude.{◌≡◌, ◌+◌, ◌-◌, ◌*◌};
 ghost use Rattle.gs_timeline.specs.Places.{x_of};
 ghost use Rattle.gs_timeline.specs.declared.layout.TheConstants.{BAR, RING, ROW};
 
+use crate::ending::Ending;
 use crate::layout::{BAR, row_of};
 use crate::lives::Life;
 use crate::part::Part;
 use crate::rect::{Rect, write_from_to};
+use crate::sheet::Sheet;
 use crate::stay::Stay;
-use crate::text::push_number;
 use crate::threads::{shade_of, write_label, write_thread};
 use gs_layout::Class;
 use std::alloc::AllocError;
@@ -40,50 +41,61 @@ fn bar_of(part: &Part<'_>, stay: &Stay, life: Option<&Life>) -> Rect
     }
 }
 
+/// Returns the letter that tells why a stay ended.
+fn letter_of(ending: Ending) -> &'static str {
+    match ending {
+        Ending::Preempted => "P",
+        Ending::Blocked => "B",
+        Ending::Yielded => "Y",
+        Ending::Died => "D",
+        Ending::Affinity => "A",
+        Ending::Torn => "T",
+        Ending::Replaced => "R",
+        Ending::StillThere => "S",
+    }
+}
+
 /// Adds the first letter of why a stay ended, below the end of its bar. It adds nothing if that end is not shown.
 fn write_end(
-    out: &mut String,
+    out: &mut Sheet,
     part: &Part<'_>,
     stay: &Stay,
-    reason: &str,
+    ending: Ending,
 ) -> Result<(), AllocError> {
     if !part.has(stay.to) {
         return Ok(());
     }
-    let Some(letter) = reason.chars().next() else {
-        return Ok(());
-    };
-    push_number(out, "<text x=\"", part.x(stay.to))?;
-    push_number(out, "\" y=\"", row_of(stay.cpu) + BAR + 9)?;
+    out.push_number("<text x=\"", part.x(stay.to))?;
+    out.push_number("\" y=\"", row_of(stay.cpu) + BAR + 9)?;
     out.push_str("\" class=\"end\">")?;
-    out.push(letter.to_ascii_uppercase())?;
+    out.push_str(letter_of(ending))?;
     out.push_str("</text>\n")
 }
 
 /// Adds what the title of a bar says.
 fn write_stay_title(
-    out: &mut String,
+    out: &mut Sheet,
     part: &Part<'_>,
     stay: &Stay,
     life: Option<&Life>,
-    reason: &str,
+    ending: Ending,
 ) -> Result<(), AllocError> {
     out.push_str("<title>")?;
     write_thread(out, stay.tid, life)?;
-    push_number(out, ", on CPU ", u64::from(stay.cpu))?;
+    out.push_number(", on CPU ", u64::from(stay.cpu))?;
     write_from_to(out, part, stay.from, stay.to)?;
     out.push_str(": ")?;
-    out.push_str(reason)?;
+    out.push_str(ending.name())?;
     out.push_str("</title>")
 }
 
 /// Adds the bar of a stay that is at least a pixel wide.
 pub(crate) fn write_stay(
-    out: &mut String,
+    out: &mut Sheet,
     part: &Part<'_>,
     stay: &Stay,
     life: Option<&Life>,
-    reason: &str,
+    ending: Ending,
 ) -> Result<(), AllocError> {
     let bar = bar_of(part, stay, life);
     bar.write(out)?;
@@ -95,11 +107,11 @@ pub(crate) fn write_stay(
     })?;
     out.push_str(shade_of(stay.tid, life.map(|life| life.class)))?;
     out.push_str("\">")?;
-    write_stay_title(out, part, stay, life, reason)?;
+    write_stay_title(out, part, stay, life, ending)?;
     out.push_str("</rect>\n")?;
     write_label(out, &bar, stay.tid, life)?;
     if bar.width >= LETTERED {
-        write_end(out, part, stay, reason)?;
+        write_end(out, part, stay, ending)?;
     }
     Ok(())
 }

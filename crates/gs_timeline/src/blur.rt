@@ -1,8 +1,8 @@
 use crate::layout::{BAR, row_of};
 use crate::part::Part;
 use crate::rect::{Rect, write_from_to};
+use crate::sheet::Sheet;
 use crate::stay::Stay;
-use crate::text::push_number;
 use std::alloc::AllocError;
 
 /// Stays on a CPU that are narrower than a pixel each, in pixels that touch: they are drawn as one bar.
@@ -28,7 +28,7 @@ impl Blur {
     /// Adds a stay behind the others. If its pixel does not touch theirs, it draws the others first.
     pub(crate) fn add(
         &mut self,
-        out: &mut String,
+        out: &mut Sheet,
         part: &Part<'_>,
         stay: &Stay,
     ) -> Result<(), AllocError> {
@@ -44,7 +44,7 @@ impl Blur {
     }
 
     /// Draws the stays as one bar, if there are any, and lets go of them.
-    pub(crate) fn write(&mut self, out: &mut String, part: &Part<'_>) -> Result<(), AllocError> {
+    pub(crate) fn write(&mut self, out: &mut Sheet, part: &Part<'_>) -> Result<(), AllocError> {
         if self.stays > 0 {
             let bar = Rect {
                 x: part.x(self.from),
@@ -53,8 +53,8 @@ impl Blur {
                 height: BAR,
             };
             bar.write(out)?;
-            push_number(out, "\" class=\"blur\"><title>stays: ", self.stays)?;
-            push_number(out, ", on CPU ", u64::from(self.cpu))?;
+            out.push_number("\" class=\"blur\"><title>stays: ", self.stays)?;
+            out.push_number(", on CPU ", u64::from(self.cpu))?;
             write_from_to(out, part, self.from, self.to)?;
             out.push_str("</title></rect>\n")?;
         }

@@ -3,7 +3,8 @@
 use crate::notes::{Mark, What};
 use crate::part::Part;
 use crate::shapes::{shape_of, words_of};
-use crate::text::{begin_path, begin_text, push_number};
+use crate::sheet::Sheet;
+use crate::text::{begin_path, begin_text};
 use crate::threads::{digits, room_for};
 use gs_layout::{OUTCOMES, Outcome};
 use std::alloc::{AllocError, Global};
@@ -88,7 +89,7 @@ struct Pen {
 
 impl Pen {
     /// Adds an outcome: its shape, its words, and how many landings came to it.
-    fn write(&mut self, out: &mut String, outcome: Outcome, count: u64) -> Result<(), AllocError> {
+    fn write(&mut self, out: &mut Sheet, outcome: Outcome, count: u64) -> Result<(), AllocError> {
         let words = words_of(outcome);
         let letters = (words.len() as u64)
             .saturating_add(digits(count))
@@ -108,7 +109,7 @@ impl Pen {
         out.push_str("\"/>\n")?;
         begin_text(out, self.x.saturating_add(SHAPE), self.y, "lost")?;
         out.push_str(words)?;
-        push_number(out, " ", count)?;
+        out.push_number(" ", count)?;
         out.push_str("</text>\n")?;
         self.x = self.x.saturating_add(width);
         Ok(())
@@ -116,14 +117,14 @@ impl Pen {
 }
 
 /// Adds how many decisions are shown, and how many were placed or not.
-pub(crate) fn write_sums(out: &mut String, counts: &Counts) -> Result<(), AllocError> {
-    push_number(out, "Decisions: stamped ", counts.stamped)?;
-    push_number(out, ", placed ", counts.placed)?;
-    push_number(out, ", not placed ", counts.failed)
+pub(crate) fn write_sums(out: &mut Sheet, counts: &Counts) -> Result<(), AllocError> {
+    out.push_number("Decisions: stamped ", counts.stamped)?;
+    out.push_number(", placed ", counts.placed)?;
+    out.push_number(", not placed ", counts.failed)
 }
 
 /// Adds how many decisions are shown, and what came of them.
-pub(crate) fn write_counted(out: &mut String, counts: &Counts) -> Result<(), AllocError> {
+pub(crate) fn write_counted(out: &mut Sheet, counts: &Counts) -> Result<(), AllocError> {
     begin_text(out, 10, FIRST, "count")?;
     write_sums(out, counts)?;
     out.push_str("</text>\n")?;

@@ -8,7 +8,8 @@ use crate::lives::{Life, life_of};
 use crate::notes::{Mark, What};
 use crate::part::{EDGE, Part};
 use crate::shapes::{MIXED, STAMP, shape_of, words_of};
-use crate::text::{begin_path, begin_text, push_number};
+use crate::sheet::Sheet;
+use crate::text::{begin_path, begin_text};
 use crate::threads::{letters_of, room_for, write_called, write_thread};
 use gs_layout::Outcome;
 use std::alloc::{AllocError, Global};
@@ -45,7 +46,7 @@ pub(crate) fn is_stamp(mark: &Mark) -> bool {
 }
 
 /// Adds what an event did to a transaction.
-fn write_what(out: &mut String, what: What) -> Result<(), AllocError> {
+fn write_what(out: &mut Sheet, what: What) -> Result<(), AllocError> {
     match what {
         What::Stamped { preempt, group } => {
             out.push_str("stamped")?;
@@ -57,7 +58,7 @@ fn write_what(out: &mut String, what: What) -> Result<(), AllocError> {
             out.push_str(words_of(outcome))
         }
         What::Late { number, outcome } => {
-            push_number(out, "transaction ", u64::from(number))?;
+            out.push_number("transaction ", u64::from(number))?;
             out.push_str(" landed late: ")?;
             out.push_str(words_of(outcome))
         }
@@ -65,14 +66,14 @@ fn write_what(out: &mut String, what: What) -> Result<(), AllocError> {
 }
 
 /// Adds a mark in words: its line, before which entry it was, what was done, and to which thread and CPU.
-pub(crate) fn write_mark(out: &mut String, lives: &[Life], mark: &Mark) -> Result<(), AllocError> {
-    push_number(out, "line ", mark.line as u64)?;
-    push_number(out, ", before entry ", mark.entries as u64)?;
+pub(crate) fn write_mark(out: &mut Sheet, lives: &[Life], mark: &Mark) -> Result<(), AllocError> {
+    out.push_number("line ", mark.line as u64)?;
+    out.push_number(", before entry ", mark.entries as u64)?;
     out.push_str(": ")?;
     write_what(out, mark.what)?;
     out.push_str(", ")?;
     write_thread(out, mark.tid, life_of(lives, mark.tid))?;
-    push_number(out, ", on CPU ", u64::from(mark.cpu))
+    out.push_number(", on CPU ", u64::from(mark.cpu))
 }
 
 /// Marks of a CPU that are near to one another, and are drawn as one.
@@ -81,7 +82,7 @@ struct Cluster {
     cpu: u16,
     x: u64,
     /// A line for each of the first marks.
-    title: String,
+    title: Sheet,
     marks: u64,
     stamps: u64,
     failures: u64,
@@ -96,7 +97,7 @@ impl Cluster {
         Cluster {
             cpu,
             x: 0,
-            title: String::new(alloc),
+            title: Sheet::new(alloc),
             marks: 0,
             stamps: 0,
             failures: 0,
@@ -123,7 +124,7 @@ impl Cluster {
     fn add(&mut self, lives: &[Life], mark: &Mark) -> Result<(), AllocError> {
         if self.marks < MOST_TOLD {
             if self.marks > 0 {
-                self.title.push('\n')?;
+                self.title.push_str("\n")?;
             }
             write_mark(&mut self.title, lives, mark)?;
         }
@@ -136,7 +137,7 @@ impl Cluster {
     }
 
     /// Adds the shapes: a ring if something was stamped, and that of an outcome if something was not placed.
-    fn write_shapes(&self, out: &mut String, y: u64) -> Result<(), AllocError> {
+    fn write_shapes(&self, out: &mut Sheet, y: u64) -> Result<(), AllocError> {
         let class = match self.first {
             Some(_) => "failed",
             None => "stamp",
@@ -149,8 +150,8 @@ impl Cluster {
             return Ok(());
         };
         if self.stamps > 0 {
-            push_number(out, "M", self.x)?;
-            push_number(out, " ", y)?;
+            out.push_number("M", self.x)?;
+            out.push_number(" ", y)?;
         }
         out.push_str(if self.mixed { MIXED } else { shape_of(outcome) })
     }
@@ -159,7 +160,7 @@ impl Cluster {
     /// placed, and of which thread, or how many were not.
     fn write_words(
         &self,
-        out: &mut String,
+        out: &mut Sheet,
         lives: &[Life],
         y: u64,
         limit: u64,
@@ -185,9 +186,9 @@ impl Cluster {
         begin_text(out, x, y.saturating_add(4), "lost")?;
         out.push_str(words)?;
         if room_for(whole) <= room {
-            out.push(' ')?;
+            out.push_str(" ")?;
             if self.failures > 1 {
-                push_number(out, "", self.failures)?;
+                out.push_decimal(self.failures)?;
             } else {
                 write_called(out, tid, life)?;
             }
@@ -196,17 +197,17 @@ impl Cluster {
     }
 
     /// Draws the marks, if there are any, with words beside them that end before `limit`, and lets go of them.
-    fn write(&mut self, out: &mut String, lives: &[Life], limit: u64) -> Result<(), AllocError> {
+    fn write(&mut self, out: &mut Sheet, lives: &[Life], limit: u64) -> Result<(), AllocError> {
         if self.marks == 0 {
             return Ok(());
         }
         let y = decided_of(self.cpu);
         self.write_shapes(out, y)?;
         out.push_str("\"><title>")?;
-        out.push_str(self.title.as_str())?;
+        out.push_sheet(&self.title)?;
         let others = self.marks.saturating_sub(MOST_TOLD);
         if others > 0 {
-            push_number(out, "\nand more: ", others)?;
+            out.push_number("\nand more: ", others)?;
         }
         out.push_str("</title></path>\n")?;
         self.write_words(out, lives, y, limit)?;
@@ -222,7 +223,7 @@ impl Cluster {
 
 /// Adds the marks of a CPU: those are drawn that are stamps, or landings that were not placed.
 pub(crate) fn write_decided(
-    out: &mut String,
+    out: &mut Sheet,
     alloc: Global,
     part: &Part<'_>,
     lives: &[Life],

@@ -16,10 +16,11 @@ use crate::notes::{Listed, Notes};
 use crate::part::{EDGE, LEFT, Part};
 use crate::rect::{Rect, write_entry};
 use crate::ring::write_ring;
+use crate::sheet::Sheet;
 use crate::slots::{clearings, marks_by_cpu, write_stamped};
 use crate::spans::{Hold, holds, reigns};
 use crate::stay::Stay;
-use crate::text::{begin_text, push_number};
+use crate::text::begin_text;
 use crate::walk::stays;
 use gs_journal::{Entry, Journal};
 use std::alloc::{AllocError, Global};
@@ -31,7 +32,7 @@ const AGAIN: u64 = 1_000;
 const LEAST_WIDTH: u64 = 910;
 
 /// Adds the background of a row whose bars begin at `y`.
-fn write_back(out: &mut String, part: &Part<'_>, y: u64) -> Result<(), AllocError> {
+fn write_back(out: &mut Sheet, part: &Part<'_>, y: u64) -> Result<(), AllocError> {
     let row = Rect {
         x: LEFT,
         y,
@@ -43,15 +44,10 @@ fn write_back(out: &mut String, part: &Part<'_>, y: u64) -> Result<(), AllocErro
 }
 
 /// Adds the row of a CPU: its name, and when the other class held it.
-fn write_row(
-    out: &mut String,
-    part: &Part<'_>,
-    cpu: u16,
-    holds: &[Hold],
-) -> Result<(), AllocError> {
+fn write_row(out: &mut Sheet, part: &Part<'_>, cpu: u16, holds: &[Hold]) -> Result<(), AllocError> {
     let y = row_of(cpu);
     begin_text(out, 10, y.saturating_add(17), "label")?;
-    push_number(out, "CPU ", u64::from(cpu))?;
+    out.push_number("CPU ", u64::from(cpu))?;
     out.push_str("</text>\n")?;
     write_back(out, part, y)?;
     for hold in holds {
@@ -61,13 +57,13 @@ fn write_row(
 }
 
 /// Adds the name of a CPU's row again, where a wide picture repeats it.
-fn write_again(out: &mut String, part: &Part<'_>, cpu: u16) -> Result<(), AllocError> {
+fn write_again(out: &mut Sheet, part: &Part<'_>, cpu: u16) -> Result<(), AllocError> {
     let y = row_of(cpu).saturating_add(BAR + 10);
     let places = part.width(part.first(), part.behind()) / AGAIN;
     for place in 1..places {
         let x = LEFT.saturating_add(place.saturating_mul(AGAIN));
         begin_text(out, x, y, "again")?;
-        push_number(out, "CPU ", u64::from(cpu))?;
+        out.push_number("CPU ", u64::from(cpu))?;
         out.push_str("</text>\n")?;
     }
     Ok(())
@@ -75,7 +71,7 @@ fn write_again(out: &mut String, part: &Part<'_>, cpu: u16) -> Result<(), AllocE
 
 /// Adds the bars of the threads on a CPU.
 fn write_stays(
-    out: &mut String,
+    out: &mut Sheet,
     part: &Part<'_>,
     cpu: u16,
     journal: &Journal,
@@ -92,7 +88,7 @@ fn write_stays(
                 part,
                 stay,
                 life,
-                Ending::of(journal.get(stay.to).as_ref()).name(),
+                Ending::of(journal.get(stay.to).as_ref()),
             )?;
         } else if part.shown(stay.from, stay.to) > 0 {
             blur.add(out, part, stay)?;
@@ -103,7 +99,7 @@ fn write_stays(
 
 /// Adds the rows of the CPUs, with who was on each.
 fn write_rows(
-    out: &mut String,
+    out: &mut Sheet,
     alloc: Global,
     part: &Part<'_>,
     journal: &Journal,
@@ -125,7 +121,7 @@ fn write_rows(
 
 /// Adds what was decided of the CPUs, above the bars of each.
 fn write_decisions(
-    out: &mut String,
+    out: &mut Sheet,
     alloc: Global,
     part: &Part<'_>,
     journal: &Journal,
@@ -148,35 +144,36 @@ fn write_decisions(
 
 /// Adds the row of the agents, and where each was active.
 fn write_agents(
-    out: &mut String,
+    out: &mut Sheet,
     alloc: Global,
     part: &Part<'_>,
     journal: &Journal,
     cpus: u16,
     notes: &Notes<'_>,
 ) -> Result<(), AllocError> {
+    let mut title = Sheet::new(alloc);
     for reign in &reigns(alloc, journal)? {
-        write_reign(out, part, cpus, reign)?;
+        write_reign(out, &mut title, part, cpus, reign)?;
     }
     write_steps(out, part, steps(alloc, journal, notes.agents)?.as_slice())?;
     write_pages(out, part, notes.agents)
 }
 
 /// Adds a width and a height.
-fn write_size(out: &mut String, width: u64, height: u64) -> Result<(), AllocError> {
-    push_number(out, " width=\"", width)?;
-    push_number(out, "\" height=\"", height)?;
+fn write_size(out: &mut Sheet, width: u64, height: u64) -> Result<(), AllocError> {
+    out.push_number(" width=\"", width)?;
+    out.push_number("\" height=\"", height)?;
     out.push_str("\"")
 }
 
 /// Adds the heading: which entries are shown, of how many, and whether the last of all is a tear-down.
-fn write_heading(out: &mut String, part: &Part<'_>, journal: &Journal) -> Result<(), AllocError> {
+fn write_heading(out: &mut Sheet, part: &Part<'_>, journal: &Journal) -> Result<(), AllocError> {
     out.push_str("<text x=\"10\" y=\"22\" font-size=\"14\" font-weight=\"bold\">Who ran where: ")?;
-    push_number(out, "", part.count() as u64)?;
-    push_number(out, " of ", journal.len() as u64)?;
-    push_number(out, " entries, from entry ", part.first() as u64)?;
+    out.push_decimal(part.count() as u64)?;
+    out.push_number(" of ", journal.len() as u64)?;
+    out.push_number(" entries, from entry ", part.first() as u64)?;
     if part.sharing() > 1 {
-        push_number(out, ", entries a pixel: ", part.sharing() as u64)?;
+        out.push_number(", entries a pixel: ", part.sharing() as u64)?;
         out.push_str("; grey: several stays")?;
     }
     let last = journal.len().saturating_sub(1);
@@ -189,16 +186,16 @@ fn write_heading(out: &mut String, part: &Part<'_>, journal: &Journal) -> Result
 
 /// Adds what a picture is, in words, for whoever does not see it.
 fn write_description(
-    out: &mut String,
+    out: &mut Sheet,
     cpus: u16,
     threads: usize,
     journal: &Journal,
     counts: &Counts,
 ) -> Result<(), AllocError> {
     out.push_str("<title id=\"title\">Who ran where</title>\n<desc id=\"desc\">")?;
-    push_number(out, "CPUs: ", u64::from(cpus))?;
-    push_number(out, ", threads: ", threads as u64)?;
-    push_number(out, ", entries of the journal: ", journal.len() as u64)?;
+    out.push_number("CPUs: ", u64::from(cpus))?;
+    out.push_number(", threads: ", threads as u64)?;
+    out.push_number(", entries of the journal: ", journal.len() as u64)?;
     out.push_str(". ")?;
     write_sums(out, counts)?;
     out.push_str(
@@ -217,12 +214,12 @@ struct Head<'a> {
 }
 
 /// Adds the beginning of the picture: its size, what it is, how its parts look, its heading and what its marks mean.
-fn write_head(out: &mut String, part: &Part<'_>, head: &Head<'_>) -> Result<(), AllocError> {
+fn write_head(out: &mut Sheet, part: &Part<'_>, head: &Head<'_>) -> Result<(), AllocError> {
     let width = part.x(part.behind()).saturating_add(EDGE).max(LEAST_WIDTH);
     out.push_str("<svg xmlns=\"http://www.w3.org/2000/svg\"")?;
     write_size(out, width, head.height)?;
-    push_number(out, " viewBox=\"0 0 ", width)?;
-    push_number(out, " ", head.height)?;
+    out.push_number(" viewBox=\"0 0 ", width)?;
+    out.push_number(" ", head.height)?;
     out.push_str(
         "\" font-family=\"sans-serif\" font-size=\"12\" role=\"img\" aria-labelledby=\"title desc\">\n",
     )?;
@@ -256,7 +253,7 @@ pub fn picture(
     from: usize,
     to: usize,
     listed: Listed,
-) -> Result<String, AllocError> {
+) -> Result<Sheet, AllocError> {
     let part = Part::new(journal.len(), notes.lines, from, to);
     let mut lives = lives(alloc, journal, &part)?;
     let lanes = stays(alloc, journal, cpus)?;
@@ -267,7 +264,7 @@ pub fn picture(
     let lines = listing(alloc, &lives, listed)?;
     let counts = counted(alloc, &part, notes.marks)?;
     let end = end_of_foot(cpus, lines.len());
-    let mut out = String::new(alloc);
+    let mut out = Sheet::new(alloc);
     let head = Head {
         height: end,
         cpus,

@@ -2,8 +2,9 @@ use crate::layout::{LINE, foot_of};
 use crate::listing::Line;
 use crate::lives::{Life, life_of};
 use crate::part::Part;
+use crate::sheet::Sheet;
 use crate::strip::Strip;
-use crate::text::{begin_text, push_number};
+use crate::text::begin_text;
 use crate::threads::{shade_of, write_called, write_thread};
 use gs_layout::Class;
 use std::alloc::AllocError;
@@ -17,35 +18,35 @@ pub(crate) fn end_of_foot(cpus: u16, listed: usize) -> u64 {
 }
 
 /// Adds behind how many entries threads ran, and behind how many they waited.
-fn write_counts(out: &mut String, ran: usize, waited: usize) -> Result<(), AllocError> {
+fn write_counts(out: &mut Sheet, ran: usize, waited: usize) -> Result<(), AllocError> {
     if ran == 0 {
         out.push_str(": never ran, ")?;
     } else {
-        push_number(out, ": ran ", ran as u64)?;
+        out.push_number(": ran ", ran as u64)?;
         out.push_str(" entries, ")?;
     }
-    push_number(out, "waited ", waited as u64)
+    out.push_number("waited ", waited as u64)
 }
 
 /// Adds a path of lengths on the axis, of these classes.
 fn write_strip(
-    out: &mut String,
+    out: &mut Sheet,
     y: u64,
     class: &str,
     shade: &str,
     strip: &Strip,
 ) -> Result<(), AllocError> {
-    push_number(out, "<path transform=\"translate(0 ", y)?;
+    out.push_number("<path transform=\"translate(0 ", y)?;
     out.push_str(")\" class=\"")?;
     out.push_str(class)?;
     out.push_str(shade)?;
     out.push_str("\" d=\"")?;
-    out.push_str(strip.data())?;
+    strip.write(out)?;
     out.push_str("\">")
 }
 
 /// Adds the title of what a thread did.
-fn write_life_title(out: &mut String, life: &Life) -> Result<(), AllocError> {
+fn write_life_title(out: &mut Sheet, life: &Life) -> Result<(), AllocError> {
     out.push_str("<title>")?;
     write_thread(out, life.tid, Some(life))?;
     write_counts(out, life.ran().entries(), life.waited())?;
@@ -53,11 +54,11 @@ fn write_life_title(out: &mut String, life: &Life) -> Result<(), AllocError> {
 }
 
 /// Adds what a thread did: behind how many of the shown entries it ran and waited, and when.
-fn write_life(out: &mut String, part: &Part<'_>, y: u64, life: &Life) -> Result<(), AllocError> {
+fn write_life(out: &mut Sheet, part: &Part<'_>, y: u64, life: &Life) -> Result<(), AllocError> {
     begin_text(out, 10, y, "thread")?;
-    push_number(out, "", u64::from(life.tid))?;
-    if !life.name.as_bytes().is_empty() {
-        out.push(' ')?;
+    out.push_decimal(u64::from(life.tid))?;
+    if life.is_named() {
+        out.push_str(" ")?;
         write_called(out, life.tid, Some(life))?;
     }
     out.push_str("</text>\n")?;
@@ -68,28 +69,28 @@ fn write_life(out: &mut String, part: &Part<'_>, y: u64, life: &Life) -> Result<
     write_strip(out, middle, "ran ", shade, life.ran())?;
     write_life_title(out, life)?;
     begin_text(out, part.x(part.behind()).saturating_add(8), y, "thread")?;
-    push_number(out, "class ", life.class.number() as u64)?;
+    out.push_number("class ", life.class.number() as u64)?;
     write_counts(out, life.ran().entries(), life.waited())?;
     out.push_str("</text>\n")
 }
 
 /// Adds how many more threads of a class there are that ran, or that never did.
 fn write_more(
-    out: &mut String,
+    out: &mut Sheet,
     y: u64,
     class: Class,
     ran: bool,
     count: u64,
 ) -> Result<(), AllocError> {
     begin_text(out, 10, y, "thread")?;
-    push_number(out, "", count)?;
-    push_number(out, " more, of class ", class.number() as u64)?;
+    out.push_decimal(count)?;
+    out.push_number(" more, of class ", class.number() as u64)?;
     out.push_str(if ran { ", ran" } else { ", never ran" })?;
     out.push_str("</text>\n")
 }
 
 /// Adds what the threads of a class did together.
-fn write_class(out: &mut String, y: u64, lives: &[Life], class: Class) -> Result<(), AllocError> {
+fn write_class(out: &mut Sheet, y: u64, lives: &[Life], class: Class) -> Result<(), AllocError> {
     let mut ran: usize = 0;
     let mut waited: usize = 0;
     let mut threads: u64 = 0;
@@ -101,15 +102,15 @@ fn write_class(out: &mut String, y: u64, lives: &[Life], class: Class) -> Result
         }
     }
     begin_text(out, 10, y, "count")?;
-    push_number(out, "class ", class.number() as u64)?;
-    push_number(out, ", threads ", threads)?;
+    out.push_number("class ", class.number() as u64)?;
+    out.push_number(", threads ", threads)?;
     write_counts(out, ran, waited)?;
     out.push_str("</text>\n")
 }
 
 /// Adds what the classes did, and what the threads did that are listed.
 pub(crate) fn write_foot(
-    out: &mut String,
+    out: &mut Sheet,
     part: &Part<'_>,
     cpus: u16,
     lives: &[Life],

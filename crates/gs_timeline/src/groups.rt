@@ -5,7 +5,8 @@ use crate::layout::decided_of;
 use crate::lives::Life;
 use crate::notes::{Mark, What};
 use crate::part::Part;
-use crate::text::{begin_path, push_number};
+use crate::sheet::Sheet;
+use crate::text::begin_path;
 use std::alloc::{AllocError, Global};
 
 /// How far before their place a bracket stands.
@@ -16,7 +17,7 @@ const MOST_TOLD: usize = 8;
 
 /// Adds the bracket of a group that landed, if that is shown.
 fn write_group(
-    out: &mut String,
+    out: &mut Sheet,
     part: &Part<'_>,
     lives: &[Life],
     group: &[Mark],
@@ -32,25 +33,25 @@ fn write_group(
     let failed = group.iter().any(|mark| failure_of(mark).is_some());
     let class = if failed { "group lost-group" } else { "group" };
     begin_path(out, class, x, decided_of(first.cpu))?;
-    push_number(out, "V", decided_of(last.cpu))?;
+    out.push_number("V", decided_of(last.cpu))?;
     for mark in group {
-        push_number(out, "M", x)?;
-        push_number(out, " ", decided_of(mark.cpu))?;
+        out.push_number("M", x)?;
+        out.push_number(" ", decided_of(mark.cpu))?;
         out.push_str("h4")?;
     }
-    push_number(out, "\"><title>group of ", group.len() as u64)?;
+    out.push_number("\"><title>group of ", group.len() as u64)?;
     out.push_str(if failed {
         ": none placed"
     } else {
         ": all placed"
     })?;
     for mark in group.iter().take(MOST_TOLD) {
-        out.push('\n')?;
+        out.push_str("\n")?;
         write_mark(out, lives, mark)?;
     }
     let more = group.len().saturating_sub(MOST_TOLD);
     if more > 0 {
-        push_number(out, "\nand more: ", more as u64)?;
+        out.push_number("\nand more: ", more as u64)?;
     }
     out.push_str("</title></path>\n")
 }
@@ -66,7 +67,7 @@ fn none_grouped(alloc: Global, cpus: u16) -> Result<Vec<bool>, AllocError> {
 
 /// Adds a bracket for each group that landed.
 pub(crate) fn write_groups(
-    out: &mut String,
+    out: &mut Sheet,
     alloc: Global,
     part: &Part<'_>,
     lives: &[Life],

@@ -1,5 +1,5 @@
-ghost use Rattle.std.specs.Prelude.{◌≡◌, ◌<◌, ◌^◌, None, OnOk};
-ghost use Rattle.gs_timeline.specs.Lanes.{lane_then, left, vacant};
+ghost use Rattle.std.specs.Prelude.{◌≡◌, ◌↔◌, ◌<◌, ◌^◌, IsTrue, None, OnOk, Some};
+ghost use Rattle.gs_timeline.specs.Lanes.{lane_then, left, seat, vacant};
 
 use crate::stay::Stay;
 use gs_journal::{Entry, thread_then};
@@ -31,6 +31,13 @@ impl Lane {
             ended: Vec::new(alloc),
             there: None,
         }
+    }
+
+    /// Returns whether a thread is on the CPU.
+    pub(crate) fn has(&self, tid: u32) -> bool
+        ensures { IsTrue result ↔ (seat self.now ≡ Some tid) }
+    {
+        self.there.is_some_and(|(there, _)| there == tid)
     }
 
     /// Lends the stays that ended, in order.

@@ -1,8 +1,9 @@
 use crate::layout::{BAR, TOP, foot_of, row_of};
 use crate::part::Part;
 use crate::rect::{Rect, write_entry, write_from_to};
+use crate::sheet::Sheet;
 use crate::spans::Hold;
-use crate::text::{begin_path, begin_text, push_number};
+use crate::text::{begin_path, begin_text};
 use gs_journal::{Entry, Journal};
 use gs_layout::Message;
 use std::alloc::AllocError;
@@ -17,7 +18,7 @@ const LOWER: u64 = 12;
 const AXIS: u64 = 26;
 
 /// Adds the hatching of a CPU that the other class holds.
-pub(crate) fn write_hold(out: &mut String, part: &Part<'_>, hold: &Hold) -> Result<(), AllocError> {
+pub(crate) fn write_hold(out: &mut Sheet, part: &Part<'_>, hold: &Hold) -> Result<(), AllocError> {
     if part.shown(hold.from, hold.to) == 0 {
         return Ok(());
     }
@@ -28,36 +29,31 @@ pub(crate) fn write_hold(out: &mut String, part: &Part<'_>, hold: &Hold) -> Resu
         height: BAR,
     };
     bar.write(out)?;
-    push_number(out, "\" class=\"held\"><title>CPU ", u64::from(hold.cpu))?;
+    out.push_number("\" class=\"held\"><title>CPU ", u64::from(hold.cpu))?;
     out.push_str(" is held by the other class")?;
     write_from_to(out, part, hold.from, hold.to)?;
     out.push_str("</title></rect>\n")
 }
 
 /// Adds the mark of a tick.
-fn write_tick(out: &mut String, part: &Part<'_>, place: usize, cpu: u16) -> Result<(), AllocError> {
-    push_number(out, "<path d=\"M", part.x(place))?;
-    push_number(out, " ", row_of(cpu).saturating_sub(3))?;
+fn write_tick(out: &mut Sheet, part: &Part<'_>, place: usize, cpu: u16) -> Result<(), AllocError> {
+    out.push_number("<path d=\"M", part.x(place))?;
+    out.push_number(" ", row_of(cpu).saturating_sub(3))?;
     if part.unit() < TITLED {
         return out.push_str("v6\"/>\n");
     }
-    push_number(out, "v6\"><title>tick of CPU ", u64::from(cpu))?;
+    out.push_number("v6\"><title>tick of CPU ", u64::from(cpu))?;
     write_entry(out, part, ", entry ", place)?;
     out.push_str("</title></path>\n")
 }
 
 /// Adds the line of a tear-down, through all rows.
-fn write_torn(
-    out: &mut String,
-    part: &Part<'_>,
-    cpus: u16,
-    place: usize,
-) -> Result<(), AllocError> {
+fn write_torn(out: &mut Sheet, part: &Part<'_>, cpus: u16, place: usize) -> Result<(), AllocError> {
     let x = part.x(place);
     let end = foot_of(cpus);
-    push_number(out, "<path class=\"torn\" d=\"M", x)?;
-    push_number(out, " ", TOP.saturating_sub(4))?;
-    push_number(out, "V", end)?;
+    out.push_number("<path class=\"torn\" d=\"M", x)?;
+    out.push_number(" ", TOP.saturating_sub(4))?;
+    out.push_number("V", end)?;
     write_entry(out, part, "\"><title>torn down at entry ", place)?;
     out.push_str(": a message did not fit into the ring</title></path>\n")?;
     begin_text(
@@ -71,7 +67,7 @@ fn write_torn(
 
 /// Adds ticks and a tear-down.
 pub(crate) fn write_marks(
-    out: &mut String,
+    out: &mut Sheet,
     part: &Part<'_>,
     cpus: u16,
     journal: &Journal,
@@ -98,25 +94,25 @@ pub(crate) fn write_marks(
 
 /// Adds the numbers of the axis at an entry, whose middle is at `x`: its place, and below that the line that added it.
 fn write_numbers(
-    out: &mut String,
+    out: &mut Sheet,
     part: &Part<'_>,
     x: u64,
     y: u64,
     place: usize,
 ) -> Result<(), AllocError> {
     begin_text(out, x, y, "axis")?;
-    push_number(out, "", place as u64)?;
+    out.push_decimal(place as u64)?;
     out.push_str("</text>\n")?;
     if let Some(line) = part.line(place) {
         begin_text(out, x, y.saturating_add(LOWER), "axis")?;
-        push_number(out, "", line as u64)?;
+        out.push_decimal(line as u64)?;
         out.push_str("</text>\n")?;
     }
     Ok(())
 }
 
 /// Adds what the two numbers of the axis are.
-fn write_names(out: &mut String, y: u64) -> Result<(), AllocError> {
+fn write_names(out: &mut Sheet, y: u64) -> Result<(), AllocError> {
     begin_text(out, 10, y, "small")?;
     out.push_str("entry</text>\n")?;
     begin_text(out, 10, y.saturating_add(LOWER), "small")?;
@@ -127,7 +123,7 @@ fn write_names(out: &mut String, y: u64) -> Result<(), AllocError> {
 /// place and the line of the script stand above the rows and below them. If there are fewer entries than a step of the
 /// axis, the first has these too.
 pub(crate) fn write_axis(
-    out: &mut String,
+    out: &mut Sheet,
     part: &Part<'_>,
     cpus: u16,
     end: u64,
@@ -143,7 +139,7 @@ pub(crate) fn write_axis(
         if place % step == 0 || (few && place == first) {
             let x = part.x(place);
             begin_path(out, "grid", x, above.saturating_add(LOWER + 3))?;
-            push_number(out, "V", end)?;
+            out.push_number("V", end)?;
             out.push_str("\"/>\n")?;
             write_numbers(out, part, x, above, place)?;
             write_numbers(out, part, x, below, place)?;

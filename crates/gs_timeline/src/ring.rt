@@ -3,7 +3,8 @@
 use crate::layout::{BAR, RING};
 use crate::notes::Fill;
 use crate::part::{LEFT, Part};
-use crate::text::{begin_text, push_number};
+use crate::sheet::Sheet;
+use crate::text::begin_text;
 use std::alloc::AllocError;
 
 /// How high the strip is where so many bytes of so many are in use: as high as a bar if all are, and not flat if some are.
@@ -24,16 +25,16 @@ struct Edge {
 
 impl Edge {
     /// Goes on to a place.
-    fn go(&mut self, out: &mut String, x: u64) -> Result<(), AllocError> {
+    fn go(&mut self, out: &mut Sheet, x: u64) -> Result<(), AllocError> {
         if x <= self.x {
             return Ok(());
         }
-        push_number(out, "V", (RING + BAR).saturating_sub(self.most))?;
+        out.push_number("V", (RING + BAR).saturating_sub(self.most))?;
         if self.most != self.last {
-            push_number(out, "H", self.x.saturating_add(1))?;
-            push_number(out, "V", (RING + BAR).saturating_sub(self.last))?;
+            out.push_number("H", self.x.saturating_add(1))?;
+            out.push_number("V", (RING + BAR).saturating_sub(self.last))?;
         }
-        push_number(out, "H", x)?;
+        out.push_number("H", x)?;
         self.x = x;
         self.most = self.last;
         Ok(())
@@ -42,7 +43,7 @@ impl Edge {
     /// Is so high from a place on. Of those that share a pixel the highest is shown there.
     fn set(
         &mut self,
-        out: &mut String,
+        out: &mut Sheet,
         shared: bool,
         x: u64,
         height: u64,
@@ -69,7 +70,7 @@ fn most_used(fills: &[Fill]) -> usize {
 
 /// Adds the strip of a ring of so many bytes, of which it shows how many are in use.
 pub(crate) fn write_ring(
-    out: &mut String,
+    out: &mut Sheet,
     part: &Part<'_>,
     fills: &[Fill],
     ring: usize,
@@ -77,16 +78,16 @@ pub(crate) fn write_ring(
     begin_text(out, 10, RING + 11, "label")?;
     out.push_str("ring</text>\n")?;
     begin_text(out, 10, RING + 24, "small")?;
-    push_number(out, "", ring as u64)?;
+    out.push_decimal(ring as u64)?;
     out.push_str(" bytes</text>\n")?;
     let end = part.x(part.behind());
-    push_number(out, "<rect x=\"", LEFT)?;
-    push_number(out, "\" y=\"", RING)?;
-    push_number(out, "\" width=\"", end.saturating_sub(LEFT))?;
-    push_number(out, "\" height=\"", BAR)?;
+    out.push_number("<rect x=\"", LEFT)?;
+    out.push_number("\" y=\"", RING)?;
+    out.push_number("\" width=\"", end.saturating_sub(LEFT))?;
+    out.push_number("\" height=\"", BAR)?;
     out.push_str("\" class=\"row\"/>\n")?;
-    push_number(out, "<path class=\"ring\" d=\"M", LEFT)?;
-    push_number(out, " ", RING + BAR)?;
+    out.push_number("<path class=\"ring\" d=\"M", LEFT)?;
+    out.push_number(" ", RING + BAR)?;
     let mut edge = Edge {
         x: LEFT,
         most: 0,
@@ -104,12 +105,11 @@ pub(crate) fn write_ring(
         }
     }
     edge.go(out, end)?;
-    push_number(out, "V", RING + BAR)?;
-    push_number(
-        out,
+    out.push_number("V", RING + BAR)?;
+    out.push_number(
         "z\"><title>bytes of the ring in use, at most: ",
         most_used(fills) as u64,
     )?;
-    push_number(out, " of ", ring as u64)?;
+    out.push_number(" of ", ring as u64)?;
     out.push_str("</title></path>\n")
 }

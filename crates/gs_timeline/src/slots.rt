@@ -3,7 +3,7 @@
 use crate::layout::decided_of;
 use crate::notes::{Mark, What};
 use crate::part::Part;
-use crate::text::push_number;
+use crate::sheet::Sheet;
 use gs_journal::{Entry, Journal};
 use std::alloc::{AllocError, Global};
 
@@ -62,7 +62,7 @@ fn cleared_by(clearings: &[usize], from: usize, end: usize) -> usize {
 
 /// Adds the length of a time that something is stamped in a slot.
 fn write_length(
-    out: &mut String,
+    out: &mut Sheet,
     part: &Part<'_>,
     y: u64,
     from: usize,
@@ -72,15 +72,15 @@ fn write_length(
     if width == 0 {
         return Ok(());
     }
-    push_number(out, "M", part.x(from))?;
-    push_number(out, " ", y)?;
-    push_number(out, "h", width)
+    out.push_number("M", part.x(from))?;
+    out.push_number(" ", y)?;
+    out.push_number("h", width)
 }
 
 /// Adds a line for each time that something is stamped in the slot of a CPU: from its stamp to its landing, or to where
 /// the slot was cleared. So many entries are the journal's.
 pub(crate) fn write_stamped(
-    out: &mut String,
+    out: &mut Sheet,
     part: &Part<'_>,
     cpu: u16,
     marks: &[Mark],

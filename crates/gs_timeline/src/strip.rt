@@ -1,13 +1,20 @@
 use crate::part::Part;
-use crate::text::push_number;
+use crate::sheet::Sheet;
 use std::alloc::{AllocError, Global};
 
-/// The times of a thread on the axis: how many of the shown entries they have, and the data of a path that draws them.
-/// Times that touch are drawn as one.
+/// A length on the axis.
+#[derive(Clone, Copy)]
+struct Length {
+    from: u64,
+    to: u64,
+}
+
+/// The times of a thread on the axis: how many of the shown entries they have, and the lengths that draw them. Times that
+/// touch are drawn as one.
 #[derive(Drop)]
 pub(crate) struct Strip {
     entries: usize,
-    data: String,
+    lengths: Vec<Length>,
     from: u64,
     to: u64,
 }
@@ -17,7 +24,7 @@ impl Strip {
     pub(crate) fn new(alloc: Global) -> Strip {
         Strip {
             entries: 0,
-            data: String::new(alloc),
+            lengths: Vec::new(alloc),
             from: 0,
             to: 0,
         }
@@ -45,12 +52,13 @@ impl Strip {
         Ok(())
     }
 
-    /// Draws the last time.
+    /// Ends the last time.
     pub(crate) fn end(&mut self) -> Result<(), AllocError> {
-        let length = self.to.saturating_sub(self.from);
-        if length > 0 {
-            push_number(&mut self.data, "M", self.from)?;
-            push_number(&mut self.data, " 0h", length)?;
+        if self.to > self.from {
+            self.lengths.push(Length {
+                from: self.from,
+                to: self.to,
+            })?;
         }
         self.to = 0;
         Ok(())
@@ -61,8 +69,12 @@ impl Strip {
         self.entries
     }
 
-    /// Lends the data of its path.
-    pub(crate) fn data(&self) -> &str {
-        self.data.as_str()
+    /// Adds the data of a path that draws the times.
+    pub(crate) fn write(&self, out: &mut Sheet) -> Result<(), AllocError> {
+        for length in &self.lengths {
+            out.push_number("M", length.from)?;
+            out.push_number(" 0h", length.to.saturating_sub(length.from))?;
+        }
+        Ok(())
     }
 }

@@ -1,34 +1,27 @@
-ghost use Rattle.std.specs.Prelude.{◌≡◌, ◌++◌, OnOk, decimal, string_bytes};
+ghost use Rattle.std.specs.Prelude.{◌≡◌, ◌++◌, OnOk, string_bytes};
 ghost use Rattle.gs_timeline.specs.Escapes.{escaped, shown};
 
+use crate::sheet::Sheet;
 use gs_layout::Name;
-use itoa::Buffer;
 use std::alloc::AllocError;
 
-/// Adds words and a number behind them.
-pub fn push_number(out: &mut String, words: &str, number: u64) -> Result<(), AllocError>
-    ensures { OnOk result (string_bytes out.new ≡ string_bytes out.old ++ words.now ++ decimal number) }
-{
-    let mut buffer = Buffer::new();
-    out.push_str(words)?;
-    out.push_str(buffer.format(number))
-}
-
 /// Adds the beginning of a text of this class that stands at a place. What it says follows.
-pub(crate) fn begin_text(out: &mut String, x: u64, y: u64, class: &str) -> Result<(), AllocError> {
-    push_number(out, "<text x=\"", x)?;
-    push_number(out, "\" y=\"", y)?;
+#[inline(always)]
+pub(crate) fn begin_text(out: &mut Sheet, x: u64, y: u64, class: &str) -> Result<(), AllocError> {
+    out.push_number("<text x=\"", x)?;
+    out.push_number("\" y=\"", y)?;
     out.push_str("\" class=\"")?;
     out.push_str(class)?;
     out.push_str("\">")
 }
 
 /// Adds the beginning of a path of this class, up to a place on it.
-pub(crate) fn begin_path(out: &mut String, class: &str, x: u64, y: u64) -> Result<(), AllocError> {
+#[inline(always)]
+pub(crate) fn begin_path(out: &mut Sheet, class: &str, x: u64, y: u64) -> Result<(), AllocError> {
     out.push_str("<path class=\"")?;
     out.push_str(class)?;
-    push_number(out, "\" d=\"M", x)?;
-    push_number(out, " ", y)
+    out.push_number("\" d=\"M", x)?;
+    out.push_number(" ", y)
 }
 
 /// Adds a byte of a name: a mark of the language by what stands for it.

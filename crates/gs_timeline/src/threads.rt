@@ -3,8 +3,8 @@ ghost use Rattle.gs_timeline.specs.Marks.{shade_of};
 
 use crate::lives::Life;
 use crate::rect::Rect;
-use crate::text::{push_number, write_escaped};
-use gs_layout::{Class, Name};
+use crate::sheet::Sheet;
+use gs_layout::Class;
 use std::alloc::AllocError;
 
 /// How wide a letter in a bar is: each is as wide as any other.
@@ -27,42 +27,41 @@ pub(crate) fn digits(number: u64) -> u64 {
     }
 }
 
-/// Lends the name of a thread, or returns `None` if it has none.
-fn name_of(life: Option<&Life>) -> Option<&Name> {
-    life.map(|life| &life.name)
-        .filter(|name| !name.as_bytes().is_empty())
+/// Lends the life of a thread that has a name, or returns `None` if it has none.
+fn named(life: Option<&Life>) -> Option<&Life> {
+    life.filter(|life| life.is_named())
 }
 
 /// Returns how many letters what a thread is called has.
 pub(crate) fn letters_of(tid: u32, life: Option<&Life>) -> u64 {
-    match name_of(life) {
-        Some(name) => name.as_bytes().len() as u64,
+    match named(life) {
+        Some(life) => life.letters(),
         None => digits(u64::from(tid)),
     }
 }
 
 /// Adds what a thread is called: its name, or its tid if it has no name.
 pub(crate) fn write_called(
-    out: &mut String,
+    out: &mut Sheet,
     tid: u32,
     life: Option<&Life>,
 ) -> Result<(), AllocError> {
-    match name_of(life) {
-        Some(name) => write_escaped(out, name),
-        None => push_number(out, "", u64::from(tid)),
+    match named(life) {
+        Some(life) => out.push_str(life.name()),
+        None => out.push_decimal(u64::from(tid)),
     }
 }
 
 /// Adds what a thread is called to its bar: its name, or its tid if it has no name or that does not fit. It adds nothing
 /// if the tid does not fit either.
 pub(crate) fn write_label(
-    out: &mut String,
+    out: &mut Sheet,
     bar: &Rect,
     tid: u32,
     life: Option<&Life>,
 ) -> Result<(), AllocError> {
     let room = bar.width;
-    let name = name_of(life).filter(|name| room_for(name.as_bytes().len() as u64) <= room);
+    let name = named(life).filter(|life| room_for(life.letters()) <= room);
     let number = u64::from(tid);
     if name.is_none() && room_for(digits(number)) > room {
         return Ok(());
@@ -70,8 +69,8 @@ pub(crate) fn write_label(
     bar.write_text(out)?;
     out.push_str("\" class=\"name\">")?;
     match name {
-        Some(name) => write_escaped(out, name)?,
-        None => push_number(out, "", number)?,
+        Some(life) => out.push_str(life.name())?,
+        None => out.push_decimal(number)?,
     }
     out.push_str("</text>\n")
 }
@@ -94,26 +93,17 @@ pub(crate) fn shade_of(tid: u32, class: Option<Class>) -> &'static str
     }
 }
 
-/// Returns the number of a thread's class, or `?` if nothing is known of the thread.
-pub(crate) fn class_name(life: Option<&Life>) -> &'static str {
-    match life.map(|life| life.class) {
-        Some(Class::Zero) => "0",
-        Some(Class::One) => "1",
-        None => "?",
-    }
-}
-
-/// Adds which thread it is: its tid, its name if it has one, and its class.
+/// Adds which thread it is: its tid, and what is known of it.
 pub(crate) fn write_thread(
-    out: &mut String,
+    out: &mut Sheet,
     tid: u32,
     life: Option<&Life>,
 ) -> Result<(), AllocError> {
-    push_number(out, "thread ", u64::from(tid))?;
-    if let Some(name) = name_of(life) {
-        out.push(' ')?;
-        write_escaped(out, name)?;
+    match life {
+        Some(life) => out.push_sheet(life.words()),
+        None => {
+            out.push_number("thread ", u64::from(tid))?;
+            out.push_str(", class ?")
+        }
     }
-    out.push_str(", class ")?;
-    out.push_str(class_name(life))
 }

@@ -1,9 +1,12 @@
-ghost use Rattle.std.specs.Prelude.{◌≡◌, ◌+◌, ◌<◌, ◌≤◌, ℕ, Some, IfOk, OnOk, length, replicate, slice_get};
+ghost use Rattle.std.specs.Prelude.{◌≡◌, ◌+◌, ◌<◌, ◌≤◌, ℕ, Some, false, IfOk, OnOk, length, replicate, slice_get};
 ghost use Rattle.std.specs.Option.{option_map};
-ghost use Rattle.gs_timeline.specs.Lanes.{LaneOf, each_then, empties, lane_then, left, placing_cpu, vacant};
-ghost use Rattle.gs_timeline.specs.Stays.{stays};
+ghost use Rattle.gs_timeline.specs.Homes.{AreHome};
+ghost use Rattle.gs_timeline.specs.Lanes.{LaneOf, each_then, empties, lane_then, left, placing, subject, vacant};
+ghost use Rattle.gs_timeline.specs.Stays.{all_stays, stays};
 
+use crate::homes::Homes;
 use crate::lane::Lane;
+use crate::stay::Stay;
 use gs_journal::{Entry, Journal};
 use gs_layout::Message;
 use std::alloc::{AllocError, Global};
@@ -33,6 +36,7 @@ fn end_each(lanes: &mut [Lane], cpu: u16, place: usize) -> Result<(), AllocError
 }
 
 /// Returns whether an entry takes a thread off its CPU, or all.
+#[inline(always)]
 fn empties_a_seat(entry: &Entry) -> bool
     ensures { result ≡ empties entry.now }
 {
@@ -44,30 +48,79 @@ fn empties_a_seat(entry: &Entry) -> bool
     }
 }
 
-/// Returns the CPU that an entry places a thread on, if it places one.
-fn placing_cpu(entry: &Entry) -> Option<u16>
-    ensures { result ≡ placing_cpu entry.now }
+/// Returns the thread that an entry places, and on which CPU, if it places one.
+#[inline(always)]
+fn placing(entry: &Entry) -> Option<(u32, u16)>
+    ensures { result ≡ placing entry.now }
 {
     match entry {
-        Entry::Placed { cpu, .. } => Some(*cpu),
+        Entry::Placed { tid, cpu, .. } => Some((*tid, *cpu)),
         _ => None,
     }
 }
 
-/// Changes the CPUs as an entry says. It looks only at those that the entry may change.
-fn hear(lanes: &mut [Lane], place: usize, entry: &Entry) -> Result<(), AllocError>
-    requires { length lanes.old ≤ u16.MAX }
+/// Returns the thread that an entry is about, if it is a message about one.
+#[inline(always)]
+fn subject(entry: &Entry) -> Option<u32>
+    ensures { result ≡ subject entry.now }
+{
+    match entry {
+        Entry::Posted {
+            message: Message::Thread { tid, .. },
+        } => Some(*tid),
+        _ => None,
+    }
+}
+
+/// Changes the CPUs as an entry says that takes a thread off its CPU, or all. It looks only at that CPU, if it is known.
+fn hear_leaving(
+    lanes: &mut [Lane],
+    homes: &Homes,
+    place: usize,
+    entry: &Entry,
+) -> Result<(), AllocError>
+    requires few { length lanes.old ≤ u16.MAX }
+    requires home { homes.now.lost ≡ false → AreHome homes.now.cpus.items 0 lanes.old }
     ensures { OnOk result (lanes.new ≡ each_then (lane_then place entry.now) 0 lanes.old) }
 {
-    if empties_a_seat(entry) {
+    let Some(tid) = subject(entry) else {
+        return hear_each(lanes, 0, place, entry);
+    };
+    if homes.is_lost() {
         return hear_each(lanes, 0, place, entry);
     }
-    let Some(cpu) = placing_cpu(entry) else {
+    let Some(cpu) = homes.cpu(tid) else {
         return Ok(());
     };
     if cpu as usize >= lanes.len() {
         return Ok(());
     }
+    lanes[cpu as usize].hear(cpu, place, entry)
+}
+
+/// Changes the CPUs as an entry says. It looks only at those that the entry may change.
+#[inline(always)]
+fn hear(
+    lanes: &mut [Lane],
+    homes: &mut Homes,
+    place: usize,
+    entry: &Entry,
+) -> Result<(), AllocError>
+    requires few { length lanes.old ≤ u16.MAX }
+    requires home { homes.old.lost ≡ false → AreHome homes.old.cpus.items 0 lanes.old }
+    ensures lanes { OnOk result (lanes.new ≡ each_then (lane_then place entry.now) 0 lanes.old) }
+    ensures home { OnOk result (homes.new.lost ≡ false → AreHome homes.new.cpus.items 0 lanes.new) }
+{
+    if empties_a_seat(entry) {
+        return hear_leaving(lanes, homes, place, entry);
+    }
+    let Some((tid, cpu)) = placing(entry) else {
+        return Ok(());
+    };
+    if cpu as usize >= lanes.len() {
+        return Ok(());
+    }
+    homes.place(lanes, tid, cpu)?;
     lanes[cpu as usize].hear(cpu, place, entry)
 }
 
@@ -95,10 +148,33 @@ pub fn stays(alloc: Global, journal: &Journal, cpus: u16) -> Result<Vec<Lane>, A
     ensures stays { IfOk result (λ lanes. (c : ℕ) → c < cpus → option_map (λ (lane : LaneOf). lane.ended) (slice_get lanes.items c) ≡ Some (stays journal.now.entries c)) }
 {
     let mut lanes = vacant_lanes(alloc, cpus)?;
+    let mut homes = Homes::new(alloc);
     for place in 0..journal.len() {
-        hear(lanes.as_mut_slice(), place, &journal.entry(place))?;
+        hear(
+            lanes.as_mut_slice(),
+            &mut homes,
+            place,
+            &journal.entry(place),
+        )?;
     }
     let end = journal.len();
     end_each(lanes.as_mut_slice(), 0, end)?;
     Ok(lanes)
+}
+
+/// Returns all stays on so many CPUs, those of each CPU behind those of the one before. It walks the entries once.
+///
+/// # Errors
+///
+/// `AllocError` if out of memory.
+#[tactic(auto, unfolding(crate::specs::Stays::all_stays))]
+pub fn all_stays(alloc: Global, journal: &Journal, cpus: u16) -> Result<Vec<Stay>, AllocError>
+    ensures { IfOk result (λ all. all.items ≡ all_stays journal.now.entries cpus) }
+{
+    let lanes = stays(alloc, journal, cpus)?;
+    let mut all = Vec::new(alloc);
+    for cpu in 0..cpus {
+        all.extend_from_slice(lanes[cpu as usize].stays())?;
+    }
+    Ok(all)
 }

@@ -20,9 +20,10 @@ use Rattle.gs_history.specs.Journal.{journal_lines}
 use Rattle.gs_history.specs.Json.{json_lines}
 use Rattle.gs_journal.specs.History.{History}
 use Rattle.std.specs.List.Sorted.{IsPermutation}
+use Rattle.gs_timeline.specs.Stays.{all_stays}
 use Rattle.gs_timeline.specs.declared.stay.Stay.{Stay}
 use Rattle.gs_perfetto.specs.Events.{slice_front}
-use Rattle.gs_perfetto.specs.Slices.{HasEach, all_stays}
+use Rattle.gs_perfetto.specs.Slices.{HasEach}
 use Rattle.gs_trace.specs.declared.form.Form.{Form}
 use Rattle.gs_trace.specs.declared.form.Form.TheVariants.{Lines, Report, Journal, Timeline, Trace}
 use Rattle.gs_trace.specs.declared.form.Notation.{Notation}

@@ -5,7 +5,8 @@ ghost use Rattle.gs_trace.specs.Watched.{landed, told_by, told_if, told_in};
 
 use crate::noted::Lines;
 use gs_core::{Event, Machine, Reply};
-use gs_kernel::Landing;
+use gs_kernel::{Executed, Landing};
+use gs_layout::Refusal;
 use gs_policy::{AnyPolicy, Choice};
 use gs_timeline::{AgentEvent, AgentMark, Fill, Mark, Notes, What};
 use std::alloc::{AllocError, Global};
@@ -152,20 +153,12 @@ impl Noting {
         }
     }
 
-    /// Notes what an event left: the line of the entries that it added, and how full the ring is.
-    pub(crate) fn look(
-        &mut self,
-        when: When,
-        reply: &Reply,
-        machine: &Machine<AnyPolicy>,
-    ) -> Result<(), AllocError>
+    /// Notes how full the ring is.
+    #[inline(always)]
+    fn look_at_ring(&mut self, when: When, machine: &Machine<AnyPolicy>) -> Result<(), AllocError>
         ensures { OnOk result (self.new.marks.items ≡ self.old.marks.items) }
     {
-        let kernel = machine.kernel();
-        let ring = kernel.poster();
-        let entries = kernel.journal().len();
-        let stamped = machine.transactions().len();
-        self.lines.note(when.line, reply, entries, stamped)?;
+        let ring = machine.kernel().poster();
         let used = ring.capacity().saturating_sub(ring.free());
         if used != self.used {
             self.used = used;
@@ -175,5 +168,38 @@ impl Noting {
             })?;
         }
         Ok(())
+    }
+
+    /// Notes what an event left: the line of the entries that it added, and how full the ring is.
+    pub(crate) fn look(
+        &mut self,
+        when: When,
+        reply: &Reply,
+        machine: &Machine<AnyPolicy>,
+    ) -> Result<(), AllocError>
+        ensures { OnOk result (self.new.marks.items ≡ self.old.marks.items) }
+    {
+        let entries = machine.kernel().journal().len();
+        let stamped = machine.transactions().len();
+        self.lines.note(when.line, reply, entries, stamped)?;
+        self.look_at_ring(when, machine)
+    }
+
+    /// Notes what a command left, as [`Noting::look`] notes what any event did.
+    #[inline(always)]
+    pub(crate) fn look_after(
+        &mut self,
+        when: When,
+        came: Result<Executed, Refusal>,
+        machine: &Machine<AnyPolicy>,
+    ) -> Result<(), AllocError>
+        ensures { OnOk result (self.new.marks.items ≡ self.old.marks.items) }
+    {
+        let last = machine.kernel().last();
+        let entries = machine.kernel().journal().len();
+        let stamped = machine.transactions().len();
+        self.lines
+            .note_command(when.line, came, last, entries, stamped)?;
+        self.look_at_ring(when, machine)
     }
 }

@@ -9,7 +9,7 @@ ghost use Rattle.gs_trace.specs.Output.{any_plans};
 ghost use Rattle.gs_trace.specs.Watched.{Watches};
 
 use crate::noting::{Noting, When};
-use gs_core::{Event, Machine, is_short};
+use gs_core::{Event, Machine, is_short, is_short_command};
 use gs_policy::AnyPolicy;
 use gs_script::{Reading, ScriptError};
 use std::alloc::{AllocError, Global};
@@ -28,6 +28,13 @@ fn watch_one(
         line,
         entries: machine.kernel().journal().len(),
     };
+    if let Event::Kernel { command } = event {
+        let came = machine.command(command);
+        if is_short_command(came) {
+            return Err(AllocError);
+        }
+        return noting.look_after(when, came, machine);
+    }
     let reply = machine.step(event);
     if is_short(slice::from_ref(&reply)) {
         return Err(AllocError);

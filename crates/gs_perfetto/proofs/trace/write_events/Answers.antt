@@ -1,4 +1,4 @@
-use Rattle.std.proofs.Common.{sym, subst, ℕ, List, get_or, map, take, string_bytes}
+use Rattle.std.proofs.Common.{sym, subst, ℕ, List, get_or, map, take}
 use Rattle.std.proofs.lemmas.List.{map_more, take_all}
 use Rattle.gs_timeline.specs.declared.stay.Stay.{Stay}
 use Rattle.gs_perfetto.specs.Events.{slice_back, slice_front}
@@ -14,17 +14,17 @@ loop-stay-preserved c =
     let i = c.loop-stay.stay-index in
     let xs : List Stay = c.args.stays.now in
     let x : Stay = get_or xs i none in
-    let old = string_bytes c.args.out.now in
-    let new = string_bytes c.write_slice.new.out in
+    let old = c.args.out.now in
+    let new = c.write_slice.new.out in
     let back = slice_back x c.line.result c.name.result.now in
-    let one = adds_told (map slice_front (take i xs)) (slice_front x) old (string_bytes c.loop-stay.out) (string_bytes c.write_told.new.out) back new c.loop-stay.invariant c.in_ok-write_told.ensures c.in_ok-write_slice.ensures in
+    let one = adds_told (map slice_front (take i xs)) (slice_front x) old c.loop-stay.out c.write_told.new.out back new c.loop-stay.invariant c.in_ok-write_told.ensures c.in_ok-write_slice.ensures in
     subst (λ (ps : List (List ℕ)). Adds ps old new) (sym (map_more slice_front xs i none c.loop-stay-test.true)) one
 
 pub returns : goal.returns
 returns c =
     let i = c.loop-stay.stay-index in
     let xs : List Stay = c.args.stays.now in
-    let old = string_bytes c.args.out.now in
-    let new = string_bytes c.push_str.new.self in
-    let all = adds_last (map slice_front (take i xs)) old (string_bytes c.loop-stay.out) (string_bytes c.write_told-2.new.out) c.as_str.result.now new c.loop-stay.invariant c.in_ok-write_told-2.ensures c.in_ok-push_str.ensures.bytes in
+    let old = c.args.out.now in
+    let new = c.push_sheet.new.self in
+    let all = adds_last (map slice_front (take i xs)) old c.loop-stay.out c.write_told-2.new.out c.finish.new.out new c.loop-stay.invariant c.in_ok-write_told-2.ensures c.in_ok-push_sheet.ensures in
     subst (λ (ss : List Stay). Adds (map slice_front ss) old new) (take_all i xs c.loop-stay-test.false) all

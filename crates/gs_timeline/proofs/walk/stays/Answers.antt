@@ -1,8 +1,10 @@
 use Rattle.std.proofs.Common.{◌≡◌, ◌+◌, ◌++◌, ℕ, Some, refl, List, sym, subst, ap, ◌∙◌, length, take, drop, slice_get, arith}
 use Rattle.std.specs.Option.{option_map}
 use Rattle.std.proofs.lemmas.List.{length-replicate}
+use Rattle.gs_timeline.specs.Homes.{AreHome}
 use Rattle.gs_timeline.specs.Lanes.{LaneOf, each_then, lane_then, left, vacant}
 use Rattle.gs_timeline.specs.Stays.{stays}
+use Rattle.gs_timeline.proofs.Housed.{vacant_home}
 use Rattle.gs_timeline.proofs.Walked.{AreLanes, in_place, lanes_ended, lanes_more, lanes_none, length_each}
 use Rattle.gs_timeline.proofs.walk.stays.Goals as goal
 
@@ -12,11 +14,19 @@ changed f n xs ys seen value len is =
     let same : ys ≡ each_then f 0 xs = is ∙ ap (each_then f 0) value in
     in_place n ys xs (ap length same ∙ (length_each f 0 xs ∙ (sym (ap length value) ∙ len))) ∙ same
 
+-- and that is what the slice was left as
+in_turn : (f : ℕ → LaneOf → LaneOf) (n : ℕ) (xs ys seen : List LaneOf) → seen ≡ xs → length seen ≡ n → ys ≡ each_then f 0 seen → ys ≡ take n (ys ++ drop (length ys) xs)
+in_turn f n xs ys seen value len is = is ∙ (ap (each_then f 0) value ∙ sym (changed f n xs ys seen value len is))
+
 pub loop-place-init : goal.loop-place-init
 loop-place-init c = (
   subst (AreLanes c.args.journal.now.entries 0 0) (sym c.in_ok-lanes.ensures) (lanes_none c.args.journal.now.entries c.args.cpus 0),
   ap length c.in_ok-lanes.ensures ∙ length-replicate c.args.cpus vacant,
+  λ f. subst (AreHome c.new-homes.result.cpus.items 0) (sym c.in_ok-lanes.ensures) (vacant_home c.new-homes.result.cpus.items c.args.cpus 0),
 )
+
+pub hear-requires-clause-home : goal.hear-requires-clause-home
+hear-requires-clause-home c = λ f. subst (AreHome c.loop-place.homes.cpus.items 0) (sym c.as_mut_slice.ensures.value) (c.loop-place.invariant.2 f)
 
 pub loop-place-preserved : goal.loop-place-preserved
 loop-place-preserved c =
@@ -24,9 +34,10 @@ loop-place-preserved c =
     let x = c.entry.result in
     let xs = c.loop-place.lanes.items in
     let s = c.as_mut_slice.ensures in
-    let whole = changed (lane_then n x) c.loop-place.lanes.len xs c.hear.new.lanes c.as_mut_slice.result.now s.value s.len c.in_ok-hear.ensures in (
+    let whole = changed (lane_then n x) c.loop-place.lanes.len xs c.hear.new.lanes c.as_mut_slice.result.now s.value s.len c.in_ok-hear.ensures.lanes in (
       subst (AreLanes c.args.journal.now.entries (n + 1) 0) (sym whole) (lanes_more c.args.journal.now.entries n x (omega (arith, c.loop-place-test.true, c.len-place-end.ensures.value)) c.entry.ensures.item 0 xs c.loop-place.invariant.0),
       ap length whole ∙ (length_each (lane_then n x) 0 xs ∙ c.loop-place.invariant.1),
+      λ f. subst (AreHome c.hear.new.homes.cpus.items 0) (in_turn (lane_then n x) c.loop-place.lanes.len xs c.hear.new.lanes c.as_mut_slice.result.now s.value s.len c.in_ok-hear.ensures.lanes) (c.in_ok-hear.ensures.home f),
     )
 
 pub returns-clause-stays : goal.returns-clause-stays

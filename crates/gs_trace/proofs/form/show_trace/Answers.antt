@@ -1,4 +1,4 @@
-use Rattle.std.proofs.Common.{◌≡◌, ◌∙◌, rules, subst, sym, ap, ℕ, List, string_bytes}
+use Rattle.std.proofs.Common.{◌≡◌, ◌∙◌, rules, subst, sym, ap, ℕ, List}
 use Rattle.gs_core.specs.Machine.{planning}
 use Rattle.gs_script.specs.Unread.{events_unread}
 use Rattle.gs_journal.specs.History.{History}
@@ -14,7 +14,7 @@ returns-clause-shown c =
     let out : List ℕ = c.into_bytes.result.items in
     let history : c.journal.result.now.entries ≡ end.history = c.journal.ensures.entries ∙ c.kernel-kernel.ensures.history in
     let cpus : c.settings-cpus.result.cpus ≡ end.settings.cpus = ap (λ (s : Settings). s.cpus) (c.settings-cpus.ensures.value ∙ c.kernel-kernel.ensures.settings) in
-    let bytes : out ≡ string_bytes c.in_ok-text.text = search rules in
+    let bytes : out ≡ c.in_ok-text.text = search rules in
     let text : IsTrace c.settings-cpus.result.cpus c.journal.result.now.entries out = subst (λ (bs : List ℕ). IsTrace c.settings-cpus.result.cpus c.journal.result.now.entries bs) (sym bytes) c.in_ok-text.ensures.stays in
     let trace : IsTrace end.settings.cpus end.history out = subst (λ (n : ℕ). IsTrace n end.history out) cpus (subst (λ (h : History). IsTrace c.settings-cpus.result.cpus h out) history text) in
     all_added _ (shown_as Trace) (planning any_plans c.args.machine.now) (events_unread c.args.script) end c.in_ok-noting.noting out c.in_ok-noting.ensures.added (λ rs h. trace)
