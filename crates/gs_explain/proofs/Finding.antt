@@ -1,10 +1,9 @@
 -- Each placing of a machine finds its CPU free.
-use Rattle.std.proofs.Common.{◌≡◌, sym, ◌∙◌, ap, subst, inl, inr, ◌≤◌, Option, None, Some, List, [], ◌∷◌, length}
+use Rattle.std.proofs.Common.{sym, ◌∙◌, ap, subst, inl, inr, ◌≤◌, Option, None, Some, [], length}
 use Rattle.gs_layout.specs.declared.refusal.Refusal.{Refusal}
 use Rattle.gs_journal.specs.declared.entry.Entry.TheVariants.{Left, Role}
 use Rattle.gs_journal.specs.History.{active}
 use Rattle.gs_kernel.specs.declared.command.Command.TheVariants as commands
-use Rattle.gs_kernel.specs.Lands.{Landings}
 use Rattle.gs_kernel.specs.Legal.{is_done}
 use Rattle.gs_replies.specs.declared.config.Config.{Config}
 use Rattle.gs_replies.specs.declared.reply.Reply.{Reply}

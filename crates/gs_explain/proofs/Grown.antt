@@ -1,5 +1,5 @@
 -- A step only adds to the history.
-use Rattle.std.proofs.Common.{◌≡◌, refl, sym, ◌∙◌, ap, subst, ◌⊎◌, inl, inr, ℕ, ◌+◌, ◌<◌, ◌≤◌, Bool, true, false, Option, None, Some, List, [], ◌∷◌, ◌++◌, append-nil, append_assoc, arith, take, length, length-append, cond}
+use Rattle.std.proofs.Common.{◌≡◌, refl, sym, ◌∙◌, ap, subst, inl, inr, ℕ, ◌≤◌, Bool, true, false, Option, None, Some, List, [], ◌∷◌, ◌++◌, append-nil, append_assoc, arith, take, length, length-append, cond}
 use Rattle.std.proofs.Math.Seq.{take-append_seam}
 use Rattle.gs_slots.specs.Flags.{single}
 use Rattle.gs_slots.specs.declared.flags.Flags.{Flags}
@@ -8,7 +8,6 @@ use Rattle.gs_layout.specs.declared.known.Known.{Known}
 use Rattle.gs_layout.specs.declared.refusal.Refusal.{Refusal}
 use Rattle.gs_layout.specs.declared.outcome.Outcome.{Outcome}
 use Rattle.gs_slots.specs.declared.state.Stamp.{Stamp}
-use Rattle.gs_journal.specs.declared.entry.Entry.{Entry}
 use Rattle.gs_journal.specs.declared.entry.Entry.TheVariants.{Left, Torn}
 use Rattle.gs_journal.specs.History.{History, active}
 use Rattle.gs_policy.specs.declared.choice.Choice.{Choice}
@@ -26,7 +25,7 @@ use Rattle.gs_replies.specs.declared.reply.Reply.{Reply}
 use Rattle.gs_core.specs.declared.transaction.Transaction.{Transaction}
 use Rattle.gs_core.specs.declared.event.Event.{Event}
 use Rattle.gs_core.specs.declared.event.Event.TheVariants as events
-use Rattle.gs_core.specs.Machine.{Does, IsShort, Plan, Serves, State, Step, decides, fits, plan_of, planned_by, refusal, stamp_of, stamps, stamps_all, stamps_with, view}
+use Rattle.gs_core.specs.Machine.{Does, Plan, Serves, State, Step, fits, plan_of, planned_by, refusal, stamp_of, stamps, stamps_all, stamps_with, view}
 
 -- a history with nothing, or something, behind it
 abbrev pub GrowsTo : History → History → Type 0

@@ -1,5 +1,5 @@
 -- What an index has heard, entry by entry.
-use Rattle.std.proofs.Common.{◌≡◌, refl, sym, ◌∙◌, ap, subst, ℕ, suc, ◌+◌, ◌<◌, ◌≤◌, Bool, true, false, List, [], ◌∷◌, ◌++◌, add-one, arith, take, drop, drop-cons, get_or, length, cond}
+use Rattle.std.proofs.Common.{◌≡◌, sym, ◌∙◌, ap, subst, ℕ, suc, ◌+◌, ◌<◌, ◌≤◌, true, false, [], ◌∷◌, ◌++◌, add-one, arith, take, drop, drop-cons, get_or, length, cond}
 use Rattle.std.proofs.Math.Seq.{take-suc}
 use Rattle.std.proofs.lemmas.List.{drop_all, length-take-le, take_all}
 use Rattle.gs_journal.specs.declared.entry.Entry.{Entry}

@@ -1,10 +1,9 @@
 -- The last transaction for each CPU, one more transaction marked.
-use Rattle.std.proofs.Common.{◌≡◌, ◌==◌, ◌∙◌, ◌&&◌, ap, sym, subst, ℕ, ◌+◌, ◌<◌, ◌≤◌, Bool, true, false, refl, Option, None, Some, List, [], arith, cond, get_or, length, take}
+use Rattle.std.proofs.Common.{◌≡◌, ◌==◌, ◌∙◌, ◌&&◌, ap, sym, subst, ℕ, ◌+◌, ◌<◌, ◌≤◌, true, refl, Option, Some, List, [], cond, get_or, length, take}
 use Rattle.std.proofs.lemmas.List.{take_all}
 use Rattle.gs_core.specs.declared.transaction.Transaction.{Transaction}
 use Rattle.gs_reasons.specs.Marks.{mark_at, place_then}
 use Rattle.gs_reasons.proofs.Laws.{and_true, place_more, place_nil, place_within, test_eq}
-use Rattle.gs_explain.specs.Landings.{last_for}
 use Rattle.gs_explain.specs.Marked.{IsMarked}
 
 -- the place of a mark that is set if a number is this one

@@ -1,5 +1,5 @@
 -- The entries for which a landing's reason is asked are those that it met.
-use Rattle.std.proofs.Common.{◌≡◌, refl, sym, ◌∙◌, ap, subst, ◌⊎◌, inl, inr, ℕ, suc, ◌+◌, Bool, true, false, Option, None, Some, List, [], ◌∷◌, ◌++◌, append-nil, append_assoc, arith, take, drop, length, length-append, cond, map, not, ◌&&◌}
+use Rattle.std.proofs.Common.{◌≡◌, refl, sym, ◌∙◌, ap, subst, ◌⊎◌, inl, inr, ℕ, suc, ◌+◌, Bool, true, false, Option, None, Some, List, [], ◌∷◌, ◌++◌, append-nil, append_assoc, take, drop, length, length-append, cond, map, not, ◌&&◌}
 use Rattle.std.proofs.lemmas.List.{map-append}
 use Rattle.std.proofs.Math.Seq.{drop-append_seam, take-append_seam}
 use Rattle.gs_layout.specs.declared.message.Message.{Message}
@@ -8,7 +8,7 @@ use Rattle.gs_layout.specs.declared.outcome.Outcome.TheVariants as outcomes
 use Rattle.gs_slots.specs.declared.state.Stamp.{Stamp}
 use Rattle.gs_slots.specs.declared.state.SlotState.{SlotState}
 use Rattle.gs_journal.specs.declared.entry.Entry.{Entry}
-use Rattle.gs_journal.specs.declared.entry.Entry.TheVariants.{Posted, Torn}
+use Rattle.gs_journal.specs.declared.entry.Entry.TheVariants.{Posted}
 use Rattle.gs_journal.specs.History.{History, torn}
 use Rattle.gs_status.specs.Masks.{has}
 use Rattle.gs_kernel.specs.declared.settings.Settings.{Settings}
@@ -17,7 +17,7 @@ use Rattle.gs_kernel.specs.declared.effect.Effect.TheVariants.{Append}
 use Rattle.gs_kernel.specs.Kernel.{preemption}
 use Rattle.gs_kernel.specs.Legal.{Room, Tells, entries_in}
 use Rattle.gs_kernel.specs.Landing.{placing, verdict}
-use Rattle.gs_kernel.specs.Lands.{Landings, Lands, LandsAll, Settles, is_to_place, placement, then_others}
+use Rattle.gs_kernel.specs.Lands.{Landings, Lands, LandsAll, Settles, is_to_place, placement}
 use Rattle.gs_kernel.proofs.Laws.{HasLanded, HasStayed, IsLeft, IsPut, all_keep, if_cases, settles_cases, torn_now}
 use Rattle.gs_reasons.proofs.Laws.{because_of}
 use Rattle.gs_layout.specs.declared.refusal.Refusal.{Refusal}

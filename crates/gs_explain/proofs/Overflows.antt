@@ -1,5 +1,5 @@
 -- What a message needs, and what is free, of the machine's ring.
-use Rattle.std.proofs.Common.{◌≡◌, ◌∙◌, ap, sym, subst, ℕ}
+use Rattle.std.proofs.Common.{◌≡◌, ◌∙◌, ap, ℕ}
 use Rattle.gs_policy.specs.declared.any.AnyPolicy.{AnyPolicy}
 use Rattle.gs_journal.specs.History.{posted}
 use Rattle.gs_ring.specs.Ends.{Posted, Posted-end, Posted-free}

@@ -1,5 +1,5 @@
 -- The entry that an explanation of a refused command names is the one that explains the refusal.
-use Rattle.std.proofs.Common.{◌≡◌, refl, ap, sym, subst, ◌∙◌, inl, inr, Bool, true, false, not, cond, Option, None, Some, Ok}
+use Rattle.std.proofs.Common.{◌≡◌, refl, ap, sym, subst, inl, inr, Bool, true, false, not, cond, Option, None, Some, Ok}
 use Rattle.std.specs.List.{list_any}
 use Rattle.gs_layout.specs.declared.refusal.Refusal.{Refusal}
 use Rattle.gs_layout.specs.declared.refusal.Refusal.TheVariants as refusals

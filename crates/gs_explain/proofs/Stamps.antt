@@ -1,5 +1,5 @@
 -- Which slots are stamped, one after another.
-use Rattle.std.proofs.Common.{◌≡◌, sym, ◌∙◌, ap, subst, ℕ, zero, suc, ◌+◌, ◌<◌, ◌≤◌, Bool, true, false, Option, None, Some, List, [], ◌∷◌, add-one, arith, drop, drop-cons, get_or, length, slice_get, cond}
+use Rattle.std.proofs.Common.{◌≡◌, sym, ◌∙◌, ap, ℕ, suc, ◌+◌, ◌≤◌, true, false, None, Some, List, ◌∷◌, add-one, arith, drop, drop-cons, length, slice_get, cond}
 use Rattle.std.proofs.lemmas.List.{drop_all}
 use Rattle.std.proofs.lemmas.Option.{get_or_from_slice_get, slice_get_within}
 use Rattle.gs_slots.specs.Reading.{states_in}

@@ -1,10 +1,9 @@
 -- No value of what explains an event has a float.
-use Rattle.std.proofs.Common.{◌≡◌, refl, ◌∙◌, ap, ℕ, Bool, true, false, not, ◌&&◌, ◌||◌, ◌==◌, cond, Option, None, Some, List, [], ◌∷◌, ◌++◌, map}
+use Rattle.std.proofs.Common.{◌≡◌, refl, ap, ℕ, Bool, true, false, not, ◌&&◌, ◌||◌, Option, None, Some, List, [], ◌∷◌, ◌++◌, map}
 use Rattle.serde_json.specs.Data.{Data, string}
 use Rattle.serde_json.specs.View.{items_of}
 use Rattle.serde_json.specs.Written.{has_float, items_have_float}
 use Rattle.gs_agent.specs.declared.drained.Drained.{Drained}
-use Rattle.gs_agent.specs.declared.drained.Stop.{Stop}
 use Rattle.gs_kernel.specs.declared.landing.Landing.{Landing}
 use Rattle.gs_reasons.specs.declared.group.GroupFault.{GroupFault}
 use Rattle.gs_replies.specs.declared.reply.Reply.{Reply}

@@ -11,7 +11,6 @@ use Rattle.gs_layout.specs.declared.message.Message.TheVariants.{Thread}
 use Rattle.gs_slots.specs.Flags.{no_flags}
 use Rattle.gs_slots.specs.declared.state.SlotState.TheVariants.{Idle, Stamped}
 use Rattle.gs_policy.specs.declared.any.AnyPolicy.{AnyPolicy}
-use Rattle.gs_journal.specs.declared.entry.Entry.{Entry}
 use Rattle.gs_journal.specs.declared.entry.Entry.TheVariants as entries
 use Rattle.gs_journal.specs.History.{History}
 use Rattle.gs_kernel.specs.declared.landing.Landing.{Landing}

@@ -1,5 +1,5 @@
 -- What is at hand about an event that happened.
-use Rattle.std.specs.Prelude.{ℕ, suc, zero, ◌==◌, Option, None, Some, Ok, List, map, slice_get}
+use Rattle.std.specs.Prelude.{ℕ, Option, None, Some, Ok, List, map, slice_get}
 use Rattle.gs_policy.specs.declared.any.AnyPolicy.{AnyPolicy}
 use Rattle.gs_journal.specs.declared.entry.Entry.{Entry}
 use Rattle.gs_journal.specs.History.{History, posted}

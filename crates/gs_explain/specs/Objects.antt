@@ -1,5 +1,5 @@
 -- What is shown of an event, as a JSON object.
-use Rattle.std.specs.Prelude.{Bool, true, ℕ, ◌-◌, Option, None, Some, List, [], ◌∷◌, ◌++◌, ◌&&◌, not, codes, length, map, option_map}
+use Rattle.std.specs.Prelude.{Bool, true, ℕ, ◌-◌, Option, None, Some, List, [], ◌∷◌, ◌++◌, ◌&&◌, not, codes, length, map}
 use Rattle.std.specs.Str.Lines.{lines as lines_in}
 use Rattle.serde_json.specs.Data.{Data, array, member, no_members, null, number, object, string, unsigned}
 use Rattle.serde_json.specs.View.{items_of}

@@ -6,16 +6,17 @@ use crate::moment::Scene;
 use gs_sentences::Cause;
 
 /// Returns the entry at a place, with the line that added it.
-pub(crate) fn cause_at(scene: &Scene<'_>, place: Option<usize>) -> Option<Cause>
+pub(crate) fn cause_at<'a>(scene: &Scene<'a>, place: Option<usize>) -> Option<Cause<'a>>
     ensures { causes_given result ≡ cause_at (moment_of scene.now) place }
 {
     let place = place?;
-    match (scene.noted.entries.get(place), scene.journal.get(place)) {
-        (Some(line), Some(entry)) => Some(Cause {
-            line: *line,
-            place,
-            entry,
-        }),
-        _ => None,
+    let line = *scene.noted.entries.get(place)?;
+    if scene.journal.len() <= place {
+        return None;
     }
+    Some(Cause {
+        line,
+        place,
+        journal: scene.journal,
+    })
 }

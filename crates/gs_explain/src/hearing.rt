@@ -17,7 +17,6 @@ fn is_placing(entry: &Entry) -> bool
 }
 
 /// Lets an index hear the next entry.
-
 fn hear_next(index: &mut Index, journal: &Journal, heard: usize) -> Result<(), AllocError>
     requires within { heard < length journal.now.entries }
     requires heard { HasHeard index.old (take heard journal.now.entries) }
@@ -27,7 +26,6 @@ fn hear_next(index: &mut Index, journal: &Journal, heard: usize) -> Result<(), A
 }
 
 /// Lets an index hear all entries, of which it heard so many.
-
 pub(crate) fn hear_all(index: &mut Index, journal: &Journal, heard: usize) -> Result<(), AllocError>
     requires within { heard ≤ length journal.now.entries }
     requires heard { HasHeard index.old (take heard journal.now.entries) }
@@ -63,7 +61,6 @@ fn hear_placing(index: &mut Index, journal: &Journal, heard: usize) -> Result<us
 }
 
 /// Lets an index hear what there is once a transaction has landed so, and returns how many entries that are.
-
 pub(crate) fn hear_landing(
     index: &mut Index,
     journal: &Journal,

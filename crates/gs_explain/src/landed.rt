@@ -1,6 +1,6 @@
 //! Why a transaction landed as it did.
 
-ghost use Rattle.std.specs.Prelude.{◌≡◌, ◌≤◌, length, take};
+ghost use Rattle.std.specs.Prelude.{◌≡◌, ◌≤◌, length, option_copied, take};
 ghost use Rattle.gs_reasons.specs.Kept.{HasHeard};
 ghost use Rattle.gs_reasons.specs.Group.{fault_of_group};
 ghost use Rattle.gs_sentences.specs.Given.{landed_given};
@@ -39,11 +39,10 @@ fn landed_place(scene: &Scene<'_>, landing: &Landing) -> Option<usize>
 }
 
 /// Returns the transaction at a place.
-fn transaction_at(transactions: &[Transaction], place: Option<usize>) -> Option<Transaction>
-    ensures { result ≡ transaction_at transactions.now place }
+fn transaction_at(transactions: &[Transaction], place: Option<usize>) -> Option<&Transaction>
+    ensures { option_copied result ≡ transaction_at transactions.now place }
 {
-    let place = place?;
-    transactions.get(place).copied()
+    transactions.get(place?)
 }
 
 /// Returns the line at a place, 0 if there is none.
@@ -57,8 +56,8 @@ pub(crate) fn line_at(lines: &[usize], place: Option<usize>) -> usize
 }
 
 /// Returns what was stamped, and on which line.
-fn stamped_by(transaction: Option<Transaction>, line: usize) -> Stamped
-    ensures { result ≡ stamped_by transaction line }
+fn stamped_by(transaction: Option<&Transaction>, line: usize) -> Stamped
+    ensures { result ≡ stamped_by (option_copied transaction.entry) line }
 {
     match transaction {
         Some(transaction) => Stamped {
@@ -83,8 +82,8 @@ fn stamped_at(scene: &Scene<'_>, place: Option<usize>) -> Stamped
 }
 
 /// Returns whether a transaction was stamped as one of a group.
-fn is_of_group(transaction: Option<Transaction>) -> bool
-    ensures { result ≡ is_of_group transaction }
+fn is_of_group(transaction: Option<&Transaction>) -> bool
+    ensures { result ≡ is_of_group (option_copied transaction.entry) }
 {
     match transaction {
         Some(transaction) => transaction.slot.flags.group,
@@ -130,36 +129,38 @@ pub(crate) fn is_gone(outcome: Outcome) -> bool
     matches!(outcome, Outcome::Gone)
 }
 
-/// Returns what did not fit, if it was so.
-fn overflow_if(torn: bool, overflow: Overflow) -> Option<Overflow>
-    ensures { result ≡ overflow_if torn overflow }
+/// Returns what did not fit, if a landing tore the enclave down.
+#[inline(always)]
+fn overflow_if(torn: bool, scene: &Scene<'_>) -> Option<Overflow>
+    ensures { result ≡ overflow_if torn (moment_of scene.now).overflow }
 {
-    if torn { Some(overflow) } else { None }
+    if torn {
+        Some(overflow_of(scene.event, scene.machine))
+    } else {
+        None
+    }
 }
 
 /// Returns why a transaction landed so. An index has heard the first entries, so many.
 #[inline(always)]
-pub(crate) fn landed(
-    scene: &Scene<'_>,
+pub(crate) fn landed<'a>(
+    scene: &Scene<'a>,
     index: &Index,
-    fault: Option<GroupFault>,
+    fault: &'a Option<GroupFault>,
     stood: bool,
     heard: usize,
-    landing: &Landing,
-) -> Landed
+    landing: &'a Landing,
+) -> Landed<'a>
     requires heard { HasHeard index.now (take heard scene.now.journal.now.entries) }
     requires marked { IsMarked scene.now.last.now.places.items scene.now.transactions.now }
-    ensures { landed_given result ≡ landed (moment_of scene.now) fault stood heard landing.now }
+    ensures { landed_given result ≡ landed (moment_of scene.now) fault.now stood heard landing.now }
 {
     let place = landed_place(scene, landing);
     Landed {
-        landing: *landing,
+        landing,
         stamped: stamped_at(scene, place),
         cause: cause_at(scene, index.cause(landing)),
-        overflow: overflow_if(
-            stood && is_gone(landing.outcome),
-            overflow_of(scene.event, scene.machine),
-        ),
+        overflow: overflow_if(stood && is_gone(landing.outcome), scene),
         fault,
         entries: heard,
         limit: scene.machine.kernel().settings().history,

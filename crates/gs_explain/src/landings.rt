@@ -22,14 +22,14 @@ fn write_why(
     out: &mut Page,
     scene: &Scene<'_>,
     index: &Index,
-    fault: Option<GroupFault>,
+    fault: &Option<GroupFault>,
     stood: bool,
     heard: usize,
     landing: &Landing,
 ) -> Result<(), AllocError>
     requires heard { HasHeard index.now (take heard scene.now.journal.now.entries) }
     requires marked { IsMarked scene.now.last.now.places.items scene.now.transactions.now }
-    ensures { OnOk result (out.new ≡ out.old ++ because (why_landed (moment_of scene.now) fault stood heard landing.now)) }
+    ensures { OnOk result (out.new ≡ out.old ++ because (why_landed (moment_of scene.now) fault.now stood heard landing.now)) }
 {
     if matches!(landing.outcome, Outcome::Placed) {
         return Ok(());
@@ -42,14 +42,14 @@ fn write_landed(
     out: &mut Page,
     scene: &Scene<'_>,
     index: &Index,
-    fault: Option<GroupFault>,
+    fault: &Option<GroupFault>,
     stood: bool,
     heard: usize,
     landing: &Landing,
 ) -> Result<(), AllocError>
     requires heard { HasHeard index.now (take heard scene.now.journal.now.entries) }
     requires marked { IsMarked scene.now.last.now.places.items scene.now.transactions.now }
-    ensures { OnOk result (out.new ≡ out.old ++ line (landing_text landing.now) ++ because (why_landed (moment_of scene.now) fault stood heard landing.now)) }
+    ensures { OnOk result (out.new ≡ out.old ++ line (landing_text landing.now) ++ because (why_landed (moment_of scene.now) fault.now stood heard landing.now)) }
 {
     out.landing(landing)?;
     write_why(out, scene, index, fault, stood, heard, landing)
@@ -60,14 +60,14 @@ pub(crate) fn write_landings(
     out: &mut Page,
     scene: &Scene<'_>,
     index: &mut Index,
-    fault: Option<GroupFault>,
+    fault: &Option<GroupFault>,
     heard: usize,
     landings: &[Landing],
 ) -> Result<usize, AllocError>
     requires within { heard ≤ length scene.now.journal.now.entries }
     requires heard { HasHeard index.old (take heard scene.now.journal.now.entries) }
     requires marked { IsMarked scene.now.last.now.places.items scene.now.transactions.now }
-    ensures shown { OnOk result (out.new ≡ out.old ++ landings_shown (moment_of scene.now) fault true heard landings.now) }
+    ensures shown { OnOk result (out.new ≡ out.old ++ landings_shown (moment_of scene.now) fault.now true heard landings.now) }
     ensures within { IfOk result (λ n. n ≤ length scene.now.journal.now.entries) }
     ensures heard { IfOk result (λ n. HasHeard index.new (take n scene.now.journal.now.entries)) }
 {
@@ -101,6 +101,6 @@ pub(crate) fn write_late_landing(
 {
     let n = hear_landing(index, scene.journal, heard, landing.outcome)?;
     out.late(number, landing)?;
-    write_why(out, scene, index, None, true, n, landing)?;
+    write_why(out, scene, index, &None, true, n, landing)?;
     Ok(n)
 }

@@ -99,6 +99,7 @@ impl Page {
     }
 
     /// Adds the line behind landings that tore the enclave down, if they did.
+    #[inline(always)]
     pub(crate) fn torn(&mut self, torn: bool) -> Result<(), AllocError>
         ensures { OnOk result (self.new ≡ self.old ++ torn_line torn) }
     {
@@ -131,7 +132,7 @@ impl Page {
     }
 
     /// Adds why a transaction was not placed, in a line of its own.
-    pub(crate) fn landed(&mut self, landed: &Landed) -> Result<(), AllocError>
+    pub(crate) fn landed(&mut self, landed: &Landed<'_>) -> Result<(), AllocError>
         ensures { OnOk result (self.new ≡ self.old ++ because (Some (reasons.Landed (landed_given landed.now)))) }
     {
         self.sentence.clear();
@@ -142,7 +143,7 @@ impl Page {
     }
 
     /// Adds why an event was refused, in a line of its own.
-    pub(crate) fn refused(&mut self, refused: &Refused) -> Result<(), AllocError>
+    pub(crate) fn refused(&mut self, refused: &Refused<'_>) -> Result<(), AllocError>
         ensures { OnOk result (self.new ≡ self.old ++ because (Some (reasons.Refused (refused_given refused.now)))) }
     {
         self.sentence.clear();
@@ -153,7 +154,7 @@ impl Page {
     }
 
     /// Adds a reason in a line of its own.
-    pub(crate) fn reason(&mut self, reason: &Reason) -> Result<(), AllocError>
+    pub(crate) fn reason(&mut self, reason: &Reason<'_>) -> Result<(), AllocError>
         ensures { OnOk result (self.new ≡ self.old ++ because (Some (reason_given reason.now))) }
     {
         self.sentence.clear();

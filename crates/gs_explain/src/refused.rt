@@ -70,6 +70,7 @@ fn refusal_sign(event: &Event<AnyPolicy>, refusal: Refusal) -> Option<Sign>
 }
 
 /// Returns the place of the last entry that says something of this, if it is asked for.
+#[inline(always)]
 fn place_of(index: &Index, scene: &Scene<'_>, sign: Option<Sign>) -> Option<usize>
     requires { HasHeard index.now scene.now.journal.now.entries }
     ensures { result ≡ place_of sign scene.now.journal.now.entries }
@@ -176,7 +177,7 @@ fn numbers(scene: &Scene<'_>, refusal: Refusal) -> Numbers
 
 /// Returns why an event was refused.
 #[inline(always)]
-pub(crate) fn why_refused(scene: &Scene<'_>, index: &Index, refusal: Refusal) -> Refused
+pub(crate) fn why_refused<'a>(scene: &Scene<'a>, index: &Index, refusal: Refusal) -> Refused<'a>
     requires heard { HasHeard index.now scene.now.journal.now.entries }
     requires marked { IsMarked scene.now.last.now.places.items scene.now.transactions.now }
     ensures { refused_given result ≡ why_refused (moment_of scene.now) refusal }
@@ -184,7 +185,7 @@ pub(crate) fn why_refused(scene: &Scene<'_>, index: &Index, refusal: Refusal) ->
     let place = place_of(index, scene, refusal_sign(scene.event, refusal));
     Refused {
         refusal,
-        event: *scene.event,
+        event: scene.event,
         cause: cause_at(scene, place),
         numbers: numbers(scene, refusal),
     }

@@ -1,13 +1,16 @@
 //! What is shown of an event.
 
-ghost use Rattle.std.specs.Prelude.{◌≡◌, ◌≤◌, ◌++◌, OnOk, length, take, true};
+ghost use Rattle.std.specs.Prelude.{◌≡◌, ◌≤◌, ◌++◌, Some, OnOk, length, take, true};
 ghost use Rattle.gs_reasons.specs.Kept.{HasHeard};
 ghost use Rattle.gs_script.specs.Words.{is_text};
 ghost use Rattle.gs_script.specs.Unread.{said_line};
 ghost use Rattle.gs_replies.specs.Replies.{reply_of};
 ghost use Rattle.gs_explain.specs.Marked.{IsMarked};
 ghost use Rattle.gs_explain.specs.Moment.{moment_of};
+ghost use Rattle.gs_explain.specs.Landings.{because};
+ghost use Rattle.gs_explain.specs.Refusals.{why_refused};
 ghost use Rattle.gs_explain.specs.Rows.{drained_shown, plain_shown, reply_shown, row};
+ghost use Rattle.gs_sentences.specs.Reason as reasons;
 
 use crate::hearing::hear_all;
 use crate::landed::group_fault;
@@ -43,6 +46,29 @@ fn write_drained(out: &mut Page, drained: &Drained) -> Result<(), AllocError>
     }
 }
 
+/// Adds why an event was refused. An index has heard all entries.
+#[inline(never)]
+fn write_refused(
+    out: &mut Page,
+    scene: &Scene<'_>,
+    index: &Index,
+    refusal: Refusal,
+) -> Result<(), AllocError>
+    requires heard { HasHeard index.now scene.now.journal.now.entries }
+    requires marked { IsMarked scene.now.last.now.places.items scene.now.transactions.now }
+    ensures { OnOk result (out.new ≡ out.old ++ because (Some (reasons.Refused (why_refused (moment_of scene.now) refusal)))) }
+{
+    out.refused(&why_refused(scene, index, refusal))
+}
+
+/// Adds what did not fit as an event tore the enclave down.
+#[inline(never)]
+fn write_torn(out: &mut Page, scene: &Scene<'_>) -> Result<(), AllocError>
+    ensures { OnOk result (out.new ≡ out.old ++ because (Some (reasons.Torn (moment_of scene.now).overflow))) }
+{
+    out.reason(&Reason::Torn(overflow_of(scene.event, scene.machine)))
+}
+
 /// Adds a reply that is of no landing, and what explains it. An index has heard all entries.
 fn write_plain(
     out: &mut Page,
@@ -56,8 +82,8 @@ fn write_plain(
 {
     out.reply(reply)?;
     match reply {
-        Reply::Refused(refusal) => out.refused(&why_refused(scene, index, *refusal)),
-        Reply::Torn => out.reason(&Reason::Torn(overflow_of(scene.event, scene.machine))),
+        Reply::Refused(refusal) => write_refused(out, scene, index, *refusal),
+        Reply::Torn => write_torn(out, scene),
         Reply::Drained(drained) => write_drained(out, drained),
         _ => Ok(()),
     }
@@ -83,7 +109,7 @@ fn write_shown(
             let landings = landings.as_slice();
             out.none(landings)?;
             let fault = group_fault(scene, landings);
-            let heard = write_landings(out, scene, index, fault, first, landings)?;
+            let heard = write_landings(out, scene, index, &fault, first, landings)?;
             hear_all(index, scene.journal, heard)?;
             out.torn(*torn)
         }
@@ -140,8 +166,8 @@ fn write_came(
     out.executed(came, last)?;
     match came {
         Ok(Executed::Done) => Ok(()),
-        Ok(Executed::Torn) => out.reason(&Reason::Torn(overflow_of(scene.event, scene.machine))),
-        Err(refusal) => out.refused(&why_refused(scene, index, refusal)),
+        Ok(Executed::Torn) => write_torn(out, scene),
+        Err(refusal) => write_refused(out, scene, index, refusal),
     }
 }
 

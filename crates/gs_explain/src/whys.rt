@@ -54,7 +54,7 @@ fn refusal_word(refusal: Refusal) -> &'static str
 }
 
 /// Returns a reason in a word: the outcome, the refusal, or what else it is.
-fn reason_word(reason: &Reason) -> &'static str
+fn reason_word(reason: &Reason<'_>) -> &'static str
     ensures { result.now ≡ reason_word (reason_given reason.now) }
 {
     match reason {
@@ -69,7 +69,7 @@ fn reason_word(reason: &Reason) -> &'static str
 }
 
 /// Returns the last entry that made it so, if one did.
-fn reason_cause(reason: &Reason) -> Option<Cause>
+fn reason_cause<'a>(reason: &Reason<'a>) -> Option<Cause<'a>>
     ensures { causes_given result ≡ reason_cause (reason_given reason.now) }
 {
     match reason {
@@ -80,7 +80,7 @@ fn reason_cause(reason: &Reason) -> Option<Cause>
 }
 
 /// Returns the place of an entry that is a reason.
-fn place_of_cause(cause: &Option<Cause>) -> Option<usize>
+fn place_of_cause(cause: &Option<Cause<'_>>) -> Option<usize>
     ensures { result ≡ place_of_cause (causes_given cause.now) }
 {
     match cause {
@@ -90,7 +90,7 @@ fn place_of_cause(cause: &Option<Cause>) -> Option<usize>
 }
 
 /// Returns the line that added an entry that is a reason.
-fn line_of_cause(cause: &Option<Cause>) -> Option<usize>
+fn line_of_cause(cause: &Option<Cause<'_>>) -> Option<usize>
     ensures { result ≡ line_of_cause (causes_given cause.now) }
 {
     match cause {
@@ -113,7 +113,7 @@ fn why_value(
 }
 
 /// Returns a reason as JSON.
-fn reason_value(alloc: Global, reason: &Reason) -> Result<Value, AllocError>
+fn reason_value(alloc: Global, reason: &Reason<'_>) -> Result<Value, AllocError>
     ensures { IfOk result (λ value. view value ≡ reason_data (reason_given reason.now)) }
 {
     let cause = reason_cause(reason);
@@ -130,7 +130,7 @@ fn reason_value(alloc: Global, reason: &Reason) -> Result<Value, AllocError>
 }
 
 /// Adds a reason.
-fn push_reason(alloc: Global, why: &mut Vec<Value>, reason: &Reason) -> Result<(), AllocError>
+fn push_reason(alloc: Global, why: &mut Vec<Value>, reason: &Reason<'_>) -> Result<(), AllocError>
     ensures { OnOk result (map view why.new.items ≡ map view why.old.items ++ reason_data (reason_given reason.now) ∷ []) }
 {
     why.push(reason_value(alloc, reason)?)?;
@@ -143,14 +143,14 @@ fn push_landed(
     why: &mut Vec<Value>,
     scene: &Scene<'_>,
     index: &Index,
-    fault: Option<GroupFault>,
+    fault: &Option<GroupFault>,
     stood: bool,
     heard: usize,
     landing: &Landing,
 ) -> Result<(), AllocError>
     requires heard { HasHeard index.now (take heard scene.now.journal.now.entries) }
     requires marked { IsMarked scene.now.last.now.places.items scene.now.transactions.now }
-    ensures { OnOk result (map view why.new.items ≡ map view why.old.items ++ listed (why_landed (moment_of scene.now) fault stood heard landing.now)) }
+    ensures { OnOk result (map view why.new.items ≡ map view why.old.items ++ listed (why_landed (moment_of scene.now) fault.now stood heard landing.now)) }
 {
     if matches!(landing.outcome, Outcome::Placed) {
         return Ok(());
@@ -165,14 +165,14 @@ fn push_landings(
     why: &mut Vec<Value>,
     scene: &Scene<'_>,
     index: &mut Index,
-    fault: Option<GroupFault>,
+    fault: &Option<GroupFault>,
     heard: usize,
     landings: &[Landing],
 ) -> Result<usize, AllocError>
     requires within { heard ≤ length scene.now.journal.now.entries }
     requires heard { HasHeard index.old (take heard scene.now.journal.now.entries) }
     requires marked { IsMarked scene.now.last.now.places.items scene.now.transactions.now }
-    ensures shown { OnOk result (map view why.new.items ≡ map view why.old.items ++ landings_why (moment_of scene.now) fault true heard landings.now) }
+    ensures shown { OnOk result (map view why.new.items ≡ map view why.old.items ++ landings_why (moment_of scene.now) fault.now true heard landings.now) }
     ensures within { IfOk result (λ n. n ≤ length scene.now.journal.now.entries) }
     ensures heard { IfOk result (λ n. HasHeard index.new (take n scene.now.journal.now.entries)) }
 {
@@ -260,12 +260,12 @@ fn push_whys(
             let landings = landings.as_slice();
             push_none(alloc, why, landings)?;
             let fault = group_fault(scene, landings);
-            let heard = push_landings(alloc, why, scene, index, fault, first, landings)?;
+            let heard = push_landings(alloc, why, scene, index, &fault, first, landings)?;
             hear_all(index, scene.journal, heard)
         }
         Reply::Late { landing, .. } => {
             let heard = hear_landing(index, scene.journal, first, landing.outcome)?;
-            push_landed(alloc, why, scene, index, None, true, heard, landing)?;
+            push_landed(alloc, why, scene, index, &None, true, heard, landing)?;
             hear_all(index, scene.journal, heard)
         }
         _ => {

@@ -53,6 +53,7 @@ impl Index {
     }
 
     /// Returns the place of the last entry that says something of this, at once.
+    #[inline(always)]
     pub fn last(&self, sign: &Sign) -> Option<usize>
         ensures { result ≡ look self.now sign.now }
     {
@@ -73,6 +74,7 @@ impl Index {
 
     /// Returns the place of the last entry that made a landing what it is, at once, as [`cause`](crate::cause) finds
     /// it by a walk over all entries that were heard.
+    #[inline(always)]
     #[tactic(auto, using(crate::proofs::Heard::heard_none, crate::proofs::Heard::heard_some))]
     pub fn cause(&self, landing: &Landing) -> Option<usize>
         ensures { (h : History) → HasHeard self.now h → result ≡ cause_of h landing.now }

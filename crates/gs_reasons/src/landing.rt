@@ -9,6 +9,7 @@ use gs_layout::Outcome;
 
 /// Returns what the reason of a landing is a sign of, or `None` if it was placed, or if no one entry is the
 /// reason.
+#[inline(always)]
 pub fn sign_of(landing: &Landing) -> Option<Sign>
     ensures { result ≡ sign_of landing.now }
 {

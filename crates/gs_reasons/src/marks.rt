@@ -28,6 +28,7 @@ impl Marks {
     }
 
     /// Returns the place of a number, `None` if it has none.
+    #[inline(always)]
     #[tactic(auto, using(crate::proofs::Heard::mark_beyond, crate::proofs::Heard::mark_within))]
     pub fn get(&self, key: usize) -> Option<usize>
         ensures { result ≡ mark_at self.now.places.items key }

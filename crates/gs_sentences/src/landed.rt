@@ -31,15 +31,15 @@ pub struct Stamped {
 
 /// A transaction that landed and was not placed, and what a sentence may tell of it.
 #[derive(Clone, Copy)]
-pub struct Landed {
-    pub landing: Landing,
+pub struct Landed<'a> {
+    pub landing: &'a Landing,
     pub stamped: Stamped,
     /// The last entry that made the landing what it is, if one did.
-    pub cause: Option<Cause>,
+    pub cause: Option<Cause<'a>>,
     /// What did not fit, if the landing tore the enclave down.
     pub overflow: Option<Overflow>,
     /// What failed its group, if that failed.
-    pub fault: Option<GroupFault>,
+    pub fault: &'a Option<GroupFault>,
     /// How many entries the journal had.
     pub entries: usize,
     /// The most that it may have.
@@ -69,18 +69,21 @@ pub(crate) fn put_full(to: &mut Sentence, entries: usize, limit: u32)
 }
 
 /// Puts the tear-down that took a transaction with it.
-fn put_gone(to: &mut Sentence, landed: &Landed)
+#[inline(always)]
+fn put_gone(to: &mut Sentence, landed: &Landed<'_>)
     requires { length to.old + 296 ≤ SENTENCE_LEN }
     ensures value { to.new ≡ gone_text (landed_given landed.now) landed.now.overflow ++ to.old }
     ensures short { length to.new ≤ length to.old + 296 }
 {
-    match &landed.overflow {
-        Some(overflow) => put_overflow(to, overflow),
-        None => put_torn_down(to, &landed.cause),
+    let cause = landed.cause;
+    match landed.overflow {
+        Some(overflow) => put_overflow(to, &overflow),
+        None => put_torn_down(to, &cause),
     }
 }
 
 /// Puts under which generation a transaction was stamped.
+#[inline(always)]
 fn put_displaced(to: &mut Sentence, stamped: &Stamped)
     requires { length to.old + 232 ≤ SENTENCE_LEN }
     ensures value { to.new ≡ displaced_text stamped.now ++ to.old }
@@ -92,6 +95,7 @@ fn put_displaced(to: &mut Sentence, stamped: &Stamped)
 }
 
 /// Puts at which number a transaction was stamped, and which one its thread has.
+#[inline(always)]
 fn put_stale(to: &mut Sentence, stamped: &Stamped, tid: u32, seen: u32)
     requires { length to.old + 336 ≤ SENTENCE_LEN }
     ensures value { to.new ≡ stale_text stamped.now tid seen ++ to.old }
@@ -116,54 +120,55 @@ fn put_somewhere(to: &mut Sentence, at: Option<u16>)
 }
 
 /// Puts why a transaction was not placed: a sentence that has no full stop and no newline.
-pub fn put_landed(to: &mut Sentence, landed: &Landed)
+#[inline(always)]
+pub fn put_landed(to: &mut Sentence, landed: &Landed<'_>)
     requires { length to.old + MOST_REASON_LEN ≤ SENTENCE_LEN }
     ensures value { to.new ≡ landed_text (landed_given landed.now) ++ to.old }
     ensures short { length to.new ≤ length to.old + MOST_REASON_LEN }
 {
     let tid = landed.landing.tid;
     let cpu = landed.landing.cpu;
-    let cause = &landed.cause;
+    let cause = landed.cause;
     match landed.landing.outcome {
         Outcome::Placed => put_words(to, Words::Placed),
         Outcome::Gone => put_gone(to, landed),
         Outcome::Displaced => {
-            put_agent(to, cause);
+            put_agent(to, &cause);
             put_displaced(to, &landed.stamped);
         }
-        Outcome::NoThread => put_dead(to, tid, cause),
+        Outcome::NoThread => put_dead(to, tid, &cause),
         Outcome::Stale => {
-            put_told(to, cause);
+            put_told(to, &cause);
             put_stale(to, &landed.stamped, tid, landed.landing.seen);
         }
         Outcome::NotRunnable => {
-            put_since(to, cause);
+            put_since(to, &cause);
             put_words(to, Words::IsBlocked);
             put_numbered(to, Words::Thread, tid as u64);
         }
         Outcome::AlreadyPlaced => {
-            put_since(to, cause);
+            put_since(to, &cause);
             put_somewhere(to, landed.landing.at);
             put_numbered(to, Words::Thread, tid as u64);
         }
         Outcome::NotAllowed => {
-            put_mask(to, cause);
+            put_mask(to, &cause);
             put_words(to, Words::ByItsMask);
             put_numbered(to, Words::MayNotRunOnCpu, cpu as u64);
             put_numbered(to, Words::Thread, tid as u64);
         }
-        Outcome::CpuIsAgent => put_agent(to, cause),
-        Outcome::CpuTaken => put_held(to, cpu, cause),
-        Outcome::CpuBusy => put_seat(to, cpu, cause),
+        Outcome::CpuIsAgent => put_agent(to, &cause),
+        Outcome::CpuTaken => put_held(to, cpu, &cause),
+        Outcome::CpuBusy => put_seat(to, cpu, &cause),
         Outcome::SeqSpent => {
             put_words(to, Words::AndHasItsLastSequenceNumber);
-            put_seat(to, cpu, cause);
+            put_seat(to, cpu, &cause);
         }
         Outcome::HistoryFull => put_full(to, landed.entries, landed.limit),
         Outcome::Malformed => {
             put_words(to, Words::IsMalformed);
             put_numbered(to, Words::TheSlotOfCpu, cpu as u64);
         }
-        Outcome::GroupFailed => put_group(to, &landed.fault),
+        Outcome::GroupFailed => put_group(to, landed.fault),
     }
 }

@@ -11,11 +11,11 @@ use gs_agent::Stop;
 
 /// Why an event came out as it did, or a part of it.
 #[derive(Clone, Copy)]
-pub enum Reason {
+pub enum Reason<'a> {
     /// Why a transaction was not placed.
-    Landed(Landed),
+    Landed(Landed<'a>),
     /// Why an event was refused.
-    Refused(Refused),
+    Refused(Refused<'a>),
     /// Why an event tore the enclave down.
     Torn(Overflow),
     /// Why a drain skipped so many messages.
@@ -57,7 +57,7 @@ fn put_orphans(to: &mut Sentence, count: usize)
 }
 
 /// Puts the sentence of a reason, which has no full stop and no newline.
-pub fn put_reason(to: &mut Sentence, reason: &Reason)
+pub fn put_reason(to: &mut Sentence, reason: &Reason<'_>)
     requires { length to.old + MOST_REASON_LEN ≤ SENTENCE_LEN }
     ensures value { to.new ≡ reason_text (reason_given reason.now) ++ to.old }
     ensures short { length to.new ≤ length to.old + MOST_REASON_LEN }

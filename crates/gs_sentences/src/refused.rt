@@ -19,16 +19,16 @@ use gs_status::Mask;
 
 /// An event that was refused, and what a sentence may tell of that.
 #[derive(Clone, Copy)]
-pub struct Refused {
+pub struct Refused<'a> {
     pub refusal: Refusal,
-    pub event: Event<AnyPolicy>,
+    pub event: &'a Event<AnyPolicy>,
     /// The last entry that made the refusal so, if one did.
-    pub cause: Option<Cause>,
+    pub cause: Option<Cause<'a>>,
     pub numbers: Numbers,
 }
 
 /// Puts that there is no such thread.
-fn put_no_thread(to: &mut Sentence, event: &Event<AnyPolicy>, cause: &Option<Cause>)
+fn put_no_thread(to: &mut Sentence, event: &Event<AnyPolicy>, cause: &Option<Cause<'_>>)
     requires { length to.old + 400 ≤ SENTENCE_LEN }
     ensures value { to.new ≡ no_thread_text event.now (causes_given cause.now) ++ to.old }
     ensures short { length to.new ≤ length to.old + 400 }
@@ -40,7 +40,7 @@ fn put_no_thread(to: &mut Sentence, event: &Event<AnyPolicy>, cause: &Option<Cau
 }
 
 /// Puts that a thread is on no CPU.
-fn put_off(to: &mut Sentence, tid: u32, cause: &Option<Cause>)
+fn put_off(to: &mut Sentence, tid: u32, cause: &Option<Cause<'_>>)
     requires { length to.old + 316 ≤ SENTENCE_LEN }
     ensures value { to.new ≡ off_text tid (causes_given cause.now) ++ to.old }
     ensures short { length to.new ≤ length to.old + 316 }
@@ -83,7 +83,7 @@ fn put_bad_cpu(to: &mut Sentence, cpu: u16, cpus: u16)
 }
 
 /// Puts that the other class does not hold a CPU.
-fn put_given(to: &mut Sentence, cpu: u16, cause: &Option<Cause>)
+fn put_given(to: &mut Sentence, cpu: u16, cause: &Option<Cause<'_>>)
     requires { length to.old + 316 ≤ SENTENCE_LEN }
     ensures value { to.new ≡ given_text cpu (causes_given cause.now) ++ to.old }
     ensures short { length to.new ≤ length to.old + 316 }
@@ -111,24 +111,22 @@ fn put_page(to: &mut Sentence, generation: u32, page: Option<usize>)
 }
 
 /// Puts why no agent attaches at this point.
-fn put_attaching(to: &mut Sentence, cause: &Option<Cause>, page: Option<usize>)
+fn put_attaching(to: &mut Sentence, cause: &Option<Cause<'_>>, page: Option<usize>)
     requires { length to.old + 400 ≤ SENTENCE_LEN }
     ensures value { to.new ≡ attaching_text (causes_given cause.now) page ++ to.old }
     ensures short { length to.new ≤ length to.old + 400 }
 {
     match cause {
-        Some(
-            Cause {
-                entry: Entry::Begin { generation },
-                ..
-            },
-        ) => put_page(to, *generation, page),
-        _ => put_agent(to, cause),
+        Some(last) => match last.entry() {
+            Entry::Begin { generation } => put_page(to, generation, page),
+            _ => put_agent(to, cause),
+        },
+        None => put_agent(to, cause),
     }
 }
 
 /// Puts whose sequence numbers are spent.
-fn put_spent(to: &mut Sentence, event: &Event<AnyPolicy>, cause: &Option<Cause>)
+fn put_spent(to: &mut Sentence, event: &Event<AnyPolicy>, cause: &Option<Cause<'_>>)
     requires { length to.old + 464 ≤ SENTENCE_LEN }
     ensures value { to.new ≡ spent_text event.now (causes_given cause.now) ++ to.old }
     ensures short { length to.new ≤ length to.old + 464 }
@@ -149,7 +147,7 @@ fn put_spent(to: &mut Sentence, event: &Event<AnyPolicy>, cause: &Option<Cause>)
 }
 
 /// Puts what has come to its last number.
-fn put_last(to: &mut Sentence, words: Words, cause: &Option<Cause>)
+fn put_last(to: &mut Sentence, words: Words, cause: &Option<Cause<'_>>)
     requires { length to.old + 296 ≤ SENTENCE_LEN }
     ensures value { to.new ≡ last_text (said words) (causes_given cause.now) ++ to.old }
     ensures short { length to.new ≤ length to.old + 296 }
@@ -169,6 +167,7 @@ fn stamps(event: &Event<AnyPolicy>) -> bool
 }
 
 /// Puts which list is full.
+#[inline(always)]
 fn put_full_list(to: &mut Sentence, stamps: bool, numbers: &Numbers)
     requires { length to.old + 232 ≤ SENTENCE_LEN }
     ensures value { to.new ≡ full_by stamps numbers.now ++ to.old }
@@ -184,6 +183,7 @@ fn put_full_list(to: &mut Sentence, stamps: bool, numbers: &Numbers)
 }
 
 /// Puts what waits in a slot.
+#[inline(always)]
 fn put_waiting(to: &mut Sentence, waiting: &Option<Waiting>)
     requires { length to.old + 252 ≤ SENTENCE_LEN }
     ensures value { to.new ≡ waiting_text waiting.now ++ to.old }
@@ -213,7 +213,7 @@ fn put_transactions(to: &mut Sentence, transactions: usize)
 }
 
 /// Puts that a thread may run, and since when.
-fn put_runs(to: &mut Sentence, tid: u32, cause: &Option<Cause>)
+fn put_runs(to: &mut Sentence, tid: u32, cause: &Option<Cause<'_>>)
     requires { length to.old + 380 ≤ SENTENCE_LEN }
     ensures value { to.new ≡ runs_text tid (causes_given cause.now) ++ to.old }
     ensures short { length to.new ≤ length to.old + 380 }
@@ -224,33 +224,34 @@ fn put_runs(to: &mut Sentence, tid: u32, cause: &Option<Cause>)
 }
 
 /// Puts why an event was refused: a sentence that has no full stop and no newline.
-pub fn put_refused(to: &mut Sentence, refused: &Refused)
+#[inline(always)]
+pub fn put_refused(to: &mut Sentence, refused: &Refused<'_>)
     requires { length to.old + MOST_REASON_LEN ≤ SENTENCE_LEN }
     ensures value { to.new ≡ refused_text (refused_given refused.now) ++ to.old }
     ensures short { length to.new ≤ length to.old + MOST_REASON_LEN }
 {
-    let event = &refused.event;
-    let cause = &refused.cause;
+    let event = refused.event;
+    let cause = refused.cause;
     let numbers = &refused.numbers;
     match refused.refusal {
-        Refusal::NoThread => put_no_thread(to, event, cause),
-        Refusal::NotRunning => put_off(to, tid_of(event), cause),
-        Refusal::NotBlocked => put_runs(to, tid_of(event), cause),
+        Refusal::NoThread => put_no_thread(to, event, &cause),
+        Refusal::NotRunning => put_off(to, tid_of(event), &cause),
+        Refusal::NotBlocked => put_runs(to, tid_of(event), &cause),
         Refusal::EmptyMask => put_bad_mask(to, mask_of(event), numbers.cpus),
         Refusal::BadCpu => put_bad_cpu(to, cpu_of(event), numbers.cpus),
         Refusal::AgentThere | Refusal::NotActive | Refusal::StillAttached => {
-            put_agent(to, cause);
+            put_agent(to, &cause);
         }
-        Refusal::CpuTaken => put_held(to, cpu_of(event), cause),
-        Refusal::NotTaken => put_given(to, cpu_of(event), cause),
-        Refusal::NotAttaching => put_attaching(to, cause, numbers.page),
-        Refusal::SeqSpent => put_spent(to, event, cause),
-        Refusal::GenSpent => put_last(to, Words::NoGenerationFollowsThat, cause),
-        Refusal::TidsSpent => put_last(to, Words::NoTidFollowsThat, cause),
+        Refusal::CpuTaken => put_held(to, cpu_of(event), &cause),
+        Refusal::NotTaken => put_given(to, cpu_of(event), &cause),
+        Refusal::NotAttaching => put_attaching(to, &cause, numbers.page),
+        Refusal::SeqSpent => put_spent(to, event, &cause),
+        Refusal::GenSpent => put_last(to, Words::NoGenerationFollowsThat, &cause),
+        Refusal::TidsSpent => put_last(to, Words::NoTidFollowsThat, &cause),
         Refusal::HistoryFull => put_full_list(to, stamps(event), numbers),
         Refusal::SlotOpen => put_waiting(to, &numbers.waiting),
         Refusal::NoSuchTransaction => put_transactions(to, numbers.transactions),
-        Refusal::Gone => put_torn_down(to, cause),
+        Refusal::Gone => put_torn_down(to, &cause),
         Refusal::OutOfMemory => put_words(to, Words::OutOfMemory),
     }
 }

@@ -5,7 +5,7 @@ ghost use Rattle.gs_sentences.specs.Given.{causes_given};
 ghost use Rattle.gs_sentences.specs.Shared.{agent_by, agent_text, change_text, dead_text, held_text, mask_by, mask_of_change, mask_text, seat_text, thread_by, told_by, told_text, torn_text};
 ghost use Rattle.gs_sentences.specs.Words.{said};
 
-use crate::cause::{Cause, put_on, put_place, put_since};
+use crate::cause::{Cause, put_line, put_on, put_place, put_since};
 use crate::sentence::{SENTENCE_LEN, Sentence};
 use crate::words::{Words, put_numbered, put_words};
 use gs_journal::Entry;
@@ -33,7 +33,7 @@ fn put_agent_by(to: &mut Sentence, entry: &Entry)
 }
 
 /// Puts which agent there is, and since when.
-pub(crate) fn put_agent(to: &mut Sentence, cause: &Option<Cause>)
+pub(crate) fn put_agent(to: &mut Sentence, cause: &Option<Cause<'_>>)
     requires { length to.old + 400 ≤ SENTENCE_LEN }
     ensures value { to.new ≡ agent_text (causes_given cause.now) ++ to.old }
     ensures short { length to.new ≤ length to.old + 400 }
@@ -41,14 +41,14 @@ pub(crate) fn put_agent(to: &mut Sentence, cause: &Option<Cause>)
     match cause {
         Some(cause) => {
             put_place(to, Words::SinceLine, cause);
-            put_agent_by(to, &cause.entry);
+            put_agent_by(to, &cause.entry());
         }
         None => put_words(to, Words::ThereNeverWasAnAgent),
     }
 }
 
 /// Puts that a thread is no more, or never was.
-pub(crate) fn put_dead(to: &mut Sentence, tid: u32, cause: &Option<Cause>)
+pub(crate) fn put_dead(to: &mut Sentence, tid: u32, cause: &Option<Cause<'_>>)
     requires { length to.old + 400 ≤ SENTENCE_LEN }
     ensures value { to.new ≡ dead_text tid (causes_given cause.now) ++ to.old }
     ensures short { length to.new ≤ length to.old + 400 }
@@ -76,7 +76,7 @@ fn put_thread_by(to: &mut Sentence, entry: &Entry)
 }
 
 /// Puts who is on a CPU, and since when.
-pub(crate) fn put_seat(to: &mut Sentence, cpu: u16, cause: &Option<Cause>)
+pub(crate) fn put_seat(to: &mut Sentence, cpu: u16, cause: &Option<Cause<'_>>)
     requires { length to.old + 400 ≤ SENTENCE_LEN }
     ensures value { to.new ≡ seat_text cpu (causes_given cause.now) ++ to.old }
     ensures short { length to.new ≤ length to.old + 400 }
@@ -85,14 +85,14 @@ pub(crate) fn put_seat(to: &mut Sentence, cpu: u16, cause: &Option<Cause>)
         Some(cause) => {
             put_place(to, Words::SinceLine, cause);
             put_numbered(to, Words::IsOnCpu, cpu as u64);
-            put_thread_by(to, &cause.entry);
+            put_thread_by(to, &cause.entry());
         }
         None => put_numbered(to, Words::AThreadIsOnCpu, cpu as u64),
     }
 }
 
 /// Puts that the other class holds a CPU, and since when.
-pub(crate) fn put_held(to: &mut Sentence, cpu: u16, cause: &Option<Cause>)
+pub(crate) fn put_held(to: &mut Sentence, cpu: u16, cause: &Option<Cause<'_>>)
     requires { length to.old + 316 ≤ SENTENCE_LEN }
     ensures value { to.new ≡ held_text cpu (causes_given cause.now) ++ to.old }
     ensures short { length to.new ≤ length to.old + 316 }
@@ -102,7 +102,7 @@ pub(crate) fn put_held(to: &mut Sentence, cpu: u16, cause: &Option<Cause>)
 }
 
 /// Puts that the enclave was torn down, and when.
-pub(crate) fn put_torn_down(to: &mut Sentence, cause: &Option<Cause>)
+pub(crate) fn put_torn_down(to: &mut Sentence, cause: &Option<Cause<'_>>)
     requires { length to.old + 296 ≤ SENTENCE_LEN }
     ensures value { to.new ≡ torn_text (causes_given cause.now) ++ to.old }
     ensures short { length to.new ≤ length to.old + 296 }
@@ -111,41 +111,50 @@ pub(crate) fn put_torn_down(to: &mut Sentence, cause: &Option<Cause>)
     put_words(to, Words::TheEnclaveWasTornDown);
 }
 
-/// Returns what a message told of a thread.
-fn change_words(change: &Change) -> Words
-    ensures { said result ≡ change_text change.now }
+/// Puts what a message told of a thread.
+#[inline(always)]
+fn put_change(to: &mut Sentence, change: &Change)
+    requires { length to.old + 64 ≤ SENTENCE_LEN }
+    ensures value { to.new ≡ change_text change.now ++ to.old }
+    ensures short { length to.new ≤ length to.old + 64 }
 {
     match change {
-        Change::Created { .. } => Words::SinceItsCreationOnLine,
-        Change::Blocked { .. } => Words::SinceItBlockedOnLine,
-        Change::Wakeup => Words::SinceItWasWokenOnLine,
-        Change::Preempted { .. } => Words::SinceItMadeWayOnLine,
-        Change::Yield { .. } => Words::SinceItYieldedOnLine,
-        Change::Dead { .. } => Words::SinceItDiedOnLine,
-        Change::Affinity { .. } => Words::SinceItsNewMaskOfLine,
+        Change::Created { .. } => put_words(to, Words::SinceItsCreationOnLine),
+        Change::Blocked { .. } => put_words(to, Words::SinceItBlockedOnLine),
+        Change::Wakeup => put_words(to, Words::SinceItWasWokenOnLine),
+        Change::Preempted { .. } => put_words(to, Words::SinceItMadeWayOnLine),
+        Change::Yield { .. } => put_words(to, Words::SinceItYieldedOnLine),
+        Change::Dead { .. } => put_words(to, Words::SinceItDiedOnLine),
+        Change::Affinity { .. } => put_words(to, Words::SinceItsNewMaskOfLine),
     }
 }
 
-/// Returns what an entry told of a thread.
-fn told_words(entry: &Entry) -> Words
-    ensures { said result ≡ told_by entry.now }
+/// Puts what an entry told of a thread.
+#[inline(always)]
+fn put_told_by(to: &mut Sentence, entry: &Entry)
+    requires { length to.old + 64 ≤ SENTENCE_LEN }
+    ensures value { to.new ≡ told_by entry.now ++ to.old }
+    ensures short { length to.new ≤ length to.old + 64 }
 {
     match entry {
         Entry::Posted {
             message: Message::Thread { change, .. },
-        } => change_words(change),
-        _ => Words::SinceLine,
+        } => put_change(to, change),
+        _ => put_words(to, Words::SinceLine),
     }
 }
 
 /// Puts by what a thread has its sequence number.
-pub(crate) fn put_told(to: &mut Sentence, cause: &Option<Cause>)
+pub(crate) fn put_told(to: &mut Sentence, cause: &Option<Cause<'_>>)
     requires { length to.old + 232 ≤ SENTENCE_LEN }
     ensures value { to.new ≡ told_text (causes_given cause.now) ++ to.old }
     ensures short { length to.new ≤ length to.old + 232 }
 {
     match cause {
-        Some(cause) => put_place(to, told_words(&cause.entry), cause),
+        Some(cause) => {
+            put_line(to, cause);
+            put_told_by(to, &cause.entry());
+        }
         None => {}
     }
 }
@@ -184,7 +193,7 @@ fn put_mask_by(to: &mut Sentence, entry: &Entry)
 }
 
 /// Puts a thread's mask, and since when it has it.
-pub(crate) fn put_mask(to: &mut Sentence, cause: &Option<Cause>)
+pub(crate) fn put_mask(to: &mut Sentence, cause: &Option<Cause<'_>>)
     requires { length to.old + 272 ≤ SENTENCE_LEN }
     ensures value { to.new ≡ mask_text (causes_given cause.now) ++ to.old }
     ensures short { length to.new ≤ length to.old + 272 }
@@ -192,7 +201,7 @@ pub(crate) fn put_mask(to: &mut Sentence, cause: &Option<Cause>)
     match cause {
         Some(cause) => {
             put_place(to, Words::SinceLine, cause);
-            put_mask_by(to, &cause.entry);
+            put_mask_by(to, &cause.entry());
         }
         None => {}
     }
