@@ -1,1 +1,3 @@
 mod Ranks
+mod Groups
+mod Accounts

@@ -1,2 +1,4 @@
 pub mod Spreads
 pub mod Tallies
+pub mod Groups
+pub mod Accounts

@@ -1,12 +1,14 @@
 //! What turns come to: how often, how long, and how the waits are spread.
 #![tactic(auto)]
 
-mod class;
+mod account;
+mod group;
+mod grouping;
 mod spread;
 mod sums;
 mod tally;
 
-pub use class::class_tally;
+pub use account::{Account, class_accounts, thread_accounts};
 pub use spread::{Percent, Spread, percentile};
-pub use sums::{Sums, Time};
+pub use sums::Sums;
 pub use tally::{Tally, tally_of};

@@ -1,17 +1,10 @@
-ghost use Rattle.std.specs.Prelude.{◌≡◌, ◌+◌, ◌*◌, ◌<◌, ◌^◌, ℕ};
-ghost use Rattle.gs_tallies.specs.Tallies.{IsOfFew, is_migrated, is_preempted, sums_of, sums_then, no_sums};
+ghost use Rattle.std.specs.Prelude.{◌≡◌};
+ghost use Rattle.std.specs.List.{count_by};
+ghost use Rattle.gs_turns.specs.Turns.{ran, waited};
+ghost use Rattle.gs_tallies.specs.Tallies.{is_migrated, is_preempted, ran_ticks, sums_of, time_of, waited_ticks};
 
 use gs_timeline::Ending;
-use gs_turns::Turn;
-
-/// A time in both measures. Times of threads together may be more than an entry's place can be.
-#[derive(Clone, Copy, PartialEq, Eq, Debug)]
-pub struct Time {
-    /// How many entries of the journal.
-    pub entries: u128,
-    /// How many ticks of the CPU among these.
-    pub ticks: u128,
-}
+use gs_turns::{Time, Turn};
 
 /// What turns come to.
 #[derive(Clone, Copy, PartialEq, Eq, Debug)]
@@ -45,61 +38,51 @@ fn is_migrated(turn: &Turn) -> bool
     }
 }
 
-impl Time {
-    /// Returns a time and a further one.
-    fn with(self, entries: usize, ticks: usize) -> Time
-        requires { (self.entries + 2 ^ 64 < 2 ^ 128) × (self.ticks + 2 ^ 64 < 2 ^ 128) }
-        ensures { result ≡ record { entries = self.entries + entries; ticks = self.ticks + ticks } }
-    {
-        Time {
-            entries: self.entries + entries as u128,
-            ticks: self.ticks + ticks as u128,
-        }
+/// Returns how long threads ran.
+fn ran_of(turns: &[Turn]) -> Time
+    ensures { result ≡ time_of ran ran_ticks turns.now }
+{
+    let mut time = Time::none();
+    for turn in turns {
+        time = time.with(turn.ran(), turn.ran_ticks);
     }
+    time
 }
 
-impl Sums {
-    /// What no turn comes to.
-    fn none() -> Sums
-        ensures { result ≡ no_sums }
-    {
-        let none = Time {
-            entries: 0,
-            ticks: 0,
-        };
-        Sums {
-            stays: 0,
-            ran: none,
-            waited: none,
-            preempted: 0,
-            migrated: 0,
-        }
+/// Returns how long they waited.
+fn waited_of(turns: &[Turn]) -> Time
+    ensures { result ≡ time_of waited waited_ticks turns.now }
+{
+    let mut time = Time::none();
+    for turn in turns {
+        time = time.with(turn.waited(), turn.waited_ticks);
     }
+    time
+}
 
-    /// Returns what so many turns and a further one come to.
-    fn with(self, count: usize, turn: &Turn) -> Sums
-        requires few { IsOfFew count self }
-        requires room { count < 2 ^ 63 }
-        ensures sums { result ≡ sums_then turn.now self }
-        ensures few { IsOfFew (count + 1) result }
-    {
-        Sums {
-            stays: self.stays + 1,
-            ran: self.ran.with(turn.ran(), turn.ran_ticks),
-            waited: self.waited.with(turn.waited(), turn.waited_ticks),
-            preempted: self.preempted + usize::from(is_preempted(turn)),
-            migrated: self.migrated + usize::from(is_migrated(turn)),
-        }
-    }
+/// Returns how many stays were preempted.
+fn preempted_of(turns: &[Turn]) -> usize
+    ensures { result ≡ count_by is_preempted turns.now }
+{
+    turns.iter().filter(|turn| is_preempted(turn)).count()
+}
+
+/// Returns how many are on another CPU than the thread's stay before.
+fn migrated_of(turns: &[Turn]) -> usize
+    ensures { result ≡ count_by is_migrated turns.now }
+{
+    turns.iter().filter(|turn| is_migrated(turn)).count()
 }
 
 /// Returns what turns come to.
 pub(crate) fn sums_of(turns: &[Turn]) -> Sums
     ensures { result ≡ sums_of turns.now }
 {
-    let mut sums = Sums::none();
-    for (count, turn) in turns.iter().enumerate() {
-        sums = sums.with(count, turn);
+    Sums {
+        stays: turns.len(),
+        ran: ran_of(turns),
+        waited: waited_of(turns),
+        preempted: preempted_of(turns),
+        migrated: migrated_of(turns),
     }
-    sums
 }

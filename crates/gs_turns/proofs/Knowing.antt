@@ -19,21 +19,21 @@ or_latest : {A : Type 0} (s o : Option A) → then_latest s o ≡ option_or s o
 or_latest (Some a) o = refl
 or_latest None o = refl
 
-latest_more : {A : Type 0} (f : Entry → Option A) (h : History) (n : ℕ) (x : Entry) → n < length h → x ≡ get_or h n x → latest f (take (n + 1) h) ≡ option_or (f x) (latest f (take n h))
+pub latest_more : {A : Type 0} (f : Entry → Option A) (h : History) (n : ℕ) (x : Entry) → n < length h → x ≡ get_or h n x → latest f (take (n + 1) h) ≡ option_or (f x) (latest f (take n h))
 latest_more f h n x lt is =
     ap (latest f) (take_more h n x lt)
     ∙ (latest-push f (take n h) (get_or h n x) ∙ (or_latest (f (get_or h n x)) (latest f (take n h)) ∙ ap (λ (y : Entry). option_or (f y) (latest f (take n h))) (sym is)))
 
-unwrapped : {A : Type 0} (s o : Option A) (d : A) → unwrap_or (option_or s o) d ≡ unwrap_or s (unwrap_or o d)
+pub unwrapped : {A : Type 0} (s o : Option A) (d : A) → unwrap_or (option_or s o) d ≡ unwrap_or s (unwrap_or o d)
 unwrapped (Some a) o d = refl
 unwrapped None o d = refl
 
-stance_more : (h : History) (n t : ℕ) (x : Entry) → n < length h → x ≡ get_or h n x → stance (take (n + 1) h) t ≡ unwrap_or (stance_by t x) (stance (take n h) t)
+pub stance_more : (h : History) (n t : ℕ) (x : Entry) → n < length h → x ≡ get_or h n x → stance (take (n + 1) h) t ≡ unwrap_or (stance_by t x) (stance (take n h) t)
 unfolding stance
 stance_more h n t x lt is = ap (λ (o : Option Stance). unwrap_or o Away) (latest_more (stance_by t) h n x lt is) ∙ unwrapped (stance_by t x) (latest (stance_by t) (take n h)) Away
 
 -- a thread is ready since some entry just where it is ready
-not_at_first : (t : ℕ) → is_ready t [] ≡ false
+pub not_at_first : (t : ℕ) → is_ready t [] ≡ false
 unfolding stance latest standing last_of
 not_at_first t = refl
 

@@ -1,4 +1,4 @@
-mod Knowing
+pub mod Knowing
 mod Ticking
 mod Ordering
 mod Lasting

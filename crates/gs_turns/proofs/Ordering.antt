@@ -1,27 +1,11 @@
 -- All stays, and where each stands.
-use Rattle.std.proofs.Common.{◌≡◌, refl, ap, sym, ◌∙◌, ℕ, zero, suc, ◌+◌, ◌<◌, ◌≤◌, Bool, true, false, cond, Option, None, Some, List, [], ◌∷◌, ◌++◌, length, get_or, slice_get, take, arith}
+use Rattle.std.proofs.Common.{◌≡◌, refl, ap, ◌∙◌, ℕ, zero, suc, ◌+◌, ◌<◌, ◌≤◌, Bool, true, false, cond, Option, None, Some, List, [], ◌∷◌, length, get_or, take, arith}
 use Rattle.std.specs.List.{All}
-use Rattle.std.specs.Option.{option_map}
 use Rattle.std.proofs.lemmas.List.{length-append}
 use Rattle.std.proofs.lemmas.List.Elements.{All-append, All-cons, All-tail}
-use Rattle.std.proofs.lemmas.Option.{same_Some, slice_get-get_or}
 use Rattle.gs_journal.specs.History.{History, on}
 use Rattle.gs_timeline.specs.declared.stay.Stay.{Stay}
-use Rattle.gs_timeline.specs.Lanes.{LaneOf}
-use Rattle.gs_timeline.specs.Stays.{goes_on, joined, runs, seats, stay, stays}
-use Rattle.gs_turns.specs.Turns.{all_stays}
-
-pub all_stays_none : (h : History) → all_stays h 0 ≡ []
-unfolding all_stays
-all_stays_none h = refl
-
-pub all_stays_more : (h : History) (c : ℕ) → all_stays h (c + 1) ≡ all_stays h c ++ stays h c
-unfolding all_stays
-all_stays_more h c = let e : c + 1 ≡ suc c = omega arith in rw e refl
-
-pub lane_stays : (lanes : List LaneOf) (c : ℕ) (l : LaneOf) (xs : List Stay) → option_map (λ (lane : LaneOf). lane.ended) (slice_get lanes c) ≡ Some xs → l ≡ get_or lanes c l → c < length lanes → l.ended ≡ xs
-lane_stays lanes c l xs told is lt =
-    same_Some l.ended xs (ap (λ (k : LaneOf). Some k.ended) is ∙ (sym (ap (option_map (λ (lane : LaneOf). lane.ended)) (slice_get-get_or lanes c l lt)) ∙ told))
+use Rattle.gs_timeline.specs.Stays.{all_stays, goes_on, joined, runs, seats, stay, stays}
 
 -- a stay begins by one of the entries, on the CPU that it is of
 abbrev IsWithin : ℕ → ℕ → Stay → Type 0

@@ -7,10 +7,10 @@ use Rattle.gs_journal.specs.declared.entry.Entry.TheVariants.{Posted, Placed, Ro
 use Rattle.gs_journal.specs.History.{History, on}
 use Rattle.gs_journal.specs.Standing.{last_of, latest, standing}
 use Rattle.gs_timeline.specs.declared.ending.Ending.TheVariants as endings
-use Rattle.gs_timeline.specs.Stays.{runs, seats, stay}
+use Rattle.gs_timeline.specs.Stays.{all_stays, runs, seats, stay}
 use Rattle.gs_turns.specs.Since.{since}
 use Rattle.gs_turns.specs.Stances.{class_in, last_cpu, stance}
-use Rattle.gs_turns.specs.Turns.{all_stays, turn_of}
+use Rattle.gs_turns.specs.Turns.{turn_of}
 
 -- thread 1 is created runnable, and thread 2 is not. Thread 1 is placed on CPU 1, preempted there for thread 2, and placed on CPU 0 while agents change hands
 abbrev example : History

@@ -1,19 +1,14 @@
 -- The turns of a history: each stay of a thread on a CPU, with the wait before it.
-use Rattle.std.specs.Prelude.{◌≡◌, ◌-◌, ℕ, zero, suc, List, [], ◌++◌, map, slice_get, unwrap_or}
+use Rattle.std.specs.Prelude.{◌≡◌, ◌-◌, ℕ, List, map, slice_get, unwrap_or}
 use Rattle.std.specs.List.Sorted.{IsNonDecreasingBy, IsPermutation}
 use Rattle.gs_journal.specs.History.{History}
 use Rattle.gs_timeline.specs.Endings.{ending_of}
-use Rattle.gs_timeline.specs.Stays.{stays}
+use Rattle.gs_timeline.specs.Stays.{all_stays}
 use Rattle.gs_timeline.specs.declared.stay.Stay.{Stay}
 use Rattle.gs_turns.specs.Knowing.{known}
 use Rattle.gs_turns.specs.Ticked.{ticked}
 use Rattle.gs_turns.specs.declared.stance.Known.{Known}
 use Rattle.gs_turns.specs.declared.turn.Turn.{Turn}
-
--- the stays on so many CPUs, those of each CPU behind those of the one before
-unfoldable pub all_stays : History → ℕ → List Stay
-all_stays h zero = []
-all_stays h (suc c) = all_stays h c ++ stays h c
 
 -- since which entry the thread of a stay was ready, up to the entry that placed it: the place of that one, if it was not ready
 abbrev pub waits_since : Known → Stay → ℕ

@@ -41,7 +41,7 @@ fn stance_of_change(change: &Change) -> Option<Stance>
 }
 
 /// Returns how an entry leaves a thread, or `None` if it leaves that as it is.
-fn stance_by(tid: u32, entry: &Entry) -> Option<Stance>
+pub fn stance_by(tid: u32, entry: &Entry) -> Option<Stance>
     ensures { result ≡ stance_by tid entry.now }
 {
     match entry {

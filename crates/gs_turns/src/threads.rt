@@ -23,7 +23,7 @@ impl Model for Threads {
 }
 
 /// Returns the thread that an entry is about, or `None` if it is about none.
-fn subject(entry: &Entry) -> Option<u32>
+pub fn subject(entry: &Entry) -> Option<u32>
     ensures { result ≡ subject entry.now }
 {
     match entry {
@@ -64,6 +64,13 @@ impl Threads {
         Threads {
             table: Vec::new(alloc),
         }
+    }
+
+    /// Returns the table itself.
+    pub(crate) fn into_table(self) -> Vec<Known>
+        ensures { result.items ≡ self }
+    {
+        self.table
     }
 
     /// Returns what is known of a thread.

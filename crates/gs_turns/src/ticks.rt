@@ -55,7 +55,7 @@ impl Ticks {
 }
 
 /// Returns the CPU that an entry is a tick of, if it is a tick.
-fn tick_cpu(entry: &Entry) -> Option<u16>
+pub fn tick_cpu(entry: &Entry) -> Option<u16>
     ensures { result ≡ tick_cpu entry.now }
 {
     match entry {

@@ -4,27 +4,15 @@ ghost use Rattle.std.specs.List.Sorted.{IsNonDecreasingBy};
 ghost use Rattle.gs_timeline.specs.declared.stay.Stay.{Stay};
 ghost use Rattle.gs_turns.specs.Knowing.{AreKnown, known};
 ghost use Rattle.gs_turns.specs.Ticked.{tick_places};
-ghost use Rattle.gs_turns.specs.Turns.{IsTurns, all_stays, turn_of};
+ghost use Rattle.gs_turns.specs.Turns.{IsTurns, turn_of};
 
 use crate::stance::Known;
 use crate::threads::Threads;
 use crate::ticks::{Ticks, ticks_of};
 use crate::turn::Turn;
 use gs_journal::Journal;
-use gs_timeline::{Ending, Stay, stays};
+use gs_timeline::{Ending, Stay, all_stays};
 use std::alloc::{AllocError, Global};
-
-/// Returns all stays on so many CPUs, those of each CPU behind those of the one before.
-fn all_stays(alloc: Global, journal: &Journal, cpus: u16) -> Result<Vec<Stay>, AllocError>
-    ensures { IfOk result (λ all. all.items ≡ all_stays journal.now.entries cpus) }
-{
-    let lanes = stays(alloc, journal, cpus)?;
-    let mut all = Vec::new(alloc);
-    for cpu in 0..cpus {
-        all.extend_from_slice(lanes[cpu as usize].stays())?;
-    }
-    Ok(all)
-}
 
 /// Lets what is known of the threads hear the entries from one on and before another.
 fn hear_up_to(
@@ -100,4 +88,19 @@ pub fn turns(alloc: Global, journal: &Journal, cpus: u16) -> Result<Vec<Turn>, A
     let mut order = all_stays(alloc, journal, cpus)?;
     order.sort_by_key(|stay| stay.from)?;
     turns_of(alloc, journal, &ticks, &order)
+}
+
+/// Returns what is known of each thread behind all entries, in the place of its tid. Nothing is known of others.
+///
+/// It walks the entries once.
+///
+/// # Errors
+///
+/// `AllocError` if out of memory.
+pub fn known_threads(alloc: Global, journal: &Journal) -> Result<Vec<Known>, AllocError>
+    ensures { IfOk result (λ all. AreKnown journal.now.entries (length journal.now.entries) all.items) }
+{
+    let mut threads = Threads::new(alloc);
+    hear_up_to(&mut threads, journal, 0, journal.len())?;
+    Ok(threads.into_table())
 }

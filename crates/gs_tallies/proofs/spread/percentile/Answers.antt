@@ -1,4 +1,3 @@
-use Rattle.std.proofs.Common.{◌≡◌, ◌∙◌, ◌-◌, ℕ, List, length, get_or, subst, arith}
 use Rattle.gs_tallies.specs.Spreads.{percent_of}
 use Rattle.gs_tallies.proofs.Ranks.{ranked}
 use Rattle.gs_tallies.proofs.spread.percentile.Goals as goal

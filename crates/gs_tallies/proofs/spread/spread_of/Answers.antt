@@ -1,7 +1,6 @@
-use Rattle.std.proofs.Common.{◌≡◌, ◌∙◌, ◌<◌, ap, sym, subst, ℕ, List, length, arith}
+use Rattle.std.proofs.Common.{sym, subst, ℕ, List}
 use Rattle.std.specs.List.Sorted.{IsNonDecreasingBy, IsPermutation}
 use Rattle.std.proofs.lemmas.List.Sorted.{IsNonDecreasingBy-from_sort}
-use Rattle.gs_tallies.specs.Spreads.{IsSpread}
 use Rattle.gs_tallies.proofs.Ranks.{spread_reordered}
 use Rattle.gs_tallies.proofs.spread.spread_of.Goals as goal
 

@@ -1,0 +1,7 @@
+mod Adding
+mod Telling
+mod Wanting
+mod Hearing
+mod Accounting
+mod Places
+mod WorkedUses

@@ -1,0 +1,4 @@
+pub mod Uses
+pub mod Times
+pub mod Waiting
+pub mod Accounts

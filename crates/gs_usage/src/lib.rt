@@ -1,0 +1,14 @@
+//! What each CPU was used for: the other class, the agent, a thread, or nothing, though a thread waited or not.
+#![tactic(auto)]
+
+mod account;
+mod law;
+mod row;
+mod state;
+mod threads;
+mod usage;
+mod walk;
+
+pub use law::each_time_has_one_use;
+pub use usage::{Usage, Use};
+pub use walk::usages;
