@@ -1,28 +1,17 @@
 -- What comes of a task, and that it comes of the words that ask for it.
-use Rattle.std.proofs.Common.{◌≡◌, ◌≢◌, refl, sym, ap, inl, inr, subst, ℕ, ◌≤◌, List, [], Option, None, Some, Result, Ok, Err, true, false, arith}
+use Rattle.std.proofs.Common.{◌≡◌, refl, sym, inl, inr, subst, ℕ, List, Option, None, Some, Result, Ok, Err, true, false}
 use Rattle.std.specs.Prelude.{IfErr, IsSomeAnd}
-use Rattle.std.specs.Io.KnownBytes.{Appends, Keeps}
+use Rattle.std.specs.Io.KnownBytes.{Keeps}
 use Rattle.clap.specs.Words.{Text}
 use Rattle.clap.specs.declared.error.Error.{Error}
 use Rattle.gs_arguments.specs.Arguments.{AsksAllowed, command_in, file_in}
 use Rattle.gs_arguments.specs.declared.arguments.Command.{Command}
 use Rattle.gs_arguments.specs.declared.arguments.Command.TheVariants as commands
-use Rattle.gs_trace.specs.Streams.{AnswersAll, AnswersRead, BeginsAnswer, ConsumesAtMost}
-use Rattle.gs_trace.specs.declared.pipe.TheConstants.{MOST_READ_BYTES}
 use Rattle.gs_trace.specs.declared.run.Ended.{Ended}
-use Rattle.gs_trace.specs.declared.run.Ended.TheVariants.{Ran}
-use Rattle.gs_trace.specs.declared.run.TraceFault.{TraceFault}
-use Rattle.gs_trace.specs.declared.run.TraceFault.TheVariants.{WriteFailed}
-use Rattle.gs_workers.specs.Written.{BeginsText, IsText, WhyUntold}
-use Rattle.gs_workers.specs.declared.fault.WorkFault.{WorkFault}
-use Rattle.gs_workers.specs.declared.fault.WorkFault.TheVariants as works
-use Rattle.gs_workers.specs.declared.text.Shown.{Shown}
-use Rattle.gs_workers.specs.declared.work.Work.{Work}
-use Rattle.ghost_cli.specs.Asked.{Answers, Does, DoesFrom, MayBe, task_asked}
+use Rattle.ghost_cli.specs.Asked.{Does, DoesFrom, MayBe, task_asked}
 use Rattle.ghost_cli.specs.Failures.{IsOfTask, IsOfWords, IsToldBy, IsUnopened, SaidOf}
 use Rattle.ghost_cli.specs.declared.asked.Task.{Task}
 use Rattle.ghost_cli.specs.declared.asked.Task.TheVariants.{Script, Workers}
-use Rattle.ghost_cli.specs.declared.asked.Wanted.{Wanted}
 use Rattle.ghost_cli.specs.declared.failure.Failure.{Failure}
 use Rattle.ghost_cli.specs.declared.failure.Failure.TheVariants as failures
 
@@ -40,6 +29,7 @@ may_be (commands.Journal true) allowed = tt
 may_be (commands.Journal false) allowed = tt
 may_be (commands.Timeline from to listed) allowed = tt
 may_be (commands.Timehist json) allowed = tt
+may_be (commands.Latency json threads) allowed = tt
 may_be commands.Trace allowed = tt
 may_be (commands.Threads workers each journal) (least, few, some, bounded) = record { few = few; bounded = bounded }
 

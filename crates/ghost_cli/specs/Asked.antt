@@ -16,7 +16,6 @@ use Rattle.gs_timeline.specs.declared.notes.Listed.{Listed}
 use Rattle.gs_timeline.specs.declared.notes.Listed.TheVariants as listed
 use Rattle.gs_trace.specs.Output.{IsShown, shown_as}
 use Rattle.gs_trace.specs.Streams.{AnswersAll, AnswersRead, BeginsAnswer, ConsumesAtMost}
-use Rattle.gs_trace.specs.declared.form.Form.{Form}
 use Rattle.gs_trace.specs.declared.form.Form.TheVariants.{Lines, Report, Journal, Timeline, Trace}
 use Rattle.gs_trace.specs.declared.form.Notation.{Notation}
 use Rattle.gs_trace.specs.declared.form.Notation.TheVariants as notations
@@ -77,6 +76,7 @@ task_asked (commands.Journal false) = Script (wanted.Shown (Journal notations.Li
 task_asked (commands.Journal true) = Script (wanted.Shown (Journal notations.Json))
 task_asked (commands.Timeline from to l) = Script (wanted.Shown (Timeline from to (listed_asked l)))
 task_asked (commands.Timehist json) = Script (wanted.Tabled (tables.Timehist (notation_asked json)))
+task_asked (commands.Latency json threads) = Script (wanted.Tabled (tables.Latency (notation_asked json) threads))
 task_asked commands.Trace = Script (wanted.Shown Trace)
 task_asked (commands.Threads workers each journal) = Workers (record { workers = workers; each = each }) (shown_asked journal)
 
@@ -123,7 +123,7 @@ DoesFrom (Some file) task had left before after result = Keeps had left × DoesI
 
 -- whether a word is a command of the program
 abbrev pub is_command : Text → Bool
-is_command word = list_any (bytes_eq word) (codes "run" ∷ codes "explain" ∷ codes "report" ∷ codes "journal" ∷ codes "timeline" ∷ codes "timehist" ∷ codes "trace" ∷ codes "threads" ∷ codes "help" ∷ [])
+is_command word = list_any (bytes_eq word) (codes "run" ∷ codes "explain" ∷ codes "report" ∷ codes "journal" ∷ codes "timeline" ∷ codes "timehist" ∷ codes "latency" ∷ codes "trace" ∷ codes "threads" ∷ codes "help" ∷ [])
 
 abbrev pub is_option : Text → Bool
 is_option word = get_or word 0 0 == 45

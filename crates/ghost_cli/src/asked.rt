@@ -141,6 +141,14 @@ fn task_of(command: Command) -> Task
                 table: Table::Timehist(notation_of(json)),
             },
         },
+        Command::Latency { json, threads } => Task::Script {
+            wanted: Wanted::Tabled {
+                table: Table::Latency {
+                    notation: notation_of(json),
+                    threads,
+                },
+            },
+        },
         Command::Trace => script(Form::Trace),
         Command::Threads {
             workers,

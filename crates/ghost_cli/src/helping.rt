@@ -22,6 +22,7 @@ fn is_command(word: &str) -> bool
             | "journal"
             | "timeline"
             | "timehist"
+            | "latency"
             | "trace"
             | "threads"
             | "help"

@@ -14,10 +14,10 @@ use Rattle.clap.proofs.ValueTestLemmas.{accepts-Accepts, Accepts-accepts}
 use Rattle.clap.specs.declared.builder.value_parser.ValueParser.TheVariants as vp
 use Rattle.clap.proofs.OnLiterals.{clap_on_literals}
 use Rattle.gs_arguments.specs.declared.arguments.Command.{Command}
-use Rattle.gs_arguments.specs.declared.arguments.Command.TheVariants.{Run, Explain, Report, Journal, Timeline, Timehist, Trace, Threads}
+use Rattle.gs_arguments.specs.declared.arguments.Command.TheVariants.{Run, Explain, Report, Journal, Timeline, Timehist, Latency, Trace, Threads}
 use Rattle.gs_arguments.specs.declared.arguments.Listed.{Listed}
 use Rattle.gs_arguments.specs.declared.arguments.TheConstants.{DEFAULT_LINES, LEAST_COUNT, MOST_EACH, MOST_LINES, MOST_WORKERS}
-use Rattle.gs_arguments.specs.Arguments.{ghost_program, command_from, command_given, backward, place_in, unless_backward, command_in, AsksAllowed, count_of, flag_of, number_of, threads_given, timeline_given}
+use Rattle.gs_arguments.specs.Arguments.{ghost_program, command_from, command_given, backward, unless_backward, command_in, AsksAllowed, count_of, flag_of, latency_given, number_of, threads_given, timeline_given}
 
 -- the default as a word of the command line
 pub default_word : codes "10" ≡ decimal DEFAULT_LINES
@@ -67,6 +67,11 @@ journal_allowed (Some json) command e = let same : Journal json ≡ command = cc
 timehist_allowed : (o : Option Bool) (command : Command) → option_map Timehist o ≡ Some command → AsksAllowed command
 timehist_allowed None command e = absurd cc
 timehist_allowed (Some json) command e = let same : Timehist json ≡ command = cc in subst AsksAllowed same tt
+
+latency_allowed : (json threads : Option Bool) (command : Command) → option_and_then (λ j. option_map (λ t. Latency j t) threads) json ≡ Some command → AsksAllowed command
+latency_allowed None threads command e = absurd cc
+latency_allowed (Some json) None command e = absurd cc
+latency_allowed (Some json) (Some threads) command e = let same : Latency json threads ≡ command = cc in subst AsksAllowed same tt
 
 not_above : (from to : ℕ) (listed : Listed) → backward (Timeline from to listed) ≡ None → from ≤ to
 not_above from to listed e = by_test (nat_lt to from) refl e
@@ -137,21 +142,22 @@ report_allowed rows command e = by_count (option_and_then (count_of MOST_LINES) 
 
 -- a command that is given is in its range
 given_allowed : (given : Text × List Row) (command : Command) → command_given given ≡ Some command → backward command ≡ None → AsksAllowed command
-given_allowed given command is forward = by_name (bytes_eq given.0 (codes "run")) (bytes_eq given.0 (codes "explain")) (bytes_eq given.0 (codes "report")) (bytes_eq given.0 (codes "journal")) (bytes_eq given.0 (codes "timeline")) (bytes_eq given.0 (codes "timehist")) (bytes_eq given.0 (codes "trace")) (bytes_eq given.0 (codes "threads")) is
+given_allowed given command is forward = by_name (bytes_eq given.0 (codes "run")) (bytes_eq given.0 (codes "explain")) (bytes_eq given.0 (codes "report")) (bytes_eq given.0 (codes "journal")) (bytes_eq given.0 (codes "timeline")) (bytes_eq given.0 (codes "timehist")) (bytes_eq given.0 (codes "latency")) (bytes_eq given.0 (codes "trace")) (bytes_eq given.0 (codes "threads")) is
   where
-    by_name : (run explain report journal timeline timehist trace threads : Bool)
+    by_name : (run explain report journal timeline timehist latency trace threads : Bool)
         → cond run (Some Run) (cond explain (option_map Explain (option_and_then flag_of (one_of (codes "json") given.1))) (cond report (option_map Report (option_and_then (count_of MOST_LINES) (one_of (codes "last") given.1)))
         (cond journal (option_map Journal (option_and_then flag_of (one_of (codes "json") given.1)))
-        (cond timeline (timeline_given given.1) (cond timehist (option_map Timehist (option_and_then flag_of (one_of (codes "json") given.1))) (cond trace (Some Trace) (cond threads (threads_given given.1) None))))))) ≡ Some command → AsksAllowed command
-    by_name true explain report journal timeline timehist trace threads e = let same : Run ≡ command = cc in subst AsksAllowed same tt
-    by_name false true report journal timeline timehist trace threads e = explain_allowed _ command e
-    by_name false false true journal timeline timehist trace threads e = report_allowed given.1 command e
-    by_name false false false true timeline timehist trace threads e = journal_allowed _ command e
-    by_name false false false false true timehist trace threads e = timeline_allowed _ _ _ _ command e forward
-    by_name false false false false false true trace threads e = timehist_allowed _ command e
-    by_name false false false false false false true threads e = let same : Trace ≡ command = cc in subst AsksAllowed same tt
-    by_name false false false false false false false true e = threads_allowed given.1 command e
-    by_name false false false false false false false false e = absurd cc
+        (cond timeline (timeline_given given.1) (cond timehist (option_map Timehist (option_and_then flag_of (one_of (codes "json") given.1))) (cond latency (latency_given given.1) (cond trace (Some Trace) (cond threads (threads_given given.1) None)))))))) ≡ Some command → AsksAllowed command
+    by_name true explain report journal timeline timehist latency trace threads e = let same : Run ≡ command = cc in subst AsksAllowed same tt
+    by_name false true report journal timeline timehist latency trace threads e = explain_allowed _ command e
+    by_name false false true journal timeline timehist latency trace threads e = report_allowed given.1 command e
+    by_name false false false true timeline timehist latency trace threads e = journal_allowed _ command e
+    by_name false false false false true timehist latency trace threads e = timeline_allowed _ _ _ _ command e forward
+    by_name false false false false false true latency trace threads e = timehist_allowed _ command e
+    by_name false false false false false false true trace threads e = latency_allowed _ _ command e
+    by_name false false false false false false false true threads e = let same : Trace ≡ command = cc in subst AsksAllowed same tt
+    by_name false false false false false false false false true e = threads_allowed given.1 command e
+    by_name false false false false false false false false false e = absurd cc
 
 pub in_range : (given : Option (Text × List Row)) (command : Command) → command_from given ≡ Some command → AsksAllowed command
 in_range None command is = absurd cc

@@ -6,7 +6,7 @@ use Rattle.clap.specs.Words.{App, Row, Rule, Text, first_of, new_app, new_rule, 
 use Rattle.clap.specs.declared.builder.action.ArgAction.TheVariants.{SetTrue}
 use Rattle.clap.specs.declared.builder.value_parser.ValueParser.TheVariants as vp
 use Rattle.gs_arguments.specs.declared.arguments.Command.{Command}
-use Rattle.gs_arguments.specs.declared.arguments.Command.TheVariants.{Run, Explain, Report, Journal, Timeline, Timehist, Trace, Threads}
+use Rattle.gs_arguments.specs.declared.arguments.Command.TheVariants.{Run, Explain, Report, Journal, Timeline, Timehist, Latency, Trace, Threads}
 use Rattle.gs_arguments.specs.declared.arguments.Listed.{Listed}
 use Rattle.gs_arguments.specs.declared.arguments.Listed.TheVariants.{All, Few, Most, One}
 use Rattle.gs_arguments.specs.declared.arguments.TheConstants.{DEFAULT_LINES, LEAST_COUNT, LEAST_LINES, MOST_EACH, MOST_LINES, MOST_WORKERS}
@@ -61,6 +61,9 @@ trace_alone = reads_script (new_app (codes "trace"))
 abbrev pub timehist_alone : App
 timehist_alone = reads_script (with_rule (new_app (codes "timehist")) (flag_rule (codes "json")))
 
+abbrev pub latency_alone : App
+latency_alone = reads_script (with_rule (with_rule (new_app (codes "latency")) (flag_rule (codes "json"))) (flag_rule (codes "threads")))
+
 -- an option that has to be given: a count, of which this is the most
 abbrev pub count_rule : Text → ℕ → Rule
 count_rule name most = record (new_rule name) { long = Some name; value_names = 1; required = true; parser = Some (vp.Unsigned LEAST_COUNT most) }
@@ -70,7 +73,7 @@ threads_alone = with_rule (with_rule (with_rule (new_app (codes "threads")) (cou
 
 abbrev pub ghost_program : App
 ghost_program =
-    with_subcommand (with_subcommand (with_subcommand (with_subcommand (with_subcommand (with_subcommand (with_subcommand (with_subcommand ghost_alone run_alone.top) explain_alone.top) report_alone.top) journal_alone.top) timeline_alone.top) timehist_alone.top) trace_alone.top) threads_alone.top
+    with_subcommand (with_subcommand (with_subcommand (with_subcommand (with_subcommand (with_subcommand (with_subcommand (with_subcommand (with_subcommand ghost_alone run_alone.top) explain_alone.top) report_alone.top) journal_alone.top) timeline_alone.top) timehist_alone.top) latency_alone.top) trace_alone.top) threads_alone.top
 
 -- the number that a text spells in decimal digits, of those that 64 bits hold
 abbrev pub number_of : Text → Option ℕ
@@ -104,6 +107,10 @@ abbrev pub timeline_given : List Row → Option Command
 timeline_given rows =
     option_map (λ all. Timeline (place_in rows (codes "from") 0) (place_in rows (codes "to") 18446744073709551615) (listed_by all (number_in rows (codes "thread")) (number_in rows (codes "threads")))) (option_and_then flag_of (one_of (codes "all-threads") rows))
 
+-- `latency`, with the values that were given to it
+abbrev pub latency_given : List Row → Option Command
+latency_given rows = option_and_then (λ json. option_map (λ threads. Latency json threads) (option_and_then flag_of (one_of (codes "threads") rows))) (option_and_then flag_of (one_of (codes "json") rows))
+
 -- `threads`, with the values that were given to it
 abbrev pub threads_given : List Row → Option Command
 threads_given rows =
@@ -122,6 +129,7 @@ command_given given =
     else if bytes_eq given.0 (codes "journal") then option_map Journal (option_and_then flag_of (one_of (codes "json") given.1))
     else if bytes_eq given.0 (codes "timeline") then timeline_given given.1
     else if bytes_eq given.0 (codes "timehist") then option_map Timehist (option_and_then flag_of (one_of (codes "json") given.1))
+    else if bytes_eq given.0 (codes "latency") then latency_given given.1
     else if bytes_eq given.0 (codes "trace") then Some Trace
     else if bytes_eq given.0 (codes "threads") then threads_given given.1
     else None
@@ -162,6 +170,7 @@ AsksAllowed (Explain json) = ⊤
 AsksAllowed (Journal json) = ⊤
 AsksAllowed (Timeline from to listed) = from ≤ to
 AsksAllowed (Timehist json) = ⊤
+AsksAllowed (Latency json threads) = ⊤
 AsksAllowed Trace = ⊤
 AsksAllowed (Report last) = (LEAST_LINES ≤ last) × (last ≤ MOST_LINES)
 AsksAllowed (Threads workers each journal) = (LEAST_COUNT ≤ workers) × (workers ≤ MOST_WORKERS) × (LEAST_COUNT ≤ each) × (each ≤ MOST_EACH)

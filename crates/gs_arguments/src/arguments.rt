@@ -3,7 +3,7 @@ ghost use Rattle.clap.specs.Words.{app_of, first_of, found_of, new_app, kind_of,
 ghost use Rattle.clap.specs.Kinds.{HasKind, Kinds};
 ghost use Rattle.clap.specs.declared.builder.command.Command.TheViews.{out-Command as fields_of};
 ghost use Rattle.clap.specs.Faults.{fault_of};
-ghost use Rattle.gs_arguments.specs.Arguments.{AsksAllowed, backward, command_from, command_given, command_in, count_of, count_rule, explain_alone, file_from, file_in, file_rule, flag_of, flag_rule, ghost_alone, ghost_program, journal_alone, last_rule, listed_by, number_of, place_rule, report_alone, run_alone, threads_alone, timehist_alone, timeline_alone, timeline_given, timeline_of_part, trace_alone, unless_standard};
+ghost use Rattle.gs_arguments.specs.Arguments.{AsksAllowed, backward, command_from, command_given, command_in, count_of, count_rule, explain_alone, file_from, file_in, file_rule, flag_of, flag_rule, ghost_alone, ghost_program, journal_alone, last_rule, latency_alone, latency_given, listed_by, number_of, place_rule, report_alone, run_alone, threads_alone, timehist_alone, timeline_alone, timeline_given, timeline_of_part, trace_alone, unless_standard};
 ghost use Rattle.gs_arguments.specs.declared.arguments.Command.{Command};
 ghost use Rattle.gs_arguments.specs.declared.arguments.Command.TheVariants.{Journal, Report};
 
@@ -82,6 +82,14 @@ pub enum Command {
     Timehist {
         /// As JSON Lines.
         json: bool,
+    },
+    /// Run it, and write tables of how long threads waited and ran, of what became of slots, and of what CPUs were used for, to
+    /// standard output.
+    Latency {
+        /// As JSON Lines.
+        json: bool,
+        /// With lines for each thread, too.
+        threads: bool,
     },
     /// Run it, and write a trace of all that happened to standard output, as JSON.
     Trace,
@@ -292,6 +300,24 @@ fn timehist_command<'a>(alloc: Global) -> Result<clap::Command<'a>, AllocError>
         .arg(file_argument(alloc))
 }
 
+/// The command `latency`.
+fn latency_command<'a>(alloc: Global) -> Result<clap::Command<'a>, AllocError>
+    ensures shape { IfOk result (λ command. app_of command ≡ latency_alone) }
+    ensures local { IfOk result (λ command. (fields_of command).has_globals ≡ false) }
+{
+    clap::Command::new(alloc, "latency")
+        .about(
+            "Runs a script and writes how long its threads waited and ran, what became of slots, and what CPUs were used for, to standard output",
+        )
+        .arg(flag(
+            alloc,
+            "json",
+            "Writes a JSON object for each class, thread and CPU, one a line",
+        ))?
+        .arg(flag(alloc, "threads", "Tells of each thread, too"))?
+        .arg(file_argument(alloc))
+}
+
 /// The command `threads`.
 fn threads_command<'a>(alloc: Global) -> Result<clap::Command<'a>, AllocError>
     ensures shape { IfOk result (λ command. app_of command ≡ threads_alone) }
@@ -352,6 +378,7 @@ fn with_commands<'a>(
     let journal = journal_command(alloc)?;
     let timeline = timeline_command(alloc)?;
     let timehist = timehist_command(alloc)?;
+    let latency = latency_command(alloc)?;
     let trace = trace_command(alloc)?;
     let threads = threads_command(alloc)?;
     alone
@@ -361,6 +388,7 @@ fn with_commands<'a>(
         .subcommand(journal)?
         .subcommand(timeline)?
         .subcommand(timehist)?
+        .subcommand(latency)?
         .subcommand(trace)?
         .subcommand(threads)
 }
@@ -411,6 +439,16 @@ fn timeline_given(given: &clap::ArgMatches<'_>) -> Option<Command>
     })
 }
 
+/// The command `latency`, with the values of its options.
+fn latency_given(given: &clap::ArgMatches<'_>) -> Option<Command>
+    ensures { result ≡ latency_given (rows_of (found_of given.now)) }
+{
+    Some(Command::Latency {
+        json: flag_in(given, "json")?,
+        threads: flag_in(given, "threads")?,
+    })
+}
+
 /// The command that was given, with the values of its options.
 fn command_given(matches: &clap::ArgMatches<'_>) -> Option<Command>
     ensures { result ≡ option_and_then command_given (subcommand_rows_of matches.now) }
@@ -430,6 +468,7 @@ fn command_given(matches: &clap::ArgMatches<'_>) -> Option<Command>
         ("timehist", given) => Some(Command::Timehist {
             json: flag_in(given, "json")?,
         }),
+        ("latency", given) => latency_given(given),
         ("trace", _) => Some(Command::Trace),
         ("threads", given) => Some(Command::Threads {
             workers: count_in(given, "workers", MOST_WORKERS)?,

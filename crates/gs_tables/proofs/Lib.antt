@@ -2,3 +2,4 @@ mod Noting
 mod Rowing
 mod Tabled
 mod Whole
+mod Listing

@@ -1,6 +1,6 @@
 -- A script's tables.
-use Rattle.std.specs.Prelude.{◌≡◌, ℕ, List, [], ◌∷◌, false, Result}
-use Rattle.std.specs.List.{list_any}
+use Rattle.std.specs.Prelude.{◌≡◌, Bool, ℕ, List, [], ◌∷◌, ◌++◌, false, true, Result, length, map}
+use Rattle.std.specs.List.{AllZip, list_any, range_with_len}
 use Rattle.gs_journal.specs.History.{History}
 use Rattle.gs_kernel.specs.declared.landing.Landing.{Landing}
 use Rattle.gs_replies.specs.declared.reply.Reply.{Reply}
@@ -15,12 +15,18 @@ use Rattle.gs_trace.specs.declared.form.Notation.{Notation}
 use Rattle.gs_trace.specs.declared.run.Ended.{Ended}
 use Rattle.gs_trace.specs.Noted.{Noted, noted_first}
 use Rattle.gs_trace.specs.Output.{IsAnswer, any_plans}
+use Rattle.gs_turns.specs.Knowing.{AreKnown}
 use Rattle.gs_turns.specs.Turns.{IsTurns}
+use Rattle.gs_turns.specs.declared.stance.Known.{Known}
 use Rattle.gs_turns.specs.declared.turn.Turn.{Turn}
 use Rattle.gs_tables.specs.declared.run.Table.{Table}
-use Rattle.gs_tables.specs.declared.run.Table.TheVariants.{Timehist}
+use Rattle.gs_tables.specs.declared.run.Table.TheVariants.{Latency, Timehist}
 use Rattle.gs_tables.specs.Notes.{IsNoted, Line, Notes, landings_in}
+use Rattle.gs_tables.specs.Latency.{latency_of}
 use Rattle.gs_tables.specs.Timehist.{table_of}
+use Rattle.gs_tallies.specs.Accounts.{IsAccountOfClass, IsAccountOfThread, classes, created_in}
+use Rattle.gs_tallies.specs.declared.account.Account.{Account}
+use Rattle.gs_usage.specs.Uses.{usage_of}
 
 -- this text is the table of the turns of a history on so many CPUs, whose entries these lines added
 pub record ShowsTurns (notation : Notation) (lines : List ℕ) (cpus : ℕ) (h : History) (out : List ℕ) : Type 0 where
@@ -28,9 +34,33 @@ pub record ShowsTurns (notation : Notation) (lines : List ℕ) (cpus : ℕ) (h :
   pub are : IsTurns cpus h turns
   pub is : out ≡ table_of notation lines turns
 
+-- the threads that a table has lines for: none, or each that was created
+abbrev pub listed_in : Bool → List Known → List ℕ
+listed_in false known = []
+listed_in true known = created_in known
+
+-- these are what each class comes to, by turns and by what became of slots, and behind these, if they are listed, each thread of a history
+pub record AreAccounts (listed : Bool) (h : History) (turns : List Turn) (landings : List Landing) (all : List Account) : Type 0 where
+  pub known : List Known
+  pub tell : AreKnown h (length h) known
+  pub by_class : List Account
+  pub of_classes : AllZip (IsAccountOfClass known turns landings) classes by_class
+  pub by_thread : List Account
+  pub of_threads : AllZip (IsAccountOfThread known turns landings) (listed_in listed known) by_thread
+  pub together : all ≡ by_class ++ by_thread
+
+-- this text shows what classes came to, and threads if they are listed, and what CPUs were used for: by what became of slots and by a history on so many CPUs
+pub record ShowsLatency (notation : Notation) (listed : Bool) (landings : List Landing) (cpus : ℕ) (h : History) (out : List ℕ) : Type 0 where
+  pub turns : List Turn
+  pub are : IsTurns cpus h turns
+  pub accounts : List Account
+  pub tell : AreAccounts listed h turns landings accounts
+  pub is : out ≡ latency_of notation accounts (map (usage_of h) (range_with_len 0 cpus))
+
 -- which texts show a table: by what became of slots, the lines that added the entries, the count of CPUs and the history
 abbrev pub Shows : Table → List Landing → List ℕ → ℕ → History → List ℕ → Type 0
 Shows (Timehist notation) landings lines cpus h out = ShowsTurns notation lines cpus h out
+Shows (Latency notation threads) landings lines cpus h out = ShowsLatency notation threads landings cpus h out
 
 -- these bytes show a run of the events of a script, from one machine to another, of whose lines this was noted before
 pub record ShowsRun (table : Table) (n : Noted) (m : State) (script : Result (List (Event AnyPolicy)) ScriptFault) (says : List Line) (end : State) (out : List ℕ) : Type 0 where

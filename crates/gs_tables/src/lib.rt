@@ -2,6 +2,8 @@
 #![tactic(auto)]
 
 mod column;
+mod latency;
+mod latency_json;
 mod notes;
 mod run;
 mod timehist;

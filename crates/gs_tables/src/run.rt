@@ -8,15 +8,20 @@ ghost use Rattle.gs_script.specs.Unread.{events_unread, said_unread};
 ghost use Rattle.gs_core.specs.Machine.{planning};
 ghost use Rattle.gs_trace.specs.Noted.{noted_first};
 ghost use Rattle.gs_trace.specs.Output.{any_plans};
-ghost use Rattle.gs_tables.specs.Tables.{IsTable, Shows, ShowsRun, Tabulated};
+ghost use Rattle.gs_tables.specs.Tables.{AreAccounts, IsTable, Shows, ShowsRun, Tabulated};
 
+use crate::latency::latency;
 use crate::notes::{Notes, note_all};
 use crate::timehist::timehist;
 use gs_core::Machine;
+use gs_journal::Journal;
+use gs_kernel::Landing;
 use gs_policy::AnyPolicy;
 use gs_script::{Opened, Reading, ScriptError, open_script};
+use gs_tallies::{Account, class_accounts, thread_accounts};
 use gs_trace::{Answering, Kept, MOST_READ_BYTES, Notation, TraceFault, answer_script};
-use gs_turns::turns;
+use gs_turns::{Turn, known_threads, turns};
+use gs_usage::usages;
 use std::alloc::{AllocError, Global};
 use std::io::{Read, Write};
 
@@ -25,6 +30,31 @@ use std::io::{Read, Write};
 pub enum Table {
     /// A line for each turn: a stay of a thread on a CPU, with the wait before it.
     Timehist(Notation),
+    /// What the turns and the landings of each class come to, and what each CPU was used for.
+    Latency {
+        notation: Notation,
+        /// Each thread has lines of its own, too.
+        threads: bool,
+    },
+}
+
+/// Returns what the turns and landings of each class come to, and behind these, if they are listed, of each thread.
+fn accounts_of(
+    alloc: Global,
+    journal: &Journal,
+    listed: bool,
+    turns: &[Turn],
+    landings: &[Landing],
+) -> Result<Vec<Account>, AllocError>
+    ensures { IfOk result (λ accounts. AreAccounts listed journal.now.entries turns.now landings.now accounts.items) }
+{
+    let known = known_threads(alloc, journal)?;
+    let mut accounts = class_accounts(alloc, &known, turns, landings)?;
+    if listed {
+        let own = thread_accounts(alloc, &known, turns, landings)?;
+        accounts.extend_from_slice(&own)?;
+    }
+    Ok(accounts)
 }
 
 /// Returns the table of what happened, by the machine that it left and what was noted of it.
@@ -36,10 +66,17 @@ fn shown(
 ) -> Result<Vec<u8>, AllocError>
     ensures { IfOk result (λ bytes. Shows table notes.now.landings.items notes.now.lines.entries.items machine.now.settings.cpus machine.now.history bytes.items) }
 {
-    let Table::Timehist(notation) = table;
-    let kernel = machine.kernel();
-    let turns = turns(alloc, kernel.journal(), kernel.settings().cpus)?;
-    timehist(alloc, notation, &notes.lines.entries, &turns)
+    let journal = machine.kernel().journal();
+    let cpus = machine.kernel().settings().cpus;
+    let turns = turns(alloc, journal, cpus)?;
+    match table {
+        Table::Timehist(notation) => timehist(alloc, notation, &notes.lines.entries, &turns),
+        Table::Latency { notation, threads } => {
+            let accounts = accounts_of(alloc, journal, threads, &turns, &notes.landings)?;
+            let usages = usages(alloc, journal, cpus)?;
+            latency(alloc, notation, &accounts, &usages)
+        }
+    }
 }
 
 /// Lets the events of a script happen, and returns the table of them. The header's line is given. It fails with the
