@@ -138,3 +138,9 @@ pub page_waiting : (rs : List DumpRecord) (v v' : Look) (s s' : Cpus) (q q' q'' 
 page_waiting rs v v' s s' q q' q'' b after h =
     subst (λ (p : Picture). HoldsWaiting p.view p.cpus p.queue) (sym after)
     (holds_page rs (parts v s q') (λ t. ap (λ (x : Queue). is_in t (order x)) b ∙ h t))
+
+-- the first of the records that are left was followed
+pub record_next : (rs : List DumpRecord) (r : DumpRecord) (v v' : Look) (s s' : Cpus) (q q' : Queue) (p : Picture)
+    → after_page (r ∷ rs) (parts v s q) ≡ p → ((t : ℕ) → v' t ≡ with_record r v t) → s' ≡ told_on r.tid r.known.tseq r.cpu s
+    → q' ≡ settled_all v' s' (touched r s) q → after_page rs (parts v' s' q') ≡ p
+record_next rs r v v' s s' q q' p so_far known a b = ap (after_page rs) (record_picture v v' s s' q q' r (λ i. λ t. known t i) a b) ∙ so_far

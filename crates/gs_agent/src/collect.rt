@@ -13,7 +13,7 @@ use crate::mind::Mind;
 use gs_slots::{Region, SlotMut, SlotState};
 use gs_status::{MOST_CPUS, Mask};
 
-/// Collects what became of each done slot of a region, and makes it idle again: the slots of a group first, and
+/// Collects what became of each done slot of a region, and makes it idle again. The slots of a group come first, and
 /// then the others, each in increasing order of CPU.
 #[inline(always)]
 pub(crate) fn collect_all(mind: &mut Mind, region: &mut Region)
@@ -25,7 +25,7 @@ pub(crate) fn collect_all(mind: &mut Mind, region: &mut Region)
     collect_those(mind, region, busy, false);
 }
 
-/// Collects the slots that have the flag of a group. If there is none, that is known without a look at them.
+/// Collects the slots that have the flag of a group. If there is none, no slot is read.
 #[tactic(auto, using(crate::proofs::Collecting::none_left_first, crate::proofs::Collecting::none_told_first))]
 fn collect_group(mind: &mut Mind, region: &mut Region, busy: Mask)
     requires covers { CoversBusy region.old busy }

@@ -1,5 +1,5 @@
 ghost use Rattle.std.specs.Prelude.{◌≡◌, ◌↔◌, ◌≤◌, Err, IfOk, OnOk, OnErr, length, true};
-ghost use Rattle.gs_beliefs.specs.Cpus.{believed_on};
+ghost use Rattle.gs_beliefs.specs.Cpus.{believed_on, unknown};
 ghost use Rattle.gs_layout.specs.View.{is_gap, look_up, word};
 ghost use Rattle.gs_policy.specs.Safe.{IsSafePlan};
 ghost use Rattle.gs_status.specs.Masks.{has};
@@ -11,10 +11,10 @@ ghost use Rattle.gs_agent.specs.Pages.{after_page};
 ghost use Rattle.gs_runq.specs.Queue.{Apart, order};
 ghost use Rattle.gs_agent.specs.Picture.{HoldsWaiting, after_slot, after_stamp, after_message};
 
-use crate::rebuild::{follow_records, make_room_for_page};
+use crate::rebuild::{follow_records, follow_written, make_room_for_page, make_room_for_written};
 use crate::waiting::{make_room, other_than, requeue, running_on, settle, settle_if_any};
 use gs_beliefs::{Beliefs, CpuBeliefs, Running};
-use gs_dump::Page;
+use gs_dump::{Page, WrittenPage};
 use gs_policy::{Choice, Counted, Policy};
 use gs_reader::MessageRef;
 use gs_runq::{QueueWalk, RunQueue};
@@ -51,6 +51,29 @@ impl Model for Mind {
     ghost invariant = { IsMind };
 }
 
+/// Makes the beliefs of so many CPUs, at most [`MOST_CPUS`], of which nothing is believed. They are made of these
+/// if there are as many.
+///
+/// # Errors
+///
+/// If out of memory.
+fn beliefs_anew(
+    beliefs: Beliefs,
+    alloc: Global,
+    cpus: u16,
+    agent: Option<u16>,
+) -> Result<Beliefs, AllocError>
+    requires { cpus ≤ MOST_CPUS }
+    ensures { IfOk result (λ made. made ≡ unknown cpus agent) }
+{
+    if beliefs.cpus() != cpus {
+        return Beliefs::new(alloc, cpus, agent);
+    }
+    let mut beliefs = beliefs;
+    beliefs.forget(agent);
+    Ok(beliefs)
+}
+
 impl Mind {
     /// Makes the mind of an agent that has heard nothing, on a machine of `cpus` CPUs, at most [`MOST_CPUS`].
     /// No thread is known, nobody is believed to run on any CPU, there is no stamp, and nobody waits. `agent`
@@ -69,6 +92,27 @@ impl Mind {
             cpus,
             queue: RunQueue::new(alloc),
         })
+    }
+
+    /// Makes the mind that [`Mind::new`] makes, of the memory of this one. Nothing stays of what this one knew,
+    /// believed and stamped, nor of who waited.
+    ///
+    /// # Errors
+    ///
+    /// If out of memory for the beliefs.
+    pub fn renew(self, alloc: Global, cpus: u16, agent: Option<u16>) -> Result<Mind, AllocError>
+        requires { cpus ≤ MOST_CPUS }
+        ensures { IfOk result (λ mind. mind ≡ nothing cpus agent) }
+    {
+        let Mind {
+            mut view,
+            cpus: beliefs,
+            mut queue,
+        } = self;
+        view.clear(alloc);
+        queue.clear();
+        let cpus = beliefs_anew(beliefs, alloc, cpus, agent)?;
+        Ok(Mind { view, cpus, queue })
     }
 
     /// Returns what is known of each thread. It does not allocate.
@@ -148,6 +192,27 @@ impl Mind {
             &mut self.cpus,
             &mut self.queue,
             &page.records,
+        );
+        Ok(())
+    }
+
+    /// Takes a page in that is given as bytes, as [`Mind::rebuild`] does. Each record is read from its bytes, and
+    /// there is no list of them in between.
+    ///
+    /// # Errors
+    ///
+    /// As of [`Mind::rebuild`].
+    pub fn rebuild_written(&mut self, page: &WrittenPage) -> Result<(), AllocError>
+        ensures picture { OnOk result (picture_of self.new ≡ after_page page.now.records (picture_of self.old)) }
+        ensures unchanged { OnErr result (self.new ≡ self.old) }
+    {
+        make_room_for_written(&mut self.queue, page)?;
+        self.view.reserve_written(page)?;
+        follow_written(
+            &mut self.view,
+            &mut self.cpus,
+            &mut self.queue,
+            page.records(),
         );
         Ok(())
     }

@@ -21,7 +21,7 @@ use crate::drain::drain_into;
 use crate::drained::Drained;
 use crate::mind::Mind;
 use gs_beliefs::Running;
-use gs_dump::Page;
+use gs_dump::{Page, WrittenPage};
 use gs_layout::Refusal;
 use gs_policy::{Choice, Counted, Policy};
 use gs_ring::Taker;
@@ -114,12 +114,42 @@ impl<P> Role<P> {
         requires { cpus ≤ MOST_CPUS }
         ensures { IfOk result (λ role. role ≡ record { mind = nothing cpus cpu; generation = generation; policy = policy; next = next }) }
     {
-        Ok(Role {
-            mind: Mind::new(alloc, cpus, cpu)?,
+        let mind = Mind::new(alloc, cpus, cpu)?;
+        Ok(Role::with_mind(mind, policy, generation, next))
+    }
+
+    /// Makes the role of an agent that has this in mind. If it needs pages, the next one begins at this tid.
+    fn with_mind(mind: Mind, policy: P, generation: u32, next: Option<u32>) -> Role<P>
+        ensures { result ≡ record { mind = mind; generation = generation; policy = policy; next = next } }
+    {
+        Role {
+            mind,
             generation,
             policy,
             next,
-        })
+        }
+    }
+
+    /// Makes the role that [`Role::attach`] makes, of the memory of this one, which ends. Nothing stays of what
+    /// this one had in mind.
+    ///
+    /// # Errors
+    ///
+    /// If out of memory.
+    pub fn succeed(
+        self,
+        alloc: Global,
+        policy: P,
+        cpus: u16,
+        generation: u32,
+    ) -> Result<Role<P>, AllocError>
+    where
+        P: Drop,
+        requires { cpus ≤ MOST_CPUS }
+        ensures { IfOk result (λ role. role ≡ record { mind = nothing cpus None; generation = generation; policy = policy; next = Some 1 }) }
+    {
+        let mind = self.mind.renew(alloc, cpus, None)?;
+        Ok(Role::with_mind(mind, policy, generation, Some(1)))
     }
 
     /// Ends the role: all that the agent had in mind is dropped, and its policy is given back.
@@ -193,6 +223,23 @@ impl<P> Role<P> {
         Ok(())
     }
 
+    /// Takes a page in that is given as bytes, as [`Role::rebuild`] does, with no list of records in between.
+    ///
+    /// # Errors
+    ///
+    /// As of [`Role::rebuild`].
+    pub fn rebuild_written(&mut self, page: &WrittenPage) -> Result<(), AllocError>
+        ensures picture { OnOk result (picture_of self.new.mind ≡ after_page page.now.records (picture_of self.old.mind)) }
+        ensures next { OnOk result (self.new.next ≡ page.now.next) }
+        ensures others { self.new ≡ record self.old { mind = self.new.mind; next = self.new.next } }
+        ensures unchanged { OnErr result (self.new ≡ self.old) }
+    {
+        let next = page.next();
+        self.mind.rebuild_written(page)?;
+        self.next = next;
+        Ok(())
+    }
+
     /// Lets the agent go on as one of this generation, on this CPU. All that it has in mind stays, the stamps
     /// of its earlier generation too: their threads do not wait, and their CPUs are not used, until they are
     /// collected. It does not allocate.
@@ -210,6 +257,17 @@ impl<P> Role<P> {
     /// It stops early at a message whose number is more than one above the one that is known of its
     /// thread. It also stops at the creation of a thread of which nothing is known, if out of memory for its
     /// record or for its place in the queue. That message stays unread, and a later drain begins with it.
+    ///
+    /// # Examples
+    ///
+    /// At most nine messages, none of which may be left for want of memory or for a gap:
+    ///
+    /// ```
+    /// let drained = enclave.role.drain(&mut enclave.kernel.taker(), 9);
+    /// if drained.stop.is_some() {
+    ///     return false;
+    /// }
+    /// ```
     pub fn drain<T: Taker>(&mut self, taker: &mut T, max: u32) -> Drained
         ensures followed { (ms : List Message) × T.passed taker.old ms taker.new × Followed (picture_of self.old.mind) ms result (picture_of self.new.mind) }
         ensures most { result.count ≤ max }
@@ -222,9 +280,8 @@ impl<P> Role<P> {
         drain_into(&mut self.mind, taker, max)
     }
 
-    /// Stamps a transaction into an idle slot: the thread is to run on the slot's CPU, if its sequence
-    /// number is then still the one that the view has, and as the flags say. Returns the sequence number that it
-    /// stamped. It does not allocate.
+    /// Stamps a transaction into an idle slot. The thread is to run on the slot's CPU, as the flags say, if its sequence
+    /// number is still the one that the view has when the slot lands. Returns that number. It does not allocate.
     ///
     /// The role remembers the stamp until the slot is collected: until then the thread does not wait,
     /// and the CPU is not one to use. If it still remembered another stamp on that CPU, the thread which that
@@ -234,6 +291,18 @@ impl<P> Role<P> {
     ///
     /// The first that applies: `NoThread` if the view does not know the thread, `SlotOpen` if the slot is not
     /// idle, malformed too. Slot and role stay as they were.
+    ///
+    /// # Examples
+    ///
+    /// A choice of the policy, which preempts somebody or not:
+    ///
+    /// ```
+    /// let slot = region.slot(choice.cpu);
+    /// let flags = Flags::single(choice.preempt);
+    /// if role.stamp(slot, choice.tid, flags).is_err() {
+    ///     return false;
+    /// }
+    /// ```
     pub fn stamp(&mut self, slot: SlotMut<'_>, tid: u32, flags: Flags) -> Result<u32, Refusal>
         ensures ok { OnOk result (stamp_refusal (look_up self.old.mind.records tid) (state_of slot.entry) ≡ None) }
         ensures number { IfOk result (λ tseq. number_of (look_up self.old.mind.records tid) ≡ Some tseq) }
@@ -279,7 +348,7 @@ impl<P> Role<P> {
         }
     }
 
-    /// Collects what became of each done slot of a region, and makes it idle again: the slots of a group first,
+    /// Collects what became of each done slot of a region, and makes it idle again. The slots of a group come first,
     /// and then the others, each in increasing order of CPU. A thread that was placed, or found placed already, is
     /// believed to run there, and who waits follows. Other slots, malformed ones too, stay as they are. It does not
     /// allocate.
@@ -298,6 +367,17 @@ impl<P: Policy> Role<P> {
     /// # Errors
     ///
     /// If out of memory for the choices.
+    ///
+    /// # Examples
+    ///
+    /// Whether this is planned, and each choice stamped:
+    ///
+    /// ```
+    /// let Ok(plan) = enclave.role.decide(alloc, Mask::new(turn.taken)) else {
+    ///     return false;
+    /// };
+    /// is_plan(&plan, turn.plan) && stamp(&mut enclave.role, &mut enclave.region, &plan)
+    /// ```
     pub fn decide(&self, alloc: Global, taken: Mask) -> Result<Vec<Choice>, AllocError>
         ensures plan { IfOk result (λ r. r.items ≡ P.chosen self.now.policy (shown_in self.now.mind (has taken))) }
         ensures safe { IfOk result (λ r. IsSafePlan (shown_in self.now.mind (has taken)) r.items) }

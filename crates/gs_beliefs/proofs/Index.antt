@@ -1,5 +1,5 @@
 -- How the CPUs of a thread are found.
-use Rattle.std.proofs.Common.{Bool, true, false, not, ◌≡◌, ◌≢◌, ℕ, ◌%◌, ◌<◌, ◌≤◌, ◌⊎◌, inl, inr, ◌&&◌, ◌||◌, Option, None, Some, List, length, set, get_or, replicate, ap, sym, subst, ◌∙◌, refl, arith}
+use Rattle.std.proofs.Common.{Bool, true, false, not, ◌≡◌, ◌≢◌, ℕ, ◌%◌, ◌<◌, ◌≤◌, ◌⊎◌, inl, inr, ◌&&◌, ◌||◌, Option, None, Some, List, [], ◌∷◌, suc, length, set, get_or, replicate, ap, sym, subst, ◌∙◌, refl, arith}
 use Rattle.std.proofs.Math.Bool.{and-true}
 use Rattle.gs_beliefs.proofs.Believed.{nothing_on}
 use Rattle.std.specs.Prelude.{nat_lt, ◌==◌, is_none}
@@ -117,3 +117,8 @@ indexed_set xs buckets left entered vacant vacant' c o m =
         ∙ (m.indexed.on_vacant d
         ∙ (ap (λ (k : ℕ). nat_lt d k && is_none (stands xs d)) (sym count)
         ∙ ap (λ (p : Option ℕ). nat_lt d (length (set xs c o)) && is_none p) (sym (get_or-set_other xs c d o None other))))
+
+-- if nobody stands on any CPU, the table is that of nobody
+pub vacant_all : (xs : List (Option ℕ)) → ((c : ℕ) → c < length xs → stands xs c ≡ None) → xs ≡ replicate (length xs) None
+vacant_all [] none = refl
+vacant_all (x ∷ xs) none = λ i. none 0 (omega arith) i ∷ vacant_all xs (λ c lt. none (suc c) (omega (arith, lt))) i

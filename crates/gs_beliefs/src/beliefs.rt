@@ -16,7 +16,7 @@ use std::marker::Model;
 ///
 /// A belief lags behind the kernel by the messages that were not read yet. There are at most [`MOST_CPUS`]
 /// CPUs, and a call that names a CPU past the last one changes nothing. No call but [`Beliefs::new`]
-/// allocates or looks at every CPU. The CPUs of a thread are found by its tid.
+/// allocates, and none but that and [`Beliefs::forget`] looks at every CPU. The CPUs of a thread are found by its tid.
 #[derive(Drop)]
 pub struct Beliefs {
     beliefs: Vec<Option<Running>>,
@@ -53,6 +53,17 @@ impl Beliefs {
             stamps: ByThread::new(alloc, cpus)?,
             agent,
         })
+    }
+
+    /// Makes what [`Beliefs::new`] makes, of as many CPUs as these: nothing is believed any more, and each stamp is
+    /// forgotten. It looks at every CPU.
+    pub fn forget(&mut self, agent: Option<u16>)
+        ensures { self.new ≡ unknown (length self.old.believed) agent }
+    {
+        self.beliefs.fill(None);
+        self.running.clear();
+        self.stamps.clear();
+        self.set_agent(agent);
     }
 
     /// Returns how many CPUs there are, at most [`MOST_CPUS`].

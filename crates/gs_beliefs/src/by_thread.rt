@@ -74,6 +74,15 @@ impl ByThread {
         })
     }
 
+    /// Lets nobody stand on any CPU.
+    pub fn clear(&mut self)
+        ensures { self.new ≡ replicate (length self.old) None }
+    {
+        for cpu in 0..self.tids.len() {
+            self.set(cpu as u16, None);
+        }
+    }
+
     /// Returns the thread on a CPU, `None` for nobody and past the last CPU.
     #[inline(always)]
     pub fn on(&self, cpu: u16) -> Option<u32>

@@ -102,6 +102,16 @@ impl<L: Place> Board<L> {
     /// Reads the three words, one after the other: generation and CPU, then the taken CPUs below 64, then those from
     /// 64 on. Each is one that was published, and none that is older than what this seat has read. It takes no lock
     /// and waits for nobody.
+    ///
+    /// # Examples
+    ///
+    /// Whether two readers see the same, each by a seat of its own:
+    ///
+    /// ```
+    /// let first = station.board().read(one.seat());
+    /// let second = station.board().read(other.seat());
+    /// first == wanted && second == wanted
+    /// ```
     pub fn read(&self, seat: &mut BoardSeat<L>) -> Shown
         ensures role { ReadsTo seat.old.roles seat.new.roles (shown_role result) × NeverFalls seat.new.roles }
         ensures taken { ReadsTo seat.old.lows seat.new.lows (low_word result.taken) × ReadsTo seat.old.highs seat.new.highs (high_word result.taken) }

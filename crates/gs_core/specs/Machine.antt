@@ -239,8 +239,8 @@ IsFit ring consumed h b k = fits_into ring consumed h k ≡ b
 abbrev pub fits : State → Room
 fits m = IsFit m.ring m.consumed
 
--- a command is done, or tears the enclave down, as its message fits or does not; agent and slots follow the last thing that happened, and all
--- else stays
+-- a command is done, or tears the enclave down, as its message fits or does not. Agent and slots follow the last thing that happened, and
+-- all else stays: a hand-off leaves slots, transactions and all that the agent has in mind
 pub record Carries (m : State) (c : Command) (r : Reply) (m' : State) : Type 0 where
   pub executed : Executed
   pub reply : r ≡ reply_of (Ok executed) (last_entry m'.history)
@@ -378,12 +378,13 @@ abbrev pub IsShort : {P : Type 0} → Event P → Reply → Type 0
 IsShort (events.Drain max) r = ⊥
 IsShort e r = r ≡ replies.Refused refusals.OutOfMemory
 
--- what is refused changes nothing, and what is not is done, or was out of memory and changed nothing
+-- an event that a refusal holds of is refused by it, and changes nothing. Any other is done, or was out of memory and changed nothing; a
+-- drain is never refused so
 abbrev pub Serves : Option Refusal → State → Event Plan → Reply → State → Type 0
 Serves (Some f) m e r m' = (r ≡ replies.Refused f) × (m' ≡ m)
 Serves None m e r m' = Does m e r m' ⊎ (IsShort e r × (m' ≡ m))
 
--- from m an event may have the reply r and leave m'
+-- from m an event may have the reply r and leave m': it is served by the first refusal that holds, if any does
 abbrev pub Step : State → Event Plan → Reply → State → Type 0
 Step m e r m' = Serves (refusal m e) m e r m'
 

@@ -43,7 +43,8 @@ GoesOn cpu max s [] [] s' = s ≡ s'
 GoesOn cpu max (Some s) (e ∷ es) (r ∷ rs) s' = (e ≡ stage_event cpu max s) × GoesOn cpu max (stage_after s r) es rs s'
 GoesOn cpu max s es rs s' = ⊥
 
--- an agent is replaced by a run of all the stages' events, with these replies
+-- an agent is replaced by a run of all the stages' events, with these replies. They are a crash if there is an agent, a beginning, pages
+-- until one behind which none begins, and an activation. Nothing follows a reply that is refused or torn
 pub record Replaces (cpu max : ℕ) (m : State) (rs : List Reply) (m' : State) : Type 0 where
   pub events : List (Event Plan)
   pub in_order : GoesOn cpu max (Some (first_stage (has_agent m.history))) events rs None

@@ -1,8 +1,8 @@
 //! How an agent goes, and how the next one attaches.
 
-ghost use Rattle.std.specs.Prelude.{◌≡◌, Ok, IfOk, IfErr, OnOk, OnErr, None, false, true};
+ghost use Rattle.std.specs.Prelude.{◌≡◌, ◌≤◌, Ok, IfOk, IfErr, OnOk, OnErr, None, Some, false, true};
 ghost use Rattle.gs_layout.specs.declared.refusal.Refusal.{Refusal};
-ghost use Rattle.gs_dump.specs.Page.{page_spelling};
+ghost use Rattle.gs_agent.specs.Mind.{nothing};
 ghost use Rattle.gs_journal.specs.declared.entry.Entry.{Entry};
 ghost use Rattle.gs_journal.specs.History.{torn};
 ghost use Rattle.gs_kernel.specs.declared.command.Command.{Command};
@@ -17,12 +17,34 @@ ghost use Rattle.gs_core.specs.Policies.{policy_after};
 use crate::follow::follow;
 use crate::machine::Machine;
 use gs_agent::Role;
-use gs_dump::{Page, read_page, write_page};
+use gs_dump::WrittenPage;
 use gs_kernel::{Command, Executed};
 use gs_layout::Refusal;
 use gs_policy::Counted;
 use gs_replies::{Items, Reply};
-use std::alloc::Global;
+use gs_status::MOST_CPUS;
+use std::alloc::{AllocError, Global};
+
+/// Makes the role of an agent that attaches, of the memory of the one that went, if there is one.
+///
+/// # Errors
+///
+/// `AllocError` if out of memory.
+fn attach<P: Counted + Copy>(
+    alloc: Global,
+    gone: Option<Role<P>>,
+    policy: P,
+    cpus: u16,
+    generation: u32,
+) -> Result<Role<P>, AllocError>
+    requires { cpus ≤ MOST_CPUS }
+    ensures { IfOk result (λ role. role ≡ record { mind = nothing cpus None; generation = generation; policy = policy; next = Some 1 }) }
+{
+    match gone {
+        Some(gone) => gone.succeed(alloc, policy, cpus, generation),
+        None => Role::attach(alloc, policy, cpus, generation),
+    }
+}
 
 impl<P: Counted + Copy> Machine<P> {
     /// Tells the kernel a command, and lets agent and slots follow it.
@@ -88,7 +110,7 @@ impl<P: Counted + Copy> Machine<P> {
         ensures policy { self.new.policy ≡ self.old.policy }
     {
         self.kernel.execute(&Command::Leave)?;
-        self.role = None;
+        self.gone = self.role.take();
         Ok(())
     }
 
@@ -107,7 +129,8 @@ impl<P: Counted + Copy> Machine<P> {
         }
         let cpus = self.kernel.settings().cpus;
         let generation = self.kernel.generation().saturating_add(1);
-        let role = Role::attach(self.alloc, policy, cpus, generation)?;
+        let gone = self.gone.take();
+        let role = attach(self.alloc, gone, policy, cpus, generation)?;
         let executed = self.kernel.execute(&Command::Begin)?;
         self.region.clear();
         self.policy = policy;
@@ -116,7 +139,7 @@ impl<P: Counted + Copy> Machine<P> {
     }
 
     /// Returns the page that begins where the agent's next one does.
-    fn next_dump(&self, max: u16) -> Result<Page, Refusal>
+    fn next_dump(&self, max: u16) -> Result<WrittenPage, Refusal>
         requires { torn self.now.history ≡ false }
         ensures page { IfOk result (λ p. p ≡ next_dump (planning P.chosen self.now) max) }
         ensures fits { IfOk result (λ _. standing_refusal (planning P.chosen self.now) (Event.Page max) ≡ None) }
@@ -126,7 +149,7 @@ impl<P: Counted + Copy> Machine<P> {
             Some(role) => role.next_page().unwrap_or(0),
             None => 1,
         };
-        self.kernel.dump(self.alloc, from, max)
+        self.kernel.dump_written(self.alloc, from, max)
     }
 
     /// Tells the agent that attaches of the next threads that live, at most `max`: hands the page over as bytes, and
@@ -140,33 +163,13 @@ impl<P: Counted + Copy> Machine<P> {
         ensures policy { self.new.policy ≡ self.old.policy }
     {
         let page = self.next_dump(max)?;
-        let (bytes, page) = hand_over(self.alloc, &page)?;
         let role = self.role.as_mut().unwrap();
-        role.rebuild(&page)?;
-        self.kernel.note_page(&page);
+        role.rebuild_written(&page)?;
+        self.kernel.note_written(&page);
         Ok(Reply::Page {
-            count: page.records.len() as u16,
-            next: page.next,
-            bytes: Items::new(bytes),
+            count: page.count(),
+            next: page.next(),
+            bytes: Items::new(page.into_bytes()),
         })
-    }
-}
-
-/// Returns a page as bytes, and the page that is read from them.
-///
-/// # Errors
-///
-/// `OutOfMemory` if out of memory.
-fn hand_over(alloc: Global, page: &Page) -> Result<(Vec<u8>, Page), Refusal>
-    ensures bytes { IfOk result (λ r. r.0.items ≡ page_spelling page.now) }
-    ensures page { IfOk result (λ r. r.1 ≡ page.now) }
-    ensures short { IfErr result (λ f. f ≡ Refusal.OutOfMemory) }
-{
-    let bytes = write_page(alloc, page)?;
-    // A look at a field, by which the proof has that this is a page: it is read, unless out of memory.
-    let _next = &page.next;
-    match read_page(alloc, &bytes) {
-        Ok(read) => Ok((bytes, read)),
-        Err(_) => Err(Refusal::OutOfMemory),
     }
 }

@@ -43,6 +43,8 @@ pub struct Machine<P: Counted> {
     pub(crate) policy: P,
     /// The role of the agent, if one is active or attaches.
     pub(crate) role: Option<Role<P>>,
+    /// The role of the agent that went last, if none began since. The next one has its memory.
+    pub(crate) gone: Option<Role<P>>,
     pub(crate) region: MachineSlots,
     transactions: Transactions,
 }
@@ -65,6 +67,17 @@ impl<P: Counted + Copy> Machine<P> {
     /// # Errors
     ///
     /// The first fault of the configuration, else `OutOfMemory` if out of memory.
+    ///
+    /// # Examples
+    ///
+    /// A machine, in which events happen one after another:
+    ///
+    /// ```
+    /// let mut machine = Machine::new(alloc, config).ok()?;
+    /// for event in events {
+    ///     machine.step(event);
+    /// }
+    /// ```
     pub fn new(alloc: Global, config: Config<P>) -> Result<Machine<P>, ConfigFault>
         ensures ok { IfOk result (λ m. m ≡ start config) }
         ensures fits { IfOk result (λ _. config_fault config ≡ None) }
@@ -105,6 +118,7 @@ impl<P: Counted + Copy> Machine<P> {
             kernel,
             policy: config.policy,
             role: Some(role),
+            gone: None,
             region,
             transactions: Transactions::new(alloc),
         })
@@ -112,6 +126,16 @@ impl<P: Counted + Copy> Machine<P> {
 
     /// Lends the role of the agent, if one is active or attaches. It plans by the machine's policy, and is of the
     /// generation that is active or attaches. While an agent is active, it takes that one's CPU for its own.
+    ///
+    /// # Examples
+    ///
+    /// The thread that the agent believes to run on a CPU:
+    ///
+    /// ```
+    /// fn believed(machine: &Machine<AnyPolicy>, cpu: u16) -> Option<u32> {
+    ///     Some(machine.role()?.believed(cpu)?.tid)
+    /// }
+    /// ```
     pub fn role(&self) -> Option<&Role<P>>
         ensures agent { option_map (λ (r : Bor (RoleOf P)). agent_of r.now) result ≡ self.now.agent }
         ensures policy { IfSome result (λ r. r.now.policy ≡ self.now.policy) }
@@ -123,6 +147,15 @@ impl<P: Counted + Copy> Machine<P> {
     }
 
     /// Lends the slots of all CPUs.
+    ///
+    /// # Examples
+    ///
+    /// Whether there is such a CPU and its slot is idle:
+    ///
+    /// ```
+    /// let region = machine.region();
+    /// cpu < region.cpus() && region.state(cpu) == Ok(SlotState::Idle)
+    /// ```
     pub fn region(&self) -> &Region
         ensures { states_in 0 result.now ≡ map Ok self.now.slots }
     {
@@ -130,6 +163,18 @@ impl<P: Counted + Copy> Machine<P> {
     }
 
     /// Lends the kernel.
+    ///
+    /// # Examples
+    ///
+    /// Whether the agent knows just the threads that live, after a drain that went to its end:
+    ///
+    /// ```
+    /// let living = machine.kernel().live_threads(alloc)?;
+    /// match machine.role() {
+    ///     Some(role) => Ok(drained && knows(role, &living)),
+    ///     None => Ok(false),
+    /// }
+    /// ```
     pub fn kernel(&self) -> &Kernel<ByteRing>
         ensures settings { result.now.settings ≡ self.now.settings }
         ensures history { result.now.history ≡ self.now.history }
@@ -143,6 +188,16 @@ impl<P: Counted + Copy> Machine<P> {
 
     /// Returns a transaction by its number, counted from 1 by the stampings: the slot as it was stamped, and
     /// the facts that it was stamped from.
+    ///
+    /// # Examples
+    ///
+    /// The CPU of a transaction, and what it was stamped with:
+    ///
+    /// ```
+    /// let transaction = machine.transaction(number)?;
+    /// let slot = transaction.slot;
+    /// Some((transaction.cpu, slot.generation, slot.tid, slot.tseq))
+    /// ```
     pub fn transaction(&self, number: u32) -> Option<Transaction>
         ensures { result ≡ transaction_of self.now.transactions number }
     {
@@ -345,6 +400,17 @@ impl<P: Counted + Copy> Machine<P> {
 
     /// Lets one event happen, and returns the reply. It is refused by the first refusal that applies, and
     /// changes nothing then. No drain stops for a gap.
+    ///
+    /// # Examples
+    ///
+    /// Whether a drain of all messages went to its end:
+    ///
+    /// ```
+    /// let drained = match machine.step(&Event::Drain { max: u32::MAX }) {
+    ///     Reply::Drained(drained) => is_whole(&drained),
+    ///     _ => false,
+    /// };
+    /// ```
     pub fn step(&mut self, event: &Event<P>) -> Reply
         ensures step { Step (planning P.chosen self.old) (planned P.chosen event.now) result (planning P.chosen self.new) }
         ensures safe { Safe (planning P.chosen self.new) }
@@ -372,7 +438,7 @@ impl<P: Counted + Copy> Machine<P> {
     {
         self.standing()?;
         let came = self.execute_standing(event);
-        // A look at a field, by which the proof has what the machine keeps.
+        // Reads a field to expose the invariant.
         let _region = &self.region;
         came
     }
@@ -392,7 +458,7 @@ impl<P: Counted + Copy> Machine<P> {
     {
         self.standing()?;
         let came = self.execute_command(command);
-        // A look at a field, by which the proof has what the machine keeps.
+        // Reads a field to expose the invariant.
         let _region = &self.region;
         came
     }
@@ -430,6 +496,18 @@ impl<P: Counted + Copy> Machine<P> {
     /// # Errors
     ///
     /// If out of memory for the replies. Then no event ran.
+    ///
+    /// # Examples
+    ///
+    /// The replies, unless memory ran out at an event:
+    ///
+    /// ```
+    /// let replies = machine.run(events)?;
+    /// if is_short(&replies) {
+    ///     return Err(AllocError);
+    /// }
+    /// Ok(replies)
+    /// ```
     pub fn run(&mut self, events: &[Event<P>]) -> Result<Vec<Reply>, AllocError>
         ensures run { IfOk result (λ replies. Run (planning P.chosen self.old) (map (planned P.chosen) events.now) replies.items (planning P.chosen self.new)) }
         ensures policy { IfOk result (λ replies. self.new.policy ≡ policy_after_all events.now replies.items self.old.policy) }

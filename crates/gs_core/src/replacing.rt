@@ -19,6 +19,17 @@ impl<P: Counted + Copy> Machine<P> {
     /// # Errors
     ///
     /// If out of memory for the replies. Then no event ran.
+    ///
+    /// # Examples
+    ///
+    /// After some events a new agent takes over, and drains what was posted meanwhile:
+    ///
+    /// ```
+    /// machine.run(events)?;
+    /// let replies = machine.replace(CPU, PAGE)?;
+    /// write_all(lines, &replies)?;
+    /// step(machine, &Event::Drain { max: u32::MAX }, lines)?;
+    /// ```
     pub fn replace(&mut self, cpu: u16, max: u16) -> Result<Vec<Reply>, AllocError>
         requires { 1 ≤ max }
         ensures replaces { IfOk result (λ replies. Replaces cpu max (planning P.chosen self.old) replies.items (planning P.chosen self.new)) }

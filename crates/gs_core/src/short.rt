@@ -32,6 +32,18 @@ pub fn is_short_command(came: Result<Executed, Refusal>) -> bool
 
 /// Tells whether some reply says that memory ran out: an event was refused for it, or a drain stopped. With
 /// more memory the replies to the same events may differ.
+///
+/// # Examples
+///
+/// One reply, which is written unless memory ran out:
+///
+/// ```
+/// let reply = try_one(alloc, machine, number, event, allocator)?;
+/// if is_short(slice::from_ref(&reply)) {
+///     return Err(Failure::OutOfMemory);
+/// }
+/// write_reply(lines, &reply)?;
+/// ```
 pub fn is_short(replies: &[Reply]) -> bool
     ensures { result ≡ list_any wants_memory replies.now }
 {

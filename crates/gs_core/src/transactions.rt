@@ -62,7 +62,7 @@ impl Transactions {
         &self.items
     }
 
-    /// Makes room for so many more, so that `push` can add them.
+    /// Makes room for `additional` more, so that `push` can add them.
     ///
     /// # Errors
     ///

@@ -1,4 +1,5 @@
 pub mod Records
 pub mod Pages
 pub mod Scans
+pub mod Spelled
 mod Rows

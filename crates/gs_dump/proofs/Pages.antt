@@ -27,14 +27,14 @@ use Rattle.gs_dump.proofs.Records.{length-record_spelling, record_again, record_
 
 -- ---- what is spelled is read back
 
-abbrev AreLive : List DumpRecord → Type 0
+abbrev pub AreLive : List DumpRecord → Type 0
 AreLive rs = AllByRecursion IsLive rs
 
-abbrev Fit : Version → List DumpRecord → Type 0
+abbrev pub Fit : Version → List DumpRecord → Type 0
 Fit v rs = AllByRecursion (FitsIn v) rs
 
 -- the bytes of each record are their spellings
-texts_spelled : (v : Version) (rs : List DumpRecord) → AreLive rs → texts v (length rs) (flat_map (record_spelling v) rs) ≡ map (record_spelling v) rs
+pub texts_spelled : (v : Version) (rs : List DumpRecord) → AreLive rs → texts v (length rs) (flat_map (record_spelling v) rs) ≡ map (record_spelling v) rs
 unfolding texts
 texts_spelled v [] h = refl
 texts_spelled v (r ∷ rs) h =
@@ -42,7 +42,7 @@ texts_spelled v (r ∷ rs) h =
     let rest = flat_map (record_spelling v) rs in
     (λ i. take_at (record_spelling v r) rest (record_len v) size i ∷ texts v (length rs) (drop_at (record_spelling v r) rest (record_len v) size i)) ∙ ap (λ (ts : List (List ℕ)). record_spelling v r ∷ ts) (texts_spelled v rs h.1)
 
-records_back : (v : Version) (rs : List DumpRecord) → AreLive rs → Fit v rs → map (record_in v) (map (record_spelling v) rs) ≡ rs
+pub records_back : (v : Version) (rs : List DumpRecord) → AreLive rs → Fit v rs → map (record_in v) (map (record_spelling v) rs) ≡ rs
 records_back v [] h f = refl
 records_back v (r ∷ rs) h f = λ i. record_back v r h.0 f.0 i ∷ records_back v rs h.1 f.1 i
 
@@ -58,7 +58,7 @@ fields_pass : (v : Version) (rs : List DumpRecord) → AreLive rs → Fit v rs �
 fields_pass v [] h f = refl
 fields_pass v (r ∷ rs) h f = λ i. not (record_again v r h.0 f.0 i) || fields_pass v rs h.1 f.1 i
 
-length-records : (v : Version) (rs : List DumpRecord) → AreLive rs → length (flat_map (record_spelling v) rs) ≡ record_len v * length rs
+pub length-records : (v : Version) (rs : List DumpRecord) → AreLive rs → length (flat_map (record_spelling v) rs) ≡ record_len v * length rs
 length-records v [] h = times_none (record_len v)
   where
     times_none : (w : ℕ) → 0 ≡ w * 0
@@ -69,7 +69,7 @@ length-records v (r ∷ rs) h =
     times_one : (w n : ℕ) → w + w * n ≡ w * suc n
     times_one w n = sym (mul-suc w n ∙ add_comm (w * n) w)
 
-next_back : (o : Option ℕ) → IfSome o (λ t. (1 ≤ t) × (t ≤ MOST_TIDS))
+pub next_back : (o : Option ℕ) → IfSome o (λ t. (1 ≤ t) × (t ≤ MOST_TIDS))
     → (if little_number 2 (little_bytes 2 (end_number o) ++ []) == 1 then None else Some (little_number 4 (little_bytes 4 (unwrap_or o 0) ++ []))) ≡ o
 next_back None h = refl
 next_back (Some n) h = ap (λ (k : ℕ). Some k) (reads 4 n (omega (arith, h)))
@@ -82,7 +82,7 @@ end_passes (Some n) h =
     let e : little_number 4 (little_bytes 4 n ++ []) ≡ n = reads 4 n (omega (arith, h)) in
     ap is_tid e ∙ tid_passes n h.0 h.1
 
-count_back : (v : Version) (p : Contents) → IsPage p → count_in (spelling_in v p) ≡ length p.records
+pub count_back : (v : Version) (p : Contents) → IsPage p → count_in (spelling_in v p) ≡ length p.records
 count_back v p h = reads 2 (length p.records) (omega (arith, h.count))
 
 texts_back : (v : Version) (p : Contents) → IsPage p → texts_in v (spelling_in v p) ≡ map (record_spelling v) p.records

@@ -3,3 +3,4 @@ pub mod Record
 pub mod Page
 pub mod Reading
 pub mod Scan
+pub mod Written

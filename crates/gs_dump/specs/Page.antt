@@ -32,8 +32,11 @@ end_number None = 1
 end_number (Some next) = 0
 
 -- the first 8 bytes: how many records there are, whether the page is the last, and where the next one begins
+abbrev pub header_of : ℕ → Option ℕ → List ℕ
+header_of count next = little_bytes 2 count ++ little_bytes 2 (end_number next) ++ little_bytes 4 (unwrap_or next 0)
+
 abbrev pub header_bytes : Contents → List ℕ
-header_bytes p = little_bytes 2 (length p.records) ++ little_bytes 2 (end_number p.next) ++ little_bytes 4 (unwrap_or p.next 0)
+header_bytes p = header_of (length p.records) p.next
 
 -- the list of bytes that a version of the layout gives a page
 abbrev pub spelling_in : Version → Contents → List ℕ

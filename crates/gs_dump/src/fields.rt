@@ -82,6 +82,7 @@ fn record_fits(version: Version, text: &[u8]) -> bool
         && cpu_fits(version, text)
 }
 
+#[inline(always)]
 fn facts_at(version: Version, text: &[u8]) -> Facts
     requires size { length text.now ≡ record_len version }
     requires len { slice_index text.now NAME_LEN_AT ≤ MOST_NAME_LEN }
@@ -96,6 +97,24 @@ fn facts_at(version: Version, text: &[u8]) -> Facts
     }
 }
 
+/// Returns the record that these bytes tell. Its fields are in their ranges.
+#[inline(always)]
+pub(crate) fn record_at(version: Version, text: &[u8]) -> DumpRecord
+    requires size { length text.now ≡ record_len version }
+    requires len { slice_index text.now NAME_LEN_AT ≤ MOST_NAME_LEN }
+    requires name { is_name (name_in version text.now) ≡ true }
+    ensures { result ≡ record_in version text.now }
+{
+    DumpRecord {
+        tid: u32_at(text, TID_AT),
+        known: Known {
+            facts: facts_at(version, text),
+            tseq: u32_at(text, TSEQ_AT),
+        },
+        cpu: cpu_numbered(u16_at(text, CPU_AT)),
+    }
+}
+
 /// Returns the record that these bytes tell, or what is wrong with them.
 pub(crate) fn read_record(version: Version, text: &[u8]) -> Result<DumpRecord, PageFault>
     requires { length text.now ≡ record_len version }
@@ -107,14 +126,7 @@ pub(crate) fn read_record(version: Version, text: &[u8]) -> Result<DumpRecord, P
     if !record_fits(version, text) {
         return Err(PageFault::BadField);
     }
-    Ok(DumpRecord {
-        tid: u32_at(text, TID_AT),
-        known: Known {
-            facts: facts_at(version, text),
-            tseq: u32_at(text, TSEQ_AT),
-        },
-        cpu: cpu_numbered(u16_at(text, CPU_AT)),
-    })
+    Ok(record_at(version, text))
 }
 
 /// Returns whether the header says that the page is the last and names no next thread, or names one.

@@ -9,6 +9,7 @@ mod record;
 mod version;
 mod wire;
 mod write;
+mod written;
 
 pub use fault::PageFault;
 pub use page::Page;
@@ -16,3 +17,4 @@ pub use read::read_page;
 pub use record::DumpRecord;
 pub use version::Version;
 pub use write::write_page;
+pub use written::{PageWriter, WrittenPage, WrittenRecords};

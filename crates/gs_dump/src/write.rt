@@ -1,7 +1,7 @@
 //! A page as bytes.
 
-ghost use Rattle.std.specs.Prelude.{◌≡◌, ◌+◌, ◌≤◌, ◌++◌, IfOk, drop, length, take};
-ghost use Rattle.gs_dump.specs.Page.{header_bytes, page_spelling};
+ghost use Rattle.std.specs.Prelude.{◌≡◌, ◌+◌, ◌≤◌, ◌++◌, IfOk, drop, length, replicate, take};
+ghost use Rattle.gs_dump.specs.Page.{header_bytes, header_of, page_spelling};
 ghost use Rattle.gs_dump.specs.Record.{front_bytes, name_field, record_spelling};
 
 use crate::page::Page;
@@ -18,9 +18,10 @@ use std::alloc::{AllocError, Global};
 const NAME_AT: usize = MASK_AT + MASK_LEN;
 
 /// How many bytes a record has that is written.
-const RECORD_LEN: usize = NAME_AT + MOST_NAME_LEN;
+pub(crate) const RECORD_LEN: usize = NAME_AT + MOST_NAME_LEN;
 
 /// Writes what stands before the mask of a record.
+#[inline(always)]
 fn write_front(thread: &DumpRecord, out: &mut [u8])
     requires { MASK_AT ≤ length out.old }
     ensures { out.new ≡ front_bytes Version.Two thread.now ++ drop MASK_AT out.old }
@@ -36,33 +37,50 @@ fn write_front(thread: &DumpRecord, out: &mut [u8])
     LittleEndian::write_u16(&mut out[FLAGS_AT..], u16::from(thread.known.facts.runnable));
 }
 
-/// Writes a name, and zeros up to [`MOST_NAME_LEN`] bytes.
+/// Writes a name over [`MOST_NAME_LEN`] zeros.
+#[inline(always)]
 fn write_name(name: &[u8], out: &mut [u8])
     requires short { length name.now ≤ MOST_NAME_LEN }
-    requires room { length out.old ≡ MOST_NAME_LEN }
+    requires zeros { out.old ≡ replicate MOST_NAME_LEN 0 }
     ensures { out.new ≡ name_field name.now }
 {
     out[..name.len()].copy_from_slice(name);
-    out[name.len()..].fill(0);
+}
+
+/// Writes a record over zeros, as many as it has bytes.
+#[inline(always)]
+pub(crate) fn write_record(thread: &DumpRecord, out: &mut [u8])
+    requires { out.old ≡ replicate RECORD_LEN 0 }
+    ensures { out.new ≡ record_spelling Version.Two thread.now }
+{
+    write_name(thread.known.facts.name.as_bytes(), &mut out[NAME_AT..]);
+    LittleEndian::write_u128(&mut out[MASK_AT..], thread.known.facts.mask.bits());
+    write_front(thread, out);
 }
 
 fn record_bytes(thread: &DumpRecord) -> [u8; RECORD_LEN]
     ensures { result ≡ record_spelling Version.Two thread.now }
 {
     let mut bytes = [0; RECORD_LEN];
-    write_front(thread, &mut bytes);
-    LittleEndian::write_u128(&mut bytes[MASK_AT..], thread.known.facts.mask.bits());
-    write_name(thread.known.facts.name.as_bytes(), &mut bytes[NAME_AT..]);
+    write_record(thread, &mut bytes);
     bytes
 }
 
 fn header(page: &Page) -> [u8; HEADER_LEN]
     ensures { result ≡ header_bytes page.now }
 {
+    page_header(page.records.len() as u16, page.next)
+}
+
+/// Returns the first bytes of a page of so many records, behind which the next one begins at this thread.
+#[inline(always)]
+pub(crate) fn page_header(count: u16, next: Option<u32>) -> [u8; HEADER_LEN]
+    ensures { result ≡ header_of count next }
+{
     let mut bytes = [0; HEADER_LEN];
-    LittleEndian::write_u16(&mut bytes, page.records.len() as u16);
-    LittleEndian::write_u16(&mut bytes[LAST_AT..], u16::from(page.next.is_none()));
-    LittleEndian::write_u32(&mut bytes[NEXT_AT..], page.next.unwrap_or(0));
+    LittleEndian::write_u16(&mut bytes, count);
+    LittleEndian::write_u16(&mut bytes[LAST_AT..], u16::from(next.is_none()));
+    LittleEndian::write_u32(&mut bytes[NEXT_AT..], next.unwrap_or(0));
     bytes
 }
 

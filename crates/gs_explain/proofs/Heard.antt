@@ -8,11 +8,6 @@ use Rattle.gs_reasons.specs.declared.index.Index.{Index}
 use Rattle.gs_reasons.specs.Kept.{HasHeard}
 use Rattle.gs_explain.specs.Landings.{is_placing, steps_to_placing}
 
--- one entry more
-pub one_heard : (x y : Index) (es : History) (n : ℕ) (d : Entry) → n < length es → ((h : History) → length h ≡ n → HasHeard x h → HasHeard y (h ++ get_or es n d ∷ [])) → HasHeard x (take n es) → HasHeard y (take (n + 1) es)
-one_heard x y es n d lt hears heard =
-    subst (HasHeard y) (sym (take-suc es n d lt) ∙ ap (λ k. take k es) (sym (add-one n))) (hears (take n es) (length-take-le n es (omega (arith, lt))) heard)
-
 -- how far it is to the next placing, entry by entry
 pub placing_here : (es : History) (n : ℕ) (d : Entry) → n < length es → is_placing (get_or es n d) ≡ true → n + steps_to_placing (drop n es) ≡ n + 1
 placing_here es n d lt is = ap (λ l. n + steps_to_placing l) (drop-cons es n d lt) ∙ ap (λ b. n + cond b 1 (suc (steps_to_placing (drop (suc n) es)))) is
@@ -25,7 +20,3 @@ placing_later es n d lt is =
 
 pub placing_never : (es : History) (n : ℕ) → length es ≤ n → n + steps_to_placing (drop n es) ≡ n
 placing_never es n le = let e : steps_to_placing (drop n es) ≡ 0 = ap steps_to_placing (drop_all n es le) in omega (arith, e)
-
--- all of them
-pub all_heard : (x : Index) (es : History) (n : ℕ) → length es ≤ n → HasHeard x (take n es) → HasHeard x es
-all_heard x es n le heard = subst (HasHeard x) (take_all n es le) heard

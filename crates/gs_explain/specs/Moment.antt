@@ -33,7 +33,7 @@ pub record Moment : Type 0 where
   pub settings : Settings
   pub overflow : Overflow
 
--- how many bytes the message of an event has: a commit and a late landing tell a thread that it makes way
+-- how many bytes the message of an event has. That of a commit and of a late landing is PREEMPTED of a victim
 abbrev pub size_of : Event AnyPolicy → ℕ
 size_of (events.Kernel (commands.Create f)) = round_up (NAME_AT + length f.name)
 size_of (events.Kernel (commands.Thread t (Affinity m))) = AFFINITY_LEN

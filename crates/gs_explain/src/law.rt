@@ -28,8 +28,8 @@ pub fn explained_is_run()
 {}
 
 /// States that a landing's reason is asked for among the entries that it met. If an outcome is a verdict that speaks of what
-/// stood before the landing, it is the verdict on those entries: of a commit's landings, those of a group too, and of a late one.
-/// It does nothing when it runs.
+/// stood before the landing, it is the verdict on those entries. So it is of a commit's landings, those of a group too, and of
+/// a late one. It does nothing when it runs.
 #[tactic(auto, using(crate::proofs::Meeting::commit_judged, crate::proofs::Meeting::late_judged))]
 pub fn landings_are_met()
     ensures commit { (m n : State) (mask : ℕ) (ls : List Landing) (t : Bool) → Step m (events.Commit mask) (replies.Landed ls t) n → AreJudged m.settings n.history (length m.history) ls }
@@ -45,8 +45,8 @@ pub fn refusals_are_explained()
     ensures { (m n : State) (e : Event AnyPolicy) (c : Command) (r : Refusal) → command_of e ≡ Some c → IsNumbered m.settings.first_tseq m.history → Step m (planned any_plans e) (replies.Refused r) n → (r ≡ refusals.OutOfMemory → ⊥) → (r ≡ refusals.SlotOpen → ⊥) → ExplainsRefusal (refusal_sign e r) r m.settings m.history (is_given_all m) c }
 {}
 
-/// States that each placing of a machine finds its CPU free: so it is in the beginning, and each step keeps it, of a machine
-/// that has no more slots than CPUs. Of such histories gs_reasons says which entry took a thread off its CPU. It does
+/// States that each placing of a machine finds its CPU free. So it is in the beginning, and each step of a machine that has
+/// no more slots than CPUs keeps it. Of such histories gs_reasons says which entry took a thread off its CPU. It does
 /// nothing when it runs.
 #[tactic(auto, using(crate::proofs::Finding::start_free, crate::proofs::Finding::step_free))]
 pub fn placings_find_free()

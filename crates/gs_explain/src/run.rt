@@ -65,19 +65,17 @@ impl Answering for Explanation {
     }
 }
 
-/// Reads a script to its end, or until it is too long, runs it, and writes for each event what explains it: the
+/// Reads a script to its end, or until it is too long, runs it, and writes for each event what explains it. That is the
 /// script's line with its number, the lines of its reply, and the entries of the journal that it added. Behind each
 /// refusal, each landing that was not placed and each tear-down stands a line, indented, that says why. Or it writes all that
-/// of an event as one object of JSON. A script's fault is written as one line. Returns what was read too, for whoever tells more of that fault.
+/// of an event as one object of JSON. A script's fault is written as one line. Returns what was read too, for whoever
+/// tells more of that fault.
 ///
-/// The reads end at the first that gives no byte, and are at most 1,048,578. At most
-/// [`MOST_READ_BYTES`] are read.
+/// [`answer_script`] says how much is read and what an error leaves.
 ///
 /// # Errors
 ///
-/// `ReadFailed` if a read fails. `OutOfMemory` if out of memory, at an event too. In both cases nothing was
-/// written. `WriteFailed` if a write fails or takes no byte: a beginning of the output was written, short of the
-/// whole.
+/// As of [`answer_script`].
 pub fn explain_script<R: Read, W: Write>(
     alloc: Global,
     reader: &mut R,

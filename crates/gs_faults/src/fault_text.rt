@@ -90,8 +90,8 @@ fn write_found(
     Ok(())
 }
 
-/// Returns what is wrong with the script that these bytes say, as text: the line that has its first fault, a mark below
-/// the word at which that stands, what is wanted there, the form of such a line, and the word that was probably meant.
+/// Returns what is wrong with the script that these bytes say, as text. It has the line of the first fault, and a mark below
+/// the word at which that stands. Then come what is wanted there, the form of such a line, and the word that was probably meant.
 /// It is `None` if they are a script. It fails only if out of memory.
 pub fn explain(alloc: Global, bytes: &[u8]) -> Result<Option<String>, AllocError>
     ensures { IfOk result (λ text. MatchOption text (IsOk (script_of bytes.now)) (λ _. IsErr (script_of bytes.now))) }

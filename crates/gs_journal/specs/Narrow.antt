@@ -1,5 +1,5 @@
--- How two lists say the entries of a journal. What is wide of an entry, the change of a creation or of a new mask, stands in a list of its own, at the place
--- that the narrow entry holds.
+-- How two lists say the entries of a journal. What is wide of an entry is the change of a creation or of a new mask. It stands in a list of its own, at the
+-- place that the narrow entry holds.
 use Rattle.std.specs.Prelude.{ℕ, ◌≡◌, ◌<◌, ◌-◌, Some, List, [], ◌∷◌, length, map, slice_get, unwrap_or}
 use Rattle.gs_layout.specs.declared.message.Change.{Change}
 use Rattle.gs_layout.specs.declared.message.Change.TheVariants.{Created, Blocked, Wakeup, Preempted, Yield, Dead, Affinity}

@@ -69,7 +69,7 @@ impl Journal {
         }
     }
 
-    /// Makes room for so many more entries, which `append` then takes without fail.
+    /// Makes room for `additional` more entries, which `append` then takes without fail.
     ///
     /// # Errors
     ///
@@ -114,6 +114,17 @@ impl Journal {
     }
 
     /// Returns the entry at a place, counted from 0.
+    ///
+    /// # Examples
+    ///
+    /// The last entry but one:
+    ///
+    /// ```
+    /// match journal.len() {
+    ///     0 | 1 => None,
+    ///     len => Some(entry_of(&journal.entry(len - 2))),
+    /// }
+    /// ```
     #[inline(always)]
     #[tactic(auto, using(crate::proofs::Lists::length_entries, crate::proofs::Lists::within_at, crate::proofs::Lists::entry_at, crate::proofs::Lists::entry_is))]
     pub fn entry(&self, place: usize) -> Entry

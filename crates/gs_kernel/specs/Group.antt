@@ -64,7 +64,7 @@ are_to_place s h all g = list_all (λ x. is_to_place (own_verdict s h all x.0 x.
 abbrev pub are_marked_to_place : Settings → History → ℕ → Group → Bool
 are_marked_to_place s h marks g = list_all (λ x. is_to_place (marked_verdict s h marks x.0 x.1)) g
 
--- how many entries the group adds: one for each, and one for each thread that makes way
+-- how many entries the group adds: one for each, and one for each victim
 abbrev pub group_entries : History → Group → ℕ
 group_entries h [] = 0
 group_entries h (x ∷ g) = placing_entries (on h x.0) + group_entries h g
@@ -82,7 +82,7 @@ abbrev pub group_outcome : Settings → History → Group → Bool → ℕ → S
 group_outcome s h g fit k b =
     if are_to_place s h g g then (if is_full s h (group_entries h g) then outcomes.HistoryFull else (if fit then outcomes.Placed else outcomes.Gone)) else or_failed (own_verdict s h g k b)
 
--- the thread on a CPU, if there is one, is told that it makes way, or the enclave is torn down in place of that
+-- PREEMPTED of the thread on a CPU, if there is one, is posted, or the enclave is torn down in place of that
 abbrev pub GivesWay : Room → History → Option Message → Bool → History → Type 0
 GivesWay room h None fit h' = (fit ≡ true) × (h' ≡ h)
 GivesWay room h (Some m) fit h' = Tells room h (Post m) fit h'
@@ -102,7 +102,7 @@ GiveWay room s (x ∷ g) h fit h' =
 abbrev pub placings : Group → List Entry
 placings g = map (λ x. placing x.0 x.1) g
 
--- the group is placed once all that make way were told, or it is gone with the enclave
+-- the group is placed once PREEMPTED of all victims was posted, or it is gone with the enclave
 abbrev pub Puts : Room → Settings → History → Group → Bool → History → Type 0
 Puts room s h g fit h' = (told : History) × GiveWay room s g h fit told × (h' ≡ told ++ (if fit then placings g else []))
 

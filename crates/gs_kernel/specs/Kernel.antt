@@ -39,7 +39,7 @@ pub record SameKernel {P : Type 0} (a b : KernelOf P) : Type 0 where
   pub rows : b.rows ≡ a.rows
   pub pages : b.paged ≡ a.paged
 
--- the last thing that happened
+-- the last thing that happened: of a command that was done, what it added last
 abbrev pub last_entry : History → Entry
 last_entry h = unwrap_or (slice_get h (length h - 1)) Torn
 
@@ -47,16 +47,16 @@ last_entry h = unwrap_or (slice_get h (length h - 1)) Torn
 abbrev pub is_bad_mask : Settings → ℕ → Bool
 is_bad_mask s mask = has_none mask || has_past mask s.cpus
 
--- so many more entries do not fit into the journal
+-- this many additional entries do not fit into the journal
 abbrev pub is_full : Settings → History → ℕ → Bool
 is_full s h n = nat_le (s.history + 1) (length h + n)
 
--- the refusals that a creation has of its own, in order
+-- refusals specific to a creation, in order: the mask has no CPU or one that there is not; all tids are spent
 unfoldable pub create_refusal : Settings → History → Facts → Option Refusal
 create_refusal s h f =
     first_that ((is_bad_mask s f.mask, Some refusals.EmptyMask) ∷ (nat_le MOST_TIDS (length (created h)), Some refusals.TidsSpent) ∷ []) None
 
--- the refusal that a tick of a CPU has of its own
+-- the refusal specific to a tick: there is no such CPU
 unfoldable pub tick_refusal : Settings → ℕ → Option Refusal
 tick_refusal s c = first_that ((nat_le s.cpus c, Some refusals.BadCpu) ∷ []) None
 
@@ -68,7 +68,8 @@ lives h t = is_live (record_in h t)
 abbrev pub is_spent : Settings → History → ℕ → Bool
 is_spent s h t = nat_le LAST_TSEQ (seq s.first_tseq h t)
 
--- the refusal that one kind of event has of its own, of a thread that is on this CPU, if any, and may run or not
+-- the refusal specific to one kind of event, of a thread that is on this CPU, if any, and may run or not. A block or a yield: it is on no
+-- CPU. A wake: it may run already. A new mask: the mask is bad. A death has none
 abbrev pub event_refusal : Settings → Option ℕ → Bool → ThreadEvent → Option Refusal
 event_refusal s there runs happens.Block = if is_some there then None else Some refusals.NotRunning
 event_refusal s there runs happens.Wake = if runs then Some refusals.NotBlocked else None
@@ -81,7 +82,7 @@ abbrev pub is_agent_on : ℕ → Option (ℕ × ℕ) → Bool
 is_agent_on c None = false
 is_agent_on c (Some a) = a.1 == c
 
--- that the enclave was torn down, and else another refusal
+-- Gone if the enclave was torn down, and else another refusal: each list of refusals begins so
 abbrev pub unless_torn : History → Option Refusal → Option Refusal
 unless_torn h other = first_that ((torn h, Some refusals.Gone) ∷ []) other
 
@@ -90,7 +91,8 @@ abbrev pub or_else : Option Refusal → Option Refusal → Option Refusal
 or_else (Some r) later = Some r
 or_else None later = later
 
--- the refusals that what happens to a thread has of its own, in order
+-- refusals specific to what happens to a thread, in order: no such thread lives; the one of its kind of event; the thread's sequence
+-- numbers are spent
 unfoldable pub thread_refusal : Settings → History → ℕ → ThreadEvent → Option Refusal
 thread_refusal s h t e =
     first_that ((not (lives h t), Some refusals.NoThread) ∷ [])
@@ -122,7 +124,8 @@ abbrev pub is_spent_there : Settings → History → Option ℕ → Bool
 is_spent_there s h None = false
 is_spent_there s h (Some t) = is_spent s h t
 
--- the refusals that the other class's taking a CPU has of its own, in order
+-- refusals specific to Take, in order: there is no such CPU; the active agent is on it; it is taken; the sequence numbers of the thread
+-- there are spent
 unfoldable pub take_refusal : Settings → History → ℕ → Option Refusal
 take_refusal s h c =
     first_that (
@@ -133,7 +136,7 @@ take_refusal s h c =
     ∷ []
     ) None
 
--- and its giving a CPU back
+-- refusals specific to giving a CPU back, in order: there is no such CPU; the other class does not hold it
 unfoldable pub give_refusal : Settings → History → ℕ → Option Refusal
 give_refusal s h c = first_that ((nat_le s.cpus c, Some refusals.BadCpu) ∷ (not (taken h c), Some refusals.NotTaken) ∷ []) None
 
@@ -142,7 +145,7 @@ abbrev pub is_last_generation : Option ℕ → Bool
 is_last_generation None = false
 is_last_generation (Some g) = g == MOST_GENERATION
 
--- the refusals that a hand-off to a CPU has of its own, in order: those of a taking stand among them
+-- refusals specific to a hand-off to a CPU, in order: no agent is active; those of a taking; the generation is the last one
 unfoldable pub hand_off_refusal : Settings → History → ℕ → Option Refusal
 hand_off_refusal s h c =
     first_that ((is_none (active h), Some refusals.NotActive) ∷ [])
@@ -152,7 +155,7 @@ hand_off_refusal s h c =
 abbrev pub next_generation : History → ℕ
 next_generation h = unwrap_or (generation h) 0 + 1
 
--- the message to a thread on a CPU, if there is one, that it was taken off
+-- PREEMPTED of the thread on a CPU, if there is one
 abbrev pub preemption : Settings → History → ℕ → Option Message
 preemption s h c = option_map (λ t. next_about s h t (Preempted c)) (on h c)
 

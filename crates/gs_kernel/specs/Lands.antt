@@ -19,7 +19,7 @@ use Rattle.gs_kernel.specs.declared.effect.Effect.{Effect}
 use Rattle.gs_kernel.specs.declared.effect.Effect.TheVariants.{Append, Post}
 use Rattle.gs_kernel.specs.Legal.{Room, Tells, effect, refusal}
 
--- what a placing adds: the message to the thread that makes way, if there is one, and the placing
+-- what a placing adds: PREEMPTED of the victim, if there is one, and the placing
 abbrev pub placement : Settings → History → ℕ → Stamp → Effect
 placement s h k b = Append (preemption s h k) (placing k b)
 
@@ -28,12 +28,13 @@ abbrev pub is_to_place : Outcome → Bool
 is_to_place outcomes.Placed = true
 is_to_place _ = false
 
--- what becomes of a transaction with this verdict. One that is to be placed is placed, or is gone with the enclave if the message to the thread there
--- does not fit. Of any other nothing comes
+-- what becomes of a transaction with this verdict. One that is to be placed is placed, or is gone with the enclave if PREEMPTED of the thread there does not fit. Of any other nothing comes
 abbrev pub SettlesIf : Bool → Room → Settings → History → ℕ → Stamp → Outcome → Outcome → History → Type 0
 SettlesIf true room s h k b v o h' = (fit : Bool) × (o ≡ (if fit then outcomes.Placed else outcomes.Gone)) × Tells room h (placement s h k b) fit h'
 SettlesIf false room s h k b v o h' = (o ≡ v) × (h' ≡ h)
 
+-- what becomes of a transaction with this verdict. If it is to be placed, what that adds is told, and the outcome is placed, or gone if its
+-- message does not fit. Else the outcome is the verdict, and the history stays
 abbrev pub Settles : Room → Settings → History → ℕ → Stamp → Outcome → Outcome → History → Type 0
 Settles room s h k b v o h' = SettlesIf (is_to_place v) room s h k b v o h'
 
@@ -135,7 +136,7 @@ pub record IsPlaced (s : Settings) (h : History) (x : Effect) : Type 0 where
   pub ready : IsToPlace s h cpu stamp
   pub effect_is : x ≡ placement s h cpu stamp
 
--- this is what the thread on a CPU is told that makes way
+-- this is PREEMPTED of the thread on a CPU
 pub record MakesWay (s : Settings) (h : History) (x : Effect) : Type 0 where
   pub cpu : ℕ
   pub thread : ℕ
@@ -144,6 +145,6 @@ pub record MakesWay (s : Settings) (h : History) (x : Effect) : Type 0 where
   pub room : length h < s.history
   pub effect_is : x ≡ Post (next_about s h thread (Preempted cpu))
 
--- this comes next: by a command that nothing refuses, by a placing, or by who makes way
+-- this comes next: by a command that nothing refuses, by a placing, or by a preemption
 abbrev pub ComesNext : Settings → History → Effect → Type 0
 ComesNext s h x = IsDue s h x ⊎ IsPlaced s h x ⊎ MakesWay s h x

@@ -19,7 +19,7 @@ use Rattle.gs_kernel.specs.declared.executed.Executed.TheVariants.{Done}
 use Rattle.gs_kernel.specs.Kernel.{KernelOf, IsRefusal, or_else, unless_torn, is_full, create_refusal, thread_refusal, take_refusal, give_refusal, tick_refusal, hand_off_refusal, next_generation, creation, happening, preemption}
 use Rattle.gs_kernel.specs.Attaching.{leave_refusal, begin_refusal, activate_refusal}
 
--- the first refusal that a command has of its own, by whether the last page was given since the last begin
+-- the first refusal specific to a command, by whether the last page was given since the last begin
 abbrev pub own_refusal : Settings → History → Bool → Command → Option Refusal
 own_refusal s h given (commands.Create f) = create_refusal s h f
 own_refusal s h given (commands.Thread t e) = thread_refusal s h t e
@@ -38,8 +38,8 @@ most_entries (commands.HandOff c) = 2
 most_entries (commands.Activate c) = 2
 most_entries _ = 1
 
--- the first refusal that holds while the enclave stands, of a command that has this one of its own and adds so many entries at most: after its own that
--- the journal has no room
+-- the first refusal that holds while the enclave stands, of a command that has this one of its own and adds so many entries at most. Its own comes
+-- first, and then that the journal has no room
 abbrev pub standing_with : Settings → History → Option Refusal → ℕ → Option Refusal
 standing_with s h own n = or_else own (first_that ((is_full s h n, Some refusals.HistoryFull) ∷ []) None)
 
@@ -109,7 +109,9 @@ abbrev pub is_done : Executed → Bool
 is_done Done = true
 is_done executed.Torn = false
 
--- refused by the first refusal that holds, or as out of memory if none does, and nothing changed; or done; or torn down
+-- from this history the kernel may return this for a command, and leave this. It was refused by the first refusal that holds, or as out of
+-- memory if none does, and nothing changed. Or it was done: its message fits, and what it adds was added. Or its message does not fit, and
+-- the enclave was torn down in place of that
 abbrev pub Legal : Room → Settings → History → Bool → Command → Result Executed Refusal → History → Type 0
 Legal room s h given c (Err r) h' = IsRefusal (refusal s h given c) r × (h' ≡ h)
 Legal room s h given c (Ok x) h' = Serves room s h given c (is_done x) h'

@@ -74,7 +74,7 @@ impl<P: Poster> Kernel<P> {
         ensures told { Tells (RoomOf P.same P.consumed P.posted P.tight self.old.poster) self.old.history (effect self.old.settings self.old.history (Command.Tick cpu)) result self.new.history }
         ensures frame { Frame P.same P.consumed P.posted self.old self.new }
     {
-        // A look at a field, by which the proof has what the kernel keeps.
+        // Reads a field to expose the invariant.
         let _settings = &self.settings;
         self.tell_message(&Message::TimerTick { cpu })
     }
@@ -126,8 +126,8 @@ impl<P: Poster> Kernel<P> {
         self.tell(&effect)
     }
 
-    /// Appends an entry, behind the message to the thread that makes way for it, if there is one. Returns whether that
-    /// fits, as [`Kernel::tell`] does.
+    /// Appends an entry, behind PREEMPTED of the victim, if there is one. Returns whether that fits, as [`Kernel::tell`]
+    /// does.
     #[inline(always)]
     pub(crate) fn tell_entry(&mut self, victim: Option<Message>, entry: Entry) -> bool
         requires due { ComesNext self.old.settings self.old.history (Effect.Append victim entry) }

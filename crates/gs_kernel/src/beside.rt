@@ -22,7 +22,7 @@ impl<P: Poster> Kernel<P> {
         ensures passed { T.passed taker.old [] taker.new }
         ensures rest { (ms : List Message) × (rest : List Message) × P.gave taker.new ms × (posted self.new.history ≡ ms ++ rest) × T.ahead taker.new rest × (result ≡ length rest) }
     {
-        // A look at a field, by which the proof has what the kernel keeps.
+        // Reads a field to expose the invariant.
         let _settings = &self.settings;
         self.poster.look_beside(taker)
     }

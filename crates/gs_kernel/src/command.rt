@@ -11,21 +11,21 @@ pub enum Command {
     Create { facts: Facts },
     /// Something happens to a thread.
     Thread { tid: u32, event: ThreadEvent },
-    /// The other scheduling class takes a CPU. A thread there is taken off, and told so first.
+    /// The other scheduling class takes a CPU. PREEMPTED of the thread there is posted first.
     Take { cpu: u16 },
     /// The other scheduling class gives a CPU back.
     Give { cpu: u16 },
     /// The timer of a CPU ticks.
     Tick { cpu: u16 },
-    /// The active agent goes on as one of the next generation, on another CPU. A thread there is taken off, and
-    /// told so first.
+    /// The active agent goes on as one of the next generation, on another CPU. PREEMPTED of the thread there is posted
+    /// first.
     HandOff { cpu: u16 },
     /// The agent leaves, or crashed, which is the same to the kernel: none is active and none attaches then.
     Leave,
     /// A new agent begins to attach, as one of the next generation.
     Begin,
-    /// The agent that attaches, and was given the last page, becomes active on a CPU. A thread there is taken off,
-    /// and told so first.
+    /// The agent that attaches, and was given the last page, becomes active on a CPU. PREEMPTED of the thread there is
+    /// posted first.
     Activate { cpu: u16 },
 }
 

@@ -15,7 +15,7 @@ impl<P: Poster> Kernel<P> {
         ensures value { result ≡ creation self.now.settings.first_tseq self.now.history facts.now }
         ensures spellable { IsSpellable result }
     {
-        // Looks at the fields, by which the proof has their ranges.
+        // Reads the fields to expose their ranges.
         let _name = facts.name.as_bytes();
         let _mask = facts.mask.bits();
         Message::Thread {

@@ -10,7 +10,7 @@ pub enum Effect {
     Post {
         message: Message,
     },
-    /// An entry is appended, behind the message to the thread that makes way for it, if there is one.
+    /// An entry is appended, behind PREEMPTED of the victim, if there is one.
     Append {
         victim: Option<Message>,
         entry: Entry,

@@ -24,6 +24,18 @@ impl<P: Poster> Kernel<P> {
     ///
     /// The first refusal that applies ([`Kernel::refusal`]), and then nothing changes. It is `OutOfMemory` only if no
     /// other applies and it is out of memory.
+    ///
+    /// # Examples
+    ///
+    /// How many of some commands were done:
+    ///
+    /// ```
+    /// for turn in 0..calls {
+    ///     if let Ok(Executed::Done) = kernel.execute(&event(turn)) {
+    ///         done = done.wrapping_add(1);
+    ///     }
+    /// }
+    /// ```
     pub fn execute(&mut self, command: &Command) -> Result<Executed, Refusal>
         ensures { IsServed P.same P.consumed P.posted P.tight self.old command.now result self.new }
     {
@@ -137,14 +149,14 @@ impl<P: Poster> Kernel<P> {
         ensures refused { OnErr result (self.new ≡ self.old) }
         ensures told { P.posted self.new.poster (posted self.new.history) }
     {
-        // A look at a field, by which the proof has what the kernel keeps.
+        // Reads a field to expose the invariant.
         let _settings = &self.settings;
         self.check(own, entries)?;
         self.make_room(entries)?;
         Ok(())
     }
 
-    /// Makes room for so many more entries.
+    /// Makes room for `entries` more entries.
     #[inline(always)]
     fn make_room(&mut self, entries: usize) -> Result<(), AllocError>
         ensures room { OnOk result (entries ≤ self.new.room) }

@@ -46,7 +46,7 @@ impl<P: Poster> Kernel<P> {
         ensures room { vec_len landings.new ≤ vec_len landings.old + length group.now }
         ensures capacity { vec_capacity landings.new ≡ vec_capacity landings.old }
     {
-        // A look at a field, by which the proof has what the kernel keeps.
+        // Reads a field to expose the invariant.
         let _settings = &self.settings;
         let Some(_) = group.split_first() else {
             return;
@@ -69,7 +69,7 @@ impl<P: Poster> Kernel<P> {
         ensures frame { Frame P.same P.consumed P.posted self.old self.new }
         ensures room { self.old.room + length self.old.history ≤ self.new.room + length self.new.history }
     {
-        // A look at a field, by which the proof has what the kernel keeps.
+        // Reads a field to expose the invariant.
         let _settings = &self.settings;
         if !self.are_to_place(repeated, group) {
             return None;
@@ -156,7 +156,7 @@ impl<P: Poster> Kernel<P> {
         ensures frame { Frame P.same P.consumed P.posted self.old self.new }
         ensures room { self.old.room + length self.old.history ≤ self.new.room + length self.new.history }
     {
-        // A look at a field, by which the proof has what the kernel keeps.
+        // Reads a field to expose the invariant.
         let _settings = &self.settings;
         if !self.give_way(group) {
             return false;
@@ -165,8 +165,8 @@ impl<P: Poster> Kernel<P> {
         true
     }
 
-    /// Tells the thread on a CPU, if there is one, that it makes way. Returns whether that message fits; if it does not,
-    /// the enclave is torn down. There is room for it.
+    /// Posts PREEMPTED of the thread on a CPU, if there is one. Returns whether that message fits; if it does not, the
+    /// enclave is torn down. There is room for it.
     fn make_way(&mut self, cpu: u16) -> bool
         requires cpu { cpu < self.old.settings.cpus }
         requires numbers { is_spent_there self.old.settings self.old.history (on self.old.history cpu) ≡ false }
@@ -176,7 +176,7 @@ impl<P: Poster> Kernel<P> {
         ensures frame { Frame P.same P.consumed P.posted self.old self.new }
         ensures room { self.old.room + length self.old.history ≤ self.new.room + length self.new.history }
     {
-        // A look at a field, by which the proof has what the kernel keeps.
+        // Reads a field to expose the invariant.
         let _settings = &self.settings;
         match self.preemption(cpu) {
             Some(message) => self.tell_message(&message),
@@ -184,8 +184,8 @@ impl<P: Poster> Kernel<P> {
         }
     }
 
-    /// Tells the threads on the CPUs of a group that they make way, in order. Returns whether all these messages fit; the
-    /// first that does not tears the enclave down. There is room for them.
+    /// Posts PREEMPTED of the threads on the CPUs of a group, in order. Returns whether all these messages fit; the first
+    /// that does not tears the enclave down. There is room for them.
     pub(crate) fn give_way(&mut self, group: &[(u16, Stamp)]) -> bool
         requires numbered { AreNumbered self.old.settings self.old.history group.now }
         requires room { length group.now ≤ self.old.room }
@@ -194,7 +194,7 @@ impl<P: Poster> Kernel<P> {
         ensures frame { Frame P.same P.consumed P.posted self.old self.new }
         ensures room { self.old.room + length self.old.history ≤ self.new.room + length self.new.history }
     {
-        // A look at a field, by which the proof has what the kernel keeps.
+        // Reads a field to expose the invariant.
         let _settings = &self.settings;
         let Some(((cpu, _), rest)) = group.split_first() else {
             return true;
@@ -216,7 +216,7 @@ impl<P: Poster> Kernel<P> {
         ensures frame { Frame P.same P.consumed P.posted self.old self.new }
         ensures room { self.old.room + length self.old.history ≤ self.new.room + length self.new.history }
     {
-        // A look at a field, by which the proof has what the kernel keeps.
+        // Reads a field to expose the invariant.
         let _settings = &self.settings;
         let Some(((cpu, slot), rest)) = group.split_first() else {
             return;
@@ -233,8 +233,8 @@ impl<P: Poster> Kernel<P> {
         self.place_all(rest)
     }
 
-    /// Returns what would become of a transaction of a group by itself: one that would be placed fails if a transaction
-    /// for a lower CPU names its thread, which is marked.
+    /// Returns what would become of a transaction of a group by itself. One that would be placed fails if it is marked: a
+    /// transaction for a lower CPU names its thread.
     fn own_verdict(&self, repeated: Mask, cpu: u16, slot: &Stamp) -> Outcome
         requires { cpu < self.now.settings.cpus }
         ensures value { result ≡ marked_verdict self.now.settings self.now.history repeated cpu slot.now }

@@ -18,7 +18,7 @@ impl<P: Poster> Kernel<P> {
         ensures value { result ≡ happening self.now.settings self.now.history tid event }
         ensures spellable { IsSpellable result }
     {
-        // A look at a field, by which the proof has what the kernel keeps.
+        // Reads a field to expose the invariant.
         let _settings = &self.settings;
         let (tseq, there) = self.number_and_place(tid);
         Message::Thread {

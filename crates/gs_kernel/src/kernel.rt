@@ -51,6 +51,20 @@ impl<P: Poster> Kernel<P> {
     /// # Errors
     ///
     /// `AllocError` if out of memory.
+    ///
+    /// # Examples
+    ///
+    /// A kernel over a ring of 128 bytes, in which a thread was created:
+    ///
+    /// ```
+    /// let ring = ByteRing::new(alloc, 128).ok()?;
+    /// let mut kernel = Kernel::new(alloc, settings, ring).ok()?;
+    /// if matches!(kernel.create(&facts), Ok(Executed::Done)) {
+    ///     Some(kernel)
+    /// } else {
+    ///     None
+    /// }
+    /// ```
     pub fn new(alloc: Global, settings: Settings, poster: P) -> Result<Kernel<P>, AllocError>
     where
         P: Drop,
@@ -158,7 +172,7 @@ impl<P: Poster> Kernel<P> {
         self.active().is_some() || self.attaching().is_some()
     }
 
-    /// Makes room for so many more entries, or for as many as the journal's limit leaves.
+    /// Makes room for `additional` more entries, or for as many as the journal's limit leaves.
     ///
     /// # Errors
     ///
@@ -176,7 +190,7 @@ impl<P: Poster> Kernel<P> {
         }
     }
 
-    /// Returns whether so many more entries, two at most, do not fit into the journal.
+    /// Returns whether `additional` more entries, two at most, do not fit into the journal.
     pub(crate) fn is_full(&self, additional: usize) -> bool
         requires { additional ≤ 2 }
         ensures { result ≡ is_full self.now.settings self.now.history additional }

@@ -98,7 +98,7 @@ impl<P: Poster> Kernel<P> {
     /// landing, and the thread's sequence number before it. Returns what became of it, or `None` for a slot
     /// that is idle or done, which stays as it is.
     ///
-    /// If a thread is on the CPU and the stamp says that it is to be taken off, it is told so first. If that
+    /// If a thread is on the CPU and the stamp says that it is to be taken off, PREEMPTED of it is posted first. If that
     /// message does not fit, the enclave is torn down, and the outcome is [`Outcome::Gone`]. A malformed slot
     /// lands too, as [`Outcome::Malformed`] with no thread: nothing comes of it, and that alone is left in
     /// it.
@@ -116,7 +116,7 @@ impl<P: Poster> Kernel<P> {
         ensures frame { Frame P.same P.consumed P.posted self.old self.new }
         ensures room { self.old.room + length self.old.history ≤ self.new.room + length self.new.history }
     {
-        // A look at a field, by which the proof has what the kernel keeps.
+        // Reads a field to expose the invariant.
         let _settings = &self.settings;
         let cpu = slot.cpu();
         let landing = match slot.state() {
@@ -170,7 +170,7 @@ impl<P: Poster> Kernel<P> {
         ensures frame { Frame P.same P.consumed P.posted self.old self.new }
         ensures room { self.old.room + length self.old.history ≤ self.new.room + length self.new.history }
     {
-        // A look at a field, by which the proof has what the kernel keeps.
+        // Reads a field to expose the invariant.
         let _settings = &self.settings;
         if judged != Outcome::Placed {
             return Ok(judged);
@@ -182,8 +182,8 @@ impl<P: Poster> Kernel<P> {
         }
     }
 
-    /// Places a thread, after the one that is on the CPU, if there is one, was told that it is taken off.
-    /// Returns whether that message fits; if it does not, the enclave is torn down and nobody placed.
+    /// Posts PREEMPTED of the thread on the CPU, if there is one, and places a thread there. Returns whether that message
+    /// fits; if it does not, the enclave is torn down and nobody placed.
     fn place(&mut self, cpu: u16, slot: &Stamp) -> Result<bool, AllocError>
         requires cpu { cpu < self.old.settings.cpus }
         requires placed { verdict self.old.settings self.old.history cpu slot.now ≡ Outcome.Placed }

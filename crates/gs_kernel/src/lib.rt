@@ -31,6 +31,7 @@ mod tell;
 mod thread_event;
 mod threads;
 mod tick;
+mod written;
 
 pub use command::Command;
 pub use effect::Effect;

@@ -12,7 +12,7 @@ use gs_layout::{Change, Message, Refusal};
 use gs_ring::Poster;
 
 impl<P: Poster> Kernel<P> {
-    /// Returns the message to the thread on a CPU, if there is one, that it was taken off.
+    /// Returns PREEMPTED of the thread on a CPU, if there is one.
     pub(crate) fn preemption(&self, cpu: u16) -> Option<Message>
         requires cpu { cpu < self.now.settings.cpus }
         requires numbers { is_spent_there self.now.settings self.now.history (on self.now.history cpu) ≡ false }

@@ -78,7 +78,7 @@ impl<P: Poster> Kernel<P> {
     fn live_page(&self, alloc: Global, from: u32, max: u16) -> Result<Page, AllocError>
         ensures { IfOk result (λ p. p ≡ dumped self.now.settings self.now.history from max) }
     {
-        // A look at a field, by which the proof has what the kernel keeps.
+        // Reads a field to expose the invariant.
         let _settings = &self.settings;
         let mut records = Vec::new(alloc);
         for (tid, row) in self.threads.live_from(from) {
@@ -102,11 +102,11 @@ impl<P: Poster> Kernel<P> {
 }
 
 /// States that a page can tell of a thread. It does nothing when it runs.
-fn state_live(thread: &DumpRecord)
+pub(crate) fn state_live(thread: &DumpRecord)
     requires { IsTold thread.now }
     ensures { IsLive thread.now }
 {
-    // A look at each part, by which the proof has what it keeps.
+    // Reads each part to expose its invariant.
     let _tseq = thread.known.tseq;
     let _mask = thread.known.facts.mask.bits();
     let _name = thread.known.facts.name.as_bytes();

@@ -127,10 +127,12 @@ more_of (TimerTick c) = []
 abbrev pub header_of : Message → List ℕ
 header_of m = header_bytes (size_of m) (kind_number (kind_of m)) (tid_of m) (tseq_of m) (cpu_number (cpu_of m)) (flags_of m)
 
--- the one list of bytes that the layout gives a message
+-- the one list of bytes that the layout gives a message: its header, behind that of a creation mask, class, name and zeros, and of a new
+-- mask the mask
 abbrev pub spelling : Message → List ℕ
 spelling m = header_of m ++ more_of m
 
+-- a mask that a message may have: some CPU, and none that there cannot be
 abbrev pub IsMask : ℕ → Type 0
 IsMask mask = (0 < mask) × (mask < 2 ^ MOST_CPUS)
 
@@ -138,6 +140,7 @@ abbrev pub is_cpu_or_none : Option ℕ → Bool
 is_cpu_or_none None = true
 is_cpu_or_none (Some c) = nat_lt c MOST_CPUS
 
+-- a CPU that there may be, or none
 abbrev pub IsCpuOrNone : Option ℕ → Type 0
 IsCpuOrNone None = Unit {0}
 IsCpuOrNone (Some c) = c < MOST_CPUS

@@ -53,7 +53,9 @@ learn Gap o m = o
 abbrev pub next_known : Option Known → Message → Option Known
 next_known o m = learn (word_at o m) o m
 
--- what a message is to a view
+-- what a message is to a view, by the first that holds: a tick applies. If nothing is known of the thread, a creation applies, and any
+-- other message is an orphan. A number not above the known one is skipped, and one more than one above it is a gap. Any other message
+-- applies
 abbrev pub word : Look → Message → Word
 word v (TimerTick c) = Applied
 word v (Thread t s c) = word_at (v t) (Thread t s c)

@@ -154,6 +154,21 @@ fn write_more(message: &Message, out: &mut [u8])
 
 /// Writes the message at the front of `out` and leaves the rest as it was. Returns how many bytes it wrote,
 /// which is [`message_len`] of the message.
+///
+/// # Examples
+///
+/// Whether a message has this spelling, and the rest of the buffer is left as it was:
+///
+/// ```
+/// let len = message_len(message);
+/// if room > MOST || len > room {
+///     return false;
+/// }
+/// let out = &mut buffer[..room];
+/// encode_message(message, out) == len
+///     && &out[..len] == spelling
+///     && out[len..].iter().all(|byte| *byte == UNWRITTEN)
+/// ```
 #[inline(always)]
 pub fn encode_message(message: &Message, out: &mut [u8]) -> usize
     requires { length (spelling message.now) ≤ length out.old }

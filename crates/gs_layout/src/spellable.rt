@@ -46,7 +46,7 @@ impl Change {
     {
         match self {
             Change::Created { facts } => {
-                // A look at the name, by which the proof has that it is one.
+                // Reads the name to expose that it is one.
                 let _name = facts.name.as_bytes();
                 is_mask(facts.mask)
             }

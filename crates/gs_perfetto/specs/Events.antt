@@ -17,7 +17,7 @@ cpu_track c = FIRST_CPU + c
 abbrev pub slice_length : Stay → List ℕ
 slice_length s = codes ",\"dur\":" ++ (decimal (s.to - s.from) ++ (codes ",\"args\":{\"tid\":" ++ decimal s.tid))
 
--- a stay as a slice of its CPU, up to its thread: it begins at the entry that put the thread there, and ends at the one that took it off
+-- a stay as a slice of its CPU, up to its thread. It begins at the entry that put the thread there, and ends at the one that took it off
 abbrev pub slice_front : Stay → List ℕ
 slice_front s = event_front CPU_SLICE.now (cpu_track s.cpu) s.from ++ slice_length s
 

@@ -68,7 +68,7 @@ fn write_events(
 /// Returns a run as a trace in the Chrome trace event format, which is JSON. An entry of the journal takes one
 /// microsecond: what happens at an entry, or before it and behind the one before, has its place as its time.
 ///
-/// Each of so many CPUs is a track, and each stay of a thread on it a slice from the entry that put the thread there to
+/// Each of `cpus` CPUs is a track. Each stay of a thread on it is a slice, from the entry that put the thread there to
 /// the one that took it off. Agents, slots with their transactions, the ring and the run queue have tracks of their own.
 ///
 /// # Errors

@@ -9,6 +9,15 @@ use gs_view::AgentView;
 use std::alloc::{AllocError, Global};
 
 /// Either policy, of which the program knows only as it runs which one it is.
+///
+/// # Examples
+///
+/// Each of the two, where `TWO_TICKS` is a [`TwoClass`]:
+///
+/// ```
+/// let either_first = AnyPolicy::FirstCome(FirstCome);
+/// let either_two = AnyPolicy::TwoClass(TWO_TICKS);
+/// ```
 #[derive(Clone, Copy, PartialEq, Eq, Debug)]
 pub enum AnyPolicy {
     FirstCome(FirstCome),

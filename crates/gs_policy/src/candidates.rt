@@ -41,8 +41,18 @@ impl Candidates {
     /// Gathers the free CPUs, and these, which a thread of class 0 and one of class 1 may take from somebody.
     /// It does not allocate.
     ///
-    /// What is planned among them is the plan by any test that has them so, if it has only usable CPUs
-    /// on which somebody is believed to run, whatever is known of threads and whoever waits.
+    /// Take a test of which CPUs a thread may take from somebody. If it allows just these, and only usable ones on which
+    /// somebody is believed to run, what is planned among them is the plan by that test. That holds whatever is known of
+    /// threads, and whoever waits.
+    ///
+    /// # Examples
+    ///
+    /// Under round robin either class may take the CPUs of the threads that have had their slices:
+    ///
+    /// ```
+    /// let spent = self.spent_cpus(view, cpus);
+    /// Candidates::new(cpus, spent, spent)
+    /// ```
     pub fn new(cpus: &CpuBeliefs<'_>, zero_class: Mask, one_class: Mask) -> Candidates
         ensures { (may_take : Taking) (records : List (ℕ × KnownOf)) (queue : Queue) → IsTaking (shows records cpus.now queue) (may_take (shows records cpus.now queue)) → AreTakenBy (may_take (shows records cpus.now queue)) zero_class one_class → plan_among result (shows records cpus.now queue) ≡ plan may_take (shows records cpus.now queue) }
     {

@@ -18,6 +18,21 @@ use std::alloc::{AllocError, Global};
 
 /// The waiting threads, in order, take the free CPUs. Each takes the least one of its mask that the plan has
 /// not used yet, or none if there is no such CPU. Nobody is preempted.
+///
+/// # Examples
+///
+/// What an enclave is opened with whose agent plans by it:
+///
+/// ```
+/// let config = Config {
+///     cpus: 2,
+///     ring: 128,
+///     first_tseq: 0,
+///     first_generation: 1,
+///     history: 1000,
+///     policy: FirstCome,
+/// };
+/// ```
 #[derive(Clone, Copy, PartialEq, Eq, Debug)]
 pub struct FirstCome;
 

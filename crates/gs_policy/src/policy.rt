@@ -12,6 +12,20 @@ use std::alloc::{AllocError, Global};
 /// A policy decides by what it is shown. That is what the agent knows of each thread, whom it believes to run
 /// on each CPU, which CPUs the other class holds, and who waits, in order. Its plan is a function of these,
 /// `chosen`, which is the policy's own. Whatever it is, `safe` says that an agent may stamp it as it stands.
+///
+/// # Examples
+///
+/// What any policy plans, by what it is shown. docs/POLICIES.md leads through one of one's own:
+///
+/// ```
+/// fn planned<P: Policy>(
+///     alloc: Global,
+///     policy: &P,
+///     situation: &Situation,
+/// ) -> Result<Vec<Choice>, AllocError> {
+///     policy.plan(alloc, &situation.view, &situation.shown(), &situation.queue)
+/// }
+/// ```
 pub trait Policy {
     ghost use Rattle.std.specs.Prelude.{List};
     ghost use Rattle.gs_runq.specs.Queue.{Apart};
@@ -22,9 +36,9 @@ pub trait Policy {
     /// The plan: what it chooses by what it is shown.
     ghost chosen: { Self → Shown → List Choice };
 
-    /// Returns the choices, in the order in which they were made. `view` is what the agent knows of each thread,
-    /// `cpus` what it believes of each CPU and which ones the other class holds, and `queue` who waits: class 0
-    /// before class 1, each thread once. It changes nothing.
+    /// Returns the choices, in the order in which they were made. `view` is what the agent knows of each thread. `cpus` is
+    /// what it believes of each CPU, and which ones the other class holds. `queue` is who waits: class 0 before class 1,
+    /// each thread once. It changes nothing.
     ///
     /// # Errors
     ///

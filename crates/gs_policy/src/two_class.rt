@@ -18,6 +18,18 @@ use std::alloc::{AllocError, Global};
 /// The waiting threads, in order, take the free CPUs as under [`FirstCome`](crate::FirstCome). If none is
 /// left for a thread, it may take the least other CPU of its mask from a thread of class 1. A thread of class
 /// 0 may do so at once, and a thread of class 1 if that thread has had at least `slice` ticks.
+///
+/// # Examples
+///
+/// A configuration whose agent plans by it, with other numbers as in `THREE_CPUS`:
+///
+/// ```
+/// let short = Config {
+///     history: 3,
+///     policy: AnyPolicy::TwoClass(TwoClass { slice: 1 }),
+///     ..THREE_CPUS
+/// };
+/// ```
 #[derive(Clone, Copy, PartialEq, Eq, Debug)]
 pub struct TwoClass {
     pub slice: u16,

@@ -23,7 +23,7 @@ is_kind k = nat_le 1 k && nat_le k PAD
 abbrev pub is_length : ℕ → ℕ → ℕ → Bool
 is_length least most len = nat_le least len && nat_le len most && len % ALIGNMENT == 0
 
--- the lengths of a kind: a creation has 40, 48 or 56 bytes, a new mask 32, each other 16; what is of no kind is a PAD, which has 8 to 48
+-- the lengths of a kind: a creation has 40, 48 or 56 bytes, a new mask 32, each other 16. What is of no kind is a PAD, which has 8 to 48
 abbrev pub has_length : Option Kind → ℕ → Bool
 has_length (Some kinds.Created) len = is_length LEAST_CREATION_LEN MOST_MESSAGE_LEN len
 has_length (Some kinds.Affinity) len = len == AFFINITY_LEN

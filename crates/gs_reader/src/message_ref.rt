@@ -11,6 +11,21 @@ use gs_status::Mask;
 use std::marker::Model;
 
 /// A message where it stands in its bytes. Clauses see it as the message.
+///
+/// # Examples
+///
+/// All that a message tells:
+///
+/// ```
+/// let kind = message.kind();
+/// let tid = message.tid();
+/// let tseq = message.tseq();
+/// let cpu = message.cpu();
+/// let flags = message.flags();
+/// let mask = message.mask().map(|mask| mask.bits());
+/// let class = message.class().map(|class| class.number());
+/// let name = message.name();
+/// ```
 #[derive(Drop)]
 pub struct MessageRef<'a> {
     bytes: &'a [u8],

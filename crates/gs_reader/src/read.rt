@@ -85,6 +85,20 @@ fn first_item(bytes: &[u8]) -> Result<(Item<'_>, usize), ReadFault>
 ///
 /// The first that applies, in this order: `Short` for fewer than 4 bytes, `BadKind`, `BadLength`, `Short` for
 /// fewer bytes than the length says, `BadField`.
+///
+/// # Examples
+///
+/// A line that says what the bytes begin with:
+///
+/// ```
+/// match read_one(bytes) {
+///     Ok((first, len)) => match first {
+///         gs_reader::Item::Message(message) => write_message(line, &message, len),
+///         gs_reader::Item::Pad => writeln!(line, "Pad {len}"),
+///     },
+///     Err(fault) => writeln!(line, "{fault:?}"),
+/// }
+/// ```
 pub fn read_one(bytes: &[u8]) -> Result<(Item<'_>, usize), ReadFault>
     // What is read is spelled so, and what is spelled so is read.
     ensures ok { IfOk result (IsRead bytes.now) }

@@ -21,8 +21,8 @@ pub struct Counts {
     pub unplaced: usize,
 }
 
-/// The landings that a reply tells of.
-fn landings_of(reply: &Reply) -> &[Landing]
+/// Returns the landings that a reply tells of, in order: none if it tells of none.
+pub fn landings_of(reply: &Reply) -> &[Landing]
     ensures { result.now ≡ landings_of reply.now }
 {
     match reply {

@@ -5,4 +5,5 @@ mod counts;
 mod last_lines;
 mod report;
 
+pub use counts::landings_of;
 pub use report::Report;

@@ -67,6 +67,20 @@ pub trait Poster {
 }
 
 /// The end that messages are consumed from, in the order in which they were posted.
+///
+/// # Examples
+///
+/// The tids of the messages that come next, at most `max`, which are taken:
+///
+/// ```
+/// for _ in 0..max {
+///     let Some(next) = taker.peek() else {
+///         break;
+///     };
+///     tids.push_reserved(next.message().tid());
+///     taker.advance();
+/// }
+/// ```
 pub trait Taker {
     ghost use Rattle.gs_layout.specs.declared.message.Message.{Message};
     ghost use Rattle.gs_ring.specs.Batches.{messages_of};

@@ -55,6 +55,17 @@ impl ByteRing {
     ///
     /// `BadCapacity` if [`ByteRing::is_capacity`] does not hold of `capacity`, and else `OutOfMemory` if out
     /// of memory.
+    ///
+    /// # Examples
+    ///
+    /// A ring of 128 bytes, to which a kernel posts:
+    ///
+    /// ```
+    /// let Ok(bytes) = ByteRing::new(alloc, 128) else {
+    ///     return None;
+    /// };
+    /// Kernel::new(alloc, SETTINGS, bytes).ok()
+    /// ```
     pub fn new(alloc: Global, capacity: usize) -> Result<ByteRing, RingFault>
         ensures made { IfOk result (λ r. r ≡ empty capacity) }
         ensures bad { IsErrOf result RingFault.BadCapacity ↔ (is_capacity capacity ≡ false) }

@@ -15,8 +15,8 @@ use Rattle.gs_runner.specs.declared.pass.TheConstants.{PASSES}
 use Rattle.gs_runner.specs.Calls.{IsLegalHistory}
 use Rattle.gs_runner.specs.Told.{parcels_of}
 
--- what callers see of it: its numbers and its history, whether the last page was given since the last begin, the calls that were accepted, how many of
--- them the book counts, and the words that it published on the board
+-- what callers see of it: its numbers and its history, and whether the last page was given since the last begin. Besides, they see the calls that were
+-- accepted, how many of them the book counts, and the words that it published on the board
 pub record EnclaveOf : Type 0 where
   pub settings : Settings
   pub history : List Entry

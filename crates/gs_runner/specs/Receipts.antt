@@ -41,7 +41,8 @@ Answered calls from (c ∷ cs) (r ∷ rs) = (from ≤ r.at) × (is_refused r.rep
 Answered calls from [] (r ∷ rs) = ⊥
 Answered calls from (c ∷ cs) [] = ⊥
 
--- so for each list: its receipts stand at its place
+-- so for each list: its receipts stand at its place, their places in the journal never fall, and each that was not refused stands in the
+-- calls
 abbrev pub AllAnswered : List Call → List (Vec Command) → List (List Receipt) → Type 0
 AllAnswered calls [] rs = Unit {0}
 AllAnswered calls (l ∷ ls) (r ∷ rs) = Answered calls 0 l.items r × AllAnswered calls ls rs

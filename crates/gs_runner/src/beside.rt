@@ -21,7 +21,7 @@ impl<L: Site> Enclave<L> {
         ensures rest { (ms : List Message) × (rest : List Message) × Gave taker.new ms × (posted self.new.history ≡ ms ++ rest) × Ahead taker.new rest × (result ≡ length rest) }
     {
         let waiting = self.kernel.look_beside(taker);
-        // A look at the count of entries, of which there are few: so few messages wait.
+        // Reads the count of entries to expose that few messages wait.
         let _few = entries(&self.kernel);
         waiting
     }

@@ -30,7 +30,7 @@ use std::alloc::Global;
 pub(crate) fn entries(kernel: &Kernel<RtrbPoster>) -> u32
     ensures { result ≡ length kernel.now.history }
 {
-    // A look at the numbers, by which the proof has the most entries.
+    // Reads the numbers to expose the most entries.
     let _settings = kernel.settings();
     kernel.journal().len() as u32
 }
@@ -120,7 +120,7 @@ fn page<T: PageReader>(
     ensures same { result.1 ≡ result.0 }
     ensures reads { Reads T.read (Command.Page from max) result.0 reader.old reader.new }
 {
-    // A look at the ring's end, by which the proof has what was sent.
+    // Reads the end of the ring to expose what was sent.
     let _poster = kernel.poster();
     match try_page(kernel, alloc, from, max, reader) {
         Ok(replies) => replies,
@@ -149,7 +149,7 @@ fn try_page<T: PageReader>(
     let again = write_page(alloc, &page)?;
     reader.read(alloc, &bytes)?;
     kernel.note_page(&page);
-    // A look at the ring's end, by which the proof has what was sent.
+    // Reads the end of the ring to expose what was sent.
     let _poster = kernel.poster();
     Ok((page_reply(&page, bytes), page_reply(&page, again)))
 }

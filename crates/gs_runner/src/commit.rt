@@ -88,7 +88,7 @@ pub(crate) fn try_commit(
     ensures refused { IfErr result (IsRefusal (commit_refusal kernel.old.settings kernel.old.history mask)) }
     ensures unchanged { OnErr result ((kernel.new ≡ kernel.old) × (region.new ≡ region.old)) }
 {
-    // A look at the numbers, by which the proof has the most CPUs.
+    // Reads the numbers to expose the most CPUs.
     let _settings = kernel.settings();
     if let Some(refusal) = kernel.commit_refusal(mask) {
         return Err(refusal);
@@ -113,10 +113,22 @@ fn short_commit(kernel: &Kernel<RtrbPoster>, mask: Mask) -> Refusal
 }
 
 impl<L: Site> Enclave<L> {
-    /// Commits the slots of a mask: those that are stamped or malformed land, the group first and then the others in
-    /// increasing order of CPU, and what became of each is left in it. That is the kernel's legal step, with the
+    /// Commits the slots of a mask. Those that are stamped or malformed land, the group first and then the others in
+    /// increasing order of CPU. What became of each is left in it. That is the kernel's legal step, with the
     /// reply that the receipt has. Unless it is refused, the call stands in the list then, with the slots that
     /// landed, and share and book count it. A refused one changes nothing. The region has a slot for each CPU.
+    ///
+    /// # Examples
+    ///
+    /// The slot of CPU 0 lands, if the region has a slot for each CPU:
+    ///
+    /// ```
+    /// let mut enclave = station.enclave().lock(rt);
+    /// if region.cpus() != enclave.kernel().settings().cpus {
+    ///     return None;
+    /// }
+    /// Some(enclave.commit(station.board(), pass.share(), region, Mask::new(1)))
+    /// ```
     pub fn commit(
         &mut self,
         board: &Board<L>,

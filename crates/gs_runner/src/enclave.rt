@@ -80,6 +80,21 @@ impl<L: Site> Enclave<L> {
 
     /// Serves a command: the kernel's legal step, with the reply that the receipt has. Unless it is refused, the call
     /// stands in the list then, and share and book count it. A refused one changes nothing.
+    ///
+    /// # Examples
+    ///
+    /// The agent is handed off to CPU 1, by whoever holds the lock:
+    ///
+    /// ```
+    /// let command = Command::Kernel {
+    ///     command: Told::HandOff { cpu: 1 },
+    /// };
+    /// station
+    ///     .enclave()
+    ///     .lock(rt)
+    ///     .serve(station.board(), pass.share(), &command)
+    ///     .reply
+    /// ```
     #[inline(always)]
     pub fn serve(&mut self, board: &Board<L>, share: &mut Share<L>, command: &Command) -> Receipt
         ensures legal { LegalCall (ThreadRoom L.parcels) self.old.settings self.old.history self.old.given (Called.Served command.now) result.reply self.new.history }

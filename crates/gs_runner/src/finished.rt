@@ -30,7 +30,7 @@ pub enum RunFault {
     OutOfMemory,
     /// The station could not be closed. No run ends so, as all passes are kept.
     Close,
-    /// The receipts of a list are not those of its commands: one is wanting, their places in the journal fall, or one
+    /// The receipts of a list are not those of its commands. One is wanting, their places in the journal fall, or one
     /// was accepted and does not stand in the calls.
     Astray,
 }

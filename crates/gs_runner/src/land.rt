@@ -73,7 +73,7 @@ pub(crate) fn land(
     ensures told { IsTold kernel.old (Called.Served (Command.Land bytes.now)) result.0 kernel.new }
     ensures same { result.1 ≡ result.0 }
 {
-    // A look at the ring's end, by which the proof has what was sent.
+    // Reads the end of the ring to expose what was sent.
     let _poster = kernel.poster();
     match try_land(kernel, alloc, bytes) {
         Ok(replies) => replies,

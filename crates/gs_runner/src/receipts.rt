@@ -45,8 +45,8 @@ pub enum ReceiptRef<'a> {
     },
 }
 
-/// The receipts of a thread of a run, in order. They are read beside the journal of the run: what the reply to a command
-/// says that the kernel did is the last entry that it added, which stands there, and of which no copy is kept.
+/// The receipts of a thread of a run, in order. They are read beside the journal of the run. If the kernel did a command,
+/// the reply is the last entry that it added: that stands in the journal, and no copy of it is kept.
 #[derive(Drop)]
 pub struct Receipts {
     slips: Vec<Slip>,
@@ -75,7 +75,7 @@ impl Receipts {
         }
     }
 
-    /// Makes room for so many more.
+    /// Makes room for `additional` more.
     pub(crate) fn reserve(&mut self, additional: usize) -> Result<(), AllocError>
         ensures room { OnOk result (additional ≤ self.new.room) }
         ensures same { (self.new.slips ≡ self.old.slips) × (self.new.others ≡ self.old.others) }

@@ -62,8 +62,12 @@ fn settle_role<L: Site, P>(
 ///
 /// # Errors
 ///
-/// The first that applies: `Torn` if the enclave was torn down, `NoAgent` if no agent is active or no role is held,
-/// `Stopped` if the drain stops early, and `Differs` if the view is not what the kernel knows though all was consumed.
+/// The first that applies:
+///
+/// - `Torn` if the enclave was torn down;
+/// - `NoAgent` if no agent is active or no role is held;
+/// - `Stopped` if the drain stops early;
+/// - `Differs` if the view is not what the kernel knows, though all was consumed.
 pub fn settle<L: Site, P>(
     enclave: &mut Enclave<L>,
     held: &mut Held<L, P>,

@@ -120,6 +120,19 @@ impl<L: Site> Station<L> {
     /// # Errors
     ///
     /// `OutOfMemory` if out of memory.
+    ///
+    /// # Examples
+    ///
+    /// A station of these parts, which `L` names, and what is done with it:
+    ///
+    /// ```
+    /// match Station::<L>::start(alloc, parts) {
+    ///     Ok((station, _held, mut passes)) => {
+    ///         follow(rt, alloc, &station, passes.as_mut_slice(), course)
+    ///     }
+    ///     Err(_) => None,
+    /// }
+    /// ```
     pub fn start<P: Counted + Copy>(
         alloc: Global,
         parts: Parts<P>,

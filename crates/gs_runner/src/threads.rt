@@ -233,6 +233,18 @@ fn run_named<
 ///   are.
 /// - `Close` if the station cannot be closed. That does not happen: all passes are kept.
 /// - `Astray` if the receipts of a list are not those of its commands.
+///
+/// # Examples
+///
+/// One list of commands and no shift, over a ring of 100 parcels:
+///
+/// ```
+/// let finish = run_threads(rt, alloc, config, 100, lists.as_slice(), &[], &gate);
+/// Ok(match (finish, lists.first()) {
+///     (Ok(finished), Some(list)) => shown_of(&finished, list.as_slice()),
+///     _ => None,
+/// })
+/// ```
 pub fn run_threads<
     P: Counted + Copy + Drop + Send + Sync,
     G: Gate + Sync,

@@ -1,4 +1,4 @@
-ghost use Rattle.std.specs.Prelude.{◌≡◌, ◌<◌, ◌≤◌, ◌++◌, ◌∷◌, [], false, length, vec_capacity, All, OnOk, OnErr};
+ghost use Rattle.std.specs.Prelude.{◌≡◌, ◌<◌, ◌≤◌, ◌++◌, ◌∷◌, [], false, ℕ, length, slice_index, vec_capacity, All, OnOk, OnErr};
 ghost use Rattle.gs_runq.specs.Inside.{IsLonger};
 ghost use Rattle.gs_runq.specs.Queue.{IsTid, is_in, without};
 
@@ -12,6 +12,7 @@ const PLACES: u32 = MOST_TIDS + 1;
 
 /// Lengthens a table up to a thread's place: each place that it lacked up to there leads to itself. Memory
 /// for it is reserved.
+#[inline(always)]
 fn lengthen(table: &mut Vec<u32>, tid: u32)
     requires room { tid < vec_capacity table.old }
     requires tid { tid ≤ MOST_TIDS }
@@ -20,6 +21,17 @@ fn lengthen(table: &mut Vec<u32>, tid: u32)
 {
     while table.len() <= tid as usize {
         table.push_reserved(table.len() as u32);
+    }
+}
+
+/// Lets each place of a table lead to itself.
+fn lead_back(table: &mut [u32])
+    requires { length table.old ≤ PLACES }
+    ensures count { length table.new ≡ length table.old }
+    ensures own { (i : ℕ) → i < length table.old → slice_index table.new i ≡ i }
+{
+    for at in 0..table.len() {
+        table[at] = at as u32;
     }
 }
 
@@ -86,6 +98,18 @@ impl Line {
         Ok(())
     }
 
+    /// Takes everybody out of the line, and keeps the memory that was reserved.
+    pub fn clear(&mut self)
+        ensures threads { self.new.threads ≡ [] }
+        ensures room { self.new.room ≡ self.old.room }
+    {
+        lead_back(&mut self.next);
+        if let Some(last) = self.previous.first_mut() {
+            *last = 0;
+        }
+        self.count = 0;
+    }
+
     /// Returns how many threads are in line.
     pub fn len(&self) -> u32
         ensures { result ≡ length self.now.threads }
@@ -123,6 +147,7 @@ impl Line {
 
     /// Puts a thread last. It does not allocate. It takes a constant number of steps, and one more for each
     /// place that comes before the thread's own for the first time.
+    #[inline(always)]
     pub fn push(&mut self, tid: u32)
         requires tid { IsTid tid }
         requires room { length self.old.threads < self.old.room }

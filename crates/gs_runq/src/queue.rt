@@ -67,6 +67,7 @@ impl RunQueue {
 
     /// Puts a thread that does not wait yet last of its class. There has to be room for it. It does not
     /// allocate.
+    #[inline(always)]
     pub fn push(&mut self, tid: u32, class: Class)
         requires tid { IsTid tid }
         requires room { length (class_of class self.old) < self.old.room }
@@ -85,6 +86,14 @@ impl RunQueue {
     {
         self.zero_class.remove(tid);
         self.one_class.remove(tid);
+    }
+
+    /// Takes out all that wait, and keeps the room that was made. It does not allocate.
+    pub fn clear(&mut self)
+        ensures { self.new ≡ record empty { room = self.old.room } }
+    {
+        self.zero_class.clear();
+        self.one_class.clear();
     }
 
     /// Returns whether a thread waits. Tid 0 and tids above [`MOST_TIDS`] never do. A thread that does not

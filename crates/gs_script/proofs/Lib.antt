@@ -18,5 +18,6 @@ pub mod Worked
 pub mod Corners
 pub mod Saying
 pub mod Unread
+pub mod OneLine
 pub mod Marking
 mod WorkedSpots

@@ -51,7 +51,7 @@ behind_line : (line rest : List ℕ) (ls : List (List ℕ)) → lines_of rest �
 behind_line line rest [] e = absurd (omega (arith, ap length e, length-slice_split (λ b. b == 10) rest))
 behind_line line rest (y ∷ ys) e = ap (λ t. line ++ 10 ∷ t) (ap (join_with_byte 10) (sym e) ∙ join_with_byte-slice_split 10 rest)
 
-cut_text : (text line rest : List ℕ) → lines_of text ≡ line ∷ lines_of rest → text ≡ line ++ 10 ∷ rest
+pub cut_text : (text line rest : List ℕ) → lines_of text ≡ line ∷ lines_of rest → text ≡ line ++ 10 ∷ rest
 cut_text text line rest e = sym (join_with_byte-slice_split 10 text) ∙ ap (join_with_byte 10) e ∙ behind_line line rest (lines_of rest) refl
 
 pub cut_length : (text line rest : List ℕ) → lines_of text ≡ line ∷ lines_of rest → length text ≡ length line + (length rest + 1)

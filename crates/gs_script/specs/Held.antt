@@ -53,6 +53,16 @@ pub record Adds (text : List ℕ) (left : Option (Bor (List ℕ))) (old new : Li
   pub first : FirstLine (λ line. says event_of line ≡ Ok said) text left
   pub events : new ≡ and_one old said
 
+-- what a line says was added to the events, if it says one
+pub record AddsSaid (line : List ℕ) (old new : List (Event AnyPolicy)) : Type 0 where
+  pub said : Option (Event AnyPolicy)
+  pub is : says event_of line ≡ Ok said
+  pub events : new ≡ and_one old said
+
+-- a line has this fault, unless memory ran out
+abbrev pub IsUnsaid : LineError → List ℕ → Type 0
+IsUnsaid e line = Gives {A = Option (Event AnyPolicy)} (Err e) (says event_of line)
+
 -- the same of an event that is read so
 pub record AddsRead (read : List (List ℕ) → Result (Event AnyPolicy) TheReason) (text : List ℕ) (left : Option (Bor (List ℕ))) (old new : List (Event AnyPolicy)) : Type 0 where
   pub event : Event AnyPolicy

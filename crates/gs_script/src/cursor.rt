@@ -13,9 +13,9 @@ use gs_slots::Flags;
 /// Any number of so many digits has 64 bits.
 const SURE_DIGITS: usize = 19;
 
-/// The first line of a text, and what stands behind its newline.
+/// Returns the first line of a text, and what stands behind its newline, or `None` if it has none.
 #[inline(always)]
-pub(crate) fn first_line(text: &[u8]) -> (&[u8], Option<&[u8]>)
+pub fn first_line(text: &[u8]) -> (&[u8], Option<&[u8]>)
     ensures { lines_of text.now ≡ result.0.now ∷ lines_left result.1 }
 {
     let mut end = 0;

@@ -17,9 +17,11 @@ mod spot;
 mod wanted;
 mod word;
 
+pub use cursor::first_line;
 pub use fault::{Reason, ScriptFault};
 pub use found::{Found, find_fault};
 pub use header::{LEAST_SLICE, MOST_SLICE};
+pub use line::{LineError, read_event, read_header};
 pub use marked::Marked;
 pub use reading::{Opened, Reading, SaidLine, open_script};
 pub use said_line::lines_say_events;

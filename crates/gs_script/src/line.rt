@@ -1,12 +1,12 @@
 //! What a line of a script says.
 
-ghost use Rattle.std.specs.Prelude.{◌≡◌, ◌<◌, IfOk, IfErr, IfSome, MatchOption, None, Some, Ok, if◌then◌else◌, vec_capacity, vec_len};
+ghost use Rattle.std.specs.Prelude.{◌≡◌, ◌<◌, IfOk, IfErr, IfSome, MatchOption, OnOk, None, Some, Ok, if◌then◌else◌, vec_capacity, vec_len};
 ghost use Rattle.std.specs.Result.{result_map_both};
 ghost use Rattle.gs_replies.specs.Config.{config_fault};
 ghost use Rattle.gs_script.specs.Rows.{event_of, shown};
 ghost use Rattle.gs_script.specs.Header.{header_of};
 ghost use Rattle.gs_script.specs.Script.{says, is_passed_over};
-ghost use Rattle.gs_script.specs.Held.{Adds, Fails, Gives, placed};
+ghost use Rattle.gs_script.specs.Held.{Adds, AddsSaid, Fails, Gives, IsUnsaid, placed};
 
 use crate::cursor::first_line;
 use crate::event_line::event;
@@ -21,8 +21,10 @@ use std::alloc::Global;
 
 /// Why a line wasn't read.
 #[derive(Clone, Copy, PartialEq, Eq, Debug)]
-pub(crate) enum LineError {
+pub enum LineError {
+    /// It has a fault.
     Fault(Reason),
+    /// Out of memory.
     OutOfMemory,
 }
 
@@ -63,7 +65,7 @@ fn words_said<'a>(line: &'a [u8], words: &mut Vec<&'a str>) -> Result<bool, Line
 /// there.
 #[tactic(auto, using(crate::proofs::Said::value_said, crate::proofs::Said::reason_said, crate::proofs::Said::nothing_said, crate::proofs::Said::error_said))]
 #[inline(never)]
-fn event_line<'a>(
+pub(crate) fn event_line<'a>(
     line: &'a [u8],
     words: &mut Vec<&'a str>,
 ) -> Result<Option<Event<AnyPolicy>>, LineError>
@@ -134,5 +136,45 @@ pub(crate) fn add_event<'a>(
                 },
             }
         }
+    }
+}
+
+/// Returns what a line in the header's place says, or `None` if it says nothing. Its configuration is one that an
+/// enclave can be opened with, unless out of memory.
+///
+/// # Errors
+///
+/// `Fault` if the line has one, and `OutOfMemory` if out of memory.
+pub fn read_header(alloc: Global, line: &[u8]) -> Result<Option<Config<AnyPolicy>>, LineError>
+    ensures exact { Gives result (says header_of line.now) }
+    ensures fits { IfOk result (λ o. IfSome o (λ config. config_fault config ≡ None)) }
+{
+    header_line(alloc, line)
+}
+
+/// Adds the event that a line says to these, if it says one. A plain line is read in one pass.
+///
+/// # Errors
+///
+/// `Fault` if the line has one, and `OutOfMemory` if out of memory.
+pub fn read_event(
+    alloc: Global,
+    line: &[u8],
+    events: &mut Vec<Event<AnyPolicy>>,
+) -> Result<(), LineError>
+    ensures ok { OnOk result (AddsSaid line.now events.old.items events.new.items) }
+    ensures err { IfErr result (λ e. IsUnsaid e line.now) }
+{
+    let (_, left) = first_line(line);
+    if left.is_some() {
+        return Err(LineError::Fault(Reason::BadByte));
+    }
+    if events.reserve(1).is_err() {
+        return Err(LineError::OutOfMemory);
+    }
+    let mut words = Vec::new(alloc);
+    match add_event(line, &mut words, events) {
+        Ok(_) => Ok(()),
+        Err(error) => Err(error),
     }
 }

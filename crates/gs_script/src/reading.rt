@@ -110,6 +110,18 @@ impl<'a> Reading<'a> {
     /// # Errors
     ///
     /// The first fault of the lines that were not read yet, or out of memory.
+    ///
+    /// # Examples
+    ///
+    /// Each event is run before the next is read:
+    ///
+    /// ```
+    /// let mut event = Vec::new(alloc);
+    /// 'events: while let Some(_) = script.next(&mut event)? {
+    ///     run_one(machine, &event[0], &mut sink)?;
+    ///     event.clear();
+    /// }
+    /// ```
     #[inline(always)]
     pub fn next(
         &mut self,
@@ -186,6 +198,16 @@ fn open_text(alloc: Global, text: &[u8]) -> Result<Opened<'_>, ScriptError>
 /// # Errors
 ///
 /// `Fault` if the bytes are too many, if there is no header, or if a line up to it has a fault. Or out of memory.
+///
+/// # Examples
+///
+/// ```
+/// let Opened {
+///     config,
+///     header,
+///     reading,
+/// } = open_script(alloc, input)?;
+/// ```
 #[tactic(auto, using(crate::proofs::HeaderLines::few_lines))]
 pub fn open_script(alloc: Global, bytes: &[u8]) -> Result<Opened<'_>, ScriptError>
     ensures opened { IfOk result (λ o. IsOpened bytes.now o.config o.header o.reading) }

@@ -45,6 +45,16 @@ impl From<AllocError> for ScriptError {
 /// # Errors
 ///
 /// The first fault of the script, or out of memory.
+///
+/// # Examples
+///
+/// ```
+/// match read_script(rt.alloc(), &input) {
+///     Ok(script) => Ok(script),
+///     Err(ScriptError::Fault(_)) => Err(Failure::BadScript),
+///     Err(ScriptError::OutOfMemory) => Err(Failure::OutOfMemory),
+/// }
+/// ```
 pub fn read_script(alloc: Global, bytes: &[u8]) -> Result<Script, ScriptError>
     ensures exact { GivesBy seen result (script_of bytes.now) }
     ensures fits { IfOk result (λ script. config_fault script.config ≡ None) }

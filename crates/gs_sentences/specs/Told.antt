@@ -16,8 +16,8 @@ pub record Cause : Type 0 where
   pub place : ℕ
   pub entry : Entry
 
--- a transaction that landed and was not placed: what was stamped, the last entry that made the landing what it is, what did not fit if it tore the enclave
--- down, what failed its group, and how many entries the journal had and may have
+-- a transaction that landed and was not placed: what was stamped, and the last entry that made the landing what it is. If it tore the enclave down, what did
+-- not fit. Then what failed its group, and how many entries the journal had and may have
 pub record Landed : Type 0 where
   pub landing : Landing
   pub stamped : Stamped

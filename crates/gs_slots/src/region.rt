@@ -97,8 +97,8 @@ impl Region {
         self.flagged
     }
 
-    /// Returns whether the slot of a CPU has the flag of a group, in bytes that need not be those of a slot: what is
-    /// in a slot without it is of no group.
+    /// Returns whether the slot of a CPU has the flag of a group, in bytes that need not be those of a slot. A
+    /// transaction in a slot without it is of no group.
     pub fn is_flagged(&self, cpu: u16) -> bool
         requires { cpu < length self.now }
         ensures { (bytes : List ℕ) → slice_get self.now cpu ≡ Some bytes → result ≡ is_flagged bytes }
@@ -108,6 +108,18 @@ impl Region {
 
     /// Lends the slot of a CPU. What is written to it is written to the region, and every other slot stays as
     /// it is.
+    ///
+    /// # Examples
+    ///
+    /// The agent stamps a choice of its policy:
+    ///
+    /// ```
+    /// if choice.cpu < self.region.cpus() {
+    ///     let slot = self.region.slot(choice.cpu);
+    ///     let flags = Flags::single(choice.preempt);
+    ///     let _ = self.role.stamp(slot, choice.tid, flags);
+    /// }
+    /// ```
     pub fn slot(&mut self, cpu: u16) -> SlotMut<'_>
         requires { cpu < length self.old }
         ensures* writes_back { sem 𝓛 (LendsOne self.entry cpu result) }

@@ -84,8 +84,8 @@ history_shown notations.Json h = json_lines h
 abbrev pub IsTrace : ℕ → History → List ℕ → Type 0
 IsTrace cpus h out = (slices : List Stay) × IsPermutation (all_stays h cpus) slices × HasEach (map slice_front slices) out
 
--- which texts show what came of a script: the lines of its replies, a report with so many of the last of these, or the journal of all
--- that happened, the last event's entries too, and nothing else. Of a picture nothing is said here, and of a trace
+-- which texts show what came of a script. They are the lines of its replies, a report with so many of the last of these, or the journal
+-- of all that happened, the last event's entries too, and nothing else. Of a picture nothing is said here, and of a trace
 -- that it has each stay
 abbrev pub shown_as : Form → List Reply → ℕ → History → List ℕ → Type 0
 shown_as Lines replies cpus h out = out ≡ lines replies

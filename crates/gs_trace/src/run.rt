@@ -109,11 +109,21 @@ impl Answering for Form {
 
 /// Reads a script to its end, or until it is too long, runs it, and writes the lines of its replies.
 ///
-/// As [`run_as`] with [`Form::Lines`], which says how much is read and what an error leaves.
+/// As [`run_as`] with [`Form::Lines`]. [`answer_script`] says how much is read and what an error leaves.
 ///
 /// # Errors
 ///
-/// As of [`run_as`].
+/// As of [`answer_script`].
+///
+/// # Examples
+///
+/// Whether a run ends so, and writes these lines:
+///
+/// ```
+/// let mut written = Vec::new(alloc);
+/// let ended = run_script(alloc, &mut reader, &mut written);
+/// ended == wanted && written.as_slice() == lines.as_bytes()
+/// ```
 pub fn run_script<R: Read, W: Write>(
     alloc: Global,
     reader: &mut R,
@@ -133,7 +143,19 @@ pub fn run_script<R: Read, W: Write>(
 ///
 /// # Errors
 ///
-/// As of [`run_as`].
+/// As of [`answer_script`].
+///
+/// # Examples
+///
+/// A report with the last five lines, or all of the lines:
+///
+/// ```
+/// let ended = if reports {
+///     run_report(alloc, &mut reader, &mut written, 5)
+/// } else {
+///     run_script(alloc, &mut reader, &mut written)
+/// };
+/// ```
 pub fn run_report<R: Read, W: Write>(
     alloc: Global,
     reader: &mut R,
@@ -153,7 +175,7 @@ pub fn run_report<R: Read, W: Write>(
 ///
 /// # Errors
 ///
-/// As of [`run_and_keep`].
+/// As of [`answer_script`].
 pub fn run_as<R: Read, W: Write>(
     alloc: Global,
     reader: &mut R,
@@ -175,15 +197,23 @@ pub fn run_as<R: Read, W: Write>(
 /// Reads a script to its end, or until it is too long, runs it, and writes what came of it in this form. A script's
 /// fault is written as one line, whatever the form. Returns what was read too, for whoever tells more of that fault.
 ///
-/// The reads end at the first that gives no byte, and are at most 1,048,578. At most
-/// [`MOST_READ_BYTES`] are read.
+/// [`answer_script`] says how much is read and what an error leaves.
 ///
 /// # Errors
 ///
-/// `ReadFailed` if a read fails. `OutOfMemory` if out of memory, at an event too. In both cases nothing was
-/// written. No clause tells these two apart, since a reader's contract does not say when it fails.
-/// `WriteFailed` if a write fails or takes no byte: a beginning of the output was written, short of the
-/// whole.
+/// As of [`answer_script`].
+///
+/// # Examples
+///
+/// What the program writes of a script, as a form of it, an explanation or a table:
+///
+/// ```
+/// match wanted {
+///     Wanted::Shown { form } => run_and_keep(alloc, reader, writer, form),
+///     Wanted::Explained { how } => explain_script(alloc, reader, writer, how),
+///     Wanted::Tabled { table } => write_table(alloc, reader, writer, table),
+/// }
+/// ```
 pub fn run_and_keep<R: Read, W: Write>(
     alloc: Global,
     reader: &mut R,

@@ -1,7 +1,8 @@
 -- A page is loaded a record at a time.
-use Rattle.std.proofs.Common.{◌≡◌, refl, ap, sym, ◌∙◌, ℕ, zero, suc, ◌+◌, ◌<◌, ◌≤◌, ◌==◌, Bool, true, false, cond, Option, None, Some, List, [], ◌∷◌, ◌++◌, take, slice_get, arith}
+use Rattle.std.proofs.Common.{◌≡◌, refl, ap, sym, ◌∙◌, ℕ, zero, suc, ◌+◌, ◌<◌, ◌≤◌, ◌==◌, Bool, true, false, cond, Option, None, Some, List, [], ◌∷◌, ◌++◌, take, slice_get, subst, arith}
 use Rattle.std.specs.Prelude.{nat_lt}
-use Rattle.std.proofs.lemmas.Bool.{and_parts}
+use Rattle.gs_dump.specs.Written.{last_from}
+use Rattle.std.proofs.lemmas.Bool.{and_parts, ltb-true}
 use Rattle.std.proofs.lemmas.Bool.Decides.{nat_tests}
 use Rattle.gs_layout.specs.declared.known.Known.{Known}
 use Rattle.gs_layout.specs.View.{Look}
@@ -82,3 +83,19 @@ upto_later last (x ∷ xs) next up (suc i) zero r s le e f = absurd (omega (arit
 upto_later last (x ∷ xs) next up (suc i) (suc j) r s le e f =
     let both = and_parts (nat_lt last x.tid) (rises x.tid xs next) up in
     upto_later x.tid xs next both.1 i j r s (omega (arith, le)) e f
+
+-- the tids increase up to the last one
+last_above : (t : ℕ) (rs : List DumpRecord) (next : Option ℕ) → rises t rs next ≡ true → t ≤ last_from t rs
+last_above t [] next up = omega arith
+last_above t (r ∷ rs) next up =
+    let w = and_parts (nat_lt t r.tid) (rises r.tid rs next) up in
+    omega (arith, ltb-true t r.tid w.0, last_above r.tid rs next w.1)
+
+pub upto_last : (t : ℕ) (rs : List DumpRecord) (next : Option ℕ) → rises t rs next ≡ true → (i : ℕ) (r : DumpRecord) → slice_get rs i ≡ Some r → r.tid ≤ last_from t rs
+upto_last t [] next up i r e = absurd cc
+upto_last t (x ∷ xs) next up zero r e =
+    let w = and_parts (nat_lt t x.tid) (rises x.tid xs next) up in
+    let same : x ≡ r = cc in subst (λ (y : DumpRecord). y.tid ≤ last_from x.tid xs) same (last_above x.tid xs next w.1)
+upto_last t (x ∷ xs) next up (suc i) r e =
+    let w = and_parts (nat_lt t x.tid) (rises x.tid xs next) up in
+    upto_last x.tid xs next w.1 i r e

@@ -60,6 +60,7 @@ impl KeyIndex {
     }
 
     /// Returns the key of a tid, if it has one.
+    #[inline(always)]
     pub(crate) fn get(&self, tid: usize) -> Option<usize>
         ensures { result ≡ key_of self.now tid }
     {
@@ -86,6 +87,7 @@ impl KeyIndex {
     }
 
     /// Gives a tid a key, whatever key it had. It has a place.
+    #[inline(always)]
     pub(crate) fn set(&mut self, tid: usize, key: usize)
         requires { tid < places self.old }
         ensures here { key_of self.new tid ≡ Some key }
@@ -104,6 +106,15 @@ impl KeyIndex {
         ensures places { places self.new ≡ places self.old }
     {
         self.live.set(tid, false);
+    }
+
+    /// Takes the key of each tid away, and each place. It keeps the table of keys, and does not allocate.
+    #[tactic(auto, using(crate::proofs::Indexed::key_past))]
+    pub(crate) fn clear_all(&mut self, alloc: Global)
+        ensures none { (t : ℕ) → key_of self.new t ≡ None }
+        ensures places { places self.new ≡ 0 }
+    {
+        self.live = NumberSet::new(alloc);
     }
 
     /// Returns the first tid that has a key and is not below `from`.

@@ -46,6 +46,15 @@ impl Records {
         }
     }
 
+    /// Forgets all that is known, and keeps the memory of the records. It does not allocate.
+    #[tactic(auto, using(crate::proofs::Agreed::agree_none, crate::proofs::Agreed::entries_none))]
+    pub(crate) fn clear(&mut self, alloc: Global)
+        ensures { self.new.entries ≡ [] }
+    {
+        self.index.clear_all(alloc);
+        self.slab.clear();
+    }
+
     /// Returns of how many threads something is known.
     pub(crate) fn len(&self) -> usize
         ensures { result ≡ length self.now.entries }
@@ -67,7 +76,7 @@ impl Records {
         ensures rising { IsStrictlyIncreasing (tids self.now.entries) }
         ensures found { All (λ entry. look_up self.now.entries entry.0 ≡ Some entry.1) self.now.entries }
     {
-        // A look at a field, by which the proof has what the records keep.
+        // Reads a field to expose the invariant.
         let _index = &self.index;
         ViewWalk::over(self)
     }
@@ -97,6 +106,7 @@ impl Records {
     }
 
     /// Makes this known of a thread, whatever was known of it. There is room.
+    #[inline(always)]
     pub(crate) fn put(&mut self, tid: u32, known: Known)
         requires place { tid < self.old.tids }
         requires room { 0 < self.old.room }

@@ -11,7 +11,7 @@ use crate::fault::ApplyFault;
 use crate::news::News;
 use crate::records::Records;
 use crate::walk::ViewWalk;
-use gs_dump::{DumpRecord, Page};
+use gs_dump::{DumpRecord, Page, WrittenPage};
 use gs_layout::{Change, Facts, Kind, Known, Message};
 use gs_reader::MessageRef;
 use std::alloc::{AllocError, Global};
@@ -43,6 +43,13 @@ impl AgentView {
         AgentView {
             records: Records::new(alloc),
         }
+    }
+
+    /// Forgets all that is known, and keeps the memory of the records for those to come. It does not allocate.
+    pub fn clear(&mut self, alloc: Global)
+        ensures { self.new.entries ≡ [] }
+    {
+        self.records.clear(alloc);
     }
 
     /// Returns of how many threads something is known.
@@ -131,8 +138,25 @@ impl AgentView {
         Ok(())
     }
 
+    /// Makes room for the records of a page that is given as bytes, so that [`AgentView::set`] can set each of them.
+    ///
+    /// # Errors
+    ///
+    /// `AllocError` if out of memory. Either way what is known stays.
+    pub fn reserve_written(&mut self, page: &WrittenPage) -> Result<(), AllocError>
+        ensures room { OnOk result (HasRoomFor page.now.records self.new) }
+        ensures same { self.new.entries ≡ self.old.entries }
+    {
+        let count = page.count();
+        if count > 0 {
+            self.records.reserve(page.last(), count as usize)?;
+        }
+        Ok(())
+    }
+
     /// Sets a page's record: what it tells of its thread is known then, whatever was known of it before. There
     /// is room, so it does not allocate.
+    #[inline(always)]
     pub fn set(&mut self, thread: &DumpRecord)
         requires place { thread.now.tid < self.old.tids }
         requires room { 0 < self.old.room }

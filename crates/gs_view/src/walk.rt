@@ -6,8 +6,8 @@ use crate::records::Records;
 use gs_layout::Facts;
 use std::marker::Model;
 
-/// The records of a view that a walk has still to show, in increasing order of tid: of each thread its tid,
-/// its facts, and the sequence number at which they were so.
+/// The records of a view that a walk has still to show, in increasing order of tid. Of each thread it shows the tid,
+/// the facts, and the sequence number at which they were so.
 #[derive(Drop)]
 pub struct ViewWalk<'a> {
     records: &'a Records,

@@ -91,7 +91,7 @@ fn take_tids<T: Taker>(alloc: Global, taker: &mut T, max: usize) -> Result<Vec<u
 fn create(kernel: &mut Kernel<FixedPlaces>, facts: &Facts) -> Result<Executed, Refusal>
     ensures { result ≡ Ok Executed.Torn → IsFull kernel.old.poster }
 {
-    // A look at the ring, by which the proof has what was posted to it.
+    // Reads the ring to expose what was posted to it.
     let _ring = kernel.poster();
     kernel.create(facts)
 }

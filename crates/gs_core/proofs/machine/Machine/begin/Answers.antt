@@ -45,8 +45,10 @@ idle g c =
     c.clear.ensures ∙ ap (λ n. replicate n Idle) good.count
 
 -- refused, all is as before, but that more threads may find room
-pub invariant_of-self : goal.invariant_of-self
-invariant_of-self g c = refused_kept g.P.Policy.chosen c.self.inside c.execute.new.self c.in_err-executed.ensures.refused c.self.invariant
+pub invariant_of-self-in_err-executed : goal.invariant_of-self-in_err-executed
+invariant_of-self-in_err-executed g c =
+    let i = c.self.invariant in
+    refused_kept g.P.Policy.chosen (record c.self.inside { gone = c.take-gone.new.self }) c.execute.new.self c.in_err-executed.ensures.refused (record { kept = i.kept; told = i.told; suits = i.suits })
 
 pub invariant_of-self-2 : goal.invariant_of-self-2
 invariant_of-self-2 g c =

@@ -1,4 +1,4 @@
-use Rattle.std.proofs.Common.{◌≡◌, ◌||◌, Bool, Some, None, true, false, refl, ap, sym, subst, ◌∙◌, unwrap_or}
+use Rattle.std.proofs.Common.{◌≡◌, Some, None, true, ap, sym, subst, ◌∙◌, unwrap_or}
 use Rattle.std.proofs.Math.Bool.{or-false}
 use Rattle.std.specs.Option.{is_none, is_some, option_map}
 use Rattle.gs_journal.specs.History.{attaching, posted}
@@ -33,20 +33,20 @@ invariant_of-self-2 g c =
     let m : State = machine_now g.P.Policy.chosen c.self.inside in
     let i = c.self.invariant in
     let r : RoleOf _ = c.unwrap-role.result.now in
-    let r' : RoleOf _ = c.rebuild.new.self in
-    let k = c.note_page.new.self in
-    let page : Contents = c.in_ok-bytes.page in
+    let r' : RoleOf _ = c.rebuild_written.new.self in
+    let k = c.note_written.new.self in
+    let page : Contents = c.in_ok-page.page in
     let free : page_refusal m.history (is_given_all m) ≡ None = ap (λ (x : StateOf _). page_refusal x.history (is_given_all (planning g.P.Policy.chosen x))) c.self.view_is ∙ c.in_ok-page.ensures.fits in
     let need = needs_page m.history (page_of m.agent) free in
     let from = need.1.0 in
     let there : m.agent ≡ Some (agent_of r) = ap (option_map agent_of) (lent_mut c.as_mut.ensures.value c.unwrap-role.ensures) in
     let next : r.next ≡ Some from = sym (ap page_of there) ∙ need.1.1 in
-    let dump : page ≡ next_dump m c.args.max = c.in_ok-bytes.ensures.page ∙ (c.in_ok-page.ensures.page ∙ ap (λ (x : StateOf _). next_dump (planning g.P.Policy.chosen x) c.args.max) (sym c.self.view_is)) in
+    let dump : page ≡ next_dump m c.args.max = c.in_ok-page.ensures.page ∙ ap (λ (x : StateOf _). next_dump (planning g.P.Policy.chosen x) c.args.max) (sym c.self.view_is) in
     let at : page ≡ dumped m.settings m.history from c.args.max = dump ∙ ap (λ o. dumped m.settings m.history (unwrap_or o 0) c.args.max) need.1.1 in
-    let known : picture_of r'.mind ≡ after_page (dumped m.settings m.history from c.args.max).records (picture_of r.mind) = c.in_ok-rebuild.ensures.picture ∙ ap (λ (x : Contents). after_page x.records (picture_of r.mind)) at in
-    let goes : r'.next ≡ page.next = c.in_ok-rebuild.ensures.next in
+    let known : picture_of r'.mind ≡ after_page (dumped m.settings m.history from c.args.max).records (picture_of r.mind) = c.in_ok-rebuild_written.ensures.picture ∙ ap (λ (x : Contents). after_page x.records (picture_of r.mind)) at in
+    let goes : r'.next ≡ page.next = c.in_ok-rebuild_written.ensures.next in
     let old = c.self.inside.kernel in
-    let noted : k ≡ record old { paged = paged_after page old.paged } = c.note_page.ensures in
+    let noted : k ≡ record old { paged = paged_after page old.paged } = c.note_written.ensures in
     let left : record m { agent = Some (record { mind = r'.mind; next = (dumped m.settings m.history from c.args.max).next }) } ≡ record (with_kernel m k.settings k.poster k.history) { agent = Some (agent_of r') } =
     λ j. record m {
       settings = (sym noted j).settings;
@@ -64,5 +64,5 @@ invariant_of-self-2 g c =
       kept = subst Kept left (kept_paged m (agent_of r) from c.args.max r'.mind there next some known i.kept);
       told = subst (λ (x : KernelOf RingState). Posted x.poster (posted x.history)) (sym noted) i.told;
       suits = subst (λ (x : KernelOf RingState). Suits c.self.inside.policy x.history k.paged (Some r')) (sym noted)
-          (suits_paged c.self.inside.policy m.history old.paged k.paged r r' c.rebuild.ensures.others paged (subst (Suits c.self.inside.policy m.history old.paged) (lent_mut c.as_mut.ensures.value c.unwrap-role.ensures) i.suits));
+          (suits_paged c.self.inside.policy m.history old.paged k.paged r r' c.rebuild_written.ensures.others paged (subst (Suits c.self.inside.policy m.history old.paged) (lent_mut c.as_mut.ensures.value c.unwrap-role.ensures) i.suits));
     }

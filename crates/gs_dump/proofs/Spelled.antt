@@ -1,0 +1,151 @@
+-- Records are read back from their bytes, one behind the other, and a page that is being written tells of the records that were pushed.
+use Rattle.std.proofs.Common.{◌≡◌, ℕ, ◌+◌, ◌*◌, ◌/◌, ◌<◌, ◌≤◌, Option, List, [], ◌∷◌, ◌++◌, length, take, drop, map, refl, ap, sym, subst, ◌∙◌, arith, length-append}
+use Rattle.std.specs.Prelude.{slice_index, true}
+use Rattle.std.proofs.Math.Nat.{mul-div_cancel_left}
+use Rattle.std.proofs.lemmas.List.{drop-append-le, drop_at, flat_map_more, length-drop, nil_from_length, take_at}
+use Rattle.gs_layout.specs.declared.name.TheConstants.{MOST_NAME_LEN}
+use Rattle.gs_layout.specs.Name.{is_name}
+use Rattle.gs_dump.specs.declared.record.DumpRecord.{DumpRecord}
+use Rattle.gs_dump.specs.declared.version.Version.TheVariants.{Two}
+use Rattle.gs_dump.specs.declared.wire.TheConstants.{HEADER_LEN, NAME_LEN_AT}
+use Rattle.gs_dump.specs.Version.{record_len}
+use Rattle.gs_dump.specs.Record.{IsLive, record_spelling}
+use Rattle.gs_dump.specs.Page.{Contents, IsPage, header_of, page_spelling}
+use Rattle.gs_dump.specs.Reading.{count_in, name_in, record_in, texts}
+use Rattle.gs_dump.specs.Written.{AreSpelled, IsBegun, IsWritten, contents_in, last_from, records_in, records_spelling}
+use Rattle.gs_dump.proofs.Records.{fits_from, length-record_spelling, record_again, record_back}
+use Rattle.gs_dump.proofs.Pages.{AreLive, Fit, count_back, length-records, next_back, records_back, texts_spelled}
+
+-- the second version can spell each record
+fit_all : (rs : List DumpRecord) → AreLive rs → Fit Two rs
+fit_all [] h = tt
+fit_all (r ∷ rs) h = (h.0.mask.1, fit_all rs h.1)
+
+-- ---- what is spelled is read back
+
+-- so many bytes are those of so many records
+count_of : (n : ℕ) → record_len Two * n / record_len Two ≡ n
+count_of n = mul-div_cancel_left n (omega arith)
+
+pub spelled_back : (rs : List DumpRecord) → AreLive rs → records_in (records_spelling rs) ≡ rs
+unfolding records_in
+spelled_back rs h =
+    let bytes = records_spelling rs in
+    let count : ◌≡◌ {A = ℕ} (length bytes / record_len Two) (length rs) = ap (λ (n : ℕ). n / record_len Two) (length-records Two rs h) ∙ count_of (length rs) in
+    ap (λ (n : ℕ). map (record_in Two) (texts Two n bytes)) count
+    ∙ (ap (map (record_in Two)) (texts_spelled Two rs h) ∙ records_back Two rs h (fit_all rs h))
+
+pub none_in : records_in [] ≡ []
+none_in = spelled_back [] tt
+
+-- the first of the records that bytes tell
+pub record Firsts (bytes : List ℕ) : Type 0 where
+  pub size : record_len Two ≤ length bytes
+  pub text : length (take (record_len Two) bytes) ≡ record_len Two
+  pub len : slice_index (take (record_len Two) bytes) NAME_LEN_AT ≤ MOST_NAME_LEN
+  pub name : is_name (name_in Two (take (record_len Two) bytes)) ≡ true
+  pub first : records_in bytes ≡ record_in Two (take (record_len Two) bytes) ∷ records_in (drop (record_len Two) bytes)
+  pub rest : AreSpelled (drop (record_len Two) bytes)
+
+-- bytes that are spellings are those of the records that they tell
+pub are_spelled : (rs : List DumpRecord) (bytes : List ℕ) → AreLive rs → bytes ≡ records_spelling rs → AreSpelled bytes
+are_spelled rs bytes h e =
+    let back : records_in bytes ≡ rs = ap records_in e ∙ spelled_back rs h in
+    record { live = subst AreLive (sym back) h; whole = e ∙ ap records_spelling (sym back) }
+
+firsts_of : (rs : List DumpRecord) (bytes : List ℕ) → AreLive rs → bytes ≡ records_spelling rs → 0 < length bytes → Firsts bytes
+firsts_of [] bytes h e some = absurd (let none : ◌≡◌ {A = ℕ} (length bytes) 0 = ap length e in omega (arith, none, some))
+firsts_of (r ∷ rs) bytes h e some =
+    let size = length-record_spelling Two r h.0 in
+    let taken : take (record_len Two) bytes ≡ record_spelling Two r = ap (take (record_len Two)) e ∙ take_at (record_spelling Two r) (records_spelling rs) (record_len Two) size in
+    let left : drop (record_len Two) bytes ≡ records_spelling rs = ap (drop (record_len Two)) e ∙ drop_at (record_spelling Two r) (records_spelling rs) (record_len Two) size in
+    let f = fits_from Two (record_spelling Two r) (record_again Two r h.0 h.0.mask.1) in
+    record {
+      size = omega (arith, ap length e, length-append (record_spelling Two r) (records_spelling rs), size);
+      text = ap length taken ∙ size;
+      len = subst (λ (t : List ℕ). slice_index t NAME_LEN_AT ≤ MOST_NAME_LEN) (sym taken) f.len;
+      name = ap (λ (t : List ℕ). is_name (name_in Two t)) taken ∙ f.name;
+      first = ap records_in e ∙ (spelled_back (r ∷ rs) h ∙ (λ i. sym (ap (record_in Two) taken ∙ record_back Two r h.0 h.0.mask.1) i ∷ sym (ap records_in left ∙ spelled_back rs h.1) i));
+      rest = are_spelled rs (drop (record_len Two) bytes) h.1 left;
+    }
+
+-- of bytes that are left there is a first record
+pub first_in : (bytes : List ℕ) → AreSpelled bytes → 0 < length bytes → Firsts bytes
+first_in bytes h some = firsts_of (records_in bytes) bytes h.live h.whole some
+
+-- no bytes tell no record
+pub none_left : (bytes : List ℕ) → length bytes ≡ 0 → records_in bytes ≡ []
+none_left [] e = none_in
+none_left (b ∷ bs) e = absurd cc
+
+-- ---- a page
+
+-- the records stand behind the header
+pub page_long : (bytes : List ℕ) (last : ℕ) → IsWritten bytes last → HEADER_LEN ≤ length bytes
+page_long bytes last h = let p = contents_in bytes in omega (arith, ap length h.whole)
+
+pub page_count : (bytes : List ℕ) (last : ℕ) → IsWritten bytes last → count_in bytes ≡ length (contents_in bytes).records
+page_count bytes last h = ap count_in h.whole ∙ count_back Two (contents_in bytes) h.page
+
+pub page_records : (bytes : List ℕ) (last : ℕ) → IsWritten bytes last → AreSpelled (drop HEADER_LEN bytes)
+page_records bytes last h = record { live = h.page.live; whole = ap (drop HEADER_LEN) h.whole }
+
+-- ---- a page that is being written
+
+-- no record was pushed yet
+pub begun : (bytes : List ℕ) → length bytes ≡ HEADER_LEN → IsBegun bytes 0 0 × (records_in (drop HEADER_LEN bytes) ≡ [])
+begun bytes size =
+    let none : drop HEADER_LEN bytes ≡ [] = nothing_behind bytes size in
+    let no_record : records_in (drop HEADER_LEN bytes) ≡ [] = ap records_in none ∙ none_in in (
+      record {
+        head = omega (arith, size);
+        records = are_spelled [] (drop HEADER_LEN bytes) tt none;
+        counted = sym (ap length no_record);
+        ends = sym (ap (last_from 0) no_record);
+      },
+      no_record,
+    )
+  where
+    nothing_behind : (bs : List ℕ) → length bs ≡ HEADER_LEN → drop HEADER_LEN bs ≡ []
+    nothing_behind bs e = nil_from_length (drop HEADER_LEN bs) (omega (arith, length-drop HEADER_LEN bs, e))
+
+last_push : (t : ℕ) (rs : List DumpRecord) (r : DumpRecord) → last_from t (rs ++ r ∷ []) ≡ r.tid
+last_push t [] r = refl
+last_push t (x ∷ xs) r = last_push x.tid xs r
+
+live_push : (rs : List DumpRecord) (r : DumpRecord) → AreLive rs → IsLive r → AreLive (rs ++ r ∷ [])
+live_push [] r all h = (h, tt)
+live_push (x ∷ xs) r all h = (all.0, live_push xs r all.1 h)
+
+-- one record more
+pub pushed : (bytes bytes' : List ℕ) (count last : ℕ) (r : DumpRecord) → IsBegun bytes count last → IsLive r → bytes' ≡ bytes ++ record_spelling Two r
+    → IsBegun bytes' (count + 1) r.tid × (records_in (drop HEADER_LEN bytes') ≡ records_in (drop HEADER_LEN bytes) ++ r ∷ [])
+pushed bytes bytes' count last r h live e =
+    let rs = records_in (drop HEADER_LEN bytes) in
+    let all = live_push rs r h.records.live live in
+    let behind : drop HEADER_LEN bytes' ≡ records_spelling (rs ++ r ∷ []) =
+    ap (drop HEADER_LEN) e ∙ (drop-append-le HEADER_LEN bytes (record_spelling Two r) h.head ∙ (ap (λ (bs : List ℕ). bs ++ record_spelling Two r) h.records.whole ∙ flat_map_more (record_spelling Two) [] rs r)) in
+    let more : records_in (drop HEADER_LEN bytes') ≡ rs ++ r ∷ [] = ap records_in behind ∙ spelled_back (rs ++ r ∷ []) all in (
+      record {
+        head = omega (arith, h.head, ap length e, length-append bytes (record_spelling Two r));
+        records = are_spelled (rs ++ r ∷ []) (drop HEADER_LEN bytes') all behind;
+        counted = omega (arith, h.counted, ap length more, length-append rs (r ∷ []));
+        ends = sym (ap (last_from 0) more ∙ last_push 0 rs r);
+      },
+      more,
+    )
+
+-- the header is written before the records
+pub finished : (bytes bytes' : List ℕ) (count last : ℕ) (next : Option ℕ) → IsBegun bytes count last → IsPage (record { records = records_in (drop HEADER_LEN bytes); next = next })
+    → bytes' ≡ header_of count next ++ drop HEADER_LEN bytes → IsWritten bytes' last × (contents_in bytes' ≡ record { records = records_in (drop HEADER_LEN bytes); next = next })
+finished bytes bytes' count last next h page e =
+    let p : Contents = record { records = records_in (drop HEADER_LEN bytes); next = next } in
+    let spelled : bytes' ≡ page_spelling p = e ∙ (λ i. header_of (h.counted i) next ++ h.records.whole i) in
+    let back : contents_in bytes' ≡ p = ap contents_in spelled ∙ (λ i. record { records = spelled_back p.records page.live i; next = next_back next page.tid i }) in (
+      record {
+        page = subst IsPage (sym back) page;
+        whole = spelled ∙ ap page_spelling (sym back);
+        ends = h.ends ∙ ap (λ (x : Contents). last_from 0 x.records) (sym back);
+      },
+      back,
+    )
