@@ -14,7 +14,8 @@ use Rattle.gs_script.specs.Script.{with_event}
 use Rattle.gs_script.proofs.Lines.{with_front_nil}
 use Rattle.gs_script.proofs.Unread.{front_more, front_none}
 use Rattle.gs_trace.specs.Noted.{Noted, noted_after}
-use Rattle.gs_tables.specs.Notes.{IsNoted, Line, NotedSoFar, NotedUpTo, Notes, NotesOne, landings_in, landings_of}
+use Rattle.gs_report.specs.Counts.{landings_of}
+use Rattle.gs_tables.specs.Notes.{IsNoted, Line, NotedSoFar, NotedUpTo, Notes, NotesOne, landings_in}
 
 pub none_noted : (n : Noted) (m : State) (script : Result (List (Event AnyPolicy)) ScriptFault) (says : List Line) → NotedUpTo n m script script says says n [] m
 none_noted n m script says = record { events = []; lines = []; is = sym (with_front_nil script); says = refl; so_far = record { replies = []; leads = λ left others more end last t. t; sufficed = refl; landed = refl } }

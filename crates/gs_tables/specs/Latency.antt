@@ -15,6 +15,7 @@ use Rattle.gs_usage.specs.declared.usage.Usage.{Usage}
 use Rattle.gs_trace.specs.declared.form.Notation.{Notation}
 use Rattle.gs_trace.specs.declared.form.Notation.TheVariants as notations
 use Rattle.gs_tables.specs.Columns.{class_data, class_word, column, count}
+use Rattle.gs_tables.specs.Timehist.{times_data}
 use Rattle.gs_tables.specs.declared.latency.Unit.{Unit}
 use Rattle.gs_tables.specs.declared.latency.Unit.TheVariants.{Entries, Ticks}
 
@@ -72,7 +73,7 @@ spread_data None = null
 spread_data (Some s) = object (member (codes "most") (count s.all) (member (codes "p50") (count s.half) (member (codes "p90") (count s.ninety) (member (codes "p99") (count s.ninety_nine) no_members))))
 
 abbrev pub time_data : Time → Data
-time_data t = object (member (codes "entries") (count t.entries) (member (codes "ticks") (count t.ticks) no_members))
+time_data t = times_data t.entries t.ticks
 
 abbrev pub waits_data : Account → Data
 waits_data a = object (member (codes "entries") (spread_data a.tally.waits_in_entries) (member (codes "ticks") (spread_data a.tally.waits_in_ticks) no_members))

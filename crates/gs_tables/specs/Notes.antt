@@ -4,13 +4,13 @@ use Rattle.std.specs.List.{flat_map, list_any}
 use Rattle.gs_policy.specs.declared.any.AnyPolicy.{AnyPolicy}
 use Rattle.gs_kernel.specs.declared.landing.Landing.{Landing}
 use Rattle.gs_replies.specs.declared.reply.Reply.{Reply}
-use Rattle.gs_replies.specs.declared.reply.Reply.TheVariants as replies
 use Rattle.gs_core.specs.declared.event.Event.{Event}
 use Rattle.gs_core.specs.Machine.{State, Step, planned}
 use Rattle.gs_core.specs.Safe.{Safe, IsFaithful}
 use Rattle.gs_core.specs.Short.{wants_memory}
 use Rattle.gs_script.specs.declared.fault.ScriptFault.{ScriptFault}
 use Rattle.gs_script.specs.Unread.{with_front}
+use Rattle.gs_report.specs.Counts.{landings_of}
 use Rattle.gs_trace.specs.Output.{any_plans}
 use Rattle.gs_trace.specs.Noted.{Noted, noted_after}
 
@@ -27,13 +27,7 @@ Notes n m (e ∷ es) (r ∷ rs) [] end last = ⊥
 Notes n m (e ∷ es) [] xs end last = ⊥
 Notes n m [] (r ∷ rs) xs end last = ⊥
 
--- what became of slots, by a reply
-abbrev pub landings_of : Reply → List Landing
-landings_of (replies.Landed ls torn) = ls
-landings_of (replies.Late n l torn) = l ∷ []
-landings_of _ = []
-
--- and by all of them
+-- what became of slots, by replies
 abbrev pub landings_in : List Reply → List Landing
 landings_in rs = flat_map landings_of rs
 

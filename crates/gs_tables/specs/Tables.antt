@@ -49,7 +49,7 @@ pub record AreAccounts (listed : Bool) (h : History) (turns : List Turn) (landin
   pub of_threads : AllZip (IsAccountOfThread known turns landings) (listed_in listed known) by_thread
   pub together : all ≡ by_class ++ by_thread
 
--- this text shows what classes came to, and threads if they are listed, and what CPUs were used for: by what became of slots and by a history on so many CPUs
+-- this text shows what classes came to, and threads if they are listed, and what CPUs were used for. That is by what became of slots, and by a history on so many CPUs
 pub record ShowsLatency (notation : Notation) (listed : Bool) (landings : List Landing) (cpus : ℕ) (h : History) (out : List ℕ) : Type 0 where
   pub turns : List Turn
   pub are : IsTurns cpus h turns

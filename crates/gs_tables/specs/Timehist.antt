@@ -17,8 +17,8 @@ use Rattle.gs_tables.specs.Columns.{class_data, class_word, column, count}
 abbrev pub line_of : List ℕ → ℕ → ℕ
 line_of lines n = unwrap_or (slice_get lines n) 0
 
--- the names of the columns: the entry that placed the thread and the line that added it, the CPU, the thread and its class, how long it waited and how long
--- it ran, each in entries and in ticks of the CPU, and why the stay ended
+-- the names of the columns: the entry that placed the thread and the line that added it, the CPU, the thread and its class. Then come how long it waited and
+-- how long it ran, each in entries and in ticks of the CPU, and why the stay ended
 unfoldable pub heading : List ℕ
 heading =
     line (

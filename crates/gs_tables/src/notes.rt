@@ -1,17 +1,19 @@
 //! A run of events, of each of which is noted what a table tells beside the journal.
 
 ghost use Rattle.std.specs.Prelude.{◌≡◌, ◌++◌, [], IfOk, IfErr, OnOk};
+ghost use Rattle.gs_report.specs.Counts.{landings_of};
 ghost use Rattle.gs_core.specs.Machine.{planned, planning};
 ghost use Rattle.gs_script.specs.Held.{Faults};
 ghost use Rattle.gs_script.specs.Unread.{events_unread, said_unread};
 ghost use Rattle.gs_trace.specs.Noted.{noted_first};
 ghost use Rattle.gs_trace.specs.NotedLines.{noted_of};
 ghost use Rattle.gs_trace.specs.Output.{any_plans};
-ghost use Rattle.gs_tables.specs.Notes.{IsNoted, NotesOne, landings_of};
+ghost use Rattle.gs_tables.specs.Notes.{IsNoted, NotesOne};
 
 use gs_core::{Event, Machine, Reply, is_short, is_short_command};
 use gs_kernel::{Command, Landing};
 use gs_policy::AnyPolicy;
+use gs_report::landings_of;
 use gs_script::{Reading, ScriptError};
 use gs_trace::Lines;
 use std::alloc::{AllocError, Global};
@@ -30,11 +32,7 @@ pub(crate) struct Notes {
 fn add_landings(all: &mut Vec<Landing>, reply: &Reply) -> Result<(), AllocError>
     ensures { OnOk result (all.new.items ≡ all.old.items ++ landings_of reply.now) }
 {
-    match reply {
-        Reply::Landed { landings, .. } => all.extend_from_slice(landings.as_slice()),
-        Reply::Late { landing, .. } => all.extend_from_slice(slice::from_ref(landing)),
-        _ => Ok(()),
-    }
+    all.extend_from_slice(landings_of(reply))
 }
 
 /// Lets a command of a line be executed, and notes it. It is given as the event, too. It fails only if out of memory, or

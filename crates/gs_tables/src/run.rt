@@ -1,5 +1,7 @@
-ghost use Rattle.std.specs.Prelude.{◌≡◌, ◌≢◌, IfOk, IfErr, IsErrOf};
+ghost use Rattle.std.specs.Prelude.{◌≡◌, ◌≢◌, IfOk, IfErr, IsErrOf, length};
 ghost use Rattle.std.specs.Io.KnownBytes.{Keeps};
+ghost use Rattle.gs_journal.specs.History.{History};
+ghost use Rattle.gs_turns.specs.Knowing.{AreKnown};
 ghost use Rattle.gs_trace.specs.declared.run.Ended.TheVariants.{Ran};
 ghost use Rattle.gs_trace.specs.Streams.{AnswersAll, AnswersOf, BeginsAnswer, ConsumesAtMost};
 ghost use Rattle.gs_script.specs.Held.{Faults};
@@ -14,13 +16,12 @@ use crate::latency::latency;
 use crate::notes::{Notes, note_all};
 use crate::timehist::timehist;
 use gs_core::Machine;
-use gs_journal::Journal;
 use gs_kernel::Landing;
 use gs_policy::AnyPolicy;
 use gs_script::{Opened, Reading, ScriptError, open_script};
 use gs_tallies::{Account, class_accounts, thread_accounts};
 use gs_trace::{Answering, Kept, MOST_READ_BYTES, Notation, TraceFault, answer_script};
-use gs_turns::{Turn, known_threads, turns};
+use gs_turns::{Told, turns};
 use gs_usage::usages;
 use std::alloc::{AllocError, Global};
 use std::io::{Read, Write};
@@ -41,17 +42,15 @@ pub enum Table {
 /// Returns what the turns and landings of each class come to, and behind these, if they are listed, of each thread.
 fn accounts_of(
     alloc: Global,
-    journal: &Journal,
     listed: bool,
-    turns: &[Turn],
+    told: &Told,
     landings: &[Landing],
 ) -> Result<Vec<Account>, AllocError>
-    ensures { IfOk result (λ accounts. AreAccounts listed journal.now.entries turns.now landings.now accounts.items) }
+    ensures { IfOk result (λ accounts. (h : History) → AreKnown h (length h) told.now.threads.items → AreAccounts listed h told.now.turns.items landings.now accounts.items) }
 {
-    let known = known_threads(alloc, journal)?;
-    let mut accounts = class_accounts(alloc, &known, turns, landings)?;
+    let mut accounts = class_accounts(alloc, &told.threads, &told.turns, landings)?;
     if listed {
-        let own = thread_accounts(alloc, &known, turns, landings)?;
+        let own = thread_accounts(alloc, &told.threads, &told.turns, landings)?;
         accounts.extend_from_slice(&own)?;
     }
     Ok(accounts)
@@ -68,11 +67,11 @@ fn shown(
 {
     let journal = machine.kernel().journal();
     let cpus = machine.kernel().settings().cpus;
-    let turns = turns(alloc, journal, cpus)?;
+    let told = turns(alloc, journal, cpus)?;
     match table {
-        Table::Timehist(notation) => timehist(alloc, notation, &notes.lines.entries, &turns),
+        Table::Timehist(notation) => timehist(alloc, notation, &notes.lines.entries, &told.turns),
         Table::Latency { notation, threads } => {
-            let accounts = accounts_of(alloc, journal, threads, &turns, &notes.landings)?;
+            let accounts = accounts_of(alloc, threads, &told, &notes.landings)?;
             let usages = usages(alloc, journal, cpus)?;
             latency(alloc, notation, &accounts, &usages)
         }
@@ -128,14 +127,11 @@ impl Answering for Table {
 /// Reads a script to its end, or until it is too long, runs it, and writes a table of what happened. A script's fault
 /// is written as one line. Returns what was read too, for whoever tells more of that fault.
 ///
-/// The reads end at the first that gives no byte, and are at most 1,048,578. At most
-/// [`MOST_READ_BYTES`] are read.
+/// [`answer_script`] says how much is read and what an error leaves.
 ///
 /// # Errors
 ///
-/// `ReadFailed` if a read fails. `OutOfMemory` if out of memory, at an event too. In both cases nothing was
-/// written. `WriteFailed` if a write fails or takes no byte: a beginning of the output was written, short of the
-/// whole.
+/// As of [`answer_script`].
 pub fn write_table<R: Read, W: Write>(
     alloc: Global,
     reader: &mut R,

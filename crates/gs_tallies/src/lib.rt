@@ -9,6 +9,6 @@ mod sums;
 mod tally;
 
 pub use account::{Account, class_accounts, thread_accounts};
-pub use spread::{Percent, Spread, percentile};
+pub use spread::Spread;
 pub use sums::Sums;
-pub use tally::{Tally, tally_of};
+pub use tally::Tally;

@@ -14,8 +14,8 @@ pub struct Spread {
 }
 
 /// How many of a hundred numbers a percentile is of.
-#[derive(Clone, Copy, PartialEq, Eq, Debug)]
-pub enum Percent {
+#[derive(Clone, Copy)]
+enum Percent {
     Half,
     Ninety,
     NinetyNine,
@@ -40,7 +40,7 @@ fn rank_of(count: usize, percent: Percent) -> usize
 
 /// Returns the percentile by the nearest rank of numbers that rise: the least of them that so many of a hundred do not
 /// exceed.
-pub fn percentile(rising: &[usize], percent: Percent) -> usize
+fn percentile(rising: &[usize], percent: Percent) -> usize
     requires some { 0 < length rising.now }
     requires rising { IsNonDecreasing rising.now }
     ensures { IsPercentile (percent_of percent) rising.now result }

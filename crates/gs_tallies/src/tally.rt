@@ -44,7 +44,7 @@ fn waits_in_ticks(alloc: Global, turns: &[Turn]) -> Result<Vec<usize>, AllocErro
 /// # Errors
 ///
 /// `AllocError` if out of memory.
-pub fn tally_of(alloc: Global, turns: &[Turn]) -> Result<Tally, AllocError>
+pub(crate) fn tally_of(alloc: Global, turns: &[Turn]) -> Result<Tally, AllocError>
     ensures { IfOk result (IsTally turns.now) }
 {
     let entries = waits_in_entries(alloc, turns)?;

@@ -1,3 +1,4 @@
+pub mod Counts
 pub mod Endings
 pub mod Escapes
 pub mod Homes

@@ -32,13 +32,13 @@ unfoldable pub seats : History → ℕ → ℕ → List (Option ℕ)
 seats h c zero = []
 seats h c (suc n) = seats h c n ++ on (take (suc n) h) c ∷ []
 
--- the longest runs of one thread in such a list, whose first element stands behind entry n
+-- the maximal runs of one thread in such a list, whose first element stands behind entry n
 unfoldable pub runs : ℕ → ℕ → List (Option ℕ) → List Stay
 runs c n [] = []
 runs c n (None ∷ later) = runs c (n + 1) later
 runs c n (Some t ∷ later) = joined (stay c t n (n + 1)) (runs c (n + 1) later)
 
--- the stays on a CPU: the longest runs of beginnings of a history at whose end the same thread is on it, in order
+-- the stays on a CPU, in order: maximal intervals with one thread on it
 abbrev pub stays : History → ℕ → List Stay
 stays h c = runs c 0 (seats h c (length h))
 

@@ -1,5 +1,12 @@
 //! How many decisions are shown, and what came of them: a line below the heading, which is also what the shapes mean.
 
+ghost use Rattle.std.specs.Prelude.{◌≡◌, IfOk, map};
+ghost use Rattle.std.specs.List.{range_with_len};
+ghost use Rattle.gs_layout.specs.declared.outcome.TheConstants.{OUTCOMES};
+ghost use Rattle.gs_timeline.specs.Counts.{count_of, is_placed, takes};
+ghost use Rattle.gs_timeline.specs.declared.counts.Which.TheVariants.{Failed, Numbered, Placed, Stamped};
+
+use crate::decided::failure_of;
 use crate::notes::{Mark, What};
 use crate::part::Part;
 use crate::shapes::{shape_of, words_of};
@@ -30,54 +37,84 @@ pub(crate) struct Counts {
     stamped: u64,
     placed: u64,
     failed: u64,
-    /// By the outcome's number.
+    /// By the outcome's number. Those that were placed are not among them.
     outcomes: Vec<u64>,
 }
 
-impl Counts {
-    /// Counts a landing.
-    fn add_landing(&mut self, outcome: Outcome) {
-        if outcome == Outcome::Placed {
-            self.placed = self.placed.saturating_add(1);
-            return;
-        }
-        self.failed = self.failed.saturating_add(1);
-        if let Some(count) = self.outcomes.get_mut(outcome.number() as usize) {
-            *count = count.saturating_add(1);
-        }
-    }
+/// Which decisions are counted.
+#[derive(Clone, Copy)]
+enum Which {
+    Stamped,
+    /// Those that landed, and whose thread was placed.
+    Placed,
+    /// Those that landed, and whose thread was not.
+    Failed,
+    /// Those of them whose outcome has this number.
+    Numbered(u16),
+}
 
-    /// Counts a mark.
-    fn add(&mut self, mark: &Mark) {
-        match mark.what {
-            What::Stamped { .. } => self.stamped = self.stamped.saturating_add(1),
-            What::Landed { outcome } | What::Late { outcome, .. } => self.add_landing(outcome),
+impl Which {
+    /// Returns whether a decision is one of these.
+    fn takes(self, mark: &Mark) -> bool
+        ensures { result ≡ takes self mark.now }
+    {
+        match self {
+            Which::Stamped => matches!(mark.what, What::Stamped { .. }),
+            Which::Placed => is_placed(mark.what),
+            Which::Failed => failure_of(mark).is_some(),
+            Which::Numbered(number) => match failure_of(mark) {
+                Some(outcome) => outcome.number() == number,
+                None => false,
+            },
         }
     }
 }
 
-/// Counts the marks that are shown.
-pub(crate) fn counted(
-    alloc: Global,
-    part: &Part<'_>,
-    marks: &[Mark],
-) -> Result<Counts, AllocError> {
-    let mut outcomes = Vec::with_capacity(alloc, OUTCOMES as usize)?;
-    for _ in 0..OUTCOMES {
-        outcomes.push(0)?;
-    }
-    let mut counts = Counts {
-        stamped: 0,
-        placed: 0,
-        failed: 0,
-        outcomes,
-    };
+/// Returns whether a transaction landed and its thread was placed.
+fn is_placed(what: What) -> bool
+    ensures { result ≡ is_placed what }
+{
+    matches!(
+        what,
+        What::Landed {
+            outcome: Outcome::Placed,
+        } | What::Late {
+            outcome: Outcome::Placed,
+            ..
+        }
+    )
+}
+
+/// Returns how many of the decisions are shown and counted.
+fn count(part: &Part<'_>, marks: &[Mark], which: Which) -> usize
+    ensures { result ≡ count_of part.now which marks.now }
+{
+    let mut count: usize = 0;
     for mark in marks {
-        if part.meets(mark.entries) {
-            counts.add(mark);
+        if part.meets(mark.entries) && which.takes(mark) {
+            count += 1;
         }
     }
-    Ok(counts)
+    count
+}
+
+/// Counts the marks that are shown.
+pub(crate) fn counted(alloc: Global, part: &Part<'_>, marks: &[Mark]) -> Result<Counts, AllocError>
+    ensures stamped { IfOk result (λ counts. counts.stamped ≡ count_of part.now Stamped marks.now) }
+    ensures placed { IfOk result (λ counts. counts.placed ≡ count_of part.now Placed marks.now) }
+    ensures failed { IfOk result (λ counts. counts.failed ≡ count_of part.now Failed marks.now) }
+    ensures outcomes { IfOk result (λ counts. counts.outcomes.items ≡ map (λ n. count_of part.now (Numbered n) marks.now) (range_with_len 0 OUTCOMES)) }
+{
+    let mut outcomes = Vec::with_capacity(alloc, OUTCOMES as usize)?;
+    for number in 0..OUTCOMES {
+        outcomes.push(count(part, marks, Which::Numbered(number)) as u64)?;
+    }
+    Ok(Counts {
+        stamped: count(part, marks, Which::Stamped) as u64,
+        placed: count(part, marks, Which::Placed) as u64,
+        failed: count(part, marks, Which::Failed) as u64,
+        outcomes,
+    })
 }
 
 /// Where the next outcome stands.

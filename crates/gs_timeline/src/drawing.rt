@@ -9,7 +9,7 @@ use crate::groups::write_groups;
 use crate::lane::Lane;
 use crate::layout::{BAR, TOP, row_of};
 use crate::legend::{write_legend, write_style};
-use crate::listing::listing;
+use crate::listing::{Line, listing};
 use crate::lives::{Life, add_stays, end_strips, life_of, lives};
 use crate::marks::{write_axis, write_hold, write_marks};
 use crate::notes::{Listed, Notes};
@@ -233,6 +233,53 @@ fn write_head(out: &mut Sheet, part: &Part<'_>, head: &Head<'_>) -> Result<(), A
     write_counted(out, head.counts)
 }
 
+/// What a picture is drawn of.
+#[derive(Clone, Copy)]
+struct Drawn<'a> {
+    cpus: u16,
+    journal: &'a Journal,
+    notes: &'a Notes<'a>,
+    part: &'a Part<'a>,
+    lives: &'a [Life],
+    lanes: &'a [Lane],
+    lines: &'a [Line],
+    counts: &'a Counts,
+}
+
+/// Adds the whole picture: its beginning, its rows with what stands in them, its foot and its end.
+fn draw(out: &mut Sheet, alloc: Global, drawn: &Drawn<'_>) -> Result<(), AllocError> {
+    let Drawn {
+        cpus,
+        journal,
+        notes,
+        part,
+        lives,
+        lanes,
+        lines,
+        counts,
+    } = *drawn;
+    let end = end_of_foot(cpus, lines.len());
+    let head = Head {
+        height: end,
+        cpus,
+        threads: lives.len(),
+        journal,
+        counts,
+    };
+    write_head(out, part, &head)?;
+    write_axis(out, part, cpus, end)?;
+    begin_text(out, 10, TOP + 17, "label")?;
+    out.push_str("agent</text>\n")?;
+    write_back(out, part, TOP)?;
+    write_ring(out, part, notes.fills, notes.ring)?;
+    write_rows(out, alloc, part, journal, lives, lanes, cpus)?;
+    write_agents(out, alloc, part, journal, cpus, notes)?;
+    write_marks(out, part, cpus, journal)?;
+    write_decisions(out, alloc, part, journal, lives, cpus, notes)?;
+    write_foot(out, part, cpus, lives, lines)?;
+    out.push_str("</svg>\n")
+}
+
 /// Returns a picture of a history as SVG: a row for each of so many CPUs, and in it a bar for each stay of a thread. Above
 /// the bars of a CPU stand the decisions of the notes: each stamp, and each landing that was not placed, with what it
 /// came to. Marks that are near to one another are drawn as one, whose title tells of each of the first ones. Below the
@@ -263,26 +310,17 @@ pub fn picture(
     end_strips(&mut lives)?;
     let lines = listing(alloc, &lives, listed)?;
     let counts = counted(alloc, &part, notes.marks)?;
-    let end = end_of_foot(cpus, lines.len());
     let mut out = Sheet::new(alloc);
-    let head = Head {
-        height: end,
+    let drawn = Drawn {
         cpus,
-        threads: lives.len(),
         journal,
+        notes,
+        part: &part,
+        lives: &lives,
+        lanes: &lanes,
+        lines: &lines,
         counts: &counts,
     };
-    write_head(&mut out, &part, &head)?;
-    write_axis(&mut out, &part, cpus, end)?;
-    begin_text(&mut out, 10, TOP + 17, "label")?;
-    out.push_str("agent</text>\n")?;
-    write_back(&mut out, &part, TOP)?;
-    write_ring(&mut out, &part, notes.fills, notes.ring)?;
-    write_rows(&mut out, alloc, &part, journal, &lives, &lanes, cpus)?;
-    write_agents(&mut out, alloc, &part, journal, cpus, notes)?;
-    write_marks(&mut out, &part, cpus, journal)?;
-    write_decisions(&mut out, alloc, &part, journal, &lives, cpus, notes)?;
-    write_foot(&mut out, &part, cpus, &lives, &lines)?;
-    out.push_str("</svg>\n")?;
+    draw(&mut out, alloc, &drawn)?;
     Ok(out)
 }

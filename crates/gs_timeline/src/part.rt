@@ -1,5 +1,5 @@
 ghost use Rattle.std.specs.Prelude.{◌≡◌, ◌<◌, ◌≤◌, ◌*◌, ◌-◌};
-ghost use Rattle.gs_timeline.specs.Places.{x_of};
+ghost use Rattle.gs_timeline.specs.Places.{behind, meets, x_of};
 ghost use Rattle.gs_timeline.specs.declared.part.TheConstants.{MOST_SINGLE, WIDEST};
 
 /// The most entries of which each has a pixel of its own: a browser still opens a picture of this size. If there are
@@ -54,7 +54,9 @@ impl<'a> Part<'a> {
     }
 
     /// Returns the place behind the last entry.
-    pub(crate) fn behind(&self) -> usize {
+    pub(crate) fn behind(&self) -> usize
+        ensures { result ≡ behind self.now.first self.now.count }
+    {
         self.first.saturating_add(self.count)
     }
 
@@ -79,7 +81,9 @@ impl<'a> Part<'a> {
     }
 
     /// Returns whether what happens before the entry of this place, and behind the one before that, is shown.
-    pub(crate) fn meets(&self, place: usize) -> bool {
+    pub(crate) fn meets(&self, place: usize) -> bool
+        ensures { result ≡ meets self.now.first self.now.count place }
+    {
         place >= self.first && place <= self.behind()
     }
 

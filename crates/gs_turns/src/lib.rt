@@ -15,4 +15,4 @@ pub use threads::subject;
 pub use ticks::tick_cpu;
 pub use time::Time;
 pub use turn::Turn;
-pub use walk::{known_threads, turns};
+pub use walk::{Told, turns};

@@ -4,8 +4,8 @@ ghost use Rattle.gs_turns.specs.Turns.{ran, waited};
 use gs_layout::Class;
 use gs_timeline::{Ending, Stay};
 
-/// A stay of a thread on a CPU, with the wait before it. A wait or a run has two measures: the entries of the
-/// journal behind each of which it was so, and the ticks among these that are of the stay's CPU.
+/// A stay of a thread on a CPU, with the wait before it. A wait or a run has two measures. One is the entries of the
+/// journal behind each of which it was so, and the other the ticks among these that are of the stay's CPU.
 #[derive(Clone, Copy, PartialEq, Eq, Debug)]
 pub struct Turn {
     pub stay: Stay,

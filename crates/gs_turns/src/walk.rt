@@ -14,6 +14,15 @@ use gs_journal::Journal;
 use gs_timeline::{Ending, Stay, all_stays};
 use std::alloc::{AllocError, Global};
 
+/// What a journal tells of its threads.
+#[derive(Drop)]
+pub struct Told {
+    /// Each stay of a thread on a CPU, with the wait before it, in order of the entries that began them.
+    pub turns: Vec<Turn>,
+    /// What is known of each thread behind all entries, in the place of its tid. Nothing is known of others.
+    pub threads: Vec<Known>,
+}
+
 /// Lets what is known of the threads hear the entries from one on and before another.
 fn hear_up_to(
     threads: &mut Threads,
@@ -50,17 +59,19 @@ fn turn_of(journal: &Journal, ticks: &Ticks, stay: &Stay, thread: Known) -> Turn
     }
 }
 
-/// Returns the turn of each of these stays, in their order. It walks the entries once.
+/// Returns the turn of each of these stays, in their order, and what is known of each thread behind all entries. It walks
+/// the entries once.
 fn turns_of(
     alloc: Global,
     journal: &Journal,
     ticks: &[Ticks],
     order: &[Stay],
-) -> Result<Vec<Turn>, AllocError>
+) -> Result<Told, AllocError>
     requires rising { IsNonDecreasingBy (λ (s : Stay). s.from) order.now }
     requires within { All (λ (s : Stay). (s.from ≤ length journal.now.entries) × (s.cpu < length ticks.now)) order.now }
     requires ticks { (c : ℕ) → c < length ticks.now → slice_get ticks.now c ≡ Some (tick_places journal.now.entries c (length journal.now.entries)) }
-    ensures { IfOk result (λ turns. turns.items ≡ map (turn_of journal.now.entries) order.now) }
+    ensures turns { IfOk result (λ told. told.turns.items ≡ map (turn_of journal.now.entries) order.now) }
+    ensures known { IfOk result (λ told. AreKnown journal.now.entries (length journal.now.entries) told.threads.items) }
 {
     let mut threads = Threads::new(alloc);
     let mut place = 0;
@@ -71,36 +82,27 @@ fn turns_of(
         let ticks = &ticks[stay.cpu as usize];
         turns.push(turn_of(journal, ticks, stay, threads.known(stay.tid)))?;
     }
-    Ok(turns)
+    hear_up_to(&mut threads, journal, place, journal.len())?;
+    Ok(Told {
+        turns,
+        threads: threads.into_table(),
+    })
 }
 
-/// Returns the turns of all threads on so many CPUs, in order of the entries that began them.
+/// Returns the turns of all threads on so many CPUs, in order of the entries that began them, and what is known of each
+/// thread behind all entries.
 ///
 /// It walks the entries three times, and sorts the turns.
 ///
 /// # Errors
 ///
 /// `AllocError` if out of memory.
-pub fn turns(alloc: Global, journal: &Journal, cpus: u16) -> Result<Vec<Turn>, AllocError>
-    ensures { IfOk result (λ turns. IsTurns cpus journal.now.entries turns.items) }
+pub fn turns(alloc: Global, journal: &Journal, cpus: u16) -> Result<Told, AllocError>
+    ensures turns { IfOk result (λ told. IsTurns cpus journal.now.entries told.turns.items) }
+    ensures known { IfOk result (λ told. AreKnown journal.now.entries (length journal.now.entries) told.threads.items) }
 {
     let ticks = ticks_of(alloc, journal, cpus)?;
     let mut order = all_stays(alloc, journal, cpus)?;
     order.sort_by_key(|stay| stay.from)?;
     turns_of(alloc, journal, &ticks, &order)
-}
-
-/// Returns what is known of each thread behind all entries, in the place of its tid. Nothing is known of others.
-///
-/// It walks the entries once.
-///
-/// # Errors
-///
-/// `AllocError` if out of memory.
-pub fn known_threads(alloc: Global, journal: &Journal) -> Result<Vec<Known>, AllocError>
-    ensures { IfOk result (λ all. AreKnown journal.now.entries (length journal.now.entries) all.items) }
-{
-    let mut threads = Threads::new(alloc);
-    hear_up_to(&mut threads, journal, 0, journal.len())?;
-    Ok(threads.into_table())
 }

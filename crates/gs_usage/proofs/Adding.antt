@@ -9,7 +9,6 @@ use Rattle.gs_journal.specs.declared.entry.Entry.{Entry}
 use Rattle.gs_journal.specs.declared.entry.Entry.TheVariants.{Torn}
 use Rattle.gs_journal.specs.History.{History}
 use Rattle.gs_turns.specs.Ticked.{is_tick, is_tick_there}
-use Rattle.gs_usage.proofs.Telling.{same_uses}
 use Rattle.gs_turns.specs.declared.time.Time.{Time}
 use Rattle.gs_usage.specs.declared.usage.Usage.{Usage}
 use Rattle.gs_usage.specs.declared.usage.Use.{Use}
@@ -17,12 +16,18 @@ use Rattle.gs_usage.specs.declared.usage.Use.TheVariants.{Other, Agent, Busy, Wa
 use Rattle.gs_usage.specs.Times.{AreAtMost, all_entries, all_ticks, plus, plus_if, spend, time_in, usage_to}
 use Rattle.gs_usage.specs.Uses.{has_use, same_use, time_of, time_to, usage_of, use_of}
 
+abbrev of_uses : Time → Time → Time → Time → Time → Usage
+of_uses b a o w i = record { busy = b; agent = a; other = o; wanted = w; idle = i }
+
+pub same_uses : (b b' a a' o o' w w' i i' : Time) → b ≡ b' → a ≡ a' → o ≡ o' → w ≡ w' → i ≡ i' → of_uses b a o w i ≡ of_uses b' a' o' w' i'
+same_uses b b' a a' o o' w w' i i' p q r s t = cc
+
 range_more : (n : ℕ) → range_with_len 0 (n + 1) ≡ range_with_len 0 n ++ n ∷ []
 range_more n =
     sym (map-id (range_with_len 0 (n + 1)))
     ∙ (map-range_with_len_more (λ (k : ℕ). k) 0 n n (omega arith) ∙ ap (λ (ks : List ℕ). ks ++ n ∷ []) (map-id (range_with_len 0 n)))
 
-counted_more : (p : ℕ → Bool) (n : ℕ) → count_by p (range_with_len 0 (n + 1)) ≡ count_by p (range_with_len 0 n) + cond (p n) 1 0
+pub counted_more : (p : ℕ → Bool) (n : ℕ) → count_by p (range_with_len 0 (n + 1)) ≡ count_by p (range_with_len 0 n) + cond (p n) 1 0
 counted_more p n = ap (count_by p) (range_more n) ∙ sum_by_push (λ (k : ℕ). cond (p k) 1 0) (range_with_len 0 n) n
 
 -- the time of a use, one entry more
@@ -48,7 +53,7 @@ pub usage_more : (n : ℕ) (h : History) (c : ℕ) → usage_to (n + 1) h c ≡ 
 usage_more n h c = same_uses _ _ _ _ _ _ _ _ _ _ (time_more n Busy h c) (time_more n Agent h c) (time_more n Other h c) (time_more n Wanted h c) (time_more n Idle h c)
 
 -- no time is above the count of entries
-time_bound : (n : ℕ) (u : Use) (h : History) (c : ℕ) → ((time_to n u h c).entries ≤ n) × ((time_to n u h c).ticks ≤ n)
+pub time_bound : (n : ℕ) (u : Use) (h : History) (c : ℕ) → ((time_to n u h c).entries ≤ n) × ((time_to n u h c).ticks ≤ n)
 time_bound n u h c =
     let long : length (range_with_len 0 n) ≡ n = length-range_with_len 0 n in
     let both : ℕ → Bool = λ (k : ℕ). has_use u h c k && is_tick_there c (slice_get h k) in

@@ -1,5 +1,5 @@
 -- What is known of the threads, one entry more.
-use Rattle.std.proofs.Common.{◌≡◌, refl, ap, sym, ◌∙◌, subst, ℕ, zero, suc, ◌+◌, ◌-◌, ◌<◌, ◌≤◌, ◌==◌, ◌⊎◌, inl, inr, Bool, false, cond, Option, None, Some, List, [], ◌∷◌, ◌++◌, get_or, length, slice_set, take, unwrap_or, arith}
+use Rattle.std.proofs.Common.{◌≡◌, refl, ap, sym, ◌∙◌, subst, ℕ, zero, suc, ◌+◌, ◌-◌, ◌<◌, ◌≤◌, ◌==◌, ◌⊎◌, inl, inr, Bool, true, false, cond, Option, None, Some, List, [], ◌∷◌, ◌++◌, get_or, length, slice_set, take, unwrap_or, arith}
 use Rattle.std.specs.List.{All, count_by}
 use Rattle.std.specs.Option.{option_map, option_or}
 use Rattle.std.proofs.lemmas.Bool.{cases_eq, cases_lt}
@@ -98,15 +98,8 @@ past_then n (Some Away) o m past = tt
 past_more : (n : ℕ) (r : Row) → IsPastRow n r → IsPastRow (n + 1) r
 past_more n r past = past_then n None r.ready_at r.mask past
 
-all_past_more : (n : ℕ) (rows : List Row) → All (IsPastRow n) rows → All (IsPastRow (n + 1)) rows
+pub all_past_more : (n : ℕ) (rows : List Row) → All (IsPastRow n) rows → All (IsPastRow (n + 1)) rows
 all_past_more n rows all = λ k d lt. past_more n (get_or rows k d) (all k d lt)
-
-past_row : (n t : ℕ) (rows : List Row) → All (IsPastRow n) rows → IsPastRow n (get_or rows t unseen)
-past_row n t rows all = by_place (cases_lt t (length rows))
-  where
-    by_place : (t < length rows) ⊎ (length rows ≤ t) → IsPastRow n (get_or rows t unseen)
-    by_place (inl lt) = all t unseen lt
-    by_place (inr le) = subst (IsPastRow n) (sym (get_or_past rows t unseen le)) tt
 
 -- behind a tear-down nobody waits
 not_behind : (n : ℕ) (r : Row) → IsPastRow n r → is_behind (n + 1) r.ready_at ≡ false
@@ -144,6 +137,12 @@ counts_written rows torn n u c e after d stands lt =
     (let w : waiting (record { rows = slice_set rows u after; torn = torn }) c ≡ (waiting (record { rows = rows; torn = torn }) c + p after) - p (get_or rows u d) = omega (arith, sums) in w)
     ∙ sym (ap (λ (b : Bool). cond b 0 ((waiting (record { rows = rows; torn = torn }) c + p after) - p (get_or rows u d))) stands)
 
+covers_written : (rows : List Row) (torn u c : ℕ) (after d : Row) → u < length rows
+    → cond (has (waits_for torn (get_or rows u d)) c) 1 0 ≤ waiting (record { rows = rows; torn = torn }) c + cond (has (waits_for torn after) c) 1 0
+covers_written rows torn u c after d lt =
+    let sums = sum_by-set (λ (r : Row). cond (has (waits_for torn r) c) 1 0) rows u after d lt in
+    omega (arith, sums)
+
 past_written : (rows : List Row) (torn n u : ℕ) (e : Entry) (d : Row) → torn ≤ n → All (IsPastRow n) rows → u < length rows → ArePast (n + 1) (record { rows = slice_set rows u (row_then n u e (get_or rows u d)); torn = torn })
 past_written rows torn n u e d le all lt = record {
   torn = omega arith;
@@ -162,6 +161,7 @@ pub record IsHeard (n : ℕ) (e : Entry) (s : WaitChange) (old new : ThreadsOf) 
   pub ready : (t : ℕ) → waits new t ≡ waits_then t e (waits old t)
   pub masks : (t : ℕ) → (row_of new t).mask ≡ unwrap_or (mask_by t e) (row_of old t).mask
   pub counts : (c : ℕ) → waiting new c ≡ waiting_then c e s (waiting old c)
+  pub covers : (c : ℕ) → cond (has s.before c) 1 0 ≤ waiting old c + cond (has s.after c) 1 0
   pub past : ArePast (n + 1) new
 
 heard_row : (old : ThreadsOf) (rows : List Row) (n u : ℕ) (e : Entry) → ArePast n old → IsLonger old.rows rows → u < length rows → is_torn e ≡ false → subject e ≡ Some u
@@ -172,6 +172,7 @@ heard_row old rows n u e past longer lt stands about =
       ready = λ t. ap (λ (r : Row). is_behind old.torn r.ready_at) (row t) ∙ ready_then old.torn n (stance_by t e) (row_of old t).ready_at past.torn;
       masks = λ t. ap (λ (r : Row). r.mask) (row t);
       counts = λ c. counts_written rows old.torn n u c e (row_then n u e (get_or rows u unseen)) unseen stands lt ∙ ap (waiting_then c e (change_of rows old.torn n u e)) (longer.counts old.torn c);
+      covers = λ c. subst (λ (w : ℕ). cond (has (waits_for old.torn (get_or rows u unseen)) c) 1 0 ≤ w + cond (has (waits_for old.torn (row_then n u e (get_or rows u unseen))) c) 1 0) (longer.counts old.torn c) (covers_written rows old.torn u c (row_then n u e (get_or rows u unseen)) unseen lt);
       past = past_written rows old.torn n u e unseen past.torn (longer.past n past.rows) lt;
     }
 
@@ -187,6 +188,14 @@ heard_so old rows n u e r v before after past longer lt stands about read become
     (subst (λ (m : ℕ). IsHeard n e (record { before = m; after = after }) old (written_over rows old.torn n u e)) first
     (subst (λ (m : ℕ). IsHeard n e (record { before = waits_for old.torn (get_or rows u unseen); after = m }) old (written_over rows old.torn n u e)) later
     (heard_row old rows n u e past longer lt stands about)))
+
+-- where nothing changes
+pub covers_none : (w m c : ℕ) → cond (has 0 c) 1 0 ≤ w + cond (has m c) 1 0
+covers_none w m c = by_test (has 0 c) (cond (has m c) 1 0) (none_has c)
+  where
+    by_test : (b : Bool) (k : ℕ) → b ≡ false → cond b 1 0 ≤ w + k
+    by_test false k e = omega arith
+    by_test true k e = absurd cc
 
 pub stands : (e : Entry) → (e ≡ Torn → ⊥) → is_torn e ≡ false
 stands (Posted m) other = refl

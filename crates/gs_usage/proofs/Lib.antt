@@ -1,7 +1,8 @@
 mod Adding
-mod Telling
 mod Wanting
 mod Hearing
-mod Accounting
-mod Places
+mod Bits
+mod Counting
+mod Seating
+mod Boarding
 mod WorkedUses

@@ -48,7 +48,7 @@ abbrev pub is_there : ℕ → Option (ℕ × ℕ) → Bool
 is_there c None = false
 is_there c (Some r) = r.1 == c
 
--- the first use of which it is so: the other class has the CPU, the agent is on it, a thread is on it, or a thread waits that may run on it.
+-- the first use of which it is so. The other class has the CPU, the agent is on it, a thread is on it, or a thread waits that may run on it.
 -- It is idle if none is
 abbrev pub first_use : Bool → Bool → Bool → Bool → Use
 first_use true agent busy wanted = Other
@@ -73,7 +73,7 @@ same_use _ _ = false
 abbrev pub has_use : Use → History → ℕ → ℕ → Bool
 has_use u h c k = same_use u (use_of (take (suc k) h) c)
 
--- behind how many of the first n entries a CPU has a use, and how many of these entries are ticks of the CPU
+-- for how many of the first n entries a CPU has a use, and how many of these entries are ticks of the CPU
 abbrev pub time_to : ℕ → Use → History → ℕ → Time
 time_to n u h c = record {
   entries = count_by (has_use u h c) (range_with_len 0 n);

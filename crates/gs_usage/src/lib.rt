@@ -1,10 +1,14 @@
 //! What each CPU was used for: the other class, the agent, a thread, or nothing, though a thread waited or not.
 #![tactic(auto)]
 
-mod account;
+mod board;
+mod counter;
+mod facts;
 mod law;
 mod row;
-mod state;
+mod seats;
+mod sets;
+mod tally;
 mod threads;
 mod usage;
 mod walk;

@@ -1,4 +1,5 @@
-ghost use Rattle.std.specs.Prelude.{◌≡◌, ◌<◌, ◌≤◌, ◌+◌, ℕ, None, IfOk, OnOk, length, unwrap_or};
+ghost use Rattle.std.specs.Prelude.{◌≡◌, ◌<◌, ◌≤◌, ◌+◌, ℕ, None, IfOk, OnOk, cond, length, unwrap_or};
+ghost use Rattle.gs_status.specs.Masks.{has};
 ghost use Rattle.gs_turns.specs.Knowing.{subject};
 ghost use Rattle.gs_usage.specs.Uses.{mask_by};
 ghost use Rattle.gs_usage.specs.Waiting.{ArePast, IsLonger, nobody, row_of, no_change, waiting, waiting_then, waits, waits_then};
@@ -58,8 +59,8 @@ impl Threads {
         ensures ready { OnOk result ((t : ℕ) → waits self.new t ≡ waits_then t entry.now (waits self.old t)) }
         ensures masks { OnOk result ((t : ℕ) → (row_of self.new t).mask ≡ unwrap_or (mask_by t entry.now) (row_of self.old t).mask) }
         ensures counts { IfOk result (λ change. (c : ℕ) → waiting self.new c ≡ waiting_then c entry.now change (waiting self.old c)) }
+        ensures covers { IfOk result (λ change. (c : ℕ) → cond (has change.before c) 1 0 ≤ waiting self.old c + cond (has change.after c) 1 0) }
         ensures past { OnOk result (ArePast (place + 1) self.new) }
-        ensures no_change { IfOk result (λ change. subject entry.now ≡ None → change ≡ no_change) }
     {
         if let Entry::Torn = entry {
             self.torn_before = place + 1;

@@ -14,7 +14,7 @@ use Rattle.gs_trace.specs.Output.{any_plans}
 use Rattle.gs_trace.specs.Noted.{Noted, filled}
 use Rattle.gs_trace.specs.NotedLines.{noted_of}
 use Rattle.gs_trace.proofs.NotedParts.{noted_is}
-use Rattle.gs_tables.specs.Notes.{landings_of}
+use Rattle.gs_report.specs.Counts.{landings_of}
 use Rattle.gs_tables.proofs.notes.note_command.Goals as goal
 
 -- a command lands nothing

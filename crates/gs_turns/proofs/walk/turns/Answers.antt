@@ -25,14 +25,14 @@ turns_of-requires-clause-within c =
     (All-permutation (IsIn (length h) c.args.cpus) c.in_ok-order.order.items c.sort_by_key.new.self.items c.sort_by_key.ensures.permutation
     (subst (All (IsIn (length h) c.args.cpus)) (sym c.in_ok-order.ensures) (all_in h c.args.cpus))))
 
-pub returns : goal.returns
-returns c =
+pub returns-clause-turns : goal.returns-clause-turns
+returns-clause-turns c =
     let h = c.args.journal.now.entries in
-    IfOk-weaker c.turns_of.result (λ turns. turns.items ≡ map (turn_of h) c.deref-2.result.now) (λ turns. IsTurns c.args.cpus h turns.items)
-    (λ turns is. record {
+    IfOk-weaker c.turns_of.result (λ told. told.turns.items ≡ map (turn_of h) c.deref-2.result.now) (λ told. IsTurns c.args.cpus h told.turns.items)
+    (λ told is. record {
       order = c.sort_by_key.new.self.items;
       all = subst (λ (ss : List Stay). IsPermutation ss c.sort_by_key.new.self.items) c.in_ok-order.ensures c.sort_by_key.ensures.permutation;
       rising = IsNonDecreasingBy-from_sort_by_key begins c.sort_by_key.new.self.items c.in_ok-sort_by_key.ensures.sorted (λ a r q k. search rules);
       is = is ∙ ap (map (turn_of h)) c.deref-2.ensures.value;
     })
-    c.turns_of.ensures
+    c.turns_of.ensures.turns

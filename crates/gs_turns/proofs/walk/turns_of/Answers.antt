@@ -14,6 +14,7 @@ pub loop-stay-init : goal.loop-stay-init
 loop-stay-init c = record {
   known = λ t. ap (λ (ks : List Known). known_in ks t) c.new-threads.ensures ∙ sym (known_none c.args.journal.now.entries t);
   turns = c.in_ok-turns.ensures.items;
+  within = omega arith;
   behind = λ i d le lt. omega arith;
 }
 
@@ -37,6 +38,7 @@ loop-stay-preserved c =
           c.in_ok-push.ensures.items
           ∙ (ap₂ (λ (xs : List Turn) (t : Turn). xs ++ t ∷ []) c.loop-stay.invariant.turns c.turn_of.ensures
           ∙ sym (map_more (turn_of h) c.args.order.now c.loop-stay.stay-index first c.loop-stay-test.true));
+      within = (c.requires.within c.loop-stay.stay-index first c.loop-stay-test.true).0;
       behind =
           λ i d le lt.
           let up : (get_or c.args.order.now c.loop-stay.stay-index d).from ≤ (get_or c.args.order.now i d).from = c.requires.rising c.loop-stay.stay-index i d (omega (arith, le)) lt in

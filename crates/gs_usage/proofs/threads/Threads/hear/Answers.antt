@@ -30,6 +30,6 @@ returns c =
       ready = told.ready;
       masks = told.masks;
       counts = told.counts;
+      covers = told.covers;
       past = told.past;
-      no_change = λ none. absurd (let e = sym none ∙ (sym c.subject.ensures ∙ c.in-Some.is) in cc);
     }

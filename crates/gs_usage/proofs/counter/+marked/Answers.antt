@@ -1,0 +1,11 @@
+use Rattle.std.proofs.Common.{◌∙◌, ap, sym, ℕ, List, max, min}
+use Rattle.std.specs.Int.{bit_at}
+use Rattle.gs_usage.specs.Counting.{counted}
+use Rattle.gs_usage.proofs.Counting.{marked_digit}
+use Rattle.gs_usage.proofs.counter.+marked.Goals as goal
+
+pub returns-in-Some : goal.returns-in-Some
+returns-in-Some t c = λ i.
+    c.marked.ensures i
+    ∙ (marked_digit c.in-Some.word.now c.args.others i (counted c.in-Some.rest.now i)
+    ∙ sym (ap (λ (ws : List ℕ). max (bit_at c.args.others i) (min 1 (counted ws i))) c.in-Some.ensures.cases.0))

@@ -1,0 +1,181 @@
+//! Counts of many places at once.
+
+ghost use Rattle.std.specs.Prelude.{◌≡◌, ◌<◌, ◌≤◌, ◌+◌, ◌*◌, ◌^◌, ◌/◌, ◌%◌, ℕ, IfOk, length, max, min, nat_lt};
+ghost use Rattle.gs_status.specs.Masks.{has};
+ghost use Rattle.std.specs.Int.{bit_at};
+ghost use Rattle.gs_usage.specs.Counting.{counted};
+ghost use Rattle.gs_status.specs.declared.mask.TheConstants.{MOST_CPUS};
+
+use gs_status::MOST_CPUS;
+use std::alloc::{AllocError, Global};
+
+/// Returns the places of a set whose count has a one as its lowest digit, if each has this one.
+fn digit_of(set: u128, times: usize) -> u128
+    ensures { (i : ℕ) → bit_at result i ≡ times % 2 * bit_at set i }
+{
+    if times % 2 == 1 { set } else { 0 }
+}
+
+/// Adds to counts those that are carried from the digits before.
+fn carry(words: &mut [u128], carried: u128)
+    requires { (i : ℕ) → i < MOST_CPUS → counted words.old i + bit_at carried i < 2 ^ length words.old }
+    ensures counts { (i : ℕ) → i < MOST_CPUS → counted words.new i ≡ counted words.old i + bit_at carried i }
+    ensures count { length words.new ≡ length words.old }
+{
+    if carried == 0 {
+        return;
+    }
+    if let Some((word, others)) = words.split_first_mut() {
+        let old = *word;
+        *word = old ^ carried;
+        carry(others, old & carried);
+    }
+}
+
+/// Adds to counts the places of a set, so many times each, and once those that are carried from the digits before.
+fn add(words: &mut [u128], set: u128, times: usize, carried: u128)
+    requires { (i : ℕ) → i < MOST_CPUS → counted words.old i + times * bit_at set i + bit_at carried i < 2 ^ length words.old }
+    ensures counts { (i : ℕ) → i < MOST_CPUS → counted words.new i ≡ counted words.old i + times * bit_at set i + bit_at carried i }
+    ensures count { length words.new ≡ length words.old }
+{
+    if times == 0 {
+        return carry(words, carried);
+    }
+    if let Some((word, others)) = words.split_first_mut() {
+        let old = *word;
+        let digit = digit_of(set, times);
+        *word = old ^ digit ^ carried;
+        add(
+            others,
+            set,
+            times / 2,
+            old & digit | carried & (old ^ digit),
+        );
+    }
+}
+
+/// Takes one from the count of each place of a set.
+fn take(words: &mut [u128], set: u128)
+    requires { (i : ℕ) → i < MOST_CPUS → bit_at set i ≤ counted words.old i }
+    ensures counts { (i : ℕ) → i < MOST_CPUS → counted words.new i + bit_at set i ≡ counted words.old i }
+    ensures count { length words.new ≡ length words.old }
+{
+    if set == 0 {
+        return;
+    }
+    if let Some((word, others)) = words.split_first_mut() {
+        let old = *word;
+        *word = old ^ set;
+        take(others, set & (old ^ set));
+    }
+}
+
+/// Returns the set of the places that are in another or whose count is not 0.
+fn marked(words: &[u128], others: u128) -> u128
+    ensures { (i : ℕ) → bit_at result i ≡ max (bit_at others i) (min 1 (counted words.now i)) }
+{
+    match words.split_first() {
+        Some((word, rest)) => marked(rest, others | *word),
+        None => others,
+    }
+}
+
+/// Returns the count of a place.
+fn count(words: &[u128], place: u16) -> usize
+    requires place { place < MOST_CPUS }
+    requires fits { counted words.now place ≤ usize.MAX }
+    ensures { result ≡ counted words.now place }
+{
+    match words.split_first() {
+        Some((word, rest)) => (*word >> place & 1) as usize + 2 * count(rest, place),
+        None => 0,
+    }
+}
+
+/// Makes all counts 0.
+fn clear(words: &mut [u128])
+    ensures counts { (i : ℕ) → counted words.new i ≡ 0 }
+    ensures count { length words.new ≡ length words.old }
+{
+    if let Some((word, others)) = words.split_first_mut() {
+        *word = 0;
+        clear(others);
+    }
+}
+
+/// Makes the words of counts that are all 0 and may go up to a number.
+fn words_for(alloc: Global, most: usize) -> Result<Vec<u128>, AllocError>
+    ensures counts { IfOk result (λ words. (i : ℕ) → counted words.items i ≡ 0) }
+    ensures room { IfOk result (λ words. most < 2 ^ length words.items) }
+{
+    let mut words = Vec::new(alloc);
+    let mut left = most;
+    while left > 0 {
+        words.push(0)?;
+        left /= 2;
+    }
+    Ok(words)
+}
+
+/// Counts of the CPUs of a block. Word k has digit k of each count.
+#[derive(Drop)]
+pub(crate) struct Counter {
+    words: Vec<u128>,
+}
+
+impl Counter {
+    /// Makes counts that are all 0 and may go up to a number.
+    ///
+    /// # Errors
+    ///
+    /// `AllocError` if out of memory.
+    pub(crate) fn new(alloc: Global, most: usize) -> Result<Counter, AllocError>
+        ensures counts { IfOk result (λ counter. (i : ℕ) → counted counter.words.items i ≡ 0) }
+        ensures room { IfOk result (λ counter. most < 2 ^ length counter.words.items) }
+    {
+        let words = words_for(alloc, most)?;
+        Ok(Counter { words })
+    }
+
+    /// Adds so many to the count of each CPU of a set.
+    pub(crate) fn add(&mut self, set: u128, times: usize)
+        requires { (i : ℕ) → i < MOST_CPUS → counted self.old.words.items i + times * bit_at set i < 2 ^ length self.old.words.items }
+        ensures counts { (i : ℕ) → i < MOST_CPUS → counted self.new.words.items i ≡ counted self.old.words.items i + times * bit_at set i }
+        ensures room { length self.new.words.items ≡ length self.old.words.items }
+    {
+        add(self.words.as_mut_slice(), set, times, 0);
+    }
+
+    /// Takes one from the count of each CPU of a set. No such count is 0.
+    pub(crate) fn take(&mut self, set: u128)
+        requires { (i : ℕ) → i < MOST_CPUS → bit_at set i ≤ counted self.old.words.items i }
+        ensures counts { (i : ℕ) → i < MOST_CPUS → counted self.new.words.items i + bit_at set i ≡ counted self.old.words.items i }
+        ensures room { length self.new.words.items ≡ length self.old.words.items }
+    {
+        take(self.words.as_mut_slice(), set);
+    }
+
+    /// Makes all counts 0.
+    pub(crate) fn clear(&mut self)
+        ensures counts { (i : ℕ) → counted self.new.words.items i ≡ 0 }
+        ensures room { length self.new.words.items ≡ length self.old.words.items }
+    {
+        clear(self.words.as_mut_slice());
+    }
+
+    /// Returns the set of the CPUs whose count is not 0.
+    pub(crate) fn marked(&self) -> u128
+        ensures { (i : ℕ) → has result i ≡ nat_lt 0 (counted self.now.words.items i) }
+    {
+        marked(&self.words, 0)
+    }
+
+    /// Returns the count of a CPU.
+    pub(crate) fn count(&self, place: u16) -> usize
+        requires place { place < MOST_CPUS }
+        requires fits { counted self.now.words.items place ≤ usize.MAX }
+        ensures { result ≡ counted self.now.words.items place }
+    {
+        count(&self.words, place)
+    }
+}
