@@ -1,0 +1,6 @@
+mod Feeding
+mod Kept
+mod Coming
+mod Leading
+mod Pieces
+mod SoFar

@@ -1,0 +1,83 @@
+ghost use Rattle.std.specs.Prelude.{◌≡◌, [], OnErr, OnOk};
+ghost use Rattle.gs_session.specs.Session.{unheard};
+ghost use Rattle.gs_serve.specs.Served.{BeginsServing, IsServed};
+
+use crate::answering::answer;
+use crate::fault::ServeFault;
+use crate::prompt::Prompt;
+use crate::source::{Came, Source};
+use gs_session::Session;
+use std::alloc::Global;
+use std::io::{Read, Write};
+
+/// Answers the lines that a source gives, each before the reader is asked for more. A line is kept in the place of the one before.
+fn serve_from<P: Prompt, R: Read, W: Write>(
+    alloc: Global,
+    prompt: &P,
+    session: &mut Session,
+    source: &mut Source,
+    line: &mut Vec<u8>,
+    reader: &mut R,
+    writer: &mut W,
+) -> Result<(), ServeFault>
+    requires unheard { session.old ≡ unheard }
+    requires unread { source.old ≡ [] }
+    ensures served { OnOk result (IsServed (R.remaining reader.old) (R.remaining reader.new) (W.contents writer.old) (W.contents writer.new)) }
+    ensures begun { OnErr result (BeginsServing (R.remaining reader.old) (W.contents writer.old) (W.contents writer.new)) }
+{
+    for _round in 0..usize::MAX {
+        match source.next(prompt, reader, line)? {
+            Came::Nothing => return Ok(()),
+            Came::Last => return answer(alloc, session, line, writer),
+            Came::Line => answer(alloc, session, line, writer)?,
+        }
+    }
+    Err(ServeFault::ReadFailed)
+}
+
+/// Answers the lines that a reader gives, each before the reader is asked for more: the prompt comes before each read. The answer to a line is the lines of
+/// its reply, or that of its fault, and an empty line; then the writer is flushed. A line with a fault changes nothing,
+/// and the next one is heard.
+///
+/// A line is kept up to one byte more than a script may have, and with more it has the fault `TooLong`. What stands
+/// behind the last newline is a line too, unless it is empty. No more is kept of what was read, so that memory grows
+/// by the machine's alone.
+///
+/// # Errors
+///
+/// `ReadFailed` if a read fails, and after 2^64 - 1 lines. `OutOfMemory` if out of memory, also if the reply to an
+/// event tells of that. `WriteFailed` if a write fails or takes no byte, and `ReaderGone` if that is so because nobody
+/// reads what is written. See [`ServeFault`] for what was written then.
+///
+/// # Examples
+///
+/// What the program does with standard input, where `Asking` writes a prompt if a terminal is to give lines:
+///
+/// ```
+/// Task::Serve => match serve(alloc, &Asking { rt, is_terminal }, reader, writer) {
+///     Ok(()) => Ok(Ended::Ran),
+///     Err(fault) => Err(Failure::Serve(fault)),
+/// },
+/// ```
+pub fn serve<P: Prompt, R: Read, W: Write>(
+    alloc: Global,
+    prompt: &P,
+    reader: &mut R,
+    writer: &mut W,
+) -> Result<(), ServeFault>
+    ensures served { OnOk result (IsServed (R.remaining reader.old) (R.remaining reader.new) (W.contents writer.old) (W.contents writer.new)) }
+    ensures begun { OnErr result (BeginsServing (R.remaining reader.old) (W.contents writer.old) (W.contents writer.new)) }
+{
+    let mut session = Session::new(alloc);
+    let mut source = Source::new();
+    let mut line = Vec::new(alloc);
+    serve_from(
+        alloc,
+        prompt,
+        &mut session,
+        &mut source,
+        &mut line,
+        reader,
+        writer,
+    )
+}

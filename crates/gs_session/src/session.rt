@@ -1,0 +1,103 @@
+ghost use Rattle.std.specs.Prelude.{◌≡◌, IfOk, OnErr};
+ghost use Rattle.std.specs.Option.{option_map};
+ghost use denote.Ref.{Bor};
+ghost use Rattle.gs_core.specs.Machine.{StateOf};
+ghost use Rattle.gs_policy.specs.declared.any.AnyPolicy.{AnyPolicy as Policies};
+ghost use Rattle.gs_session.specs.Session.{Hears, HearsHeader, read_within, unheard};
+ghost use Rattle.gs_script.specs.Header.{header_of};
+
+use crate::heard::Heard;
+use crate::hearing::{hear_event, hear_header};
+use gs_core::{Event, Machine};
+use gs_policy::AnyPolicy;
+use std::alloc::{AllocError, Global};
+use std::marker::Model;
+
+/// A script that is run line by line, as its lines come. The first line that says anything opens the enclave, and each
+/// one behind it is an event. Clauses see how many lines were heard, and the machine, if one was opened.
+///
+/// A line with a fault changes nothing but the count of lines, so that the next line may follow. What the lines without
+/// a fault come to is what they come to as a script: see [`crate::heard_is_run`].
+#[derive(Drop)]
+pub struct Session {
+    alloc: Global,
+    lines: usize,
+    machine: Option<Machine<AnyPolicy>>,
+    /// The event of a line. Its room is there for the next one.
+    events: Vec<Event<AnyPolicy>>,
+}
+
+impl Model for Session {
+    ghost use Rattle.gs_session.specs.Session.{Session as Held};
+
+    ghost Value = { Held };
+
+    ghost view = { λ s. record { count = s.lines; opened = s.machine } };
+}
+
+impl Session {
+    /// Makes a session that heard no line. It does not allocate.
+    pub fn new(alloc: Global) -> Session
+        ensures { result ≡ unheard }
+    {
+        Session {
+            alloc,
+            lines: 0,
+            machine: None,
+            events: Vec::new(alloc),
+        }
+    }
+
+    /// Hears a line, without its newline. Returns what it said.
+    ///
+    /// Until a header is heard, the line is read as one that stands in the header's place. A line of more bytes than a
+    /// script may have, [`gs_script::MOST_BYTES`], has the fault `TooLong`.
+    ///
+    /// # Errors
+    ///
+    /// `AllocError` if out of memory, also if the reply to an event tells of that. Then the line isn't counted, but its
+    /// event may have happened. After 2^64 - 1 lines no more is heard, with this error too.
+    ///
+    /// # Examples
+    ///
+    /// A line is answered:
+    ///
+    /// ```
+    /// let heard = session.hear(line)?;
+    /// let text = answer_text(alloc, &heard)?;
+    /// write_through(writer, text.as_bytes())
+    /// ```
+    pub fn hear(&mut self, line: &[u8]) -> Result<Heard, AllocError>
+        ensures heard { IfOk result (λ h. Hears self.old line.now h self.new) }
+        ensures uncounted { OnErr result (self.new.count ≡ self.old.count) }
+    {
+        let Some(number) = self.lines.checked_add(1) else {
+            return Err(AllocError);
+        };
+        let heard = match &mut self.machine {
+            Some(machine) => hear_event(self.alloc, number, line, machine, &mut self.events)?,
+            None => self.hear_first(number, line)?,
+        };
+        self.lines = number;
+        Ok(heard)
+    }
+
+    /// Hears the line of a number before the header, and keeps the machine that it opens. A machine is large, and in the
+    /// function of each later line the room for one would be cleared.
+    #[inline(never)]
+    fn hear_first(&mut self, number: usize, line: &[u8]) -> Result<Heard, AllocError>
+        ensures heard { IfOk result (λ h. HearsHeader number (read_within header_of line.now) h self.new.opened) }
+        ensures count { self.new.count ≡ self.old.count }
+    {
+        let (heard, machine) = hear_header(self.alloc, number, line)?;
+        self.machine = machine;
+        Ok(heard)
+    }
+
+    /// Lends the machine, if a header was heard.
+    pub fn machine(&self) -> Option<&Machine<AnyPolicy>>
+        ensures { option_map (λ (m : Bor (StateOf Policies)). m.now) result ≡ self.now.opened }
+    {
+        self.machine.as_ref()
+    }
+}
