@@ -1,0 +1,31 @@
+use Rattle.std.proofs.Common.{rules, refl, subst, ap, ◌∙◌, ◌≡◌, List, ℕ, [], ◌∷◌, ◌++◌}
+use Rattle.gs_session.specs.Session.{Hears}
+use Rattle.gs_simulate.specs.Lines.{line_text}
+use Rattle.gs_simulate.proofs.Heard.{heard_if, one_heard, same_line}
+use Rattle.gs_simulate.proofs.log.Log.add.Goals as goal
+
+the_line : (c : goal.After-self-2-1) → Hears c.self.inside.session (line_text c.args.line.now) c.in_ok-heard.heard c.hear_line.new.session
+the_line c =
+    let same =
+    same_line c.self.inside.text (line_text c.args.line.now) c.write_line.new.text c.end_line.new.self c.as_bytes-start.result.now c.as_bytes-end.result.now c.as_bytes.result.now
+    c.as_bytes-start.ensures c.in_ok-write_line.ensures c.as_bytes-end.ensures c.in_ok-end_line.ensures c.as_bytes.ensures in
+    subst (λ (xs : List ℕ). Hears c.self.inside.session xs c.in_ok-heard.heard c.hear_line.new.session) same c.in_ok-heard.ensures.hears
+
+the_text : (c : goal.After-self-2-1) → c.end_line.new.self ≡ c.self.inside.text ++ line_text c.args.line.now ++ 10 ∷ []
+the_text c = c.in_ok-end_line.ensures ∙ ap (λ (xs : List ℕ). xs ++ 10 ∷ []) c.in_ok-write_line.ensures
+
+pub invariant_of-self-2 : goal.invariant_of-self-2
+invariant_of-self-2 c =
+    let before = heard_if c.self.inside.whole c.self.inside.text c.self.inside.session c.self.invariant (search rules) in
+    one_heard c.self.inside.text (line_text c.args.line.now) c.end_line.new.self c.self.inside.session c.hear_line.new.session c.in_ok-heard.heard before (the_text c) (the_line c) c.in_ok-heard.ensures.faultless
+
+pub returns : goal.returns
+returns c =
+    let text = the_text c in
+    let hears = the_line c in
+    record {
+      text = search rules;
+      hears = search rules;
+      faultless = c.in_ok-heard.ensures.faultless;
+      whole = refl;
+    }

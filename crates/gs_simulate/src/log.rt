@@ -1,0 +1,126 @@
+//! The script that is written, and the session that heard it.
+
+ghost use Rattle.std.specs.Prelude.{◌≡◌, [], true, IfOk};
+ghost use Rattle.std.specs.Option.{option_map};
+ghost use denote.Ref.{Bor};
+ghost use Rattle.gs_core.specs.Machine.{StateOf};
+ghost use Rattle.gs_policy.specs.declared.any.AnyPolicy.{AnyPolicy as Policies};
+ghost use Rattle.gs_session.specs.Session.{Hears, unheard};
+ghost use Rattle.gs_simulate.specs.Heard.{AddsLine, IsHeard, IsWithoutFault, fault_of};
+ghost use Rattle.gs_simulate.specs.Lines.{line_text};
+
+use crate::fault::SimulateFault;
+use crate::line::{Line, write_line};
+use gs_core::Machine;
+use gs_lines::Text;
+use gs_policy::AnyPolicy;
+use gs_script::ScriptFault;
+use gs_session::{Heard, Session};
+use std::alloc::Global;
+use std::marker::Model;
+
+/// The text of a script, and the session that heard its lines. While it is whole, the session heard just these lines, none
+/// of them with a fault.
+#[derive(Drop)]
+pub(crate) struct Log {
+    session: Session,
+    text: Text,
+    /// Whether the session heard all of the text. It did not if memory ran out at a line: no more is added then.
+    whole: bool,
+}
+
+impl Model for Log {
+    ghost use Rattle.gs_simulate.specs.Heard.{Written, IsHeardIf};
+
+    ghost Value = { Written };
+
+    ghost view = { λ l. record { text = l.text; session = l.session; whole = l.whole } };
+
+    ghost invariant = { λ l. IsHeardIf l.whole l.text l.session };
+}
+
+/// Returns the fault that was heard, if one was.
+fn fault_in(heard: &Heard) -> Option<ScriptFault>
+    ensures { result ≡ fault_of heard.now }
+{
+    match heard {
+        Heard::Fault(fault) => Some(*fault),
+        Heard::Nothing | Heard::Opened | Heard::Stepped(_) => None,
+    }
+}
+
+/// Lets a session hear a line, which may not have a fault.
+fn hear_line(session: &mut Session, line: &[u8]) -> Result<Heard, SimulateFault>
+    ensures hears { IfOk result (λ h. Hears session.old line.now h session.new) }
+    ensures faultless { IfOk result IsWithoutFault }
+{
+    let heard = session.hear(line)?;
+    match fault_in(&heard) {
+        Some(fault) => Err(SimulateFault::Unreadable(fault)),
+        None => Ok(heard),
+    }
+}
+
+impl Log {
+    /// Makes an empty script, of which a session heard nothing yet.
+    #[tactic(auto, using(crate::proofs::Heard::none_heard))]
+    pub(crate) fn new(alloc: Global) -> Log
+        ensures { result ≡ record { text = []; session = unheard; whole = true } }
+    {
+        Log {
+            session: Session::new(alloc),
+            text: Text::new(alloc),
+            whole: true,
+        }
+    }
+
+    /// Adds a line, which the session hears. Returns what it said.
+    ///
+    /// # Errors
+    ///
+    /// If out of memory, or if the line has a fault. No line can be added behind one that failed.
+    pub(crate) fn add(&mut self, line: &Line) -> Result<Heard, SimulateFault>
+        ensures { IfOk result (λ h. AddsLine self.old (line_text line.now) h self.new) }
+    {
+        if !self.whole {
+            return Err(SimulateFault::OutOfMemory);
+        }
+        self.whole = false;
+        let start = self.text.as_bytes().len();
+        write_line(&mut self.text, line)?;
+        let end = self.text.as_bytes().len();
+        self.text.end_line()?;
+        let heard = hear_line(&mut self.session, &self.text.as_bytes()[start..end])?;
+        self.whole = true;
+        Ok(heard)
+    }
+
+    /// Returns whether the session heard all of the text.
+    pub(crate) fn is_whole(&self) -> bool
+        ensures whole { result ≡ self.now.whole }
+        ensures heard { result ≡ true → IsHeard self.now.text self.now.session }
+    {
+        self.whole
+    }
+
+    /// Lends the session.
+    pub(crate) fn session(&self) -> &Session
+        ensures { result.now ≡ self.now.session }
+    {
+        &self.session
+    }
+
+    /// Lends the machine, once the header was heard.
+    pub(crate) fn machine(&self) -> Option<&Machine<AnyPolicy>>
+        ensures { option_map (λ (m : Bor (StateOf Policies)). m.now) result ≡ self.now.session.opened }
+    {
+        self.session.machine()
+    }
+
+    /// Lends the text.
+    pub(crate) fn text(&self) -> &[u8]
+        ensures { result.now ≡ self.now.text }
+    {
+        self.text.as_bytes()
+    }
+}

@@ -1,0 +1,9 @@
+pub mod Entries
+pub mod Fields
+pub mod Keys
+pub mod Machine
+pub mod Read
+pub mod Rows
+pub mod Unknown
+pub mod Values
+pub mod Workload
