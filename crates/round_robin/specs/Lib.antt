@@ -1,4 +1,1 @@
 pub mod RoundRobin
-pub mod Output
-pub mod Streams
-pub mod Status

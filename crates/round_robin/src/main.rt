@@ -2,17 +2,13 @@
 //! standard output.
 #![tactic(auto)]
 
-mod failure;
 mod policy;
-mod run;
 
-ghost use Rattle.std.specs.Prelude.{◌≡◌};
-ghost use Rattle.round_robin.specs.Status.{failure_status, status};
+ghost use Rattle.std.specs.Prelude.{◌≡◌, IfErr, OnOk};
+ghost use Rattle.gs_by_policy.specs.Status.{failure_status};
 
-use crate::failure::Failure;
 use crate::policy::RoundRobin;
-use crate::run::run_script;
-use gs_trace::TraceFault;
+use gs_by_policy::{Failure, run_by};
 use std::process::ExitCode;
 
 /// The policy, with the slices of the two classes in ticks.
@@ -21,31 +17,21 @@ const POLICY: RoundRobin = RoundRobin {
     one_slice: 1,
 };
 
-/// Returns the exit status of a failure.
-fn failure_code(failure: Failure) -> u8
-    ensures { result ≡ failure_status failure }
-{
-    match failure {
-        Failure::Fault(_) => 2,
-        Failure::Trace(TraceFault::ReadFailed | TraceFault::WriteFailed) => 4,
-        Failure::Trace(TraceFault::OutOfMemory) => 5,
-    }
-}
-
 /// Says what went wrong, if something did, and returns the exit status.
 fn conclude(rt: &HostRuntime, done: Result<(), Failure>) -> u8
-    ensures { result ≡ status done }
+    ensures ok { OnOk done (result ≡ 0) }
+    ensures err { IfErr done (λ failure. result ≡ failure_status failure) }
 {
     match done {
         Ok(()) => 0,
         Err(failure) => {
-            let _ = eprint!(rt; "{failure}");
-            failure_code(failure)
+            let _ = eprintln!(rt; "round_robin: {failure}");
+            failure.status()
         }
     }
 }
 
 fn main(rt: HostRuntime) -> ExitCode {
-    let done = run_script(rt.alloc(), &mut rt.stdin(), &mut rt.stdout(), POLICY);
+    let done = run_by(rt.alloc(), &mut rt.stdin(), &mut rt.stdout(), POLICY);
     ExitCode::from(conclude(&rt, done))
 }

@@ -1,0 +1,5 @@
+pub mod Orders
+pub mod Sorts
+pub mod Sums
+pub mod Turns
+pub mod Walks

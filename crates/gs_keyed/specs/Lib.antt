@@ -1,0 +1,4 @@
+pub mod Keyed
+pub mod Order
+pub mod Ordered
+pub mod Ticks

@@ -1,0 +1,2 @@
+pub mod ClassShare
+pub mod HomeFirst
