@@ -1,5 +1,5 @@
-// Linked to a program by .ci/checked: as it begins, it copies its file and the words that it was started with into the folder KEPT.
-// So a program that is built for one run alone can be run again.
+// Linked to a program by ./ghost and .ci/checked: as it begins, it copies its file and the words that it was started with into the
+// folder KEPT. So a program that is built for one run alone can be run again. If there is no such folder, nothing is copied.
 #include <fcntl.h>
 #include <inttypes.h>
 #include <stdint.h>
@@ -24,7 +24,7 @@ static void keep(const char *from, const char *to)
 // The program's file is the one in which this function stands, however it was started. A copy of it keeps nothing.
 __attribute__((constructor)) static void begin(void)
 {
-    if (!access(KEPT "/words", F_OK))
+    if (access(KEPT, F_OK) || !access(KEPT "/words", F_OK))
         return;
     FILE *maps = fopen("/proc/self/maps", "r");
     char line[8192], file[4096];

@@ -11,7 +11,7 @@ use Rattle.gs_trace.specs.declared.run.Ended.{Ended}
 use Rattle.ghost_cli.specs.Asked.{Does, DoesFrom, MayBe, task_asked}
 use Rattle.ghost_cli.specs.Failures.{IsOfTask, IsOfWords, IsToldBy, IsUnopened, SaidOf}
 use Rattle.ghost_cli.specs.declared.asked.Task.{Task}
-use Rattle.ghost_cli.specs.declared.asked.Task.TheVariants.{Script, Workers}
+use Rattle.ghost_cli.specs.declared.asked.Task.TheVariants.{Script, Serve, Simulation, Workers}
 use Rattle.ghost_cli.specs.declared.failure.Failure.{Failure}
 use Rattle.ghost_cli.specs.declared.failure.Failure.TheVariants as failures
 
@@ -31,6 +31,8 @@ may_be (commands.Timeline from to listed) allowed = tt
 may_be (commands.Timehist json) allowed = tt
 may_be (commands.Latency json threads) allowed = tt
 may_be commands.Trace allowed = tt
+may_be commands.Serve allowed = tt
+may_be (commands.Simulate policy ticks seed) allowed = tt
 may_be (commands.Threads workers each journal) (least, few, some, bounded) = record { few = few; bounded = bounded }
 
 -- an error of the arguments tells that nothing was begun
@@ -49,11 +51,21 @@ asked_for words command task file had left before after result given of is does 
 pub of_task : (task : Task) (failure : Failure) → SaidOf task failure → IsOfTask failure
 of_task task (failures.Work fault) said = tt
 of_task task (failures.Script fault) said = tt
+of_task task (failures.Serve fault) said = tt
+of_task task (failures.Workbench fault) said = tt
 of_task task (failures.Unopened file error) said = tt
 of_task (Script w) (failures.Arguments error) said = said
 of_task (Script w) failures.NotText said = said
 of_task (Script w) failures.UnknownWord said = said
 of_task (Script w) (failures.NearWord near) said = said
+of_task Serve (failures.Arguments error) said = said
+of_task Serve failures.NotText said = said
+of_task Serve failures.UnknownWord said = said
+of_task Serve (failures.NearWord near) said = said
+of_task (Simulation how) (failures.Arguments error) said = said
+of_task (Simulation how) failures.NotText said = said
+of_task (Simulation how) failures.UnknownWord said = said
+of_task (Simulation how) (failures.NearWord near) said = said
 of_task (Workers work shown) (failures.Arguments error) said = said
 of_task (Workers work shown) failures.NotText said = said
 of_task (Workers work shown) failures.UnknownWord said = said
@@ -66,6 +78,8 @@ none_at_fault task had left before after (Err failure) does = of_task task failu
 unopened_of_task : (failure : Failure) → IsUnopened failure → IsOfTask failure
 unopened_of_task (failures.Unopened file error) is = tt
 unopened_of_task (failures.Script fault) is = tt
+unopened_of_task (failures.Serve fault) is = tt
+unopened_of_task (failures.Workbench fault) is = tt
 unopened_of_task (failures.Work fault) is = tt
 unopened_of_task (failures.Arguments error) is = is
 unopened_of_task failures.NotText is = is

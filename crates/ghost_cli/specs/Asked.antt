@@ -12,6 +12,7 @@ use Rattle.gs_arguments.specs.declared.arguments.Command.{Command}
 use Rattle.gs_arguments.specs.declared.arguments.Command.TheVariants as commands
 use Rattle.gs_arguments.specs.declared.arguments.Listed.{Listed as ListedArgument}
 use Rattle.gs_arguments.specs.declared.arguments.Listed.TheVariants as lists
+use Rattle.gs_serve.specs.Served.{BeginsServing, IsServed}
 use Rattle.gs_timeline.specs.declared.notes.Listed.{Listed}
 use Rattle.gs_timeline.specs.declared.notes.Listed.TheVariants as listed
 use Rattle.gs_trace.specs.Output.{IsShown, shown_as}
@@ -23,6 +24,11 @@ use Rattle.gs_trace.specs.declared.pipe.TheConstants.{MOST_READ_BYTES}
 use Rattle.gs_trace.specs.declared.run.Ended.{Ended}
 use Rattle.gs_trace.specs.declared.run.Ended.TheVariants.{Ran}
 use Rattle.gs_trace.specs.declared.run.TraceFault.TheVariants.{OutOfMemory, WriteFailed}
+use Rattle.gs_policy.specs.declared.any.AnyPolicy.{AnyPolicy}
+use Rattle.gs_policy.specs.declared.any.AnyPolicy.TheVariants as policies
+use Rattle.gs_arguments.specs.declared.arguments.PolicyAsked.{PolicyAsked}
+use Rattle.gs_arguments.specs.declared.arguments.PolicyAsked.TheVariants as asks
+use Rattle.gs_workbench.specs.Written.{BeginsScript, WritesScript}
 use Rattle.gs_workers.specs.Work.{IsAllowed}
 use Rattle.gs_workers.specs.Written.{BeginsText, IsText}
 use Rattle.gs_workers.specs.declared.text.Shown.{Shown}
@@ -34,7 +40,7 @@ use Rattle.gs_explain.specs.declared.run.Explanation.TheVariants as explanations
 use Rattle.gs_tables.specs.Tables.{IsTable}
 use Rattle.gs_tables.specs.declared.run.Table.TheVariants as tables
 use Rattle.ghost_cli.specs.declared.asked.Task.{Task}
-use Rattle.ghost_cli.specs.declared.asked.Task.TheVariants.{Script, Workers}
+use Rattle.ghost_cli.specs.declared.asked.Task.TheVariants.{Script, Serve, Simulation, Workers}
 use Rattle.ghost_cli.specs.declared.asked.Wanted.{Wanted}
 use Rattle.ghost_cli.specs.declared.asked.Wanted.TheVariants as wanted
 use Rattle.ghost_cli.specs.declared.failure.Failure.{Failure}
@@ -67,6 +73,12 @@ abbrev pub notation_asked : Bool → Notation
 notation_asked true = notations.Json
 notation_asked false = notations.Lines
 
+-- the policy that a simulation is to have, unless it is that of the workload
+abbrev pub policy_asked : PolicyAsked → Option AnyPolicy
+policy_asked asks.Own = None
+policy_asked asks.First = Some (policies.FirstCome (record {}))
+policy_asked (asks.Two slice) = Some (policies.TwoClass (record { slice = slice }))
+
 -- what a command asks for
 abbrev pub task_asked : Command → Task
 task_asked commands.Run = Script (wanted.Shown Lines)
@@ -78,6 +90,8 @@ task_asked (commands.Timeline from to l) = Script (wanted.Shown (Timeline from t
 task_asked (commands.Timehist json) = Script (wanted.Tabled (tables.Timehist (notation_asked json)))
 task_asked (commands.Latency json threads) = Script (wanted.Tabled (tables.Latency (notation_asked json) threads))
 task_asked commands.Trace = Script (wanted.Shown Trace)
+task_asked commands.Serve = Serve
+task_asked (commands.Simulate policy ticks seed) = Simulation (record { policy = policy_asked policy; ticks = ticks; seed = seed })
 task_asked (commands.Threads workers each journal) = Workers (record { workers = workers; each = each }) (shown_asked journal)
 
 -- what is to be written for a script, and how that ends
@@ -89,29 +103,45 @@ Answers (wanted.Tabled table) = IsTable table
 -- there are as many workers and creations as there may be
 abbrev pub MayBe : Task → Type 0
 MayBe (Script w) = ⊤
+MayBe Serve = ⊤
+MayBe (Simulation how) = ⊤
 MayBe (Workers work shown) = IsAllowed work
 
--- a task ended so. Of a script it is written what came of all that the reader has, and of what was read. Of workers a run that settled is
--- shown, and nothing is read
+-- a task ended so. Of a script it is written what came of all that the reader has, and of what was read. Of lines all are answered. Of a
+-- workload the script of its simulation is written. Of workers a run that settled is shown, and nothing is read
 abbrev pub IsDone : Task → Ended → Option (List ℕ) → Option (List ℕ) → Option (List ℕ) → Option (List ℕ) → Type 0
 IsDone (Script w) ended had left before after = AnswersAll (Answers w) ended had before after × AnswersRead (Answers w) ended had left before after
+IsDone Serve ended had left before after = (ended ≡ Ran) × IsServed had left before after
+IsDone (Simulation how) ended had left before after = (ended ≡ Ran) × WritesScript had left before after
 IsDone (Workers work shown) ended had left before after = (ended ≡ Ran) × Keeps had left × ((out : List ℕ) × IsText work shown out × Appends before after out)
 
 -- of what a task asks for a beginning was written, short of the whole
 abbrev pub IsBegun : Task → Option (List ℕ) → Option (List ℕ) → Option (List ℕ) → Type 0
 IsBegun (Script w) had before after = BeginsAnswer (Answers w) had before after
+IsBegun Serve had before after = BeginsServing had before after
+IsBegun (Simulation how) had before after = (left : Option (List ℕ)) × BeginsScript had left before after
 IsBegun (Workers work shown) had before after = BeginsText work shown before after
 
--- what comes of a task, of what a reader has, and of what a writer holds. An error but that of a write leaves the writer as it was, and
--- that one leaves a beginning
+-- no more is read than a script may have, and a bit. Of lines that are answered there may be any number
+abbrev pub IsBounded : Task → Option (List ℕ) → Option (List ℕ) → Type 0
+IsBounded Serve had left = ⊤
+IsBounded _ had left = ConsumesAtMost MOST_READ_BYTES had left
+
+-- no answer was begun: nothing was written, but answers to lines before
+abbrev pub IsUnbegun : Task → Option (List ℕ) → Option (List ℕ) → Option (List ℕ) → Type 0
+IsUnbegun Serve had before after = BeginsServing had before after
+IsUnbegun _ had before after = Keeps before after
+
+-- what comes of a task, of what a reader has, and of what a writer holds. An error but that of a write leaves the writer as it was, but
+-- for answers to lines, and that one leaves a beginning
 pub record Does (task : Task) (had left before after : Option (List ℕ)) (result : Result Ended Failure) : Type 0 where
   pub ended : IfOk result (λ ended. IsDone task ended had left before after)
-  pub bounded : ConsumesAtMost MOST_READ_BYTES had left
-  pub unwritten : IfErr result (λ failure. (IsOfWriting failure → ⊥) → Keeps before after)
+  pub bounded : IsBounded task had left
+  pub unwritten : IfErr result (λ failure. (IsOfWriting failure → ⊥) → IsUnbegun task had before after)
   pub begun : IfErr result (λ failure. IsOfWriting failure → IsBegun task had before after)
   pub said : IfErr result (SaidOf task)
 
--- what comes of a task whose script a file has: it is done with what the file has, of which nothing is said here, or the file cannot be
+-- what comes of a task whose script a file has. It is done with what the file has, of which nothing is said here. Or the file cannot be
 -- opened, and nothing is written
 abbrev pub DoesInFile : Task → Option (List ℕ) → Option (List ℕ) → Result Ended Failure → Type 0
 DoesInFile task before after result = ((had left : Option (List ℕ)) × Does task had left before after result) ⊎ (IsErrAnd result IsUnopened × Keeps before after)
@@ -123,7 +153,7 @@ DoesFrom (Some file) task had left before after result = Keeps had left × DoesI
 
 -- whether a word is a command of the program
 abbrev pub is_command : Text → Bool
-is_command word = list_any (bytes_eq word) (codes "run" ∷ codes "explain" ∷ codes "report" ∷ codes "journal" ∷ codes "timeline" ∷ codes "timehist" ∷ codes "latency" ∷ codes "trace" ∷ codes "threads" ∷ codes "help" ∷ [])
+is_command word = list_any (bytes_eq word) (codes "run" ∷ codes "explain" ∷ codes "report" ∷ codes "journal" ∷ codes "timeline" ∷ codes "timehist" ∷ codes "latency" ∷ codes "trace" ∷ codes "serve" ∷ codes "simulate" ∷ codes "threads" ∷ codes "help" ∷ [])
 
 abbrev pub is_option : Text → Bool
 is_option word = get_or word 0 0 == 45
@@ -146,7 +176,7 @@ abbrev pub Helps : Option (List ℕ) → Option (List ℕ) → Result Ended Fail
 Helps before after (Ok ended) = (ended ≡ Ran) × ((text : List ℕ) × Appends before after text)
 Helps before after (Err failure) = Unhelps before after failure
 
--- what comes of the words of a command line: what their command asks for is done, or nothing is read and written and they are told what
+-- what comes of the words of a command line. What their command asks for is done. Or nothing is read and written, and they are told what
 -- is wrong, or out of memory. Words that have a fault are told one, and others that give a command are not
 pub record ObeysCommand (words : List Text) (had left before after : Option (List ℕ)) (result : Result Ended Failure) : Type 0 where
   pub done : IsSomeAnd (command_in words) (λ command. DoesFrom (file_in words) (task_asked command) had left before after result)

@@ -6,13 +6,15 @@ use Rattle.clap.specs.Values.{kind_of}
 use Rattle.clap.specs.Kinds.{IsAmong, Kinds}
 use Rattle.clap.specs.declared.error.Error.{Error}
 use Rattle.clap.specs.declared.error.kind.ErrorKind.TheVariants as kinds
+use Rattle.gs_serve.specs.Served.{IsOfWriting as IsOfServing}
 use Rattle.gs_trace.specs.declared.run.TraceFault.TheVariants.{OutOfMemory, WriteFailed}
+use Rattle.gs_workbench.specs.Written.{IsOfWriting as IsOfWriting-Workbench}
 use Rattle.gs_workers.specs.Written.{WhyUntold}
 use Rattle.gs_workers.specs.declared.fault.WorkFault.TheVariants as works
 use Rattle.ghost_cli.specs.declared.asked.Task.{Task}
 use Rattle.ghost_cli.specs.declared.asked.Task.TheVariants as tasks
 use Rattle.ghost_cli.specs.declared.failure.Failure.{Failure}
-use Rattle.ghost_cli.specs.declared.failure.Failure.TheVariants.{Arguments, NearWord, NotText, Script, UnknownWord, Unopened, Work}
+use Rattle.ghost_cli.specs.declared.failure.Failure.TheVariants.{Arguments, NearWord, NotText, Script, Serve, UnknownWord, Unopened, Work, Workbench}
 
 -- reading the arguments failed with this kind of error: out of memory, or they are not text
 abbrev pub IsUnreadBy : ErrorKind → Failure → Type 0
@@ -30,6 +32,8 @@ TellsOneOf kinds UnknownWord = ⊥
 TellsOneOf kinds (NearWord near) = ⊥
 TellsOneOf kinds (Unopened file error) = ⊥
 TellsOneOf kinds (Script fault) = fault ≡ OutOfMemory
+TellsOneOf kinds (Serve fault) = ⊥
+TellsOneOf kinds (Workbench fault) = ⊥
 TellsOneOf kinds (Work fault) = ⊥
 
 -- nothing was begun: the words are told what is wrong with them, the help or the version, or out of memory
@@ -40,6 +44,8 @@ IsOfWords UnknownWord = ⊥
 IsOfWords (NearWord near) = ⊥
 IsOfWords (Unopened file error) = ⊥
 IsOfWords (Script fault) = fault ≡ OutOfMemory
+IsOfWords (Serve fault) = ⊥
+IsOfWords (Workbench fault) = ⊥
 IsOfWords (Work fault) = ⊥
 
 -- the arguments are not at fault
@@ -50,6 +56,8 @@ IsOfTask UnknownWord = ⊥
 IsOfTask (NearWord near) = ⊥
 IsOfTask (Unopened file error) = ⊤
 IsOfTask (Script fault) = ⊤
+IsOfTask (Serve fault) = ⊤
+IsOfTask (Workbench fault) = ⊤
 IsOfTask (Work fault) = ⊤
 
 -- the file that is to have the script cannot be opened, or out of memory
@@ -68,11 +76,15 @@ IsUnknown _ = ⊥
 -- a write failed
 abbrev pub IsOfWriting : Failure → Type 0
 IsOfWriting (Script fault) = fault ≡ WriteFailed
+IsOfWriting (Serve fault) = IsOfServing fault
+IsOfWriting (Workbench fault) = IsOfWriting-Workbench fault
 IsOfWriting (Work fault) = fault ≡ works.WriteFailed
 IsOfWriting _ = ⊥
 
 -- what may be said of a task: of workers, that their agent did not settle only if a run of theirs ended so
 abbrev pub SaidOf : Task → Failure → Type 0
 SaidOf (tasks.Script wanted) (Script fault) = ⊤
+SaidOf tasks.Serve (Serve fault) = ⊤
+SaidOf (tasks.Simulation how) (Workbench fault) = ⊤
 SaidOf (tasks.Workers work shown) (Work fault) = WhyUntold work fault
 SaidOf _ _ = ⊥

@@ -3,20 +3,23 @@ ghost use Rattle.std.specs.IoError.{error_kind};
 ghost use Rattle.std.specs.Io.KnownBytes.{Keeps};
 ghost use Rattle.std.specs.Vec.Iter.{into_iter_items};
 ghost use Rattle.clap.specs.Faults.{fault_of};
-ghost use Rattle.gs_arguments.specs.Arguments.{AsksAllowed, command_in, file_in, ghost_program};
+ghost use Rattle.gs_arguments.specs.Arguments.{AsksAllowed, IsAllowedPolicy, command_in, file_in, ghost_program};
 ghost use Rattle.gs_arguments.specs.declared.arguments.Command.{Command};
 ghost use Rattle.gs_trace.specs.Streams.{AnswersAll, AnswersOf, BeginsAnswer, ConsumesAtMost};
 ghost use Rattle.gs_trace.specs.declared.pipe.TheConstants.{MOST_READ_BYTES};
-ghost use Rattle.ghost_cli.specs.Asked.{Answers, Does, DoesFrom, DoesInFile, MayBe, Obeys, ObeysCommand, explanation_asked, listed_asked, notation_asked, shown_asked, task_asked, texts};
+ghost use Rattle.ghost_cli.specs.Asked.{Answers, Does, DoesFrom, DoesInFile, MayBe, Obeys, ObeysCommand, explanation_asked, listed_asked, notation_asked, policy_asked, shown_asked, task_asked, texts};
 ghost use Rattle.ghost_cli.specs.Failures.{IsOfTask, IsOfWords, IsUnreadBy, TellsOneOf};
 
 use crate::failure::{Failure, unopened, unread, unsettled};
 use crate::helping::{help_word, show_help};
-use crate::telling::{await_script, tell_fault};
-use gs_arguments::{Asked, Command, settings};
+use crate::telling::{Asking, await_input, tell_fault};
+use gs_arguments::{Asked, Command, PolicyAsked, settings};
 use gs_explain::{Explanation, explain_script};
+use gs_policy::{AnyPolicy, FirstCome, TwoClass};
+use gs_serve::serve;
 use gs_tables::{Table, write_table};
 use gs_trace::{Ended, Form, Kept, Listed, Notation, TraceFault, run_and_keep};
+use gs_workbench::simulate_workload;
 use gs_workers::{Shown, Work, run_workers};
 use std::alloc::{AllocError, Global};
 use std::env::Args;
@@ -42,6 +45,10 @@ pub(crate) enum Wanted {
 pub(crate) enum Task {
     /// To run the script that the reader has, and to write this of it.
     Script { wanted: Wanted },
+    /// To answer the lines that the reader gives, each before it is asked for more.
+    Serve,
+    /// To simulate the workload that the reader has so, and to write the script of what happened.
+    Simulation { how: gs_workbench::Asked },
     /// To run these workers, and to show so what came of it.
     Workers { work: Work, shown: Shown },
 }
@@ -117,8 +124,23 @@ fn listed_of(listed: gs_arguments::Listed) -> Listed
     }
 }
 
+/// Returns the policy that a simulation is to have, unless it is that of the workload.
+fn policy_of(policy: PolicyAsked) -> Option<AnyPolicy>
+    requires { IsAllowedPolicy policy }
+    ensures { result ≡ policy_asked policy }
+{
+    match policy {
+        PolicyAsked::Own => None,
+        PolicyAsked::First => Some(AnyPolicy::FirstCome(FirstCome)),
+        PolicyAsked::Two { slice } => Some(AnyPolicy::TwoClass(TwoClass {
+            slice: slice as u16,
+        })),
+    }
+}
+
 /// Returns what a command asks for.
 fn task_of(command: Command) -> Task
+    requires { AsksAllowed command }
     ensures { result ≡ task_asked command }
 {
     match command {
@@ -150,6 +172,18 @@ fn task_of(command: Command) -> Task
             },
         },
         Command::Trace => script(Form::Trace),
+        Command::Serve => Task::Serve,
+        Command::Simulate {
+            policy,
+            ticks,
+            seed,
+        } => Task::Simulation {
+            how: gs_workbench::Asked {
+                policy: policy_of(policy),
+                ticks: ticks.map(|ticks| ticks as u32),
+                seed: seed as u64,
+            },
+        },
         Command::Threads {
             workers,
             each,
@@ -181,12 +215,13 @@ fn run_wanted<R: Read, W: Write>(
     }
 }
 
-/// Does a task: runs the script that the reader has, or workers. Writes what came of it, and says on standard error
-/// what is wrong with a script that has a fault.
+/// Does a task: runs the script that the reader has, answers its lines, or runs workers. Writes what came of it, and says
+/// on standard error what is wrong with a script that has a fault. If a terminal gives the lines, it is asked for each.
 fn perform<H: Threads + Wait + Sync + Eprint, R: Read, W: Write>(
     rt: &H,
     alloc: Global,
     task: Task,
+    is_terminal: bool,
     reader: &mut R,
     writer: &mut W,
 ) -> Result<Ended, Failure>
@@ -200,6 +235,14 @@ fn perform<H: Threads + Wait + Sync + Eprint, R: Read, W: Write>(
                 Ok(kept.ended)
             }
             Err(fault) => Err(Failure::Script(fault)),
+        },
+        Task::Serve => match serve(alloc, &Asking { rt, is_terminal }, reader, writer) {
+            Ok(()) => Ok(Ended::Ran),
+            Err(fault) => Err(Failure::Serve(fault)),
+        },
+        Task::Simulation { how } => match simulate_workload(alloc, reader, writer, how) {
+            Ok(()) => Ok(Ended::Ran),
+            Err(fault) => Err(Failure::Workbench(fault)),
         },
         Task::Workers { work, shown } => match run_workers(rt, alloc, work, shown, writer) {
             Ok(()) => Ok(Ended::Ran),
@@ -220,7 +263,7 @@ fn perform_in_file<H: Threads + Wait + Sync + Files + Eprint, W: Write>(
     ensures { DoesInFile task (W.contents writer.old) (W.contents writer.new) result }
 {
     match fs::open(rt, file) {
-        Ok(mut opened) => perform(rt, alloc, task, &mut opened, writer),
+        Ok(mut opened) => perform(rt, alloc, task, false, &mut opened, writer),
         Err(error) => Err(unopened(alloc, file, error)),
     }
 }
@@ -240,8 +283,9 @@ fn perform_from<H: Threads + Wait + Sync + Files + Eprint, R: Read + IsTerminal,
     match file {
         Some(file) => perform_in_file(rt, alloc, task, file, writer),
         None => {
-            await_script(rt, task, reader.is_terminal());
-            perform(rt, alloc, task, reader, writer)
+            let is_terminal = reader.is_terminal();
+            await_input(rt, task, is_terminal);
+            perform(rt, alloc, task, is_terminal, reader, writer)
         }
     }
 }

@@ -4,7 +4,9 @@ ghost use Rattle.clap.specs.Values.{kind_of};
 ghost use Rattle.ghost_cli.specs.Failures.{IsToldBy, IsUnopened, IsUnreadBy};
 
 use clap::error::ErrorKind;
+use gs_serve::ServeFault;
 use gs_trace::TraceFault;
+use gs_workbench::WorkbenchFault;
 use gs_workers::WorkFault;
 use std::alloc::Global;
 use std::io;
@@ -29,6 +31,10 @@ pub(crate) enum Failure {
     Unopened { file: String, error: io::Error },
     #[error("ghost: {0}\n")]
     Script(TraceFault),
+    #[error("ghost: {0}\n")]
+    Serve(ServeFault),
+    #[error("ghost: {0}\n")]
+    Workbench(WorkbenchFault),
     #[error("ghost: {0}\n")]
     Work(WorkFault),
 }

@@ -24,6 +24,8 @@ fn is_command(word: &str) -> bool
             | "timehist"
             | "latency"
             | "trace"
+            | "serve"
+            | "simulate"
             | "threads"
             | "help"
     )

@@ -3,7 +3,7 @@
 
 ghost use Rattle.std.specs.Prelude.{◌≡◌};
 ghost use Rattle.clap.specs.Values.{kind_of};
-ghost use Rattle.ghost_cli.specs.Status.{IsArgumentsStatus, IsFailureStatus, IsStatus, ended_status, fault_status, work_status};
+ghost use Rattle.ghost_cli.specs.Status.{IsArgumentsStatus, IsFailureStatus, IsStatus, ended_status, fault_status, serve_status, work_status, workbench_status};
 
 mod asked;
 mod failure;
@@ -12,7 +12,9 @@ mod telling;
 
 use asked::ghost_command;
 use failure::Failure;
+use gs_serve::ServeFault;
 use gs_trace::{Ended, TraceFault};
+use gs_workbench::WorkbenchFault;
 use gs_workers::WorkFault;
 use std::process::ExitCode;
 
@@ -33,6 +35,28 @@ fn fault_code(fault: TraceFault) -> u8
     match fault {
         TraceFault::OutOfMemory => 5,
         TraceFault::ReadFailed | TraceFault::WriteFailed => 4,
+    }
+}
+
+/// Returns the exit status of lines that were not all answered. Whoever reads the answers may end that.
+fn serve_code(fault: ServeFault) -> u8
+    ensures { result ≡ serve_status fault }
+{
+    match fault {
+        ServeFault::OutOfMemory => 5,
+        ServeFault::ReadFailed | ServeFault::WriteFailed => 4,
+        ServeFault::ReaderGone => 0,
+    }
+}
+
+/// Returns the exit status of a workload of which no simulation was written.
+fn workbench_code(fault: &WorkbenchFault) -> u8
+    ensures { result ≡ workbench_status fault.now }
+{
+    match fault {
+        WorkbenchFault::Workload(_) | WorkbenchFault::Unreadable(_) => 2,
+        WorkbenchFault::ReadFailed | WorkbenchFault::WriteFailed => 4,
+        WorkbenchFault::OutOfMemory => 5,
     }
 }
 
@@ -79,6 +103,16 @@ fn report(rt: &HostRuntime, failure: &Failure) -> u8
         Failure::Script(fault) => {
             let _ = eprint!(rt; "{failure}");
             fault_code(*fault)
+        }
+        Failure::Serve(fault) => {
+            if *fault != ServeFault::ReaderGone {
+                let _ = eprint!(rt; "{failure}");
+            }
+            serve_code(*fault)
+        }
+        Failure::Workbench(fault) => {
+            let _ = eprint!(rt; "{failure}");
+            workbench_code(fault)
         }
         Failure::Work(fault) => {
             let _ = eprint!(rt; "{failure}");

@@ -1,7 +1,7 @@
 -- What the program's command line takes.
 use Rattle.std.proofs.Common.{◌≡◌, ◌≤◌, is_some, ℕ, Bool, List, [], ◌∷◌, true, false, refl, codes, cond, ◌∙◌, ap, sym, subst, Option, None, Some, arith}
 use Rattle.std.specs.Fmt.{digits}
-use Rattle.std.specs.Prelude.{decimal, nat_le, nat_lt, Result, Ok, Err, ◌&&◌, bytes_eq, option_map, option_and_then}
+use Rattle.std.specs.Prelude.{decimal, nat_le, nat_lt, IfSome, Result, Ok, Err, ◌&&◌, bytes_eq, option_map, option_and_then}
 use Rattle.std.specs.Str.Parse.{ParsesBool, ParsesUnsigned, digits_value, without_leading_plus}
 use Rattle.std.proofs.lemmas.Bool.{and_parts}
 use Rattle.std.proofs.lemmas.Bool.Decides.{nat_tests}
@@ -14,10 +14,10 @@ use Rattle.clap.proofs.ValueTestLemmas.{accepts-Accepts, Accepts-accepts}
 use Rattle.clap.specs.declared.builder.value_parser.ValueParser.TheVariants as vp
 use Rattle.clap.proofs.OnLiterals.{clap_on_literals}
 use Rattle.gs_arguments.specs.declared.arguments.Command.{Command}
-use Rattle.gs_arguments.specs.declared.arguments.Command.TheVariants.{Run, Explain, Report, Journal, Timeline, Timehist, Latency, Trace, Threads}
+use Rattle.gs_arguments.specs.declared.arguments.Command.TheVariants.{Run, Explain, Report, Journal, Timeline, Timehist, Latency, Trace, Serve, Simulate, Threads}
 use Rattle.gs_arguments.specs.declared.arguments.Listed.{Listed}
-use Rattle.gs_arguments.specs.declared.arguments.TheConstants.{DEFAULT_LINES, LEAST_COUNT, MOST_EACH, MOST_LINES, MOST_WORKERS}
-use Rattle.gs_arguments.specs.Arguments.{ghost_program, command_from, command_given, backward, unless_backward, command_in, AsksAllowed, count_of, flag_of, latency_given, number_of, threads_given, timeline_given}
+use Rattle.gs_arguments.specs.declared.arguments.TheConstants.{DEFAULT_LINES, LEAST_COUNT, MOST_EACH, MOST_LINES, MOST_SLICE, MOST_TICKS, MOST_WORKERS}
+use Rattle.gs_arguments.specs.Arguments.{ghost_program, command_from, command_given, backward, unless_backward, command_in, AsksAllowed, count_of, flag_of, latency_given, number_of, threads_given, timeline_given, IsAllowedPolicy, count_in, policy_by, place_in, simulate_given}
 
 -- the default as a word of the command line
 pub default_word : codes "10" ≡ decimal DEFAULT_LINES
@@ -124,6 +124,31 @@ threads_allowed rows command e = by_workers (option_and_then (count_of MOST_WORK
     by_workers None is e = absurd cc
     by_workers (Some w) is e = by_each w (option_and_then (count_of MOST_EACH) (one_of (codes "each") rows)) refl e (counted MOST_WORKERS (one_of (codes "workers") rows) w is)
 
+policy_allowed : (rows : List Row) (name : Text) (first : Bool) → IsAllowedPolicy (policy_by first (count_in rows name MOST_SLICE))
+policy_allowed rows name true = tt
+policy_allowed rows name false = by_slice (count_in rows name MOST_SLICE) refl
+  where
+    by_slice : (o : Option ℕ) → count_in rows name MOST_SLICE ≡ o → IsAllowedPolicy (policy_by false o)
+    by_slice None is = tt
+    by_slice (Some slice) is = counted MOST_SLICE (one_of name rows) slice is
+
+ticks_allowed : (rows : List Row) (name : Text) → IfSome (count_in rows name MOST_TICKS) (λ n. (LEAST_COUNT ≤ n) × (n ≤ MOST_TICKS))
+ticks_allowed rows name = by_count (count_in rows name MOST_TICKS) refl
+  where
+    by_count : (o : Option ℕ) → count_in rows name MOST_TICKS ≡ o → IfSome o (λ n. (LEAST_COUNT ≤ n) × (n ≤ MOST_TICKS))
+    by_count None is = tt
+    by_count (Some n) is = counted MOST_TICKS (one_of name rows) n is
+
+simulate_allowed : (rows : List Row) (command : Command) → simulate_given rows ≡ Some command → AsksAllowed command
+simulate_allowed rows command e = by_first (option_and_then flag_of (one_of (codes "first") rows)) e
+  where
+    by_first : (o : Option Bool)
+        → option_map (λ first. Simulate (policy_by first (count_in rows (codes "two") MOST_SLICE)) (count_in rows (codes "ticks") MOST_TICKS) (place_in rows (codes "seed") 0)) o ≡ Some command → AsksAllowed command
+    by_first None e = absurd cc
+    by_first (Some first) e =
+        let same : Simulate (policy_by first (count_in rows (codes "two") MOST_SLICE)) (count_in rows (codes "ticks") MOST_TICKS) (place_in rows (codes "seed") 0) ≡ command = cc in
+        subst AsksAllowed same (policy_allowed rows (codes "two") first, ticks_allowed rows (codes "ticks"))
+
 -- a command that is given, and does not end before it begins
 kept : (o : Option Command) (command : Command) → option_and_then unless_backward o ≡ Some command → (o ≡ Some command) × (backward command ≡ None)
 kept None command e = absurd cc
@@ -142,22 +167,24 @@ report_allowed rows command e = by_count (option_and_then (count_of MOST_LINES) 
 
 -- a command that is given is in its range
 given_allowed : (given : Text × List Row) (command : Command) → command_given given ≡ Some command → backward command ≡ None → AsksAllowed command
-given_allowed given command is forward = by_name (bytes_eq given.0 (codes "run")) (bytes_eq given.0 (codes "explain")) (bytes_eq given.0 (codes "report")) (bytes_eq given.0 (codes "journal")) (bytes_eq given.0 (codes "timeline")) (bytes_eq given.0 (codes "timehist")) (bytes_eq given.0 (codes "latency")) (bytes_eq given.0 (codes "trace")) (bytes_eq given.0 (codes "threads")) is
+given_allowed given command is forward = by_name (bytes_eq given.0 (codes "run")) (bytes_eq given.0 (codes "explain")) (bytes_eq given.0 (codes "report")) (bytes_eq given.0 (codes "journal")) (bytes_eq given.0 (codes "timeline")) (bytes_eq given.0 (codes "timehist")) (bytes_eq given.0 (codes "latency")) (bytes_eq given.0 (codes "trace")) (bytes_eq given.0 (codes "serve")) (bytes_eq given.0 (codes "simulate")) (bytes_eq given.0 (codes "threads")) is
   where
-    by_name : (run explain report journal timeline timehist latency trace threads : Bool)
+    by_name : (run explain report journal timeline timehist latency trace serve simulate threads : Bool)
         → cond run (Some Run) (cond explain (option_map Explain (option_and_then flag_of (one_of (codes "json") given.1))) (cond report (option_map Report (option_and_then (count_of MOST_LINES) (one_of (codes "last") given.1)))
         (cond journal (option_map Journal (option_and_then flag_of (one_of (codes "json") given.1)))
-        (cond timeline (timeline_given given.1) (cond timehist (option_map Timehist (option_and_then flag_of (one_of (codes "json") given.1))) (cond latency (latency_given given.1) (cond trace (Some Trace) (cond threads (threads_given given.1) None)))))))) ≡ Some command → AsksAllowed command
-    by_name true explain report journal timeline timehist latency trace threads e = let same : Run ≡ command = cc in subst AsksAllowed same tt
-    by_name false true report journal timeline timehist latency trace threads e = explain_allowed _ command e
-    by_name false false true journal timeline timehist latency trace threads e = report_allowed given.1 command e
-    by_name false false false true timeline timehist latency trace threads e = journal_allowed _ command e
-    by_name false false false false true timehist latency trace threads e = timeline_allowed _ _ _ _ command e forward
-    by_name false false false false false true latency trace threads e = timehist_allowed _ command e
-    by_name false false false false false false true trace threads e = latency_allowed _ _ command e
-    by_name false false false false false false false true threads e = let same : Trace ≡ command = cc in subst AsksAllowed same tt
-    by_name false false false false false false false false true e = threads_allowed given.1 command e
-    by_name false false false false false false false false false e = absurd cc
+        (cond timeline (timeline_given given.1) (cond timehist (option_map Timehist (option_and_then flag_of (one_of (codes "json") given.1))) (cond latency (latency_given given.1) (cond trace (Some Trace) (cond serve (Some Serve) (cond simulate (simulate_given given.1) (cond threads (threads_given given.1) None)))))))))) ≡ Some command → AsksAllowed command
+    by_name true explain report journal timeline timehist latency trace serve simulate threads e = let same : Run ≡ command = cc in subst AsksAllowed same tt
+    by_name false true report journal timeline timehist latency trace serve simulate threads e = explain_allowed _ command e
+    by_name false false true journal timeline timehist latency trace serve simulate threads e = report_allowed given.1 command e
+    by_name false false false true timeline timehist latency trace serve simulate threads e = journal_allowed _ command e
+    by_name false false false false true timehist latency trace serve simulate threads e = timeline_allowed _ _ _ _ command e forward
+    by_name false false false false false true latency trace serve simulate threads e = timehist_allowed _ command e
+    by_name false false false false false false true trace serve simulate threads e = latency_allowed _ _ command e
+    by_name false false false false false false false true serve simulate threads e = let same : Trace ≡ command = cc in subst AsksAllowed same tt
+    by_name false false false false false false false false true simulate threads e = let same : Serve ≡ command = cc in subst AsksAllowed same tt
+    by_name false false false false false false false false false true threads e = simulate_allowed given.1 command e
+    by_name false false false false false false false false false false true e = threads_allowed given.1 command e
+    by_name false false false false false false false false false false false e = absurd cc
 
 pub in_range : (given : Option (Text × List Row)) (command : Command) → command_from given ≡ Some command → AsksAllowed command
 in_range None command is = absurd cc

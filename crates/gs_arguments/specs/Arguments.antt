@@ -1,15 +1,17 @@
 -- The arguments of the program.
-use Rattle.std.specs.Prelude.{◌≤◌, ⊤, ℕ, List, [], ◌∷◌, Bool, true, false, Option, None, Some, codes, bytes_eq, decimal, if◌then◌else◌, is_some, nat_le, nat_lt, ◌&&◌, option_and_then, option_map, unwrap_or}
+use Rattle.std.specs.Prelude.{◌≤◌, ⊤, ℕ, List, [], ◌∷◌, Bool, true, false, Option, None, Some, codes, bytes_eq, decimal, IfSome, if◌then◌else◌, is_some, nat_le, nat_lt, ◌&&◌, option_and_then, option_map, unwrap_or}
 use Rattle.std.specs.Str.Parse.{digits_value, without_leading_plus}
 use Rattle.clap.specs.ValueTests.{is_unsigned_in}
 use Rattle.clap.specs.Words.{App, Row, Rule, Text, first_of, new_app, new_rule, one_of, subcommand_of, with_rule, with_subcommand}
 use Rattle.clap.specs.declared.builder.action.ArgAction.TheVariants.{SetTrue}
 use Rattle.clap.specs.declared.builder.value_parser.ValueParser.TheVariants as vp
 use Rattle.gs_arguments.specs.declared.arguments.Command.{Command}
-use Rattle.gs_arguments.specs.declared.arguments.Command.TheVariants.{Run, Explain, Report, Journal, Timeline, Timehist, Latency, Trace, Threads}
+use Rattle.gs_arguments.specs.declared.arguments.Command.TheVariants.{Run, Explain, Report, Journal, Timeline, Timehist, Latency, Trace, Serve, Simulate, Threads}
 use Rattle.gs_arguments.specs.declared.arguments.Listed.{Listed}
 use Rattle.gs_arguments.specs.declared.arguments.Listed.TheVariants.{All, Few, Most, One}
-use Rattle.gs_arguments.specs.declared.arguments.TheConstants.{DEFAULT_LINES, LEAST_COUNT, LEAST_LINES, MOST_EACH, MOST_LINES, MOST_WORKERS}
+use Rattle.gs_arguments.specs.declared.arguments.TheConstants.{DEFAULT_LINES, LEAST_COUNT, LEAST_LINES, MOST_EACH, MOST_LINES, MOST_SLICE, MOST_TICKS, MOST_WORKERS}
+use Rattle.gs_arguments.specs.declared.arguments.PolicyAsked.{PolicyAsked}
+use Rattle.gs_arguments.specs.declared.arguments.PolicyAsked.TheVariants.{Own, First, Two}
 
 -- a program without arguments of its own: its version, and the commands, of which one is to be given
 abbrev pub ghost_alone : App
@@ -64,6 +66,22 @@ timehist_alone = reads_script (with_rule (new_app (codes "timehist")) (flag_rule
 abbrev pub latency_alone : App
 latency_alone = reads_script (with_rule (with_rule (new_app (codes "latency")) (flag_rule (codes "json"))) (flag_rule (codes "threads")))
 
+-- a command that takes no argument
+abbrev pub serve_alone : App
+serve_alone = new_app (codes "serve")
+
+-- an option that may be given: a number from 1 to this
+abbrev pub range_rule : Text → ℕ → Rule
+range_rule name most = record (new_rule name) { long = Some name; value_names = 1; parser = Some (vp.Unsigned LEAST_COUNT most) }
+
+-- a simulation's command, with what says which policy it has
+abbrev pub simulate_under_policy : App
+simulate_under_policy = with_rule (with_rule (new_app (codes "simulate")) (flag_rule (codes "first"))) (range_rule (codes "two") MOST_SLICE)
+
+-- and with how many ticks there are, what numbers are drawn by, and the workload
+abbrev pub simulate_alone : App
+simulate_alone = reads_script (with_rule (with_rule simulate_under_policy (range_rule (codes "ticks") MOST_TICKS)) (place_rule (codes "seed")))
+
 -- an option that has to be given: a count, of which this is the most
 abbrev pub count_rule : Text → ℕ → Rule
 count_rule name most = record (new_rule name) { long = Some name; value_names = 1; required = true; parser = Some (vp.Unsigned LEAST_COUNT most) }
@@ -73,7 +91,7 @@ threads_alone = with_rule (with_rule (with_rule (new_app (codes "threads")) (cou
 
 abbrev pub ghost_program : App
 ghost_program =
-    with_subcommand (with_subcommand (with_subcommand (with_subcommand (with_subcommand (with_subcommand (with_subcommand (with_subcommand (with_subcommand ghost_alone run_alone.top) explain_alone.top) report_alone.top) journal_alone.top) timeline_alone.top) timehist_alone.top) latency_alone.top) trace_alone.top) threads_alone.top
+    with_subcommand (with_subcommand (with_subcommand (with_subcommand (with_subcommand (with_subcommand (with_subcommand (with_subcommand (with_subcommand (with_subcommand (with_subcommand ghost_alone run_alone.top) explain_alone.top) report_alone.top) journal_alone.top) timeline_alone.top) timehist_alone.top) latency_alone.top) trace_alone.top) serve_alone.top) simulate_alone.top) threads_alone.top
 
 -- the number that a text spells in decimal digits, of those that 64 bits hold
 abbrev pub number_of : Text → Option ℕ
@@ -111,6 +129,21 @@ timeline_given rows =
 abbrev pub latency_given : List Row → Option Command
 latency_given rows = option_and_then (λ json. option_map (λ threads. Latency json threads) (option_and_then flag_of (one_of (codes "threads") rows))) (option_and_then flag_of (one_of (codes "json") rows))
 
+-- the count that an option is given, if it is no more than this
+abbrev pub count_in : List Row → Text → ℕ → Option ℕ
+count_in rows name most = option_and_then (count_of most) (one_of name rows)
+
+-- the policy that is asked for: `first`, `two` with this slice, or that of the workload
+abbrev pub policy_by : Bool → Option ℕ → PolicyAsked
+policy_by true slice = First
+policy_by false (Some slice) = Two slice
+policy_by false None = Own
+
+-- `simulate`, with the values that were given to it
+abbrev pub simulate_given : List Row → Option Command
+simulate_given rows =
+    option_map (λ first. Simulate (policy_by first (count_in rows (codes "two") MOST_SLICE)) (count_in rows (codes "ticks") MOST_TICKS) (place_in rows (codes "seed") 0)) (option_and_then flag_of (one_of (codes "first") rows))
+
 -- `threads`, with the values that were given to it
 abbrev pub threads_given : List Row → Option Command
 threads_given rows =
@@ -131,6 +164,8 @@ command_given given =
     else if bytes_eq given.0 (codes "timehist") then option_map Timehist (option_and_then flag_of (one_of (codes "json") given.1))
     else if bytes_eq given.0 (codes "latency") then latency_given given.1
     else if bytes_eq given.0 (codes "trace") then Some Trace
+    else if bytes_eq given.0 (codes "serve") then Some Serve
+    else if bytes_eq given.0 (codes "simulate") then simulate_given given.1
     else if bytes_eq given.0 (codes "threads") then threads_given given.1
     else None
 
@@ -163,7 +198,13 @@ file_from given = option_and_then unless_standard (option_and_then (λ given. fi
 abbrev pub file_in : List Text → Option Text
 file_in words = file_from (subcommand_of ghost_program words)
 
--- a report shows as many lines as it may, a picture does not end before it begins, and there are as many workers and creations as there may be
+-- a slice is as long as it may be
+abbrev pub IsAllowedPolicy : PolicyAsked → Type 0
+IsAllowedPolicy Own = ⊤
+IsAllowedPolicy First = ⊤
+IsAllowedPolicy (Two slice) = (LEAST_COUNT ≤ slice) × (slice ≤ MOST_SLICE)
+
+-- a report shows as many lines as it may, a picture does not end before it begins, and there are as many ticks, workers and creations as there may be
 abbrev pub AsksAllowed : Command → Type 0
 AsksAllowed Run = ⊤
 AsksAllowed (Explain json) = ⊤
@@ -172,5 +213,7 @@ AsksAllowed (Timeline from to listed) = from ≤ to
 AsksAllowed (Timehist json) = ⊤
 AsksAllowed (Latency json threads) = ⊤
 AsksAllowed Trace = ⊤
+AsksAllowed Serve = ⊤
+AsksAllowed (Simulate policy ticks seed) = IsAllowedPolicy policy × IfSome ticks (λ n. (LEAST_COUNT ≤ n) × (n ≤ MOST_TICKS))
 AsksAllowed (Report last) = (LEAST_LINES ≤ last) × (last ≤ MOST_LINES)
 AsksAllowed (Threads workers each journal) = (LEAST_COUNT ≤ workers) × (workers ≤ MOST_WORKERS) × (LEAST_COUNT ≤ each) × (each ≤ MOST_EACH)

@@ -3,7 +3,7 @@ ghost use Rattle.clap.specs.Words.{app_of, first_of, found_of, new_app, kind_of,
 ghost use Rattle.clap.specs.Kinds.{HasKind, Kinds};
 ghost use Rattle.clap.specs.declared.builder.command.Command.TheViews.{out-Command as fields_of};
 ghost use Rattle.clap.specs.Faults.{fault_of};
-ghost use Rattle.gs_arguments.specs.Arguments.{AsksAllowed, backward, command_from, command_given, command_in, count_of, count_rule, explain_alone, file_from, file_in, file_rule, flag_of, flag_rule, ghost_alone, ghost_program, journal_alone, last_rule, latency_alone, latency_given, listed_by, number_of, place_rule, report_alone, run_alone, threads_alone, timehist_alone, timeline_alone, timeline_given, timeline_of_part, trace_alone, unless_standard};
+ghost use Rattle.gs_arguments.specs.Arguments.{AsksAllowed, backward, command_from, command_given, command_in, count_of, count_rule, explain_alone, file_from, file_in, file_rule, flag_of, flag_rule, ghost_alone, ghost_program, journal_alone, last_rule, latency_alone, latency_given, listed_by, number_of, place_rule, report_alone, run_alone, serve_alone, threads_alone, timehist_alone, timeline_alone, timeline_given, timeline_of_part, trace_alone, policy_by, range_rule, simulate_alone, simulate_given, simulate_under_policy, unless_standard};
 ghost use Rattle.gs_arguments.specs.declared.arguments.Command.{Command};
 ghost use Rattle.gs_arguments.specs.declared.arguments.Command.TheVariants.{Journal, Report};
 
@@ -37,6 +37,23 @@ pub const MOST_WORKERS: usize = 16;
 /// The most threads that each worker creates.
 pub const MOST_EACH: usize = 1_000;
 
+/// The longest slice of the policy `two`, in ticks.
+pub const MOST_SLICE: usize = 65_535;
+
+/// The most ticks of a simulation.
+pub const MOST_TICKS: usize = 1_000_000;
+
+/// Which policy a workload is simulated under.
+#[derive(Clone, Copy, PartialEq, Eq, Debug)]
+pub enum PolicyAsked {
+    /// That of the workload, or `first`, if it names none.
+    Own,
+    /// `first`.
+    First,
+    /// `two`, with a slice of so many ticks, from [`LEAST_COUNT`] to [`MOST_SLICE`].
+    Two { slice: usize },
+}
+
 /// Which threads a picture has a line for. The others are counted there.
 #[derive(Clone, Copy, PartialEq, Eq, Debug)]
 pub enum Listed {
@@ -49,7 +66,7 @@ pub enum Listed {
     All,
 }
 
-/// What the program is to do: with a script, but for the last.
+/// What the program is to do: with a script, but for the last three.
 #[derive(Clone, Copy, PartialEq, Eq, Debug)]
 pub enum Command {
     /// Run it, and write the lines of its replies to standard output.
@@ -93,6 +110,17 @@ pub enum Command {
     },
     /// Run it, and write a trace of all that happened to standard output, as JSON.
     Trace,
+    /// Answer the lines of a script as they come, each before the next is read, to standard output.
+    Serve,
+    /// Simulate the workload that a file has, and write what happened as a script to standard output.
+    Simulate {
+        /// The policy of its agents.
+        policy: PolicyAsked,
+        /// How many ticks there are, from [`LEAST_COUNT`] to [`MOST_TICKS`]. Without a number the workload says it.
+        ticks: Option<usize>,
+        /// What all numbers are drawn by.
+        seed: usize,
+    },
     /// Run workers in threads of their own, and write how that ended to standard output.
     Threads {
         /// How many workers there are, from [`LEAST_COUNT`] to [`MOST_WORKERS`].
@@ -110,6 +138,16 @@ pub struct Asked<'a> {
     pub command: Command,
     /// The file that has the script. Without one it is standard input that has it.
     pub file: Option<&'a str>,
+}
+
+/// The argument WORKLOAD, which is a FILE too.
+fn workload_argument<'a>(alloc: Global) -> clap::Arg<'a>
+    ensures rule { rule_of result ≡ file_rule }
+    ensures local { result.global ≡ false }
+{
+    clap::Arg::new(alloc, "file").value_name("WORKLOAD").help(
+        "The file that has the workload, in place of standard input, which is `-`",
+    )
 }
 
 /// The argument FILE.
@@ -146,7 +184,7 @@ fn flag<'a>(alloc: Global, name: &'a str, help: &'a str) -> clap::Arg<'a>
         .action(ArgAction::SetTrue)
 }
 
-/// An option of `timeline` that takes a number.
+/// An option of `timeline` or `simulate` that takes a number.
 fn place_option<'a>(alloc: Global, name: &'a str, help: &'a str) -> clap::Arg<'a>
     ensures rule { rule_of result ≡ place_rule name.entry.now }
     ensures local { result.global ≡ false }
@@ -156,6 +194,25 @@ fn place_option<'a>(alloc: Global, name: &'a str, help: &'a str) -> clap::Arg<'a
         .value_name("N")
         .help(help)
         .value_parser(clap::value_parser!(usize))
+}
+
+/// An option of `simulate`: a number from 1 to this.
+fn range_option<'a>(
+    alloc: Global,
+    name: &'a str,
+    value: &'a str,
+    help: &'a str,
+    most: usize,
+) -> clap::Arg<'a>
+    requires { most ≤ MOST_TICKS }
+    ensures rule { rule_of result ≡ range_rule name.entry.now most }
+    ensures local { result.global ≡ false }
+{
+    clap::Arg::new(alloc, name)
+        .long(name)
+        .value_name(value)
+        .help(help)
+        .value_parser(clap::value_parser!(usize).range(LEAST_COUNT as i64..=most as i64))
 }
 
 /// An option of `threads` that has to be given: a count, of which this is the most.
@@ -236,16 +293,14 @@ fn timeline_of_part<'a>(alloc: Global) -> Result<clap::Command<'a>, AllocError>
     ensures shape { IfOk result (λ command. app_of command ≡ timeline_of_part) }
     ensures local { IfOk result (λ command. (fields_of command).has_globals ≡ false) }
 {
-    let first = place_option(
-        alloc,
-        "from",
-        "The first entry of the journal that is shown, counted from 0",
-    );
-    let last = place_option(alloc, "to", "The last entry that is shown");
     clap::Command::new(alloc, "timeline")
         .about("Runs a script and writes a picture of who ran where to standard output, as SVG")
-        .arg(first)?
-        .arg(last)
+        .arg(place_option(
+            alloc,
+            "from",
+            "The first entry of the journal that is shown, counted from 0",
+        ))?
+        .arg(place_option(alloc, "to", "The last entry that is shown"))
 }
 
 /// The command `timeline`.
@@ -253,21 +308,18 @@ fn timeline_command<'a>(alloc: Global) -> Result<clap::Command<'a>, AllocError>
     ensures shape { IfOk result (λ command. app_of command ≡ timeline_alone) }
     ensures local { IfOk result (λ command. (fields_of command).has_globals ≡ false) }
 {
-    let threads = place_option(
-        alloc,
-        "threads",
-        "How many threads have a line of their own, those that never ran first",
-    );
-    let thread = place_option(
-        alloc,
-        "thread",
-        "The number of the one thread that has a line of its own",
-    );
-    let all = flag(alloc, "all-threads", "Gives each thread a line of its own");
     timeline_of_part(alloc)?
-        .arg(threads)?
-        .arg(thread)?
-        .arg(all)?
+        .arg(place_option(
+            alloc,
+            "threads",
+            "How many threads have a line of their own, those that never ran first",
+        ))?
+        .arg(place_option(
+            alloc,
+            "thread",
+            "The number of the one thread that has a line of its own",
+        ))?
+        .arg(flag(alloc, "all-threads", "Gives each thread a line of its own"))?
         .arg(file_argument(alloc))
 }
 
@@ -318,37 +370,84 @@ fn latency_command<'a>(alloc: Global) -> Result<clap::Command<'a>, AllocError>
         .arg(file_argument(alloc))
 }
 
+/// The command `serve`.
+fn serve_command<'a>(alloc: Global) -> clap::Command<'a>
+    ensures shape { app_of result ≡ serve_alone }
+    ensures local { (fields_of result).has_globals ≡ false }
+{
+    clap::Command::new(alloc, "serve").about(
+        "Answers the lines of a script on standard input one by one, each with its reply and an empty line, on standard output",
+    )
+}
+
+/// The command `simulate`, with what says which policy it has, and nothing else.
+fn simulate_under_policy<'a>(alloc: Global) -> Result<clap::Command<'a>, AllocError>
+    ensures shape { IfOk result (λ command. app_of command ≡ simulate_under_policy) }
+    ensures local { IfOk result (λ command. (fields_of command).has_globals ≡ false) }
+{
+    clap::Command::new(alloc, "simulate")
+        .about(
+            "Runs a workload in a closed loop and writes what happened as a script to standard output",
+        )
+        .arg(flag(alloc, "first", "Its policy is `first`"))?
+        .arg(range_option(
+            alloc,
+            "two",
+            "S",
+            "Its policy is `two`, with a slice of S ticks",
+            MOST_SLICE,
+        ))
+}
+
+/// The command `simulate`.
+fn simulate_command<'a>(alloc: Global) -> Result<clap::Command<'a>, AllocError>
+    ensures shape { IfOk result (λ command. app_of command ≡ simulate_alone) }
+    ensures local { IfOk result (λ command. (fields_of command).has_globals ≡ false) }
+{
+    simulate_under_policy(alloc)?
+        .arg(range_option(
+            alloc,
+            "ticks",
+            "N",
+            "How many ticks there are, in place of what the workload says",
+            MOST_TICKS,
+        ))?
+        .arg(place_option(
+            alloc,
+            "seed",
+            "What all numbers are drawn by, 0 if it is not given",
+        ))?
+        .arg(workload_argument(alloc))
+}
+
 /// The command `threads`.
 fn threads_command<'a>(alloc: Global) -> Result<clap::Command<'a>, AllocError>
     ensures shape { IfOk result (λ command. app_of command ≡ threads_alone) }
     ensures local { IfOk result (λ command. (fields_of command).has_globals ≡ false) }
 {
-    let workers = count_option(
-        alloc,
-        "workers",
-        "W",
-        "How many workers there are",
-        MOST_WORKERS,
-    );
-    let each = count_option(
-        alloc,
-        "each",
-        "K",
-        "How many threads each of them creates",
-        MOST_EACH,
-    );
-    let journal = flag(
-        alloc,
-        "journal",
-        "Writes the journal of all that happened in place of the line",
-    );
     clap::Command::new(alloc, "threads")
         .about(
             "Runs workers that create threads, and an agent that is handed off, in threads of their own",
         )
-        .arg(workers)?
-        .arg(each)?
-        .arg(journal)
+        .arg(count_option(
+            alloc,
+            "workers",
+            "W",
+            "How many workers there are",
+            MOST_WORKERS,
+        ))?
+        .arg(count_option(
+            alloc,
+            "each",
+            "K",
+            "How many threads each of them creates",
+            MOST_EACH,
+        ))?
+        .arg(flag(
+            alloc,
+            "journal",
+            "Writes the journal of all that happened in place of the line",
+        ))
 }
 
 /// The program's command line.
@@ -372,25 +471,18 @@ fn with_commands<'a>(
     requires { app_of alone ≡ ghost_alone }
     ensures { IfOk result (λ command. app_of command ≡ ghost_program) }
 {
-    let run = run_command(alloc)?;
-    let explain = explain_command(alloc)?;
-    let report = report_command(alloc)?;
-    let journal = journal_command(alloc)?;
-    let timeline = timeline_command(alloc)?;
-    let timehist = timehist_command(alloc)?;
-    let latency = latency_command(alloc)?;
-    let trace = trace_command(alloc)?;
-    let threads = threads_command(alloc)?;
     alone
-        .subcommand(run)?
-        .subcommand(explain)?
-        .subcommand(report)?
-        .subcommand(journal)?
-        .subcommand(timeline)?
-        .subcommand(timehist)?
-        .subcommand(latency)?
-        .subcommand(trace)?
-        .subcommand(threads)
+        .subcommand(run_command(alloc)?)?
+        .subcommand(explain_command(alloc)?)?
+        .subcommand(report_command(alloc)?)?
+        .subcommand(journal_command(alloc)?)?
+        .subcommand(timeline_command(alloc)?)?
+        .subcommand(timehist_command(alloc)?)?
+        .subcommand(latency_command(alloc)?)?
+        .subcommand(trace_command(alloc)?)?
+        .subcommand(serve_command(alloc))?
+        .subcommand(simulate_command(alloc)?)?
+        .subcommand(threads_command(alloc)?)
 }
 
 /// Whether a flag is given.
@@ -439,6 +531,29 @@ fn timeline_given(given: &clap::ArgMatches<'_>) -> Option<Command>
     })
 }
 
+/// The policy that is asked for: `first`, `two` with this slice, or that of the workload.
+fn policy_by(first: bool, slice: Option<usize>) -> PolicyAsked
+    ensures { result ≡ policy_by first slice }
+{
+    match (first, slice) {
+        (true, _) => PolicyAsked::First,
+        (false, Some(slice)) => PolicyAsked::Two { slice },
+        (false, None) => PolicyAsked::Own,
+    }
+}
+
+/// The command `simulate`, with the values of its options.
+fn simulate_given(given: &clap::ArgMatches<'_>) -> Option<Command>
+    ensures { result ≡ simulate_given (rows_of (found_of given.now)) }
+{
+    let first = flag_in(given, "first")?;
+    Some(Command::Simulate {
+        policy: policy_by(first, count_in(given, "two", MOST_SLICE)),
+        ticks: count_in(given, "ticks", MOST_TICKS),
+        seed: number_in(given, "seed").unwrap_or(0),
+    })
+}
+
 /// The command `latency`, with the values of its options.
 fn latency_given(given: &clap::ArgMatches<'_>) -> Option<Command>
     ensures { result ≡ latency_given (rows_of (found_of given.now)) }
@@ -470,6 +585,8 @@ fn command_given(matches: &clap::ArgMatches<'_>) -> Option<Command>
         }),
         ("latency", given) => latency_given(given),
         ("trace", _) => Some(Command::Trace),
+        ("serve", _) => Some(Command::Serve),
+        ("simulate", given) => simulate_given(given),
         ("threads", given) => Some(Command::Threads {
             workers: count_in(given, "workers", MOST_WORKERS)?,
             each: count_in(given, "each", MOST_EACH)?,

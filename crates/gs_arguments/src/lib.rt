@@ -5,5 +5,5 @@ mod arguments;
 
 pub use arguments::{
     Asked, Command, DEFAULT_LINES, LEAST_COUNT, LEAST_LINES, Listed, MOST_EACH, MOST_LINES,
-    MOST_WORKERS, settings,
+    MOST_SLICE, MOST_TICKS, MOST_WORKERS, PolicyAsked, settings,
 };

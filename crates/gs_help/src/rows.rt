@@ -214,79 +214,79 @@ pub(crate) fn looks() -> &'static [Row] {
 pub(crate) fn refusals() -> &'static [Row] {
     &[
         Row {
-            words: &["NoThread"],
+            words: &["NoThread", "1"],
             text: "refusal 1 NoThread\n  When: the thread was never created, or is dead; of a stamp: the agent does not know it\n  What to do: create it, or drain first\n",
         },
         Row {
-            words: &["NotRunning"],
+            words: &["NotRunning", "2"],
             text: "refusal 2 NotRunning\n  When: the thread is on no CPU\n  What to do: let it be placed first\n",
         },
         Row {
-            words: &["NotBlocked"],
+            words: &["NotBlocked", "3"],
             text: "refusal 3 NotBlocked\n  When: the thread may run already\n  What to do: block it first\n",
         },
         Row {
-            words: &["EmptyMask"],
+            words: &["EmptyMask", "4"],
             text: "refusal 4 EmptyMask\n  When: the mask has no CPU of the enclave, or one past the last; of a commit: one past the last\n  What to do: use CPUs below the count in the header\n",
         },
         Row {
-            words: &["BadCpu"],
+            words: &["BadCpu", "5"],
             text: "refusal 5 BadCpu\n  When: there is no such CPU\n  What to do: use one below the count in the header\n",
         },
         Row {
-            words: &["AgentThere"],
+            words: &["AgentThere", "6"],
             text: "refusal 6 AgentThere\n  When: the active agent is on the CPU\n  What to do: use another CPU, or hand the agent off\n",
         },
         Row {
-            words: &["CpuTaken"],
+            words: &["CpuTaken", "7"],
             text: "refusal 7 CpuTaken\n  When: the other class holds the CPU\n  What to do: use another CPU, or `give` it back\n",
         },
         Row {
-            words: &["NotTaken"],
+            words: &["NotTaken", "8"],
             text: "refusal 8 NotTaken\n  When: the other class does not hold the CPU\n  What to do: `take` it first\n",
         },
         Row {
-            words: &["NotActive"],
+            words: &["NotActive", "9"],
             text: "refusal 9 NotActive\n  When: no agent is active; of a drain, a view, a crash and a leaving: and none attaches\n  What to do: `begin`, `page` to the end, `activate`\n",
         },
         Row {
-            words: &["StillAttached"],
+            words: &["StillAttached", "10"],
             text: "refusal 10 StillAttached\n  When: an agent is active or attaches\n  What to do: `crash` or `leave` first\n",
         },
         Row {
-            words: &["NotAttaching"],
+            words: &["NotAttaching", "11"],
             text: "refusal 11 NotAttaching\n  When: no agent attaches; of a page: or the last one was given; of an activation: or it was not\n  What to do: `begin` first; `page` until the reply ends in `end`\n",
         },
         Row {
-            words: &["SeqSpent"],
+            words: &["SeqSpent", "12"],
             text: "refusal 12 SeqSpent\n  When: the thread's number is 4,294,967,295\n  What to do: none: no more can be told of this thread\n",
         },
         Row {
-            words: &["GenSpent"],
+            words: &["GenSpent", "13"],
             text: "refusal 13 GenSpent\n  When: the generation is 4,294,967,295\n  What to do: none: no more agents can come\n",
         },
         Row {
-            words: &["TidsSpent"],
+            words: &["TidsSpent", "14"],
             text: "refusal 14 TidsSpent\n  When: 65,536 threads were created\n  What to do: none: numbers are not given twice\n",
         },
         Row {
-            words: &["HistoryFull"],
+            words: &["HistoryFull", "15"],
             text: "refusal 15 HistoryFull\n  When: the journal has no room for the entries, or the list of transactions for what is to be stamped\n  What to do: a larger `history` in the header\n",
         },
         Row {
-            words: &["SlotOpen"],
+            words: &["SlotOpen", "16"],
             text: "refusal 16 SlotOpen\n  When: of a stamp: the CPU's slot is not idle; of a leaving: a slot is stamped\n  What to do: `commit` it first\n",
         },
         Row {
-            words: &["NoSuchTransaction"],
+            words: &["NoSuchTransaction", "17"],
             text: "refusal 17 NoSuchTransaction\n  When: no transaction has this number\n  What to do: use a number that a `stamped` line showed\n",
         },
         Row {
-            words: &["Gone"],
+            words: &["Gone", "18"],
             text: "refusal 18 Gone\n  When: the enclave was torn down\n  What to do: none: a larger ring, or more frequent drains\n",
         },
         Row {
-            words: &["OutOfMemory"],
+            words: &["OutOfMemory", "19"],
             text: "refusal 19 OutOfMemory\n  When: memory ran out. No script shows it: the program ends with status 5\n  What to do: more memory\n",
         },
     ]
@@ -296,63 +296,63 @@ pub(crate) fn refusals() -> &'static [Row] {
 pub(crate) fn outcomes() -> &'static [Row] {
     &[
         Row {
-            words: &["Placed"],
+            words: &["Placed", "0"],
             text: "outcome 0 Placed\n  When: none of the others applies: the thread is on the CPU now\n",
         },
         Row {
-            words: &["Gone"],
+            words: &["Gone", "1"],
             text: "outcome 1 Gone\n  When: the enclave was torn down, before or by this very landing\n",
         },
         Row {
-            words: &["Displaced"],
+            words: &["Displaced", "2"],
             text: "outcome 2 Displaced\n  When: no agent is active, or the slot's generation is not its generation\n",
         },
         Row {
-            words: &["NoThread"],
+            words: &["NoThread", "3"],
             text: "outcome 3 NoThread\n  When: the thread never was, or is dead\n",
         },
         Row {
-            words: &["Stale"],
+            words: &["Stale", "4"],
             text: "outcome 4 Stale\n  When: the number that was stamped is not the thread's: a message was posted about it since\n",
         },
         Row {
-            words: &["NotRunnable"],
+            words: &["NotRunnable", "5"],
             text: "outcome 5 NotRunnable\n  When: the thread is blocked\n",
         },
         Row {
-            words: &["AlreadyPlaced"],
+            words: &["AlreadyPlaced", "6"],
             text: "outcome 6 AlreadyPlaced\n  When: the thread is on a CPU, on this one too\n",
         },
         Row {
-            words: &["NotAllowed"],
+            words: &["NotAllowed", "7"],
             text: "outcome 7 NotAllowed\n  When: the CPU is not in the thread's mask\n",
         },
         Row {
-            words: &["CpuIsAgent"],
+            words: &["CpuIsAgent", "8"],
             text: "outcome 8 CpuIsAgent\n  When: the active agent is on the CPU\n",
         },
         Row {
-            words: &["CpuTaken"],
+            words: &["CpuTaken", "9"],
             text: "outcome 9 CpuTaken\n  When: the other class holds the CPU\n",
         },
         Row {
-            words: &["CpuBusy"],
+            words: &["CpuBusy", "10"],
             text: "outcome 10 CpuBusy\n  When: a thread is on the CPU, and the transaction is not one that takes it off (`p`)\n",
         },
         Row {
-            words: &["SeqSpent"],
+            words: &["SeqSpent", "11"],
             text: "outcome 11 SeqSpent\n  When: the thread on the CPU is to make way, and its number is 4,294,967,295\n",
         },
         Row {
-            words: &["HistoryFull"],
+            words: &["HistoryFull", "12"],
             text: "outcome 12 HistoryFull\n  When: the journal has no room for an entry, or for two if a thread makes way\n",
         },
         Row {
-            words: &["Malformed"],
+            words: &["Malformed", "13"],
             text: "outcome 13 Malformed\n  When: the bytes are no slot of this CPU. No script shows it, since only agent and kernel write slots\n",
         },
         Row {
-            words: &["GroupFailed"],
+            words: &["GroupFailed", "14"],
             text: "outcome 14 GroupFailed\n  When: it would be placed by itself, and another of its group would not be\n",
         },
     ]
@@ -397,11 +397,11 @@ pub(crate) fn exit_statuses() -> &'static [Row] {
     &[
         Row {
             words: &["0"],
-            text: "exit status 0\n  When: the script ran, also if events were refused or the enclave was torn down; the workers' agent settled; help or version was asked for\n",
+            text: "exit status 0\n  When: the script ran, also if events were refused or the enclave was torn down; all lines were answered, or nobody reads the answers any more; the workers' agent settled; help or version was asked for\n",
         },
         Row {
             words: &["2"],
-            text: "exit status 2\n  When: the script has a fault\n",
+            text: "exit status 2\n  When: the script has a fault, or what was read is no workload\n",
         },
         Row {
             words: &["3"],
@@ -413,7 +413,7 @@ pub(crate) fn exit_statuses() -> &'static [Row] {
         },
         Row {
             words: &["5"],
-            text: "exit status 5\n  When: out of memory, or a thread could not be started. Nothing was written\n",
+            text: "exit status 5\n  When: out of memory, or a thread could not be started. Nothing was written, but answers to lines before\n",
         },
         Row {
             words: &["6"],
