@@ -1,5 +1,7 @@
 -- Pieces of a text that grows at its end.
-use Rattle.std.proofs.Common.{◌≡◌, refl, sym, ap, ◌∙◌, ℕ, List, [], ◌∷◌, ◌++◌, append-nil, append_assoc}
+use Rattle.std.proofs.Common.{◌≡◌, ◌≤◌, refl, sym, ap, ◌∙◌, ℕ, List, [], ◌∷◌, ◌++◌, take, drop, length, arith, append-nil, append_assoc}
+use Rattle.std.proofs.lemmas.Grind.{common_steps}
+use Rattle.std.proofs.lemmas.List.{length-append, take-append-drop, take-append-le}
 use Rattle.gs_perfetto.specs.Slices.{Adds, HasEach}
 
 -- a text with more in front of it
@@ -20,17 +22,35 @@ has_then (p ∷ ps) qs a b (before, behind, is, others) k = (
 pub adds_none : (text : List ℕ) → Adds [] text text
 adds_none text = ([], sym (append-nil text), tt)
 
--- what was added, and then a piece between other texts
-pub adds_one : (ps : List (List ℕ)) (p old now told back new : List ℕ) → Adds ps old now → new ≡ ((now ++ told) ++ p) ++ back → Adds (ps ++ p ∷ []) old new
-adds_one ps p old now told back new (more, is, has) e = (
-  more ++ (told ++ (p ++ back)),
-  e ∙ (append_assoc (now ++ told) p back ∙ (ap (λ t. (t ++ told) ++ (p ++ back)) is ∙ (append_assoc (old ++ more) told (p ++ back) ∙ append_assoc old more (told ++ (p ++ back))))),
-  has_then ps (p ∷ []) more (told ++ (p ++ back)) has (told, back, refl, tt),
+-- what was added first, and what was added then
+pub adds_then : (ps qs : List (List ℕ)) (old now new : List ℕ) → Adds ps old now → Adds qs now new → Adds (ps ++ qs) old new
+adds_then ps qs old now new (more, is, has) (then, be, have) = (
+  more ++ then,
+  be ∙ (ap (λ t. t ++ then) is ∙ append_assoc old more then),
+  has_then ps qs more then has have,
 )
 
--- the same behind what was told
-pub adds_told : (ps : List (List ℕ)) (p old now told back new : List ℕ) → Adds ps old now → Adds [] now told → new ≡ (told ++ p) ++ back → Adds (ps ++ p ∷ []) old new
-adds_told ps p old now told back new so_far (more, is, has) e = adds_one ps p old now more back new so_far (e ∙ ap (λ t. (t ++ p) ++ back) is)
+-- a piece behind what was told, and more behind it
+pub adds_slice : (settled : ℕ) (text front back new : List ℕ) → new ≡ text ++ front ++ back → Adds (front ∷ []) (take settled text) new
+adds_slice settled text front back new e = (
+  drop settled text ++ (front ++ back),
+  e ∙ (append_assoc text front back ∙ (ap (λ t. t ++ (front ++ back)) (sym (take-append-drop settled text)) ∙ append_assoc (take settled text) (drop settled text) (front ++ back))),
+  (drop settled text, back, refl, tt),
+)
+
+-- a text of which some is settled
+pub adds_told : (settled : ℕ) (text : List ℕ) → Adds [] (take settled text) text
+adds_told settled text = (drop settled text, sym (take-append-drop settled text), tt)
+
+-- what is settled stays where more is told
+pub told_one : (settled : ℕ) (old a : List ℕ) → settled ≤ length old → take settled (old ++ a) ≡ take settled old
+told_one settled old a h = take-append-le settled old a h
+
+pub told_two : (settled : ℕ) (old a b : List ℕ) → settled ≤ length old → take settled (old ++ a ++ b) ≡ take settled old
+told_two settled old a b h = take-append-le settled (old ++ a) b (grind (arith, common_steps, length-append)) ∙ told_one settled old a h
+
+pub told_four : (settled : ℕ) (old a b c d : List ℕ) → settled ≤ length old → take settled (old ++ a ++ b ++ c ++ d) ≡ take settled old
+told_four settled old a b c d h = told_two settled (old ++ a ++ b) c d (grind (arith, common_steps, length-append)) ∙ told_two settled old a b h
 
 -- and then any text
 pub adds_more : (ps : List (List ℕ)) (old now told new : List ℕ) → Adds ps old now → new ≡ now ++ told → Adds ps old new
@@ -45,15 +65,18 @@ adds_more ps old now told new (more, is, has) e = (more ++ told, e ∙ (ap (λ t
       longer ps behind b others,
     )
 
--- and what was told
-pub adds_last : (ps : List (List ℕ)) (old now told back new : List ℕ) → Adds ps old now → Adds [] now told → new ≡ told ++ back → Adds ps old new
-adds_last ps old now told back new so_far (more, is, has) e = adds_more ps old now (more ++ back) new so_far (e ∙ (ap (λ t. t ++ back) is ∙ append_assoc now more back))
-
 -- a text to which pieces were added has them, with any text behind
-pub has_added : (ps : List (List ℕ)) (old now told new : List ℕ) → Adds ps old now → new ≡ now ++ told → HasEach ps new
-has_added ps old now told new added e = let (more, is, has) = adds_more ps old now told new added e in rw is (has_behind old ps more has)
+pub has_added : (ps : List (List ℕ)) (old now new : List ℕ) → Adds ps old now → Adds [] now new → HasEach ps new
+has_added ps old now new added (more, e, _) = let (all, is, has) = adds_more ps old now more new added e in rw is (has_behind old ps all has)
 
 -- two words, each with a number behind it
-pub two_added : (old now new w d v e : List ℕ) → now ≡ (old ++ w) ++ d → new ≡ (now ++ v) ++ e → new ≡ old ++ (w ++ (d ++ (v ++ e)))
-two_added old now new w d v e first second =
-    second ∙ (append_assoc now v e ∙ (ap (λ t. t ++ (v ++ e)) first ∙ (append_assoc (old ++ w) d (v ++ e) ∙ append_assoc old w (d ++ (v ++ e)))))
+pub two_added : (old new w d v e : List ℕ) → new ≡ old ++ w ++ d ++ v ++ e → new ≡ old ++ (w ++ (d ++ (v ++ e)))
+two_added old new w d v e h = h ∙ simp append_assoc
+
+-- and more behind that
+pub front_added : (old now new w d v e more : List ℕ) → now ≡ old ++ w ++ d ++ v ++ e → new ≡ now ++ more → new ≡ old ++ ((w ++ (d ++ (v ++ e))) ++ more)
+front_added old now new w d v e more h k = k ∙ (ap (λ t. t ++ more) (two_added old now w d v e h) ∙ append_assoc old (w ++ (d ++ (v ++ e))) more)
+
+-- two words with numbers, a word, a name and a word, one after another
+pub back_added : (old a b c d new w l v p x n y : List ℕ) → a ≡ old ++ w ++ l → b ≡ a ++ v ++ p → c ≡ b ++ x → d ≡ c ++ n → new ≡ d ++ y → new ≡ old ++ (w ++ (l ++ (v ++ (p ++ (x ++ (n ++ y))))))
+back_added old a b c d new w l v p x n y e f g h k = k ∙ (ap (λ t. t ++ y) (h ∙ ap (λ t. t ++ n) (g ∙ ap (λ t. t ++ x) (f ∙ ap (λ t. t ++ v ++ p) e))) ∙ simp append_assoc)

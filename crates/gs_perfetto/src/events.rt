@@ -1,49 +1,58 @@
 //! How an event of a trace begins and ends. Each stands behind others, on a line of its own.
 
-ghost use Rattle.std.specs.Prelude.{◌≡◌, ◌++◌, OnOk};
-ghost use Rattle.gs_perfetto.specs.Events.{event_front};
+ghost use Rattle.std.specs.Prelude.{◌≡◌};
 
-use gs_timeline::Sheet;
+use crate::text::Text;
+use gs_timeline::Digits;
 use std::alloc::AllocError;
 
-/// Adds the beginning of an event: its kind and its process, its track, and when it happens.
-#[inline(always)]
-pub(crate) fn begin_event(
-    out: &mut Sheet,
-    head: &str,
-    track: u64,
-    place: usize,
-) -> Result<(), AllocError>
-    ensures { OnOk result (out.new ≡ out.old ++ event_front head.now track place) }
-{
-    out.push_number(head, track)?;
-    out.push_number(",\"ts\":", place as u64)?;
-    Ok(())
+/// When and by what something happens.
+#[derive(Clone, Copy)]
+pub(crate) struct When<'a> {
+    /// The place of the entry.
+    pub place: &'a Digits,
+    /// The line of the script.
+    pub line: &'a Digits,
 }
 
-/// Adds the last arguments of an event: the line of the script, and the place of the entry. It ends the event. `front` stands
+/// What stands in front of the time of an event.
+pub(crate) const TIME: &str = ",\"ts\":";
+
+/// Tells the beginning of an event: its kind and its process, its track, and when it happens.
+#[inline(always)]
+pub(crate) fn begin_event(
+    out: &mut Text,
+    head: &str,
+    track: u64,
+    place: &Digits,
+) -> Result<(), AllocError>
+    ensures { out.new ≡ out.old }
+{
+    out.push_number_digits(head, track, TIME, place)
+}
+
+/// Tells the last arguments of an event: the line of the script, and the place of the entry. It ends the event. `front` stands
 /// in front of them.
 #[inline(always)]
-pub(crate) fn end_event(
-    out: &mut Sheet,
-    front: &str,
-    line: usize,
-    place: usize,
-) -> Result<(), AllocError> {
+pub(crate) fn end_event(out: &mut Text, front: &str, when: When<'_>) -> Result<(), AllocError>
+    ensures { out.new ≡ out.old }
+{
     out.push_str(front)?;
-    out.push_number("\"line\":", line as u64)?;
-    out.push_number(",\"entry\":", place as u64)?;
+    out.push_digits("\"line\":", when.line)?;
+    out.push_digits(",\"entry\":", when.place)?;
     out.push_str("}}")
 }
 
-/// Adds the end of the slice that began last on a track.
+/// Tells the end of the slice that began last on a track.
 #[inline(always)]
 pub(crate) fn end_slice(
-    out: &mut Sheet,
+    out: &mut Text,
     head: &str,
     track: u64,
-    place: usize,
-) -> Result<(), AllocError> {
+    place: &Digits,
+) -> Result<(), AllocError>
+    ensures { out.new ≡ out.old }
+{
     begin_event(out, head, track, place)?;
     out.push_str("}")
 }

@@ -7,6 +7,7 @@ mod labels;
 mod queue;
 mod slices;
 mod slots;
+mod text;
 mod trace;
 mod tracks;
 mod walk;

@@ -1,14 +1,19 @@
 //! What is counted as a trace goes on: the bytes in the ring, and the threads that may run and are on no CPU.
 
+ghost use Rattle.std.specs.Prelude.{◌≡◌};
+
+use crate::text::Text;
 use crate::tracks::{RING, WAITING};
 use gs_journal::Entry;
 use gs_layout::{Change, Message};
-use gs_timeline::Sheet;
+use gs_timeline::Digits;
 use std::alloc::{AllocError, Global};
 
-/// Adds how many bytes of the ring are in use.
-pub(crate) fn write_fill(out: &mut Sheet, place: usize, used: usize) -> Result<(), AllocError> {
-    out.push_number(RING, place as u64)?;
+/// Tells how many bytes of the ring are in use.
+pub(crate) fn write_fill(out: &mut Text, place: &Digits, used: usize) -> Result<(), AllocError>
+    ensures { out.new ≡ out.old }
+{
+    out.push_digits(RING, place)?;
     out.push_number(",\"args\":{\"bytes\":", used as u64)?;
     out.push_str("}}")
 }
@@ -50,6 +55,7 @@ impl Queue {
     }
 
     /// Notes a message about a thread.
+    #[inline(always)]
     fn hear_change(&mut self, tid: u32, change: &Change) -> Result<(), AllocError> {
         let was_on = match change {
             Change::Dead { cpu } => cpu.is_some(),
@@ -71,6 +77,7 @@ impl Queue {
     }
 
     /// Notes an entry.
+    #[inline(always)]
     pub(crate) fn hear(&mut self, entry: &Entry) -> Result<(), AllocError> {
         match entry {
             Entry::Posted {
@@ -86,15 +93,21 @@ impl Queue {
         Ok(())
     }
 
-    /// Adds how many threads may run and are on no CPU.
-    pub(crate) fn write(&self, out: &mut Sheet, place: usize) -> Result<(), AllocError> {
-        out.push_number(WAITING, place as u64)?;
+    /// Tells how many threads may run and are on no CPU.
+    #[inline(always)]
+    pub(crate) fn write(&self, out: &mut Text, place: &Digits) -> Result<(), AllocError>
+        ensures { out.new ≡ out.old }
+    {
+        out.push_digits(WAITING, place)?;
         out.push_number(",\"args\":{\"threads\":", self.shown as u64)?;
         out.push_str("}}")
     }
 
-    /// Adds it if it is not what was shown before.
-    pub(crate) fn show(&mut self, out: &mut Sheet, place: usize) -> Result<(), AllocError> {
+    /// Tells it if it is not what was shown before.
+    #[inline(always)]
+    pub(crate) fn show(&mut self, out: &mut Text, place: &Digits) -> Result<(), AllocError>
+        ensures { out.new ≡ out.old }
+    {
         let waiting = self.may_run.saturating_sub(self.running);
         if waiting == self.shown {
             return Ok(());

@@ -1,15 +1,15 @@
 //! The transactions: stamped into the slot of a CPU, and landed from it, or late.
 
-ghost use Rattle.std.specs.Prelude.{◌≡◌, ◌++◌, OnOk};
+ghost use Rattle.std.specs.Prelude.{◌≡◌};
 ghost use Rattle.gs_perfetto.specs.Events.{outcome_args};
 
-use crate::events::{begin_event, end_event, end_slice};
+use crate::events::{TIME, When, begin_event, end_event, end_slice};
+use crate::text::Text;
 use crate::tracks::{
-    ACTIVE, SLOT_BEGIN, SLOT_END, SLOT_INSTANT, SLOT_SLICE, WAY_BEGIN, WAY_END, slot_track,
+    SLOT_BEGIN, SLOT_END, SLOT_INSTANT, SLOT_SLICE, WAY_BEGIN, WAY_END, slot_track,
 };
 use gs_layout::Outcome;
-use gs_lines::outcome_name;
-use gs_timeline::{Mark, Sheet, What};
+use gs_timeline::{Digits, Mark, What};
 use std::alloc::{AllocError, Global};
 
 /// Makes a list of nothing for each of so many CPUs.
@@ -66,24 +66,39 @@ pub(crate) struct Slots {
     stamped: Vec<Option<Stamped>>,
     /// How many transactions were stamped so far.
     count: u64,
+    /// The number that was told last, and the track.
+    number: Digits,
+    track: Digits,
     cpus: u16,
 }
 
-/// Adds the beginning or the end of the way of a transaction.
+/// Tells the beginning of the way of a transaction.
 #[inline(always)]
-fn write_way(
-    out: &mut Sheet,
-    head: &str,
-    track: u64,
-    number: u64,
-    place: usize,
-) -> Result<(), AllocError> {
-    begin_event(out, head, track, place)?;
-    out.push_number(",\"id\":", number)?;
+fn begin_way(out: &mut Text, number: &Digits, place: &Digits) -> Result<(), AllocError>
+    ensures { out.new ≡ out.old }
+{
+    out.push_digits(WAY_BEGIN, place)?;
+    out.push_digits(",\"id\":", number)?;
     out.push_str("}")
 }
 
-/// Returns what is said of a stamp beside its transaction and its thread.
+/// Tells the end of it, in a slot.
+#[inline(always)]
+fn end_way(
+    out: &mut Text,
+    track: &Digits,
+    number: &Digits,
+    place: &Digits,
+) -> Result<(), AllocError>
+    ensures { out.new ≡ out.old }
+{
+    out.push_digits(WAY_END, track)?;
+    out.push_digits(TIME, place)?;
+    out.push_digits(",\"id\":", number)?;
+    out.push_str("}")
+}
+
+/// Returns what is said of a stamp that is to preempt, or is one of a group, beside its transaction and its thread.
 fn flags_of(preempt: bool, group: bool) -> &'static str {
     match (preempt, group) {
         (false, false) => ",",
@@ -93,57 +108,85 @@ fn flags_of(preempt: bool, group: bool) -> &'static str {
     }
 }
 
-/// Adds the time that a transaction is in a slot: up to its landing, if it lands, or else the beginning.
+/// Ends the event of a stamp. Most are of neither kind, so that what ends them is known.
+#[inline(always)]
+fn end_stamp(out: &mut Text, preempt: bool, group: bool, when: When<'_>) -> Result<(), AllocError>
+    ensures { out.new ≡ out.old }
+{
+    if preempt || group {
+        end_event(out, flags_of(preempt, group), when)
+    } else {
+        end_event(out, ",", when)
+    }
+}
+
+/// Tells the time that a transaction is in a slot, up to its last arguments: the time up to its landing, if it lands, or else
+/// the beginning.
 fn write_stamp(
-    out: &mut Sheet,
-    number: u64,
+    out: &mut Text,
+    number: &Digits,
     mark: &Mark,
+    when: When<'_>,
     landing: Option<usize>,
-    flags: &str,
     name: &str,
-) -> Result<(), AllocError> {
+) -> Result<(), AllocError>
+    ensures { out.new ≡ out.old }
+{
     let head = if landing.is_some() {
         SLOT_SLICE
     } else {
         SLOT_BEGIN
     };
-    begin_event(out, head, slot_track(mark.cpu), mark.entries)?;
+    begin_event(out, head, slot_track(mark.cpu), when.place)?;
     if let Some(place) = landing {
         out.push_number(",\"dur\":", place.saturating_sub(mark.entries) as u64)?;
     }
     out.push_str(",\"name\":")?;
     out.push_str(name)?;
-    out.push_number(",\"args\":{\"transaction\":", number)?;
-    out.push_number(",\"tid\":", u64::from(mark.tid))?;
-    end_event(out, flags, mark.line, mark.entries)
+    out.push_digits(",\"args\":{\"transaction\":", number)?;
+    out.push_number(",\"tid\":", u64::from(mark.tid))
 }
 
-/// Adds an outcome: it is what the event is called, and an argument.
-#[inline(always)]
-fn write_outcome(out: &mut Sheet, outcome: Outcome) -> Result<(), AllocError>
-    ensures { OnOk result (out.new ≡ out.old ++ outcome_args outcome) }
+/// Returns how an outcome is told: it is what the event is called, and an argument.
+fn args_of(outcome: Outcome) -> &'static str
+    ensures { result.now ≡ outcome_args outcome }
 {
-    let name = outcome_name(outcome);
-    out.push_str(",\"name\":\"")?;
-    out.push_str(name)?;
-    out.push_str("\",\"args\":{\"outcome\":\"")?;
-    out.push_str(name)
+    match outcome {
+        Outcome::Placed => ",\"name\":\"placed\",\"args\":{\"outcome\":\"placed",
+        Outcome::Gone => ",\"name\":\"gone\",\"args\":{\"outcome\":\"gone",
+        Outcome::Displaced => ",\"name\":\"displaced\",\"args\":{\"outcome\":\"displaced",
+        Outcome::NoThread => ",\"name\":\"nothread\",\"args\":{\"outcome\":\"nothread",
+        Outcome::Stale => ",\"name\":\"stale\",\"args\":{\"outcome\":\"stale",
+        Outcome::NotRunnable => ",\"name\":\"notrunnable\",\"args\":{\"outcome\":\"notrunnable",
+        Outcome::AlreadyPlaced =>
+            ",\"name\":\"alreadyplaced\",\"args\":{\"outcome\":\"alreadyplaced",
+        Outcome::NotAllowed => ",\"name\":\"notallowed\",\"args\":{\"outcome\":\"notallowed",
+        Outcome::CpuIsAgent => ",\"name\":\"cpuisagent\",\"args\":{\"outcome\":\"cpuisagent",
+        Outcome::CpuTaken => ",\"name\":\"cputaken\",\"args\":{\"outcome\":\"cputaken",
+        Outcome::CpuBusy => ",\"name\":\"cpubusy\",\"args\":{\"outcome\":\"cpubusy",
+        Outcome::SeqSpent => ",\"name\":\"seqspent\",\"args\":{\"outcome\":\"seqspent",
+        Outcome::HistoryFull => ",\"name\":\"historyfull\",\"args\":{\"outcome\":\"historyfull",
+        Outcome::Malformed => ",\"name\":\"malformed\",\"args\":{\"outcome\":\"malformed",
+        Outcome::GroupFailed => ",\"name\":\"groupfailed\",\"args\":{\"outcome\":\"groupfailed",
+    }
 }
 
-/// Adds a landing. A late one is told so.
+/// Tells a landing in a slot, up to its last arguments.
 fn write_landing(
-    out: &mut Sheet,
-    number: u64,
+    out: &mut Text,
+    track: &Digits,
+    number: &Digits,
     mark: &Mark,
+    when: When<'_>,
     outcome: Outcome,
-    late: bool,
-) -> Result<(), AllocError> {
-    begin_event(out, SLOT_INSTANT, slot_track(mark.cpu), mark.entries)?;
-    write_outcome(out, outcome)?;
+) -> Result<(), AllocError>
+    ensures { out.new ≡ out.old }
+{
+    out.push_digits(SLOT_INSTANT, track)?;
+    out.push_digits(TIME, when.place)?;
+    out.push_str(args_of(outcome))?;
     out.push_number("\",\"tid\":", u64::from(mark.tid))?;
-    out.push_number(",\"transaction\":", number)?;
-    let front = if late { ",\"late\":true," } else { "," };
-    end_event(out, front, mark.line, mark.entries)
+    out.push_digits(",\"transaction\":", number)
 }
 
 impl Slots {
@@ -152,6 +195,8 @@ impl Slots {
         Ok(Slots {
             stamped: nothing_for_each(alloc, cpus)?,
             count: 0,
+            number: Digits::new(0),
+            track: Digits::new(0),
             cpus,
         })
     }
@@ -167,71 +212,96 @@ impl Slots {
     /// Sets what is in the slot of a CPU, and ends the slice of what was, if that is still to be told.
     fn set(
         &mut self,
-        out: &mut Sheet,
+        out: &mut Text,
         cpu: u16,
-        place: usize,
+        place: &Digits,
         stamped: Option<Stamped>,
-    ) -> Result<(), AllocError> {
+    ) -> Result<(), AllocError>
+        ensures { out.new ≡ out.old }
+    {
         match self.replace(cpu, stamped) {
             Some(Stamped { open: true, .. }) => end_slice(out, SLOT_END, slot_track(cpu), place),
             _ => Ok(()),
         }
     }
 
-    /// Adds a stamp, whose transaction lands before this entry, if it does.
+    /// Tells a stamp, whose transaction lands before this entry, if it does, up to its last arguments.
     fn stamp(
         &mut self,
-        out: &mut Sheet,
+        out: &mut Text,
         mark: &Mark,
-        flags: &str,
+        when: When<'_>,
         landing: Option<usize>,
         name: &str,
-    ) -> Result<(), AllocError> {
+    ) -> Result<(), AllocError>
+        ensures { out.new ≡ out.old }
+    {
         self.count = self.count.saturating_add(1);
         let stamped = Stamped {
             number: self.count,
             open: landing.is_none(),
         };
-        self.set(out, mark.cpu, mark.entries, Some(stamped))?;
-        write_stamp(out, self.count, mark, landing, flags, name)?;
-        if landing.is_some() {
-            write_way(out, WAY_BEGIN, ACTIVE, self.count, mark.entries)?;
-        }
-        Ok(())
+        self.set(out, mark.cpu, when.place, Some(stamped))?;
+        self.number.set(self.count);
+        write_stamp(out, &self.number, mark, when, landing, name)
     }
 
-    /// Adds a landing from a slot.
-    fn land(&mut self, out: &mut Sheet, mark: &Mark, outcome: Outcome) -> Result<(), AllocError> {
+    /// Tells a landing from a slot.
+    fn land(
+        &mut self,
+        out: &mut Text,
+        mark: &Mark,
+        when: When<'_>,
+        outcome: Outcome,
+    ) -> Result<(), AllocError>
+        ensures { out.new ≡ out.old }
+    {
         let number = match self.replace(mark.cpu, None) {
             Some(stamped) => stamped.number,
             None => 0,
         };
-        write_way(out, WAY_END, slot_track(mark.cpu), number, mark.entries)?;
-        write_landing(out, number, mark, outcome, false)
+        self.number.set(number);
+        self.track.set(slot_track(mark.cpu));
+        end_way(out, &self.track, &self.number, when.place)?;
+        write_landing(out, &self.track, &self.number, mark, when, outcome)?;
+        end_event(out, ",", when)
     }
 
-    /// Adds what an event did to a transaction. Of a stamp it is given before which entry it lands from its slot, if it does,
+    /// Tells what an event did to a transaction. Of a stamp it is given before which entry it lands from its slot, if it does,
     /// and `name` is what the thread is called, as JSON.
     pub(crate) fn hear(
         &mut self,
-        out: &mut Sheet,
+        out: &mut Text,
         mark: &Mark,
+        when: When<'_>,
         landing: Option<usize>,
         name: &str,
-    ) -> Result<(), AllocError> {
+    ) -> Result<(), AllocError>
+        ensures { out.new ≡ out.old }
+    {
         match mark.what {
             What::Stamped { preempt, group } => {
-                self.stamp(out, mark, flags_of(preempt, group), landing, name)
+                self.stamp(out, mark, when, landing, name)?;
+                end_stamp(out, preempt, group, when)?;
+                if landing.is_some() {
+                    begin_way(out, &self.number, when.place)?;
+                }
+                Ok(())
             }
-            What::Landed { outcome } => self.land(out, mark, outcome),
+            What::Landed { outcome } => self.land(out, mark, when, outcome),
             What::Late { number, outcome } => {
-                write_landing(out, u64::from(number), mark, outcome, true)
+                self.number.set(u64::from(number));
+                self.track.set(slot_track(mark.cpu));
+                write_landing(out, &self.track, &self.number, mark, when, outcome)?;
+                end_event(out, ",\"late\":true,", when)
             }
         }
     }
 
-    /// Adds the end of what is stamped in any slot.
-    pub(crate) fn clear(&mut self, out: &mut Sheet, place: usize) -> Result<(), AllocError> {
+    /// Tells the end of what is stamped in any slot.
+    pub(crate) fn clear(&mut self, out: &mut Text, place: &Digits) -> Result<(), AllocError>
+        ensures { out.new ≡ out.old }
+    {
         for cpu in 0..self.cpus {
             self.set(out, cpu, place, None)?;
         }

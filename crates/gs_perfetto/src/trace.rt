@@ -4,15 +4,12 @@ ghost use Rattle.gs_perfetto.specs.Events.{slice_front};
 ghost use Rattle.gs_perfetto.specs.Slices.{Adds, HasEach};
 ghost use Rattle.gs_timeline.specs.Stays.{all_stays};
 
-use crate::slices::write_slice;
+use crate::text::Text;
 use crate::tracks::write_tracks;
 use crate::walk::Walk;
 use gs_journal::Journal;
 use gs_timeline::{Notes, Sheet, Stay, all_stays};
 use std::alloc::{AllocError, Global};
-
-/// How many entries are told at once at most.
-const PIECE: usize = 1_024;
 
 /// Returns the stays on so many CPUs in the order in which they began.
 fn stays_in_order(alloc: Global, journal: &Journal, cpus: u16) -> Result<Vec<Stay>, AllocError>
@@ -23,45 +20,16 @@ fn stays_in_order(alloc: Global, journal: &Journal, cpus: u16) -> Result<Vec<Sta
     Ok(all)
 }
 
-/// Adds what a walk tells up to a place, piece by piece, so that what waits to be added stays small. Nothing waits before
-/// that, nor behind it.
-fn write_told(
-    out: &mut Sheet,
-    told: &mut Sheet,
-    walk: &mut Walk<'_>,
-    last: usize,
-) -> Result<(), AllocError>
-    ensures { OnOk result (Adds [] out.old out.new) }
-{
-    let pieces = walk.left(last) / PIECE;
-    for _ in 0..pieces {
-        walk.tell_piece(told, PIECE)?;
-        out.push_sheet(told)?;
-        told.clear();
-    }
-    walk.tell_up_to(told, last)?;
-    out.push_sheet(told)?;
-    told.clear();
-    Ok(())
-}
-
-/// Adds all that a walk tells, and the stays, each where it begins.
-fn write_events(
-    out: &mut Sheet,
-    alloc: Global,
-    walk: &mut Walk<'_>,
-    stays: &[Stay],
-) -> Result<(), AllocError>
+/// Tells all that a walk tells, and adds the stays, each where it begins.
+fn write_events(out: &mut Text, walk: &mut Walk<'_>, stays: &[Stay]) -> Result<(), AllocError>
     ensures { OnOk result (Adds (map slice_front stays.now) out.old out.new) }
 {
-    let mut told = Sheet::new(alloc);
     for stay in stays {
-        write_told(out, &mut told, walk, stay.from)?;
-        write_slice(out, stay, walk.line(stay.from), walk.name(stay.tid))?;
+        walk.tell_up_to(out, stay.from)?;
+        walk.add_slice(out, stay)?;
     }
-    write_told(out, &mut told, walk, walk.end())?;
-    walk.finish(&mut told)?;
-    out.push_sheet(&told)?;
+    walk.tell_up_to(out, walk.end())?;
+    walk.finish(out)?;
     Ok(())
 }
 
@@ -84,11 +52,11 @@ pub fn trace_events<'a>(
 {
     let stays = stays_in_order(alloc, journal, cpus)?;
     let mut walk = Walk::new(alloc, cpus, journal, notes)?;
-    let mut out = Sheet::new(alloc);
+    let mut out = Text::new(alloc);
     out.push_str("{\"displayTimeUnit\":\"ns\",\"traceEvents\":[\n")?;
     write_tracks(&mut out, cpus)?;
     walk.begin(&mut out)?;
-    write_events(&mut out, alloc, &mut walk, stays.as_slice())?;
+    write_events(&mut out, &mut walk, stays.as_slice())?;
     out.push_str("\n]}\n")?;
-    Ok(out)
+    Ok(out.into_sheet())
 }

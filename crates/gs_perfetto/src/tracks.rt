@@ -3,7 +3,7 @@
 ghost use Rattle.std.specs.Prelude.{◌≡◌};
 ghost use Rattle.gs_perfetto.specs.Events.{cpu_track};
 
-use gs_timeline::Sheet;
+use crate::text::Text;
 use std::alloc::AllocError;
 
 /// The processes that the tracks are of. The number of a track has to follow.
@@ -39,11 +39,11 @@ pub(crate) const SLOT_END: &str = ",\n{\"ph\":\"E\",\"pid\":3,\"tid\":";
 
 pub(crate) const SLOT_INSTANT: &str = ",\n{\"ph\":\"i\",\"pid\":3,\"tid\":";
 
-/// The beginning of the way of a transaction, up to the track of the agent that is active, and its end, up to that of
-/// a slot.
+/// The beginning of the way of a transaction, on the track of the agent that is active, up to the time.
 pub(crate) const WAY_BEGIN: &str =
-    ",\n{\"ph\":\"s\",\"cat\":\"way\",\"name\":\"way\",\"pid\":2,\"tid\":";
+    ",\n{\"ph\":\"s\",\"cat\":\"way\",\"name\":\"way\",\"pid\":2,\"tid\":401,\"ts\":";
 
+/// Its end, up to the track of a slot.
 pub(crate) const WAY_END: &str =
     ",\n{\"ph\":\"f\",\"bp\":\"e\",\"cat\":\"way\",\"name\":\"way\",\"pid\":3,\"tid\":";
 
@@ -77,31 +77,39 @@ pub(crate) fn slot_track(cpu: u16) -> u64 {
     FIRST_SLOT + u64::from(cpu)
 }
 
-/// Adds a fact about a process or a track, up to its value: which fact, and of which process and track.
-fn begin_fact(out: &mut Sheet, fact: &str, process: &str, track: u64) -> Result<(), AllocError> {
+/// Tells a fact about a process or a track, up to its value: which fact, and of which process and track.
+fn begin_fact(out: &mut Text, fact: &str, process: &str, track: u64) -> Result<(), AllocError>
+    ensures { out.new ≡ out.old }
+{
     out.push_str(",\n{\"ph\":\"M\",\"name\":\"")?;
     out.push_str(fact)?;
     out.push_str("\"")?;
     out.push_number(process, track)
 }
 
-/// Adds what a process is called.
-fn name_process(out: &mut Sheet, process: &str, track: u64, name: &str) -> Result<(), AllocError> {
+/// Tells what a process is called.
+fn name_process(out: &mut Text, process: &str, track: u64, name: &str) -> Result<(), AllocError>
+    ensures { out.new ≡ out.old }
+{
     begin_fact(out, "process_name", process, track)?;
     out.push_str(",\"args\":{\"name\":\"")?;
     out.push_str(name)?;
     out.push_str("\"}}")
 }
 
-/// Adds where a track stands among those of its process.
-fn sort_track(out: &mut Sheet, process: &str, track: u64) -> Result<(), AllocError> {
+/// Tells where a track stands among those of its process.
+fn sort_track(out: &mut Text, process: &str, track: u64) -> Result<(), AllocError>
+    ensures { out.new ≡ out.old }
+{
     begin_fact(out, "thread_sort_index", process, track)?;
     out.push_number(",\"args\":{\"sort_index\":", track)?;
     out.push_str("}}")
 }
 
-/// Adds what a track is called, and where it stands.
-fn name_track(out: &mut Sheet, process: &str, track: u64, name: &str) -> Result<(), AllocError> {
+/// Tells what a track is called, and where it stands.
+fn name_track(out: &mut Text, process: &str, track: u64, name: &str) -> Result<(), AllocError>
+    ensures { out.new ≡ out.old }
+{
     begin_fact(out, "thread_name", process, track)?;
     out.push_str(",\"args\":{\"name\":\"")?;
     out.push_str(name)?;
@@ -109,14 +117,16 @@ fn name_track(out: &mut Sheet, process: &str, track: u64, name: &str) -> Result<
     sort_track(out, process, track)
 }
 
-/// Adds what the track of a CPU is called, and where it stands: words, and the CPU.
+/// Tells what the track of a CPU is called, and where it stands: words, and the CPU.
 fn name_track_of(
-    out: &mut Sheet,
+    out: &mut Text,
     process: &str,
     track: u64,
     words: &str,
     cpu: u16,
-) -> Result<(), AllocError> {
+) -> Result<(), AllocError>
+    ensures { out.new ≡ out.old }
+{
     begin_fact(out, "thread_name", process, track)?;
     out.push_str(",\"args\":{\"name\":\"")?;
     out.push_number(words, u64::from(cpu))?;
@@ -124,8 +134,10 @@ fn name_track_of(
     sort_track(out, process, track)
 }
 
-/// Adds what all processes and tracks are called. Nothing stands before it but what begins the list.
-pub(crate) fn write_tracks(out: &mut Sheet, cpus: u16) -> Result<(), AllocError> {
+/// Tells what all processes and tracks are called. Nothing stands before it but what begins the list.
+pub(crate) fn write_tracks(out: &mut Text, cpus: u16) -> Result<(), AllocError>
+    ensures { out.new ≡ out.old }
+{
     out.push_str(
         "{\"ph\":\"M\",\"name\":\"process_name\",\"pid\":1,\"args\":{\"name\":\"CPUs\"}}",
     )?;

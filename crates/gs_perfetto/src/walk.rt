@@ -1,14 +1,19 @@
 //! What a trace tells beside the stays, place by place.
 
+ghost use Rattle.std.specs.Prelude.{◌≡◌, ◌∷◌, [], OnOk};
+ghost use Rattle.gs_perfetto.specs.Events.{slice_front};
+ghost use Rattle.gs_perfetto.specs.Slices.{Adds};
+
 use crate::agents::Agent;
-use crate::events::{begin_event, end_event, end_slice};
+use crate::events::{When, begin_event, end_event, end_slice};
 use crate::labels::Labels;
 use crate::queue::{Queue, write_fill};
 use crate::slots::{Slots, landings_of};
+use crate::text::Text;
 use crate::tracks::{CPU_BEGIN, CPU_END, EVERYWHERE, cpu_track};
 use gs_journal::{Entry, Journal};
 use gs_layout::{Change, Message};
-use gs_timeline::{Notes, Sheet};
+use gs_timeline::{Digits, Notes, Stay};
 use std::alloc::{AllocError, Global};
 
 /// How far a trace came.
@@ -31,18 +36,25 @@ pub(crate) struct Walk<'a> {
     /// Whether the other class has each CPU.
     taken: Vec<bool>,
     cpus: u16,
+    /// The place that was told last, and the script's line of that.
+    place: Digits,
+    line: Digits,
 }
 
-/// Adds the beginning of a time that the other class has a CPU.
-fn write_taken(out: &mut Sheet, line: usize, place: usize, cpu: u16) -> Result<(), AllocError> {
-    begin_event(out, CPU_BEGIN, cpu_track(cpu), place)?;
-    end_event(out, ",\"name\":\"other class\",\"args\":{", line, place)
+/// Tells the beginning of a time that the other class has a CPU.
+fn write_taken(out: &mut Text, when: When<'_>, cpu: u16) -> Result<(), AllocError>
+    ensures { out.new ≡ out.old }
+{
+    begin_event(out, CPU_BEGIN, cpu_track(cpu), when.place)?;
+    end_event(out, ",\"name\":\"other class\",\"args\":{", when)
 }
 
-/// Adds a tear-down.
-fn write_torn(out: &mut Sheet, line: usize, place: usize) -> Result<(), AllocError> {
-    begin_event(out, EVERYWHERE, cpu_track(0), place)?;
-    end_event(out, ",\"name\":\"torn\",\"args\":{", line, place)
+/// Tells a tear-down.
+fn write_torn(out: &mut Text, when: When<'_>) -> Result<(), AllocError>
+    ensures { out.new ≡ out.old }
+{
+    begin_event(out, EVERYWHERE, cpu_track(0), when.place)?;
+    end_event(out, ",\"name\":\"torn\",\"args\":{", when)
 }
 
 impl<'a> Walk<'a> {
@@ -72,36 +84,61 @@ impl<'a> Walk<'a> {
             queue: Queue::new(alloc),
             taken,
             cpus,
+            place: Digits::new(0),
+            line: Digits::new(0),
         })
     }
 
     /// Returns the script's line that added an entry.
-    pub(crate) fn line(&self, place: usize) -> usize {
-        self.notes.lines.get(place).copied().unwrap_or(0)
+    fn line_of(&self, place: usize) -> u64 {
+        self.notes.lines.get(place).copied().unwrap_or(0) as u64
     }
 
-    /// Lends what a thread is called, as JSON.
-    pub(crate) fn name(&self, tid: u32) -> &str {
-        self.labels.of(tid)
+    /// Goes to an entry: its place, and its line.
+    #[inline(always)]
+    fn go(&mut self, place: usize)
+        ensures { self.new.place ≡ place }
+    {
+        self.place.set(place as u64);
+        let line = self.line_of(place);
+        self.line.set(line);
     }
 
-    /// Adds what is counted at the beginning.
-    pub(crate) fn begin(&self, out: &mut Sheet) -> Result<(), AllocError> {
-        write_fill(out, 0, 0)?;
-        self.queue.write(out, 0)
+    /// Adds a stay as a slice.
+    pub(crate) fn add_slice(&mut self, out: &mut Text, stay: &Stay) -> Result<(), AllocError>
+        ensures { OnOk result (Adds (slice_front stay.now ∷ []) out.old out.new) }
+    {
+        self.go(stay.from);
+        out.add_slice(stay, &self.line, &self.place, self.labels.of(stay.tid))
+    }
+
+    /// Tells what is counted at the beginning.
+    pub(crate) fn begin(&self, out: &mut Text) -> Result<(), AllocError>
+        ensures { out.new ≡ out.old }
+    {
+        write_fill(out, &self.place, 0)?;
+        self.queue.write(out, &self.place)
     }
 
     /// Tells what events did to transactions, of those that begin at this place or before.
     #[inline(always)]
-    fn tell_marks(&mut self, out: &mut Sheet, place: usize) -> Result<(), AllocError> {
+    fn tell_marks(&mut self, out: &mut Text, place: usize) -> Result<(), AllocError>
+        ensures { out.new ≡ out.old }
+    {
         let marks = self.notes.marks;
         for at in self.mark..marks.len() {
             let Some(mark) = marks.get(at).filter(|mark| mark.entries <= place) else {
                 break;
             };
             let landing = self.landings.get(at).copied().unwrap_or(None);
+            self.place.set(mark.entries as u64);
+            self.line.set(mark.line as u64);
+            let when = When {
+                place: &self.place,
+                line: &self.line,
+            };
             self.slots
-                .hear(out, mark, landing, self.labels.of(mark.tid))?;
+                .hear(out, mark, when, landing, self.labels.of(mark.tid))?;
             self.mark = at + 1;
         }
         Ok(())
@@ -109,26 +146,38 @@ impl<'a> Walk<'a> {
 
     /// Tells what happened to agents that no entry tells, up to this place.
     #[inline(always)]
-    fn tell_agents(&mut self, out: &mut Sheet, place: usize) -> Result<(), AllocError> {
+    fn tell_agents(&mut self, out: &mut Text, place: usize) -> Result<(), AllocError>
+        ensures { out.new ≡ out.old }
+    {
         let marks = self.notes.agents;
         for at in self.agent_mark..marks.len() {
             let Some(mark) = marks.get(at).filter(|mark| mark.entries <= place) else {
                 break;
             };
-            self.agent.mark(out, mark)?;
+            self.place.set(mark.entries as u64);
+            self.line.set(mark.line as u64);
+            let when = When {
+                place: &self.place,
+                line: &self.line,
+            };
+            self.agent.mark(out, when, mark.event)?;
             self.agent_mark = at + 1;
         }
         Ok(())
     }
 
     /// Tells how full the ring is, up to this place.
-    fn tell_fills(&mut self, out: &mut Sheet, place: usize) -> Result<(), AllocError> {
+    #[inline(always)]
+    fn tell_fills(&mut self, out: &mut Text, place: usize) -> Result<(), AllocError>
+        ensures { out.new ≡ out.old }
+    {
         let fills = self.notes.fills;
         for at in self.fill..fills.len() {
             let Some(fill) = fills.get(at).filter(|fill| fill.entries <= place) else {
                 break;
             };
-            write_fill(out, fill.entries, fill.used)?;
+            self.place.set(fill.entries as u64);
+            write_fill(out, &self.place, fill.used)?;
             self.fill = at + 1;
         }
         Ok(())
@@ -145,48 +194,65 @@ impl<'a> Walk<'a> {
     }
 
     /// Ends the time that the other class has a CPU, if it has it.
-    fn give(&mut self, out: &mut Sheet, place: usize, cpu: u16) -> Result<(), AllocError> {
+    fn give(&mut self, out: &mut Text, cpu: u16) -> Result<(), AllocError>
+        ensures { out.new ≡ out.old }
+    {
         if self.take(cpu, false) {
-            end_slice(out, CPU_END, cpu_track(cpu), place)?;
+            end_slice(out, CPU_END, cpu_track(cpu), &self.place)?;
         }
         Ok(())
     }
 
-    /// Tells an entry.
-    fn tell_entry(
-        &mut self,
-        out: &mut Sheet,
-        place: usize,
-        entry: &Entry,
-    ) -> Result<(), AllocError> {
-        let line = self.line(place);
+    /// Tells an entry. It is folded into the walk, and lends no part of the entry, so that this is never written out whole.
+    #[inline(always)]
+    fn tell_entry(&mut self, out: &mut Text, place: usize, entry: &Entry) -> Result<(), AllocError>
+        ensures { out.new ≡ out.old }
+    {
+        self.go(place);
         match entry {
             Entry::Taken { cpu } => {
                 self.take(*cpu, true);
-                write_taken(out, line, place, *cpu)?;
+                let when = When {
+                    place: &self.place,
+                    line: &self.line,
+                };
+                write_taken(out, when, *cpu)?;
             }
-            Entry::Given { cpu } => self.give(out, place, *cpu)?,
+            Entry::Given { cpu } => self.give(out, *cpu)?,
             Entry::Posted {
                 message: Message::Thread {
                     tid,
                     change: Change::Created { facts },
                     ..
                 },
-            } => self.labels.add(self.alloc, *tid, &facts.name)?,
-            Entry::Begin { .. } => self.slots.clear(out, place)?,
+            } => {
+                let name = facts.name;
+                self.labels.add(self.alloc, *tid, &name)?;
+            }
+            Entry::Begin { .. } => self.slots.clear(out, &self.place)?,
             Entry::Torn => {
-                self.slots.clear(out, place)?;
-                write_torn(out, line, place)?;
+                self.slots.clear(out, &self.place)?;
+                let when = When {
+                    place: &self.place,
+                    line: &self.line,
+                };
+                write_torn(out, when)?;
             }
             _ => {}
         }
-        self.agent.hear(out, line, place, entry)?;
+        let when = When {
+            place: &self.place,
+            line: &self.line,
+        };
+        self.agent.hear(out, when, entry)?;
         self.queue.hear(entry)?;
-        self.queue.show(out, place)
+        self.queue.show(out, &self.place)
     }
 
     /// Tells all up to a place: what happened before its entry, and that entry.
-    pub(crate) fn tell_up_to(&mut self, out: &mut Sheet, last: usize) -> Result<(), AllocError> {
+    pub(crate) fn tell_up_to(&mut self, out: &mut Text, last: usize) -> Result<(), AllocError>
+        ensures { out.new ≡ out.old }
+    {
         let journal = self.journal;
         for place in self.entry..journal.len() {
             if place > last {
@@ -201,31 +267,24 @@ impl<'a> Walk<'a> {
         Ok(())
     }
 
-    /// Returns how many entries are to be told up to a place.
-    pub(crate) fn left(&self, last: usize) -> usize {
-        last.min(self.journal.len()).saturating_sub(self.entry)
-    }
-
-    /// Tells so many entries.
-    pub(crate) fn tell_piece(&mut self, out: &mut Sheet, entries: usize) -> Result<(), AllocError> {
-        self.tell_up_to(out, self.entry.saturating_add(entries).saturating_sub(1))
-    }
-
     /// Returns the place behind the last entry.
     pub(crate) fn end(&self) -> usize {
         self.journal.len()
     }
 
     /// Tells what happened behind the last entry, once all entries were told, and ends what goes on.
-    pub(crate) fn finish(&mut self, out: &mut Sheet) -> Result<(), AllocError> {
+    pub(crate) fn finish(&mut self, out: &mut Text) -> Result<(), AllocError>
+        ensures { out.new ≡ out.old }
+    {
         let end = self.journal.len();
         self.tell_marks(out, end)?;
         self.tell_agents(out, end)?;
         self.tell_fills(out, end)?;
-        self.slots.clear(out, end)?;
-        self.agent.end(out, end)?;
+        self.go(end);
+        self.slots.clear(out, &self.place)?;
+        self.agent.end(out, &self.place)?;
         for cpu in 0..self.cpus {
-            self.give(out, end, cpu)?;
+            self.give(out, cpu)?;
         }
         Ok(())
     }

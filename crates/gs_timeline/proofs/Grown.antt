@@ -1,29 +1,73 @@
 -- What a text is to which bytes were added.
-use Rattle.std.proofs.Common.{◌≡◌, ◌≤◌, ◌<◌, ◌^◌, ℕ, ◌+◌, ◌-◌, Bool, true, false, cond, List, ◌++◌, drop, take, length, decimal, ap, sym, subst, ◌∙◌, arith}
+use Rattle.std.proofs.Common.{◌≡◌, ◌≤◌, ◌<◌, ◌^◌, ℕ, ◌+◌, ◌/◌, true, List, ◌++◌, drop, take, length, decimal, ap, sym, subst, ◌∙◌, arith}
 use Rattle.std.proofs.Math.Seq.{take-append_seam, take-append-add}
-use Rattle.std.proofs.lemmas.Fmt.{IsAscii-decimal}
-use Rattle.std.proofs.lemmas.List.{take-take}
-use Rattle.std.proofs.lemmas.Str.{IsUtf8-append, IsUtf8-from_ascii, IsUtf8-from_is_utf8, is_utf8-from_IsUtf8}
+use Rattle.std.proofs.lemmas.Fmt.{IsAscii-decimal, length-decimal-le}
+use Rattle.std.proofs.lemmas.List.{length-take-le, take-append-drop, take-take}
+use Rattle.std.proofs.lemmas.Str.{IsUtf8-append, IsUtf8-from_ascii, is_utf8-from_IsUtf8}
 use Rattle.std.specs.Str.{IsUtf8, is_utf8}
+use Rattle.itoa.proofs.Decimal.{length_four, length_one, length_pair, length_two}
 
-pub added_utf8 : (old more new : List ℕ) → new ≡ old ++ more → is_utf8 old ≡ true → IsUtf8 more → is_utf8 new ≡ true
-added_utf8 old more new e u v = is_utf8-from_IsUtf8 new (subst IsUtf8 (sym e) (IsUtf8-append old more (IsUtf8-from_is_utf8 old u) v))
+-- how many digits a number has
+pub digits_one : (n : ℕ) → n < 10 → 1 ≡ length (decimal n)
+digits_one n h = sym (length_one n h)
 
--- whether they were added, or memory ran out
-pub tried_utf8 : (added : Bool) (old more new : List ℕ) → new ≡ cond added (old ++ more) old → is_utf8 old ≡ true → IsUtf8 more → is_utf8 new ≡ true
-tried_utf8 true old more new e u v = added_utf8 old more new e u v
-tried_utf8 false old more new e u v = ap is_utf8 e ∙ u
+pub digits_two : (n : ℕ) → 10 ≤ n → n < 100 → 2 ≡ length (decimal n)
+digits_two n l h = sym (length_two n l h)
 
--- where a part of an array was added, and less of it stays
-pub first_stays : (old array long new : List ℕ) (len n most from : ℕ) → long ≡ old ++ take most (drop from array) → new ≡ take (len + n) long → len ≡ length old → n ≤ most → new ≡ old ++ take n (drop from array)
-first_stays old array long new len n most from e f g h =
-    f ∙ (ap (take (len + n)) e ∙ (ap (λ (m : ℕ). take (m + n) (old ++ take most (drop from array))) g ∙ (take-append-add old (take most (drop from array)) n ∙ ap (λ (xs : List ℕ). old ++ xs) (take-take n most (drop from array) h))))
+pub digits_three : (n : ℕ) → 100 ≤ n → n < 1000 → 3 ≡ length (decimal n)
+digits_three n l h = omega (arith, length_pair n l (omega arith), length_one (n / 100) (omega arith))
 
--- a number that ends at the 20th byte of an array
-digits_are : (n from : ℕ) (array rest : List ℕ) → from + length (decimal n) ≡ 20 → drop from array ≡ decimal n ++ rest → take (20 - from) (drop from array) ≡ decimal n
-digits_are n from array rest e is =
-    let count : 20 - from ≡ length (decimal n) = omega (arith, e) in
-    ap (take (20 - from)) is ∙ (ap (λ (m : ℕ). take m (decimal n ++ rest)) count ∙ take-append_seam (decimal n) rest)
+pub digits_four : (n : ℕ) → 1000 ≤ n → n < 10000 → 4 ≡ length (decimal n)
+digits_four n l h = omega (arith, length_pair n (omega arith) (omega arith), length_two (n / 100) (omega arith) (omega arith))
 
-pub digits_utf8 : (n from : ℕ) (array rest : List ℕ) → n < 2 ^ 64 → from + length (decimal n) ≡ 20 → drop from array ≡ decimal n ++ rest → IsUtf8 (take (20 - from) (drop from array))
-digits_utf8 n from array rest h e is = subst IsUtf8 (sym (digits_are n from array rest e is)) (IsUtf8-from_ascii (decimal n) (IsAscii-decimal n h))
+pub digits_five : (n : ℕ) → 10000 ≤ n → n < 100000 → 5 ≡ length (decimal n)
+digits_five n l h = omega (arith, length_four n l (omega arith), length_one (n / 10000) (omega arith))
+
+pub digits_six : (n : ℕ) → 100000 ≤ n → n < 1000000 → 6 ≡ length (decimal n)
+digits_six n l h = omega (arith, length_four n (omega arith) (omega arith), length_two (n / 10000) (omega arith) (omega arith))
+
+pub digits_seven : (n : ℕ) → 1000000 ≤ n → n < 10000000 → 7 ≡ length (decimal n)
+digits_seven n l h = omega (arith, length_four n (omega arith) (omega arith), digits_three (n / 10000) (omega arith) (omega arith))
+
+pub digits_eight : (n : ℕ) → 10000000 ≤ n → n < 100000000 → 8 ≡ length (decimal n)
+digits_eight n l h = omega (arith, length_four n (omega arith) (omega arith), digits_four (n / 10000) (omega arith) (omega arith))
+
+pub digits_most : (n : ℕ) → n < 2 ^ 64 → length (decimal n) ≤ 20
+digits_most n h = length-decimal-le 20 n (omega arith) (omega arith) h
+
+-- a number whose digits were written between the first bytes and the others
+pub number_put : (n at start end : ℕ) (old new : List ℕ) → start + length (decimal n) ≡ end → end ≡ at + length (decimal n) → end ≤ length old → drop start new ≡ decimal n ++ drop end old → take start new ≡ take start old → take end new ≡ take at old ++ decimal n
+number_put n at start end old new e f h w b =
+    let here : start ≡ at = omega (arith, e, f) in
+    let size : length (take at old) ≡ at = length-take-le at old (omega (arith, f, h)) in
+    let front : take at new ≡ take at old = subst (λ (m : ℕ). take m new ≡ take m old) here b in
+    let back : drop at new ≡ decimal n ++ drop end old = subst (λ (m : ℕ). drop m new ≡ decimal n ++ drop end old) here w in
+    let whole : new ≡ take at old ++ (decimal n ++ drop end old) = sym (take-append-drop at new) ∙ (ap (λ (xs : List ℕ). xs ++ drop at new) front ∙ ap (λ (xs : List ℕ). take at old ++ xs) back) in
+    let behind : end ≡ length (take at old) + length (decimal n) = omega (arith, f, size) in
+    ap (take end) whole
+    ∙ (ap (λ (m : ℕ). take m (take at old ++ (decimal n ++ drop end old))) behind
+    ∙ (take-append-add (take at old) (decimal n ++ drop end old) (length (decimal n))
+    ∙ ap (λ (xs : List ℕ). take at old ++ xs) (take-append_seam (decimal n) (drop end old))))
+
+pub both_utf8 : (front back whole : List ℕ) → whole ≡ front ++ back → IsUtf8 back → IsUtf8 front → IsUtf8 whole
+both_utf8 front back whole e b f = subst IsUtf8 (sym e) (IsUtf8-append front back f b)
+
+pub number_utf8 : (n : ℕ) → n < 2 ^ 64 → IsUtf8 (decimal n)
+number_utf8 n h = IsUtf8-from_ascii (decimal n) (IsAscii-decimal n h)
+
+-- what was written into bytes that were lent stands among them
+pub lent_utf8 : (items new : List ℕ) (at size : ℕ) → size ≡ length items → length new ≡ length items → IsUtf8 (take at new) → is_utf8 (take at (take size (new ++ drop (length new) items))) ≡ true
+lent_utf8 items new at size e h u =
+    let whole : take size (new ++ drop (length new) items) ≡ new = subst (λ (m : ℕ). take m (new ++ drop (length new) items) ≡ new) (h ∙ sym e) (take-append_seam new (drop (length new) items)) in
+    ap (λ (xs : List ℕ). is_utf8 (take at xs)) whole ∙ is_utf8-from_IsUtf8 (take at new) u
+
+-- where more was written, and less of it is meant
+pub part_put : (at len most : ℕ) (old more new part : List ℕ) → at + most ≤ length old → len ≤ most → take (at + most) new ≡ take at old ++ more → take len more ≡ part → take (at + len) new ≡ take at old ++ part
+part_put at len most old more new part h k e p =
+    let size : length (take at old) ≡ at = length-take-le at old (omega (arith, h)) in
+    let there : at + len ≡ length (take at old) + len = omega (arith, size) in
+    sym (take-take (at + len) (at + most) new (omega (arith, k)))
+    ∙ (ap (take (at + len)) e
+    ∙ (ap (λ (m : ℕ). take m (take at old ++ more)) there
+    ∙ (take-append-add (take at old) more len
+    ∙ ap (λ (xs : List ℕ). take at old ++ xs) p)))

@@ -2,6 +2,7 @@ ghost use Rattle.std.specs.Prelude.{◌≡◌, ◌+◌, ◌-◌, ◌*◌};
 ghost use Rattle.gs_timeline.specs.Places.{x_of};
 ghost use Rattle.gs_timeline.specs.declared.layout.TheConstants.{BAR, RING, ROW};
 
+use crate::digits::Digits;
 use crate::ending::Ending;
 use crate::layout::{BAR, row_of};
 use crate::lives::Life;
@@ -41,23 +42,58 @@ fn bar_of(part: &Part<'_>, stay: &Stay, life: Option<&Life>) -> Rect
     }
 }
 
-/// Returns the letter that tells why a stay ended.
+/// The digits of the numbers that most bars of a row share: their CPU, where they and their texts are, and how high they are.
+#[derive(Drop)]
+pub(crate) struct BarDigits {
+    cpu: Digits,
+    y: Digits,
+    height: Digits,
+    base: Digits,
+    end: Digits,
+}
+
+impl BarDigits {
+    /// Keeps those of no bar.
+    pub(crate) fn new() -> BarDigits {
+        BarDigits {
+            cpu: Digits::new(0),
+            y: Digits::new(0),
+            height: Digits::new(0),
+            base: Digits::new(0),
+            end: Digits::new(0),
+        }
+    }
+
+    /// Keeps those of a bar on this CPU.
+    #[inline(always)]
+    fn set(&mut self, cpu: u16, bar: &Rect) {
+        self.cpu.set(u64::from(cpu));
+        self.y.set(bar.y);
+        self.height.set(bar.height);
+        self.base.set(bar.base());
+        self.end.set(row_of(cpu) + BAR + 9);
+    }
+}
+
+/// Returns the letter that tells why a stay ended, with the end of its text.
 fn letter_of(ending: Ending) -> &'static str {
     match ending {
-        Ending::Preempted => "P",
-        Ending::Blocked => "B",
-        Ending::Yielded => "Y",
-        Ending::Died => "D",
-        Ending::Affinity => "A",
-        Ending::Torn => "T",
-        Ending::Replaced => "R",
-        Ending::StillThere => "S",
+        Ending::Preempted => "P</text>\n",
+        Ending::Blocked => "B</text>\n",
+        Ending::Yielded => "Y</text>\n",
+        Ending::Died => "D</text>\n",
+        Ending::Affinity => "A</text>\n",
+        Ending::Torn => "T</text>\n",
+        Ending::Replaced => "R</text>\n",
+        Ending::StillThere => "S</text>\n",
     }
 }
 
 /// Adds the first letter of why a stay ended, below the end of its bar. It adds nothing if that end is not shown.
+#[inline(always)]
 fn write_end(
     out: &mut Sheet,
+    y: &Digits,
     part: &Part<'_>,
     stay: &Stay,
     ending: Ending,
@@ -65,40 +101,40 @@ fn write_end(
     if !part.has(stay.to) {
         return Ok(());
     }
-    out.push_number("<text x=\"", part.x(stay.to))?;
-    out.push_number("\" y=\"", row_of(stay.cpu) + BAR + 9)?;
+    out.push_number_digits("<text x=\"", part.x(stay.to), "\" y=\"", y)?;
     out.push_str("\" class=\"end\">")?;
-    out.push_str(letter_of(ending))?;
-    out.push_str("</text>\n")
+    out.push_str(letter_of(ending))
 }
 
 /// Adds what the title of a bar says.
 fn write_stay_title(
     out: &mut Sheet,
+    cpu: &Digits,
     part: &Part<'_>,
     stay: &Stay,
     life: Option<&Life>,
     ending: Ending,
 ) -> Result<(), AllocError> {
-    out.push_str("<title>")?;
     write_thread(out, stay.tid, life)?;
-    out.push_number(", on CPU ", u64::from(stay.cpu))?;
+    out.push_digits(", on CPU ", cpu)?;
     write_from_to(out, part, stay.from, stay.to)?;
     out.push_str(": ")?;
-    out.push_str(ending.name())?;
-    out.push_str("</title>")
+    out.push_str(ending.name())
 }
 
 /// Adds the bar of a stay that is at least a pixel wide.
 pub(crate) fn write_stay(
     out: &mut Sheet,
+    kept: &mut BarDigits,
     part: &Part<'_>,
     stay: &Stay,
     life: Option<&Life>,
     ending: Ending,
 ) -> Result<(), AllocError> {
     let bar = bar_of(part, stay, life);
-    bar.write(out)?;
+    kept.set(stay.cpu, &bar);
+    out.push_number_digits("<rect x=\"", bar.x, "\" y=\"", &kept.y)?;
+    out.push_number_digits("\" width=\"", bar.width, "\" height=\"", &kept.height)?;
     let wide = bar.width >= BORDERED;
     out.push_str(if wide {
         "\" rx=\"3\" class=\"wide "
@@ -106,12 +142,12 @@ pub(crate) fn write_stay(
         "\" class=\"bar "
     })?;
     out.push_str(shade_of(stay.tid, life.map(|life| life.class)))?;
-    out.push_str("\">")?;
-    write_stay_title(out, part, stay, life, ending)?;
-    out.push_str("</rect>\n")?;
-    write_label(out, &bar, stay.tid, life)?;
+    out.push_str("\"><title>")?;
+    write_stay_title(out, &kept.cpu, part, stay, life, ending)?;
+    out.push_str("</title></rect>\n")?;
+    write_label(out, &bar, &kept.base, stay.tid, life)?;
     if bar.width >= LETTERED {
-        write_end(out, part, stay, ending)?;
+        write_end(out, &kept.end, part, stay, ending)?;
     }
     Ok(())
 }

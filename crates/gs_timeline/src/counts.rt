@@ -1,9 +1,9 @@
 //! How many decisions are shown, and what came of them: a line below the heading, which is also what the shapes mean.
 
-ghost use Rattle.std.specs.Prelude.{◌≡◌, IfOk, map};
+ghost use Rattle.std.specs.Prelude.{◌≡◌, ◌+◌, ◌<◌, ℕ, if◌then◌else◌, IfOk, get_or, length, map, replicate};
 ghost use Rattle.std.specs.List.{range_with_len};
 ghost use Rattle.gs_layout.specs.declared.outcome.TheConstants.{OUTCOMES};
-ghost use Rattle.gs_timeline.specs.Counts.{count_of, is_placed, takes};
+ghost use Rattle.gs_timeline.specs.Counts.{count_of, is_counted, is_placed, takes};
 ghost use Rattle.gs_timeline.specs.declared.counts.Which.TheVariants.{Failed, Numbered, Placed, Stamped};
 
 use crate::decided::failure_of;
@@ -49,7 +49,7 @@ enum Which {
     Placed,
     /// Those that landed, and whose thread was not.
     Failed,
-    /// Those of them whose outcome has this number.
+    /// Those of them whose outcome has this number. Clauses alone name these.
     Numbered(u16),
 }
 
@@ -98,6 +98,31 @@ fn count(part: &Part<'_>, marks: &[Mark], which: Which) -> usize
     count
 }
 
+/// Counts a decision by the number of its outcome, if it is shown, landed and was not placed.
+fn count_outcome(counts: &mut [u64], part: &Part<'_>, mark: &Mark)
+    requires all { length counts.old ≡ OUTCOMES }
+    requires few { (n : ℕ) → n < OUTCOMES → get_or counts.old n 0 < u64.MAX }
+    ensures { (n : ℕ) → n < OUTCOMES → get_or counts.new n 0 ≡ (if is_counted part.now (Numbered n) mark.now then get_or counts.old n 0 + 1 else get_or counts.old n 0) }
+{
+    if !part.meets(mark.entries) {
+        return;
+    }
+    let Some(outcome) = failure_of(mark) else {
+        return;
+    };
+    counts[outcome.number() as usize] += 1;
+}
+
+/// Counts the marks that are shown by the number of what they came to, into counts of none. It walks the marks once.
+fn count_outcomes(counts: &mut [u64], part: &Part<'_>, marks: &[Mark])
+    requires { counts.old ≡ replicate OUTCOMES 0 }
+    ensures { counts.new ≡ map (λ n. count_of part.now (Numbered n) marks.now) (range_with_len 0 OUTCOMES) }
+{
+    for mark in marks {
+        count_outcome(counts, part, mark);
+    }
+}
+
 /// Counts the marks that are shown.
 pub(crate) fn counted(alloc: Global, part: &Part<'_>, marks: &[Mark]) -> Result<Counts, AllocError>
     ensures stamped { IfOk result (λ counts. counts.stamped ≡ count_of part.now Stamped marks.now) }
@@ -105,10 +130,9 @@ pub(crate) fn counted(alloc: Global, part: &Part<'_>, marks: &[Mark]) -> Result<
     ensures failed { IfOk result (λ counts. counts.failed ≡ count_of part.now Failed marks.now) }
     ensures outcomes { IfOk result (λ counts. counts.outcomes.items ≡ map (λ n. count_of part.now (Numbered n) marks.now) (range_with_len 0 OUTCOMES)) }
 {
-    let mut outcomes = Vec::with_capacity(alloc, OUTCOMES as usize)?;
-    for number in 0..OUTCOMES {
-        outcomes.push(count(part, marks, Which::Numbered(number)) as u64)?;
-    }
+    let mut outcomes = Vec::new(alloc);
+    outcomes.resize(OUTCOMES as usize, 0)?;
+    count_outcomes(outcomes.as_mut_slice(), part, marks);
     Ok(Counts {
         stamped: count(part, marks, Which::Stamped) as u64,
         placed: count(part, marks, Which::Placed) as u64,

@@ -67,8 +67,8 @@ fn write_what(out: &mut Sheet, what: What) -> Result<(), AllocError> {
 
 /// Adds a mark in words: its line, before which entry it was, what was done, and to which thread and CPU.
 pub(crate) fn write_mark(out: &mut Sheet, lives: &[Life], mark: &Mark) -> Result<(), AllocError> {
-    out.push_number("line ", mark.line as u64)?;
-    out.push_number(", before entry ", mark.entries as u64)?;
+    let entry = mark.entries as u64;
+    out.push_two("line ", mark.line as u64, ", before entry ", entry)?;
     out.push_str(": ")?;
     write_what(out, mark.what)?;
     out.push_str(", ")?;
@@ -150,8 +150,7 @@ impl Cluster {
             return Ok(());
         };
         if self.stamps > 0 {
-            out.push_number("M", self.x)?;
-            out.push_number(" ", y)?;
+            out.push_two("M", self.x, " ", y)?;
         }
         out.push_str(if self.mixed { MIXED } else { shape_of(outcome) })
     }

@@ -1,5 +1,8 @@
+ghost use Rattle.std.specs.Prelude.{◌≡◌, slice_get};
+ghost use Rattle.gs_timeline.specs.Endings.{ending_of};
+
 use crate::agents::{steps, write_pages, write_reign, write_steps};
-use crate::bars::write_stay;
+use crate::bars::{BarDigits, write_stay};
 use crate::blur::Blur;
 use crate::counts::{Counts, counted, write_counted, write_sums};
 use crate::decided::write_decided;
@@ -69,9 +72,21 @@ fn write_again(out: &mut Sheet, part: &Part<'_>, cpu: u16) -> Result<(), AllocEr
     Ok(())
 }
 
+/// Returns why a stay ended that goes on to the entry of this place, or to the last one.
+#[inline(always)]
+fn ending_at(journal: &Journal, place: usize) -> Ending
+    ensures { result ≡ ending_of (slice_get journal.now.entries place) }
+{
+    if place < journal.len() {
+        return Ending::of(Some(&journal.entry(place)));
+    }
+    Ending::of(None)
+}
+
 /// Adds the bars of the threads on a CPU.
 fn write_stays(
     out: &mut Sheet,
+    kept: &mut BarDigits,
     part: &Part<'_>,
     cpu: u16,
     journal: &Journal,
@@ -83,13 +98,8 @@ fn write_stays(
         if part.width(stay.from, stay.to) > 0 {
             blur.write(out, part)?;
             let life = life_of(lives, stay.tid);
-            write_stay(
-                out,
-                part,
-                stay,
-                life,
-                Ending::of(journal.get(stay.to).as_ref()),
-            )?;
+            let ending = ending_at(journal, stay.to);
+            write_stay(out, kept, part, stay, life, ending)?;
         } else if part.shown(stay.from, stay.to) > 0 {
             blur.add(out, part, stay)?;
         }
@@ -108,12 +118,13 @@ fn write_rows(
     cpus: u16,
 ) -> Result<(), AllocError> {
     let held = holds(alloc, journal, cpus)?;
+    let mut kept = BarDigits::new();
     for cpu in 0..cpus {
         let (Some(lane), Some(held)) = (lanes.get(cpu as usize), held.get(cpu as usize)) else {
             break;
         };
         write_row(out, part, cpu, held.ended())?;
-        write_stays(out, part, cpu, journal, lives, lane.stays())?;
+        write_stays(out, &mut kept, part, cpu, journal, lives, lane.stays())?;
         write_again(out, part, cpu)?;
     }
     Ok(())

@@ -24,6 +24,7 @@ pub enum Ending {
 
 impl Ending {
     /// Returns why a stay ended, by the entry that ended it, or by none.
+    #[inline(always)]
     pub fn of(by: Option<&Entry>) -> Ending
         ensures { result ≡ ending_of (option_copied by.entry) }
     {

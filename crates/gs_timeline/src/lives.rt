@@ -116,6 +116,7 @@ pub(crate) fn life_of(lives: &[Life], tid: u32) -> Option<&Life> {
 }
 
 /// Changes a thread's life as a message about it says.
+#[inline(always)]
 fn tell(
     lives: &mut [Life],
     part: &Part<'_>,

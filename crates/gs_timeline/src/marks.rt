@@ -1,3 +1,4 @@
+use crate::digits::Digits;
 use crate::layout::{BAR, TOP, foot_of, row_of};
 use crate::part::Part;
 use crate::rect::{Rect, write_entry, write_from_to};
@@ -35,10 +36,17 @@ pub(crate) fn write_hold(out: &mut Sheet, part: &Part<'_>, hold: &Hold) -> Resul
     out.push_str("</title></rect>\n")
 }
 
-/// Adds the mark of a tick.
-fn write_tick(out: &mut Sheet, part: &Part<'_>, place: usize, cpu: u16) -> Result<(), AllocError> {
-    out.push_number("<path d=\"M", part.x(place))?;
-    out.push_number(" ", row_of(cpu).saturating_sub(3))?;
+/// Adds the mark of a tick. The digits of where it stands are kept in `y`: ticks of one CPU mostly follow one another.
+#[inline(always)]
+fn write_tick(
+    out: &mut Sheet,
+    y: &mut Digits,
+    part: &Part<'_>,
+    place: usize,
+    cpu: u16,
+) -> Result<(), AllocError> {
+    y.set(row_of(cpu).saturating_sub(3));
+    out.push_number_digits("<path d=\"M", part.x(place), " ", y)?;
     if part.unit() < TITLED {
         return out.push_str("v6\"/>\n");
     }
@@ -65,6 +73,21 @@ fn write_torn(out: &mut Sheet, part: &Part<'_>, cpus: u16, place: usize) -> Resu
     out.push_str("torn down</text>\n")
 }
 
+/// Adds the tear-downs.
+fn write_tears(
+    out: &mut Sheet,
+    part: &Part<'_>,
+    cpus: u16,
+    journal: &Journal,
+) -> Result<(), AllocError> {
+    for place in 0..journal.len() {
+        if matches!(journal.entry(place), Entry::Torn) && part.has(place) {
+            write_torn(out, part, cpus, place)?;
+        }
+    }
+    Ok(())
+}
+
 /// Adds ticks and a tear-down.
 pub(crate) fn write_marks(
     out: &mut Sheet,
@@ -73,21 +96,20 @@ pub(crate) fn write_marks(
     journal: &Journal,
 ) -> Result<(), AllocError> {
     out.push_str("<g class=\"tick\">\n")?;
+    let mut y = Digits::new(0);
+    let mut torn = false;
     for place in 0..journal.len() {
-        if let Entry::Posted {
-            message: Message::TimerTick { cpu },
-        } = journal.entry(place)
-        {
-            if cpu < cpus && part.has(place) {
-                write_tick(out, part, place, cpu)?;
-            }
+        match journal.entry(place) {
+            Entry::Posted {
+                message: Message::TimerTick { cpu },
+            } if cpu < cpus && part.has(place) => write_tick(out, &mut y, part, place, cpu)?,
+            Entry::Torn => torn = true,
+            _ => {}
         }
     }
     out.push_str("</g>\n")?;
-    for place in 0..journal.len() {
-        if matches!(journal.entry(place), Entry::Torn) && part.has(place) {
-            write_torn(out, part, cpus, place)?;
-        }
+    if torn {
+        write_tears(out, part, cpus, journal)?;
     }
     Ok(())
 }

@@ -15,18 +15,25 @@ impl Rect {
     /// Adds the beginning of the bar, up to its last number. What it is filled with follows behind a quotation mark.
     #[inline(always)]
     pub(crate) fn write(&self, out: &mut Sheet) -> Result<(), AllocError> {
-        out.push_number("<rect x=\"", self.x)?;
-        out.push_number("\" y=\"", self.y)?;
-        out.push_number("\" width=\"", self.width)?;
-        out.push_number("\" height=\"", self.height)
+        out.push_two("<rect x=\"", self.x, "\" y=\"", self.y)?;
+        out.push_two("\" width=\"", self.width, "\" height=\"", self.height)
+    }
+
+    /// Returns where the middle of a text in the bar is.
+    pub(crate) fn middle(&self) -> u64 {
+        self.x.saturating_add(self.width / 2)
+    }
+
+    /// Returns where a text in the bar stands.
+    pub(crate) fn base(&self) -> u64 {
+        self.y.saturating_add(self.height / 2 + 4)
     }
 
     /// Adds the beginning of a text in the middle of the bar, up to its last number.
     pub(crate) fn write_text(&self, out: &mut Sheet) -> Result<(), AllocError> {
-        let middle = self.x.saturating_add(self.width / 2);
-        let base = self.y.saturating_add(self.height / 2 + 4);
-        out.push_number("<text x=\"", middle)?;
-        out.push_number("\" y=\"", base)
+        let middle = self.middle();
+        let base = self.base();
+        out.push_two("<text x=\"", middle, "\" y=\"", base)
     }
 }
 
@@ -38,11 +45,10 @@ pub(crate) fn write_entry(
     words: &str,
     place: usize,
 ) -> Result<(), AllocError> {
-    out.push_number(words, place as u64)?;
     let Some(line) = part.line(place) else {
-        return Ok(());
+        return out.push_number(words, place as u64);
     };
-    out.push_number(" (line ", line as u64)?;
+    out.push_two(words, place as u64, " (line ", line as u64)?;
     out.push_str(")")
 }
 

@@ -1,5 +1,6 @@
 //! How full the ring is, as a strip.
 
+use crate::digits::Digits;
 use crate::layout::{BAR, RING};
 use crate::notes::Fill;
 use crate::part::{LEFT, Part};
@@ -14,26 +15,30 @@ fn height_of(used: usize, ring: usize) -> u64 {
 }
 
 /// The line above which the strip is empty, as it is drawn.
-#[derive(Clone, Copy)]
+#[derive(Drop)]
 struct Edge {
     /// Up to where it is drawn.
     x: u64,
     /// How high it is at most there, and how high behind that.
     most: u64,
     last: u64,
+    /// Where it was drawn last.
+    y: Digits,
 }
 
 impl Edge {
     /// Goes on to a place.
+    #[inline(always)]
     fn go(&mut self, out: &mut Sheet, x: u64) -> Result<(), AllocError> {
         if x <= self.x {
             return Ok(());
         }
-        out.push_number("V", (RING + BAR).saturating_sub(self.most))?;
         if self.most != self.last {
-            out.push_number("H", self.x.saturating_add(1))?;
-            out.push_number("V", (RING + BAR).saturating_sub(self.last))?;
+            let most = (RING + BAR).saturating_sub(self.most);
+            out.push_two("V", most, "H", self.x.saturating_add(1))?;
         }
+        self.y.set((RING + BAR).saturating_sub(self.last));
+        out.push_digits("V", &self.y)?;
         out.push_number("H", x)?;
         self.x = x;
         self.most = self.last;
@@ -92,6 +97,7 @@ pub(crate) fn write_ring(
         x: LEFT,
         most: 0,
         last: 0,
+        y: Digits::new(0),
     };
     for fill in fills {
         if fill.entries <= part.behind() {

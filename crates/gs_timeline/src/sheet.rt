@@ -1,29 +1,74 @@
-ghost use Rattle.std.specs.Prelude.{◌≡◌, ◌+◌, ◌-◌, ◌≤◌, ◌++◌, [], decimal, drop, length, take, OnOk};
+ghost use Rattle.std.specs.Prelude.{◌≡◌, ◌+◌, ◌≤◌, ◌++◌, [], decimal, length, take, vec_len, OnErr, OnOk};
 ghost use Rattle.std.specs.Str.{IsUtf8};
 
-use itoa::write_digits;
+use crate::digits::Digits;
+use crate::forwards::{
+    DIGITS, put, put_behind, put_digits, put_number, put_number_digits, put_two,
+};
 use std::alloc::{AllocError, Global};
 use std::marker::Model;
 
-/// The most digits that a number of 64 bits has.
-const DIGITS: usize = 20;
+/// So many zeros are added at once, beside those that are wanted: as many as the text has bytes, but at least and at most so many.
+const LEAST_BLOCK_LEN: usize = 32;
+
+const BLOCK_LEN: usize = 1024;
 
 /// A text that grows at its end: words, and numbers behind words. What adds to it fails only if out of memory. Clauses see
 /// its bytes, which are UTF-8.
 #[derive(Drop)]
 pub struct Sheet {
+    /// The bytes of the text, and behind them zeros, or what else was written there.
     bytes: Vec<u8>,
+    /// How many bytes the text has.
+    len: usize,
 }
 
 impl Model for Sheet {
-    ghost use Rattle.std.specs.Prelude.{List, ℕ, ◌≡◌, true};
+    ghost use Rattle.std.specs.Prelude.{List, ℕ, ◌≡◌, ◌≤◌, take, true, vec_len};
     ghost use Rattle.std.specs.Str.{is_utf8};
 
     ghost Value = { List ℕ };
 
-    ghost view = { λ s. s.bytes.items };
+    ghost view = { λ s. take s.len s.bytes.items };
 
-    ghost invariant = { λ s. is_utf8 s.bytes.items ≡ true };
+    ghost invariant = { λ s. record {
+      within : s.len ≤ vec_len s.bytes;
+      utf8 : is_utf8 (take s.len s.bytes.items) ≡ true;
+    } };
+}
+
+/// Adds a block of zeros, and as many more as are wanted behind so many bytes, which stay as they are.
+#[cold]
+#[inline(never)]
+fn add_block(bytes: &mut Vec<u8>, len: usize, wanted: usize) -> Result<(), AllocError>
+    requires { len ≤ vec_len bytes.old }
+    ensures room { OnOk result (len + wanted ≤ vec_len bytes.new) }
+    ensures within { len ≤ vec_len bytes.new }
+    ensures same { take len bytes.new.items ≡ take len bytes.old.items }
+{
+    let Some(end) = len.checked_add(wanted) else {
+        return Err(AllocError);
+    };
+    let more = end.clamp(LEAST_BLOCK_LEN, BLOCK_LEN);
+    let Some(whole) = end.max(bytes.len()).checked_add(more) else {
+        return Err(AllocError);
+    };
+    bytes.resize(whole, 0)
+}
+
+/// Makes room for so many bytes behind others, which stay as they are.
+#[inline(always)]
+fn make_room(bytes: &mut Vec<u8>, len: usize, wanted: usize) -> Result<(), AllocError>
+    requires { len ≤ vec_len bytes.old }
+    ensures room { OnOk result (len + wanted ≤ vec_len bytes.new) }
+    ensures within { len ≤ vec_len bytes.new }
+    ensures same { take len bytes.new.items ≡ take len bytes.old.items }
+{
+    if wanted <= bytes.len() - len {
+        Ok(())
+    } else {
+        add_block(bytes, len, wanted)
+    }
 }
 
 impl Sheet {
@@ -33,6 +78,7 @@ impl Sheet {
     {
         Sheet {
             bytes: Vec::new(alloc),
+            len: 0,
         }
     }
 
@@ -40,7 +86,9 @@ impl Sheet {
     pub fn into_bytes(self) -> Vec<u8>
         ensures { result.items ≡ self }
     {
-        let Sheet { bytes } = self;
+        let Sheet { bytes, len } = self;
+        let mut bytes = bytes;
+        bytes.truncate(len);
         bytes
     }
 
@@ -48,63 +96,114 @@ impl Sheet {
     pub fn clear(&mut self)
         ensures { self.new ≡ [] }
     {
-        self.bytes.clear();
+        self.len = 0;
     }
 
     /// Adds bytes that are UTF-8.
     #[inline(always)]
     fn append(&mut self, bytes: &[u8]) -> Result<(), AllocError>
         requires { IsUtf8 bytes.now }
-        ensures { OnOk result (self.new ≡ self.old ++ bytes.now) }
+        ensures added { OnOk result (self.new ≡ self.old ++ bytes.now) }
+        ensures kept { OnErr result (self.new ≡ self.old) }
     {
-        self.bytes.extend_from_slice(bytes)
+        make_room(&mut self.bytes, self.len, bytes.len())?;
+        self.len = put(&mut self.bytes, self.len, bytes);
+        Ok(())
     }
 
     /// Adds words.
     #[inline(always)]
     pub fn push_str(&mut self, words: &str) -> Result<(), AllocError>
-        ensures { OnOk result (self.new ≡ self.old ++ words.now) }
+        ensures added { OnOk result (self.new ≡ self.old ++ words.now) }
+        ensures kept { OnErr result (self.new ≡ self.old) }
     {
         self.append(words.as_bytes())
     }
 
     /// Adds another text.
     pub fn push_sheet(&mut self, other: &Sheet) -> Result<(), AllocError>
-        ensures { OnOk result (self.new ≡ self.old ++ other.now) }
+        ensures added { OnOk result (self.new ≡ self.old ++ other.now) }
+        ensures kept { OnErr result (self.new ≡ self.old) }
     {
-        self.append(&other.bytes)
-    }
-
-    /// Adds the last bytes of so many in an array, from a place on. So many are copied at once: a copy whose length is
-    /// known takes no call.
-    #[inline(always)]
-    fn append_last(&mut self, array: &[u8; 2 * DIGITS], from: usize) -> Result<(), AllocError>
-        requires within { from ≤ DIGITS }
-        requires utf8 { IsUtf8 (take (DIGITS - from) (drop from array.now)) }
-        ensures { OnOk result (self.new ≡ self.old ++ take (DIGITS - from) (drop from array.now)) }
-    {
-        let len = self.bytes.len();
-        self.bytes.extend_from_slice(&array[from..from + DIGITS])?;
-        self.bytes.truncate(len + (DIGITS - from));
-        Ok(())
+        self.append(&other.bytes[..other.len])
     }
 
     /// Adds a number.
     #[inline(always)]
     pub fn push_decimal(&mut self, number: u64) -> Result<(), AllocError>
-        ensures { OnOk result (self.new ≡ self.old ++ decimal number) }
+        ensures added { OnOk result (self.new ≡ self.old ++ decimal number) }
+        ensures kept { OnErr result (self.new ≡ self.old) }
     {
-        let mut array = [0; 2 * DIGITS];
-        let from = write_digits(number, &mut array, DIGITS);
-        self.append_last(&array, from)
+        make_room(&mut self.bytes, self.len, DIGITS)?;
+        self.len = put_number(&mut self.bytes, self.len, number);
+        Ok(())
     }
 
     /// Adds words and a number behind them.
     #[inline(always)]
     pub fn push_number(&mut self, words: &str, number: u64) -> Result<(), AllocError>
-        ensures { OnOk result (self.new ≡ self.old ++ words.now ++ decimal number) }
+        ensures added { OnOk result (self.new ≡ self.old ++ words.now ++ decimal number) }
+        ensures kept { OnErr result (self.new ≡ self.old) }
     {
-        self.push_str(words)?;
-        self.push_decimal(number)
+        make_room(&mut self.bytes, self.len, words.len() + DIGITS)?;
+        self.len = put_behind(&mut self.bytes, self.len, words, number);
+        Ok(())
+    }
+
+    /// Adds words, a number, words and a number.
+    #[inline(always)]
+    pub fn push_two(
+        &mut self,
+        words: &str,
+        first: u64,
+        between: &str,
+        second: u64,
+    ) -> Result<(), AllocError>
+        ensures added { OnOk result (self.new ≡ self.old ++ words.now ++ decimal first ++ between.now ++ decimal second) }
+        ensures kept { OnErr result (self.new ≡ self.old) }
+    {
+        let Some(wanted) = (words.len() + DIGITS).checked_add(between.len() + DIGITS) else {
+            return Err(AllocError);
+        };
+        make_room(&mut self.bytes, self.len, wanted)?;
+        self.len = put_two(&mut self.bytes, self.len, words, first, between, second);
+        Ok(())
+    }
+    /// Adds words, and a number behind them whose digits are kept.
+    #[inline(always)]
+    pub fn push_digits(&mut self, words: &str, digits: &Digits) -> Result<(), AllocError>
+        ensures added { OnOk result (self.new ≡ self.old ++ words.now ++ decimal digits.now) }
+        ensures kept { OnErr result (self.new ≡ self.old) }
+    {
+        make_room(&mut self.bytes, self.len, words.len() + DIGITS)?;
+        self.len = put_digits(&mut self.bytes, self.len, words, digits);
+        Ok(())
+    }
+
+    /// Adds words, a number, words and a number whose digits are kept.
+    #[inline(always)]
+    pub fn push_number_digits(
+        &mut self,
+        words: &str,
+        number: u64,
+        between: &str,
+        digits: &Digits,
+    ) -> Result<(), AllocError>
+        ensures added { OnOk result (self.new ≡ self.old ++ words.now ++ decimal number ++ between.now ++ decimal digits.now) }
+        ensures kept { OnErr result (self.new ≡ self.old) }
+    {
+        let Some(wanted) = (words.len() + DIGITS).checked_add(between.len() + DIGITS) else {
+            return Err(AllocError);
+        };
+        make_room(&mut self.bytes, self.len, wanted)?;
+        self.len = put_number_digits(&mut self.bytes, self.len, words, number, between, digits);
+        Ok(())
+    }
+
+    /// Returns how many bytes the text has.
+    pub fn len(&self) -> usize
+        ensures { result ≡ length self.now }
+    {
+        self.len
     }
 }

@@ -72,8 +72,7 @@ fn write_length(
     if width == 0 {
         return Ok(());
     }
-    out.push_number("M", part.x(from))?;
-    out.push_number(" ", y)?;
+    out.push_two("M", part.x(from), " ", y)?;
     out.push_number("h", width)
 }
 

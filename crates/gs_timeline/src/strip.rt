@@ -72,8 +72,8 @@ impl Strip {
     /// Adds the data of a path that draws the times.
     pub(crate) fn write(&self, out: &mut Sheet) -> Result<(), AllocError> {
         for length in &self.lengths {
-            out.push_number("M", length.from)?;
-            out.push_number(" 0h", length.to.saturating_sub(length.from))?;
+            let long = length.to.saturating_sub(length.from);
+            out.push_two("M", length.from, " 0h", long)?;
         }
         Ok(())
     }

@@ -8,8 +8,7 @@ use std::alloc::AllocError;
 /// Adds the beginning of a text of this class that stands at a place. What it says follows.
 #[inline(always)]
 pub(crate) fn begin_text(out: &mut Sheet, x: u64, y: u64, class: &str) -> Result<(), AllocError> {
-    out.push_number("<text x=\"", x)?;
-    out.push_number("\" y=\"", y)?;
+    out.push_two("<text x=\"", x, "\" y=\"", y)?;
     out.push_str("\" class=\"")?;
     out.push_str(class)?;
     out.push_str("\">")
@@ -20,8 +19,7 @@ pub(crate) fn begin_text(out: &mut Sheet, x: u64, y: u64, class: &str) -> Result
 pub(crate) fn begin_path(out: &mut Sheet, class: &str, x: u64, y: u64) -> Result<(), AllocError> {
     out.push_str("<path class=\"")?;
     out.push_str(class)?;
-    out.push_number("\" d=\"M", x)?;
-    out.push_number(" ", y)
+    out.push_two("\" d=\"M", x, " ", y)
 }
 
 /// Adds a byte of a name: a mark of the language by what stands for it.

@@ -1,6 +1,7 @@
 ghost use Rattle.std.specs.Prelude.{◌≡◌};
 ghost use Rattle.gs_timeline.specs.Marks.{shade_of};
 
+use crate::digits::Digits;
 use crate::lives::Life;
 use crate::rect::Rect;
 use crate::sheet::Sheet;
@@ -53,10 +54,11 @@ pub(crate) fn write_called(
 }
 
 /// Adds what a thread is called to its bar: its name, or its tid if it has no name or that does not fit. It adds nothing
-/// if the tid does not fit either.
+/// if the tid does not fit either. `base` is where texts in the bar stand.
 pub(crate) fn write_label(
     out: &mut Sheet,
     bar: &Rect,
+    base: &Digits,
     tid: u32,
     life: Option<&Life>,
 ) -> Result<(), AllocError> {
@@ -66,7 +68,7 @@ pub(crate) fn write_label(
     if name.is_none() && room_for(digits(number)) > room {
         return Ok(());
     }
-    bar.write_text(out)?;
+    out.push_number_digits("<text x=\"", bar.middle(), "\" y=\"", base)?;
     out.push_str("\" class=\"name\">")?;
     match name {
         Some(life) => out.push_str(life.name())?,

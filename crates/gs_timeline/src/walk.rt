@@ -1,4 +1,4 @@
-ghost use Rattle.std.specs.Prelude.{◌≡◌, ◌+◌, ◌<◌, ◌≤◌, ℕ, Some, false, IfOk, OnOk, length, replicate, slice_get};
+ghost use Rattle.std.specs.Prelude.{◌≡◌, ◌+◌, ◌<◌, ◌≤◌, ℕ, None, Some, false, IfOk, OnOk, get_or, length, replicate, slice_get};
 ghost use Rattle.std.specs.Option.{option_map};
 ghost use Rattle.gs_timeline.specs.Homes.{AreHome};
 ghost use Rattle.gs_timeline.specs.Lanes.{LaneOf, each_then, empties, lane_then, left, placing, subject, vacant};
@@ -99,7 +99,6 @@ fn hear_leaving(
 }
 
 /// Changes the CPUs as an entry says. It looks only at those that the entry may change.
-#[inline(always)]
 fn hear(
     lanes: &mut [Lane],
     homes: &mut Homes,
@@ -122,6 +121,35 @@ fn hear(
     }
     homes.place(lanes, tid, cpu)?;
     lanes[cpu as usize].hear(cpu, place, entry)
+}
+
+/// Returns whether an entry takes a thread off its CPU, or all, or places one.
+#[inline(always)]
+fn moves_somebody(entry: &Entry) -> bool
+    ensures stays { result ≡ false → empties entry.now ≡ false }
+    ensures none { result ≡ false → placing entry.now ≡ None }
+{
+    empties_a_seat(entry) || placing(entry).is_some()
+}
+
+/// Changes the CPUs as the entry of a place says. Most entries change none: to see that takes less than to unpack one.
+#[inline(always)]
+fn hear_at(
+    lanes: &mut [Lane],
+    homes: &mut Homes,
+    journal: &Journal,
+    place: usize,
+) -> Result<(), AllocError>
+    requires within { place < length journal.now.entries }
+    requires few { length lanes.old ≤ u16.MAX }
+    requires home { homes.old.lost ≡ false → AreHome homes.old.cpus.items 0 lanes.old }
+    ensures lanes { OnOk result (lanes.new ≡ each_then (lane_then place (get_or journal.now.entries place Entry.Torn)) 0 lanes.old) }
+    ensures home { OnOk result (homes.new.lost ≡ false → AreHome homes.new.cpus.items 0 lanes.new) }
+{
+    if !moves_somebody(&journal.entry(place)) {
+        return Ok(());
+    }
+    hear(lanes, homes, place, &journal.entry(place))
 }
 
 /// Makes the lanes of so many CPUs on which nobody was yet.
@@ -150,12 +178,7 @@ pub fn stays(alloc: Global, journal: &Journal, cpus: u16) -> Result<Vec<Lane>, A
     let mut lanes = vacant_lanes(alloc, cpus)?;
     let mut homes = Homes::new(alloc);
     for place in 0..journal.len() {
-        hear(
-            lanes.as_mut_slice(),
-            &mut homes,
-            place,
-            &journal.entry(place),
-        )?;
+        hear_at(lanes.as_mut_slice(), &mut homes, journal, place)?;
     }
     let end = journal.len();
     end_each(lanes.as_mut_slice(), 0, end)?;

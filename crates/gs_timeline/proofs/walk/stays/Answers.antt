@@ -1,6 +1,8 @@
-use Rattle.std.proofs.Common.{◌≡◌, ◌+◌, ◌++◌, ℕ, Some, refl, List, sym, subst, ap, ◌∙◌, length, take, drop, slice_get, arith}
+use Rattle.std.proofs.Common.{◌≡◌, ◌+◌, ◌<◌, ◌++◌, ℕ, Some, refl, List, sym, subst, ap, ◌∙◌, get_or, length, take, drop, slice_get, arith}
 use Rattle.std.specs.Option.{option_map}
-use Rattle.std.proofs.lemmas.List.{length-replicate}
+use Rattle.std.proofs.lemmas.List.{get_or_default, length-replicate}
+use Rattle.gs_journal.specs.declared.entry.Entry.{Entry}
+use Rattle.gs_journal.specs.declared.entry.Entry.TheVariants.{Torn}
 use Rattle.gs_timeline.specs.Homes.{AreHome}
 use Rattle.gs_timeline.specs.Lanes.{LaneOf, each_then, lane_then, left, vacant}
 use Rattle.gs_timeline.specs.Stays.{stays}
@@ -25,19 +27,20 @@ loop-place-init c = (
   λ f. subst (AreHome c.new-homes.result.cpus.items 0) (sym c.in_ok-lanes.ensures) (vacant_home c.new-homes.result.cpus.items c.args.cpus 0),
 )
 
-pub hear-requires-clause-home : goal.hear-requires-clause-home
-hear-requires-clause-home c = λ f. subst (AreHome c.loop-place.homes.cpus.items 0) (sym c.as_mut_slice.ensures.value) (c.loop-place.invariant.2 f)
+pub hear_at-requires-clause-home : goal.hear_at-requires-clause-home
+hear_at-requires-clause-home c = λ f. subst (AreHome c.loop-place.homes.cpus.items 0) (sym c.as_mut_slice.ensures.value) (c.loop-place.invariant.2 f)
 
 pub loop-place-preserved : goal.loop-place-preserved
 loop-place-preserved c =
     let n = c.loop-place.place in
-    let x = c.entry.result in
+    let lt : n < length c.args.journal.now.entries = omega (arith, c.loop-place-test.true, c.len-place-end.ensures.value) in
+    let x : Entry = get_or c.args.journal.now.entries n Torn in
     let xs = c.loop-place.lanes.items in
     let s = c.as_mut_slice.ensures in
-    let whole = changed (lane_then n x) c.loop-place.lanes.len xs c.hear.new.lanes c.as_mut_slice.result.now s.value s.len c.in_ok-hear.ensures.lanes in (
-      subst (AreLanes c.args.journal.now.entries (n + 1) 0) (sym whole) (lanes_more c.args.journal.now.entries n x (omega (arith, c.loop-place-test.true, c.len-place-end.ensures.value)) c.entry.ensures.item 0 xs c.loop-place.invariant.0),
+    let whole = changed (lane_then n x) c.loop-place.lanes.len xs c.hear_at.new.lanes c.as_mut_slice.result.now s.value s.len c.in_ok-hear_at.ensures.lanes in (
+      subst (AreLanes c.args.journal.now.entries (n + 1) 0) (sym whole) (lanes_more c.args.journal.now.entries n x lt (get_or_default c.args.journal.now.entries n Torn x lt) 0 xs c.loop-place.invariant.0),
       ap length whole ∙ (length_each (lane_then n x) 0 xs ∙ c.loop-place.invariant.1),
-      λ f. subst (AreHome c.hear.new.homes.cpus.items 0) (in_turn (lane_then n x) c.loop-place.lanes.len xs c.hear.new.lanes c.as_mut_slice.result.now s.value s.len c.in_ok-hear.ensures.lanes) (c.in_ok-hear.ensures.home f),
+      λ f. subst (AreHome c.hear_at.new.homes.cpus.items 0) (in_turn (lane_then n x) c.loop-place.lanes.len xs c.hear_at.new.lanes c.as_mut_slice.result.now s.value s.len c.in_ok-hear_at.ensures.lanes) (c.in_ok-hear_at.ensures.home f),
     )
 
 pub returns-clause-stays : goal.returns-clause-stays
