@@ -1,11 +1,8 @@
 -- What an index has heard, entry by entry.
-use Rattle.std.proofs.Common.{◌≡◌, sym, ◌∙◌, ap, subst, ℕ, suc, ◌+◌, ◌<◌, ◌≤◌, true, false, [], ◌∷◌, ◌++◌, add-one, arith, take, drop, drop-cons, get_or, length, cond}
-use Rattle.std.proofs.Math.Seq.{take-suc}
-use Rattle.std.proofs.lemmas.List.{drop_all, length-take-le, take_all}
+use Rattle.std.proofs.Common.{◌≡◌, ◌∙◌, ap, ℕ, suc, ◌+◌, ◌<◌, ◌≤◌, true, false, add-one, arith, drop, drop-cons, get_or, length, cond}
+use Rattle.std.proofs.lemmas.List.{drop_all}
 use Rattle.gs_journal.specs.declared.entry.Entry.{Entry}
 use Rattle.gs_journal.specs.History.{History}
-use Rattle.gs_reasons.specs.declared.index.Index.{Index}
-use Rattle.gs_reasons.specs.Kept.{HasHeard}
 use Rattle.gs_explain.specs.Landings.{is_placing, steps_to_placing}
 
 -- how far it is to the next placing, entry by entry

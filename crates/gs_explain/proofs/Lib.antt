@@ -11,3 +11,5 @@ mod Finding
 mod WorkedRows
 mod Stamps
 mod Lasting
+pub mod Knowing
+pub mod Sentences

@@ -15,7 +15,7 @@ use Rattle.gs_trace.specs.Noted.{Noted, noted_after, noted_first}
 use Rattle.gs_explain.specs.declared.run.Explanation.{Explanation}
 use Rattle.gs_explain.specs.declared.run.Explanation.TheVariants.{Lines, Json}
 use Rattle.gs_explain.specs.Moment.{Moment, moment}
-use Rattle.gs_explain.specs.Rows.{row}
+use Rattle.gs_explain.specs.Rows.{reply_shown, row}
 use Rattle.gs_explain.specs.Objects.{object_row}
 
 -- a line of a script, with its number
@@ -34,6 +34,10 @@ shown_by Json = object_row
 -- what is shown of an event of this line, from one machine to another
 abbrev pub row_of : Show → Noted → State → Line → Event AnyPolicy → Reply → State → List ℕ
 row_of show n m x e r m' = show x (moment (noted_after x.0 r m' n) e m') (length m.history) r
+
+-- what a row of text has between the script's line and the entries that were added: the reply, with its reasons
+abbrev pub event_shown : Noted → State → ℕ → Event AnyPolicy → Reply → State → List ℕ
+event_shown n m line e r m' = reply_shown (moment (noted_after line r m' n) e m') (length m.history) r
 
 -- events of these lines have these replies, each a step of the machine that the one before left, and the rows are these bytes
 abbrev pub Explains : Show → Noted → State → List (Event AnyPolicy) → List Reply → List Line → State → List ℕ → Type 0

@@ -2,9 +2,12 @@ pub mod Moment
 pub mod Landings
 pub mod Marked
 pub mod Refusals
+pub mod Gone
 pub mod Commands
 pub mod Rows
 pub mod Objects
 pub mod Explained
 pub mod Telling
 pub mod Met
+pub mod Knowing
+pub mod Sentenced

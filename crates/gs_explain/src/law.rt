@@ -1,4 +1,4 @@
-ghost use Rattle.std.specs.Prelude.{◌≡◌, ◌≤◌, Some, Bool, List, ℕ, map, length, [], ◌∷◌};
+ghost use Rattle.std.specs.Prelude.{◌≡◌, ◌≤◌, Some, Bool, List, ℕ, map, length, [], ◌∷◌, ◌++◌};
 ghost use Rattle.gs_policy.specs.declared.any.AnyPolicy.{AnyPolicy};
 ghost use Rattle.gs_kernel.specs.declared.landing.Landing.{Landing};
 ghost use Rattle.gs_replies.specs.declared.config.Config.{Config};
@@ -19,6 +19,12 @@ ghost use Rattle.gs_explain.specs.Refusals.{refusal_sign};
 ghost use Rattle.gs_trace.specs.Noted.{Noted};
 ghost use Rattle.gs_explain.specs.Explained.{Explains, Line, Show};
 ghost use Rattle.gs_explain.specs.Met.{AreJudged};
+ghost use Rattle.gs_explain.specs.Knowing.{Known, Knows, KnowsFirst, shown_after};
+ghost use Rattle.gs_explain.specs.Moment.{Moment};
+ghost use Rattle.gs_explain.specs.Explained.{event_shown, row_of};
+ghost use Rattle.gs_explain.specs.Rows.{added, heading, reply_shown, row};
+ghost use Rattle.gs_explain.specs.Sentenced.{AddsSentences};
+ghost use Rattle.gs_lines.specs.Lines.{reply_lines};
 
 /// States that what is explained is a run: the rows have the replies of a run of the events, one each, in order. It does
 /// nothing when it runs.
@@ -52,4 +58,26 @@ pub fn refusals_are_explained()
 pub fn placings_find_free()
     ensures start { (c : Config AnyPolicy) → FindsFree (start c).history }
     ensures step { (m n : State) (e : Event Plan) (r : Reply) → length m.slots ≤ m.settings.cpus → Step m e r n → FindsFree m.history → FindsFree n.history }
+{}
+
+/// States that what was known of a machine before an event is known of what it did first, behind the event. So an
+/// [`Explainer`](crate::Explainer) can explain each event, one after another. It does nothing when it runs.
+#[tactic(auto, using(crate::proofs::Knowing::step_known))]
+pub fn event_is_known()
+    ensures { (x : Known) (m n : State) (e : Event Plan) (r : Reply) → Knows x m → Step m e r n → KnowsFirst x n }
+{}
+
+/// States that what an [`Explainer`](crate::Explainer) shows of an event is what its row has between the script's line and
+/// the entries that were added. It does nothing when it runs.
+#[tactic(auto, using(crate::proofs::Knowing::same_shown, crate::proofs::Knowing::row_shows))]
+pub fn rows_show_it()
+    ensures shown { (x : Known) (m n : State) (line : ℕ) (e : Event AnyPolicy) (r : Reply) → Knows x m → shown_after x.noted line e r n ≡ event_shown x.noted m line e r n }
+    ensures row { (noted : Noted) (m n : State) (said : Line) (e : Event AnyPolicy) (r : Reply) → row_of row noted m said e r n ≡ heading said ++ event_shown noted m said.0 e r n ++ added (length m.history) (length n.history) }
+{}
+
+/// States that what is shown of a reply is the reply with sentences among its lines: without them it is the reply. It
+/// does nothing when it runs.
+#[tactic(auto, using(crate::proofs::Sentences::reply_adds))]
+pub fn sentences_are_added()
+    ensures { (x : Moment) (first : ℕ) (r : Reply) → AddsSentences (reply_lines r) (reply_shown x first r) }
 {}

@@ -2,6 +2,8 @@
 #![tactic(auto)]
 
 mod cause;
+mod explainer;
+mod gone;
 mod hearing;
 mod landed;
 mod landings;
@@ -18,5 +20,9 @@ mod teller;
 mod telling;
 mod whys;
 
-pub use law::{explained_is_run, landings_are_met, placings_find_free, refusals_are_explained};
+pub use explainer::Explainer;
+pub use law::{
+    event_is_known, explained_is_run, landings_are_met, placings_find_free, refusals_are_explained,
+    rows_show_it, sentences_are_added,
+};
 pub use run::{Explanation, explain_script};

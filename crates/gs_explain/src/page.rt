@@ -7,16 +7,18 @@ ghost use Rattle.gs_script.specs.Words.{is_text};
 ghost use Rattle.gs_sentences.specs.Given.{landed_given, reason_given, refused_given};
 ghost use Rattle.gs_sentences.specs.Reason as reasons;
 ghost use Rattle.gs_explain.specs.Landings.{because};
+ghost use Rattle.gs_explain.specs.Gone.{torn_since};
 ghost use Rattle.gs_explain.specs.Rows.{added, heading, none_shown};
 ghost use Rattle.gs_script.specs.Unread.{said_line};
 
+use crate::gone::GoneLine;
 use gs_core::Reply;
 use gs_journal::Entry;
 use gs_kernel::{Executed, Landing};
 use gs_layout::Refusal;
 use gs_lines::{Text, write_executed, write_landing, write_late, write_reply, write_torn};
 use gs_script::SaidLine;
-use gs_sentences::{Landed, Reason, Refused, Sentence, put_landed, put_reason, put_refused};
+use gs_sentences::{Cause, Landed, Reason, Refused, Sentence, put_landed, put_reason, put_refused};
 use std::alloc::{AllocError, Global};
 use std::marker::Model;
 
@@ -26,6 +28,7 @@ use std::marker::Model;
 pub(crate) struct Page {
     text: Text,
     sentence: Sentence,
+    gone: GoneLine,
 }
 
 impl Model for Page {
@@ -44,6 +47,7 @@ impl Page {
         Page {
             text: Text::new(alloc),
             sentence: Sentence::new(),
+            gone: GoneLine::new(),
         }
     }
 
@@ -51,8 +55,24 @@ impl Page {
     pub(crate) fn into_bytes(self) -> Vec<u8>
         ensures { result.items ≡ self }
     {
-        let Page { text, sentence: _ } = self;
+        let Page {
+            text,
+            sentence: _,
+            gone: _,
+        } = self;
         text.into_bytes()
+    }
+
+    /// Returns what is written, as text.
+    pub(crate) fn into_text(self) -> Text
+        ensures { result ≡ self }
+    {
+        let Page {
+            text,
+            sentence: _,
+            gone: _,
+        } = self;
+        text
     }
 
     /// Adds a script's line, with its number.
@@ -151,6 +171,15 @@ impl Page {
         put_refused(&mut self.sentence, refused);
         self.sentence.put("  ");
         self.text.append(self.sentence.as_bytes())
+    }
+
+    /// Adds that something went with the enclave, in a line of its own, by the entry that tore it down.
+    #[inline(always)]
+    pub(crate) fn gone(&mut self, cause: &Cause<'_>) -> Result<(), AllocError>
+        ensures { OnOk result (self.new ≡ self.old ++ torn_since cause.now.line cause.now.place) }
+    {
+        self.gone.tell(cause);
+        self.text.append(self.gone.as_bytes())
     }
 
     /// Adds a reason in a line of its own.

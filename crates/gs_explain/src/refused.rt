@@ -3,7 +3,8 @@
 ghost use Rattle.std.specs.Prelude.{◌≡◌, ◌<◌, IfSome, length};
 ghost use Rattle.gs_reasons.specs.Cause.{place_of};
 ghost use Rattle.gs_reasons.specs.Kept.{HasHeard};
-ghost use Rattle.gs_sentences.specs.Given.{refused_given};
+ghost use Rattle.gs_layout.specs.declared.refusal.Refusal.TheVariants as refusals;
+ghost use Rattle.gs_sentences.specs.Given.{causes_given, refused_given};
 ghost use Rattle.gs_explain.specs.Moment.{moment_of};
 ghost use Rattle.gs_explain.specs.Marked.{IsMarked};
 ghost use Rattle.gs_explain.specs.Refusals.{least_stamped, no_thread_sign, numbers, refusal_sign, spent_sign, waiting, waiting_by, waits, waits_on, why_refused};
@@ -18,7 +19,7 @@ use gs_kernel::Command;
 use gs_layout::Refusal;
 use gs_policy::AnyPolicy;
 use gs_reasons::{Index, Sign};
-use gs_sentences::{Numbers, Refused, Waiting, cpu_of, tid_of};
+use gs_sentences::{Cause, Numbers, Refused, Waiting, cpu_of, tid_of};
 use gs_slots::{Malformed, Region, SlotState};
 
 /// Returns what the reason is a sign of why there is no such thread.
@@ -189,4 +190,13 @@ pub(crate) fn why_refused<'a>(scene: &Scene<'a>, index: &Index, refusal: Refusal
         cause: cause_at(scene, place),
         numbers: numbers(scene, refusal),
     }
+}
+
+/// Returns the entry that tore the enclave down, which explains what was refused since.
+#[inline(always)]
+pub(crate) fn torn_down<'a>(scene: &Scene<'a>, index: &Index) -> Option<Cause<'a>>
+    requires { HasHeard index.now scene.now.journal.now.entries }
+    ensures { causes_given result ≡ (why_refused (moment_of scene.now) refusals.Gone).cause }
+{
+    cause_at(scene, place_of(index, scene, Some(Sign::TornDown)))
 }

@@ -2,6 +2,7 @@
 
 ghost use Rattle.std.specs.Prelude.{◌≡◌, ◌≤◌, ◌++◌, Some, OnOk, length, take, true};
 ghost use Rattle.gs_reasons.specs.Kept.{HasHeard};
+ghost use Rattle.gs_layout.specs.declared.refusal.Refusal.TheVariants as refusals;
 ghost use Rattle.gs_script.specs.Words.{is_text};
 ghost use Rattle.gs_script.specs.Unread.{said_line};
 ghost use Rattle.gs_replies.specs.Replies.{reply_of};
@@ -18,7 +19,7 @@ use crate::landings::{write_landings, write_late_landing};
 use crate::moment::Scene;
 use crate::overflow::overflow_of;
 use crate::page::Page;
-use crate::refused::why_refused;
+use crate::refused::{torn_down, why_refused};
 use crate::teller::Teller;
 use gs_agent::Drained;
 use gs_core::Reply;
@@ -61,6 +62,37 @@ fn write_refused(
     out.refused(&why_refused(scene, index, refusal))
 }
 
+/// Adds why an event was refused since the enclave was torn down. An index has heard all entries.
+#[inline(never)]
+fn write_gone(out: &mut Page, scene: &Scene<'_>, index: &Index) -> Result<(), AllocError>
+    requires heard { HasHeard index.now scene.now.journal.now.entries }
+    requires marked { IsMarked scene.now.last.now.places.items scene.now.transactions.now }
+    ensures { OnOk result (out.new ≡ out.old ++ because (Some (reasons.Refused (why_refused (moment_of scene.now) refusals.Gone)))) }
+{
+    match torn_down(scene, index) {
+        Some(cause) => out.gone(&cause),
+        None => write_refused(out, scene, index, Refusal::Gone),
+    }
+}
+
+/// Adds why an event was refused, whatever refused it. An index has heard all entries.
+#[inline(always)]
+fn write_why(
+    out: &mut Page,
+    scene: &Scene<'_>,
+    index: &Index,
+    refusal: Refusal,
+) -> Result<(), AllocError>
+    requires heard { HasHeard index.now scene.now.journal.now.entries }
+    requires marked { IsMarked scene.now.last.now.places.items scene.now.transactions.now }
+    ensures { OnOk result (out.new ≡ out.old ++ because (Some (reasons.Refused (why_refused (moment_of scene.now) refusal)))) }
+{
+    match refusal {
+        Refusal::Gone => write_gone(out, scene, index),
+        _ => write_refused(out, scene, index, refusal),
+    }
+}
+
 /// Adds what did not fit as an event tore the enclave down.
 #[inline(never)]
 fn write_torn(out: &mut Page, scene: &Scene<'_>) -> Result<(), AllocError>
@@ -82,7 +114,7 @@ fn write_plain(
 {
     out.reply(reply)?;
     match reply {
-        Reply::Refused(refusal) => write_refused(out, scene, index, *refusal),
+        Reply::Refused(refusal) => write_why(out, scene, index, *refusal),
         Reply::Torn => write_torn(out, scene),
         Reply::Drained(drained) => write_drained(out, drained),
         _ => Ok(()),
@@ -91,7 +123,7 @@ fn write_plain(
 
 /// Adds a reply, line by line, and what explains it. An index has heard the entries before the event, so many, and
 /// hears those of the event.
-fn write_shown(
+pub(crate) fn write_shown(
     out: &mut Page,
     scene: &Scene<'_>,
     index: &mut Index,
@@ -167,7 +199,7 @@ fn write_came(
     match came {
         Ok(Executed::Done) => Ok(()),
         Ok(Executed::Torn) => write_torn(out, scene),
-        Err(refusal) => write_refused(out, scene, index, refusal),
+        Err(refusal) => write_why(out, scene, index, refusal),
     }
 }
 

@@ -18,4 +18,5 @@ pub use numbers::{Numbers, Waiting};
 pub use reason::{Reason, put_reason};
 pub use refused::{Refused, put_refused};
 pub use sentence::{MOST_REASON_LEN, SENTENCE_LEN, Sentence};
+pub use shared::put_torn_down;
 pub use subject::{cpu_of, mask_of, tid_of};

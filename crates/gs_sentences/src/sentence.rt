@@ -1,6 +1,6 @@
 //! A text that is put together from its end.
 
-ghost use Rattle.std.specs.Prelude.{◌≡◌, ◌+◌, ◌≤◌, ◌++◌, [], decimal, length};
+ghost use Rattle.std.specs.Prelude.{◌≡◌, ◌+◌, ◌≤◌, ◌++◌, [], decimal, drop, length};
 ghost use Rattle.std.specs.Str.{IsUtf8};
 
 use gs_lines::{put, put_mask, put_number};
@@ -12,23 +12,68 @@ pub const SENTENCE_LEN: usize = 640;
 /// The most bytes of the sentence of a reason.
 pub const MOST_REASON_LEN: usize = 632;
 
+/// The most digits of a mask.
+const MOST_MASK_LEN: usize = 39;
+
 /// A text that is put together in an array from its end: what is put stands in front of what was there. Clauses see its
 /// bytes, which are UTF-8.
 #[derive(Drop)]
 pub struct Sentence {
     bytes: [u8; SENTENCE_LEN],
     start: usize,
+    /// The long mask that was put last. Its digits are kept, since each takes a division, and the same is often put again.
+    mask: u128,
+    /// The digits of that mask, at the end.
+    digits: [u8; MOST_MASK_LEN],
+    /// Where the digits begin.
+    first: usize,
 }
 
 impl Model for Sentence {
-    ghost use Rattle.std.specs.Prelude.{List, ℕ, ◌≤◌, drop};
+    ghost use Rattle.std.specs.Prelude.{List, ℕ, ◌≡◌, ◌≤◌, decimal, drop};
     ghost use Rattle.std.specs.Str.{IsUtf8};
 
     ghost Value = { List ℕ };
 
     ghost view = { λ s. drop s.start s.bytes };
 
-    ghost invariant = { λ s. (s.start ≤ 640) × IsUtf8 (drop s.start s.bytes) };
+    ghost invariant = { λ s. record {
+      within : s.start ≤ 640;
+      utf8 : IsUtf8 (drop s.start s.bytes);
+      first : s.first ≤ 39;
+      digits : drop s.first s.digits ≡ decimal s.mask;
+    } };
+}
+
+/// Writes bytes from a place on so that they end here, and returns where they begin.
+#[inline(always)]
+fn put_from(array: &mut [u8], end: usize, bytes: &[u8], from: usize) -> usize
+    requires within { from ≤ length bytes.now }
+    requires room { (length (drop from bytes.now) ≤ end) × (end ≤ length array.old) }
+    ensures start { result + length (drop from bytes.now) ≡ end }
+    ensures written { drop result array.new ≡ drop from bytes.now ++ drop end array.old }
+    ensures size { length array.new ≡ length array.old }
+{
+    let start = end - (bytes.len() - from);
+    array[start..end].copy_from_slice(&bytes[from..]);
+    start
+}
+
+/// Writes the digits of a mask at the end of an array that has there, from a place on, those of a mask that was kept.
+/// Returns where they begin.
+#[inline(always)]
+fn put_digits(digits: &mut [u8], first: usize, kept: u128, mask: u128) -> usize
+    requires size { length digits.old ≡ MOST_MASK_LEN }
+    requires first { first ≤ MOST_MASK_LEN }
+    requires kept { drop first digits.old ≡ decimal kept }
+    ensures first { result ≤ MOST_MASK_LEN }
+    ensures value { drop result digits.new ≡ decimal mask }
+    ensures size { length digits.new ≡ MOST_MASK_LEN }
+{
+    if kept == mask {
+        return first;
+    }
+    put_mask(digits, MOST_MASK_LEN, mask)
 }
 
 impl Sentence {
@@ -40,6 +85,9 @@ impl Sentence {
         Sentence {
             bytes: [0; SENTENCE_LEN],
             start: SENTENCE_LEN,
+            mask: 0,
+            digits: [b'0'; MOST_MASK_LEN],
+            first: MOST_MASK_LEN - 1,
         }
     }
 
@@ -93,6 +141,20 @@ impl Sentence {
         ensures value { self.new ≡ decimal mask ++ self.old }
         ensures short { length self.new ≤ length self.old + 39 }
     {
-        self.start = put_mask(&mut self.bytes, self.start, mask);
+        match u64::try_from(mask) {
+            Ok(number) => self.put_number(number),
+            Err(_) => self.put_long_mask(mask),
+        }
+    }
+
+    /// Puts a mask in front, also one of more than 64 bits.
+    fn put_long_mask(&mut self, mask: u128)
+        requires { length self.old + 39 ≤ SENTENCE_LEN }
+        ensures value { self.new ≡ decimal mask ++ self.old }
+        ensures short { length self.new ≤ length self.old + 39 }
+    {
+        self.first = put_digits(&mut self.digits, self.first, self.mask, mask);
+        self.mask = mask;
+        self.start = put_from(&mut self.bytes, self.start, &self.digits, self.first);
     }
 }

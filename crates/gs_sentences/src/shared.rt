@@ -102,7 +102,7 @@ pub(crate) fn put_held(to: &mut Sentence, cpu: u16, cause: &Option<Cause<'_>>)
 }
 
 /// Puts that the enclave was torn down, and when.
-pub(crate) fn put_torn_down(to: &mut Sentence, cause: &Option<Cause<'_>>)
+pub fn put_torn_down(to: &mut Sentence, cause: &Option<Cause<'_>>)
     requires { length to.old + 296 ≤ SENTENCE_LEN }
     ensures value { to.new ≡ torn_text (causes_given cause.now) ++ to.old }
     ensures short { length to.new ≤ length to.old + 296 }
