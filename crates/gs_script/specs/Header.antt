@@ -7,9 +7,9 @@ use Rattle.gs_kernel.specs.declared.settings.TheConstants.{LEAST_CPUS, LEAST_GEN
 use Rattle.gs_policy.specs.declared.any.AnyPolicy.{AnyPolicy}
 use Rattle.gs_replies.specs.declared.config.Config.{Config}
 use Rattle.gs_script.specs.declared.fault.Reason.{Reason}
-use Rattle.gs_script.specs.declared.fault.Reason.TheVariants.{NoHeader, BadCount, BadNumber}
+use Rattle.gs_script.specs.declared.fault.Reason.TheVariants.{BadByte, NoHeader, BadCount, BadNumber}
 use Rattle.gs_script.specs.declared.header.Firsts.{Firsts}
-use Rattle.gs_script.specs.Words.{number}
+use Rattle.gs_script.specs.Words.{is_text, number, words_of}
 use Rattle.gs_script.specs.Grammar.{is_of_kind, Number, Multiple, Form, with_part, first_fault, or_fault, literal}
 use Rattle.gs_script.specs.Rows.{at, is, named, number_between, policy_forms}
 
@@ -117,3 +117,7 @@ policy_in ws = or_fault (first_fault policies ws) (policy_of ws)
 -- the same, of the words behind `policy`
 abbrev pub policy_named : List (List ℕ) → Result AnyPolicy Reason
 policy_named ws = policy_in (codes "policy" ∷ ws)
+
+-- what a text says that is to name a policy
+abbrev pub policy_said : List ℕ → Result AnyPolicy Reason
+policy_said text = if is_text text then policy_named (words_of text) else Err BadByte

@@ -1,10 +1,10 @@
 -- What came of a reader, by what was kept and consumed.
-use Rattle.std.proofs.Common.{◌≡◌, ◌≢◌, refl, ap, sym, subst, ◌∙◌, ℕ, ◌+◌, ◌≤◌, ◌<◌, Bool, true, false, List, [], ◌∷◌, ◌++◌, append_assoc, append-nil, length, length-take, take, arith, Option}
+use Rattle.std.proofs.Common.{◌≡◌, ap, sym, subst, ◌∙◌, ℕ, ◌≤◌, Bool, true, false, List, [], ◌∷◌, ◌++◌, append_assoc, append-nil, length, length-take, take, arith, Option}
 use Rattle.std.specs.Io.KnownBytes.{Consumes, IsAtEnd, prepend_known}
 use Rattle.std.proofs.KnownBytes.{Consumes-trans}
 use Rattle.gs_serve.specs.declared.source.TheConstants.{MOST_KEPT}
 use Rattle.gs_serve.specs.declared.source.Came.TheVariants.{Line, Last, Nothing}
-use Rattle.gs_serve.specs.Source.{Comes, GoesOn, IsLine, kept_of, taken_of}
+use Rattle.gs_serve.specs.Source.{Comes, GoesOn, IsLine, kept_of}
 use Rattle.gs_serve.proofs.Feeding.{goes_on}
 use Rattle.gs_serve.proofs.Kept.{front_taken, kept_more, none_kept}
 

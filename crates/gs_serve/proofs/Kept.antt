@@ -1,5 +1,5 @@
 -- What is kept of a line, and what is left of a buffer.
-use Rattle.std.proofs.Common.{◌≡◌, refl, ap, sym, subst, ◌∙◌, ℕ, suc, ◌+◌, ◌-◌, ◌≤◌, ◌<◌, zero, min, List, [], ◌∷◌, ◌++◌, append_assoc, length, length-append, length-drop, take, drop, arith, Option, None, Some}
+use Rattle.std.proofs.Common.{◌≡◌, refl, ap, sym, ◌∙◌, ℕ, suc, ◌+◌, ◌-◌, ◌≤◌, ◌<◌, zero, min, List, [], ◌∷◌, ◌++◌, append_assoc, length, length-append, length-drop, take, drop, arith, Option, None, Some}
 use Rattle.std.proofs.lemmas.List.{drop-drop, drop-take, length-take-le, take_min}
 use Rattle.std.proofs.Math.Seq.{take-append-add, drop-append-add}
 use Rattle.std.specs.Io.KnownBytes.{Consumes, IsAtEnd, prepend_known}

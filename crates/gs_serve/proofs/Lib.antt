@@ -4,3 +4,6 @@ mod Coming
 mod Leading
 mod Pieces
 mod SoFar
+mod Plainly
+mod Sentences
+mod Following

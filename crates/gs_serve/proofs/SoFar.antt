@@ -1,5 +1,5 @@
 -- A session, line by line, and its answers.
-use Rattle.std.proofs.Common.{◌≡◌, ◌≢◌, refl, ap, sym, subst, ◌∙◌, ℕ, ◌+◌, ◌≤◌, ◌<◌, nat_lt, Bool, true, false, cond, List, [], ◌∷◌, ◌++◌, append_assoc, append-nil, length, length-take, take, arith, Option, None, Some, Result, Ok, Err}
+use Rattle.std.proofs.Common.{◌≡◌, refl, ap, sym, subst, ◌∙◌, ℕ, ◌+◌, ◌≤◌, ◌<◌, nat_lt, Bool, true, false, cond, List, [], ◌∷◌, ◌++◌, append_assoc, append-nil, length, length-take, take, arith, Option, None, Some, Result, Err}
 use Rattle.std.specs.Io.KnownBytes.{Appends, Consumes, IsAtEnd, prepend_known}
 use Rattle.std.specs.Prelude.{IfSome}
 use Rattle.std.proofs.KnownBytes.{Appends-nil, Appends-trans, Consumes-trans}
@@ -17,14 +17,15 @@ use Rattle.gs_script.specs.Words.{lines_of}
 use Rattle.gs_session.specs.declared.heard.Heard.{Heard}
 use Rattle.gs_core.specs.Machine.{StateOf}
 use Rattle.gs_policy.specs.declared.any.AnyPolicy.{AnyPolicy}
-use Rattle.gs_session.specs.Lines.{HearsAll}
 use Rattle.gs_session.specs.Session.{Session, Hears, HearsAt, HearsEvent, HearsHeader, read_within, unheard}
 use Rattle.gs_serve.specs.declared.source.TheConstants.{MOST_KEPT}
 use Rattle.gs_serve.specs.declared.source.Came.TheVariants.{Line, Last, Nothing}
 use Rattle.gs_serve.specs.declared.fault.ServeFault.{ServeFault}
 use Rattle.gs_serve.specs.declared.fault.ServeFault.TheVariants as faults
 use Rattle.gs_serve.specs.Source.{Comes, IsLine, kept_of}
-use Rattle.gs_serve.specs.Served.{AnswersLine, BeginsLine, BeginsServing, IsOfWriting, IsServed, answer_of, answers_of, lines_in}
+use Rattle.gs_trace.specs.Noted.{Noted}
+use Rattle.gs_serve.specs.Served.{IsOfWriting}
+use Rattle.gs_serve.specs.Answered.{BeginsServingBy, IsServedBy, ShowsAll, ShowsLine, StartsLine, Way, WritesLine, ended_by, event_in, event_said}
 use Rattle.gs_serve.proofs.Leading.{Leads, all_consumed, first_consumed, last_line, line_leads, whole_lines}
 
 -- a line of which no more is kept than tells that it is too long says what the whole says
@@ -52,73 +53,84 @@ hears_cut : (old : Session) (line kept : List ℕ) (h : Heard) (new : Session) �
 hears_cut old line kept h new e t =
     record { counted = t.counted; does = hears_cut_at new.count line old.opened h new.opened (subst (λ (xs : List ℕ). HearsAt new.count xs old.opened h new.opened) e t.does) }
 
+shows_cut : (w : Way) (n : Noted) (old : Session) (line kept : List ℕ) (h : Heard) (now : Noted) (new : Session) (out : List ℕ) → kept ≡ kept_of line → ShowsLine w n old kept h now new out → ShowsLine w n old line h now new out
+shows_cut w n old line kept h now new out e t =
+    record {
+      hears = hears_cut old line kept h new e t.hears;
+      shown = t.shown ∙ ap (λ (xs : List ℕ). w.shown n old (event_said xs) h new) e ∙ ap (λ r. w.shown n old (event_in r) h new) (cut_within event_of line);
+      noted = t.noted;
+    }
+
 -- one more line is heard
-hears_more : (a b c : Session) (lines : List (List ℕ)) (hs : List Heard) (line : List ℕ) (h : Heard) → HearsAll a lines hs b → Hears b line h c → HearsAll a (lines ++ line ∷ []) (hs ++ h ∷ []) c
-hears_more a b c [] [] line h e one = (c, subst (λ (s : Session). Hears s line h c) e one, refl)
-hears_more a b c [] (g ∷ hs) line h t one = absurd t
-hears_more a b c (l ∷ lines) [] line h t one = absurd t
-hears_more a b c (l ∷ lines) (g ∷ hs) line h (mid, first, rest) one = (mid, first, hears_more mid b c lines hs line h rest one)
-
-answers_more : (hs : List Heard) (h : Heard) → answers_of (hs ++ h ∷ []) ≡ answers_of hs ++ answer_of h
-answers_more [] h = append-nil (answer_of h)
-answers_more (g ∷ hs) h = ap (λ xs. answer_of g ++ xs) (answers_more hs h) ∙ sym (append_assoc (answer_of g) (answers_of hs) (answer_of h))
-
-written_more : (a b c : Option (List ℕ)) (hs : List Heard) (h : Heard) → Appends a b (answers_of hs) → Appends b c (answer_of h) → Appends a c (answers_of (hs ++ h ∷ []))
-written_more a b c hs h so_far one = subst (Appends a c) (sym (answers_more hs h)) (Appends-trans a b c (answers_of hs) (answer_of h) so_far one)
+shows_more : (w : Way) (n m : Noted) (a b : Session) (lines : List (List ℕ)) (hs : List Heard) (out : List ℕ) (line : List ℕ) (h : Heard) (now : Noted) (c : Session) (text : List ℕ) → ShowsAll w n a lines hs m b out → ShowsLine w m b line h now c text → ShowsAll w n a (lines ++ line ∷ []) (hs ++ h ∷ []) now c (out ++ ended_by text)
+shows_more w n m a b [] [] out line h now c text (noted, e, none) one =
+    let first : ShowsLine w n a line h now c text =
+    subst (λ (s : Session). ShowsLine w n s line h now c text) e (subst (λ (k : Noted). ShowsLine w k b line h now c text) noted one) in
+    (now, c, text, [], first, ap (λ xs. xs ++ ended_by text) none ∙ sym (append-nil (ended_by text)), (refl, refl, refl))
+shows_more w n m a b [] (g ∷ hs) out line h now c text t one = absurd t
+shows_more w n m a b (l ∷ lines) [] out line h now c text t one = absurd t
+shows_more w n m a b (l ∷ lines) (g ∷ hs) out line h now c text (between, mid, said, rest, first, is, behind) one =
+    (between, mid, said, rest ++ ended_by text, first, ap (λ xs. xs ++ ended_by text) is ∙ append_assoc (ended_by said) rest (ended_by text), shows_more w between m mid b lines hs rest line h now c text behind one)
 
 -- lines were read, heard and answered
-pub record ServesSoFar (had left before now : Option (List ℕ)) (session : Session) : Type 0 where
+pub record ServesSoFar (w : Way) (n : Noted) (had left before now : Option (List ℕ)) (noted : Noted) (session : Session) : Type 0 where
   pub input : List ℕ
   pub lines : List (List ℕ)
   pub heard : List Heard
+  pub answers : List ℕ
   pub consumed : Consumes had left input
   pub leads : Leads input lines
-  pub hears : HearsAll unheard lines heard session
-  pub written : Appends before now (answers_of heard)
+  pub shows : ShowsAll w n unheard lines heard noted session answers
+  pub written : Appends before now answers
 
-pub none_served : (known before : Option (List ℕ)) (s : List ℕ) (session : Session) → s ≡ [] → session ≡ unheard → ServesSoFar known (prepend_known s known) before before session
-none_served known before s session e new =
-    record { input = []; lines = []; heard = []; consumed = first_consumed known s e; leads = λ more. refl; hears = new; written = Appends-nil before }
+pub none_served : (w : Way) (n : Noted) (known before : Option (List ℕ)) (s : List ℕ) (session : Session) → s ≡ [] → session ≡ unheard → ServesSoFar w n known (prepend_known s known) before before n session
+none_served w n known before s session e new =
+    record { input = []; lines = []; heard = []; answers = []; consumed = first_consumed known s e; leads = λ more. refl; shows = (refl, new, refl); written = Appends-nil before }
 
-pub line_served : (had mid left before now next : Option (List ℕ)) (kept : List ℕ) (old new : Session) → ServesSoFar had mid before now old → Comes Line mid left kept → AnswersLine old kept new now next → ServesSoFar had left before next new
-line_served had mid left before now next kept old new t (line, is, cut, taken) (h, hears, wrote) =
+pub line_served : (w : Way) (n m : Noted) (had mid left before now next : Option (List ℕ)) (kept : List ℕ) (old : Session) (noted : Noted) (new : Session) → ServesSoFar w n had mid before now m old → Comes Line mid left kept → WritesLine w m old kept noted new now next → ServesSoFar w n had left before next noted new
+line_served w n m had mid left before now next kept old noted new t (line, is, cut, taken) (text, (h, one), wrote) =
     record {
       input = t.input ++ (line ++ 10 ∷ []);
       lines = t.lines ++ line ∷ [];
       heard = t.heard ++ h ∷ [];
+      answers = t.answers ++ ended_by text;
       consumed = Consumes-trans had mid left t.input (line ++ 10 ∷ []) t.consumed taken;
       leads = line_leads t.input line t.lines t.leads is;
-      hears = hears_more unheard old new t.lines t.heard line h t.hears (hears_cut old line kept h new cut hears);
-      written = written_more before now next t.heard h t.written wrote;
+      shows = shows_more w n m unheard old t.lines t.heard t.answers line h noted new text t.shows (shows_cut w m old line kept h noted new text cut one);
+      written = Appends-trans before now next t.answers (ended_by text) t.written wrote;
     }
 
-pub all_served : (had mid known before now : Option (List ℕ)) (s kept : List ℕ) (session : Session) → ServesSoFar had mid before now session → Comes Nothing mid (prepend_known s known) kept → IsServed had known before now
-all_served had mid known before now s kept session t (same, end) =
+pub all_served : (w : Way) (n m : Noted) (had mid known before now : Option (List ℕ)) (s kept : List ℕ) (session : Session) → ServesSoFar w n had mid before now m session → Comes Nothing mid (prepend_known s known) kept → IsServedBy w n had known before now
+all_served w n m had mid known before now s kept session t (same, end) =
     let consumed : Consumes had (prepend_known s known) t.input = subst (Consumes had (prepend_known s known)) (append-nil t.input) (Consumes-trans had mid (prepend_known s known) t.input [] t.consumed same) in
     let all = all_consumed had known s t.input consumed end in
     record {
       input = t.input;
       heard = t.heard;
+      noted = m;
       session = session;
+      answers = t.answers;
       consumed = all.0;
       end = all.1;
-      hears = subst (λ (ls : List (List ℕ)). HearsAll unheard ls t.heard session) (sym (whole_lines t.input t.lines t.leads)) t.hears;
+      shows = subst (λ (ls : List (List ℕ)). ShowsAll w n unheard ls t.heard m session t.answers) (sym (whole_lines t.input t.lines t.leads)) t.shows;
       written = t.written;
     }
 
-pub last_served : (had mid known before now next : Option (List ℕ)) (s kept : List ℕ) (old new : Session) → ServesSoFar had mid before now old → Comes Last mid (prepend_known s known) kept → AnswersLine old kept new now next → IsServed had known before next
-last_served had mid known before now next s kept old new t (line, is, some, cut, taken, end) (h, hears, wrote) =
+pub last_served : (w : Way) (n m : Noted) (had mid known before now next : Option (List ℕ)) (s kept : List ℕ) (old : Session) (noted : Noted) (new : Session) → ServesSoFar w n had mid before now m old → Comes Last mid (prepend_known s known) kept → WritesLine w m old kept noted new now next → IsServedBy w n had known before next
+last_served w n m had mid known before now next s kept old noted new t (line, is, some, cut, taken, end) (text, (h, one), wrote) =
     let all = all_consumed had known s (t.input ++ line) (Consumes-trans had mid (prepend_known s known) t.input line t.consumed taken) end in
     record {
       input = t.input ++ line;
       heard = t.heard ++ h ∷ [];
+      noted = noted;
       session = new;
+      answers = t.answers ++ ended_by text;
       consumed = all.0;
       end = all.1;
-      hears =
-          subst (λ (ls : List (List ℕ)). HearsAll unheard ls (t.heard ++ h ∷ []) new) (sym (last_line t.input line t.lines t.leads is some))
-          (hears_more unheard old new t.lines t.heard line h t.hears (hears_cut old line kept h new cut hears));
-      written = written_more before now next t.heard h t.written wrote;
+      shows =
+          subst (λ (ls : List (List ℕ)). ShowsAll w n unheard ls (t.heard ++ h ∷ []) noted new (t.answers ++ ended_by text)) (sym (last_line t.input line t.lines t.leads is some))
+          (shows_more w n m unheard old t.lines t.heard t.answers line h noted new text t.shows (shows_cut w m old line kept h noted new text cut one));
+      written = Appends-trans before now next t.answers (ended_by text) t.written wrote;
     }
 
 -- the lines that are not read
@@ -140,35 +152,37 @@ kept_written a b c bs h k = subst (Appends a c) (sym (take_all (length bs) bs (o
     by_kept (Some x) (Some y) None h k = absurd k
     by_kept (Some x) (Some y) (Some z) h k = k ∙ h
 
-pub begun_so_far : (had mid before now after : Option (List ℕ)) (session : Session) → ServesSoFar had mid before now session → Keeps now after → BeginsServing had before after
-begun_so_far had mid before now after session t kept =
+pub begun_so_far : (w : Way) (n m : Noted) (had mid before now after : Option (List ℕ)) (session : Session) → ServesSoFar w n had mid before now m session → Keeps now after → BeginsServingBy w n had before after
+begun_so_far w n m had mid before now after session t kept =
     record {
       lines = t.lines;
       behind = lines_behind mid;
       heard = t.heard;
+      noted = m;
       session = session;
-      count = length (answers_of t.heard);
+      answers = t.answers;
+      count = length t.answers;
       first = first_lines had mid t.input t.lines t.consumed t.leads;
-      hears = t.hears;
-      written = kept_written before now after (answers_of t.heard) t.written kept;
+      shows = t.shows;
+      written = kept_written before now after t.answers t.written kept;
     }
 
-part_written : (a b c : Option (List ℕ)) (hs : List Heard) (h : Heard) (n : ℕ) → Appends a b (answers_of hs) → Appends b c (take n (answer_of h)) → Appends a c (take (length (answers_of hs) + n) (answers_of (hs ++ h ∷ [])))
-part_written a b c hs h n so_far one =
-    subst (Appends a c) (sym (ap (take (length (answers_of hs) + n)) (answers_more hs h) ∙ take-append-add (answers_of hs) (answer_of h) n))
-    (Appends-trans a b c (answers_of hs) (take n (answer_of h)) so_far one)
+part_written : (a b c : Option (List ℕ)) (so_far more : List ℕ) (n : ℕ) → Appends a b so_far → Appends b c (take n more) → Appends a c (take (length so_far + n) (so_far ++ more))
+part_written a b c so_far more n first one = subst (Appends a c) (sym (take-append-add so_far more n)) (Appends-trans a b c so_far (take n more) first one)
 
-pub line_begun : (had mid left before now next : Option (List ℕ)) (kept : List ℕ) (old new : Session) → ServesSoFar had mid before now old → Comes Line mid left kept → BeginsLine old kept new now next → BeginsServing had before next
-line_begun had mid left before now next kept old new t (line, is, cut, taken) (h, n, hears, wrote) =
+pub line_begun : (w : Way) (n m : Noted) (had mid left before now next : Option (List ℕ)) (kept : List ℕ) (old : Session) (noted : Noted) (new : Session) → ServesSoFar w n had mid before now m old → Comes Line mid left kept → StartsLine w m old kept noted new now next → BeginsServingBy w n had before next
+line_begun w n m had mid left before now next kept old noted new t (line, is, cut, taken) (text, count, (h, one), wrote) =
     record {
       lines = t.lines ++ line ∷ [];
       behind = lines_behind left;
       heard = t.heard ++ h ∷ [];
+      noted = noted;
       session = new;
-      count = length (answers_of t.heard) + n;
+      answers = t.answers ++ ended_by text;
+      count = length t.answers + count;
       first = first_lines had left (t.input ++ (line ++ 10 ∷ [])) (t.lines ++ line ∷ []) (Consumes-trans had mid left t.input (line ++ 10 ∷ []) t.consumed taken) (line_leads t.input line t.lines t.leads is);
-      hears = hears_more unheard old new t.lines t.heard line h t.hears (hears_cut old line kept h new cut hears);
-      written = part_written before now next t.heard h n t.written wrote;
+      shows = shows_more w n m unheard old t.lines t.heard t.answers line h noted new text t.shows (shows_cut w m old line kept h noted new text cut one);
+      written = part_written before now next t.answers (ended_by text) count t.written wrote;
     }
 
 last_first : (had left : Option (List ℕ)) (input line : List ℕ) (lines : List (List ℕ)) → Consumes had left (input ++ line) → IsAtEnd left → Leads input lines → IsLine line → IfSome had (λ xs. lines_of xs ≡ (lines ++ line ∷ []) ++ [])
@@ -177,23 +191,25 @@ last_first (Some xs) None input line lines h end leads is = absurd h
 last_first (Some xs) (Some left) input line lines h end leads is =
     ap lines_of (h ∙ ap (λ l. (input ++ line) ++ l) end ∙ append-nil (input ++ line)) ∙ leads line ∙ ap (λ ls. lines ++ ls) is ∙ sym (append-nil (lines ++ line ∷ []))
 
-pub last_begun : (had mid left before now next : Option (List ℕ)) (kept : List ℕ) (old new : Session) → ServesSoFar had mid before now old → Comes Last mid left kept → BeginsLine old kept new now next → BeginsServing had before next
-last_begun had mid left before now next kept old new t (line, is, some, cut, taken, end) (h, n, hears, wrote) =
+pub last_begun : (w : Way) (n m : Noted) (had mid left before now next : Option (List ℕ)) (kept : List ℕ) (old : Session) (noted : Noted) (new : Session) → ServesSoFar w n had mid before now m old → Comes Last mid left kept → StartsLine w m old kept noted new now next → BeginsServingBy w n had before next
+last_begun w n m had mid left before now next kept old noted new t (line, is, some, cut, taken, end) (text, count, (h, one), wrote) =
     record {
       lines = t.lines ++ line ∷ [];
       behind = [];
       heard = t.heard ++ h ∷ [];
+      noted = noted;
       session = new;
-      count = length (answers_of t.heard) + n;
+      answers = t.answers ++ ended_by text;
+      count = length t.answers + count;
       first = last_first had left t.input line t.lines (Consumes-trans had mid left t.input line t.consumed taken) end t.leads is;
-      hears = hears_more unheard old new t.lines t.heard line h t.hears (hears_cut old line kept h new cut hears);
-      written = part_written before now next t.heard h n t.written wrote;
+      shows = shows_more w n m unheard old t.lines t.heard t.answers line h noted new text t.shows (shows_cut w m old line kept h noted new text cut one);
+      written = part_written before now next t.answers (ended_by text) count t.written wrote;
     }
 
 -- an answer failed: nothing of it was written, or a beginning
-pub fault_begun : (e : ServeFault) (had mid before now after : Option (List ℕ)) (line : List ℕ) (old new : Session) → ServesSoFar had mid before now old → ((IsOfWriting e → ⊥) → Keeps now after) → (IsOfWriting e → BeginsLine old line new now after)
-    → (BeginsLine old line new now after → BeginsServing had before after) → BeginsServing had before after
-fault_begun faults.ReadFailed had mid before now after line old new t unwritten begun serves = begun_so_far had mid before now after old t (unwritten (λ w. w))
-fault_begun faults.OutOfMemory had mid before now after line old new t unwritten begun serves = begun_so_far had mid before now after old t (unwritten (λ w. w))
-fault_begun faults.WriteFailed had mid before now after line old new t unwritten begun serves = serves (begun tt)
-fault_begun faults.ReaderGone had mid before now after line old new t unwritten begun serves = serves (begun tt)
+pub fault_begun : (e : ServeFault) (w : Way) (n m : Noted) (had mid before now after : Option (List ℕ)) (line : List ℕ) (old : Session) (noted : Noted) (new : Session) → ServesSoFar w n had mid before now m old → ((IsOfWriting e → ⊥) → Keeps now after) → (IsOfWriting e → StartsLine w m old line noted new now after)
+    → (StartsLine w m old line noted new now after → BeginsServingBy w n had before after) → BeginsServingBy w n had before after
+fault_begun faults.ReadFailed w n m had mid before now after line old noted new t unwritten begun serves = begun_so_far w n m had mid before now after old t (unwritten (λ x. x))
+fault_begun faults.OutOfMemory w n m had mid before now after line old noted new t unwritten begun serves = begun_so_far w n m had mid before now after old t (unwritten (λ x. x))
+fault_begun faults.WriteFailed w n m had mid before now after line old noted new t unwritten begun serves = serves (begun tt)
+fault_begun faults.ReaderGone w n m had mid before now after line old noted new t unwritten begun serves = serves (begun tt)

@@ -1,2 +1,4 @@
 pub mod Source
 pub mod Served
+pub mod Answered
+pub mod Following

@@ -1,6 +1,6 @@
 -- Lines, as a reader gives them.
-use Rattle.std.specs.Prelude.{ℕ, ◌≡◌, ◌≢◌, ◌+◌, ◌-◌, List, [], ◌∷◌, ◌++◌, take, drop, Bool, true, false, Option}
-use Rattle.std.specs.Io.KnownBytes.{Consumes, IsAtEnd, prepend_known}
+use Rattle.std.specs.Prelude.{ℕ, ◌≡◌, ◌≢◌, List, [], ◌∷◌, ◌++◌, take, Bool, true, false, Option}
+use Rattle.std.specs.Io.KnownBytes.{Consumes, IsAtEnd}
 use Rattle.gs_script.specs.Words.{lines_of}
 use Rattle.gs_serve.specs.declared.source.TheConstants.{MOST_KEPT}
 use Rattle.gs_serve.specs.declared.source.Came.{Came}

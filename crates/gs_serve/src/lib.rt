@@ -2,7 +2,11 @@
 #![tactic(auto)]
 
 mod answering;
+mod answers;
+mod explained;
 mod fault;
+mod law;
+mod plain;
 mod prompt;
 mod serving;
 mod source;
@@ -10,5 +14,6 @@ mod writing;
 
 pub use answering::answer;
 pub use fault::ServeFault;
+pub use law::{explained_answers_are_heard, sentences_are_added};
 pub use prompt::{Prompt, Silent};
-pub use serving::serve;
+pub use serving::{serve, serve_explained};

@@ -1,9 +1,13 @@
 ghost use Rattle.std.specs.Prelude.{◌≡◌, [], OnErr, OnOk};
 ghost use Rattle.gs_session.specs.Session.{unheard};
+ghost use Rattle.gs_serve.specs.Answered.{BeginsServingBy, BeginsServingExplained, IsServedBy, IsServedExplained};
 ghost use Rattle.gs_serve.specs.Served.{BeginsServing, IsServed};
 
-use crate::answering::answer;
+use crate::answering::answer_by;
+use crate::answers::Answers;
+use crate::explained::Explained;
 use crate::fault::ServeFault;
+use crate::plain::Plain;
 use crate::prompt::Prompt;
 use crate::source::{Came, Source};
 use gs_session::Session;
@@ -11,8 +15,9 @@ use std::alloc::Global;
 use std::io::{Read, Write};
 
 /// Answers the lines that a source gives, each before the reader is asked for more. A line is kept in the place of the one before.
-fn serve_from<P: Prompt, R: Read, W: Write>(
+fn serve_from<A: Answers, P: Prompt, R: Read, W: Write>(
     alloc: Global,
+    answers: &mut A,
     prompt: &P,
     session: &mut Session,
     source: &mut Source,
@@ -22,17 +27,45 @@ fn serve_from<P: Prompt, R: Read, W: Write>(
 ) -> Result<(), ServeFault>
     requires unheard { session.old ≡ unheard }
     requires unread { source.old ≡ [] }
-    ensures served { OnOk result (IsServed (R.remaining reader.old) (R.remaining reader.new) (W.contents writer.old) (W.contents writer.new)) }
-    ensures begun { OnErr result (BeginsServing (R.remaining reader.old) (W.contents writer.old) (W.contents writer.new)) }
+    requires follows { A.follows answers.old session.old }
+    ensures served { OnOk result (IsServedBy A.way (A.noted answers.old) (R.remaining reader.old) (R.remaining reader.new) (W.contents writer.old) (W.contents writer.new)) }
+    ensures begun { OnErr result (BeginsServingBy A.way (A.noted answers.old) (R.remaining reader.old) (W.contents writer.old) (W.contents writer.new)) }
 {
     for _round in 0..usize::MAX {
         match source.next(prompt, reader, line)? {
             Came::Nothing => return Ok(()),
-            Came::Last => return answer(alloc, session, line, writer),
-            Came::Line => answer(alloc, session, line, writer)?,
+            Came::Last => return answer_by(alloc, answers, session, line, writer),
+            Came::Line => answer_by(alloc, answers, session, line, writer)?,
         }
     }
     Err(ServeFault::ReadFailed)
+}
+
+/// Answers the lines that a reader gives, one way or another.
+fn serve_by<A: Answers, P: Prompt, R: Read, W: Write>(
+    alloc: Global,
+    answers: &mut A,
+    prompt: &P,
+    reader: &mut R,
+    writer: &mut W,
+) -> Result<(), ServeFault>
+    requires { A.follows answers.old unheard }
+    ensures served { OnOk result (IsServedBy A.way (A.noted answers.old) (R.remaining reader.old) (R.remaining reader.new) (W.contents writer.old) (W.contents writer.new)) }
+    ensures begun { OnErr result (BeginsServingBy A.way (A.noted answers.old) (R.remaining reader.old) (W.contents writer.old) (W.contents writer.new)) }
+{
+    let mut session = Session::new(alloc);
+    let mut source = Source::new();
+    let mut line = Vec::new(alloc);
+    serve_from(
+        alloc,
+        answers,
+        prompt,
+        &mut session,
+        &mut source,
+        &mut line,
+        reader,
+        writer,
+    )
 }
 
 /// Answers the lines that a reader gives, each before the reader is asked for more: the prompt comes before each read. The answer to a line is the lines of
@@ -51,14 +84,15 @@ fn serve_from<P: Prompt, R: Read, W: Write>(
 ///
 /// # Examples
 ///
-/// What the program does with standard input, where `Asking` writes a prompt if a terminal is to give lines:
+/// What the program does with standard input, where the prompt writes only if a terminal is to give lines:
 ///
 /// ```
-/// Task::Serve => match serve(alloc, &Asking { rt, is_terminal }, reader, writer) {
-///     Ok(()) => Ok(Ended::Ran),
-///     Err(fault) => Err(Failure::Serve(fault)),
-/// },
+/// match explained {
+///     false => serve(alloc, prompt, reader, writer),
+///     true => serve_explained(alloc, prompt, reader, writer),
+/// }
 /// ```
+#[tactic(auto, using(crate::proofs::Plainly::all_served, crate::proofs::Plainly::serving_begun))]
 pub fn serve<P: Prompt, R: Read, W: Write>(
     alloc: Global,
     prompt: &P,
@@ -68,16 +102,35 @@ pub fn serve<P: Prompt, R: Read, W: Write>(
     ensures served { OnOk result (IsServed (R.remaining reader.old) (R.remaining reader.new) (W.contents writer.old) (W.contents writer.new)) }
     ensures begun { OnErr result (BeginsServing (R.remaining reader.old) (W.contents writer.old) (W.contents writer.new)) }
 {
-    let mut session = Session::new(alloc);
-    let mut source = Source::new();
-    let mut line = Vec::new(alloc);
-    serve_from(
-        alloc,
-        prompt,
-        &mut session,
-        &mut source,
-        &mut line,
-        reader,
-        writer,
-    )
+    serve_by(alloc, &mut Plain, prompt, reader, writer)
+}
+
+/// Answers the lines that a reader gives as [`serve`] does, with the reasons. Behind each landing that was not placed, each
+/// refusal, each stop and each tear-down stands an indented line that says why, as `ghost explain` says it. Sentences name
+/// lines by their numbers. The first line that is read is line 1, and blank lines and lines with a fault are counted too.
+///
+/// Beside the machine what is needed for the reasons is kept. It grows with the journal and the transactions.
+///
+/// # Errors
+///
+/// As of [`serve`].
+///
+/// # Examples
+///
+/// If reasons are asked for:
+///
+/// ```
+/// true => serve_explained(alloc, prompt, reader, writer),
+/// ```
+pub fn serve_explained<P: Prompt, R: Read, W: Write>(
+    alloc: Global,
+    prompt: &P,
+    reader: &mut R,
+    writer: &mut W,
+) -> Result<(), ServeFault>
+    ensures served { OnOk result (IsServedExplained (R.remaining reader.old) (R.remaining reader.new) (W.contents writer.old) (W.contents writer.new)) }
+    ensures begun { OnErr result (BeginsServingExplained (R.remaining reader.old) (W.contents writer.old) (W.contents writer.new)) }
+{
+    let mut answers = Explained::new(alloc);
+    serve_by(alloc, &mut answers, prompt, reader, writer)
 }

@@ -60,12 +60,11 @@ impl Session {
     ///
     /// # Examples
     ///
-    /// A line is answered:
+    /// A line is answered in words:
     ///
     /// ```
     /// let heard = session.hear(line)?;
-    /// let text = answer_text(alloc, &heard)?;
-    /// write_through(writer, text.as_bytes())
+    /// heard_text(alloc, &heard)
     /// ```
     pub fn hear(&mut self, line: &[u8]) -> Result<Heard, AllocError>
         ensures heard { IfOk result (λ h. Hears self.old line.now h self.new) }

@@ -1,5 +1,4 @@
-use Rattle.std.proofs.Common.{rules, ◌≡◌, ◌≤◌, ◌∙◌, ◌++◌, List, ℕ, length, Result, Ok, Err, OnOk, if◌then◌else◌, is_ok, ap, sym, min, ◌-◌, take, arith}
-use Rattle.std.proofs.lemmas.Grind.{common_steps}
+use Rattle.std.proofs.Common.{◌≡◌, ◌≤◌, ◌∙◌, ◌++◌, List, ℕ, length, Result, Ok, Err, OnOk, if◌then◌else◌, is_ok, ap, sym, min, ◌-◌, take, arith}
 use Rattle.gs_serve.specs.declared.source.TheConstants.{MOST_KEPT}
 use Rattle.gs_serve.specs.Source.{kept_of}
 use Rattle.gs_serve.proofs.Kept.{room_kept}

@@ -1,4 +1,4 @@
-use Rattle.std.proofs.Common.{rules, ◌≡◌, ◌≤◌, ◌+◌, ◌∙◌, ◌++◌, ◌∷◌, [], refl, ap, sym, append-nil, append_assoc, List, ℕ, length, true, false, Bor, take, drop, ◌-◌}
+use Rattle.std.proofs.Common.{rules, ◌∙◌, ◌++◌, ◌∷◌, [], ap, sym, append-nil, append_assoc, take, drop, ◌-◌}
 use Rattle.gs_script.specs.Words.{lines_of}
 use Rattle.gs_script.specs.Plain.{lines_left}
 use Rattle.gs_serve.proofs.Feeding.{first_is_line}

@@ -1,6 +1,6 @@
-use Rattle.std.proofs.Common.{◌≡◌, ◌≤◌, ◌==◌, ◌∙◌, ap, sym, refl, subst, suc, zero, length, List, ℕ, Bool, false, true, arith}
+use Rattle.std.proofs.Common.{◌≡◌, ◌==◌, ◌∙◌, sym, subst, length, ℕ, Bool, false, true, arith}
 use Rattle.std.proofs.lemmas.Grind.{common_steps}
-use Rattle.std.specs.Io.KnownBytes.{Consumes, prepend_known}
+use Rattle.std.specs.Io.KnownBytes.{prepend_known}
 use Rattle.gs_serve.specs.Source.{GoesOn}
 use Rattle.gs_serve.proofs.Coming.{few_kept, last_comes, line_begins, line_comes, none_comes}
 use Rattle.gs_serve.proofs.Kept.{end_known}
