@@ -1,5 +1,5 @@
 -- What a thread becomes by a change that the kernel posted, and what is drawn then.
-use Rattle.std.specs.Prelude.{ℕ, ◌+◌, Bool, true, false}
+use Rattle.std.specs.Prelude.{ℕ, ◌+◌}
 use Rattle.rand_pcg.specs.Lcg.{Lcg}
 use Rattle.rand_pcg.specs.Pcg.{pcg32}
 use Rattle.gs_layout.specs.declared.message.Change.{Change}
@@ -34,12 +34,3 @@ left_chance (changes.Dead cpu) g = g
 left_chance (changes.Preempted cpu) g = g
 left_chance (changes.Created facts) g = g
 left_chance (changes.Affinity cpu off mask) g = g
-
-abbrev pub ends_burst : Change → Bool
-ends_burst (changes.Blocked cpu) = true
-ends_burst (changes.Yield cpu) = true
-ends_burst (changes.Dead cpu) = true
-ends_burst changes.Wakeup = false
-ends_burst (changes.Preempted cpu) = false
-ends_burst (changes.Created facts) = false
-ends_burst (changes.Affinity cpu off mask) = false

@@ -1,9 +1,13 @@
 -- The script that a simulation writes, and the session that heard it.
 use Rattle.std.specs.Prelude.{◌≡◌, ⊤, ℕ, Bool, true, false, List, [], ◌∷◌, ◌++◌, Option, None, Some}
+use Rattle.std.specs.List.{flat_map}
+use Rattle.gs_kernel.specs.declared.landing.Landing.{Landing}
+use Rattle.gs_replies.specs.declared.reply.Reply.{Reply}
+use Rattle.gs_report.specs.Counts.{landings_of}
 use Rattle.gs_script.specs.declared.fault.ScriptFault.{ScriptFault}
 use Rattle.gs_session.specs.declared.heard.Heard.{Heard}
 use Rattle.gs_session.specs.declared.heard.Heard.TheVariants as heards
-use Rattle.gs_session.specs.Lines.{HearsAll}
+use Rattle.gs_session.specs.Lines.{HearsAll, replies_in}
 use Rattle.gs_session.specs.Session.{Session, Hears, unheard}
 
 -- lines as text: each ends with a newline
@@ -33,19 +37,37 @@ pub record IsHeard (text : List ℕ) (session : Session) : Type 0 where
   pub hears : HearsAll unheard lines heard session
   pub faultless : AreWithoutFault heard
 
--- a text, a session, and whether it heard the text
+-- the landings that replies tell of, in order
+abbrev pub landings_in : List Reply → List Landing
+landings_in rs = flat_map landings_of rs
+
+-- the landings that what was heard of one line tells of
+abbrev pub landings_heard : Heard → List Landing
+landings_heard (heards.Stepped r) = landings_of r
+landings_heard heards.Nothing = []
+landings_heard heards.Opened = []
+landings_heard (heards.Fault f) = []
+
+-- the same, and these are the landings that the replies told of which it heard
+pub record IsHeardWith (text : List ℕ) (session : Session) (landings : List Landing) : Type 0 where
+  pub script : IsHeard text session
+  pub landed : landings ≡ landings_in (replies_in script.heard)
+
+-- a text, a session, the landings that its replies told of, and whether it heard the text
 pub record Written : Type 0 where
   pub text : List ℕ
   pub session : Session
+  pub landings : List Landing
   pub whole : Bool
 
-abbrev pub IsHeardIf : Bool → List ℕ → Session → Type 0
-IsHeardIf true text session = IsHeard text session
-IsHeardIf false text session = ⊤
+abbrev pub IsHeardIf : Bool → List ℕ → Session → List Landing → Type 0
+IsHeardIf true text session landings = IsHeardWith text session landings
+IsHeardIf false text session landings = ⊤
 
 -- a line is added to the text, and is what the session heard
 pub record AddsLine (old : Written) (line : List ℕ) (h : Heard) (new : Written) : Type 0 where
   pub text : new.text ≡ old.text ++ line ++ 10 ∷ []
   pub hears : Hears old.session line h new.session
   pub faultless : IsWithoutFault h
+  pub landed : new.landings ≡ old.landings ++ landings_heard h
   pub whole : new.whole ≡ true

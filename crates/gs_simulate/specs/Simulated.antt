@@ -1,10 +1,10 @@
 -- What comes of a simulation.
 use Rattle.std.specs.Prelude.{ℕ, List}
+use Rattle.gs_kernel.specs.declared.landing.Landing.{Landing}
 use Rattle.gs_session.specs.Session.{Session}
 
--- the script, the session that heard it, how many bursts each group ended, and how many events were refused
+-- the script, the session that heard it, and the landings that its replies told of
 pub record Simulated : Type 0 where
   pub text : List ℕ
   pub session : Session
-  pub bursts : List ℕ
-  pub refused : ℕ
+  pub landings : List Landing

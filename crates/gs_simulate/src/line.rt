@@ -29,8 +29,12 @@ pub(crate) enum Line {
     },
 }
 
-/// Adds the words of a policy.
-fn write_policy(text: &mut Text, policy: AnyPolicy) -> Result<(), AllocError>
+/// Adds the words of a policy, as a script's header has them: `first`, or `two` and the slice.
+///
+/// # Errors
+///
+/// `AllocError` if out of memory.
+pub fn write_policy(text: &mut Text, policy: AnyPolicy) -> Result<(), AllocError>
     ensures { OnOk result (text.new ≡ text.old ++ policy_words policy) }
 {
     match policy {

@@ -1,30 +1,33 @@
 //! The script that is written, and the session that heard it.
 
-ghost use Rattle.std.specs.Prelude.{◌≡◌, [], true, IfOk};
+ghost use Rattle.std.specs.Prelude.{◌≡◌, ◌++◌, [], true, IfOk, OnOk};
 ghost use Rattle.std.specs.Option.{option_map};
 ghost use denote.Ref.{Bor};
 ghost use Rattle.gs_core.specs.Machine.{StateOf};
 ghost use Rattle.gs_policy.specs.declared.any.AnyPolicy.{AnyPolicy as Policies};
 ghost use Rattle.gs_session.specs.Session.{Hears, unheard};
-ghost use Rattle.gs_simulate.specs.Heard.{AddsLine, IsHeard, IsWithoutFault, fault_of};
+ghost use Rattle.gs_simulate.specs.Heard.{AddsLine, IsHeardWith, IsWithoutFault, fault_of, landings_heard};
 ghost use Rattle.gs_simulate.specs.Lines.{line_text};
 
 use crate::fault::SimulateFault;
 use crate::line::{Line, write_line};
 use gs_core::Machine;
+use gs_kernel::Landing;
 use gs_lines::Text;
 use gs_policy::AnyPolicy;
+use gs_report::landings_of;
 use gs_script::ScriptFault;
 use gs_session::{Heard, Session};
-use std::alloc::Global;
+use std::alloc::{AllocError, Global};
 use std::marker::Model;
 
 /// The text of a script, and the session that heard its lines. While it is whole, the session heard just these lines, none
-/// of them with a fault.
+/// of them with a fault, and the landings are those that its replies told of.
 #[derive(Drop)]
 pub(crate) struct Log {
     session: Session,
     text: Text,
+    landings: Vec<Landing>,
     /// Whether the session heard all of the text. It did not if memory ran out at a line: no more is added then.
     whole: bool,
 }
@@ -34,9 +37,9 @@ impl Model for Log {
 
     ghost Value = { Written };
 
-    ghost view = { λ l. record { text = l.text; session = l.session; whole = l.whole } };
+    ghost view = { λ l. record { text = l.text; session = l.session; landings = l.landings.items; whole = l.whole } };
 
-    ghost invariant = { λ l. IsHeardIf l.whole l.text l.session };
+    ghost invariant = { λ l. IsHeardIf l.whole l.text l.session l.landings.items };
 }
 
 /// Returns the fault that was heard, if one was.
@@ -61,15 +64,26 @@ fn hear_line(session: &mut Session, line: &[u8]) -> Result<Heard, SimulateFault>
     }
 }
 
+/// Adds the landings that what was heard of a line tells of.
+fn add_landings(all: &mut Vec<Landing>, heard: &Heard) -> Result<(), AllocError>
+    ensures { OnOk result (all.new.items ≡ all.old.items ++ landings_heard heard.now) }
+{
+    match heard {
+        Heard::Stepped(reply) => all.extend_from_slice(landings_of(reply)),
+        Heard::Nothing | Heard::Opened | Heard::Fault(_) => Ok(()),
+    }
+}
+
 impl Log {
     /// Makes an empty script, of which a session heard nothing yet.
     #[tactic(auto, using(crate::proofs::Heard::none_heard))]
     pub(crate) fn new(alloc: Global) -> Log
-        ensures { result ≡ record { text = []; session = unheard; whole = true } }
+        ensures { result ≡ record { text = []; session = unheard; landings = []; whole = true } }
     {
         Log {
             session: Session::new(alloc),
             text: Text::new(alloc),
+            landings: Vec::new(alloc),
             whole: true,
         }
     }
@@ -91,6 +105,7 @@ impl Log {
         let end = self.text.as_bytes().len();
         self.text.end_line()?;
         let heard = hear_line(&mut self.session, &self.text.as_bytes()[start..end])?;
+        add_landings(&mut self.landings, &heard)?;
         self.whole = true;
         Ok(heard)
     }
@@ -98,7 +113,7 @@ impl Log {
     /// Returns whether the session heard all of the text.
     pub(crate) fn is_whole(&self) -> bool
         ensures whole { result ≡ self.now.whole }
-        ensures heard { result ≡ true → IsHeard self.now.text self.now.session }
+        ensures heard { result ≡ true → IsHeardWith self.now.text self.now.session self.now.landings }
     {
         self.whole
     }
@@ -122,5 +137,12 @@ impl Log {
         ensures { result.now ≡ self.now.text }
     {
         self.text.as_bytes()
+    }
+
+    /// Lends the landings, in order.
+    pub(crate) fn landings(&self) -> &[Landing]
+        ensures { result.now ≡ self.now.landings }
+    {
+        &self.landings
     }
 }

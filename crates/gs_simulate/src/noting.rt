@@ -1,7 +1,7 @@
 //! What the journal says of the threads that are simulated.
 
 ghost use Rattle.std.specs.Prelude.{◌≡◌};
-ghost use Rattle.gs_simulate.specs.Changes.{changed, ends_burst, left_chance};
+ghost use Rattle.gs_simulate.specs.Changes.{changed, left_chance};
 
 use crate::chance::Chance;
 use crate::fault::SimulateFault;
@@ -30,28 +30,11 @@ fn changed(thread: Thread, change: &Change, group: &Group, now: u32, chance: &mu
     }
 }
 
-/// Returns whether a change ends a burst of its thread.
-fn ends_burst(change: &Change) -> bool
-    ensures { result ≡ ends_burst change.now }
-{
-    matches!(
-        change,
-        Change::Blocked { .. } | Change::Yield { .. } | Change::Dead { .. }
-    )
-}
-
 impl World {
     /// Lets a CPU be that of a thread, or of none.
     fn set_cpu(&mut self, cpu: u16, tid: Option<u32>) {
         if let Some(there) = self.running.get_mut(usize::from(cpu)) {
             *there = tid;
-        }
-    }
-
-    /// Counts a burst that a thread of a group ended.
-    fn count_burst(&mut self, group: usize) {
-        if let Some(done) = self.done.get_mut(group) {
-            *done = done.saturating_add(1);
         }
     }
 
@@ -73,9 +56,6 @@ impl World {
         };
         let then = changed(thread, change, &group, self.now, &mut self.chance);
         self.put(tid, then);
-        if ends_burst(change) {
-            self.count_burst(thread.group);
-        }
         if let Stance::Asleep { until } = then.stance {
             self.sleepers.add(until, tid)?;
         }

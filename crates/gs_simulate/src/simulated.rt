@@ -1,43 +1,38 @@
 ghost use Rattle.std.specs.Prelude.{◌≡◌, true};
-ghost use Rattle.gs_simulate.specs.Heard.{IsHeard};
+ghost use Rattle.gs_simulate.specs.Heard.{IsHeard, IsHeardWith};
 
 use crate::log::Log;
+use gs_kernel::Landing;
 use gs_session::Session;
 use std::marker::Model;
 
 /// A workload that was simulated: the script, the session that heard its lines one after another, none of them with a
-/// fault, and what was counted meanwhile. Clauses see these.
+/// fault, and the landings that its replies told of. Clauses see these.
 #[derive(Drop)]
 pub struct Simulated {
     log: Log,
-    bursts: Vec<u64>,
-    refused: u64,
 }
 
 impl Model for Simulated {
-    ghost use Rattle.gs_simulate.specs.Heard.{IsHeard};
+    ghost use Rattle.gs_simulate.specs.Heard.{IsHeardWith};
     ghost use Rattle.gs_simulate.specs.Simulated.{Simulated as Came};
 
     ghost Value = { Came };
 
-    ghost view = { λ s. record { text = s.log.text; session = s.log.session; bursts = s.bursts.items; refused = s.refused } };
+    ghost view = { λ s. record { text = s.log.text; session = s.log.session; landings = s.log.landings } };
 
-    ghost invariant = { λ s. IsHeard s.log.text s.log.session };
+    ghost invariant = { λ s. IsHeardWith s.log.text s.log.session s.log.landings };
 }
 
 impl Simulated {
     /// Makes what came of a simulation, whose session heard all of the text.
-    pub(crate) fn new(log: Log, bursts: Vec<u64>, refused: u64) -> Simulated
+    pub(crate) fn new(log: Log) -> Simulated
         requires { log.whole ≡ true }
         ensures { IsHeard result.text result.session }
     {
         // A look at the script, by which the proof has that the session heard it.
         let _whole = log.is_whole();
-        Simulated {
-            log,
-            bursts,
-            refused,
-        }
+        Simulated { log }
     }
 
     /// Lends the script. The session heard it: see [`crate::simulated_is_run`].
@@ -56,17 +51,12 @@ impl Simulated {
         self.log.session()
     }
 
-    /// Returns how many bursts the threads of each group ended, in the order of the workload.
-    pub fn bursts(&self) -> &[u64]
-        ensures { result.now ≡ self.now.bursts }
+    /// Lends what became of each slot, in order: the landings that the replies told of which the session heard.
+    pub fn landings(&self) -> &[Landing]
+        ensures landings { result.now ≡ self.now.landings }
+        ensures heard { IsHeardWith self.now.text self.now.session self.now.landings }
     {
-        &self.bursts
-    }
-
-    /// Returns how many events were refused.
-    pub fn refused(&self) -> u64
-        ensures { result ≡ self.now.refused }
-    {
-        self.refused
+        let _log = &self.log;
+        self.log.landings()
     }
 }

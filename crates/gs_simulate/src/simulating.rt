@@ -24,7 +24,6 @@ impl Stage {
             births: Calendar::new(alloc),
             decided: Vec::new(alloc),
             changes: 0,
-            refused: 0,
         }
     }
 
@@ -66,14 +65,8 @@ impl Stage {
         requires { self.log.whole ≡ true }
         ensures { IsHeard result.text result.session }
     {
-        let Stage {
-            log,
-            world,
-            refused,
-            ..
-        } = self;
-        let World { done, .. } = world;
-        Simulated::new(log, done, refused)
+        let Stage { log, .. } = self;
+        Simulated::new(log)
     }
 
     /// Lets so many ticks pass, or fewer if the enclave is torn down.

@@ -38,8 +38,6 @@ pub(crate) struct Stage {
     pub(crate) decided: Vec<Decided>,
     /// How many changes of the agent there were.
     pub(crate) changes: usize,
-    /// How many events were refused.
-    pub(crate) refused: u64,
 }
 
 impl Stage {
@@ -59,10 +57,7 @@ impl Stage {
             self.world.follow(machine.kernel().journal())?;
         }
         match heard {
-            Heard::Stepped(Reply::Refused(_)) => {
-                self.refused = self.refused.saturating_add(1);
-                Ok(None)
-            }
+            Heard::Stepped(Reply::Refused(_)) => Ok(None),
             Heard::Stepped(reply) => Ok(Some(reply)),
             _ => Ok(None),
         }

@@ -15,8 +15,6 @@ pub(crate) struct World {
     /// Which tick it is.
     pub(crate) now: u32,
     pub(crate) groups: Vec<Group>,
-    /// How many bursts the threads of each group ended.
-    pub(crate) done: Vec<u64>,
     /// The threads that were created, in order: the first has tid 1.
     pub(crate) threads: Vec<Thread>,
     /// Who runs on each CPU.
@@ -38,7 +36,6 @@ impl World {
         World {
             now: 0,
             groups: Vec::new(alloc),
-            done: Vec::new(alloc),
             threads: Vec::new(alloc),
             running: Vec::new(alloc),
             waiting: 0,
@@ -53,7 +50,6 @@ impl World {
         ensures { self.new.chance ≡ self.old.chance }
     {
         self.groups.extend_from_slice(groups)?;
-        self.done.resize(groups.len(), 0)?;
         self.running.resize(usize::from(cpus), None)
     }
 

@@ -16,8 +16,8 @@ pub struct Asked {
     pub seed: u64,
 }
 
-/// Returns how a workload is simulated.
-pub(crate) fn settings_of(asked: Asked, workload: &Workload) -> Settings
+/// Returns how a workload is simulated: as it is asked for, and else as the workload says.
+pub fn settings_of(asked: Asked, workload: &Workload) -> Settings
     ensures { result ≡ settings_of asked workload.now }
 {
     let policy = match asked.policy {

@@ -16,8 +16,12 @@ use gs_workload::{Workload, WorkloadFault, read_workload};
 use std::alloc::Global;
 use std::io::{Read, Write};
 
-/// Returns the workload that an input says.
-fn workload_of(alloc: Global, input: &[u8]) -> Result<Workload, WorkbenchFault>
+/// Returns the workload that an input says, which is TOML.
+///
+/// # Errors
+///
+/// `Workload` if the input is no workload, with its first fault. `OutOfMemory` if out of memory.
+pub fn workload_of(alloc: Global, input: &[u8]) -> Result<Workload, WorkbenchFault>
     ensures says { IfOk result (Says input.now) }
     ensures fault { IfErr result (IsRefusalOf input.now) }
 {
@@ -29,7 +33,15 @@ fn workload_of(alloc: Global, input: &[u8]) -> Result<Workload, WorkbenchFault>
 }
 
 /// Simulates a workload, as it is asked for.
-fn run(alloc: Global, asked: Asked, workload: &Workload) -> Result<Simulated, WorkbenchFault>
+///
+/// # Errors
+///
+/// `OutOfMemory` if out of memory. `Unreadable` if the simulation wrote a line that is none of a script.
+pub fn simulate_as(
+    alloc: Global,
+    asked: Asked,
+    workload: &Workload,
+) -> Result<Simulated, WorkbenchFault>
     ensures heard { IfOk result (λ s. IsHeard s.text s.session) }
     ensures fault { (input : List ℕ) → IfErr result (IsRefusalOf input) }
 {
@@ -46,11 +58,17 @@ fn simulated(alloc: Global, asked: Asked, input: &[u8]) -> Result<Simulated, Wor
     ensures fault { IfErr result (IsRefusalOf input.now) }
 {
     let workload = workload_of(alloc, input)?;
-    run(alloc, asked, &workload)
+    simulate_as(alloc, asked, &workload)
 }
 
-/// Returns all that a reader has, or why it was not read.
-fn input_of<R: Read>(alloc: Global, reader: &mut R) -> Result<Vec<u8>, WorkbenchFault>
+/// Returns all that a reader has, or a beginning of it that is longer than a workload may be.
+///
+/// At most [`MOST_READ_BYTES`] are read.
+///
+/// # Errors
+///
+/// `ReadFailed` if a read fails. `OutOfMemory` if out of memory.
+pub fn input_of<R: Read>(alloc: Global, reader: &mut R) -> Result<Vec<u8>, WorkbenchFault>
     ensures read { IfOk result (λ bytes. IsRead (R.remaining reader.old) (R.remaining reader.new) bytes.items) }
     ensures bounded { ConsumesAtMost MOST_READ_BYTES (R.remaining reader.old) (R.remaining reader.new) }
     ensures refused { (had left : Option (List ℕ)) → IfErr result (IsRefusal had left) }

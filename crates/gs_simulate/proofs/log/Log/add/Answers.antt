@@ -1,5 +1,6 @@
 use Rattle.std.proofs.Common.{rules, refl, subst, ap, ◌∙◌, ◌≡◌, List, ℕ, [], ◌∷◌, ◌++◌}
 use Rattle.gs_session.specs.Session.{Hears}
+use Rattle.gs_simulate.specs.Heard.{landings_heard}
 use Rattle.gs_simulate.specs.Lines.{line_text}
 use Rattle.gs_simulate.proofs.Heard.{heard_if, one_heard, same_line}
 use Rattle.gs_simulate.proofs.log.Log.add.Goals as goal
@@ -16,16 +17,19 @@ the_text c = c.in_ok-end_line.ensures ∙ ap (λ (xs : List ℕ). xs ++ 10 ∷ [
 
 pub invariant_of-self-2 : goal.invariant_of-self-2
 invariant_of-self-2 c =
-    let before = heard_if c.self.inside.whole c.self.inside.text c.self.inside.session c.self.invariant (search rules) in
-    one_heard c.self.inside.text (line_text c.args.line.now) c.end_line.new.self c.self.inside.session c.hear_line.new.session c.in_ok-heard.heard before (the_text c) (the_line c) c.in_ok-heard.ensures.faultless
+    let before = heard_if c.self.inside.whole c.self.inside.text c.self.inside.session c.self.inside.landings.items c.self.invariant (search rules) in
+    one_heard c.self.inside.text (line_text c.args.line.now) c.end_line.new.self c.self.inside.session c.hear_line.new.session c.in_ok-heard.heard c.self.inside.landings.items c.add_landings.new.all.items
+    before (the_text c) (the_line c) c.in_ok-heard.ensures.faultless c.in_ok-add_landings.ensures
 
 pub returns : goal.returns
 returns c =
     let text = the_text c in
     let hears = the_line c in
+    let landed : c.add_landings.new.all.items ≡ c.self.inside.landings.items ++ landings_heard c.in_ok-heard.heard = c.in_ok-add_landings.ensures in
     record {
       text = search rules;
       hears = search rules;
       faultless = c.in_ok-heard.ensures.faultless;
+      landed = search rules;
       whole = refl;
     }

@@ -1,0 +1,7 @@
+use Rattle.std.proofs.Common.{take}
+use Rattle.std.specs.List.{AllZip}
+use Rattle.gs_compare.specs.Compared.{IsTried}
+use Rattle.gs_compare.proofs.comparing.try_policies.Given as goal
+
+abbrev pub invariant-loop-policy : goal.invariant-loop-policy
+invariant-loop-policy g l = AllZip (IsTried l.seeds) (take l.policy-index l.policies) l.columns.items

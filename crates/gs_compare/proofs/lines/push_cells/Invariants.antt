@@ -1,0 +1,7 @@
+use Rattle.std.proofs.Common.{◌≡◌, ◌++◌, take}
+use Rattle.std.specs.List.{flat_map}
+use Rattle.gs_compare.specs.Lines.{cell_words}
+use Rattle.gs_compare.proofs.lines.push_cells.Given as goal
+
+abbrev pub invariant-loop-cell : goal.invariant-loop-cell
+invariant-loop-cell l = l.out ≡ l.fn.out ++ flat_map (cell_words l.several) (take l.cell-index l.cells)

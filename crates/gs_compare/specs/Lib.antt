@@ -1,0 +1,9 @@
+pub mod Shares
+pub mod Measures
+pub mod Summaries
+pub mod Rows
+pub mod Columns
+pub mod Lines
+pub mod Objects
+pub mod Records
+pub mod Compared
