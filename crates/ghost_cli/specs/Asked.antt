@@ -1,5 +1,5 @@
 -- What the arguments ask for.
-use Rattle.std.specs.Prelude.{◌≡◌, ◌≢◌, ◌<◌, ◌⊎◌, ◌&&◌, ◌||◌, ◌==◌, ⊤, ℕ, Bool, true, false, not, bytes_eq, codes, get_or, length, take, if◌then◌else◌, List, [], ◌∷◌, Option, None, Some, Result, Ok, Err, IfOk, IfErr, IsErrAnd, IsSomeAnd, map, string_bytes}
+use Rattle.std.specs.Prelude.{◌≡◌, ◌≢◌, ◌<◌, ◌⊎◌, ◌&&◌, ◌||◌, ◌==◌, ⊤, ℕ, Bool, true, false, not, bytes_eq, codes, get_or, length, slice_get, take, if◌then◌else◌, List, [], ◌∷◌, Option, None, Some, Result, Ok, Err, IfOk, IfErr, IsErrAnd, IsSomeAnd, map, string_bytes}
 use Rattle.std.specs.List.{list_any}
 use Rattle.std.specs.Io.KnownBytes.{Appends, Keeps}
 use Rattle.std.specs.Vec.Iter.{into_iter_items}
@@ -7,11 +7,12 @@ use Rattle.std.specs.declared.string.String.{String}
 use Rattle.std.specs.declared.vec.IntoIter.{IntoIter}
 use Rattle.clap.specs.Faults.{fault_of}
 use Rattle.clap.specs.Words.{Text}
-use Rattle.gs_arguments.specs.Arguments.{command_in, file_in, ghost_program}
-use Rattle.gs_arguments.specs.declared.arguments.Command.{Command}
-use Rattle.gs_arguments.specs.declared.arguments.Command.TheVariants as commands
-use Rattle.gs_arguments.specs.declared.arguments.Listed.{Listed as ListedArgument}
-use Rattle.gs_arguments.specs.declared.arguments.Listed.TheVariants as lists
+use Rattle.gs_arguments.specs.Arguments.{command_in, file_in, ghost_program, policies_in, seeds_in}
+use Rattle.gs_arguments.specs.declared.command.Command.{Command}
+use Rattle.gs_arguments.specs.declared.command.Command.TheVariants as commands
+use Rattle.gs_arguments.specs.declared.command.Listed.{Listed as ListedArgument}
+use Rattle.gs_arguments.specs.declared.command.Listed.TheVariants as lists
+use Rattle.gs_serve.specs.Answered.{BeginsServingExplained, IsServedExplained}
 use Rattle.gs_serve.specs.Served.{BeginsServing, IsServed}
 use Rattle.gs_timeline.specs.declared.notes.Listed.{Listed}
 use Rattle.gs_timeline.specs.declared.notes.Listed.TheVariants as listed
@@ -25,9 +26,10 @@ use Rattle.gs_trace.specs.declared.run.Ended.{Ended}
 use Rattle.gs_trace.specs.declared.run.Ended.TheVariants.{Ran}
 use Rattle.gs_trace.specs.declared.run.TraceFault.TheVariants.{OutOfMemory, WriteFailed}
 use Rattle.gs_policy.specs.declared.any.AnyPolicy.{AnyPolicy}
-use Rattle.gs_policy.specs.declared.any.AnyPolicy.TheVariants as policies
-use Rattle.gs_arguments.specs.declared.arguments.PolicyAsked.{PolicyAsked}
-use Rattle.gs_arguments.specs.declared.arguments.PolicyAsked.TheVariants as asks
+use Rattle.gs_compare.specs.declared.asked.Asked.{Asked as AskedOfCompare}
+use Rattle.gs_compare.specs.declared.asked.Form.{Form}
+use Rattle.gs_compare.specs.declared.asked.Form.TheVariants as forms
+use Rattle.gs_compare.specs.Compared.{BeginsComparison, WritesComparison}
 use Rattle.gs_workbench.specs.Written.{BeginsScript, WritesScript}
 use Rattle.gs_workers.specs.Work.{IsAllowed}
 use Rattle.gs_workers.specs.Written.{BeginsText, IsText}
@@ -40,9 +42,10 @@ use Rattle.gs_explain.specs.declared.run.Explanation.TheVariants as explanations
 use Rattle.gs_tables.specs.Tables.{IsTable}
 use Rattle.gs_tables.specs.declared.run.Table.TheVariants as tables
 use Rattle.ghost_cli.specs.declared.asked.Task.{Task}
-use Rattle.ghost_cli.specs.declared.asked.Task.TheVariants.{Script, Serve, Simulation, Workers}
+use Rattle.ghost_cli.specs.declared.asked.Task.TheVariants.{Script, Serve, Simulation, Comparison, Workers}
 use Rattle.ghost_cli.specs.declared.asked.Wanted.{Wanted}
 use Rattle.ghost_cli.specs.declared.asked.Wanted.TheVariants as wanted
+use Rattle.ghost_cli.specs.Policies.{AreNamed, AreUnnamed}
 use Rattle.ghost_cli.specs.declared.failure.Failure.{Failure}
 use Rattle.ghost_cli.specs.declared.failure.Failure.TheVariants as failures
 use Rattle.ghost_cli.specs.declared.failure.Failure.TheVariants.{NearWord, UnknownWord}
@@ -73,26 +76,37 @@ abbrev pub notation_asked : Bool → Notation
 notation_asked true = notations.Json
 notation_asked false = notations.Lines
 
--- the policy that a simulation is to have, unless it is that of the workload
-abbrev pub policy_asked : PolicyAsked → Option AnyPolicy
-policy_asked asks.Own = None
-policy_asked asks.First = Some (policies.FirstCome (record {}))
-policy_asked (asks.Two slice) = Some (policies.TwoClass (record { slice = slice }))
+-- in what form a comparison is to be written
+abbrev pub form_asked : Bool → Bool → Form
+form_asked true csv = forms.Json
+form_asked false true = forms.Csv
+form_asked false false = forms.Lines
 
--- what a command asks for
-abbrev pub task_asked : Command → Task
-task_asked commands.Run = Script (wanted.Shown Lines)
-task_asked (commands.Explain json) = Script (wanted.Explained (explanation_asked json))
-task_asked (commands.Report last) = Script (wanted.Shown (Report last))
-task_asked (commands.Journal false) = Script (wanted.Shown (Journal notations.Lines))
-task_asked (commands.Journal true) = Script (wanted.Shown (Journal notations.Json))
-task_asked (commands.Timeline from to l) = Script (wanted.Shown (Timeline from to (listed_asked l)))
-task_asked (commands.Timehist json) = Script (wanted.Tabled (tables.Timehist (notation_asked json)))
-task_asked (commands.Latency json threads) = Script (wanted.Tabled (tables.Latency (notation_asked json) threads))
-task_asked commands.Trace = Script (wanted.Shown Trace)
-task_asked commands.Serve = Serve
-task_asked (commands.Simulate policy ticks seed) = Simulation (record { policy = policy_asked policy; ticks = ticks; seed = seed })
-task_asked (commands.Threads workers each journal) = Workers (record { workers = workers; each = each }) (shown_asked journal)
+-- a comparison of these policies by these seeds, for so many ticks and in this form
+pub record IsComparison (policies : List AnyPolicy) (seeds : List ℕ) (ticks : Option ℕ) (form : Form) (how : AskedOfCompare) : Type 0 where
+  pub under : how.policies.now ≡ policies
+  pub drawn : how.seeds.now ≡ seeds
+  pub long : how.ticks ≡ ticks
+  pub written : how.form ≡ form
+
+abbrev pub Compares : List AnyPolicy → List ℕ → Option ℕ → Form → Task → Type 0
+Compares policies seeds ticks form (Comparison how) = IsComparison policies seeds ticks form how
+Compares policies seeds ticks form _ = ⊥
+
+-- what a command asks for, by the policies and the seeds that are given to it
+abbrev pub IsTaskOf : Command → List AnyPolicy → List ℕ → Task → Type 0
+IsTaskOf commands.Run policies seeds task = task ≡ Script (wanted.Shown Lines)
+IsTaskOf (commands.Explain json) policies seeds task = task ≡ Script (wanted.Explained (explanation_asked json))
+IsTaskOf (commands.Report last) policies seeds task = task ≡ Script (wanted.Shown (Report last))
+IsTaskOf (commands.Journal json) policies seeds task = task ≡ Script (wanted.Shown (Journal (notation_asked json)))
+IsTaskOf (commands.Timeline from to l) policies seeds task = task ≡ Script (wanted.Shown (Timeline from to (listed_asked l)))
+IsTaskOf (commands.Timehist json) policies seeds task = task ≡ Script (wanted.Tabled (tables.Timehist (notation_asked json)))
+IsTaskOf (commands.Latency json threads) policies seeds task = task ≡ Script (wanted.Tabled (tables.Latency (notation_asked json) threads))
+IsTaskOf commands.Trace policies seeds task = task ≡ Script (wanted.Shown Trace)
+IsTaskOf (commands.Serve explained) policies seeds task = task ≡ Serve explained
+IsTaskOf (commands.Simulate ticks) policies seeds task = task ≡ Simulation (record { policy = slice_get policies 0; ticks = ticks; seed = get_or seeds 0 0 })
+IsTaskOf (commands.Compare ticks json csv) policies seeds task = Compares policies seeds ticks (form_asked json csv) task
+IsTaskOf (commands.Threads workers each journal) policies seeds task = task ≡ Workers (record { workers = workers; each = each }) (shown_asked journal)
 
 -- what is to be written for a script, and how that ends
 abbrev pub Answers : Wanted → List ℕ → Ended → List ℕ → Type 0
@@ -103,33 +117,46 @@ Answers (wanted.Tabled table) = IsTable table
 -- there are as many workers and creations as there may be
 abbrev pub MayBe : Task → Type 0
 MayBe (Script w) = ⊤
-MayBe Serve = ⊤
+MayBe (Serve explained) = ⊤
 MayBe (Simulation how) = ⊤
+MayBe (Comparison how) = ⊤
 MayBe (Workers work shown) = IsAllowed work
 
+-- all lines were answered, with reasons if they are explained
+abbrev pub IsServedAs : Bool → Option (List ℕ) → Option (List ℕ) → Option (List ℕ) → Option (List ℕ) → Type 0
+IsServedAs false had left before after = IsServed had left before after
+IsServedAs true had left before after = IsServedExplained had left before after
+
+-- or a beginning of the answers was written
+abbrev pub BeginsServingAs : Bool → Option (List ℕ) → Option (List ℕ) → Option (List ℕ) → Type 0
+BeginsServingAs false had before after = BeginsServing had before after
+BeginsServingAs true had before after = BeginsServingExplained had before after
+
 -- a task ended so. Of a script it is written what came of all that the reader has, and of what was read. Of lines all are answered. Of a
--- workload the script of its simulation is written. Of workers a run that settled is shown, and nothing is read
+-- workload the script of its simulation is written, or the table that compares. Of workers a run that settled is shown, and nothing is read
 abbrev pub IsDone : Task → Ended → Option (List ℕ) → Option (List ℕ) → Option (List ℕ) → Option (List ℕ) → Type 0
 IsDone (Script w) ended had left before after = AnswersAll (Answers w) ended had before after × AnswersRead (Answers w) ended had left before after
-IsDone Serve ended had left before after = (ended ≡ Ran) × IsServed had left before after
+IsDone (Serve explained) ended had left before after = (ended ≡ Ran) × IsServedAs explained had left before after
 IsDone (Simulation how) ended had left before after = (ended ≡ Ran) × WritesScript had left before after
+IsDone (Comparison how) ended had left before after = (ended ≡ Ran) × WritesComparison how.form how.policies.now how.seeds.now had left before after
 IsDone (Workers work shown) ended had left before after = (ended ≡ Ran) × Keeps had left × ((out : List ℕ) × IsText work shown out × Appends before after out)
 
 -- of what a task asks for a beginning was written, short of the whole
 abbrev pub IsBegun : Task → Option (List ℕ) → Option (List ℕ) → Option (List ℕ) → Type 0
 IsBegun (Script w) had before after = BeginsAnswer (Answers w) had before after
-IsBegun Serve had before after = BeginsServing had before after
+IsBegun (Serve explained) had before after = BeginsServingAs explained had before after
 IsBegun (Simulation how) had before after = (left : Option (List ℕ)) × BeginsScript had left before after
+IsBegun (Comparison how) had before after = (left : Option (List ℕ)) × BeginsComparison how.form how.policies.now how.seeds.now had left before after
 IsBegun (Workers work shown) had before after = BeginsText work shown before after
 
 -- no more is read than a script may have, and a bit. Of lines that are answered there may be any number
 abbrev pub IsBounded : Task → Option (List ℕ) → Option (List ℕ) → Type 0
-IsBounded Serve had left = ⊤
+IsBounded (Serve explained) had left = ⊤
 IsBounded _ had left = ConsumesAtMost MOST_READ_BYTES had left
 
 -- no answer was begun: nothing was written, but answers to lines before
 abbrev pub IsUnbegun : Task → Option (List ℕ) → Option (List ℕ) → Option (List ℕ) → Type 0
-IsUnbegun Serve had before after = BeginsServing had before after
+IsUnbegun (Serve explained) had before after = BeginsServingAs explained had before after
 IsUnbegun _ had before after = Keeps before after
 
 -- what comes of a task, of what a reader has, and of what a writer holds. An error but that of a write leaves the writer as it was, but
@@ -153,7 +180,7 @@ DoesFrom (Some file) task had left before after result = Keeps had left × DoesI
 
 -- whether a word is a command of the program
 abbrev pub is_command : Text → Bool
-is_command word = list_any (bytes_eq word) (codes "run" ∷ codes "explain" ∷ codes "report" ∷ codes "journal" ∷ codes "timeline" ∷ codes "timehist" ∷ codes "latency" ∷ codes "trace" ∷ codes "serve" ∷ codes "simulate" ∷ codes "threads" ∷ codes "help" ∷ [])
+is_command word = list_any (bytes_eq word) (codes "run" ∷ codes "explain" ∷ codes "report" ∷ codes "journal" ∷ codes "timeline" ∷ codes "timehist" ∷ codes "latency" ∷ codes "trace" ∷ codes "serve" ∷ codes "simulate" ∷ codes "compare" ∷ codes "threads" ∷ codes "help" ∷ [])
 
 abbrev pub is_option : Text → Bool
 is_option word = get_or word 0 0 == 45
@@ -176,13 +203,26 @@ abbrev pub Helps : Option (List ℕ) → Option (List ℕ) → Result Ended Fail
 Helps before after (Ok ended) = (ended ≡ Ran) × ((text : List ℕ) × Appends before after text)
 Helps before after (Err failure) = Unhelps before after failure
 
+-- what a command asks for is done, of the script that this file has, by the policies that texts name and these seeds
+pub record DoesAsked (command : Command) (texts : List Text) (seeds : List ℕ) (file : Option Text) (had left before after : Option (List ℕ)) (result : Result Ended Failure) : Type 0 where
+  pub policies : List AnyPolicy
+  pub named : AreNamed texts policies
+  pub task : Task
+  pub asked : IsTaskOf command policies seeds task
+  pub does : DoesFrom file task had left before after result
+
+-- or one of the texts names no policy, or out of memory: then nothing is read and written
+abbrev pub ObeysAsked : Command → List Text → List ℕ → Option Text → Option (List ℕ) → Option (List ℕ) → Option (List ℕ) → Option (List ℕ) → Result Ended Failure → Type 0
+ObeysAsked command texts seeds file had left before after result =
+    DoesAsked command texts seeds file had left before after result ⊎ (IsErrAnd result (AreUnnamed texts) × Keeps had left × Keeps before after)
+
 -- what comes of the words of a command line. What their command asks for is done. Or nothing is read and written, and they are told what
--- is wrong, or out of memory. Words that have a fault are told one, and others that give a command are not
+-- is wrong, or out of memory. Words that have a fault are told one, and others that give a command are not, unless a policy has no name
 pub record ObeysCommand (words : List Text) (had left before after : Option (List ℕ)) (result : Result Ended Failure) : Type 0 where
-  pub done : IsSomeAnd (command_in words) (λ command. DoesFrom (file_in words) (task_asked command) had left before after result)
+  pub done : IsSomeAnd (command_in words) (λ command. ObeysAsked command (policies_in words) (seeds_in words) (file_in words) had left before after result)
       ⊎ (IsErrAnd result IsOfWords × Keeps had left × Keeps before after)
   pub told : fault_of ghost_program words ≢ [] → IsErrAnd result (TellsOneOf (fault_of ghost_program words))
-  pub faultless : fault_of ghost_program words ≡ [] → (command : Command) → command_in words ≡ Some command → IfErr result IsOfTask
+  pub faultless : fault_of ghost_program words ≡ [] → (command : Command) → command_in words ≡ Some command → IfErr result (λ failure. IsOfTask failure ⊎ AreUnnamed (policies_in words) failure)
 
 -- what comes of the words of a command line, of which help may be wanted of one: nothing is read then
 abbrev pub ObeysIf : Option Text → List Text → Option (List ℕ) → Option (List ℕ) → Option (List ℕ) → Option (List ℕ) → Result Ended Failure → Type 0

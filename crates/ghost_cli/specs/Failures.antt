@@ -14,7 +14,7 @@ use Rattle.gs_workers.specs.declared.fault.WorkFault.TheVariants as works
 use Rattle.ghost_cli.specs.declared.asked.Task.{Task}
 use Rattle.ghost_cli.specs.declared.asked.Task.TheVariants as tasks
 use Rattle.ghost_cli.specs.declared.failure.Failure.{Failure}
-use Rattle.ghost_cli.specs.declared.failure.Failure.TheVariants.{Arguments, NearWord, NotText, Script, Serve, UnknownWord, Unopened, Work, Workbench}
+use Rattle.ghost_cli.specs.declared.failure.Failure.TheVariants.{Arguments, NearWord, NoPolicy, NotText, Script, Serve, UnknownWord, Unopened, Work, Workbench}
 
 -- reading the arguments failed with this kind of error: out of memory, or they are not text
 abbrev pub IsUnreadBy : ErrorKind → Failure → Type 0
@@ -27,38 +27,28 @@ IsToldBy error failure = ((kind_of error ≡ kinds.OutOfMemory) × (failure ≡ 
 -- one of these faults of the arguments is told, or out of memory
 abbrev pub TellsOneOf : Kinds → Failure → Type 0
 TellsOneOf kinds (Arguments error) = IsAmong (kind_of error) kinds
-TellsOneOf kinds NotText = ⊥
-TellsOneOf kinds UnknownWord = ⊥
-TellsOneOf kinds (NearWord near) = ⊥
-TellsOneOf kinds (Unopened file error) = ⊥
 TellsOneOf kinds (Script fault) = fault ≡ OutOfMemory
-TellsOneOf kinds (Serve fault) = ⊥
-TellsOneOf kinds (Workbench fault) = ⊥
-TellsOneOf kinds (Work fault) = ⊥
+TellsOneOf kinds _ = ⊥
 
 -- nothing was begun: the words are told what is wrong with them, the help or the version, or out of memory
 abbrev pub IsOfWords : Failure → Type 0
 IsOfWords (Arguments error) = ⊤
-IsOfWords NotText = ⊥
-IsOfWords UnknownWord = ⊥
-IsOfWords (NearWord near) = ⊥
-IsOfWords (Unopened file error) = ⊥
 IsOfWords (Script fault) = fault ≡ OutOfMemory
-IsOfWords (Serve fault) = ⊥
-IsOfWords (Workbench fault) = ⊥
-IsOfWords (Work fault) = ⊥
+IsOfWords _ = ⊥
+
+-- an option names no policy
+abbrev pub IsOfPolicy : Failure → Type 0
+IsOfPolicy (NoPolicy named) = ⊤
+IsOfPolicy _ = ⊥
 
 -- the arguments are not at fault
 abbrev pub IsOfTask : Failure → Type 0
-IsOfTask (Arguments error) = ⊥
-IsOfTask NotText = ⊥
-IsOfTask UnknownWord = ⊥
-IsOfTask (NearWord near) = ⊥
 IsOfTask (Unopened file error) = ⊤
 IsOfTask (Script fault) = ⊤
 IsOfTask (Serve fault) = ⊤
 IsOfTask (Workbench fault) = ⊤
 IsOfTask (Work fault) = ⊤
+IsOfTask _ = ⊥
 
 -- the file that is to have the script cannot be opened, or out of memory
 abbrev pub IsUnopened : Failure → Type 0
@@ -84,7 +74,8 @@ IsOfWriting _ = ⊥
 -- what may be said of a task: of workers, that their agent did not settle only if a run of theirs ended so
 abbrev pub SaidOf : Task → Failure → Type 0
 SaidOf (tasks.Script wanted) (Script fault) = ⊤
-SaidOf tasks.Serve (Serve fault) = ⊤
+SaidOf (tasks.Serve explained) (Serve fault) = ⊤
 SaidOf (tasks.Simulation how) (Workbench fault) = ⊤
+SaidOf (tasks.Comparison how) (Workbench fault) = ⊤
 SaidOf (tasks.Workers work shown) (Work fault) = WhyUntold work fault
 SaidOf _ _ = ⊥

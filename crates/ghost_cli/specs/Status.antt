@@ -14,7 +14,7 @@ use Rattle.gs_workbench.specs.declared.fault.WorkbenchFault.TheVariants as workb
 use Rattle.gs_workers.specs.declared.fault.WorkFault.{WorkFault}
 use Rattle.gs_workers.specs.declared.fault.WorkFault.TheVariants as works
 use Rattle.ghost_cli.specs.declared.failure.Failure.{Failure}
-use Rattle.ghost_cli.specs.declared.failure.Failure.TheVariants.{Arguments, NearWord, NotText, Script, Serve, UnknownWord, Unopened, Work, Workbench}
+use Rattle.ghost_cli.specs.declared.failure.Failure.TheVariants.{Arguments, NearWord, NoPolicy, NotText, Script, Serve, UnknownWord, Unopened, Work, Workbench}
 
 -- 0 if a script ran, 2 if it has a fault
 abbrev pub ended_status : Ended → ℕ
@@ -58,6 +58,7 @@ IsFailureStatus (Arguments error) status = IsArgumentsStatus (kind_of error) sta
 IsFailureStatus NotText status = status ≡ 3
 IsFailureStatus UnknownWord status = status ≡ 3
 IsFailureStatus (NearWord near) status = status ≡ 3
+IsFailureStatus (NoPolicy named) status = status ≡ 3
 IsFailureStatus (Unopened file error) status = status ≡ 4
 IsFailureStatus (Script fault) status = status ≡ fault_status fault
 IsFailureStatus (Serve fault) status = status ≡ serve_status fault

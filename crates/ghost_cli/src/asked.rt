@@ -1,22 +1,24 @@
-ghost use Rattle.std.specs.Prelude.{◌≡◌, ◌≢◌, [], IfOk, IfErr, IsErr, IsErrAnd, IsErrOf, map, option_map, string_bytes};
+ghost use Rattle.std.specs.Prelude.{◌≡◌, ◌≢◌, [], IfOk, IfErr, IsErr, IsErrAnd, IsErrOf, OnErr, OnOk, map, option_map, string_bytes};
 ghost use Rattle.std.specs.IoError.{error_kind};
 ghost use Rattle.std.specs.Io.KnownBytes.{Keeps};
 ghost use Rattle.std.specs.Vec.Iter.{into_iter_items};
 ghost use Rattle.clap.specs.Faults.{fault_of};
-ghost use Rattle.gs_arguments.specs.Arguments.{AsksAllowed, IsAllowedPolicy, command_in, file_in, ghost_program};
-ghost use Rattle.gs_arguments.specs.declared.arguments.Command.{Command};
+ghost use Rattle.gs_arguments.specs.Arguments.{AsksAllowed, command_in, file_in, ghost_program, policies_in, seeds_in};
+ghost use Rattle.gs_arguments.specs.declared.command.Command.{Command};
 ghost use Rattle.gs_trace.specs.Streams.{AnswersAll, AnswersOf, BeginsAnswer, ConsumesAtMost};
 ghost use Rattle.gs_trace.specs.declared.pipe.TheConstants.{MOST_READ_BYTES};
-ghost use Rattle.ghost_cli.specs.Asked.{Answers, Does, DoesFrom, DoesInFile, MayBe, Obeys, ObeysCommand, explanation_asked, listed_asked, notation_asked, policy_asked, shown_asked, task_asked, texts};
+ghost use Rattle.ghost_cli.specs.Asked.{Answers, BeginsServingAs, Does, DoesFrom, DoesInFile, IsServedAs, IsTaskOf, MayBe, Obeys, ObeysAsked, ObeysCommand, explanation_asked, form_asked, listed_asked, notation_asked, shown_asked, texts};
 ghost use Rattle.ghost_cli.specs.Failures.{IsOfTask, IsOfWords, IsUnreadBy, TellsOneOf};
 
 use crate::failure::{Failure, unopened, unread, unsettled};
 use crate::helping::{help_word, show_help};
-use crate::telling::{Asking, await_input, tell_fault};
-use gs_arguments::{Asked, Command, PolicyAsked, settings};
+use crate::policies::policies_of;
+use crate::telling::{Asking, Counting, Watched, await_input, tell_fault};
+use gs_arguments::{Asked, Command, settings};
+use gs_compare::compare_workload;
 use gs_explain::{Explanation, explain_script};
-use gs_policy::{AnyPolicy, FirstCome, TwoClass};
-use gs_serve::serve;
+use gs_policy::AnyPolicy;
+use gs_serve::{Prompt, ServeFault, serve, serve_explained};
 use gs_tables::{Table, write_table};
 use gs_trace::{Ended, Form, Kept, Listed, Notation, TraceFault, run_and_keep};
 use gs_workbench::simulate_workload;
@@ -27,6 +29,7 @@ use std::fs::Files;
 use std::io::{IsTerminal, Read, Write};
 use std::sync::Wait;
 use std::thread::Threads;
+use std::time::CpuClock;
 use std::{fs, io};
 
 /// What is to be written of a script.
@@ -41,14 +44,16 @@ pub(crate) enum Wanted {
 }
 
 /// What a command asks for.
-#[derive(Clone, Copy, PartialEq, Eq, Debug)]
-pub(crate) enum Task {
+#[derive(Clone, Copy)]
+pub(crate) enum Task<'a> {
     /// To run the script that the reader has, and to write this of it.
     Script { wanted: Wanted },
-    /// To answer the lines that the reader gives, each before it is asked for more.
-    Serve,
+    /// To answer the lines that the reader gives, each before it is asked for more: with reasons if they are explained.
+    Serve { explained: bool },
     /// To simulate the workload that the reader has so, and to write the script of what happened.
     Simulation { how: gs_workbench::Asked },
+    /// To simulate it under each of some policies and by each of some seeds, and to write a table of what came of that.
+    Comparison { how: gs_compare::Asked<'a> },
     /// To run these workers, and to show so what came of it.
     Workers { work: Work, shown: Shown },
 }
@@ -64,6 +69,8 @@ fn collected(alloc: Global, arguments: Args) -> Result<Vec<String>, AllocError>
 fn asked_of(alloc: Global, words: &[String]) -> Result<Asked<'_>, Failure>
     ensures given { IfOk result (λ asked. command_in (map string_bytes words.now) ≡ Some asked.command) }
     ensures file { IfOk result (λ asked. option_map (λ file. file.now) asked.file ≡ file_in (map string_bytes words.now)) }
+    ensures policies { IfOk result (λ asked. map (λ text. text.now) asked.policies.items ≡ policies_in (map string_bytes words.now)) }
+    ensures seeds { IfOk result (λ asked. asked.seeds.items ≡ seeds_in (map string_bytes words.now)) }
     ensures told { fault_of ghost_program (map string_bytes words.now) ≢ [] → IsErrAnd result (TellsOneOf (fault_of ghost_program (map string_bytes words.now))) }
     ensures faultless { fault_of ghost_program (map string_bytes words.now) ≡ [] → (command : Command) → command_in (map string_bytes words.now) ≡ Some command → IfErr result IsOfTask }
     ensures allowed { IfOk result (λ asked. AsksAllowed asked.command) }
@@ -104,7 +111,7 @@ fn notation_of(json: bool) -> Notation
 }
 
 /// The task of a script whose outcome is shown in a form.
-fn script(form: Form) -> Task
+fn script(form: Form) -> Task<'static>
     ensures { result ≡ Task.Script (Wanted.Shown form) }
 {
     Task::Script {
@@ -124,24 +131,30 @@ fn listed_of(listed: gs_arguments::Listed) -> Listed
     }
 }
 
-/// Returns the policy that a simulation is to have, unless it is that of the workload.
-fn policy_of(policy: PolicyAsked) -> Option<AnyPolicy>
-    requires { IsAllowedPolicy policy }
-    ensures { result ≡ policy_asked policy }
+/// Returns in what form a comparison is to be written.
+fn form_of(json: bool, csv: bool) -> gs_compare::Form
+    ensures { result ≡ form_asked json csv }
 {
-    match policy {
-        PolicyAsked::Own => None,
-        PolicyAsked::First => Some(AnyPolicy::FirstCome(FirstCome)),
-        PolicyAsked::Two { slice } => Some(AnyPolicy::TwoClass(TwoClass {
-            slice: slice as u16,
-        })),
+    match (json, csv) {
+        (true, _) => gs_compare::Form::Json,
+        (false, true) => gs_compare::Form::Csv,
+        (false, false) => gs_compare::Form::Lines,
     }
 }
 
-/// Returns what a command asks for.
-fn task_of(command: Command) -> Task
+/// The task of a script of which a table is written.
+fn table(table: Table) -> Task<'static>
+    ensures { result ≡ Task.Script (Wanted.Tabled table) }
+{
+    Task::Script {
+        wanted: Wanted::Tabled { table },
+    }
+}
+
+/// Returns what a command asks for, by the policies and the seeds that are given to it.
+fn task_of<'a>(command: Command, policies: &'a [AnyPolicy], seeds: &'a [u64]) -> Task<'a>
     requires { AsksAllowed command }
-    ensures { result ≡ task_asked command }
+    ensures { IsTaskOf command policies.now seeds.now result }
 {
     match command {
         Command::Run => script(Form::Lines),
@@ -151,37 +164,32 @@ fn task_of(command: Command) -> Task
             },
         },
         Command::Report { last } => script(Form::Report { last }),
-        Command::Journal { json: false } => script(Form::Journal(Notation::Lines)),
-        Command::Journal { json: true } => script(Form::Journal(Notation::Json)),
+        Command::Journal { json } => script(Form::Journal(notation_of(json))),
         Command::Timeline { from, to, listed } => script(Form::Timeline {
             from,
             to,
             listed: listed_of(listed),
         }),
-        Command::Timehist { json } => Task::Script {
-            wanted: Wanted::Tabled {
-                table: Table::Timehist(notation_of(json)),
-            },
-        },
-        Command::Latency { json, threads } => Task::Script {
-            wanted: Wanted::Tabled {
-                table: Table::Latency {
-                    notation: notation_of(json),
-                    threads,
-                },
-            },
-        },
+        Command::Timehist { json } => table(Table::Timehist(notation_of(json))),
+        Command::Latency { json, threads } => table(Table::Latency {
+            notation: notation_of(json),
+            threads,
+        }),
         Command::Trace => script(Form::Trace),
-        Command::Serve => Task::Serve,
-        Command::Simulate {
-            policy,
-            ticks,
-            seed,
-        } => Task::Simulation {
+        Command::Serve { explained } => Task::Serve { explained },
+        Command::Simulate { ticks } => Task::Simulation {
             how: gs_workbench::Asked {
-                policy: policy_of(policy),
+                policy: policies.first().copied(),
                 ticks: ticks.map(|ticks| ticks as u32),
-                seed: seed as u64,
+                seed: seeds.first().copied().unwrap_or(0),
+            },
+        },
+        Command::Compare { ticks, json, csv } => Task::Comparison {
+            how: gs_compare::Asked {
+                policies,
+                ticks: ticks.map(|ticks| ticks as u32),
+                seeds,
+                form: form_of(json, csv),
             },
         },
         Command::Threads {
@@ -215,18 +223,35 @@ fn run_wanted<R: Read, W: Write>(
     }
 }
 
+/// Answers the lines that the reader gives, with reasons if they are to be explained.
+fn serve_as<P: Prompt, R: Read, W: Write>(
+    alloc: Global,
+    explained: bool,
+    prompt: &P,
+    reader: &mut R,
+    writer: &mut W,
+) -> Result<(), ServeFault>
+    ensures served { OnOk result (IsServedAs explained (R.remaining reader.old) (R.remaining reader.new) (W.contents writer.old) (W.contents writer.new)) }
+    ensures begun { OnErr result (BeginsServingAs explained (R.remaining reader.old) (W.contents writer.old) (W.contents writer.new)) }
+{
+    match explained {
+        false => serve(alloc, prompt, reader, writer),
+        true => serve_explained(alloc, prompt, reader, writer),
+    }
+}
+
 /// Does a task: runs the script that the reader has, answers its lines, or runs workers. Writes what came of it, and says
 /// on standard error what is wrong with a script that has a fault. If a terminal gives the lines, it is asked for each.
-fn perform<H: Threads + Wait + Sync + Eprint, R: Read, W: Write>(
+fn perform<H: Threads + Wait + Sync + Eprint + CpuClock + Watched, R: Read, W: Write>(
     rt: &H,
     alloc: Global,
-    task: Task,
+    task: Task<'_>,
     is_terminal: bool,
     reader: &mut R,
     writer: &mut W,
 ) -> Result<Ended, Failure>
     requires { MayBe task }
-    ensures { Does task (R.remaining reader.old) (R.remaining reader.new) (W.contents writer.old) (W.contents writer.new) result }
+    ensures { Does task.entry (R.remaining reader.old) (R.remaining reader.new) (W.contents writer.old) (W.contents writer.new) result }
 {
     match task {
         Task::Script { wanted } => match run_wanted(alloc, wanted, reader, writer) {
@@ -236,11 +261,29 @@ fn perform<H: Threads + Wait + Sync + Eprint, R: Read, W: Write>(
             }
             Err(fault) => Err(Failure::Script(fault)),
         },
-        Task::Serve => match serve(alloc, &Asking { rt, is_terminal }, reader, writer) {
-            Ok(()) => Ok(Ended::Ran),
-            Err(fault) => Err(Failure::Serve(fault)),
-        },
+        Task::Serve { explained } => {
+            match serve_as(
+                alloc,
+                explained,
+                &Asking { rt, is_terminal },
+                reader,
+                writer,
+            ) {
+                Ok(()) => Ok(Ended::Ran),
+                Err(fault) => Err(Failure::Serve(fault)),
+            }
+        }
         Task::Simulation { how } => match simulate_workload(alloc, reader, writer, how) {
+            Ok(()) => Ok(Ended::Ran),
+            Err(fault) => Err(Failure::Workbench(fault)),
+        },
+        Task::Comparison { how } => match compare_workload(
+            alloc,
+            &Counting { rt },
+            reader,
+            writer,
+            &how,
+        ) {
             Ok(()) => Ok(Ended::Ran),
             Err(fault) => Err(Failure::Workbench(fault)),
         },
@@ -252,15 +295,15 @@ fn perform<H: Threads + Wait + Sync + Eprint, R: Read, W: Write>(
 }
 
 /// Does a task whose script a file has.
-fn perform_in_file<H: Threads + Wait + Sync + Files + Eprint, W: Write>(
+fn perform_in_file<H: Threads + Wait + Sync + Files + Eprint + CpuClock + Watched, W: Write>(
     rt: &H,
     alloc: Global,
-    task: Task,
+    task: Task<'_>,
     file: &str,
     writer: &mut W,
 ) -> Result<Ended, Failure>
     requires { MayBe task }
-    ensures { DoesInFile task (W.contents writer.old) (W.contents writer.new) result }
+    ensures { DoesInFile task.entry (W.contents writer.old) (W.contents writer.new) result }
 {
     match fs::open(rt, file) {
         Ok(mut opened) => perform(rt, alloc, task, false, &mut opened, writer),
@@ -269,16 +312,20 @@ fn perform_in_file<H: Threads + Wait + Sync + Files + Eprint, W: Write>(
 }
 
 /// Does a task whose script the file of this name has, or, without one, the reader.
-fn perform_from<H: Threads + Wait + Sync + Files + Eprint, R: Read + IsTerminal, W: Write>(
+fn perform_from<
+    H: Threads + Wait + Sync + Files + Eprint + CpuClock + Watched,
+    R: Read + IsTerminal,
+    W: Write,
+>(
     rt: &H,
     alloc: Global,
-    task: Task,
+    task: Task<'_>,
     file: Option<&str>,
     reader: &mut R,
     writer: &mut W,
 ) -> Result<Ended, Failure>
     requires { MayBe task }
-    ensures { DoesFrom (option_map (λ file. file.now) file.entry) task (R.remaining reader.old) (R.remaining reader.new) (W.contents writer.old) (W.contents writer.new) result }
+    ensures { DoesFrom (option_map (λ file. file.now) file.entry) task.entry (R.remaining reader.old) (R.remaining reader.new) (W.contents writer.old) (W.contents writer.new) result }
 {
     match file {
         Some(file) => perform_in_file(rt, alloc, task, file, writer),
@@ -290,37 +337,50 @@ fn perform_from<H: Threads + Wait + Sync + Files + Eprint, R: Read + IsTerminal,
     }
 }
 
-/// Does what the command asks for that these words give.
-fn obey_command<H: Threads + Wait + Sync + Files + Eprint, R: Read + IsTerminal, W: Write>(
+/// Does what was asked for, if each text that is to name a policy does.
+fn obey_asked<
+    H: Threads + Wait + Sync + Files + Eprint + CpuClock + Watched,
+    R: Read + IsTerminal,
+    W: Write,
+>(
     rt: &H,
     alloc: Global,
-    words: &[String],
+    asked: &Asked<'_>,
     reader: &mut R,
     writer: &mut W,
 ) -> Result<Ended, Failure>
+    requires { AsksAllowed asked.now.command }
+    ensures { ObeysAsked asked.now.command (map (λ text. text.now) asked.now.policies.items) asked.now.seeds.items (option_map (λ file. file.now) asked.now.file) (R.remaining reader.old) (R.remaining reader.new) (W.contents writer.old) (W.contents writer.new) result }
+{
+    match policies_of(alloc, &asked.policies) {
+        Ok(policies) => {
+            let task = task_of(asked.command, &policies, &asked.seeds);
+            perform_from(rt, alloc, task, asked.file, reader, writer)
+        }
+        Err(failure) => Err(failure),
+    }
+}
+
+/// Does what the command asks for that these words give.
+fn obey_command<
+    H: Threads + Wait + Sync + Files + Eprint + CpuClock + Watched,
+    R: Read + IsTerminal,
+    W: Write,
+>(rt: &H, alloc: Global, words: &[String], reader: &mut R, writer: &mut W) -> Result<Ended, Failure>
     ensures { ObeysCommand (map string_bytes words.now) (R.remaining reader.old) (R.remaining reader.new) (W.contents writer.old) (W.contents writer.new) result }
 {
     match asked_of(alloc, words) {
-        Ok(asked) => perform_from(
-            rt,
-            alloc,
-            task_of(asked.command),
-            asked.file,
-            reader,
-            writer,
-        ),
+        Ok(asked) => obey_asked(rt, alloc, &asked, reader, writer),
         Err(failure) => Err(failure),
     }
 }
 
 /// Does what these words ask for.
-fn obey<H: Threads + Wait + Sync + Files + Eprint, R: Read + IsTerminal, W: Write>(
-    rt: &H,
-    alloc: Global,
-    words: &[String],
-    reader: &mut R,
-    writer: &mut W,
-) -> Result<Ended, Failure>
+fn obey<
+    H: Threads + Wait + Sync + Files + Eprint + CpuClock + Watched,
+    R: Read + IsTerminal,
+    W: Write,
+>(rt: &H, alloc: Global, words: &[String], reader: &mut R, writer: &mut W) -> Result<Ended, Failure>
     ensures { Obeys (map string_bytes words.now) (R.remaining reader.old) (R.remaining reader.new) (W.contents writer.old) (W.contents writer.new) result }
 {
     match help_word(words) {
@@ -331,7 +391,7 @@ fn obey<H: Threads + Wait + Sync + Files + Eprint, R: Read + IsTerminal, W: Writ
 
 /// Does what the arguments ask for, over a reader and a writer: `main` hands it the standard streams.
 pub(crate) fn ghost_command<
-    H: Threads + Wait + Sync + Files + Eprint,
+    H: Threads + Wait + Sync + Files + Eprint + CpuClock + Watched,
     R: Read + IsTerminal,
     W: Write,
 >(

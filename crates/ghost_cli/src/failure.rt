@@ -1,9 +1,10 @@
-ghost use Rattle.std.specs.Prelude.{◌≡◌};
+ghost use Rattle.std.specs.Prelude.{◌≡◌, ◌⊎◌};
 ghost use Rattle.std.specs.IoError.{error_kind};
 ghost use Rattle.clap.specs.Values.{kind_of};
-ghost use Rattle.ghost_cli.specs.Failures.{IsToldBy, IsUnopened, IsUnreadBy};
+ghost use Rattle.ghost_cli.specs.Failures.{IsOfPolicy, IsToldBy, IsUnopened, IsUnreadBy};
 
 use clap::error::ErrorKind;
+use gs_script::{LEAST_SLICE, MOST_SLICE};
 use gs_serve::ServeFault;
 use gs_trace::TraceFault;
 use gs_workbench::WorkbenchFault;
@@ -26,6 +27,9 @@ pub(crate) enum Failure {
     /// Nor of that, but of one that was probably meant.
     #[error("ghost: nothing is said of this word, but of `{0}`\n")]
     NearWord(&'static str),
+    /// A text that is to name a policy names none.
+    #[error("ghost: `{0}` names no policy: there are `first` and `two S`, where S is from {LEAST_SLICE} to {MOST_SLICE} ticks\n")]
+    NoPolicy(String),
     /// The file that is to have the script cannot be opened.
     #[error("ghost: {file}: {error}\n")]
     Unopened { file: String, error: io::Error },
@@ -55,6 +59,16 @@ pub(crate) fn unopened(alloc: Global, file: &str, error: io::Error) -> Failure
 {
     match String::from_str(alloc, file) {
         Ok(file) => Failure::Unopened { file, error },
+        Err(_) => Failure::Script(TraceFault::OutOfMemory),
+    }
+}
+
+/// Returns that a text names no policy, or out of memory.
+pub(crate) fn unnamed(alloc: Global, named: &str) -> Failure
+    ensures { IsOfPolicy result ⊎ (result ≡ Failure.Script TraceFault.OutOfMemory) }
+{
+    match String::from_str(alloc, named) {
+        Ok(named) => Failure::NoPolicy(named),
         Err(_) => Failure::Script(TraceFault::OutOfMemory),
     }
 }

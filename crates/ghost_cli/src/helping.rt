@@ -26,6 +26,7 @@ fn is_command(word: &str) -> bool
             | "trace"
             | "serve"
             | "simulate"
+            | "compare"
             | "threads"
             | "help"
     )

@@ -8,6 +8,7 @@ ghost use Rattle.ghost_cli.specs.Status.{IsArgumentsStatus, IsFailureStatus, IsS
 mod asked;
 mod failure;
 mod helping;
+mod policies;
 mod telling;
 
 use asked::ghost_command;
@@ -92,7 +93,7 @@ fn report(rt: &HostRuntime, failure: &Failure) -> u8
 {
     match failure {
         Failure::Arguments(error) => report_arguments(rt, error),
-        Failure::NotText | Failure::UnknownWord | Failure::NearWord(_) => {
+        Failure::NotText | Failure::UnknownWord | Failure::NearWord(_) | Failure::NoPolicy(_) => {
             let _ = eprint!(rt; "{failure}");
             3
         }

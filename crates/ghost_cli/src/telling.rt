@@ -1,17 +1,20 @@
 //! What is said on standard error while a task is done.
 
 use crate::asked::Task;
+use gs_compare::Progress;
 use gs_faults::explain;
 use gs_serve::Prompt;
 use gs_trace::{Ended, Kept};
 use std::alloc::Global;
+use std::io::IsTerminal;
+use std::time::CpuClock;
 
 /// Says that a script or a workload is awaited, if a terminal is to give one.
-pub(crate) fn await_input<H: Eprint>(rt: &H, task: Task, is_terminal: bool) {
+pub(crate) fn await_input<H: Eprint>(rt: &H, task: Task<'_>, is_terminal: bool) {
     let awaited = match task {
         Task::Script { .. } => "script",
-        Task::Simulation { .. } => "workload",
-        Task::Serve | Task::Workers { .. } => return,
+        Task::Simulation { .. } | Task::Comparison { .. } => "workload",
+        Task::Serve { .. } | Task::Workers { .. } => return,
     };
     if is_terminal {
         let _ = eprintln!(rt;
@@ -31,6 +34,45 @@ impl<H: Eprint> Prompt for Asking<'_, H> {
     fn ask(&self) {
         if self.is_terminal {
             let _ = eprint!(self.rt; "> ");
+        }
+    }
+}
+
+/// What is known of who reads standard error.
+pub(crate) trait Watched {
+    /// Returns whether a terminal shows it.
+    fn is_watched(&self) -> bool;
+}
+
+impl Watched for HostRuntime {
+    fn is_watched(&self) -> bool {
+        self.stderr().is_terminal()
+    }
+}
+
+/// So many seconds the program works before it says how far it is.
+const SHOWN_AFTER: u64 = 1;
+
+/// What says on standard error how far a comparison is, if a terminal shows it and the program has worked for a second.
+#[derive(Drop)]
+pub(crate) struct Counting<'a, H> {
+    pub(crate) rt: &'a H,
+}
+
+impl<H: Eprint + CpuClock + Watched> Progress for Counting<'_, H> {
+    fn tell(&self, done: usize, all: usize) {
+        if !self.rt.is_watched() {
+            return;
+        }
+        match self.rt.process_cpu_time() {
+            Ok(time) if time.as_secs() >= SHOWN_AFTER => {
+                let _ = if done < all {
+                    eprint!(self.rt; "\r{done} of {all} simulations")
+                } else {
+                    eprint!(self.rt; "\r\x1b[K")
+                };
+            }
+            _ => {}
         }
     }
 }

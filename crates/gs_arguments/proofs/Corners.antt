@@ -4,8 +4,8 @@ use Rattle.clap.proofs.OnLiterals.{clap_on_literals}
 use Rattle.clap.specs.Faults.{fault_of}
 use Rattle.clap.specs.Kinds.{Kinds}
 use Rattle.clap.specs.declared.error.kind.ErrorKind.TheVariants as kinds
-use Rattle.gs_arguments.specs.declared.arguments.Command.{Command}
-use Rattle.gs_arguments.specs.declared.arguments.Command.TheVariants.{Explain}
+use Rattle.gs_arguments.specs.declared.command.Command.{Command}
+use Rattle.gs_arguments.specs.declared.command.Command.TheVariants.{Explain}
 use Rattle.gs_arguments.specs.Arguments.{ghost_program, command_in, file_in}
 
 abbrev given : List (List ℕ) → Option Command

@@ -1,7 +1,11 @@
 -- What the program's command line takes.
-use Rattle.std.proofs.Common.{◌≡◌, ◌≤◌, is_some, ℕ, Bool, List, [], ◌∷◌, true, false, refl, codes, cond, ◌∙◌, ap, sym, subst, Option, None, Some, arith}
+use Rattle.std.proofs.Common.{◌≡◌, ◌≤◌, ◌<◌, ◌+◌, ◌++◌, get_or, length, map, take, is_some, ℕ, Bool, List, [], ◌∷◌, true, false, refl, codes, cond, ◌∙◌, ap, sym, subst, Option, None, Some, arith}
 use Rattle.std.specs.Fmt.{digits}
 use Rattle.std.specs.Prelude.{decimal, nat_le, nat_lt, IfSome, Result, Ok, Err, ◌&&◌, bytes_eq, option_map, option_and_then}
+use Rattle.std.specs.List.{cons_option, filter_map}
+use Rattle.std.specs.Result.{result_ok}
+use Rattle.std.proofs.lemmas.List.{map-append, take_more}
+use Rattle.std.proofs.lemmas.List.Elements.{filter_map-append}
 use Rattle.std.specs.Str.Parse.{ParsesBool, ParsesUnsigned, digits_value, without_leading_plus}
 use Rattle.std.proofs.lemmas.Bool.{and_parts}
 use Rattle.std.proofs.lemmas.Bool.Decides.{nat_tests}
@@ -13,11 +17,13 @@ use Rattle.clap.specs.Matches.{ReadsOne}
 use Rattle.clap.proofs.ValueTestLemmas.{accepts-Accepts, Accepts-accepts}
 use Rattle.clap.specs.declared.builder.value_parser.ValueParser.TheVariants as vp
 use Rattle.clap.proofs.OnLiterals.{clap_on_literals}
-use Rattle.gs_arguments.specs.declared.arguments.Command.{Command}
-use Rattle.gs_arguments.specs.declared.arguments.Command.TheVariants.{Run, Explain, Report, Journal, Timeline, Timehist, Latency, Trace, Serve, Simulate, Threads}
-use Rattle.gs_arguments.specs.declared.arguments.Listed.{Listed}
-use Rattle.gs_arguments.specs.declared.arguments.TheConstants.{DEFAULT_LINES, LEAST_COUNT, MOST_EACH, MOST_LINES, MOST_SLICE, MOST_TICKS, MOST_WORKERS}
-use Rattle.gs_arguments.specs.Arguments.{ghost_program, command_from, command_given, backward, unless_backward, command_in, AsksAllowed, count_of, flag_of, latency_given, number_of, threads_given, timeline_given, IsAllowedPolicy, count_in, policy_by, place_in, simulate_given}
+use Rattle.gs_arguments.specs.declared.command.Command.{Command}
+use Rattle.gs_arguments.specs.declared.command.Command.TheVariants.{Run, Explain, Report, Journal, Timeline, Timehist, Latency, Trace, Serve, Simulate, Compare, Threads}
+use Rattle.gs_arguments.specs.declared.command.Listed.{Listed}
+use Rattle.gs_arguments.specs.declared.command.TheConstants.{DEFAULT_LINES, LEAST_COUNT, MOST_EACH, MOST_LINES, MOST_TICKS, MOST_WORKERS}
+use Rattle.gs_arguments.specs.declared.values.Clash.{Clash}
+use Rattle.gs_arguments.specs.declared.values.Clash.TheVariants.{Backward, TwoForms}
+use Rattle.gs_arguments.specs.Arguments.{ghost_program, command_from, command_given, clash_in, unless_clashing, command_in, compare_given, AreAllowedTicks, AsksAllowed, count_of, flag_of, latency_given, number_of, threads_given, ticks_in, timeline_given}
 
 -- the default as a word of the command line
 pub default_word : codes "10" ≡ decimal DEFAULT_LINES
@@ -73,18 +79,18 @@ latency_allowed None threads command e = absurd cc
 latency_allowed (Some json) None command e = absurd cc
 latency_allowed (Some json) (Some threads) command e = let same : Latency json threads ≡ command = cc in subst AsksAllowed same tt
 
-not_above : (from to : ℕ) (listed : Listed) → backward (Timeline from to listed) ≡ None → from ≤ to
+not_above : (from to : ℕ) (listed : Listed) → clash_in (Timeline from to listed) ≡ None → from ≤ to
 not_above from to listed e = by_test (nat_lt to from) refl e
   where
-    by_test : (b : Bool) → nat_lt to from ≡ b → cond {A = Option (ℕ × ℕ)} b (Some (from, to)) None ≡ None → from ≤ to
+    by_test : (b : Bool) → nat_lt to from ≡ b → cond {A = Option Clash} b (Some (Backward from to)) None ≡ None → from ≤ to
     by_test true is e = absurd cc
     by_test false is e = grind (arith, nat_tests)
 
-timeline_allowed : (from to : ℕ) (listed : Bool → Listed) (o : Option Bool) (command : Command) → option_map (λ all. Timeline from to (listed all)) o ≡ Some command → backward command ≡ None → AsksAllowed command
+timeline_allowed : (from to : ℕ) (listed : Bool → Listed) (o : Option Bool) (command : Command) → option_map (λ all. Timeline from to (listed all)) o ≡ Some command → clash_in command ≡ None → AsksAllowed command
 timeline_allowed from to listed None command e forward = absurd cc
 timeline_allowed from to listed (Some all) command e forward =
     let same : Timeline from to (listed all) ≡ command = cc in
-    subst AsksAllowed same (not_above from to (listed all) (ap backward same ∙ forward))
+    subst AsksAllowed same (not_above from to (listed all) (ap clash_in same ∙ forward))
 
 -- a count that is read is one of those that may be
 counted : (most : ℕ) (o : Option Text) (n : ℕ) → option_and_then (count_of most) o ≡ Some n → (LEAST_COUNT ≤ n) × (n ≤ most)
@@ -107,6 +113,33 @@ counted most (Some text) n e = by_number (number_of text) e
 abbrev journal_in : List Row → Option Bool
 journal_in rows = option_and_then flag_of (one_of (codes "journal") rows)
 
+serve_allowed : (o : Option Bool) (command : Command) → option_map Serve o ≡ Some command → AsksAllowed command
+serve_allowed None command e = absurd cc
+serve_allowed (Some explained) command e = let same : Serve explained ≡ command = cc in subst AsksAllowed same tt
+
+ticks_allowed : (rows : List Row) → AreAllowedTicks (ticks_in rows)
+ticks_allowed rows = by_count (ticks_in rows) refl
+  where
+    by_count : (o : Option ℕ) → ticks_in rows ≡ o → AreAllowedTicks o
+    by_count None is = tt
+    by_count (Some n) is = counted MOST_TICKS (one_of (codes "ticks") rows) n is
+
+simulate_allowed : (rows : List Row) (command : Command) → Some (Simulate (ticks_in rows)) ≡ Some command → AsksAllowed command
+simulate_allowed rows command e = let same : Simulate (ticks_in rows) ≡ command = cc in subst AsksAllowed same (ticks_allowed rows)
+
+-- a table that is asked for has one form
+one_form : (ticks : Option ℕ) (json csv : Bool) → clash_in (Compare ticks json csv) ≡ None → (json && csv) ≡ false
+one_form ticks true true e = absurd cc
+one_form ticks true false e = refl
+one_form ticks false csv e = refl
+
+compare_allowed : (rows : List Row) (json csv : Option Bool) (command : Command) → option_and_then (λ j. option_map (λ c. Compare (ticks_in rows) j c) csv) json ≡ Some command → clash_in command ≡ None → AsksAllowed command
+compare_allowed rows None csv command e alone = absurd cc
+compare_allowed rows (Some json) None command e alone = absurd cc
+compare_allowed rows (Some json) (Some csv) command e alone =
+    let same : Compare (ticks_in rows) json csv ≡ command = cc in
+    subst AsksAllowed same (ticks_allowed rows, one_form (ticks_in rows) json csv (ap clash_in same ∙ alone))
+
 threads_allowed : (rows : List Row) (command : Command) → threads_given rows ≡ Some command → AsksAllowed command
 threads_allowed rows command e = by_workers (option_and_then (count_of MOST_WORKERS) (one_of (codes "workers") rows)) refl e
   where
@@ -124,39 +157,14 @@ threads_allowed rows command e = by_workers (option_and_then (count_of MOST_WORK
     by_workers None is e = absurd cc
     by_workers (Some w) is e = by_each w (option_and_then (count_of MOST_EACH) (one_of (codes "each") rows)) refl e (counted MOST_WORKERS (one_of (codes "workers") rows) w is)
 
-policy_allowed : (rows : List Row) (name : Text) (first : Bool) → IsAllowedPolicy (policy_by first (count_in rows name MOST_SLICE))
-policy_allowed rows name true = tt
-policy_allowed rows name false = by_slice (count_in rows name MOST_SLICE) refl
-  where
-    by_slice : (o : Option ℕ) → count_in rows name MOST_SLICE ≡ o → IsAllowedPolicy (policy_by false o)
-    by_slice None is = tt
-    by_slice (Some slice) is = counted MOST_SLICE (one_of name rows) slice is
-
-ticks_allowed : (rows : List Row) (name : Text) → IfSome (count_in rows name MOST_TICKS) (λ n. (LEAST_COUNT ≤ n) × (n ≤ MOST_TICKS))
-ticks_allowed rows name = by_count (count_in rows name MOST_TICKS) refl
-  where
-    by_count : (o : Option ℕ) → count_in rows name MOST_TICKS ≡ o → IfSome o (λ n. (LEAST_COUNT ≤ n) × (n ≤ MOST_TICKS))
-    by_count None is = tt
-    by_count (Some n) is = counted MOST_TICKS (one_of name rows) n is
-
-simulate_allowed : (rows : List Row) (command : Command) → simulate_given rows ≡ Some command → AsksAllowed command
-simulate_allowed rows command e = by_first (option_and_then flag_of (one_of (codes "first") rows)) e
-  where
-    by_first : (o : Option Bool)
-        → option_map (λ first. Simulate (policy_by first (count_in rows (codes "two") MOST_SLICE)) (count_in rows (codes "ticks") MOST_TICKS) (place_in rows (codes "seed") 0)) o ≡ Some command → AsksAllowed command
-    by_first None e = absurd cc
-    by_first (Some first) e =
-        let same : Simulate (policy_by first (count_in rows (codes "two") MOST_SLICE)) (count_in rows (codes "ticks") MOST_TICKS) (place_in rows (codes "seed") 0) ≡ command = cc in
-        subst AsksAllowed same (policy_allowed rows (codes "two") first, ticks_allowed rows (codes "ticks"))
-
--- a command that is given, and does not end before it begins
-kept : (o : Option Command) (command : Command) → option_and_then unless_backward o ≡ Some command → (o ≡ Some command) × (backward command ≡ None)
+-- a command that is given, in which all goes together
+kept : (o : Option Command) (command : Command) → option_and_then unless_clashing o ≡ Some command → (o ≡ Some command) × (clash_in command ≡ None)
 kept None command e = absurd cc
-kept (Some given) command e = by_part (backward given) refl e
+kept (Some given) command e = by_clash (clash_in given) refl e
   where
-    by_part : (part : Option (ℕ × ℕ)) → backward given ≡ part → cond (is_some part) None (Some given) ≡ Some command → (Some given ≡ Some command) × (backward command ≡ None)
-    by_part (Some ends) is e = absurd cc
-    by_part None is e = let same : given ≡ command = cc in (e, ap backward (sym same) ∙ is)
+    by_clash : (clash : Option Clash) → clash_in given ≡ clash → cond (is_some clash) None (Some given) ≡ Some command → (Some given ≡ Some command) × (clash_in command ≡ None)
+    by_clash (Some clash) is e = absurd cc
+    by_clash None is e = let same : given ≡ command = cc in (e, ap clash_in (sym same) ∙ is)
 
 report_allowed : (rows : List Row) (command : Command) → option_map Report (option_and_then (count_of MOST_LINES) (one_of (codes "last") rows)) ≡ Some command → AsksAllowed command
 report_allowed rows command e = by_count (option_and_then (count_of MOST_LINES) (one_of (codes "last") rows)) refl e
@@ -166,25 +174,27 @@ report_allowed rows command e = by_count (option_and_then (count_of MOST_LINES) 
     by_count (Some n) is e = let report : Report n ≡ command = cc in subst AsksAllowed report (counted MOST_LINES (one_of (codes "last") rows) n is)
 
 -- a command that is given is in its range
-given_allowed : (given : Text × List Row) (command : Command) → command_given given ≡ Some command → backward command ≡ None → AsksAllowed command
-given_allowed given command is forward = by_name (bytes_eq given.0 (codes "run")) (bytes_eq given.0 (codes "explain")) (bytes_eq given.0 (codes "report")) (bytes_eq given.0 (codes "journal")) (bytes_eq given.0 (codes "timeline")) (bytes_eq given.0 (codes "timehist")) (bytes_eq given.0 (codes "latency")) (bytes_eq given.0 (codes "trace")) (bytes_eq given.0 (codes "serve")) (bytes_eq given.0 (codes "simulate")) (bytes_eq given.0 (codes "threads")) is
+given_allowed : (given : Text × List Row) (command : Command) → command_given given ≡ Some command → clash_in command ≡ None → AsksAllowed command
+given_allowed given command is alone = by_name (bytes_eq given.0 (codes "run")) (bytes_eq given.0 (codes "explain")) (bytes_eq given.0 (codes "report")) (bytes_eq given.0 (codes "journal")) (bytes_eq given.0 (codes "timeline")) (bytes_eq given.0 (codes "timehist")) (bytes_eq given.0 (codes "latency")) (bytes_eq given.0 (codes "trace")) (bytes_eq given.0 (codes "serve")) (bytes_eq given.0 (codes "simulate")) (bytes_eq given.0 (codes "compare")) (bytes_eq given.0 (codes "threads")) is
   where
-    by_name : (run explain report journal timeline timehist latency trace serve simulate threads : Bool)
+    by_name : (run explain report journal timeline timehist latency trace serve simulate compare threads : Bool)
         → cond run (Some Run) (cond explain (option_map Explain (option_and_then flag_of (one_of (codes "json") given.1))) (cond report (option_map Report (option_and_then (count_of MOST_LINES) (one_of (codes "last") given.1)))
         (cond journal (option_map Journal (option_and_then flag_of (one_of (codes "json") given.1)))
-        (cond timeline (timeline_given given.1) (cond timehist (option_map Timehist (option_and_then flag_of (one_of (codes "json") given.1))) (cond latency (latency_given given.1) (cond trace (Some Trace) (cond serve (Some Serve) (cond simulate (simulate_given given.1) (cond threads (threads_given given.1) None)))))))))) ≡ Some command → AsksAllowed command
-    by_name true explain report journal timeline timehist latency trace serve simulate threads e = let same : Run ≡ command = cc in subst AsksAllowed same tt
-    by_name false true report journal timeline timehist latency trace serve simulate threads e = explain_allowed _ command e
-    by_name false false true journal timeline timehist latency trace serve simulate threads e = report_allowed given.1 command e
-    by_name false false false true timeline timehist latency trace serve simulate threads e = journal_allowed _ command e
-    by_name false false false false true timehist latency trace serve simulate threads e = timeline_allowed _ _ _ _ command e forward
-    by_name false false false false false true latency trace serve simulate threads e = timehist_allowed _ command e
-    by_name false false false false false false true trace serve simulate threads e = latency_allowed _ _ command e
-    by_name false false false false false false false true serve simulate threads e = let same : Trace ≡ command = cc in subst AsksAllowed same tt
-    by_name false false false false false false false false true simulate threads e = let same : Serve ≡ command = cc in subst AsksAllowed same tt
-    by_name false false false false false false false false false true threads e = simulate_allowed given.1 command e
-    by_name false false false false false false false false false false true e = threads_allowed given.1 command e
-    by_name false false false false false false false false false false false e = absurd cc
+        (cond timeline (timeline_given given.1) (cond timehist (option_map Timehist (option_and_then flag_of (one_of (codes "json") given.1))) (cond latency (latency_given given.1) (cond trace (Some Trace)
+        (cond serve (option_map Serve (option_and_then flag_of (one_of (codes "explain") given.1))) (cond simulate (Some (Simulate (ticks_in given.1))) (cond compare (compare_given given.1) (cond threads (threads_given given.1) None))))))))))) ≡ Some command → AsksAllowed command
+    by_name true explain report journal timeline timehist latency trace serve simulate compare threads e = let same : Run ≡ command = cc in subst AsksAllowed same tt
+    by_name false true report journal timeline timehist latency trace serve simulate compare threads e = explain_allowed _ command e
+    by_name false false true journal timeline timehist latency trace serve simulate compare threads e = report_allowed given.1 command e
+    by_name false false false true timeline timehist latency trace serve simulate compare threads e = journal_allowed _ command e
+    by_name false false false false true timehist latency trace serve simulate compare threads e = timeline_allowed _ _ _ _ command e alone
+    by_name false false false false false true latency trace serve simulate compare threads e = timehist_allowed _ command e
+    by_name false false false false false false true trace serve simulate compare threads e = latency_allowed _ _ command e
+    by_name false false false false false false false true serve simulate compare threads e = let same : Trace ≡ command = cc in subst AsksAllowed same tt
+    by_name false false false false false false false false true simulate compare threads e = serve_allowed _ command e
+    by_name false false false false false false false false false true compare threads e = simulate_allowed given.1 command e
+    by_name false false false false false false false false false false true threads e = compare_allowed given.1 _ _ command e alone
+    by_name false false false false false false false false false false false true e = threads_allowed given.1 command e
+    by_name false false false false false false false false false false false false e = absurd cc
 
 pub in_range : (given : Option (Text × List Row)) (command : Command) → command_from given ≡ Some command → AsksAllowed command
 in_range None command is = absurd cc
@@ -192,21 +202,34 @@ in_range (Some given) command is = let met = kept (command_given given) command 
 
 -- ---- the number that is read of a text
 
+number_spelled : {E : Type 0} (G : Text → Result ℕ E → Type 0) (t : Text) (r : Option ℕ) → ((u : Text) (x : Result ℕ E) → G u x → ParsesUnsigned 64 10 u x) → ReadsOne G t r → r ≡ number_of t
+number_spelled G t (Some n) only read =
+    let parsed = only t (Ok n) read in
+    let fits : is_unsigned_in 0 18446744073709551615 t ≡ true = Accepts-accepts false (vp.Unsigned 0 18446744073709551615) t (parsed.0.0, parsed.0.1, omega arith, omega (arith, parsed.0.1)) in
+    rw fits (ap Some parsed.1)
+number_spelled G t None only read = by_number (is_unsigned_in 0 18446744073709551615 t) refl
+  where
+    by_number : (b : Bool) → is_unsigned_in 0 18446744073709551615 t ≡ b → None ≡ cond b (Some (digits_value 10 (without_leading_plus t))) None
+    by_number true is = let fits = accepts-Accepts false (vp.Unsigned 0 18446744073709551615) t is in absurd (only t (Err read.0) read.1 (fits.0, fits.1))
+    by_number false is = refl
+
 pub number_read : {E : Type 0} (G : Text → Result ℕ E → Type 0) (text : Option Text) (r : Option ℕ) → ((t : Text) (x : Result ℕ E) → G t x → ParsesUnsigned 64 10 t x)
     → (text ≡ None → r ≡ None) → ((t : Text) → text ≡ Some t → ReadsOne G t r) → r ≡ option_and_then number_of text
 number_read G None r only none some = none refl
-number_read {E} G (Some t) r only none some = by_read r (some t refl)
-  where
-    by_read : (o : Option ℕ) → ReadsOne G t o → o ≡ number_of t
-    by_read (Some n) read =
-        let parsed = only t (Ok n) read in
-        let fits : is_unsigned_in 0 18446744073709551615 t ≡ true = Accepts-accepts false (vp.Unsigned 0 18446744073709551615) t (parsed.0.0, parsed.0.1, omega arith, omega (arith, parsed.0.1)) in
-        rw fits (ap Some parsed.1)
-    by_read None read = by_number (is_unsigned_in 0 18446744073709551615 t) refl
-      where
-        by_number : (b : Bool) → is_unsigned_in 0 18446744073709551615 t ≡ b → None ≡ cond b (Some (digits_value 10 (without_leading_plus t))) None
-        by_number true is = let fits = accepts-Accepts false (vp.Unsigned 0 18446744073709551615) t is in absurd (only t (Err read.0) read.1 (fits.0, fits.1))
-        by_number false is = refl
+number_read {E} G (Some t) r only none some = number_spelled G t r only (some t refl)
+
+pub number_parsed : {E : Type 0} (t : Text) (r : Result ℕ E) → ParsesUnsigned 64 10 t r → result_ok r ≡ number_of t
+number_parsed {E} t (Ok n) parses = number_spelled {E = E} (λ u x. ParsesUnsigned 64 10 u x) t (Some n) (λ u x h. h) parses
+number_parsed {E} t (Err e) parses = number_spelled {E = E} (λ u x. ParsesUnsigned 64 10 u x) t None (λ u x h. h) (e, parses)
+
+-- ---- the numbers that are read of texts, one more
+
+pub numbers_more : {A : Type 0} (f : A → Text) (words : List A) (i : ℕ) (d : A) → i < length words
+    → filter_map number_of (map f (take (i + 1) words)) ≡ filter_map number_of (map f (take i words)) ++ cons_option (number_of (f (get_or words i d))) []
+numbers_more f words i d lt =
+    ap (λ some. filter_map number_of (map f some)) (take_more words i d lt)
+    ∙ ap (filter_map number_of) (map-append f (take i words) (get_or words i d ∷ []))
+    ∙ filter_map-append number_of (map f (take i words)) (f (get_or words i d) ∷ [])
 
 -- ---- the flag that is read of a text
 

@@ -1,17 +1,17 @@
 -- The arguments of the program.
-use Rattle.std.specs.Prelude.{◌≤◌, ⊤, ℕ, List, [], ◌∷◌, Bool, true, false, Option, None, Some, codes, bytes_eq, decimal, IfSome, if◌then◌else◌, is_some, nat_le, nat_lt, ◌&&◌, option_and_then, option_map, unwrap_or}
+use Rattle.std.specs.Prelude.{◌≡◌, ◌≤◌, ⊤, ℕ, List, [], ◌∷◌, Bool, true, false, Option, None, Some, codes, bytes_eq, decimal, IfSome, if◌then◌else◌, is_some, nat_le, nat_lt, ◌&&◌, filter_map, option_and_then, option_map, unwrap_or}
 use Rattle.std.specs.Str.Parse.{digits_value, without_leading_plus}
 use Rattle.clap.specs.ValueTests.{is_unsigned_in}
-use Rattle.clap.specs.Words.{App, Row, Rule, Text, first_of, new_app, new_rule, one_of, subcommand_of, with_rule, with_subcommand}
-use Rattle.clap.specs.declared.builder.action.ArgAction.TheVariants.{SetTrue}
+use Rattle.clap.specs.Words.{App, Row, Rule, Text, all_of, first_of, new_app, new_rule, one_of, subcommand_of, with_rule, with_subcommand}
+use Rattle.clap.specs.declared.builder.action.ArgAction.TheVariants.{Append, SetTrue}
 use Rattle.clap.specs.declared.builder.value_parser.ValueParser.TheVariants as vp
-use Rattle.gs_arguments.specs.declared.arguments.Command.{Command}
-use Rattle.gs_arguments.specs.declared.arguments.Command.TheVariants.{Run, Explain, Report, Journal, Timeline, Timehist, Latency, Trace, Serve, Simulate, Threads}
-use Rattle.gs_arguments.specs.declared.arguments.Listed.{Listed}
-use Rattle.gs_arguments.specs.declared.arguments.Listed.TheVariants.{All, Few, Most, One}
-use Rattle.gs_arguments.specs.declared.arguments.TheConstants.{DEFAULT_LINES, LEAST_COUNT, LEAST_LINES, MOST_EACH, MOST_LINES, MOST_SLICE, MOST_TICKS, MOST_WORKERS}
-use Rattle.gs_arguments.specs.declared.arguments.PolicyAsked.{PolicyAsked}
-use Rattle.gs_arguments.specs.declared.arguments.PolicyAsked.TheVariants.{Own, First, Two}
+use Rattle.gs_arguments.specs.declared.command.Command.{Command}
+use Rattle.gs_arguments.specs.declared.command.Command.TheVariants.{Run, Explain, Report, Journal, Timeline, Timehist, Latency, Trace, Serve, Simulate, Compare, Threads}
+use Rattle.gs_arguments.specs.declared.command.Listed.{Listed}
+use Rattle.gs_arguments.specs.declared.command.Listed.TheVariants.{All, Few, Most, One}
+use Rattle.gs_arguments.specs.declared.command.TheConstants.{DEFAULT_LINES, LEAST_COUNT, LEAST_LINES, MOST_EACH, MOST_LINES, MOST_TICKS, MOST_WORKERS}
+use Rattle.gs_arguments.specs.declared.values.Clash.{Clash}
+use Rattle.gs_arguments.specs.declared.values.Clash.TheVariants.{Backward, TwoForms}
 
 -- a program without arguments of its own: its version, and the commands, of which one is to be given
 abbrev pub ghost_alone : App
@@ -66,21 +66,33 @@ timehist_alone = reads_script (with_rule (new_app (codes "timehist")) (flag_rule
 abbrev pub latency_alone : App
 latency_alone = reads_script (with_rule (with_rule (new_app (codes "latency")) (flag_rule (codes "json"))) (flag_rule (codes "threads")))
 
--- a command that takes no argument
+-- a command that reads no file
 abbrev pub serve_alone : App
-serve_alone = new_app (codes "serve")
+serve_alone = with_rule (new_app (codes "serve")) (flag_rule (codes "explain"))
 
--- an option that may be given: a number from 1 to this
-abbrev pub range_rule : Text → ℕ → Rule
-range_rule name most = record (new_rule name) { long = Some name; value_names = 1; parser = Some (vp.Unsigned LEAST_COUNT most) }
+-- an option that may be given: how many ticks there are
+abbrev pub ticks_rule : Rule
+ticks_rule = record (new_rule (codes "ticks")) { long = Some (codes "ticks"); value_names = 1; parser = Some (vp.Unsigned LEAST_COUNT MOST_TICKS) }
 
--- a simulation's command, with what says which policy it has
-abbrev pub simulate_under_policy : App
-simulate_under_policy = with_rule (with_rule (new_app (codes "simulate")) (flag_rule (codes "first"))) (range_rule (codes "two") MOST_SLICE)
+-- and a policy, by its words
+abbrev pub policy_rule : Rule
+policy_rule = record (new_rule (codes "policy")) { long = Some (codes "policy"); value_names = 1 }
 
--- and with how many ticks there are, what numbers are drawn by, and the workload
+-- one that may be given more than once
+abbrev pub repeated : Rule → Rule
+repeated rule = record rule { action = Some Append }
+
+-- a simulation's command: which policy it has, how many ticks there are, what numbers are drawn by, and the workload
 abbrev pub simulate_alone : App
-simulate_alone = reads_script (with_rule (with_rule simulate_under_policy (range_rule (codes "ticks") MOST_TICKS)) (place_rule (codes "seed")))
+simulate_alone = reads_script (with_rule (with_rule (with_rule (new_app (codes "simulate")) policy_rule) ticks_rule) (place_rule (codes "seed")))
+
+-- a comparison's command, with what says what is compared: policies, ticks and seeds
+abbrev pub compare_runs : App
+compare_runs = with_rule (with_rule (with_rule (new_app (codes "compare")) (repeated policy_rule)) ticks_rule) (repeated (place_rule (codes "seed")))
+
+-- and with how the table is written, and the workload
+abbrev pub compare_alone : App
+compare_alone = reads_script (with_rule (with_rule compare_runs (flag_rule (codes "json"))) (flag_rule (codes "csv")))
 
 -- an option that has to be given: a count, of which this is the most
 abbrev pub count_rule : Text → ℕ → Rule
@@ -91,7 +103,7 @@ threads_alone = with_rule (with_rule (with_rule (new_app (codes "threads")) (cou
 
 abbrev pub ghost_program : App
 ghost_program =
-    with_subcommand (with_subcommand (with_subcommand (with_subcommand (with_subcommand (with_subcommand (with_subcommand (with_subcommand (with_subcommand (with_subcommand (with_subcommand ghost_alone run_alone.top) explain_alone.top) report_alone.top) journal_alone.top) timeline_alone.top) timehist_alone.top) latency_alone.top) trace_alone.top) serve_alone.top) simulate_alone.top) threads_alone.top
+    with_subcommand (with_subcommand (with_subcommand (with_subcommand (with_subcommand (with_subcommand (with_subcommand (with_subcommand (with_subcommand (with_subcommand (with_subcommand (with_subcommand ghost_alone run_alone.top) explain_alone.top) report_alone.top) journal_alone.top) timeline_alone.top) timehist_alone.top) latency_alone.top) trace_alone.top) serve_alone.top) simulate_alone.top) compare_alone.top) threads_alone.top
 
 -- the number that a text spells in decimal digits, of those that 64 bits hold
 abbrev pub number_of : Text → Option ℕ
@@ -133,16 +145,13 @@ latency_given rows = option_and_then (λ json. option_map (λ threads. Latency j
 abbrev pub count_in : List Row → Text → ℕ → Option ℕ
 count_in rows name most = option_and_then (count_of most) (one_of name rows)
 
--- the policy that is asked for: `first`, `two` with this slice, or that of the workload
-abbrev pub policy_by : Bool → Option ℕ → PolicyAsked
-policy_by true slice = First
-policy_by false (Some slice) = Two slice
-policy_by false None = Own
+-- how many ticks a workload is to be simulated for, if that is said
+abbrev pub ticks_in : List Row → Option ℕ
+ticks_in rows = count_in rows (codes "ticks") MOST_TICKS
 
--- `simulate`, with the values that were given to it
-abbrev pub simulate_given : List Row → Option Command
-simulate_given rows =
-    option_map (λ first. Simulate (policy_by first (count_in rows (codes "two") MOST_SLICE)) (count_in rows (codes "ticks") MOST_TICKS) (place_in rows (codes "seed") 0)) (option_and_then flag_of (one_of (codes "first") rows))
+-- `compare`, with the values that were given to it
+abbrev pub compare_given : List Row → Option Command
+compare_given rows = option_and_then (λ json. option_map (λ csv. Compare (ticks_in rows) json csv) (option_and_then flag_of (one_of (codes "csv") rows))) (option_and_then flag_of (one_of (codes "json") rows))
 
 -- `threads`, with the values that were given to it
 abbrev pub threads_given : List Row → Option Command
@@ -164,23 +173,25 @@ command_given given =
     else if bytes_eq given.0 (codes "timehist") then option_map Timehist (option_and_then flag_of (one_of (codes "json") given.1))
     else if bytes_eq given.0 (codes "latency") then latency_given given.1
     else if bytes_eq given.0 (codes "trace") then Some Trace
-    else if bytes_eq given.0 (codes "serve") then Some Serve
-    else if bytes_eq given.0 (codes "simulate") then simulate_given given.1
+    else if bytes_eq given.0 (codes "serve") then option_map Serve (option_and_then flag_of (one_of (codes "explain") given.1))
+    else if bytes_eq given.0 (codes "simulate") then Some (Simulate (ticks_in given.1))
+    else if bytes_eq given.0 (codes "compare") then compare_given given.1
     else if bytes_eq given.0 (codes "threads") then threads_given given.1
     else None
 
--- the first and the last entry that a picture is to show, if the first is above the last
-abbrev pub backward : Command → Option (ℕ × ℕ)
-backward (Timeline from to listed) = if nat_lt to from then Some (from, to) else None
-backward _ = None
+-- what does not go together in a command: the first entry that a picture is to show is above the last, or a table is to have two forms
+abbrev pub clash_in : Command → Option Clash
+clash_in (Timeline from to listed) = if nat_lt to from then Some (Backward from to) else None
+clash_in (Compare ticks true true) = Some TwoForms
+clash_in _ = None
 
--- a command, unless its picture is to end before it begins
-abbrev pub unless_backward : Command → Option Command
-unless_backward command = if is_some (backward command) then None else Some command
+-- a command, unless something in it does not go together
+abbrev pub unless_clashing : Command → Option Command
+unless_clashing command = if is_some (clash_in command) then None else Some command
 
 -- the command of what was given, if something was
 abbrev pub command_from : Option (Text × List Row) → Option Command
-command_from given = option_and_then unless_backward (option_and_then command_given given)
+command_from given = option_and_then unless_clashing (option_and_then command_given given)
 
 -- the command that the words of a command line give, of which the first is the program's name
 abbrev pub command_in : List Text → Option Command
@@ -198,13 +209,34 @@ file_from given = option_and_then unless_standard (option_and_then (λ given. fi
 abbrev pub file_in : List Text → Option Text
 file_in words = file_from (subcommand_of ghost_program words)
 
--- a slice is as long as it may be
-abbrev pub IsAllowedPolicy : PolicyAsked → Type 0
-IsAllowedPolicy Own = ⊤
-IsAllowedPolicy First = ⊤
-IsAllowedPolicy (Two slice) = (LEAST_COUNT ≤ slice) × (slice ≤ MOST_SLICE)
+-- the words that an option is given, in order
+abbrev pub words_in : List Row → Text → List Text
+words_in rows name = unwrap_or (all_of name rows) []
 
--- a report shows as many lines as it may, a picture does not end before it begins, and there are as many ticks, workers and creations as there may be
+-- what `--policy` says of what was given, in order
+abbrev pub policies_from : Option (Text × List Row) → List Text
+policies_from None = []
+policies_from (Some given) = words_in given.1 (codes "policy")
+
+-- what `--policy` says in the words of a command line
+abbrev pub policies_in : List Text → List Text
+policies_in words = policies_from (subcommand_of ghost_program words)
+
+-- what `--seed` says of what was given, in order
+abbrev pub seeds_from : Option (Text × List Row) → List ℕ
+seeds_from None = []
+seeds_from (Some given) = filter_map number_of (words_in given.1 (codes "seed"))
+
+-- what `--seed` says in the words of a command line
+abbrev pub seeds_in : List Text → List ℕ
+seeds_in words = seeds_from (subcommand_of ghost_program words)
+
+-- there are as many ticks as there may be, if that is said
+abbrev pub AreAllowedTicks : Option ℕ → Type 0
+AreAllowedTicks ticks = IfSome ticks (λ n. (LEAST_COUNT ≤ n) × (n ≤ MOST_TICKS))
+
+-- a report shows as many lines as it may, a picture does not end before it begins, a table has one form, and there are as many ticks, workers and
+-- creations as there may be
 abbrev pub AsksAllowed : Command → Type 0
 AsksAllowed Run = ⊤
 AsksAllowed (Explain json) = ⊤
@@ -213,7 +245,8 @@ AsksAllowed (Timeline from to listed) = from ≤ to
 AsksAllowed (Timehist json) = ⊤
 AsksAllowed (Latency json threads) = ⊤
 AsksAllowed Trace = ⊤
-AsksAllowed Serve = ⊤
-AsksAllowed (Simulate policy ticks seed) = IsAllowedPolicy policy × IfSome ticks (λ n. (LEAST_COUNT ≤ n) × (n ≤ MOST_TICKS))
+AsksAllowed (Serve explained) = ⊤
+AsksAllowed (Simulate ticks) = AreAllowedTicks ticks
+AsksAllowed (Compare ticks json csv) = AreAllowedTicks ticks × ((json && csv) ≡ false)
 AsksAllowed (Report last) = (LEAST_LINES ≤ last) × (last ≤ MOST_LINES)
 AsksAllowed (Threads workers each journal) = (LEAST_COUNT ≤ workers) × (workers ≤ MOST_WORKERS) × (LEAST_COUNT ≤ each) × (each ≤ MOST_EACH)

@@ -1,9 +1,14 @@
 //! The program's command line: which command its arguments give.
 #![tactic(auto)]
 
-mod arguments;
+mod asking;
+mod command;
+mod options;
+mod program;
+mod values;
 
-pub use arguments::{
+pub use asking::settings;
+pub use command::{
     Asked, Command, DEFAULT_LINES, LEAST_COUNT, LEAST_LINES, Listed, MOST_EACH, MOST_LINES,
-    MOST_SLICE, MOST_TICKS, MOST_WORKERS, PolicyAsked, settings,
+    MOST_TICKS, MOST_WORKERS,
 };

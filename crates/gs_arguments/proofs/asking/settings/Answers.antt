@@ -5,11 +5,11 @@ use Rattle.clap.specs.declared.error.Error.{Error}
 use Rattle.clap.specs.declared.error.kind.ErrorKind.{ErrorKind}
 use Rattle.clap.specs.Faults.{fault_of, is_simple_and_free}
 use Rattle.clap.specs.declared.error.kind.ErrorKind.TheVariants.{OutOfMemory, MissingSubcommand, ValueValidation}
-use Rattle.gs_arguments.specs.declared.arguments.Command.TheVariants.{Run, Report, Journal}
-use Rattle.gs_arguments.specs.Arguments.{ghost_program, command_from, command_in, file_from}
+use Rattle.gs_arguments.specs.declared.command.Command.TheVariants.{Run, Report, Journal}
+use Rattle.gs_arguments.specs.Arguments.{ghost_program, command_from, command_in, file_from, policies_from, seeds_from}
 use Rattle.gs_arguments.proofs.Given.{run_taken, report_taken, journal_taken, run_is_run, report_is_ten, journal_is_lines, ghost_is_simple, ghost_is_free, in_range}
-use Rattle.gs_arguments.proofs.arguments.settings.Goals as goal
-use Rattle.gs_arguments.proofs.arguments.settings.Goals.{In_err-matches, In_ok-matches}
+use Rattle.gs_arguments.proofs.asking.settings.Goals as goal
+use Rattle.gs_arguments.proofs.asking.settings.Goals.{In_err-matches, In_ok-matches}
 
 or_one_more : (k : ErrorKind) (kinds : Kinds) (e : Error) → HasKind kinds e → HasKind (k ∷ kinds) e
 or_one_more k kinds e (inl h) = inl h
@@ -54,23 +54,29 @@ returns-in-Some-clause-faultless g c =
     sym (ap (λ app. fault_of app (map g.S.AsStr.text c.args.words.now)) c.in_ok-command_line.ensures) ∙ c.in_ok-matches.ensures.kinds (ap is_simple_and_free c.in_ok-command_line.ensures ∙ ghost_is_free)
 
 pub returns-in-Some-clause-given : goal.returns-in-Some-clause-given
-returns-in-Some-clause-given g c = sym (c.in-Some.ensures ∙ ap command_from (met g (goal.at.returns-in-Some-clause-given g c).In_ok-matches))
+returns-in-Some-clause-given g c = sym (ap Some c.in_ok-asked_of-in-Some.ensures.command ∙ c.in-Some.ensures ∙ ap command_from (met g (goal.at.returns-in-Some-clause-given g c).In_ok-matches))
 
 pub returns-in-Some-clause-file : goal.returns-in-Some-clause-file
-returns-in-Some-clause-file g c = c.file_of.ensures ∙ ap file_from (met g (goal.at.returns-in-Some-clause-file g c).In_ok-matches)
+returns-in-Some-clause-file g c = c.in_ok-asked_of-in-Some.ensures.file ∙ ap file_from (met g (goal.at.returns-in-Some-clause-file g c).In_ok-matches)
+
+pub returns-in-Some-clause-policies : goal.returns-in-Some-clause-policies
+returns-in-Some-clause-policies g c = c.in_ok-asked_of-in-Some.ensures.policies ∙ ap policies_from (met g (goal.at.returns-in-Some-clause-policies g c).In_ok-matches)
+
+pub returns-in-Some-clause-seeds : goal.returns-in-Some-clause-seeds
+returns-in-Some-clause-seeds g c = c.in_ok-asked_of-in-Some.ensures.seeds ∙ ap seeds_from (met g (goal.at.returns-in-Some-clause-seeds g c).In_ok-matches)
 
 pub returns-in-Some-clause-allowed : goal.returns-in-Some-clause-allowed
 returns-in-Some-clause-allowed g c =
-    in_range (subcommand_of ghost_program (map g.S.AsStr.text c.args.words.now)) c.in-Some.command (returns-in-Some-clause-given g c)
+    in_range (subcommand_of ghost_program (map g.S.AsStr.text c.args.words.now)) c.in_ok-asked_of-in-Some.field-0.command (returns-in-Some-clause-given g c)
 
 pub returns-in-Some-clause-report : goal.returns-in-Some-clause-report
 returns-in-Some-clause-report g c name h =
-    let same : Some c.in-Some.command ≡ Some (Report 10) = sym (returns-in-Some-clause-given g c) ∙ ap command_in h ∙ report_is_ten name in
+    let same : Some c.in_ok-asked_of-in-Some.field-0.command ≡ Some (Report 10) = sym (returns-in-Some-clause-given g c) ∙ ap command_in h ∙ report_is_ten name in
     cc
 
 pub returns-in-Some-clause-journal : goal.returns-in-Some-clause-journal
 returns-in-Some-clause-journal g c name h =
-    let same : Some c.in-Some.command ≡ Some (Journal false) = sym (returns-in-Some-clause-given g c) ∙ ap command_in h ∙ journal_is_lines name in
+    let same : Some c.in_ok-asked_of-in-Some.field-0.command ≡ Some (Journal false) = sym (returns-in-Some-clause-given g c) ∙ ap command_in h ∙ journal_is_lines name in
     cc
 
 pub returns-clause-journal : goal.returns-clause-journal
@@ -101,7 +107,7 @@ returns-in_err-matches-clause-answered g c none command is =
 
 pub returns-in-Some-clause-answered : goal.returns-in-Some-clause-answered
 returns-in-Some-clause-answered g c none command is =
-    let same : Some c.in-Some.command ≡ Some command = sym (returns-in-Some-clause-given g c) ∙ is in
+    let same : Some c.in_ok-asked_of-in-Some.field-0.command ≡ Some command = sym (returns-in-Some-clause-given g c) ∙ is in
     cc
 
 pub returns-clause-answered : goal.returns-clause-answered

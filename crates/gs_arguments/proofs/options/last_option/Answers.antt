@@ -2,7 +2,7 @@ use Rattle.std.proofs.Common.{rules, ◌≡◌, ◌∙◌, [], ◌∷◌, ap, co
 use Rattle.clap.specs.Words.{Rule, Text, rule_of}
 use Rattle.gs_arguments.specs.Arguments.{last_rule}
 use Rattle.gs_arguments.proofs.Given.{default_word}
-use Rattle.gs_arguments.proofs.arguments.last_option.Goals as goal
+use Rattle.gs_arguments.proofs.options.last_option.Goals as goal
 
 -- the rule with this word as its default
 abbrev with_default_word : Text → Rule

@@ -5,7 +5,7 @@ use Rattle.clap.specs.Words.{found_of, one_text}
 use Rattle.clap.proofs.WalkLemmas.{one_text-rows}
 use Rattle.gs_arguments.specs.Arguments.{flag_of}
 use Rattle.gs_arguments.proofs.Given.{flag_read}
-use Rattle.gs_arguments.proofs.arguments.flag_in.Goals as goal
+use Rattle.gs_arguments.proofs.values.flag_in.Goals as goal
 
 pub returns : goal.returns
 returns c =
