@@ -30,7 +30,7 @@ fn says_malformed() -> bool {
     };
     let mut sentence = Sentence::new();
     put_landed(&mut sentence, &landed);
-    sentence.as_bytes() == b"the slot of CPU 3 is malformed"
+    sentence.as_bytes() == "the slot of CPU 3 is malformed".as_bytes()
 }
 
 /// Returns whether it is said of an event that memory ran out.
@@ -51,7 +51,7 @@ fn says_out_of_memory() -> bool {
     };
     let mut sentence = Sentence::new();
     put_refused(&mut sentence, &refused);
-    sentence.as_bytes() == b"out of memory"
+    sentence.as_bytes() == "out of memory".as_bytes()
 }
 
 #[test]
