@@ -30,7 +30,8 @@ pub record IsRun (m : Measured) : Type 0 where
   pub heard : IsHeardWith text session landings
   pub measured : IsMeasured landings (cpus_of session) (history_of session) m
 
--- a policy was tried by each of these seeds
+-- a column is called by this policy, and has what was measured of a simulation for each of these seeds. Nothing is said here of the policy, the seed and the workload of
+-- that simulation, which no contract of a simulation tells
 abbrev pub IsTried : List ℕ → AnyPolicy → Column → Type 0
 IsTried seeds p c = (c.policy ≡ p) × AllZip (λ (seed : ℕ) (m : Measured). IsRun m) seeds c.runs.items
 
@@ -56,7 +57,7 @@ pub record IsTable (form : Form) (seeds : ℕ) (policies : List AnyPolicy) (colu
   pub are : AreRows columns rows
   pub is : out ≡ table_of form seeds policies rows
 
--- a text is the table of policies that were tried by seeds
+-- a text is the table of such columns, one for each policy
 pub record Compares (form : Form) (policies : List AnyPolicy) (seeds : List ℕ) (out : List ℕ) : Type 0 where
   pub columns : List Column
   pub tried : AllZip (IsTried seeds) policies columns

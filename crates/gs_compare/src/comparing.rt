@@ -227,7 +227,8 @@ fn answer<P: Progress>(
 }
 
 /// Reads a workload, which is TOML, to its end, or until it is too long. Simulates it under each policy by each seed, and writes
-/// a table of what was measured. What tells of the progress is told of each simulation before it begins.
+/// a table of what was measured. What tells of the progress is told of each simulation before it begins. That a simulation has
+/// the policy, the seed and the workload of its column is in no clause, and is tested: each case is computed once more.
 ///
 /// The reads end at the first that gives no byte, and are at most 1,048,578. At most [`MOST_READ_BYTES`] are read.
 ///
