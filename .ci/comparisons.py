@@ -96,12 +96,14 @@ def columns(*cells):
 
 
 def as_lines(rows):
-    """The table as columns: one for each policy, or three if there are several seeds."""
+    """The table as columns: one for each policy, as wide as its name, or three if there are several seeds."""
     policies = list(dict.fromkeys(row[0] for row in rows))
     several = rows[0][3] > 1
     shown = lambda value: "-" if value is None else str(value)
-    cells = {row[:3]: [(12, shown(value)) for value in ((row[5], row[4], row[6]) if several else row[5:6])] for row in rows}
-    text = columns((5, "class"), (12, "measure"), *[(38 if several else 12, policy) for policy in policies])
+    places = {policy: 38 if several else min(max(12, len(policy)), 38) for policy in policies}
+    of_row = lambda row: [(12, shown(value)) for value in (row[5], row[4], row[6])] if several else [(places[row[0]], shown(row[5]))]
+    cells = {row[:3]: of_row(row) for row in rows}
+    text = columns((5, "class"), (12, "measure"), *[(places[policy], policy) for policy in policies])
     if several:
         text += columns((5, ""), (12, ""), *[(12, name) for _ in policies for name in ("median", "least", "most")])
     for number, name in dict.fromkeys(row[1:3] for row in rows):

@@ -75,7 +75,7 @@ pub(crate) fn policy_option<'a>(alloc: Global) -> clap::Arg<'a>
     clap::Arg::new(alloc, "policy")
         .long("policy")
         .value_name("P")
-        .help("Its policy, by the words of a header: `first` or `two S`")
+        .help("Its policy, by the words that name it in a header, as `two 4`")
 }
 
 /// The option `--policy P` of `compare`, which may be given more than once.
@@ -84,7 +84,7 @@ pub(crate) fn policies_option<'a>(alloc: Global) -> clap::Arg<'a>
     ensures local { result.global ≡ false }
 {
     policy_option(alloc)
-        .help("A policy, by the words of a header: `first` or `two S`. There may be several")
+        .help("A policy, by the words that name it in a header, as `two 4`. There may be several")
         .action(ArgAction::Append)
 }
 

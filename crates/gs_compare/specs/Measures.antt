@@ -1,6 +1,6 @@
 -- What is measured of a run.
 use Rattle.std.specs.Prelude.{◌≡◌, ℕ, ◌==◌, ◌&&◌, Bool, true, false, if◌then◌else◌, Option, None, Some, List, [], codes, get_or, length, map}
-use Rattle.std.specs.List.{AllZip, count_by, filter, range_with_len, sum_by}
+use Rattle.std.specs.List.{AllZip, count_by, filter, range_with_len}
 use Rattle.std.specs.Option.{option_map}
 use Rattle.gs_layout.specs.declared.facts.Class.{Class}
 use Rattle.gs_layout.specs.declared.facts.Class.TheVariants.{Zero, One}
@@ -9,13 +9,11 @@ use Rattle.gs_layout.specs.declared.outcome.Outcome.TheVariants as outcomes
 use Rattle.gs_layout.specs.Outcome.{outcome_number}
 use Rattle.gs_journal.specs.History.{History}
 use Rattle.gs_kernel.specs.declared.landing.Landing.{Landing}
-use Rattle.gs_policy.specs.declared.any.AnyPolicy.{AnyPolicy}
 use Rattle.gs_core.specs.Machine.{StateOf}
 use Rattle.gs_session.specs.Session.{Session}
 use Rattle.gs_timeline.specs.declared.ending.Ending.{Ending}
 use Rattle.gs_timeline.specs.declared.ending.Ending.TheVariants.{Blocked, Yielded, Died}
 use Rattle.gs_turns.specs.Knowing.{AreKnown}
-use Rattle.gs_turns.specs.Times.{in_word}
 use Rattle.gs_turns.specs.Turns.{IsTurns}
 use Rattle.gs_turns.specs.declared.stance.Known.{Known}
 use Rattle.gs_turns.specs.declared.turn.Turn.{Turn}
@@ -30,7 +28,7 @@ use Rattle.gs_compare.specs.declared.measure.Measure.{Measure}
 use Rattle.gs_compare.specs.declared.measure.Measure.TheVariants.{Bursts, WaitedHalf, WaitedNinety, WaitedNinetyNine, WaitedMost, Ran, Preempted, Migrated, Stale, Displaced, WorstShare, IdleWanted}
 use Rattle.gs_compare.specs.declared.measured.Measured.{Measured}
 use Rattle.gs_compare.specs.declared.measured.Measures.{Measures}
-use Rattle.gs_compare.specs.Shares.{worst_share}
+use Rattle.gs_compare.specs.Shares.{total_of, worst_share}
 
 -- what a measure is called
 abbrev pub measure_text : Measure → List ℕ
@@ -96,7 +94,7 @@ abbrev pub wanted_ticks : Usage → ℕ
 wanted_ticks u = u.wanted.ticks
 
 abbrev pub idle_wanted : List Usage → ℕ
-idle_wanted usages = in_word (sum_by wanted_ticks usages)
+idle_wanted usages = total_of (map wanted_ticks usages)
 
 -- this is measured of turns and landings, by what is known of each thread, and by what CPUs were used for
 pub record Weighs (known : List Known) (turns : List Turn) (landings : List Landing) (usages : List Usage) (m : Measured) : Type 0 where
@@ -117,18 +115,18 @@ pub record IsMeasured (landings : List Landing) (cpus : ℕ) (h : History) (m : 
   pub weighs : Weighs known turns landings (map (usage_of h) (range_with_len 0 cpus)) m
 
 -- what happened in a session, and on how many CPUs: nothing, if no header was heard
-abbrev pub history_in : Option (StateOf AnyPolicy) → History
+abbrev pub history_in : {A : Type 0} → Option (StateOf A) → History
 history_in None = []
 history_in (Some m) = m.history
 
-abbrev pub cpus_in : Option (StateOf AnyPolicy) → ℕ
+abbrev pub cpus_in : {A : Type 0} → Option (StateOf A) → ℕ
 cpus_in None = 0
 cpus_in (Some m) = m.settings.cpus
 
-abbrev pub history_of : Session → History
+abbrev pub history_of : {A : Type 0} → Session A → History
 history_of s = history_in s.opened
 
-abbrev pub cpus_of : Session → ℕ
+abbrev pub cpus_of : {A : Type 0} → Session A → ℕ
 cpus_of s = cpus_in s.opened
 
 -- one of the measures of a class. Of no waits there is no percentile

@@ -6,7 +6,7 @@ use Rattle.serde_json.specs.Written.{compact_text}
 use Rattle.gs_layout.specs.declared.facts.Class.{Class}
 use Rattle.gs_layout.specs.declared.facts.Class.TheVariants.{Zero, One}
 use Rattle.gs_lines.specs.Lines.{line}
-use Rattle.gs_simulate.specs.Lines.{policy_words}
+use Rattle.gs_script.specs.Naming.{Naming}
 use Rattle.gs_compare.specs.declared.measure.Key.{Key}
 use Rattle.gs_compare.specs.declared.row.Cell.{Cell}
 use Rattle.gs_compare.specs.declared.row.Row.{Row}
@@ -28,23 +28,23 @@ class_data (Some Zero) = count 0
 class_data (Some One) = count 1
 
 -- what a measure came to under a policy, over so many seeds
-abbrev pub cell_data : ℕ → Key → Cell → Data
-cell_data seeds key c =
+abbrev pub cell_data : {A : Type 0} → Naming A → ℕ → Key → Cell A → Data
+cell_data naming seeds key c =
     object (
     member (codes "class") (class_data key.class) (
     member (codes "least") (number_data (least_of c.summary)) (
     member (codes "measure") (string (measure_text key.measure)) (
     member (codes "median") (number_data (median_of c.summary)) (
     member (codes "most") (number_data (most_of c.summary)) (
-    member (codes "policy") (string (policy_words c.policy)) (
+    member (codes "policy") (string (naming.words c.policy)) (
     member (codes "seeds") (count seeds) no_members)))))))
 
-abbrev pub cell_object : ℕ → Key → Cell → List ℕ
-cell_object seeds key c = line (compact_text (cell_data seeds key c))
+abbrev pub cell_object : {A : Type 0} → Naming A → ℕ → Key → Cell A → List ℕ
+cell_object naming seeds key c = line (compact_text (cell_data naming seeds key c))
 
-abbrev pub row_objects : ℕ → Row → List ℕ
-row_objects seeds r = flat_map (cell_object seeds r.key) r.cells.items
+abbrev pub row_objects : {A : Type 0} → Naming A → ℕ → Row A → List ℕ
+row_objects naming seeds r = flat_map (cell_object naming seeds r.key) r.cells.items
 
 -- the whole table
-abbrev pub objects_text : ℕ → List Row → List ℕ
-objects_text seeds rows = flat_map (row_objects seeds) rows
+abbrev pub objects_text : {A : Type 0} → Naming A → ℕ → List (Row A) → List ℕ
+objects_text naming seeds rows = flat_map (row_objects naming seeds) rows

@@ -4,7 +4,7 @@ use Rattle.std.specs.List.{flat_map}
 use Rattle.csv.specs.Writing.{default_writer, row_text}
 use Rattle.gs_layout.specs.declared.facts.Class.{Class}
 use Rattle.gs_layout.specs.declared.facts.Class.TheVariants.{Zero, One}
-use Rattle.gs_simulate.specs.Lines.{policy_words}
+use Rattle.gs_script.specs.Naming.{Naming}
 use Rattle.gs_compare.specs.declared.measure.Key.{Key}
 use Rattle.gs_compare.specs.declared.row.Cell.{Cell}
 use Rattle.gs_compare.specs.declared.row.Row.{Row}
@@ -29,16 +29,16 @@ number_field None = []
 number_field (Some n) = decimal n
 
 -- what a measure came to under a policy, over so many seeds
-abbrev pub cell_fields : ℕ → Key → Cell → List (List ℕ)
-cell_fields seeds key c =
-    policy_words c.policy ∷ class_field key.class ∷ measure_text key.measure ∷ decimal seeds ∷ number_field (median_of c.summary) ∷ number_field (least_of c.summary) ∷ number_field (most_of c.summary) ∷ []
+abbrev pub cell_fields : {A : Type 0} → Naming A → ℕ → Key → Cell A → List (List ℕ)
+cell_fields naming seeds key c =
+    naming.words c.policy ∷ class_field key.class ∷ measure_text key.measure ∷ decimal seeds ∷ number_field (median_of c.summary) ∷ number_field (least_of c.summary) ∷ number_field (most_of c.summary) ∷ []
 
-abbrev pub cell_record : ℕ → Key → Cell → List ℕ
-cell_record seeds key c = record_text (cell_fields seeds key c)
+abbrev pub cell_record : {A : Type 0} → Naming A → ℕ → Key → Cell A → List ℕ
+cell_record naming seeds key c = record_text (cell_fields naming seeds key c)
 
-abbrev pub row_records : ℕ → Row → List ℕ
-row_records seeds r = flat_map (cell_record seeds r.key) r.cells.items
+abbrev pub row_records : {A : Type 0} → Naming A → ℕ → Row A → List ℕ
+row_records naming seeds r = flat_map (cell_record naming seeds r.key) r.cells.items
 
 -- the whole table
-abbrev pub records_text : ℕ → List Row → List ℕ
-records_text seeds rows = record_text header_fields ++ flat_map (row_records seeds) rows
+abbrev pub records_text : {A : Type 0} → Naming A → ℕ → List (Row A) → List ℕ
+records_text naming seeds rows = record_text header_fields ++ flat_map (row_records naming seeds) rows

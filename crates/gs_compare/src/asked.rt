@@ -1,5 +1,3 @@
-use gs_policy::AnyPolicy;
-
 /// How a table is written.
 #[derive(Clone, Copy, PartialEq, Eq, Debug)]
 pub enum Form {
@@ -13,9 +11,10 @@ pub enum Form {
 
 /// How a workload is to be weighed. What is not said here the workload says.
 #[derive(Clone, Copy, PartialEq, Eq, Debug)]
-pub struct Asked<'a> {
-    /// The policies, in the order of the columns. Without any it is that of the workload, or `first`, if it names none.
-    pub policies: &'a [AnyPolicy],
+pub struct Asked<'a, P> {
+    /// The policies, in the order of the columns. Without any it is that of the workload, or that of a header that names
+    /// none.
+    pub policies: &'a [P],
     /// How many ticks there are. Without a number the workload says it.
     pub ticks: Option<u32>,
     /// The seeds by which each policy is tried. Without any it is 0.

@@ -1,15 +1,13 @@
 //! A table of columns.
 
-ghost use Rattle.std.specs.Prelude.{◌≡◌, ◌++◌, IfOk, OnOk};
+ghost use Rattle.std.specs.Prelude.{◌≡◌, ◌≤◌, ◌++◌, IfOk, OnOk, false};
 ghost use Rattle.std.specs.List.{flat_map};
-ghost use Rattle.gs_compare.specs.Columns.{column};
-ghost use Rattle.gs_compare.specs.Lines.{cell_words, key_words, lines_text, names_line, no_key_words, policy_column, row_line, statistics_line, statistics_words, three_words, two_columns};
+ghost use Rattle.gs_compare.specs.Lines.{cell_words, key_words, lines_text, names_line, no_key_words, policy_column, policy_width, row_line, statistics_line, statistics_words, three_words};
 
-use crate::column::{WIDTH, class_word, push_number, push_word};
+use crate::column::{THREE_WIDTH, WIDTH, push_number};
 use crate::row::{Cell, Row};
-use gs_lines::Text;
-use gs_policy::AnyPolicy;
-use gs_simulate::write_policy;
+use gs_lines::{Text, class_word, push_column};
+use gs_script::NamedPolicy;
 use std::alloc::{AllocError, Global};
 
 /// The names of the first two columns.
@@ -21,43 +19,42 @@ const NO_KEY_WORDS: &str = "                   ";
 /// The names of the three columns of a policy.
 const THREE_WORDS: &str = "       median        least         most";
 
-/// Adds two columns of nothing, if there are several seeds.
-fn push_two(out: &mut Text, several: bool) -> Result<(), AllocError>
-    ensures { OnOk result (out.new ≡ out.old ++ two_columns several) }
+/// Returns how many places a policy of this name has: those of one column, which is as wide as the name, or of three, if there are
+/// several seeds.
+fn policy_width(several: bool, name: &str) -> usize
+    ensures value { result ≡ policy_width several name.now }
+    ensures most { result ≤ THREE_WIDTH }
 {
-    if !several {
-        return Ok(());
+    if several {
+        return THREE_WIDTH;
     }
-    push_word(out, WIDTH, "")?;
-    push_word(out, WIDTH, "")
+    name.len().max(WIDTH).min(THREE_WIDTH)
 }
 
-/// Adds the name of a policy, above the last of its columns.
-fn push_policy(
+/// Adds the name of a policy, at the right end of its columns.
+fn push_policy<P: NamedPolicy>(
     alloc: Global,
     out: &mut Text,
     several: bool,
-    policy: AnyPolicy,
+    policy: &P,
 ) -> Result<(), AllocError>
-    ensures { OnOk result (out.new ≡ out.old ++ policy_column several policy) }
+    ensures { OnOk result (out.new ≡ out.old ++ policy_column P.naming several policy.now) }
 {
-    let mut words = Text::new(alloc);
-    write_policy(&mut words, policy)?;
-    push_two(out, several)?;
-    push_word(out, WIDTH, words.as_str())
+    let words = policy.words(alloc)?;
+    push_column(out, policy_width(several, words.as_str()), words.as_str())
 }
 
 /// Adds the names of policies, above their columns.
-fn push_policies(
+fn push_policies<P: NamedPolicy>(
     alloc: Global,
     out: &mut Text,
     several: bool,
-    policies: &[AnyPolicy],
+    policies: &[P],
 ) -> Result<(), AllocError>
-    ensures { OnOk result (out.new ≡ out.old ++ flat_map (policy_column several) policies.now) }
+    ensures { OnOk result (out.new ≡ out.old ++ flat_map (policy_column P.naming several) policies.now) }
 {
     for policy in policies {
-        push_policy(alloc, out, several, *policy)?;
+        push_policy(alloc, out, several, policy)?;
     }
     Ok(())
 }
@@ -79,13 +76,13 @@ fn push_no_key_words(out: &mut Text) -> Result<(), AllocError>
 }
 
 /// Adds the line with the names of the policies.
-fn push_names(
+fn push_names<P: NamedPolicy>(
     alloc: Global,
     out: &mut Text,
     several: bool,
-    policies: &[AnyPolicy],
+    policies: &[P],
 ) -> Result<(), AllocError>
-    ensures { OnOk result (out.new ≡ out.old ++ names_line several policies.now) }
+    ensures { OnOk result (out.new ≡ out.old ++ names_line P.naming several policies.now) }
 {
     push_key_words(out)?;
     push_policies(alloc, out, several, policies)?;
@@ -101,7 +98,7 @@ fn push_three(out: &mut Text) -> Result<(), AllocError>
 }
 
 /// Adds the names of the three columns of each policy.
-fn push_statistics(out: &mut Text, policies: &[AnyPolicy]) -> Result<(), AllocError>
+fn push_statistics<P>(out: &mut Text, policies: &[P]) -> Result<(), AllocError>
     ensures { OnOk result (out.new ≡ out.old ++ statistics_words policies.now) }
 {
     for _policy in policies {
@@ -111,11 +108,7 @@ fn push_statistics(out: &mut Text, policies: &[AnyPolicy]) -> Result<(), AllocEr
 }
 
 /// Adds the line that says what the columns of each policy have, if there are several seeds.
-fn push_statistics_line(
-    out: &mut Text,
-    several: bool,
-    policies: &[AnyPolicy],
-) -> Result<(), AllocError>
+fn push_statistics_line<P>(out: &mut Text, several: bool, policies: &[P]) -> Result<(), AllocError>
     ensures { OnOk result (out.new ≡ out.old ++ statistics_line several policies.now) }
 {
     if !several {
@@ -126,44 +119,76 @@ fn push_statistics_line(
     out.end_line()
 }
 
-/// Adds what a measure came to under a policy.
-fn push_cell(out: &mut Text, several: bool, cell: &Cell) -> Result<(), AllocError>
-    ensures { OnOk result (out.new ≡ out.old ++ cell_words several cell.now) }
+/// Adds what a measure came to under a policy, by one seed: below the policy's name.
+fn push_value<P: NamedPolicy>(
+    alloc: Global,
+    out: &mut Text,
+    cell: &Cell<P>,
+) -> Result<(), AllocError>
+    ensures { OnOk result (out.new ≡ out.old ++ cell_words P.naming false cell.now) }
 {
-    push_number(out, cell.median())?;
+    let words = cell.policy.words(alloc)?;
+    push_number(out, policy_width(false, words.as_str()), cell.median())
+}
+
+/// Adds what a measure came to under a policy.
+fn push_cell<P: NamedPolicy>(
+    alloc: Global,
+    out: &mut Text,
+    several: bool,
+    cell: &Cell<P>,
+) -> Result<(), AllocError>
+    ensures { OnOk result (out.new ≡ out.old ++ cell_words P.naming several cell.now) }
+{
     if !several {
-        return Ok(());
+        return push_value(alloc, out, cell);
     }
-    push_number(out, cell.least())?;
-    push_number(out, cell.most())
+    push_number(out, WIDTH, cell.median())?;
+    push_number(out, WIDTH, cell.least())?;
+    push_number(out, WIDTH, cell.most())
 }
 
 /// Adds what a measure came to under each policy.
-fn push_cells(out: &mut Text, several: bool, cells: &[Cell]) -> Result<(), AllocError>
-    ensures { OnOk result (out.new ≡ out.old ++ flat_map (cell_words several) cells.now) }
+fn push_cells<P: NamedPolicy>(
+    alloc: Global,
+    out: &mut Text,
+    several: bool,
+    cells: &[Cell<P>],
+) -> Result<(), AllocError>
+    ensures { OnOk result (out.new ≡ out.old ++ flat_map (cell_words P.naming several) cells.now) }
 {
     for cell in cells {
-        push_cell(out, several, cell)?;
+        push_cell(alloc, out, several, cell)?;
     }
     Ok(())
 }
 
 /// Adds the line of a measure.
-fn push_row(out: &mut Text, several: bool, row: &Row) -> Result<(), AllocError>
-    ensures { OnOk result (out.new ≡ out.old ++ row_line several row.now) }
+fn push_row<P: NamedPolicy>(
+    alloc: Global,
+    out: &mut Text,
+    several: bool,
+    row: &Row<P>,
+) -> Result<(), AllocError>
+    ensures { OnOk result (out.new ≡ out.old ++ row_line P.naming several row.now) }
 {
-    push_word(out, 5, class_word(row.key.class))?;
-    push_word(out, WIDTH, row.key.measure.name())?;
-    push_cells(out, several, &row.cells)?;
+    push_column(out, 5, class_word(row.key.class))?;
+    push_column(out, WIDTH, row.key.measure.name())?;
+    push_cells(alloc, out, several, &row.cells)?;
     out.end_line()
 }
 
 /// Adds the lines of all measures.
-fn push_rows(out: &mut Text, several: bool, rows: &[Row]) -> Result<(), AllocError>
-    ensures { OnOk result (out.new ≡ out.old ++ flat_map (row_line several) rows.now) }
+fn push_rows<P: NamedPolicy>(
+    alloc: Global,
+    out: &mut Text,
+    several: bool,
+    rows: &[Row<P>],
+) -> Result<(), AllocError>
+    ensures { OnOk result (out.new ≡ out.old ++ flat_map (row_line P.naming several) rows.now) }
 {
     for row in rows {
-        push_row(out, several, row)?;
+        push_row(alloc, out, several, row)?;
     }
     Ok(())
 }
@@ -173,18 +198,18 @@ fn push_rows(out: &mut Text, several: bool, rows: &[Row]) -> Result<(), AllocErr
 /// # Errors
 ///
 /// `AllocError` if out of memory.
-pub(crate) fn lines_of(
+pub(crate) fn lines_of<P: NamedPolicy>(
     alloc: Global,
     seeds: usize,
-    policies: &[AnyPolicy],
-    rows: &[Row],
+    policies: &[P],
+    rows: &[Row<P>],
 ) -> Result<Vec<u8>, AllocError>
-    ensures { IfOk result (λ bytes. bytes.items ≡ lines_text seeds policies.now rows.now) }
+    ensures { IfOk result (λ bytes. bytes.items ≡ lines_text P.naming seeds policies.now rows.now) }
 {
     let several = seeds > 1;
     let mut out = Text::new(alloc);
     push_names(alloc, &mut out, several, policies)?;
     push_statistics_line(&mut out, several, policies)?;
-    push_rows(&mut out, several, rows)?;
+    push_rows(alloc, &mut out, several, rows)?;
     Ok(out.into_bytes())
 }

@@ -1,21 +1,19 @@
 //! A simulation, measured.
 
-ghost use Rattle.std.specs.Prelude.{◌≡◌, IfOk, Some, None, length, map};
+ghost use Rattle.std.specs.Prelude.{◌≡◌, IfOk, Some, None, map};
 ghost use Rattle.std.specs.List.{AllZip, count_by, filter};
-ghost use Rattle.gs_journal.specs.History.{History};
 ghost use Rattle.gs_layout.specs.declared.facts.Class.TheVariants.{Zero, One};
 ghost use Rattle.gs_simulate.specs.Heard.{IsHeardWith};
 ghost use Rattle.gs_tallies.specs.Accounts.{IsAccountOfClass, IsAccountOfThread, created_in};
-ghost use Rattle.gs_turns.specs.Knowing.{AreKnown};
-ghost use Rattle.gs_compare.specs.Measures.{IsMeasured, Weighs, class_measures, count_at, cpus_of, ends_burst, history_of, idle_wanted, is_burst_of, measures_of, rans_of, tells_of};
+ghost use Rattle.gs_compare.specs.Measures.{IsMeasured, Weighs, class_measures, count_at, cpus_of, ends_burst, history_of, idle_wanted, is_burst_of, measures_of, rans_of, tells_of, wanted_ticks};
 
 use crate::measured::{Measured, Measures};
-use crate::share::worst_share;
+use crate::share::{sum_of, worst_share};
 use gs_core::Machine;
 use gs_journal::Journal;
 use gs_kernel::Landing;
 use gs_layout::{Class, Outcome};
-use gs_policy::AnyPolicy;
+use gs_script::NamedPolicy;
 use gs_simulate::Simulated;
 use gs_tallies::{Account, class_accounts, thread_accounts};
 use gs_timeline::Ending;
@@ -104,15 +102,19 @@ fn class_measures(
     Ok(Some(measures_of(class, turns, &rans, account)))
 }
 
-/// Returns for how many ticks CPUs were idle while a thread waited that might run on them.
-fn idle_wanted(usages: &[Usage]) -> usize
-    ensures { result ≡ idle_wanted usages.now }
+/// Returns for how many ticks each CPU was idle while a thread waited that might run on it.
+fn wanted_of(alloc: Global, usages: &[Usage]) -> Result<Vec<usize>, AllocError>
+    ensures { IfOk result (λ wanted. wanted.items ≡ map wanted_ticks usages.now) }
 {
-    let mut ticks: usize = 0;
-    for usage in usages {
-        ticks = ticks.saturating_add(usage.wanted.ticks);
-    }
-    ticks
+    usages.iter().map(|usage| usage.wanted.ticks).collect(alloc)
+}
+
+/// Returns for how many ticks CPUs were idle while a thread waited that might run on them.
+fn idle_wanted(alloc: Global, usages: &[Usage]) -> Result<usize, AllocError>
+    ensures { IfOk result (λ ticks. ticks ≡ idle_wanted usages.now) }
+{
+    let wanted = wanted_of(alloc, usages)?;
+    Ok(sum_of(&wanted))
 }
 
 /// Returns what the threads of class 0 and of class 1 come to.
@@ -149,7 +151,7 @@ fn weighed(
     Ok(Measured {
         zero: class_measures(alloc, Class::Zero, &told.turns, &threads, &zero)?,
         one: class_measures(alloc, Class::One, &told.turns, &threads, &one)?,
-        idle_wanted: idle_wanted(usages),
+        idle_wanted: idle_wanted(alloc, usages)?,
     })
 }
 
@@ -168,9 +170,9 @@ fn measured(
 }
 
 /// Returns what is measured of a machine, and of what became of slots.
-fn measured_on(
+fn measured_on<P: NamedPolicy>(
     alloc: Global,
-    machine: &Machine<AnyPolicy>,
+    machine: &Machine<P>,
     landings: &[Landing],
 ) -> Result<Measured, AllocError>
     ensures { IfOk result (λ measured. IsMeasured landings.now machine.now.settings.cpus machine.now.history measured) }
@@ -185,9 +187,12 @@ fn measured_on(
 /// # Errors
 ///
 /// `AllocError` if out of memory.
-pub(crate) fn measure(alloc: Global, simulated: &Simulated) -> Result<Measured, AllocError>
+pub(crate) fn measure<P: NamedPolicy>(
+    alloc: Global,
+    simulated: &Simulated<P>,
+) -> Result<Measured, AllocError>
     ensures measured { IfOk result (λ measured. IsMeasured simulated.now.landings (cpus_of simulated.now.session) (history_of simulated.now.session) measured) }
-    ensures heard { IsHeardWith simulated.now.text simulated.now.session simulated.now.landings }
+    ensures heard { IsHeardWith P.naming P.chosen simulated.now.text simulated.now.session simulated.now.landings }
 {
     let landings = simulated.landings();
     match simulated.session().machine() {

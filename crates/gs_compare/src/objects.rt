@@ -1,20 +1,16 @@
 //! A table as JSON: an object for each measure and policy, one a line.
 
-ghost use Rattle.std.specs.Prelude.{◌≡◌, ◌++◌, IfOk, OnOk, false};
+ghost use Rattle.std.specs.Prelude.{◌≡◌, ◌++◌, IfOk, OnOk};
 ghost use Rattle.std.specs.List.{flat_map};
 ghost use Rattle.serde_json.specs.Data.{string};
 ghost use Rattle.serde_json.specs.View.{view};
-ghost use Rattle.serde_json.specs.Written.{compact_text, has_float};
-ghost use Rattle.gs_lines.specs.Lines.{line};
-ghost use Rattle.gs_simulate.specs.Lines.{policy_words};
 ghost use Rattle.gs_compare.specs.Objects.{cell_data, cell_object, class_data, number_data, objects_text, row_objects};
 
 use crate::measure::Key;
 use crate::row::{Cell, Row};
 use gs_layout::Class;
 use gs_lines::Text;
-use gs_policy::AnyPolicy;
-use gs_simulate::write_policy;
+use gs_script::NamedPolicy;
 use serde_json::{Value, json};
 use std::alloc::{AllocError, Global};
 
@@ -40,20 +36,24 @@ fn number_value(number: Option<usize>) -> Value
 }
 
 /// Returns the words of a policy as JSON.
-fn policy_value(alloc: Global, policy: AnyPolicy) -> Result<Value, AllocError>
-    ensures { IfOk result (λ value. view value ≡ string (policy_words policy)) }
+fn policy_value<P: NamedPolicy>(alloc: Global, policy: &P) -> Result<Value, AllocError>
+    ensures { IfOk result (λ value. view value ≡ string (P.naming.words policy.now)) }
 {
-    let mut words = Text::new(alloc);
-    write_policy(&mut words, policy)?;
+    let words = policy.words(alloc)?;
     Value::try_from_str(alloc, words.as_str())
 }
 
 /// Returns what a measure came to under a policy as JSON.
-fn cell_value(alloc: Global, seeds: usize, key: Key, cell: &Cell) -> Result<Value, AllocError>
-    ensures { IfOk result (λ value. view value ≡ cell_data seeds key cell.now) }
+fn cell_value<P: NamedPolicy>(
+    alloc: Global,
+    seeds: usize,
+    key: Key,
+    cell: &Cell<P>,
+) -> Result<Value, AllocError>
+    ensures { IfOk result (λ value. view value ≡ cell_data P.naming seeds key cell.now) }
 {
     let measure = Value::try_from_str(alloc, key.measure.name())?;
-    let policy = policy_value(alloc, cell.policy)?;
+    let policy = policy_value(alloc, &cell.policy)?;
     json!(in alloc; {
         "class": class_value(key.class),
         "least": number_value(cell.least()),
@@ -66,14 +66,14 @@ fn cell_value(alloc: Global, seeds: usize, key: Key, cell: &Cell) -> Result<Valu
 }
 
 /// Adds what a measure came to under a policy as a line.
-fn push_cell(
+fn push_cell<P: NamedPolicy>(
     alloc: Global,
     out: &mut Text,
     seeds: usize,
     key: Key,
-    cell: &Cell,
+    cell: &Cell<P>,
 ) -> Result<(), AllocError>
-    ensures { OnOk result (out.new ≡ out.old ++ cell_object seeds key cell.now) }
+    ensures { OnOk result (out.new ≡ out.old ++ cell_object P.naming seeds key cell.now) }
 {
     let value = cell_value(alloc, seeds, key, cell)?;
     out.push_str(&value.to_string(alloc)?)?;
@@ -81,14 +81,14 @@ fn push_cell(
 }
 
 /// Adds what a measure came to under each policy.
-fn push_cells(
+fn push_cells<P: NamedPolicy>(
     alloc: Global,
     out: &mut Text,
     seeds: usize,
     key: Key,
-    cells: &[Cell],
+    cells: &[Cell<P>],
 ) -> Result<(), AllocError>
-    ensures { OnOk result (out.new ≡ out.old ++ flat_map (cell_object seeds key) cells.now) }
+    ensures { OnOk result (out.new ≡ out.old ++ flat_map (cell_object P.naming seeds key) cells.now) }
 {
     for cell in cells {
         push_cell(alloc, out, seeds, key, cell)?;
@@ -97,8 +97,13 @@ fn push_cells(
 }
 
 /// Adds what the measure of a row came to under each policy.
-fn push_row(alloc: Global, out: &mut Text, seeds: usize, row: &Row) -> Result<(), AllocError>
-    ensures { OnOk result (out.new ≡ out.old ++ row_objects seeds row.now) }
+fn push_row<P: NamedPolicy>(
+    alloc: Global,
+    out: &mut Text,
+    seeds: usize,
+    row: &Row<P>,
+) -> Result<(), AllocError>
+    ensures { OnOk result (out.new ≡ out.old ++ row_objects P.naming seeds row.now) }
 {
     push_cells(alloc, out, seeds, row.key, &row.cells)
 }
@@ -108,8 +113,12 @@ fn push_row(alloc: Global, out: &mut Text, seeds: usize, row: &Row) -> Result<()
 /// # Errors
 ///
 /// `AllocError` if out of memory.
-pub(crate) fn objects_of(alloc: Global, seeds: usize, rows: &[Row]) -> Result<Vec<u8>, AllocError>
-    ensures { IfOk result (λ bytes. bytes.items ≡ objects_text seeds rows.now) }
+pub(crate) fn objects_of<P: NamedPolicy>(
+    alloc: Global,
+    seeds: usize,
+    rows: &[Row<P>],
+) -> Result<Vec<u8>, AllocError>
+    ensures { IfOk result (λ bytes. bytes.items ≡ objects_text P.naming seeds rows.now) }
 {
     let mut out = Text::new(alloc);
     for row in rows {

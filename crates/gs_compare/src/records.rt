@@ -8,8 +8,7 @@ use crate::measure::Key;
 use crate::row::{Cell, Row};
 use csv::WriterBuilder;
 use gs_layout::Class;
-use gs_lines::Text;
-use gs_simulate::write_policy;
+use gs_script::NamedPolicy;
 use itoa::Buffer;
 use std::alloc::{AllocError, Global};
 
@@ -70,17 +69,16 @@ fn number_field(buffer: &mut Buffer, number: Option<usize>) -> &str
 }
 
 /// Adds what a measure came to under a policy, over so many seeds.
-fn push_cell(
+fn push_cell<P: NamedPolicy>(
     alloc: Global,
     out: &mut Vec<u8>,
     seeds: usize,
     key: Key,
-    cell: &Cell,
+    cell: &Cell<P>,
 ) -> Result<(), AllocError>
-    ensures { OnOk result (out.new.items ≡ out.old.items ++ cell_record seeds key cell.now) }
+    ensures { OnOk result (out.new.items ≡ out.old.items ++ cell_record P.naming seeds key cell.now) }
 {
-    let mut words = Text::new(alloc);
-    write_policy(&mut words, cell.policy)?;
+    let words = cell.policy.words(alloc)?;
     let mut first = Buffer::new();
     let mut second = Buffer::new();
     let mut third = Buffer::new();
@@ -106,14 +104,14 @@ fn push_cell(
 }
 
 /// Adds what a measure came to under each policy.
-fn push_cells(
+fn push_cells<P: NamedPolicy>(
     alloc: Global,
     out: &mut Vec<u8>,
     seeds: usize,
     key: Key,
-    cells: &[Cell],
+    cells: &[Cell<P>],
 ) -> Result<(), AllocError>
-    ensures { OnOk result (out.new.items ≡ out.old.items ++ flat_map (cell_record seeds key) cells.now) }
+    ensures { OnOk result (out.new.items ≡ out.old.items ++ flat_map (cell_record P.naming seeds key) cells.now) }
 {
     for cell in cells {
         push_cell(alloc, out, seeds, key, cell)?;
@@ -122,8 +120,13 @@ fn push_cells(
 }
 
 /// Adds what the measure of a row came to under each policy.
-fn push_row(alloc: Global, out: &mut Vec<u8>, seeds: usize, row: &Row) -> Result<(), AllocError>
-    ensures { OnOk result (out.new.items ≡ out.old.items ++ row_records seeds row.now) }
+fn push_row<P: NamedPolicy>(
+    alloc: Global,
+    out: &mut Vec<u8>,
+    seeds: usize,
+    row: &Row<P>,
+) -> Result<(), AllocError>
+    ensures { OnOk result (out.new.items ≡ out.old.items ++ row_records P.naming seeds row.now) }
 {
     push_cells(alloc, out, seeds, row.key, &row.cells)
 }
@@ -133,8 +136,12 @@ fn push_row(alloc: Global, out: &mut Vec<u8>, seeds: usize, row: &Row) -> Result
 /// # Errors
 ///
 /// `AllocError` if out of memory.
-pub(crate) fn records_of(alloc: Global, seeds: usize, rows: &[Row]) -> Result<Vec<u8>, AllocError>
-    ensures { IfOk result (λ bytes. bytes.items ≡ records_text seeds rows.now) }
+pub(crate) fn records_of<P: NamedPolicy>(
+    alloc: Global,
+    seeds: usize,
+    rows: &[Row<P>],
+) -> Result<Vec<u8>, AllocError>
+    ensures { IfOk result (λ bytes. bytes.items ≡ records_text P.naming seeds rows.now) }
 {
     let mut out = Vec::new(alloc);
     push_header(alloc, &mut out)?;

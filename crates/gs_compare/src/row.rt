@@ -9,25 +9,25 @@ use crate::measure::{CLASS_MEASURES, Key, Measure};
 use crate::measured::Measured;
 use crate::summary::{Summary, summary_of};
 use gs_layout::Class;
-use gs_policy::AnyPolicy;
+use gs_script::NamedPolicy;
 use std::alloc::{AllocError, Global};
 
 /// What was measured of a policy, a run for each seed.
 #[derive(Drop)]
-pub(crate) struct Column {
-    pub(crate) policy: AnyPolicy,
+pub(crate) struct Column<P> {
+    pub(crate) policy: P,
     pub(crate) runs: Vec<Measured>,
 }
 
 /// What a measure came to under a policy, over all seeds.
 #[derive(Clone, Copy, PartialEq, Eq, Debug)]
-pub(crate) struct Cell {
-    pub(crate) policy: AnyPolicy,
+pub(crate) struct Cell<P> {
+    pub(crate) policy: P,
     /// Of the seeds by which the measure has a value, if there is one.
     pub(crate) summary: Option<Summary>,
 }
 
-impl Cell {
+impl<P> Cell<P> {
     /// Returns the least of the values.
     pub(crate) fn least(&self) -> Option<usize>
         ensures { result ≡ least_of self.now.summary }
@@ -52,9 +52,9 @@ impl Cell {
 
 /// What a measure came to under each policy.
 #[derive(Drop)]
-pub(crate) struct Row {
+pub(crate) struct Row<P> {
     pub(crate) key: Key,
-    pub(crate) cells: Vec<Cell>,
+    pub(crate) cells: Vec<Cell<P>>,
 }
 
 /// Returns whether a thread of a class was created in some of these runs.
@@ -65,7 +65,7 @@ fn part_is_some(class: Class, runs: &[Measured]) -> bool
 }
 
 /// Returns whether a thread of a class was created in some run.
-fn has_threads(class: Class, columns: &[Column]) -> bool
+fn has_threads<P>(class: Class, columns: &[Column<P>]) -> bool
     ensures { result ≡ has_threads class columns.now }
 {
     columns
@@ -87,7 +87,7 @@ fn add_measures(keys: &mut Vec<Key>, class: Class, measures: &[Measure]) -> Resu
 }
 
 /// Adds what the rows of a class tell of, if it has rows.
-fn add_class(keys: &mut Vec<Key>, class: Class, columns: &[Column]) -> Result<(), AllocError>
+fn add_class<P>(keys: &mut Vec<Key>, class: Class, columns: &[Column<P>]) -> Result<(), AllocError>
     ensures { OnOk result (keys.new.items ≡ keys.old.items ++ class_keys class columns.now) }
 {
     if !has_threads(class, columns) {
@@ -97,7 +97,7 @@ fn add_class(keys: &mut Vec<Key>, class: Class, columns: &[Column]) -> Result<()
 }
 
 /// Returns what the rows of a table tell of.
-fn keys_of(alloc: Global, columns: &[Column]) -> Result<Vec<Key>, AllocError>
+fn keys_of<P>(alloc: Global, columns: &[Column<P>]) -> Result<Vec<Key>, AllocError>
     ensures { IfOk result (λ keys. keys.items ≡ keys_of columns.now) }
 {
     let mut keys = Vec::new(alloc);
@@ -111,7 +111,11 @@ fn keys_of(alloc: Global, columns: &[Column]) -> Result<Vec<Key>, AllocError>
 }
 
 /// Returns what a measure came to under the policy of a column.
-fn cell_of(alloc: Global, key: Key, column: &Column) -> Result<Cell, AllocError>
+fn cell_of<P: NamedPolicy>(
+    alloc: Global,
+    key: Key,
+    column: &Column<P>,
+) -> Result<Cell<P>, AllocError>
     ensures { IfOk result (λ cell. IsCell key column.now cell) }
 {
     Ok(Cell {
@@ -121,7 +125,11 @@ fn cell_of(alloc: Global, key: Key, column: &Column) -> Result<Cell, AllocError>
 }
 
 /// Returns what a measure came to under each policy.
-fn cells_of(alloc: Global, key: Key, columns: &[Column]) -> Result<Vec<Cell>, AllocError>
+fn cells_of<P: NamedPolicy>(
+    alloc: Global,
+    key: Key,
+    columns: &[Column<P>],
+) -> Result<Vec<Cell<P>>, AllocError>
     ensures { IfOk result (λ cells. AllZip (IsCell key) columns.now cells.items) }
 {
     let mut cells = Vec::new(alloc);
@@ -133,7 +141,11 @@ fn cells_of(alloc: Global, key: Key, columns: &[Column]) -> Result<Vec<Cell>, Al
 }
 
 /// Returns a row of a table.
-fn row_of(alloc: Global, key: Key, columns: &[Column]) -> Result<Row, AllocError>
+fn row_of<P: NamedPolicy>(
+    alloc: Global,
+    key: Key,
+    columns: &[Column<P>],
+) -> Result<Row<P>, AllocError>
     ensures { IfOk result (λ row. IsRow columns.now key row) }
 {
     Ok(Row {
@@ -143,7 +155,11 @@ fn row_of(alloc: Global, key: Key, columns: &[Column]) -> Result<Row, AllocError
 }
 
 /// Returns the rows of these things to tell of.
-fn rows_for(alloc: Global, keys: &[Key], columns: &[Column]) -> Result<Vec<Row>, AllocError>
+fn rows_for<P: NamedPolicy>(
+    alloc: Global,
+    keys: &[Key],
+    columns: &[Column<P>],
+) -> Result<Vec<Row<P>>, AllocError>
     ensures { IfOk result (λ rows. AllZip (IsRow columns.now) keys.now rows.items) }
 {
     let mut rows = Vec::new(alloc);
@@ -159,7 +175,10 @@ fn rows_for(alloc: Global, keys: &[Key], columns: &[Column]) -> Result<Vec<Row>,
 /// # Errors
 ///
 /// `AllocError` if out of memory.
-pub(crate) fn rows_of(alloc: Global, columns: &[Column]) -> Result<Vec<Row>, AllocError>
+pub(crate) fn rows_of<P: NamedPolicy>(
+    alloc: Global,
+    columns: &[Column<P>],
+) -> Result<Vec<Row<P>>, AllocError>
     ensures { IfOk result (λ rows. AreRows columns.now rows.items) }
 {
     let keys = keys_of(alloc, columns)?;

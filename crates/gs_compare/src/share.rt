@@ -1,8 +1,7 @@
 //! How fairly threads ran.
 
-ghost use Rattle.std.specs.Prelude.{◌≡◌, sum};
-ghost use Rattle.gs_turns.specs.Times.{in_word};
-ghost use Rattle.gs_compare.specs.Shares.{least_of, worst_share};
+ghost use Rattle.std.specs.Prelude.{◌≡◌};
+ghost use Rattle.gs_compare.specs.Shares.{least_of, total_of, worst_share};
 
 /// Returns the least of some numbers, or the most that 64 bits hold, if there are none.
 fn least_of(numbers: &[usize]) -> usize
@@ -17,7 +16,7 @@ fn least_of(numbers: &[usize]) -> usize
 
 /// Returns the sum of some numbers. It stops at the most that 64 bits hold.
 pub(crate) fn sum_of(numbers: &[usize]) -> usize
-    ensures { result ≡ in_word (sum numbers.now) }
+    ensures { result ≡ total_of numbers.now }
 {
     let mut total: usize = 0;
     for number in numbers {

@@ -7,7 +7,6 @@ use Rattle.gs_kernel.specs.declared.command.Command.TheVariants as commands
 use Rattle.gs_kernel.specs.Legal.{is_done}
 use Rattle.gs_replies.specs.declared.config.Config.{Config}
 use Rattle.gs_replies.specs.declared.reply.Reply.{Reply}
-use Rattle.gs_policy.specs.declared.any.AnyPolicy.{AnyPolicy}
 use Rattle.gs_core.specs.declared.event.Event.{Event}
 use Rattle.gs_core.specs.declared.event.Event.TheVariants as events
 use Rattle.gs_core.specs.Machine.{Does, Plan, Serves, State, Step, fits, plan_of, planned_by, refusal, start, view}
@@ -15,7 +14,7 @@ use Rattle.gs_reasons.specs.ExplainsRefusal.{FindsFree}
 use Rattle.gs_reasons.proofs.Laws.{commit_free, free_then, late_free, told_free}
 use Rattle.gs_explain.proofs.Grown.{all_history, stamped_history}
 
-pub start_free : (c : Config AnyPolicy) → FindsFree (start c).history
+pub start_free : {A : Type 0} (c : Config A) → FindsFree (start c).history
 start_free c = free_then [] (Role c.first_generation 0) (λ i e is k t placed. absurd cc) (λ k t placed. absurd cc)
 
 does_free : (m : State) (e : Event Plan) (r : Reply) (n : State) → length m.slots ≤ m.settings.cpus → FindsFree m.history → Does m e r n → FindsFree n.history

@@ -1,7 +1,6 @@
 -- What is known of a machine, event by event.
 use Rattle.std.proofs.Common.{◌≡◌, refl, sym, ◌∙◌, ap, subst, ℕ, ◌-◌, ◌≤◌, List, ◌++◌, arith, length, length-append, replicate, take}
 use Rattle.std.proofs.lemmas.List.{length-replicate}
-use Rattle.gs_policy.specs.declared.any.AnyPolicy.{AnyPolicy}
 use Rattle.gs_core.specs.declared.event.Event.{Event}
 use Rattle.gs_core.specs.Machine.{Plan, State, Step}
 use Rattle.gs_replies.specs.declared.reply.Reply.{Reply}
@@ -22,10 +21,10 @@ step_known x m n e r k t =
     let transactions : take (length x.noted.stamped) n.transactions ≡ m.transactions = ap (λ (k : ℕ). take k n.transactions) k.stamped ∙ stamps_kept m e r n t in
     record { entries = entries; stamped = stamped; heard = subst (HasHeard x.index) (sym history) k.heard; marked = subst (IsMarked x.marks) (sym transactions) k.marked }
 
-pub same_shown : (x : Known) (m n : State) (line : ℕ) (e : Event AnyPolicy) (r : Reply) → Knows x m → shown_after x.noted line e r n ≡ event_shown x.noted m line e r n
+pub same_shown : {A : Type 0} (x : Known) (m n : State) (line : ℕ) (e : Event A) (r : Reply) → Knows x m → shown_after x.noted line e r n ≡ event_shown x.noted m line e r n
 same_shown x m n line e r k = ap (λ (f : ℕ). reply_shown (moment (noted_after line r n x.noted) e n) f r) k.entries
 
-pub row_shows : (noted : Noted) (m n : State) (said : Line) (e : Event AnyPolicy) (r : Reply) → row_of row noted m said e r n ≡ heading said ++ event_shown noted m said.0 e r n ++ added (length m.history) (length n.history)
+pub row_shows : {A : Type 0} (noted : Noted) (m n : State) (said : Line) (e : Event A) (r : Reply) → row_of row noted m said e r n ≡ heading said ++ event_shown noted m said.0 e r n ++ added (length m.history) (length n.history)
 row_shows noted m n said e r = refl
 
 -- things that are filled up are as many as wanted, if they were no more

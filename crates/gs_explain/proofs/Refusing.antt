@@ -3,7 +3,6 @@ use Rattle.std.proofs.Common.{◌≡◌, refl, ap, sym, subst, inl, inr, Bool, t
 use Rattle.std.specs.List.{list_any}
 use Rattle.gs_layout.specs.declared.refusal.Refusal.{Refusal}
 use Rattle.gs_layout.specs.declared.refusal.Refusal.TheVariants as refusals
-use Rattle.gs_policy.specs.declared.any.AnyPolicy.{AnyPolicy}
 use Rattle.gs_slots.specs.State.{is_stamped}
 use Rattle.gs_journal.specs.History.{History, torn}
 use Rattle.gs_journal.specs.State.{IsNumbered}
@@ -20,7 +19,6 @@ use Rattle.gs_replies.specs.Replies.{reply_of}
 use Rattle.gs_core.specs.declared.event.Event.{Event}
 use Rattle.gs_core.specs.declared.event.Event.TheVariants as events
 use Rattle.gs_core.specs.Machine.{Does, IsShort, Plan, Serves, State, Step, is_given_all, planned, refusal}
-use Rattle.gs_trace.specs.Output.{any_plans}
 use Rattle.gs_sentences.specs.Subject.{cpu_of, tid_of}
 use Rattle.gs_reasons.specs.declared.sign.Sign.{Sign}
 use Rattle.gs_reasons.specs.declared.sign.Sign.TheVariants as signs
@@ -29,6 +27,7 @@ use Rattle.gs_reasons.specs.Refused.{sign_of_refusal, spent_by}
 use Rattle.gs_reasons.specs.ExplainsRefusal.{ExplainsRefusal}
 use Rattle.gs_reasons.proofs.Laws.{explained_refusal}
 use Rattle.gs_explain.specs.Commands.{command_of}
+use Rattle.gs_explain.specs.Moment.{bare}
 use Rattle.gs_explain.specs.Refusals.{refusal_sign, spent_sign}
 
 -- what is asked of an event of a command is what the reason is a sign of
@@ -107,26 +106,26 @@ sign_of_crash refusals.NoSuchTransaction = refl
 sign_of_crash refusals.Gone = refl
 sign_of_crash refusals.OutOfMemory = refl
 
-sign_of_begin : (p : AnyPolicy) (r : Refusal) → refusal_sign (events.Begin p) r ≡ sign_of_refusal commands.Begin r
-sign_of_begin p refusals.NoThread = refl
-sign_of_begin p refusals.NotRunning = refl
-sign_of_begin p refusals.NotBlocked = refl
-sign_of_begin p refusals.EmptyMask = refl
-sign_of_begin p refusals.BadCpu = refl
-sign_of_begin p refusals.AgentThere = refl
-sign_of_begin p refusals.CpuTaken = refl
-sign_of_begin p refusals.NotTaken = refl
-sign_of_begin p refusals.NotActive = refl
-sign_of_begin p refusals.StillAttached = refl
-sign_of_begin p refusals.NotAttaching = refl
-sign_of_begin p refusals.SeqSpent = refl
-sign_of_begin p refusals.GenSpent = refl
-sign_of_begin p refusals.TidsSpent = refl
-sign_of_begin p refusals.HistoryFull = refl
-sign_of_begin p refusals.SlotOpen = refl
-sign_of_begin p refusals.NoSuchTransaction = refl
-sign_of_begin p refusals.Gone = refl
-sign_of_begin p refusals.OutOfMemory = refl
+sign_of_begin : (r : Refusal) → refusal_sign (events.Begin tt) r ≡ sign_of_refusal commands.Begin r
+sign_of_begin refusals.NoThread = refl
+sign_of_begin refusals.NotRunning = refl
+sign_of_begin refusals.NotBlocked = refl
+sign_of_begin refusals.EmptyMask = refl
+sign_of_begin refusals.BadCpu = refl
+sign_of_begin refusals.AgentThere = refl
+sign_of_begin refusals.CpuTaken = refl
+sign_of_begin refusals.NotTaken = refl
+sign_of_begin refusals.NotActive = refl
+sign_of_begin refusals.StillAttached = refl
+sign_of_begin refusals.NotAttaching = refl
+sign_of_begin refusals.SeqSpent = refl
+sign_of_begin refusals.GenSpent = refl
+sign_of_begin refusals.TidsSpent = refl
+sign_of_begin refusals.HistoryFull = refl
+sign_of_begin refusals.SlotOpen = refl
+sign_of_begin refusals.NoSuchTransaction = refl
+sign_of_begin refusals.Gone = refl
+sign_of_begin refusals.OutOfMemory = refl
 
 -- a reply that refuses, and is not that memory ran out, has the first refusal that holds
 not_done : (x : Executed) (e : Entry) (r : Refusal) → replies.Refused r ≡ reply_of (Ok x) e → ⊥
@@ -187,31 +186,31 @@ crash_explained m m' r all step short =
     let asked : command_refusal m.settings m.history (is_given_all m) commands.Leave ≡ Some r = q in
     subst (λ w. ExplainsRefusal w r m.settings m.history (is_given_all m) commands.Leave) (sym (sign_of_crash r)) (explained_refusal m.settings m.history (is_given_all m) commands.Leave r all asked)
 
-begin_explained : (m m' : State) (p : AnyPolicy) (r : Refusal) → IsNumbered m.settings.first_tseq m.history → Step m (events.Begin (any_plans p)) (replies.Refused r) m' → (r ≡ refusals.OutOfMemory → ⊥)
-    → ExplainsRefusal (refusal_sign (events.Begin p) r) r m.settings m.history (is_given_all m) commands.Begin
+begin_explained : (m m' : State) (p : Plan) (r : Refusal) → IsNumbered m.settings.first_tseq m.history → Step m (events.Begin p) (replies.Refused r) m' → (r ≡ refusals.OutOfMemory → ⊥)
+    → ExplainsRefusal (refusal_sign (events.Begin tt) r) r m.settings m.history (is_given_all m) commands.Begin
 begin_explained m m' p r all step short =
-    let e : Event Plan = events.Begin (any_plans p) in
+    let e : Event Plan = events.Begin p in
     let q = first_refusal (refusal m e) m m' e r (λ d. not_done d.executed (last_entry m'.history) r d.reply) (short_is r short) step in
     let asked : command_refusal m.settings m.history (is_given_all m) commands.Begin ≡ Some r = q in
-    subst (λ w. ExplainsRefusal w r m.settings m.history (is_given_all m) commands.Begin) (sym (sign_of_begin p r)) (explained_refusal m.settings m.history (is_given_all m) commands.Begin r all asked)
+    subst (λ w. ExplainsRefusal w r m.settings m.history (is_given_all m) commands.Begin) (sym (sign_of_begin r)) (explained_refusal m.settings m.history (is_given_all m) commands.Begin r all asked)
 
-pub refused_explained : (m m' : State) (e : Event AnyPolicy) (c : Command) (r : Refusal) → command_of e ≡ Some c → IsNumbered m.settings.first_tseq m.history → Step m (planned any_plans e) (replies.Refused r) m'
-    → (r ≡ refusals.OutOfMemory → ⊥) → (r ≡ refusals.SlotOpen → ⊥) → ExplainsRefusal (refusal_sign e r) r m.settings m.history (is_given_all m) c
-refused_explained m m' (events.Kernel d) c r of all step short idle =
+pub refused_explained : {A : Type 0} (plans : A → Plan) (m m' : State) (e : Event A) (c : Command) (r : Refusal) → command_of e ≡ Some c → IsNumbered m.settings.first_tseq m.history → Step m (planned plans e) (replies.Refused r) m'
+    → (r ≡ refusals.OutOfMemory → ⊥) → (r ≡ refusals.SlotOpen → ⊥) → ExplainsRefusal (refusal_sign (bare e) r) r m.settings m.history (is_given_all m) c
+refused_explained plans m m' (events.Kernel d) c r of all step short idle =
     let same : d ≡ c = cc in
     subst (λ c. ExplainsRefusal (refusal_sign (events.Kernel d) r) r m.settings m.history (is_given_all m) c) same (kernel_explained m m' d r all step short idle)
-refused_explained m m' events.Crash c r of all step short idle =
+refused_explained plans m m' events.Crash c r of all step short idle =
     let same : commands.Leave ≡ c = cc in
     subst (λ c. ExplainsRefusal (refusal_sign events.Crash r) r m.settings m.history (is_given_all m) c) same (crash_explained m m' r all step short)
-refused_explained m m' (events.Begin p) c r of all step short idle =
+refused_explained plans m m' (events.Begin p) c r of all step short idle =
     let same : commands.Begin ≡ c = cc in
-    subst (λ c. ExplainsRefusal (refusal_sign (events.Begin p) r) r m.settings m.history (is_given_all m) c) same (begin_explained m m' p r all step short)
-refused_explained m m' (events.Page max) c r of all step short idle = absurd cc
-refused_explained m m' (events.Drain max) c r of all step short idle = absurd cc
-refused_explained m m' (events.Stamp k t f) c r of all step short idle = absurd cc
-refused_explained m m' events.Decide c r of all step short idle = absurd cc
-refused_explained m m' (events.Commit mask) c r of all step short idle = absurd cc
-refused_explained m m' (events.Late n) c r of all step short idle = absurd cc
-refused_explained m m' events.View c r of all step short idle = absurd cc
-refused_explained m m' events.State c r of all step short idle = absurd cc
-refused_explained m m' events.Unread c r of all step short idle = absurd cc
+    subst (λ c. ExplainsRefusal (refusal_sign (events.Begin tt) r) r m.settings m.history (is_given_all m) c) same (begin_explained m m' (plans p) r all step short)
+refused_explained plans m m' (events.Page max) c r of all step short idle = absurd cc
+refused_explained plans m m' (events.Drain max) c r of all step short idle = absurd cc
+refused_explained plans m m' (events.Stamp k t f) c r of all step short idle = absurd cc
+refused_explained plans m m' events.Decide c r of all step short idle = absurd cc
+refused_explained plans m m' (events.Commit mask) c r of all step short idle = absurd cc
+refused_explained plans m m' (events.Late n) c r of all step short idle = absurd cc
+refused_explained plans m m' events.View c r of all step short idle = absurd cc
+refused_explained plans m m' events.State c r of all step short idle = absurd cc
+refused_explained plans m m' events.Unread c r of all step short idle = absurd cc

@@ -10,7 +10,6 @@ use Rattle.gs_layout.specs.declared.message.Change.TheVariants as changes
 use Rattle.gs_layout.specs.declared.message.Message.TheVariants.{Thread}
 use Rattle.gs_slots.specs.Flags.{no_flags}
 use Rattle.gs_slots.specs.declared.state.SlotState.TheVariants.{Idle, Stamped}
-use Rattle.gs_policy.specs.declared.any.AnyPolicy.{AnyPolicy}
 use Rattle.gs_journal.specs.declared.entry.Entry.TheVariants as entries
 use Rattle.gs_journal.specs.History.{History}
 use Rattle.gs_kernel.specs.declared.landing.Landing.{Landing}
@@ -38,7 +37,7 @@ some = entries.Role 1 0 ∷ entries.Posted (Thread 1 1 (changes.Created facts)) 
 abbrev two : Bool → List Transaction
 two g = record { cpu = 1; slot = record { generation = 1; tid = 1; tseq = 1; flags = record no_flags { group = g } }; facts = facts } ∷ record { cpu = 2; slot = record { generation = 1; tid = 2; tseq = 1; flags = record no_flags { group = g } }; facts = facts } ∷ []
 
-abbrev at_hand : Bool → Event AnyPolicy → Moment
+abbrev at_hand : Bool → Event (Unit {0}) → Moment
 at_hand g e =
     record {
       lines = 1 ∷ 2 ∷ 3 ∷ 6 ∷ 7 ∷ [];

@@ -1,6 +1,5 @@
 -- What whoever explains knows of a machine.
 use Rattle.std.specs.Prelude.{◌≡◌, ◌≤◌, ℕ, Option, List, length, take}
-use Rattle.gs_policy.specs.declared.any.AnyPolicy.{AnyPolicy}
 use Rattle.gs_replies.specs.declared.config.Config.{Config}
 use Rattle.gs_replies.specs.declared.reply.Reply.{Reply}
 use Rattle.gs_core.specs.declared.event.Event.{Event}
@@ -39,9 +38,9 @@ pub record KnowsFirst (x : Known) (m : State) : Type 0 where
   pub marked : IsMarked x.marks (take (length x.noted.stamped) m.transactions)
 
 -- the machine has just been started
-abbrev pub IsStarted : StateOf AnyPolicy → Type 0
-IsStarted m = (c : Config AnyPolicy) × (m ≡ start c)
+abbrev pub IsStarted : {A : Type 0} → StateOf A → Type 0
+IsStarted {A} m = (c : Config A) × (m ≡ start c)
 
 -- what is shown of an event of this line by its reply and the machine that it left. The entries whose lines were noted before stood before it
-abbrev pub shown_after : Noted → ℕ → Event AnyPolicy → Reply → State → List ℕ
+abbrev pub shown_after : {A : Type 0} → Noted → ℕ → Event A → Reply → State → List ℕ
 shown_after n line e r m = reply_shown (moment (noted_after line r m n) e m) (length n.lines) r

@@ -5,7 +5,6 @@ use Rattle.gs_layout.specs.declared.outcome.Outcome.TheVariants as outcomes
 use Rattle.gs_journal.specs.declared.entry.Entry.{Entry}
 use Rattle.gs_journal.specs.declared.entry.Entry.TheVariants.{Placed}
 use Rattle.gs_journal.specs.History.{History}
-use Rattle.gs_policy.specs.declared.any.AnyPolicy.{AnyPolicy}
 use Rattle.gs_kernel.specs.Lands.{is_to_place}
 use Rattle.gs_kernel.specs.declared.landing.Landing.{Landing}
 use Rattle.gs_core.specs.declared.event.Event.{Event}
@@ -56,7 +55,7 @@ abbrev pub last_for : ℕ → List Transaction → Option ℕ
 last_for k xs = last_place (λ (x : Transaction). x.cpu == k) xs
 
 -- the place of the transaction that a landing is of: that of the event's number, or else what was stamped last for the CPU
-abbrev pub landed_place : Event AnyPolicy → List Transaction → Landing → Option ℕ
+abbrev pub landed_place : Event (Unit {0}) → List Transaction → Landing → Option ℕ
 landed_place (events.Late n) xs l = place_numbered n
 landed_place _ xs l = last_for l.cpu xs
 

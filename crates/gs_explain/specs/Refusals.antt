@@ -3,7 +3,6 @@ use Rattle.std.specs.Prelude.{ℕ, suc, Option, None, Some, List, [], ◌∷◌,
 use Rattle.gs_slots.specs.State.{Held, has_stamp}
 use Rattle.gs_layout.specs.declared.refusal.Refusal.{Refusal}
 use Rattle.gs_layout.specs.declared.refusal.Refusal.TheVariants as refusals
-use Rattle.gs_policy.specs.declared.any.AnyPolicy.{AnyPolicy}
 use Rattle.gs_kernel.specs.declared.command.Command.TheVariants as commands
 use Rattle.gs_core.specs.declared.event.Event.{Event}
 use Rattle.gs_core.specs.declared.event.Event.TheVariants as events
@@ -18,17 +17,17 @@ use Rattle.gs_explain.specs.Moment.{Moment, cause_at}
 use Rattle.gs_explain.specs.Landings.{last_for, line_at}
 
 -- a thread that an agent does not know may live
-abbrev pub no_thread_sign : Event AnyPolicy → Option Sign
+abbrev pub no_thread_sign : Event (Unit {0}) → Option Sign
 no_thread_sign (events.Stamp k t f) = None
 no_thread_sign e = Some (signs.Death (tid_of e))
 
 -- whose numbers are spent: the thread's, or those of the one on the CPU
-abbrev pub spent_sign : Event AnyPolicy → Sign
+abbrev pub spent_sign : Event (Unit {0}) → Sign
 spent_sign (events.Kernel (commands.Thread t e)) = signs.About t
 spent_sign e = signs.Seat (cpu_of e)
 
 -- of what the reason of a refusal is
-abbrev pub refusal_sign : Event AnyPolicy → Refusal → Option Sign
+abbrev pub refusal_sign : Event (Unit {0}) → Refusal → Option Sign
 refusal_sign e refusals.NoThread = no_thread_sign e
 refusal_sign e refusals.NotRunning = Some (signs.Off (tid_of e))
 refusal_sign e refusals.NotBlocked = Some (signs.Runs (tid_of e))
@@ -65,7 +64,7 @@ waits_on x None = None
 waits_on x (Some k) = waits x k (last_for k x.transactions)
 
 -- what waits in the slot that an event would stamp, or in the first slot for which an agent does not leave
-abbrev pub waiting_by : Moment → Event AnyPolicy → Option Waiting
+abbrev pub waiting_by : Moment → Event (Unit {0}) → Option Waiting
 waiting_by x (events.Stamp k t f) = waits_on x (Some k)
 waiting_by x (events.Kernel commands.Leave) = waits_on x (least_stamped 0 x.slots)
 waiting_by x _ = None

@@ -3,7 +3,6 @@
 ghost use Rattle.std.specs.Prelude.{◌≡◌, IfOk, OnOk};
 ghost use Rattle.gs_core.specs.Machine.{planning};
 ghost use Rattle.gs_trace.specs.Noted.{noted_after, noted_first};
-ghost use Rattle.gs_trace.specs.Output.{any_plans};
 ghost use Rattle.gs_explain.specs.Knowing.{IsStarted, Knows, KnowsFirst, known_of, shown_after};
 
 use crate::hearing::hear_all;
@@ -13,7 +12,7 @@ use crate::page::Page;
 use crate::row::write_shown;
 use gs_core::{Event, Machine, Reply};
 use gs_lines::Text;
-use gs_policy::AnyPolicy;
+use gs_policy::Counted;
 use gs_reasons::{Index, Marks};
 use gs_trace::Lines;
 use std::alloc::{AllocError, Global};
@@ -37,31 +36,35 @@ impl Model for Explainer {
 }
 
 /// Returns what is shown of an event, and notes and hears what it added.
-fn explain_event(
+fn explain_event<P: Counted + Copy>(
     alloc: Global,
     lines: &mut Lines,
     index: &mut Index,
     last: &mut Marks,
-    machine: &Machine<AnyPolicy>,
+    machine: &Machine<P>,
     line: usize,
-    event: &Event<AnyPolicy>,
+    event: &Event<P>,
     reply: &Reply,
 ) -> Result<Text, AllocError>
-    requires { KnowsFirst (known_of lines.old index.old last.old) (planning any_plans machine.now) }
-    ensures shown { IfOk result (λ text. text ≡ shown_after (known_of lines.old index.old last.old).noted line event.now reply.now (planning any_plans machine.now)) }
-    ensures noted { OnOk result ((known_of lines.new index.new last.new).noted ≡ noted_after line reply.now (planning any_plans machine.now) (known_of lines.old index.old last.old).noted) }
-    ensures knows { OnOk result (Knows (known_of lines.new index.new last.new) (planning any_plans machine.now)) }
+    requires { KnowsFirst (known_of lines.old index.old last.old) (planning P.chosen machine.now) }
+    ensures shown { IfOk result (λ text. text ≡ shown_after (known_of lines.old index.old last.old).noted line event.now reply.now (planning P.chosen machine.now)) }
+    ensures noted { OnOk result ((known_of lines.new index.new last.new).noted ≡ noted_after line reply.now (planning P.chosen machine.now) (known_of lines.old index.old last.old).noted) }
+    ensures knows { OnOk result (Knows (known_of lines.new index.new last.new) (planning P.chosen machine.now)) }
 {
-    let journal = machine.kernel().journal();
+    let kernel = machine.kernel();
+    let journal = kernel.journal();
     let transactions = machine.transactions();
     let first = lines.entries.len();
     let stamped = lines.stamped.len();
     mark_last(last, transactions, stamped)?;
     lines.note(line, reply, journal.len(), transactions.len())?;
+    let bare = event.with_policy(());
+    let region = machine.region();
     let scene = Scene {
         noted: lines,
-        event,
-        machine,
+        event: &bare,
+        kernel,
+        region,
         journal,
         transactions,
         last,
@@ -77,14 +80,14 @@ impl Explainer {
     /// # Errors
     ///
     /// `AllocError` if out of memory.
-    pub fn new(
+    pub fn new<P: Counted + Copy>(
         alloc: Global,
         header: usize,
-        machine: &Machine<AnyPolicy>,
+        machine: &Machine<P>,
     ) -> Result<Explainer, AllocError>
         requires { IsStarted machine.now }
         ensures noted { IfOk result (λ x. x.noted ≡ noted_first header) }
-        ensures knows { IfOk result (λ x. Knows x (planning any_plans machine.now)) }
+        ensures knows { IfOk result (λ x. Knows x (planning P.chosen machine.now)) }
     {
         let lines = Lines::new(alloc, header)?;
         let mut index = Index::new(alloc);
@@ -106,18 +109,18 @@ impl Explainer {
     /// # Errors
     ///
     /// `AllocError` if out of memory. Then no later event can be explained.
-    pub fn explain(
+    pub fn explain<P: Counted + Copy>(
         &mut self,
         alloc: Global,
-        machine: &Machine<AnyPolicy>,
+        machine: &Machine<P>,
         line: usize,
-        event: &Event<AnyPolicy>,
+        event: &Event<P>,
         reply: &Reply,
     ) -> Result<Text, AllocError>
-        requires { KnowsFirst self.old (planning any_plans machine.now) }
-        ensures shown { IfOk result (λ text. text ≡ shown_after self.old.noted line event.now reply.now (planning any_plans machine.now)) }
-        ensures noted { OnOk result (self.new.noted ≡ noted_after line reply.now (planning any_plans machine.now) self.old.noted) }
-        ensures knows { OnOk result (Knows self.new (planning any_plans machine.now)) }
+        requires { KnowsFirst self.old (planning P.chosen machine.now) }
+        ensures shown { IfOk result (λ text. text ≡ shown_after self.old.noted line event.now reply.now (planning P.chosen machine.now)) }
+        ensures noted { OnOk result (self.new.noted ≡ noted_after line reply.now (planning P.chosen machine.now) self.old.noted) }
+        ensures knows { OnOk result (Knows self.new (planning P.chosen machine.now)) }
     {
         explain_event(
             alloc,

@@ -135,7 +135,7 @@ fn overflow_if(torn: bool, scene: &Scene<'_>) -> Option<Overflow>
     ensures { result ≡ overflow_if torn (moment_of scene.now).overflow }
 {
     if torn {
-        Some(overflow_of(scene.event, scene.machine))
+        Some(overflow_of(scene.event, scene.kernel))
     } else {
         None
     }
@@ -163,6 +163,6 @@ pub(crate) fn landed<'a>(
         overflow: overflow_if(stood && is_gone(landing.outcome), scene),
         fault,
         entries: heard,
-        limit: scene.machine.kernel().settings().history,
+        limit: scene.kernel.settings().history,
     }
 }

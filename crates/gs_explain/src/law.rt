@@ -1,5 +1,4 @@
 ghost use Rattle.std.specs.Prelude.{◌≡◌, ◌≤◌, Some, Bool, List, ℕ, map, length, [], ◌∷◌, ◌++◌};
-ghost use Rattle.gs_policy.specs.declared.any.AnyPolicy.{AnyPolicy};
 ghost use Rattle.gs_kernel.specs.declared.landing.Landing.{Landing};
 ghost use Rattle.gs_replies.specs.declared.config.Config.{Config};
 ghost use Rattle.gs_replies.specs.declared.reply.Reply.{Reply};
@@ -8,7 +7,6 @@ ghost use Rattle.gs_core.specs.declared.event.Event.TheVariants as events;
 ghost use Rattle.gs_replies.specs.declared.reply.Reply.TheVariants as replies;
 ghost use Rattle.gs_core.specs.Machine.{Plan, State, Step, is_given_all, planned, start};
 ghost use Rattle.gs_core.specs.Safe.{Run};
-ghost use Rattle.gs_trace.specs.Output.{any_plans};
 ghost use Rattle.gs_layout.specs.declared.refusal.Refusal.{Refusal};
 ghost use Rattle.gs_layout.specs.declared.refusal.Refusal.TheVariants as refusals;
 ghost use Rattle.gs_journal.specs.State.{IsNumbered};
@@ -20,17 +18,19 @@ ghost use Rattle.gs_trace.specs.Noted.{Noted};
 ghost use Rattle.gs_explain.specs.Explained.{Explains, Line, Show};
 ghost use Rattle.gs_explain.specs.Met.{AreJudged};
 ghost use Rattle.gs_explain.specs.Knowing.{Known, Knows, KnowsFirst, shown_after};
-ghost use Rattle.gs_explain.specs.Moment.{Moment};
+ghost use Rattle.gs_explain.specs.Moment.{Moment, bare};
 ghost use Rattle.gs_explain.specs.Explained.{event_shown, row_of};
 ghost use Rattle.gs_explain.specs.Rows.{added, heading, reply_shown, row};
 ghost use Rattle.gs_explain.specs.Sentenced.{AddsSentences};
 ghost use Rattle.gs_lines.specs.Lines.{reply_lines};
 
+use gs_policy::Policy;
+
 /// States that what is explained is a run: the rows have the replies of a run of the events, one each, in order. It does
 /// nothing when it runs.
 #[tactic(auto, using(crate::proofs::Runs::run_of))]
-pub fn explained_is_run()
-    ensures { (show : Show) (n : Noted) (m : State) (es : List (Event AnyPolicy)) (rs : List Reply) (xs : List Line) (end : State) (out : List ℕ) → Explains show n m es rs xs end out → Run m (map (planned any_plans) es) rs end }
+pub fn explained_is_run<P: Policy>()
+    ensures { (show : Show) (n : Noted) (m : State) (es : List (Event P)) (rs : List Reply) (xs : List Line) (end : State) (out : List ℕ) → Explains P.chosen show n m es rs xs end out → Run m (map (planned P.chosen) es) rs end }
 {}
 
 /// States that a landing's reason is asked for among the entries that it met. If an outcome is a verdict that speaks of what
@@ -47,16 +47,16 @@ pub fn landings_are_met()
 /// beginning of a new agent too. It is claimed of machines whose messages are numbered as a kernel's are. Nothing is
 /// claimed if memory ran out, or if a slot was not idle. It does nothing when it runs.
 #[tactic(auto, using(crate::proofs::Refusing::refused_explained))]
-pub fn refusals_are_explained()
-    ensures { (m n : State) (e : Event AnyPolicy) (c : Command) (r : Refusal) → command_of e ≡ Some c → IsNumbered m.settings.first_tseq m.history → Step m (planned any_plans e) (replies.Refused r) n → (r ≡ refusals.OutOfMemory → ⊥) → (r ≡ refusals.SlotOpen → ⊥) → ExplainsRefusal (refusal_sign e r) r m.settings m.history (is_given_all m) c }
+pub fn refusals_are_explained<P: Policy>()
+    ensures { (m n : State) (e : Event P) (c : Command) (r : Refusal) → command_of e ≡ Some c → IsNumbered m.settings.first_tseq m.history → Step m (planned P.chosen e) (replies.Refused r) n → (r ≡ refusals.OutOfMemory → ⊥) → (r ≡ refusals.SlotOpen → ⊥) → ExplainsRefusal (refusal_sign (bare e) r) r m.settings m.history (is_given_all m) c }
 {}
 
 /// States that each placing of a machine finds its CPU free. So it is in the beginning, and each step of a machine that has
 /// no more slots than CPUs keeps it. Of such histories gs_reasons says which entry took a thread off its CPU. It does
 /// nothing when it runs.
 #[tactic(auto, using(crate::proofs::Finding::start_free, crate::proofs::Finding::step_free))]
-pub fn placings_find_free()
-    ensures start { (c : Config AnyPolicy) → FindsFree (start c).history }
+pub fn placings_find_free<P>()
+    ensures start { (c : Config P) → FindsFree (start c).history }
     ensures step { (m n : State) (e : Event Plan) (r : Reply) → length m.slots ≤ m.settings.cpus → Step m e r n → FindsFree m.history → FindsFree n.history }
 {}
 
@@ -70,9 +70,9 @@ pub fn event_is_known()
 /// States that what an [`Explainer`](crate::Explainer) shows of an event is what its row has between the script's line and
 /// the entries that were added. It does nothing when it runs.
 #[tactic(auto, using(crate::proofs::Knowing::same_shown, crate::proofs::Knowing::row_shows))]
-pub fn rows_show_it()
-    ensures shown { (x : Known) (m n : State) (line : ℕ) (e : Event AnyPolicy) (r : Reply) → Knows x m → shown_after x.noted line e r n ≡ event_shown x.noted m line e r n }
-    ensures row { (noted : Noted) (m n : State) (said : Line) (e : Event AnyPolicy) (r : Reply) → row_of row noted m said e r n ≡ heading said ++ event_shown noted m said.0 e r n ++ added (length m.history) (length n.history) }
+pub fn rows_show_it<P>()
+    ensures shown { (x : Known) (m n : State) (line : ℕ) (e : Event P) (r : Reply) → Knows x m → shown_after x.noted line e r n ≡ event_shown x.noted m line e r n }
+    ensures row { (noted : Noted) (m n : State) (said : Line) (e : Event P) (r : Reply) → row_of row noted m said e r n ≡ heading said ++ event_shown noted m said.0 e r n ++ added (length m.history) (length n.history) }
 {}
 
 /// States that what is shown of a reply is the reply with sentences among its lines: without them it is the reply. It

@@ -1,7 +1,9 @@
-use gs_core::{Event, Machine, Transaction};
+use gs_core::{Event, Transaction};
 use gs_journal::Journal;
-use gs_policy::AnyPolicy;
+use gs_kernel::Kernel;
 use gs_reasons::Marks;
+use gs_ring::ByteRing;
+use gs_slots::Region;
 use gs_trace::Lines;
 
 /// What is at hand about an event that happened.
@@ -9,10 +11,13 @@ use gs_trace::Lines;
 pub(crate) struct Scene<'a> {
     /// What is noted of the script's lines, the event's too.
     pub(crate) noted: &'a Lines,
-    pub(crate) event: &'a Event<AnyPolicy>,
-    /// The machine that the event left.
-    pub(crate) machine: &'a Machine<AnyPolicy>,
-    /// Its journal, with the event's entries too.
+    /// The event, without the policy that it may name: no sentence tells of that.
+    pub(crate) event: &'a Event<()>,
+    /// The kernel as the event left it.
+    pub(crate) kernel: &'a Kernel<ByteRing>,
+    /// The slots as the event left them.
+    pub(crate) region: &'a Region,
+    /// The kernel's journal, with the event's entries too.
     pub(crate) journal: &'a Journal,
     pub(crate) transactions: &'a [Transaction],
     /// The place of the last transaction for each CPU.

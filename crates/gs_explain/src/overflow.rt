@@ -1,16 +1,14 @@
 ghost use Rattle.std.specs.Prelude.{◌≡◌, ◌≤◌};
-ghost use Rattle.gs_core.specs.Machine.{planning};
-ghost use Rattle.gs_trace.specs.Output.{any_plans};
-ghost use Rattle.gs_explain.specs.Moment.{overflow_of, size_of};
+ghost use Rattle.gs_explain.specs.Moment.{overflow_in, size_of};
 
-use gs_core::{Event, Machine};
-use gs_kernel::{Command, ThreadEvent};
+use gs_core::Event;
+use gs_kernel::{Command, Kernel, ThreadEvent};
 use gs_layout::{AFFINITY_LEN, HEADER_LEN, creation_len};
-use gs_policy::AnyPolicy;
+use gs_ring::ByteRing;
 use gs_sentences::Overflow;
 
 /// Returns how many bytes the message of an event has.
-fn size_of(event: &Event<AnyPolicy>) -> usize
+fn size_of(event: &Event<()>) -> usize
     ensures value { result ≡ size_of event.now }
     ensures most { result ≤ 64 }
 {
@@ -29,11 +27,10 @@ fn size_of(event: &Event<AnyPolicy>) -> usize
 }
 
 /// Returns what the message of an event needs behind all that was posted, and what is free.
-#[tactic(auto, using(crate::proofs::Overflows::overflow_is))]
-pub(crate) fn overflow_of(event: &Event<AnyPolicy>, machine: &Machine<AnyPolicy>) -> Overflow
-    ensures { result ≡ overflow_of event.now (planning any_plans machine.now) }
+pub(crate) fn overflow_of(event: &Event<()>, kernel: &Kernel<ByteRing>) -> Overflow
+    ensures { result ≡ overflow_in event.now kernel.now.poster }
 {
-    let ring = machine.kernel().poster();
+    let ring = kernel.poster();
     Overflow {
         needs: ring.need(size_of(event)),
         free: ring.free(),

@@ -17,13 +17,12 @@ use crate::moment::Scene;
 use gs_core::Event;
 use gs_kernel::Command;
 use gs_layout::Refusal;
-use gs_policy::AnyPolicy;
 use gs_reasons::{Index, Sign};
 use gs_sentences::{Cause, Numbers, Refused, Waiting, cpu_of, tid_of};
 use gs_slots::{Malformed, Region, SlotState};
 
 /// Returns what the reason is a sign of why there is no such thread.
-fn no_thread_sign(event: &Event<AnyPolicy>) -> Option<Sign>
+fn no_thread_sign(event: &Event<()>) -> Option<Sign>
     ensures { result ≡ no_thread_sign event.now }
 {
     match event {
@@ -33,7 +32,7 @@ fn no_thread_sign(event: &Event<AnyPolicy>) -> Option<Sign>
 }
 
 /// Returns what the reason is a sign of why sequence numbers are spent.
-fn spent_sign(event: &Event<AnyPolicy>) -> Sign
+fn spent_sign(event: &Event<()>) -> Sign
     ensures { result ≡ spent_sign event.now }
 {
     match event {
@@ -45,7 +44,7 @@ fn spent_sign(event: &Event<AnyPolicy>) -> Sign
 }
 
 /// Returns what the reason of a refusal is a sign of, or `None` if no one entry is the reason.
-fn refusal_sign(event: &Event<AnyPolicy>, refusal: Refusal) -> Option<Sign>
+fn refusal_sign(event: &Event<()>, refusal: Refusal) -> Option<Sign>
     ensures { result ≡ refusal_sign event.now refusal }
 {
     let tid = tid_of(event);
@@ -134,7 +133,7 @@ fn waits_on(scene: &Scene<'_>, cpu: Option<u16>) -> Option<Waiting>
 }
 
 /// Returns what waits in the slot that an event would stamp, or in the first slot for which an agent does not leave.
-fn waiting_by(scene: &Scene<'_>, event: &Event<AnyPolicy>) -> Option<Waiting>
+fn waiting_by(scene: &Scene<'_>, event: &Event<()>) -> Option<Waiting>
     requires { IsMarked scene.now.last.now.places.items scene.now.transactions.now }
     ensures { result ≡ waiting_by (moment_of scene.now) event.now }
 {
@@ -142,7 +141,7 @@ fn waiting_by(scene: &Scene<'_>, event: &Event<AnyPolicy>) -> Option<Waiting>
         Event::Stamp { cpu, .. } => waits_on(scene, Some(*cpu)),
         Event::Kernel {
             command: Command::Leave,
-        } => waits_on(scene, least_stamped(scene.machine.region())),
+        } => waits_on(scene, least_stamped(scene.region)),
         _ => None,
     }
 }
@@ -165,7 +164,7 @@ fn numbers(scene: &Scene<'_>, refusal: Refusal) -> Numbers
     requires { IsMarked scene.now.last.now.places.items scene.now.transactions.now }
     ensures { result ≡ numbers (moment_of scene.now) refusal }
 {
-    let settings = scene.machine.kernel().settings();
+    let settings = scene.kernel.settings();
     Numbers {
         cpus: settings.cpus,
         entries: scene.journal.len(),

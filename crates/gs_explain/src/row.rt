@@ -98,7 +98,7 @@ fn write_why(
 fn write_torn(out: &mut Page, scene: &Scene<'_>) -> Result<(), AllocError>
     ensures { OnOk result (out.new ≡ out.old ++ because (Some (reasons.Torn (moment_of scene.now).overflow))) }
 {
-    out.reason(&Reason::Torn(overflow_of(scene.event, scene.machine)))
+    out.reason(&Reason::Torn(overflow_of(scene.event, scene.kernel)))
 }
 
 /// Adds a reply that is of no landing, and what explains it. An index has heard all entries.

@@ -13,7 +13,7 @@ use crate::page::Page;
 use crate::teller::Teller;
 use crate::telling::explain_all;
 use gs_core::Machine;
-use gs_script::{Opened, ScriptError, open_script};
+use gs_script::{NamedPolicy, Opened, ScriptError, open_script};
 use gs_trace::{Answering, Kept, MOST_READ_BYTES, TraceFault, answer_script};
 use std::alloc::Global;
 use std::io::{Read, Write};
@@ -28,16 +28,16 @@ pub enum Explanation {
 }
 
 /// Has what explains the script told that an input says. It fails with the script's first fault, or out of memory.
-fn told<T: Teller>(alloc: Global, input: &[u8], teller: T) -> Result<T, ScriptError>
+fn told<P: NamedPolicy, T: Teller>(alloc: Global, input: &[u8], teller: T) -> Result<T, ScriptError>
     requires { T.bytes teller ≡ [] }
-    ensures told { IfOk result (λ told. IsAnswerOf (TellsOf T.show (said_in input.now)) (script_of input.now) Ran (T.bytes told)) }
-    ensures fault { IfErr result (λ e. Faults e (script_of input.now)) }
+    ensures told { IfOk result (λ told. IsAnswerOf (TellsOf P.chosen T.show (said_in input.now)) (script_of P.naming input.now) Ran (T.bytes told)) }
+    ensures fault { IfErr result (λ e. Faults e (script_of P.naming input.now)) }
 {
     let Opened {
         config,
         header,
         reading,
-    } = open_script(alloc, input)?;
+    } = open_script::<P>(alloc, input)?;
     // (a configuration that was read can be opened, unless out of memory)
     let Ok(mut machine) = Machine::new(alloc, config) else {
         return Err(ScriptError::OutOfMemory);
@@ -46,22 +46,26 @@ fn told<T: Teller>(alloc: Global, input: &[u8], teller: T) -> Result<T, ScriptEr
 }
 
 /// Returns what explains the script that an input says. It fails with the script's first fault, or out of memory.
-fn explained(alloc: Global, how: Explanation, input: &[u8]) -> Result<Vec<u8>, ScriptError>
-    ensures told { IfOk result (λ bytes. IsExplained how input.now Ran bytes.items) }
-    ensures fault { IfErr result (λ e. Faults e (script_of input.now)) }
+fn explained<P: NamedPolicy>(
+    alloc: Global,
+    how: Explanation,
+    input: &[u8],
+) -> Result<Vec<u8>, ScriptError>
+    ensures told { IfOk result (λ bytes. IsExplained P.naming P.chosen how input.now Ran bytes.items) }
+    ensures fault { IfErr result (λ e. Faults e (script_of P.naming input.now)) }
 {
     match how {
-        Explanation::Lines => Ok(told(alloc, input, Page::new(alloc))?.into_bytes()),
-        Explanation::Json => Ok(told(alloc, input, Objects::new(alloc))?.into_bytes()),
+        Explanation::Lines => Ok(told::<P, _>(alloc, input, Page::new(alloc))?.into_bytes()),
+        Explanation::Json => Ok(told::<P, _>(alloc, input, Objects::new(alloc))?.into_bytes()),
     }
 }
 
 /// What explains a script, written so.
-impl Answering for Explanation {
-    ghost shows = { Told };
+impl<P: NamedPolicy> Answering<P> for Explanation {
+    ghost shows = { Told P.chosen };
 
     fn answer(&self, alloc: Global, input: &[u8]) -> Result<Vec<u8>, ScriptError> {
-        explained(alloc, *self, input)
+        explained::<P>(alloc, *self, input)
     }
 }
 
@@ -76,17 +80,17 @@ impl Answering for Explanation {
 /// # Errors
 ///
 /// As of [`answer_script`].
-pub fn explain_script<R: Read, W: Write>(
+pub fn explain_script<P: NamedPolicy, R: Read, W: Write>(
     alloc: Global,
     reader: &mut R,
     writer: &mut W,
     how: Explanation,
 ) -> Result<Kept, TraceFault>
-    ensures ended { IfOk result (λ kept. AnswersAll (IsExplained how) kept.ended (R.remaining reader.old) (W.contents writer.old) (W.contents writer.new)) }
-    ensures read { IfOk result (λ kept. AnswersOf (IsExplained how) kept.input.items kept.ended (R.remaining reader.old) (R.remaining reader.new) (W.contents writer.old) (W.contents writer.new)) }
+    ensures ended { IfOk result (λ kept. AnswersAll (IsExplained P.naming P.chosen how) kept.ended (R.remaining reader.old) (W.contents writer.old) (W.contents writer.new)) }
+    ensures read { IfOk result (λ kept. AnswersOf (IsExplained P.naming P.chosen how) kept.input.items kept.ended (R.remaining reader.old) (R.remaining reader.new) (W.contents writer.old) (W.contents writer.new)) }
     ensures bounded { ConsumesAtMost MOST_READ_BYTES (R.remaining reader.old) (R.remaining reader.new) }
     ensures unwritten { IfErr result (λ e. e ≢ TraceFault.WriteFailed → Keeps (W.contents writer.old) (W.contents writer.new)) }
-    ensures begun { IsErrOf result TraceFault.WriteFailed → BeginsAnswer (IsExplained how) (R.remaining reader.old) (W.contents writer.old) (W.contents writer.new) }
+    ensures begun { IsErrOf result TraceFault.WriteFailed → BeginsAnswer (IsExplained P.naming P.chosen how) (R.remaining reader.old) (W.contents writer.old) (W.contents writer.new) }
 {
-    answer_script(alloc, reader, writer, &how)
+    answer_script::<P, R, W, Explanation>(alloc, reader, writer, &how)
 }

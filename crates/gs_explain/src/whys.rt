@@ -232,7 +232,7 @@ fn push_plain(
             push_reason(alloc, why, &Reason::Refused(refused))
         }
         Reply::Torn => {
-            let overflow = overflow_of(scene.event, scene.machine);
+            let overflow = overflow_of(scene.event, scene.kernel);
             push_reason(alloc, why, &Reason::Torn(overflow))
         }
         Reply::Drained(drained) => push_drained(alloc, why, drained),

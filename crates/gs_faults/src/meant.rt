@@ -2,14 +2,13 @@
 
 use crate::form_text::EVENTS;
 use gs_hints::nearest;
-use gs_script::{Found, Reason, Wanted};
+use gs_script::{Found, PolicyWord, Reason, Wanted};
 use std::alloc::{AllocError, Global};
 
 /// Returns the word that may stand there, if one alone may.
 fn word_of(wanted: Wanted) -> Option<&'static str> {
     match wanted {
-        Wanted::First => Some("first"),
-        Wanted::Two => Some("two"),
+        Wanted::Named(PolicyWord::Word(word)) => Some(word),
         Wanted::Ring => Some("ring"),
         Wanted::FirstTseq => Some("first-tseq"),
         Wanted::FirstGen => Some("first-gen"),

@@ -1,11 +1,25 @@
 //! What a word is to be, in words.
 
-use gs_script::Wanted;
+use gs_script::{PolicyWord, Wanted};
 use std::alloc::AllocError;
+use std::fmt::Write;
 
-/// Returns what a word is to be.
-fn wanted_text(wanted: Wanted) -> &'static str {
-    match wanted {
+/// Writes what a word is to be that names a policy.
+fn write_policy_word(text: &mut String, word: PolicyWord) -> Result<(), AllocError> {
+    match word {
+        PolicyWord::Word(word) => write!(text, "`{word}`"),
+        PolicyWord::Number {
+            letter,
+            what,
+            least,
+            most,
+        } => write!(text, "{letter}, {what} from {least} to {most}"),
+    }
+}
+
+/// Writes what a word is to be.
+fn write_one(text: &mut String, wanted: Wanted) -> Result<(), AllocError> {
+    text.push_str(match wanted {
         Wanted::Mask => {
             "M, a mask of CPUs: the sum of 2^C for each CPU C in it, from 0 to 340282366920938463463374607431768211455"
         }
@@ -18,9 +32,7 @@ fn wanted_text(wanted: Wanted) -> &'static str {
         Wanted::Transaction => "N, the number of a transaction from 0 to 4294967295",
         Wanted::PageThreads => "N, how many threads the page has at most, from 0 to 65535",
         Wanted::Flag => "`p`, `g` or `pg`",
-        Wanted::First => "`first`",
-        Wanted::Two => "`two`",
-        Wanted::Slice => "S, a count of ticks from 1 to 65535",
+        Wanted::Named(word) => return write_policy_word(text, word),
         Wanted::Cpus => "C, how many CPUs there are, from 2 to 128",
         Wanted::Ring => "`ring`",
         Wanted::Capacity => {
@@ -33,7 +45,7 @@ fn wanted_text(wanted: Wanted) -> &'static str {
         Wanted::History => "`history`",
         Wanted::Entries => "N, a count of entries from 2 to 16777216",
         Wanted::Policy => "`policy`",
-    }
+    })
 }
 
 /// Returns whether one of these is this one.
@@ -49,7 +61,7 @@ pub(crate) fn write_wanted(text: &mut String, wanted: &[Wanted]) -> Result<(), A
             continue;
         }
         text.push_str(if is_first { "wanted: " } else { ", or " })?;
-        text.push_str(wanted_text(*one))?;
+        write_one(text, *one)?;
         is_first = false;
     }
     Ok(())

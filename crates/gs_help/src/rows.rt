@@ -149,7 +149,7 @@ pub(crate) fn the_agent() -> &'static [Row] {
         },
         Row {
             words: &["late"],
-            text: "line `late` N\n  What happens: the transaction of this number lands once more, as it was stamped. No slot changes\n  Refused, in this order: NoSuchTransaction\n  Reply: `late N OUTCOME T seq S`\n",
+            text: "line `late` N\n  What happens: the transaction of this number lands as it was stamped, whether it landed before or not. No slot changes\n  Refused, in this order: NoSuchTransaction\n  Reply: `late N OUTCOME T seq S`\n",
         },
     ]
 }

@@ -13,6 +13,7 @@ use Rattle.gs_script.specs.declared.fault.Reason.TheVariants.{NoHeader, BadWord,
 use Rattle.gs_script.specs.Words.{lines_of, words_of, is_text, is_number, number}
 use Rattle.gs_script.specs.Grammar.{Form, Number, line_fault, first_fault, literal}
 use Rattle.gs_script.specs.Rows.{event_of, u16s, u32s}
+use Rattle.gs_script.specs.Any.{any}
 use Rattle.gs_script.specs.Header.{header_of, histories}
 use Rattle.gs_script.specs.Script.{script_of, fault}
 use Rattle.gs_script.specs.declared.line.LineError.TheVariants as line_errors
@@ -91,7 +92,7 @@ many_digits_is_number = refl
 
 -- lines of events
 abbrev event : List ℕ → Result (Event AnyPolicy) Reason
-event text = event_of (words_of text)
+event text = event_of any (words_of text)
 
 drain_least : event (codes "drain 0") ≡ Ok (events.Drain 0)
 drain_least = refl
@@ -252,7 +253,7 @@ activates_alone = refl
 
 -- headers
 abbrev header : List ℕ → Result (Config AnyPolicy) Reason
-header text = header_of (words_of text)
+header text = header_of any (words_of text)
 
 header_word : header (codes "cpus") ≡ Err BadCount
 header_word = refl
@@ -346,42 +347,42 @@ header_first_and_last = refl
 
 -- scripts
 
-header_alone : script_of (codes "cpus 2 ring 128") ≡ Ok (record { config = record { cpus = 2; ring = 128; first_tseq = 0; first_generation = 1; history = 16777216; policy = policies.FirstCome (record {}) }; events = [] })
+header_alone : script_of any (codes "cpus 2 ring 128") ≡ Ok (record { config = record { cpus = 2; ring = 128; first_tseq = 0; first_generation = 1; history = 16777216; policy = policies.FirstCome (record {}) }; events = [] })
 header_alone = refl
 
-header_line : script_of (codes "  cpus 2  ring 128 " ++ 10 ∷ []) ≡ Ok (record { config = record { cpus = 2; ring = 128; first_tseq = 0; first_generation = 1; history = 16777216; policy = policies.FirstCome (record {}) }; events = [] })
+header_line : script_of any (codes "  cpus 2  ring 128 " ++ 10 ∷ []) ≡ Ok (record { config = record { cpus = 2; ring = 128; first_tseq = 0; first_generation = 1; history = 16777216; policy = policies.FirstCome (record {}) }; events = [] })
 header_line = refl
 
-two_events : script_of (codes "# a" ++ 10 ∷ codes "cpus 2 ring 128" ++ 10 ∷ 10 ∷ codes "drain 1" ++ 10 ∷ codes " #drain 2" ++ 10 ∷ codes "drain 3") ≡ Ok (record { config = record { cpus = 2; ring = 128; first_tseq = 0; first_generation = 1; history = 16777216; policy = policies.FirstCome (record {}) }; events = events.Drain 1 ∷ events.Drain 3 ∷ [] })
+two_events : script_of any (codes "# a" ++ 10 ∷ codes "cpus 2 ring 128" ++ 10 ∷ 10 ∷ codes "drain 1" ++ 10 ∷ codes " #drain 2" ++ 10 ∷ codes "drain 3") ≡ Ok (record { config = record { cpus = 2; ring = 128; first_tseq = 0; first_generation = 1; history = 16777216; policy = policies.FirstCome (record {}) }; events = events.Drain 1 ∷ events.Drain 3 ∷ [] })
 two_events = refl
 
-counted_lines : script_of (codes "#" ++ 10 ∷ 10 ∷ codes "cpus 2 ring 128" ++ 10 ∷ codes "   " ++ 10 ∷ codes "# x" ++ 10 ∷ codes "drain") ≡ Err (fault 6 BadCount)
+counted_lines : script_of any (codes "#" ++ 10 ∷ 10 ∷ codes "cpus 2 ring 128" ++ 10 ∷ codes "   " ++ 10 ∷ codes "# x" ++ 10 ∷ codes "drain") ≡ Err (fault 6 BadCount)
 counted_lines = refl
 
-first_line_first : script_of (codes "cpus 2 ring 128" ++ 10 ∷ codes "drain" ++ 10 ∷ codes "blok" ++ 10 ∷ 9 ∷ []) ≡ Err (fault 2 BadCount)
+first_line_first : script_of any (codes "cpus 2 ring 128" ++ 10 ∷ codes "drain" ++ 10 ∷ codes "blok" ++ 10 ∷ 9 ∷ []) ≡ Err (fault 2 BadCount)
 first_line_first = refl
 
-header_before_events : script_of (codes "cpus 2" ++ 10 ∷ codes "blok" ++ 10 ∷ 9 ∷ []) ≡ Err (fault 1 BadCount)
+header_before_events : script_of any (codes "cpus 2" ++ 10 ∷ codes "blok" ++ 10 ∷ 9 ∷ []) ≡ Err (fault 1 BadCount)
 header_before_events = refl
 
-byte_before_header : script_of (codes "block" ++ 9 ∷ codes "1") ≡ Err (fault 1 BadByte)
+byte_before_header : script_of any (codes "block" ++ 9 ∷ codes "1") ≡ Err (fault 1 BadByte)
 byte_before_header = refl
 
-byte_before_word : script_of (codes "cpus 2 ring 128" ++ 10 ∷ codes "blok 01" ++ 9 ∷ []) ≡ Err (fault 2 BadByte)
+byte_before_word : script_of any (codes "cpus 2 ring 128" ++ 10 ∷ codes "blok 01" ++ 9 ∷ []) ≡ Err (fault 2 BadByte)
 byte_before_word = refl
 
-header_before_byte : script_of (codes "block 1" ++ 10 ∷ 9 ∷ []) ≡ Err (fault 1 NoHeader)
+header_before_byte : script_of any (codes "block 1" ++ 10 ∷ 9 ∷ []) ≡ Err (fault 1 NoHeader)
 header_before_byte = refl
 
-byte_without_header : script_of (codes "# a" ++ 10 ∷ codes "#" ++ 0 ∷ []) ≡ Err (fault 2 BadByte)
+byte_without_header : script_of any (codes "# a" ++ 10 ∷ codes "#" ++ 0 ∷ []) ≡ Err (fault 2 BadByte)
 byte_without_header = refl
 
-return_at_end : script_of (codes "cpus 2 ring 128" ++ 13 ∷ 10 ∷ []) ≡ Err (fault 1 BadByte)
+return_at_end : script_of any (codes "cpus 2 ring 128" ++ 13 ∷ 10 ∷ []) ≡ Err (fault 1 BadByte)
 return_at_end = refl
 
 -- the policy, and the part before it
 abbrev policy : List ℕ → Option Reason
-policy text = first_fault histories (words_of text)
+policy text = first_fault (histories any) (words_of text)
 
 policy_first : policy (codes "history 5 policy first") ≡ None
 policy_first = refl

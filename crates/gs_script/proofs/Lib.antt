@@ -4,6 +4,7 @@ pub mod Texts
 pub mod Parts
 pub mod Policies
 pub mod Firsts
+pub mod Fronts
 pub mod Taken
 pub mod Sizes
 pub mod Extends

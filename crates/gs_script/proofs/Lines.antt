@@ -1,18 +1,12 @@
 -- A walk over the lines of a text.
-use Rattle.std.proofs.Common.{◌≡◌, ℕ, ◌+◌, ◌<◌, suc, List, [], ◌∷◌, ◌++◌, length, take, drop, drop-cons, get_or, refl, sym, ◌∙◌, ap, true, false, nat_eq, Option, None, Some, Result, Ok, Err, append_assoc, append-nil, arith, ◌==◌, ◌||◌, Bor}
+use Rattle.std.proofs.Common.{◌≡◌, ℕ, ◌+◌, ◌<◌, suc, List, [], ◌∷◌, ◌++◌, length, take, drop, drop-cons, get_or, refl, sym, ◌∙◌, ap, true, false, nat_eq, Result, Ok, Err, append_assoc, arith, ◌==◌, ◌||◌}
 use Rattle.std.specs.List.{onto_first, list_any}
 use Rattle.std.proofs.lemmas.List.{take-append-drop, take_more}
 use Rattle.std.proofs.lemmas.List.Folds.{list_any-append}
 use Rattle.std.proofs.lemmas.List.Splits.{slice_split-cons_no}
-use Rattle.gs_policy.specs.declared.any.AnyPolicy.{AnyPolicy}
 use Rattle.gs_core.specs.declared.event.Event.{Event}
 use Rattle.gs_script.specs.declared.fault.ScriptFault.{ScriptFault}
-use Rattle.gs_script.specs.declared.line.LineError.{LineError}
-use Rattle.gs_script.specs.declared.line.LineError.TheVariants as lines
-use Rattle.gs_script.specs.Held.{Adds, Fails, GivesBy, and_one, placed}
-use Rattle.gs_script.specs.Plain.{FirstLine, lines_left}
 use Rattle.gs_script.specs.Words.{lines_of}
-use Rattle.gs_script.specs.Rows.{event_of}
 use Rattle.gs_script.specs.Script.{with_event}
 use Rattle.gs_script.specs.Unread.{with_front}
 
@@ -45,10 +39,10 @@ one_line text i lt h k =
     ap lines_of (sym (take-append-drop i text) ∙ ap (λ l. take i text ++ l) rest) ∙ cut_then (take i text) (drop (i + 1) text) h
 
 -- the events so far, and then what the lines behind them say
-pub with_front_nil : (r : Result (List (Event AnyPolicy)) ScriptFault) → with_front [] r ≡ r
+pub with_front_nil : {A : Type 0} (r : Result (List (Event A)) ScriptFault) → with_front [] r ≡ r
 with_front_nil (Ok es) = refl
 with_front_nil (Err f) = refl
 
-pub with_front_more : (front : List (Event AnyPolicy)) (e : Event AnyPolicy) (r : Result (List (Event AnyPolicy)) ScriptFault) → with_front front (with_event e r) ≡ with_front (front ++ e ∷ []) r
+pub with_front_more : {A : Type 0} (front : List (Event A)) (e : Event A) (r : Result (List (Event A)) ScriptFault) → with_front front (with_event e r) ≡ with_front (front ++ e ∷ []) r
 with_front_more front e (Ok es) = ap Ok (sym (append_assoc front (e ∷ []) es))
 with_front_more front e (Err f) = refl

@@ -1,12 +1,12 @@
 -- A line that is read by itself, by what stands first in it.
 use denote.Ref.{Bor}
 use Rattle.std.proofs.Common.{◌≡◌, refl, ap, sym, subst, ◌∙◌, ℕ, Bool, true, false, not, ◌&&◌, cond, Option, None, Some, is_some, Result, Ok, Err, List, [], ◌∷◌, ◌++◌, nat_le}
-use Rattle.gs_policy.specs.declared.any.AnyPolicy.{AnyPolicy}
 use Rattle.gs_core.specs.declared.event.Event.{Event}
 use Rattle.gs_script.specs.declared.fault.Reason.{Reason}
 use Rattle.gs_script.specs.declared.fault.Reason.TheVariants.{BadByte}
 use Rattle.gs_script.specs.declared.line.LineError.{LineError}
 use Rattle.gs_script.specs.Words.{is_text, lines_of, words_of}
+use Rattle.gs_script.specs.Naming.{Naming}
 use Rattle.gs_script.specs.Rows.{event_of}
 use Rattle.gs_script.specs.Plain.{lines_left}
 use Rattle.gs_script.specs.Script.{is_passed_over, says, some_of}
@@ -21,13 +21,13 @@ only_line : (line first other : List ℕ) (left : Option (Bor (List ℕ))) (ls :
 only_line line first other None ls none cut e = whole_text line first cut ∙ first_of first other [] ls (sym cut ∙ e)
 only_line line first other (Some rest) ls none cut e = absurd (cc)
 
-pub said_alone : (line first : List ℕ) (none left : Option (Bor (List ℕ))) (old new : List (Event AnyPolicy)) → is_some none ≡ false → lines_of line ≡ first ∷ lines_left none → Adds line left old new → AddsSaid line old new
-said_alone line first none left old new e cut a =
-    record { said = a.said; is = ap (says event_of) (only_line line first a.first.line none (lines_left left) e cut a.first.cut) ∙ a.first.is; events = a.events }
+pub said_alone : {A : Type 0} (naming : Naming A) (line first : List ℕ) (none left : Option (Bor (List ℕ))) (old new : List (Event A)) → is_some none ≡ false → lines_of line ≡ first ∷ lines_left none → Adds naming line left old new → AddsSaid naming line old new
+said_alone naming line first none left old new e cut a =
+    record { said = a.said; is = ap (says (event_of naming)) (only_line line first a.first.line none (lines_left left) e cut a.first.cut) ∙ a.first.is; events = a.events }
 
-pub unsaid_alone : (line first : List ℕ) (none : Option (Bor (List ℕ))) (error : LineError) → is_some none ≡ false → lines_of line ≡ first ∷ lines_left none → Fails line error → IsUnsaid error line
-unsaid_alone line first none error e cut f =
-    subst (IsUnsaid error) (sym (only_line line first f.first.line none (lines_left f.left) e cut f.first.cut)) f.first.is
+pub unsaid_alone : {A : Type 0} (naming : Naming A) (line first : List ℕ) (none : Option (Bor (List ℕ))) (error : LineError) → is_some none ≡ false → lines_of line ≡ first ∷ lines_left none → Fails naming line error → IsUnsaid naming error line
+unsaid_alone naming line first none error e cut f =
+    subst (IsUnsaid naming error) (sym (only_line line first f.first.line none (lines_left f.left) e cut f.first.cut)) f.first.is
 
 -- a newline is no text
 broken_text : (front rest : List ℕ) → is_text (front ++ 10 ∷ rest) ≡ false
@@ -42,6 +42,6 @@ no_text : {A : Type 0} (read : List (List ℕ) → Result A Reason) (line : List
 no_text read line h = ap (λ t. cond (not t) (Err BadByte) (cond (is_passed_over (words_of line)) (Ok None) (some_of (read (words_of line))))) h
 
 -- something is left behind a newline, so the whole has a bad byte
-pub cut_fault : (line first : List ℕ) (left : Option (Bor (List ℕ))) → is_some left ≡ true → lines_of line ≡ first ∷ lines_left left → says event_of line ≡ Err BadByte
-cut_fault line first None some cut = absurd (cc)
-cut_fault line first (Some rest) some cut = no_text event_of line (ap is_text (cut_text line first rest.now cut) ∙ broken_text first rest.now)
+pub cut_fault : {A : Type 0} (naming : Naming A) (line first : List ℕ) (left : Option (Bor (List ℕ))) → is_some left ≡ true → lines_of line ≡ first ∷ lines_left left → says (event_of naming) line ≡ Err BadByte
+cut_fault naming line first None some cut = absurd (cc)
+cut_fault naming line first (Some rest) some cut = no_text (event_of naming) line (ap is_text (cut_text line first rest.now cut) ∙ broken_text first rest.now)

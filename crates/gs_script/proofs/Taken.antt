@@ -13,3 +13,7 @@ went false x y f h = absurd (cc)
 pub not_not : (b : Bool) → false ≡ not b → b ≡ true
 not_not true h = refl
 not_not false h = absurd (cc)
+
+pub not_yes : (b : Bool) → true ≡ not b → b ≡ false
+not_yes true h = absurd (cc)
+not_yes false h = refl

@@ -1,11 +1,9 @@
 -- A script, read line by line.
 use denote.Ref.{Bor}
-use Rattle.std.proofs.Common.{◌≡◌, refl, ap, sym, subst, ◌∙◌, ℕ, ◌+◌, ◌-◌, ◌<◌, ◌≤◌, Bool, true, false, not, ◌&&◌, ◌==◌, cond, Option, None, Some, Result, Ok, Err, List, [], ◌∷◌, ◌++◌, append-nil, length, length-append, take, arith}
+use Rattle.std.proofs.Common.{◌≡◌, refl, ap, sym, subst, ◌∙◌, ℕ, ◌+◌, ◌<◌, ◌≤◌, Bool, true, false, not, ◌&&◌, ◌==◌, cond, Option, None, Some, Result, Ok, Err, List, [], ◌∷◌, ◌++◌, append-nil, length, length-append, take, arith}
 use Rattle.std.specs.List.{join_with_byte}
 use Rattle.std.proofs.Math.Seq.{take-append_seam}
 use Rattle.std.proofs.lemmas.List.Splits.{join_with_byte-slice_split, length-slice_split}
-use Rattle.gs_policy.specs.declared.any.AnyPolicy.{AnyPolicy}
-use Rattle.gs_replies.specs.declared.config.Config.{Config}
 use Rattle.gs_core.specs.declared.event.Event.{Event}
 use Rattle.gs_script.specs.declared.fault.Reason.{Reason}
 use Rattle.gs_script.specs.declared.fault.Reason.TheVariants.{BadByte}
@@ -14,6 +12,7 @@ use Rattle.gs_script.specs.declared.reading.SaidLine.{SaidLine}
 use Rattle.gs_script.specs.declared.line.LineError.{LineError}
 use Rattle.gs_script.specs.declared.line.LineError.TheVariants as lines
 use Rattle.gs_script.specs.Words.{is_text, lines_of, words_of}
+use Rattle.gs_script.specs.Naming.{Naming}
 use Rattle.gs_script.specs.Rows.{event_of}
 use Rattle.gs_script.specs.Plain.{FirstLine, lines_left}
 use Rattle.gs_script.specs.Script.{before, events_of, is_passed_over, says, some_of, with_event}
@@ -63,41 +62,41 @@ line_taken text line rest n e k =
     e ∙ ap (λ l. l ∷ lines_of rest) (sym is)
 
 -- an event was added, or none
-added_none : (old new : List (Event AnyPolicy)) (o : Option (Event AnyPolicy)) → new ≡ and_one old o → length new ≤ length old → o ≡ None
+added_none : {A : Type 0} (old new : List (Event A)) (o : Option (Event A)) → new ≡ and_one old o → length new ≤ length old → o ≡ None
 added_none old new None e le = refl
 added_none old new (Some x) e le = absurd (omega (arith, le, ap length e, length-append old (x ∷ [])))
 
 -- the lines that are left say what all said, if one that says nothing was read
-pub passed_events : (n : ℕ) (text : List ℕ) (left : Option (Bor (List ℕ))) (old new : List (Event AnyPolicy)) → Adds text left old new → length new ≤ length old → events_of (n + 1) (lines_left left) ≡ events_of n (lines_of text)
-passed_events n text left old new a le =
+pub passed_events : {A : Type 0} (naming : Naming A) (n : ℕ) (text : List ℕ) (left : Option (Bor (List ℕ))) (old new : List (Event A)) → Adds naming text left old new → length new ≤ length old → events_of naming (n + 1) (lines_left left) ≡ events_of naming n (lines_of text)
+passed_events naming n text left old new a le =
     let none : a.said ≡ None = added_none old new a.said a.events le in
-    sym (ap (events_of n) a.first.cut ∙ ap (λ s. before n s (events_of (n + 1) (lines_left left))) (a.first.is ∙ ap Ok none))
+    sym (ap (events_of naming n) a.first.cut ∙ ap (λ s. before n s (events_of naming (n + 1) (lines_left left))) (a.first.is ∙ ap Ok none))
 
-pub passed_said : (n : ℕ) (text : List ℕ) (left : Option (Bor (List ℕ))) (old new : List (Event AnyPolicy)) → Adds text left old new → length new ≤ length old → said (n + 1) (lines_left left) ≡ said n (lines_of text)
-passed_said n text left old new a le =
+pub passed_said : {A : Type 0} (naming : Naming A) (n : ℕ) (text : List ℕ) (left : Option (Bor (List ℕ))) (old new : List (Event A)) → Adds naming text left old new → length new ≤ length old → said (n + 1) (lines_left left) ≡ said n (lines_of text)
+passed_said naming n text left old new a le =
     let none : a.said ≡ None = added_none old new a.said a.events le in
-    sym (ap (said n) a.first.cut ∙ ap (λ xs. xs ++ said (n + 1) (lines_left left)) (says_none event_of n a.first.line (a.first.is ∙ ap Ok none)))
+    sym (ap (said n) a.first.cut ∙ ap (λ xs. xs ++ said (n + 1) (lines_left left)) (says_none (event_of naming) n a.first.line (a.first.is ∙ ap Ok none)))
 
-pub passed_same : (text : List ℕ) (left : Option (Bor (List ℕ))) (old new : List (Event AnyPolicy)) → Adds text left old new → length new ≤ length old → new ≡ old
-passed_same text left old new a le = a.events ∙ ap (and_one old) (added_none old new a.said a.events le)
+pub passed_same : {A : Type 0} (naming : Naming A) (text : List ℕ) (left : Option (Bor (List ℕ))) (old new : List (Event A)) → Adds naming text left old new → length new ≤ length old → new ≡ old
+passed_same naming text left old new a le = a.events ∙ ap (and_one old) (added_none old new a.said a.events le)
 
 -- the first line was read, and says an event
 first_of : (x y : List ℕ) (xs ys : List (List ℕ)) → x ∷ xs ≡ y ∷ ys → x ≡ y
 first_of x y xs ys e = cc
 
-pub one_read : (n : ℕ) (text : List ℕ) (left : Option (Bor (List ℕ))) (old new : List (Event AnyPolicy)) (x : SaidLine) (start : Unread) → Adds text left old new → length old < length new → x.number ≡ n → lines_of text ≡ x.bytes.now ∷ lines_left left
-    → events_of n (lines_of text) ≡ events_of start.number start.lines → said n (lines_of text) ≡ said start.number start.lines → length (lines_of text) ≤ length start.lines
-    → ReadsNext start (record { number = n + 1; lines = lines_left left }) old new x
-one_read n text left old new x start a lt number cut events says few = by_said a.said a.first a.events
+pub one_read : {A : Type 0} (naming : Naming A) (n : ℕ) (text : List ℕ) (left : Option (Bor (List ℕ))) (old new : List (Event A)) (x : SaidLine) (start : Unread) → Adds naming text left old new → length old < length new → x.number ≡ n → lines_of text ≡ x.bytes.now ∷ lines_left left
+    → events_of naming n (lines_of text) ≡ events_of naming start.number start.lines → said n (lines_of text) ≡ said start.number start.lines → length (lines_of text) ≤ length start.lines
+    → ReadsNext naming start (record { number = n + 1; lines = lines_left left }) old new x
+one_read {A} naming n text left old new x start a lt number cut events says few = by_said a.said a.first a.events
   where
-    by_said : (o : Option (Event AnyPolicy)) → FirstLine (λ line. Rattle.gs_script.specs.Script.says event_of line ≡ Ok o) text left → new ≡ and_one old o → ReadsNext start (record { number = n + 1; lines = lines_left left }) old new x
+    by_said : (o : Option (Event A)) → FirstLine (λ line. Rattle.gs_script.specs.Script.says (event_of naming) line ≡ Ok o) text left → new ≡ and_one old o → ReadsNext naming start (record { number = n + 1; lines = lines_left left }) old new x
     by_said None f e = absurd (omega (arith, lt, ap length e))
     by_said (Some v) f e =
         let same : f.line ≡ x.bytes.now = first_of f.line x.bytes.now (lines_left left) (lines_left left) (sym f.cut ∙ cut) in
-        let one = says_one event_of n f.line v f.is in
+        let one = says_one (event_of naming) n f.line v f.is in
         record {
           event = v;
-          is = sym events ∙ ap (events_of n) f.cut ∙ ap (λ s. before n s (events_of (n + 1) (lines_left left))) f.is;
+          is = sym events ∙ ap (events_of naming n) f.cut ∙ ap (λ s. before n s (events_of naming (n + 1) (lines_left left))) f.is;
           says = sym says ∙ ap (said n) f.cut ∙ ap (λ xs. xs ++ said (n + 1) (lines_left left)) one.0 ∙ (λ i. (sym number i, same i) ∷ said (n + 1) (lines_left left));
           text = subst (λ (l : List ℕ). is_text l ≡ true) same one.1;
           fewer = omega (arith, few, ap length f.cut);
@@ -105,17 +104,17 @@ one_read n text left old new x start a lt number cut events says few = by_said a
         }
 
 -- the first line has a fault
-pub faulted : (n : ℕ) (e : LineError) (text : List ℕ) (whole : Result (List (Event AnyPolicy)) ScriptFault) → events_of n (lines_of text) ≡ whole → Fails text e → Faults (placed n e) whole
-faulted n (lines.Fault reason) text whole h f = sym h ∙ ap (events_of n) f.first.cut ∙ ap (λ s. before n s (events_of (n + 1) (lines_left f.left))) f.first.is
-faulted n lines.OutOfMemory text whole h f = tt
+pub faulted : {A : Type 0} (naming : Naming A) (n : ℕ) (e : LineError) (text : List ℕ) (whole : Result (List (Event A)) ScriptFault) → events_of naming n (lines_of text) ≡ whole → Fails naming text e → Faults (placed n e) whole
+faulted naming n (lines.Fault reason) text whole h f = sym h ∙ ap (events_of naming n) f.first.cut ∙ ap (λ s. before n s (events_of naming (n + 1) (lines_left f.left))) f.first.is
+faulted naming n lines.OutOfMemory text whole h f = tt
 
 -- the events that were read, and then those that were not
-pub front_more : (front : List (Event AnyPolicy)) (e : Event AnyPolicy) (old new whole : Result (List (Event AnyPolicy)) ScriptFault) → whole ≡ with_front front old → old ≡ with_event e new → whole ≡ with_front (front ++ e ∷ []) new
+pub front_more : {A : Type 0} (front : List (Event A)) (e : Event A) (old new whole : Result (List (Event A)) ScriptFault) → whole ≡ with_front front old → old ≡ with_event e new → whole ≡ with_front (front ++ e ∷ []) new
 front_more front e old new whole h is = h ∙ ap (with_front front) is ∙ with_front_more front e new
 
-pub front_none : (front : List (Event AnyPolicy)) (left whole : Result (List (Event AnyPolicy)) ScriptFault) → whole ≡ with_front front left → left ≡ Ok [] → whole ≡ Ok front
+pub front_none : {A : Type 0} (front : List (Event A)) (left whole : Result (List (Event A)) ScriptFault) → whole ≡ with_front front left → left ≡ Ok [] → whole ≡ Ok front
 front_none front left whole h is = h ∙ ap (with_front front) is ∙ ap Ok (append-nil front)
 
-pub front_fault : (front : List (Event AnyPolicy)) (e : ScriptError) (left whole : Result (List (Event AnyPolicy)) ScriptFault) → whole ≡ with_front front left → Faults e left → Faults e whole
+pub front_fault : {A : Type 0} (front : List (Event A)) (e : ScriptError) (left whole : Result (List (Event A)) ScriptFault) → whole ≡ with_front front left → Faults e left → Faults e whole
 front_fault front (errors.Fault f) left whole h is = h ∙ ap (with_front front) is
 front_fault front errors.OutOfMemory left whole h is = tt

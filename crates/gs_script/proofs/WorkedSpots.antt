@@ -7,13 +7,15 @@ use Rattle.gs_script.specs.declared.fault.Reason.TheVariants.{BadCount}
 use Rattle.gs_script.specs.Words.{words_of}
 use Rattle.gs_script.specs.Grammar.{Form, Kind, Number, Name, after_word, fault_at, fault_of, first_fault, is_empty, literal}
 use Rattle.gs_script.specs.Rows.{stamp_flag}
+use Rattle.gs_script.specs.Any.{any}
+use Rattle.gs_script.specs.Naming.{Naming}
 use Rattle.gs_script.specs.Spot.{Spot, event_spot, first_spot, header_spot, next_kinds, one_on}
 
 abbrev of_event : List ℕ → Spot
-of_event line = event_spot (words_of line)
+of_event line = event_spot any (words_of line)
 
 abbrev of_header : List ℕ → Spot
-of_header line = header_spot (words_of line)
+of_header line = header_spot any (words_of line)
 
 abbrev at_place : ℕ → List Kind → Spot
 at_place place wanted = record { place = place; wanted = wanted }
@@ -44,6 +46,19 @@ no_ring = refl
 
 no_policy_word : of_header (codes "cpus 2 ring 128 policy two") ≡ at_place 6 (Number 1 65535 ∷ [])
 no_policy_word = refl
+
+-- of another naming, `rr` and two numbers
+abbrev turns : Naming ℕ
+turns = record { forms = (literal (codes "rr") ∷ Number 1 9 ∷ Number 0 99 ∷ []) ∷ []; named = length; words = λ n. [] }
+
+turns_number : event_spot turns (words_of (codes "begin rr 2 x")) ≡ at_place 3 (Number 0 99 ∷ [])
+turns_number = refl
+
+turns_word : header_spot turns (words_of (codes "cpus 2 ring 128 policy first")) ≡ at_place 5 (literal (codes "rr") ∷ [])
+turns_word = refl
+
+turns_further : header_spot turns (words_of (codes "cpus 2 ring 128 policy rr 2 5 6")) ≡ at_place 8 []
+turns_further = refl
 
 -- the fault that the kinds wanted at a spot give, of so many words
 abbrev kinds_fault : List Kind → Reason

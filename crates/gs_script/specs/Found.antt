@@ -6,6 +6,7 @@ use Rattle.gs_script.specs.declared.marked.Marked.{Marked}
 use Rattle.gs_script.specs.declared.spot.Spot.{Spot as TheSpot}
 use Rattle.gs_script.specs.declared.wanted.Wanted.{Wanted}
 use Rattle.gs_script.specs.Words.{is_text, lines_of, words_of}
+use Rattle.gs_script.specs.Naming.{Naming}
 use Rattle.gs_script.specs.Script.{is_passed_over, script_of}
 use Rattle.gs_script.specs.Spot.{Spot, event_spot, header_spot, kind_of}
 
@@ -65,21 +66,21 @@ abbrev pub is_header : ℕ → List ℕ → Bool
 is_header n bytes = list_all (λ line. is_passed_over (words_of line)) (take (n - 1) (lines_of bytes))
 
 -- where the fault of a line's words stands, by whether the line is in the header's place
-abbrev pub spot_at : Bool → List (List ℕ) → Spot
-spot_at true words = header_spot words
-spot_at false words = event_spot words
+abbrev pub spot_at : {A : Type 0} → Naming A → Bool → List (List ℕ) → Spot
+spot_at naming true words = header_spot naming words
+spot_at naming false words = event_spot naming words
 
 -- in a line of text the word at the fault's place is marked, and these kinds may stand there; in any other its first bad byte
-abbrev pub MarksFault : Bool → Bool → List ℕ → Marked → List Wanted → Type 0
-MarksFault true header line m wanted = Marks line (spot_at header (words_of line)).place m × (map kind_of wanted ≡ (spot_at header (words_of line)).wanted)
-MarksFault false header line m wanted = MarksByte line m × (wanted ≡ [])
+abbrev pub MarksFault : {A : Type 0} → Naming A → Bool → Bool → List ℕ → Marked → List Wanted → Type 0
+MarksFault naming true header line m wanted = Marks line (spot_at naming header (words_of line)).place m × (map kind_of wanted ≡ (spot_at naming header (words_of line)).wanted)
+MarksFault naming false header line m wanted = MarksByte line m × (wanted ≡ [])
 
 -- of the line of a number. Line 0 is the script itself, and nothing of it is marked
-abbrev pub MarksLine : ℕ → List ℕ → Marked → List Wanted → Type 0
-MarksLine zero bytes m wanted = (whole m ≡ []) × (wanted ≡ [])
-MarksLine (suc n) bytes m wanted = MarksFault (is_text (line_at (suc n) bytes)) (is_header (suc n) bytes) (line_at (suc n) bytes) m wanted
+abbrev pub MarksLine : {A : Type 0} → Naming A → ℕ → List ℕ → Marked → List Wanted → Type 0
+MarksLine naming zero bytes m wanted = (whole m ≡ []) × (wanted ≡ [])
+MarksLine naming (suc n) bytes m wanted = MarksFault naming (is_text (line_at (suc n) bytes)) (is_header (suc n) bytes) (line_at (suc n) bytes) m wanted
 
 -- the first fault of a script, and where it stands
-pub record Finds (bytes : List ℕ) (f : Found) : Type 0 where
-  pub fault : script_of bytes ≡ Err f.fault
-  pub marks : MarksLine f.fault.line bytes f.mark f.wanted.items
+pub record Finds {A : Type 0} (naming : Naming A) (bytes : List ℕ) (f : Found) : Type 0 where
+  pub fault : script_of naming bytes ≡ Err f.fault
+  pub marks : MarksLine naming f.fault.line bytes f.mark f.wanted.items

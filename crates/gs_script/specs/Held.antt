@@ -1,7 +1,6 @@
 -- What a function returned, against what is read.
 use denote.Ref.{Bor}
 use Rattle.std.specs.Prelude.{ℕ, ◌≡◌, List, [], ◌∷◌, ◌++◌, Bool, not, ◌&&◌, ◌==◌, slice_index, Option, Some, None, Result, Ok, Err}
-use Rattle.gs_policy.specs.declared.any.AnyPolicy.{AnyPolicy}
 use Rattle.gs_core.specs.declared.event.Event.{Event}
 use Rattle.gs_script.specs.declared.fault.Reason.{Reason as TheReason}
 use Rattle.gs_script.specs.declared.fault.ScriptFault.{ScriptFault}
@@ -11,6 +10,7 @@ use Rattle.gs_script.specs.declared.script.ScriptError.TheVariants as errors
 use Rattle.gs_script.specs.declared.line.LineError.{LineError}
 use Rattle.gs_script.specs.declared.line.LineError.TheVariants as lines
 use Rattle.gs_script.specs.Words.{is_shortest}
+use Rattle.gs_script.specs.Naming.{Naming}
 use Rattle.gs_script.specs.Rows.{event_of}
 use Rattle.gs_script.specs.Plain.{FirstLine, IsRead}
 use Rattle.gs_script.specs.Script.{Script, says, fault}
@@ -35,7 +35,7 @@ abbrev pub GivesBy : {A B : Type 0} → (A → B) → Result A ScriptError → R
 GivesBy view (Ok x) read = read ≡ Ok (view x)
 GivesBy view (Err e) read = Faults e read
 
-abbrev pub seen : TheScript → Script
+abbrev pub seen : {A : Type 0} → TheScript A → Script A
 seen s = record { config = s.config; events = s.events.items }
 
 abbrev pub placed : ℕ → LineError → ScriptError
@@ -43,42 +43,42 @@ placed n (lines.Fault reason) = errors.Fault (fault n reason)
 placed n lines.OutOfMemory = errors.OutOfMemory
 
 -- events, and then one that a line says, if it says one
-abbrev pub and_one : List (Event AnyPolicy) → Option (Event AnyPolicy) → List (Event AnyPolicy)
+abbrev pub and_one : {A : Type 0} → List (Event A) → Option (Event A) → List (Event A)
 and_one es None = es
 and_one es (Some e) = es ++ e ∷ []
 
 -- the first line of a text was read, with this left behind it, and what it says was added to the events
-pub record Adds (text : List ℕ) (left : Option (Bor (List ℕ))) (old new : List (Event AnyPolicy)) : Type 0 where
-  pub said : Option (Event AnyPolicy)
-  pub first : FirstLine (λ line. says event_of line ≡ Ok said) text left
+pub record Adds {A : Type 0} (naming : Naming A) (text : List ℕ) (left : Option (Bor (List ℕ))) (old new : List (Event A)) : Type 0 where
+  pub said : Option (Event A)
+  pub first : FirstLine (λ line. says (event_of naming) line ≡ Ok said) text left
   pub events : new ≡ and_one old said
 
 -- what a line says was added to the events, if it says one
-pub record AddsSaid (line : List ℕ) (old new : List (Event AnyPolicy)) : Type 0 where
-  pub said : Option (Event AnyPolicy)
-  pub is : says event_of line ≡ Ok said
+pub record AddsSaid {A : Type 0} (naming : Naming A) (line : List ℕ) (old new : List (Event A)) : Type 0 where
+  pub said : Option (Event A)
+  pub is : says (event_of naming) line ≡ Ok said
   pub events : new ≡ and_one old said
 
 -- a line has this fault, unless memory ran out
-abbrev pub IsUnsaid : LineError → List ℕ → Type 0
-IsUnsaid e line = Gives {A = Option (Event AnyPolicy)} (Err e) (says event_of line)
+abbrev pub IsUnsaid : {A : Type 0} → Naming A → LineError → List ℕ → Type 0
+IsUnsaid {A} naming e line = Gives {A = Option (Event A)} (Err e) (says (event_of naming) line)
 
 -- the same of an event that is read so
-pub record AddsRead (read : List (List ℕ) → Result (Event AnyPolicy) TheReason) (text : List ℕ) (left : Option (Bor (List ℕ))) (old new : List (Event AnyPolicy)) : Type 0 where
-  pub event : Event AnyPolicy
+pub record AddsRead {A : Type 0} (read : List (List ℕ) → Result (Event A) TheReason) (text : List ℕ) (left : Option (Bor (List ℕ))) (old new : List (Event A)) : Type 0 where
+  pub event : Event A
   pub first : FirstLine (IsRead read event) text left
   pub events : new ≡ old ++ event ∷ []
 
-abbrev pub AddsReadIf : (List (List ℕ) → Result (Event AnyPolicy) TheReason) → List ℕ → List (Event AnyPolicy) → List (Event AnyPolicy) → Option (Option (Bor (List ℕ))) → Type 0
+abbrev pub AddsReadIf : {A : Type 0} → (List (List ℕ) → Result (Event A) TheReason) → List ℕ → List (Event A) → List (Event A) → Option (Option (Bor (List ℕ))) → Type 0
 AddsReadIf read text old new None = new ≡ old
 AddsReadIf read text old new (Some left) = AddsRead read text left old new
 
 -- the same of any event, if something is left. If nothing is, nothing was added
-abbrev pub AddsIf : List ℕ → List (Event AnyPolicy) → List (Event AnyPolicy) → Option (Option (Bor (List ℕ))) → Type 0
-AddsIf text old new None = new ≡ old
-AddsIf text old new (Some left) = Adds text left old new
+abbrev pub AddsIf : {A : Type 0} → Naming A → List ℕ → List (Event A) → List (Event A) → Option (Option (Bor (List ℕ))) → Type 0
+AddsIf naming text old new None = new ≡ old
+AddsIf naming text old new (Some left) = Adds naming text left old new
 
 -- the first line of a text was not read
-pub record Fails (text : List ℕ) (e : LineError) : Type 0 where
+pub record Fails {A : Type 0} (naming : Naming A) (text : List ℕ) (e : LineError) : Type 0 where
   pub left : Option (Bor (List ℕ))
-  pub first : FirstLine (λ line. Gives {A = Option (Event AnyPolicy)} (Err e) (says event_of line)) text left
+  pub first : FirstLine (λ line. Gives {A = Option (Event A)} (Err e) (says (event_of naming) line)) text left

@@ -1,6 +1,8 @@
 pub mod Words
 pub mod Grammar
+pub mod Naming
 pub mod Rows
+pub mod Any
 pub mod Header
 pub mod Script
 pub mod Plain
@@ -9,3 +11,5 @@ pub mod Said
 pub mod Unread
 pub mod Spot
 pub mod Found
+pub mod Decimal
+pub mod Told

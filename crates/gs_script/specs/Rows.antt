@@ -9,16 +9,14 @@ use Rattle.gs_kernel.specs.declared.command.Command.TheVariants as commands
 use Rattle.gs_kernel.specs.declared.thread_event.ThreadEvent.{ThreadEvent}
 use Rattle.gs_kernel.specs.declared.thread_event.ThreadEvent.TheVariants as happens
 use Rattle.gs_slots.specs.declared.flags.Flags.{Flags}
-use Rattle.gs_policy.specs.declared.any.AnyPolicy.{AnyPolicy}
-use Rattle.gs_policy.specs.declared.any.AnyPolicy.TheVariants.{FirstCome, TwoClass}
 use Rattle.gs_core.specs.declared.event.Event.{Event}
 use Rattle.gs_core.specs.declared.event.Event.TheVariants as events
 use Rattle.gs_script.specs.declared.fault.Reason.{Reason}
 use Rattle.gs_script.specs.declared.fault.Reason.TheVariants.{BadWord, BadNumber, BadName}
 use Rattle.gs_status.specs.declared.mask.TheConstants.{MOST_CPUS}
-use Rattle.gs_script.specs.declared.header.TheConstants.{LEAST_SLICE, MOST_SLICE}
 use Rattle.gs_script.specs.Words.{number}
-use Rattle.gs_script.specs.Grammar.{is_of_kind, OneOf, Number, Name, Kind, Form, line_fault, literal, or_fault}
+use Rattle.gs_script.specs.Grammar.{is_of_kind, OneOf, Number, Name, Kind, Form, line_fault, or_fault}
+use Rattle.gs_script.specs.Naming.{Naming}
 
 -- the numbers that so many bits hold
 abbrev pub u16s : Kind
@@ -50,12 +48,12 @@ abbrev pub class_of : ℕ → Class
 class_of n = if n == 0 then Zero else One
 
 -- what an event line says: its first word, the forms of the words after it, and the event of those
-pub record Row : Type 0 where
+pub record Row (A : Type 0) : Type 0 where
   pub word : List ℕ
   pub forms : List Form
-  pub event : List (List ℕ) → Event AnyPolicy
+  pub event : List (List ℕ) → Event A
 
-abbrev pub create : Row
+abbrev pub create : {A : Type 0} → Row A
 create =
     record {
       word = codes "create";
@@ -64,67 +62,58 @@ create =
     }
 
 -- a line that says what happens to a thread
-abbrev pub to_thread : List ℕ → ThreadEvent → Row
+abbrev pub to_thread : {A : Type 0} → List ℕ → ThreadEvent → Row A
 to_thread word e = record { word = word; forms = (u32s ∷ []) ∷ []; event = λ ws. events.Kernel (commands.Thread (number (at 0 ws)) e) }
 
-abbrev pub block : Row
+abbrev pub block : {A : Type 0} → Row A
 block = to_thread (codes "block") happens.Block
 
-abbrev pub wake : Row
+abbrev pub wake : {A : Type 0} → Row A
 wake = to_thread (codes "wake") happens.Wake
 
-abbrev pub yield : Row
+abbrev pub yield : {A : Type 0} → Row A
 yield = to_thread (codes "yield") happens.Yield
 
-abbrev pub die : Row
+abbrev pub die : {A : Type 0} → Row A
 die = to_thread (codes "die") happens.Die
 
-abbrev pub affinity : Row
+abbrev pub affinity : {A : Type 0} → Row A
 affinity = record { word = codes "affinity"; forms = (u32s ∷ masks ∷ []) ∷ []; event = λ ws. events.Kernel (commands.Thread (number (at 0 ws)) (happens.Affinity (number (at 1 ws)))) }
 
 -- a line that tells the kernel something of a CPU
 abbrev pub of_cpu : List Form
 of_cpu = (u16s ∷ []) ∷ []
 
-abbrev pub to_cpu : List ℕ → (ℕ → Command) → Row
+abbrev pub to_cpu : {A : Type 0} → List ℕ → (ℕ → Command) → Row A
 to_cpu word command = record { word = word; forms = of_cpu; event = λ ws. events.Kernel (command (number (at 0 ws))) }
 
-abbrev pub take : Row
+abbrev pub take : {A : Type 0} → Row A
 take = to_cpu (codes "take") commands.Take
 
-abbrev pub give : Row
+abbrev pub give : {A : Type 0} → Row A
 give = to_cpu (codes "give") commands.Give
 
-abbrev pub tick : Row
+abbrev pub tick : {A : Type 0} → Row A
 tick = to_cpu (codes "tick") commands.Tick
 
-abbrev pub handoff : Row
+abbrev pub handoff : {A : Type 0} → Row A
 handoff = to_cpu (codes "handoff") commands.HandOff
 
-abbrev pub activate : Row
+abbrev pub activate : {A : Type 0} → Row A
 activate = to_cpu (codes "activate") commands.Activate
 
--- what names a policy
-abbrev pub policy_forms : List Form
-policy_forms = (literal (codes "first") ∷ []) ∷ (literal (codes "two") ∷ Number LEAST_SLICE MOST_SLICE ∷ []) ∷ []
-
--- the policy that words name: first come, if nothing says another
-abbrev pub named : List (List ℕ) → AnyPolicy
-named [] = FirstCome (record {})
-named (v ∷ ws) = if is v (codes "two") then TwoClass (record { slice = number (at 0 ws) }) else FirstCome (record {})
-
 -- a new agent begins: by the policy that words name, or by that of the one before
-abbrev pub begins : List (List ℕ) → Event AnyPolicy
-begins [] = events.Kernel commands.Begin
-begins (w ∷ ws) = events.Begin (named (w ∷ ws))
+abbrev pub begins : {A : Type 0} → Naming A → List (List ℕ) → Event A
+begins naming [] = events.Kernel commands.Begin
+begins naming (w ∷ ws) = events.Begin (naming.named (w ∷ ws))
 
-abbrev pub begin : Row
-begin = record { word = codes "begin"; forms = [] ∷ policy_forms; event = begins }
+abbrev pub begin : {A : Type 0} → Naming A → Row A
+begin naming = record { word = codes "begin"; forms = [] ∷ naming.forms; event = begins naming }
 
-abbrev pub page : Row
+abbrev pub page : {A : Type 0} → Row A
 page = record { word = codes "page"; forms = (u16s ∷ []) ∷ []; event = λ ws. events.Page (number (at 0 ws)) }
 
-abbrev pub drain : Row
+abbrev pub drain : {A : Type 0} → Row A
 drain = record { word = codes "drain"; forms = (u32s ∷ []) ∷ []; event = λ ws. events.Drain (number (at 0 ws)) }
 
 -- the words that may stand behind a stamp: it takes the thread off that is on the CPU, it is one of a group, or both
@@ -135,7 +124,7 @@ stamp_flag = OneOf (codes "p" ∷ codes "g" ∷ codes "pg" ∷ [])
 abbrev pub flags_of : List ℕ → Flags
 flags_of word = record { preempt = is word (codes "p") || is word (codes "pg"); group = is word (codes "g") || is word (codes "pg") }
 
-abbrev pub stamp : Row
+abbrev pub stamp : {A : Type 0} → Row A
 stamp =
     record {
       word = codes "stamp";
@@ -144,49 +133,49 @@ stamp =
     }
 
 -- a line whose first word says all: nothing stands behind it
-abbrev pub alone : List ℕ → Event AnyPolicy → Row
+abbrev pub alone : {A : Type 0} → List ℕ → Event A → Row A
 alone word e = record { word = word; forms = [] ∷ []; event = λ ws. e }
 
-abbrev pub decide : Row
+abbrev pub decide : {A : Type 0} → Row A
 decide = alone (codes "decide") events.Decide
 
-abbrev pub crash : Row
+abbrev pub crash : {A : Type 0} → Row A
 crash = alone (codes "crash") events.Crash
 
-abbrev pub leave : Row
+abbrev pub leave : {A : Type 0} → Row A
 leave = alone (codes "leave") (events.Kernel commands.Leave)
 
-abbrev pub commit : Row
+abbrev pub commit : {A : Type 0} → Row A
 commit = record { word = codes "commit"; forms = (masks ∷ []) ∷ []; event = λ ws. events.Commit (number (at 0 ws)) }
 
-abbrev pub late : Row
+abbrev pub late : {A : Type 0} → Row A
 late = record { word = codes "late"; forms = (u32s ∷ []) ∷ []; event = λ ws. events.Late (number (at 0 ws)) }
 
-abbrev pub view : Row
+abbrev pub view : {A : Type 0} → Row A
 view = alone (codes "view") events.View
 
-abbrev pub state : Row
+abbrev pub state : {A : Type 0} → Row A
 state = alone (codes "state") events.State
 
-abbrev pub unread : Row
+abbrev pub unread : {A : Type 0} → Row A
 unread = alone (codes "unread") events.Unread
 
-abbrev pub rows : List Row
-rows = create ∷ block ∷ wake ∷ yield ∷ die ∷ affinity ∷ take ∷ give ∷ tick ∷ handoff ∷ crash ∷ leave ∷ begin ∷ page ∷ activate ∷ drain ∷ stamp ∷ decide ∷ commit ∷ late ∷ view ∷ state ∷ unread ∷ []
+abbrev pub rows : {A : Type 0} → Naming A → List (Row A)
+rows naming = create ∷ block ∷ wake ∷ yield ∷ die ∷ affinity ∷ take ∷ give ∷ tick ∷ handoff ∷ crash ∷ leave ∷ begin naming ∷ page ∷ activate ∷ drain ∷ stamp ∷ decide ∷ commit ∷ late ∷ view ∷ state ∷ unread ∷ []
 
 -- what a row reads in the words after its first
-abbrev pub reads : Row → List (List ℕ) → Result (Event AnyPolicy) Reason
+abbrev pub reads : {A : Type 0} → Row A → List (List ℕ) → Result (Event A) Reason
 reads row words = or_fault (line_fault row.forms words) (row.event words)
 
 -- what the first of these rows whose word it is reads
-abbrev pub event_by : List Row → List ℕ → List (List ℕ) → Result (Event AnyPolicy) Reason
+abbrev pub event_by : {A : Type 0} → List (Row A) → List ℕ → List (List ℕ) → Result (Event A) Reason
 event_by [] first words = Err BadWord
 event_by (row ∷ rows) first words = if is first row.word then reads row words else event_by rows first words
 
 -- what an event line of these words says
-abbrev pub event_of : List (List ℕ) → Result (Event AnyPolicy) Reason
-event_of [] = Err BadWord
-event_of (first ∷ words) = event_by rows first words
+abbrev pub event_of : {A : Type 0} → Naming A → List (List ℕ) → Result (Event A) Reason
+event_of naming [] = Err BadWord
+event_of naming (first ∷ words) = event_by (rows naming) first words
 
 -- the bytes of words
 abbrev pub shown : List (Bor (List ℕ)) → List (List ℕ)

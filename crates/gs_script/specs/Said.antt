@@ -1,10 +1,10 @@
 -- The lines of a script that say something, with their numbers.
 use Rattle.std.specs.Prelude.{Bool, true, false, not, ◌&&◌, ℕ, ◌+◌, ◌≡◌, List, [], ◌∷◌, ◌++◌, length, nat_lt, if◌then◌else◌, Result, Ok, Err}
-use Rattle.gs_policy.specs.declared.any.AnyPolicy.{AnyPolicy}
 use Rattle.gs_core.specs.declared.event.Event.{Event}
 use Rattle.gs_script.specs.declared.fault.ScriptFault.{ScriptFault}
 use Rattle.gs_script.specs.declared.script.TheConstants.{MOST_BYTES}
 use Rattle.gs_script.specs.Words.{is_text, lines_of, words_of}
+use Rattle.gs_script.specs.Naming.{Naming}
 use Rattle.gs_script.specs.Rows.{event_of}
 use Rattle.gs_script.specs.Script.{Script, is_passed_over}
 
@@ -27,14 +27,14 @@ abbrev pub said_in : List ℕ → List (ℕ × List ℕ)
 said_in bytes = if nat_lt MOST_BYTES (length bytes) then [] else said 1 (lines_of bytes)
 
 -- each of these lines says the event beside it
-abbrev pub SayEach : List (ℕ × List ℕ) → List (Event AnyPolicy) → Type 0
-SayEach [] [] = Unit {0}
-SayEach (x ∷ xs) (e ∷ es) = (event_of (words_of x.1) ≡ Ok e) × SayEach xs es
-SayEach [] (e ∷ es) = ⊥
-SayEach (x ∷ xs) [] = ⊥
+abbrev pub SayEach : {A : Type 0} → Naming A → List (ℕ × List ℕ) → List (Event A) → Type 0
+SayEach naming [] [] = Unit {0}
+SayEach naming (x ∷ xs) (e ∷ es) = (event_of naming (words_of x.1) ≡ Ok e) × SayEach naming xs es
+SayEach naming [] (e ∷ es) = ⊥
+SayEach naming (x ∷ xs) [] = ⊥
 
 -- the first line is the header's, and each of the others says an event of the script
-abbrev pub SayScript : List (ℕ × List ℕ) → Result Script ScriptFault → Type 0
-SayScript [] (Ok s) = ⊥
-SayScript (x ∷ xs) (Ok s) = SayEach xs s.events
-SayScript xs (Err f) = Unit {0}
+abbrev pub SayScript : {A : Type 0} → Naming A → List (ℕ × List ℕ) → Result (Script A) ScriptFault → Type 0
+SayScript naming [] (Ok s) = ⊥
+SayScript naming (x ∷ xs) (Ok s) = SayEach naming xs s.events
+SayScript naming xs (Err f) = Unit {0}

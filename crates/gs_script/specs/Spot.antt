@@ -1,14 +1,15 @@
 -- Where a line's first fault stands, and what is wanted there.
 use denote.Ref.{Bor}
-use Rattle.std.specs.Prelude.{◌+◌, ℕ, max, min, nat_lt, List, [], ◌∷◌, map, length, flat_map, find, if◌then◌else◌, Option, Some, None, codes}
+use Rattle.std.specs.Prelude.{◌+◌, ℕ, max, min, nat_lt, List, [], ◌∷◌, ◌++◌, map, length, flat_map, find, if◌then◌else◌, Option, Some, None, codes}
 use Rattle.gs_status.specs.declared.mask.TheConstants.{MOST_CPUS}
 use Rattle.gs_layout.specs.declared.wire.TheConstants.{ALIGNMENT}
 use Rattle.gs_ring.specs.declared.block.TheConstants.{LEAST_CAPACITY, MOST_CAPACITY}
 use Rattle.gs_kernel.specs.declared.settings.TheConstants.{LEAST_CPUS, LEAST_GENERATION, LEAST_HISTORY, MOST_FIRST_TSEQ, MOST_GENERATION, MOST_HISTORY}
-use Rattle.gs_script.specs.declared.header.TheConstants.{LEAST_SLICE, MOST_SLICE}
+use Rattle.gs_script.specs.declared.forms.Form.{Form as TheForm}
 use Rattle.gs_script.specs.declared.wanted.Wanted.{Wanted}
 use Rattle.gs_script.specs.declared.wanted.Wanted.TheVariants as wants
 use Rattle.gs_script.specs.Grammar.{Form, Kind, Number, Multiple, Name, after_word, has_count, is_empty, literal}
+use Rattle.gs_script.specs.Naming.{Naming, policy_kind}
 use Rattle.gs_script.specs.Rows.{Row, is, masks, rows, stamp_flag, runnables, u16s, u32s}
 use Rattle.gs_script.specs.Header.{header_forms}
 
@@ -24,9 +25,7 @@ kind_of wants.Messages = u32s
 kind_of wants.Transaction = u32s
 kind_of wants.PageThreads = u16s
 kind_of wants.Flag = stamp_flag
-kind_of wants.First = literal (codes "first")
-kind_of wants.Two = literal (codes "two")
-kind_of wants.Slice = Number LEAST_SLICE MOST_SLICE
+kind_of (wants.Named word) = policy_kind word
 kind_of wants.Cpus = Number LEAST_CPUS MOST_CPUS
 kind_of wants.Ring = literal (codes "ring")
 kind_of wants.Capacity = Multiple ALIGNMENT LEAST_CAPACITY MOST_CAPACITY
@@ -38,12 +37,20 @@ kind_of wants.History = literal (codes "history")
 kind_of wants.Entries = Number LEAST_HISTORY MOST_HISTORY
 kind_of wants.Policy = literal (codes "policy")
 
--- the form of a line whose words are to be these
-abbrev pub form_of : Bor (List Wanted) → Form
-form_of form = map kind_of form.now
+-- the form of a line whose words are to be these, and then such as name a policy
+abbrev pub form_of : TheForm → Form
+form_of form = map kind_of form.front.now ++ map policy_kind form.policy.now
 
-abbrev pub forms_of : List (Bor (List Wanted)) → List Form
+abbrev pub forms_of : List TheForm → List Form
 forms_of forms = map form_of forms
+
+-- the forms of lines whose words are to be these
+abbrev pub kinds_of : List (Bor (List Wanted)) → List Form
+kinds_of forms = map (λ form. map kind_of form.now) forms
+
+-- the forms of lines that begin with these words: of one that names no policy, and of those that name one
+abbrev pub fronted : List Form → Bor (List Wanted) × Bor (List Wanted) → List Form
+fronted named fronts = map kind_of fronts.0.now ∷ map (λ form. map kind_of fronts.1.now ++ form) named
 
 -- the kind of word that a form wants first, if it wants one
 abbrev pub first_kind : Form → List Kind
@@ -79,22 +86,22 @@ abbrev pub line_spot : List Form → List (List ℕ) → Spot
 line_spot forms words = if has_count forms (length words) then first_spot forms words else record { place = min (length words) (longest forms); wanted = [] }
 
 -- of an event's line
-abbrev pub row_spot : Option Row → List (List ℕ) → Spot
+abbrev pub row_spot : {A : Type 0} → Option (Row A) → List (List ℕ) → Spot
 row_spot None words = record { place = 0; wanted = [] }
 row_spot (Some row) words = one_on (line_spot row.forms words)
 
-abbrev pub row_of : List ℕ → Option Row
-row_of first = find (λ row. is first row.word) rows
+abbrev pub row_of : {A : Type 0} → Naming A → List ℕ → Option (Row A)
+row_of naming first = find (λ row. is first row.word) (rows naming)
 
-abbrev pub event_spot : List (List ℕ) → Spot
-event_spot [] = record { place = 0; wanted = [] }
-event_spot (first ∷ words) = row_spot (row_of first) words
+abbrev pub event_spot : {A : Type 0} → Naming A → List (List ℕ) → Spot
+event_spot naming [] = record { place = 0; wanted = [] }
+event_spot naming (first ∷ words) = row_spot (row_of naming first) words
 
 -- of the words behind `cpus`
-abbrev pub sizes_spot : List (List ℕ) → Spot
-sizes_spot words = if nat_lt (length words) 3 then record { place = length words; wanted = [] } else first_spot header_forms words
+abbrev pub sizes_spot : {A : Type 0} → Naming A → List (List ℕ) → Spot
+sizes_spot naming words = if nat_lt (length words) 3 then record { place = length words; wanted = [] } else first_spot (header_forms naming) words
 
 -- of a line in the header's place
-abbrev pub header_spot : List (List ℕ) → Spot
-header_spot [] = record { place = 0; wanted = [] }
-header_spot (first ∷ words) = if is first (codes "cpus") then one_on (sizes_spot words) else record { place = 0; wanted = [] }
+abbrev pub header_spot : {A : Type 0} → Naming A → List (List ℕ) → Spot
+header_spot naming [] = record { place = 0; wanted = [] }
+header_spot naming (first ∷ words) = if is first (codes "cpus") then one_on (sizes_spot naming words) else record { place = 0; wanted = [] }

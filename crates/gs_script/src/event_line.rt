@@ -3,12 +3,12 @@ ghost use Rattle.gs_script.specs.Rows as rows;
 ghost use Rattle.gs_script.specs.Rows.{shown, reads, event_of};
 
 use crate::fault::Reason;
-use crate::header::named_policy;
+use crate::named_policy::NamedPolicy;
+use crate::policy_word::has_name_of;
 use crate::word::{mask as mask_number, name, number};
 use gs_core::Event;
 use gs_kernel::{Command, ThreadEvent};
 use gs_layout::{Class, Facts};
-use gs_policy::AnyPolicy;
 use gs_slots::Flags;
 use gs_status::Mask;
 
@@ -95,7 +95,7 @@ fn stamp_flags(word: &str) -> Result<Flags, Reason>
 }
 
 /// A line whose first word says all.
-fn alone(words: &[&str], event: Event<AnyPolicy>) -> Result<Event<AnyPolicy>, Reason>
+fn alone<P: Copy>(words: &[&str], event: Event<P>) -> Result<Event<P>, Reason>
     ensures { result ≡ reads (rows.alone [] event) (shown words.now) }
 {
     match words {
@@ -105,7 +105,7 @@ fn alone(words: &[&str], event: Event<AnyPolicy>) -> Result<Event<AnyPolicy>, Re
 }
 
 /// A creation of a thread with these facts.
-fn create_of(mask: &str, class: &str, state: &str, text: &str) -> Result<Event<AnyPolicy>, Reason>
+fn create_of<P>(mask: &str, class: &str, state: &str, text: &str) -> Result<Event<P>, Reason>
     ensures { result ≡ reads rows.create (mask.now ∷ class.now ∷ state.now ∷ text.now ∷ []) }
 {
     let mask = Mask::new(mask_number(mask)?);
@@ -124,7 +124,7 @@ fn create_of(mask: &str, class: &str, state: &str, text: &str) -> Result<Event<A
 }
 
 #[tactic(auto, using(crate::proofs::Places::four_places))]
-fn create(words: &[&str]) -> Result<Event<AnyPolicy>, Reason>
+fn create<P>(words: &[&str]) -> Result<Event<P>, Reason>
     ensures { result ≡ reads rows.create (shown words.now) }
 {
     match words {
@@ -134,7 +134,7 @@ fn create(words: &[&str]) -> Result<Event<AnyPolicy>, Reason>
 }
 
 /// What happens to the thread of a number.
-fn to_thread(words: &[&str], event: ThreadEvent) -> Result<Event<AnyPolicy>, Reason>
+fn to_thread<P>(words: &[&str], event: ThreadEvent) -> Result<Event<P>, Reason>
     ensures { result ≡ reads (rows.to_thread [] event) (shown words.now) }
 {
     let tid = only_u32(words)?;
@@ -144,7 +144,7 @@ fn to_thread(words: &[&str], event: ThreadEvent) -> Result<Event<AnyPolicy>, Rea
 }
 
 #[tactic(auto, using(crate::proofs::Places::two_places))]
-fn affinity(words: &[&str]) -> Result<Event<AnyPolicy>, Reason>
+fn affinity<P>(words: &[&str]) -> Result<Event<P>, Reason>
     ensures { result ≡ reads rows.affinity (shown words.now) }
 {
     let [tid, mask] = words else {
@@ -160,7 +160,7 @@ fn affinity(words: &[&str]) -> Result<Event<AnyPolicy>, Reason>
     })
 }
 
-fn take(words: &[&str]) -> Result<Event<AnyPolicy>, Reason>
+fn take<P>(words: &[&str]) -> Result<Event<P>, Reason>
     ensures { result ≡ reads rows.take (shown words.now) }
 {
     let cpu = only_u16(words)?;
@@ -169,7 +169,7 @@ fn take(words: &[&str]) -> Result<Event<AnyPolicy>, Reason>
     })
 }
 
-fn give(words: &[&str]) -> Result<Event<AnyPolicy>, Reason>
+fn give<P>(words: &[&str]) -> Result<Event<P>, Reason>
     ensures { result ≡ reads rows.give (shown words.now) }
 {
     let cpu = only_u16(words)?;
@@ -178,7 +178,7 @@ fn give(words: &[&str]) -> Result<Event<AnyPolicy>, Reason>
     })
 }
 
-fn tick(words: &[&str]) -> Result<Event<AnyPolicy>, Reason>
+fn tick<P>(words: &[&str]) -> Result<Event<P>, Reason>
     ensures { result ≡ reads rows.tick (shown words.now) }
 {
     let cpu = only_u16(words)?;
@@ -187,7 +187,7 @@ fn tick(words: &[&str]) -> Result<Event<AnyPolicy>, Reason>
     })
 }
 
-fn handoff(words: &[&str]) -> Result<Event<AnyPolicy>, Reason>
+fn handoff<P>(words: &[&str]) -> Result<Event<P>, Reason>
     ensures { result ≡ reads rows.handoff (shown words.now) }
 {
     let cpu = only_u16(words)?;
@@ -196,7 +196,7 @@ fn handoff(words: &[&str]) -> Result<Event<AnyPolicy>, Reason>
     })
 }
 
-fn activate(words: &[&str]) -> Result<Event<AnyPolicy>, Reason>
+fn activate<P>(words: &[&str]) -> Result<Event<P>, Reason>
     ensures { result ≡ reads rows.activate (shown words.now) }
 {
     let cpu = only_u16(words)?;
@@ -206,30 +206,30 @@ fn activate(words: &[&str]) -> Result<Event<AnyPolicy>, Reason>
 }
 
 /// The beginning of a new agent: by the policy that the words name, or by that of the one before.
-#[tactic(auto, using(crate::proofs::Policies::begins_again, crate::proofs::Policies::begins_named, crate::proofs::Policies::begins_long))]
-fn begin(words: &[&str]) -> Result<Event<AnyPolicy>, Reason>
-    ensures { result ≡ reads rows.begin (shown words.now) }
+#[tactic(auto, using(crate::proofs::Policies::begins_again, crate::proofs::Policies::begins_named, crate::proofs::Policies::begins_unnamed, crate::proofs::Policies::begins_long))]
+fn begin<P: NamedPolicy>(words: &[&str]) -> Result<Event<P>, Reason>
+    ensures { result ≡ reads (rows.begin P.naming) (shown words.now) }
 {
     if words.is_empty() {
         return Ok(Event::Kernel {
             command: Command::Begin,
         });
     }
-    if words.len() > 2 {
+    if !has_name_of(P::forms(), words.len()) {
         return Err(Reason::BadCount);
     }
-    let policy = named_policy(words)?;
+    let policy = P::from_words(words)?;
     Ok(Event::Begin { policy })
 }
 
-fn page(words: &[&str]) -> Result<Event<AnyPolicy>, Reason>
+fn page<P>(words: &[&str]) -> Result<Event<P>, Reason>
     ensures { result ≡ reads rows.page (shown words.now) }
 {
     let max = only_u16(words)?;
     Ok(Event::Page { max })
 }
 
-fn drain(words: &[&str]) -> Result<Event<AnyPolicy>, Reason>
+fn drain<P>(words: &[&str]) -> Result<Event<P>, Reason>
     ensures { result ≡ reads rows.drain (shown words.now) }
 {
     let max = only_u32(words)?;
@@ -237,7 +237,7 @@ fn drain(words: &[&str]) -> Result<Event<AnyPolicy>, Reason>
 }
 
 /// A stamp by itself, for a CPU that has to be free.
-fn stamp_plain(cpu: &str, tid: &str) -> Result<Event<AnyPolicy>, Reason>
+fn stamp_plain<P>(cpu: &str, tid: &str) -> Result<Event<P>, Reason>
     ensures { result ≡ reads rows.stamp (cpu.now ∷ tid.now ∷ []) }
 {
     let cpu = u16_number(cpu)?;
@@ -250,7 +250,7 @@ fn stamp_plain(cpu: &str, tid: &str) -> Result<Event<AnyPolicy>, Reason>
 }
 
 /// A stamp with a flag behind it.
-fn stamp_flagged(cpu: &str, tid: &str, flag: &str) -> Result<Event<AnyPolicy>, Reason>
+fn stamp_flagged<P>(cpu: &str, tid: &str, flag: &str) -> Result<Event<P>, Reason>
     ensures { result ≡ reads rows.stamp (cpu.now ∷ tid.now ∷ flag.now ∷ []) }
 {
     let cpu = u16_number(cpu)?;
@@ -260,7 +260,7 @@ fn stamp_flagged(cpu: &str, tid: &str, flag: &str) -> Result<Event<AnyPolicy>, R
 }
 
 #[tactic(auto, using(crate::proofs::Places::two_places, crate::proofs::Places::three_places))]
-fn stamp(words: &[&str]) -> Result<Event<AnyPolicy>, Reason>
+fn stamp<P>(words: &[&str]) -> Result<Event<P>, Reason>
     ensures { result ≡ reads rows.stamp (shown words.now) }
 {
     match words {
@@ -270,14 +270,14 @@ fn stamp(words: &[&str]) -> Result<Event<AnyPolicy>, Reason>
     }
 }
 
-fn commit(words: &[&str]) -> Result<Event<AnyPolicy>, Reason>
+fn commit<P>(words: &[&str]) -> Result<Event<P>, Reason>
     ensures { result ≡ reads rows.commit (shown words.now) }
 {
     let mask = Mask::new(only_mask(words)?);
     Ok(Event::Commit { mask })
 }
 
-fn late(words: &[&str]) -> Result<Event<AnyPolicy>, Reason>
+fn late<P>(words: &[&str]) -> Result<Event<P>, Reason>
     ensures { result ≡ reads rows.late (shown words.now) }
 {
     let number = only_u32(words)?;
@@ -285,8 +285,8 @@ fn late(words: &[&str]) -> Result<Event<AnyPolicy>, Reason>
 }
 
 /// What an event line of these words says.
-pub(crate) fn event(words: &[&str]) -> Result<Event<AnyPolicy>, Reason>
-    ensures { result ≡ event_of (shown words.now) }
+pub(crate) fn event<P: NamedPolicy>(words: &[&str]) -> Result<Event<P>, Reason>
+    ensures { result ≡ event_of P.naming (shown words.now) }
 {
     let Some((first, words)) = words.split_first() else {
         return Err(Reason::BadWord);

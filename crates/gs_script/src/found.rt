@@ -9,6 +9,7 @@ ghost use Rattle.gs_script.specs.Found.{Finds, MarksFault, MarksLine, is_header,
 use crate::cursor::first_line;
 use crate::fault::ScriptFault;
 use crate::marked::{Marked, bad_byte, word_at};
+use crate::named_policy::NamedPolicy;
 use crate::said_line::is_silent;
 use crate::script::{ScriptError, read_script};
 use crate::spot::{Spot, event_spot, header_spot};
@@ -55,20 +56,28 @@ fn line_of(bytes: &[u8], number: usize) -> (&[u8], bool)
 }
 
 /// Returns where the fault of a line's words stands.
-fn words_spot(alloc: Global, words: &[&str], header: bool) -> Result<Spot, AllocError>
+fn words_spot<P: NamedPolicy>(
+    alloc: Global,
+    words: &[&str],
+    header: bool,
+) -> Result<Spot, AllocError>
     requires { length words.now < 2 ^ 63 }
-    ensures { IfOk result (λ spot. spot_of spot ≡ spot_at header (shown words.now)) }
+    ensures { IfOk result (λ spot. spot_of spot ≡ spot_at P.naming header (shown words.now)) }
 {
     if header {
-        header_spot(alloc, words)
+        header_spot::<P>(alloc, words)
     } else {
-        event_spot(alloc, words)
+        event_spot::<P>(alloc, words)
     }
 }
 
 /// Looks at a line with a fault.
-fn look_within(alloc: Global, line: &[u8], header: bool) -> Result<Look<'_>, AllocError>
-    ensures { IfOk result (λ look. MarksFault (is_text line.now) header line.now look.mark look.wanted.items) }
+fn look_within<P: NamedPolicy>(
+    alloc: Global,
+    line: &[u8],
+    header: bool,
+) -> Result<Look<'_>, AllocError>
+    ensures { IfOk result (λ look. MarksFault P.naming (is_text line.now) header line.now look.mark look.wanted.items) }
 {
     let Some(text) = text(line) else {
         return Ok(Look {
@@ -78,7 +87,7 @@ fn look_within(alloc: Global, line: &[u8], header: bool) -> Result<Look<'_>, All
     };
     let mut words = Vec::new(alloc);
     split(text, &mut words)?;
-    let Spot { place, wanted } = words_spot(alloc, &words, header)?;
+    let Spot { place, wanted } = words_spot::<P>(alloc, &words, header)?;
     Ok(Look {
         mark: word_at(line, place),
         wanted,
@@ -86,8 +95,12 @@ fn look_within(alloc: Global, line: &[u8], header: bool) -> Result<Look<'_>, All
 }
 
 /// Looks at the line of a fault, or at none if it is the script's.
-fn look_at(alloc: Global, bytes: &[u8], number: usize) -> Result<Look<'_>, AllocError>
-    ensures { IfOk result (λ look. MarksLine number bytes.now look.mark look.wanted.items) }
+fn look_at<P: NamedPolicy>(
+    alloc: Global,
+    bytes: &[u8],
+    number: usize,
+) -> Result<Look<'_>, AllocError>
+    ensures { IfOk result (λ look. MarksLine P.naming number bytes.now look.mark look.wanted.items) }
 {
     if number == 0 {
         return Ok(Look {
@@ -100,22 +113,25 @@ fn look_at(alloc: Global, bytes: &[u8], number: usize) -> Result<Look<'_>, Alloc
         });
     }
     let (line, header) = line_of(bytes, number);
-    look_within(alloc, line, header)
+    look_within::<P>(alloc, line, header)
 }
 
 /// Returns the fault of the script that these bytes say, and where it stands, or `None` if they are a script. It fails
 /// only if out of memory.
 ///
 /// It reads the script, and then looks at the line of its fault once more.
-pub fn find_fault(alloc: Global, bytes: &[u8]) -> Result<Option<Found<'_>>, AllocError>
-    ensures { IfOk result (λ found. MatchOption found (IsOk (script_of bytes.now)) (Finds bytes.now)) }
+pub fn find_fault<P: NamedPolicy>(
+    alloc: Global,
+    bytes: &[u8],
+) -> Result<Option<Found<'_>>, AllocError>
+    ensures { IfOk result (λ found. MatchOption found (IsOk (script_of P.naming bytes.now)) (Finds P.naming bytes.now)) }
 {
-    let fault = match read_script(alloc, bytes) {
+    let fault = match read_script::<P>(alloc, bytes) {
         Ok(_) => return Ok(None),
         Err(ScriptError::OutOfMemory) => return Err(AllocError),
         Err(ScriptError::Fault(fault)) => fault,
     };
-    let Look { mark, wanted } = look_at(alloc, bytes, fault.line)?;
+    let Look { mark, wanted } = look_at::<P>(alloc, bytes, fault.line)?;
     Ok(Some(Found {
         fault,
         mark,

@@ -1,9 +1,10 @@
-ghost use Rattle.std.specs.Prelude.{◌≡◌, ◌∷◌, ◌≤◌, ◌%◌, codes, IfOk, IfErr, IfSome};
+ghost use Rattle.std.specs.Prelude.{◌≡◌, ◌∷◌, ◌≤◌, ◌%◌, IfOk, IfErr, IfSome};
 ghost use Rattle.gs_replies.specs.Config.{config_fault};
 ghost use Rattle.gs_script.specs.Rows.{shown};
-ghost use Rattle.gs_script.specs.Header.{header_of, config_in, capacity_in, part_in, policy_in, policy_named, firsts_in, AreAllowed};
+ghost use Rattle.gs_script.specs.Header.{header_of, config_in, capacity_in, part_in, policy_in, firsts_in, AreAllowed};
 
 use crate::fault::Reason;
+use crate::named_policy::NamedPolicy;
 use crate::word::number;
 use gs_beliefs::MOST_TICKS;
 use gs_core::Config;
@@ -11,7 +12,6 @@ use gs_kernel::{
     LEAST_CPUS, LEAST_GENERATION, LEAST_HISTORY, MOST_FIRST_TSEQ, MOST_GENERATION, MOST_HISTORY,
 };
 use gs_layout::ALIGNMENT;
-use gs_policy::{AnyPolicy, FirstCome, TwoClass};
 use gs_ring::{LEAST_CAPACITY, MOST_CAPACITY};
 use gs_status::MOST_CPUS;
 
@@ -23,11 +23,11 @@ pub const MOST_SLICE: u16 = MOST_TICKS;
 
 /// What a header may say behind the sizes.
 #[derive(Clone, Copy)]
-struct Firsts {
+struct Firsts<P> {
     tseq: u32,
     generation: u32,
     history: u32,
-    policy: AnyPolicy,
+    policy: P,
 }
 
 /// The capacity of a ring.
@@ -68,56 +68,26 @@ fn part<'a, 'w>(
     Ok((Some(value), rest))
 }
 
-/// The two-class policy: its slice, and nothing behind it.
-fn two_class(words: &[&str]) -> Result<AnyPolicy, Reason>
-    ensures { result ≡ policy_named (codes "two" ∷ shown words.now) }
-{
-    let Some((slice, rest)) = words.split_first() else {
-        return Err(Reason::BadCount);
-    };
-    let slice = number(slice, LEAST_SLICE as u64, MOST_SLICE as u64)? as u16;
-    match rest {
-        [] => Ok(AnyPolicy::TwoClass(TwoClass { slice })),
-        _ => Err(Reason::BadCount),
-    }
-}
-
-/// The policy that these words name.
-pub(crate) fn named_policy(words: &[&str]) -> Result<AnyPolicy, Reason>
-    ensures { result ≡ policy_named (shown words.now) }
-{
-    let Some((name, rest)) = words.split_first() else {
-        return Err(Reason::BadCount);
-    };
-    match *name {
-        "first" => match rest {
-            [] => Ok(AnyPolicy::FirstCome(FirstCome)),
-            _ => Err(Reason::BadCount),
-        },
-        "two" => two_class(rest),
-        _ => Err(Reason::BadWord),
-    }
-}
-
-/// Returns the policy, if the words begin with `policy`, or first come, if there are none.
-fn policy(words: &[&str]) -> Result<AnyPolicy, Reason>
-    ensures { result ≡ policy_in (shown words.now) }
+/// Returns the policy, if the words begin with `policy`, or that of a header that names none, if there are none.
+#[tactic(auto, using(crate::proofs::Policies::in_named, crate::proofs::Policies::in_other))]
+fn policy<P: NamedPolicy>(words: &[&str]) -> Result<P, Reason>
+    ensures { result ≡ policy_in P.naming (shown words.now) }
 {
     let Some((first, rest)) = words.split_first() else {
-        return Ok(AnyPolicy::FirstCome(FirstCome));
+        return Ok(P::unnamed());
     };
     match *first {
-        "policy" => named_policy(rest),
+        "policy" => P::from_words(rest),
         _ => Err(Reason::BadWord),
     }
 }
 
 /// Returns what the words behind the sizes say: each part once or not at all, in this order. If they say
 /// nothing of a part, sequence numbers begin above 0, and the generation is the least. Then the journal is
-/// made for the most entries, and the policy is first come.
+/// made for the most entries, and the policy is that of a header that names none.
 #[tactic(auto, using(crate::proofs::Firsts::tseq_failed, crate::proofs::Firsts::generation_failed, crate::proofs::Firsts::history_failed, crate::proofs::Firsts::policy_failed))]
-fn optional(words: &[&str]) -> Result<Firsts, Reason>
-    ensures exact { result ≡ firsts_in (shown words.now) }
+fn optional<P: NamedPolicy>(words: &[&str]) -> Result<Firsts<P>, Reason>
+    ensures exact { result ≡ firsts_in P.naming (shown words.now) }
     ensures fits { IfOk result AreAllowed }
 {
     let (tseq, rest) = part(words, "first-tseq", 0, MOST_FIRST_TSEQ)?;
@@ -134,8 +104,13 @@ fn optional(words: &[&str]) -> Result<Firsts, Reason>
 
 /// What the words behind `cpus` say.
 #[tactic(auto)]
-fn sizes(cpus: &str, ring: &str, word: &str, rest: &[&str]) -> Result<Config<AnyPolicy>, Reason>
-    ensures exact { result ≡ config_in (cpus.now ∷ ring.now ∷ word.now ∷ shown rest.now) }
+fn sizes<P: NamedPolicy>(
+    cpus: &str,
+    ring: &str,
+    word: &str,
+    rest: &[&str],
+) -> Result<Config<P>, Reason>
+    ensures exact { result ≡ config_in P.naming (cpus.now ∷ ring.now ∷ word.now ∷ shown rest.now) }
     ensures fits { IfOk result (λ config. config_fault config ≡ None) }
 {
     let cpus = number(cpus, LEAST_CPUS as u64, MOST_CPUS as u64)? as u16;
@@ -161,8 +136,8 @@ fn sizes(cpus: &str, ring: &str, word: &str, rest: &[&str]) -> Result<Config<Any
 
 /// What a header of these words says.
 #[tactic(auto, using(crate::proofs::Places::three_first))]
-pub(crate) fn header(words: &[&str]) -> Result<Config<AnyPolicy>, Reason>
-    ensures exact { result ≡ header_of (shown words.now) }
+pub(crate) fn header<P: NamedPolicy>(words: &[&str]) -> Result<Config<P>, Reason>
+    ensures exact { result ≡ header_of P.naming (shown words.now) }
     ensures fits { IfOk result (λ config. config_fault config ≡ None) }
 {
     let Some((first, words)) = words.split_first() else {

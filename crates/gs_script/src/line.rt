@@ -12,11 +12,11 @@ use crate::cursor::first_line;
 use crate::event_line::event;
 use crate::fault::{Reason, ScriptFault};
 use crate::header::header;
+use crate::named_policy::NamedPolicy;
 use crate::plain_line::add_plain;
 use crate::script::ScriptError;
 use crate::word::{split, text};
 use gs_core::{Config, Event};
-use gs_policy::AnyPolicy;
 use std::alloc::Global;
 
 /// Why a line wasn't read.
@@ -65,11 +65,11 @@ fn words_said<'a>(line: &'a [u8], words: &mut Vec<&'a str>) -> Result<bool, Line
 /// there.
 #[tactic(auto, using(crate::proofs::Said::value_said, crate::proofs::Said::reason_said, crate::proofs::Said::nothing_said, crate::proofs::Said::error_said))]
 #[inline(never)]
-pub(crate) fn event_line<'a>(
+pub(crate) fn event_line<'a, P: NamedPolicy>(
     line: &'a [u8],
     words: &mut Vec<&'a str>,
-) -> Result<Option<Event<AnyPolicy>>, LineError>
-    ensures { Gives result (says event_of line.now) }
+) -> Result<Option<Event<P>>, LineError>
+    ensures { Gives result (says (event_of P.naming) line.now) }
 {
     if !words_said(line, words)? {
         return Ok(None);
@@ -82,11 +82,11 @@ pub(crate) fn event_line<'a>(
 
 /// Returns what a line in the header's place says, or `None` if it says nothing.
 #[tactic(auto, using(crate::proofs::Said::value_said, crate::proofs::Said::reason_said, crate::proofs::Said::nothing_said, crate::proofs::Said::error_said))]
-pub(crate) fn header_line(
+pub(crate) fn header_line<P: NamedPolicy>(
     alloc: Global,
     line: &[u8],
-) -> Result<Option<Config<AnyPolicy>>, LineError>
-    ensures exact { Gives result (says header_of line.now) }
+) -> Result<Option<Config<P>>, LineError>
+    ensures exact { Gives result (says (header_of P.naming) line.now) }
     ensures fits { IfOk result (λ o. IfSome o (λ config. config_fault config ≡ None)) }
 {
     let mut words = Vec::new(alloc);
@@ -100,10 +100,10 @@ pub(crate) fn header_line(
 }
 
 /// Returns an event, if there is one, with what is left behind its line.
-fn with_left<'a>(
-    event: Option<Event<AnyPolicy>>,
+fn with_left<'a, P>(
+    event: Option<Event<P>>,
     left: Option<&'a [u8]>,
-) -> Option<(Event<AnyPolicy>, Option<&'a [u8]>)>
+) -> Option<(Event<P>, Option<&'a [u8]>)>
     ensures { MatchOption result (event ≡ None) (λ p. (event ≡ Some p.0) × (p.1 ≡ left.entry)) }
 {
     match event {
@@ -115,14 +115,14 @@ fn with_left<'a>(
 /// Adds the event that the first line of a text says, if it says one, and returns what is left behind the
 /// line. A plain line is read in one pass, and any other by its words.
 #[inline(always)]
-pub(crate) fn add_event<'a>(
+pub(crate) fn add_event<'a, P: NamedPolicy>(
     text: &'a [u8],
     words: &mut Vec<&'a str>,
-    events: &mut Vec<Event<AnyPolicy>>,
+    events: &mut Vec<Event<P>>,
 ) -> Result<Option<&'a [u8]>, LineError>
     requires { vec_len events.old < vec_capacity events.old }
-    ensures ok { IfOk result (λ left. Adds text.now left events.old.items events.new.items) }
-    ensures err { IfErr result (λ e. Fails text.now e) }
+    ensures ok { IfOk result (λ left. Adds P.naming text.now left events.old.items events.new.items) }
+    ensures err { IfErr result (λ e. Fails P.naming text.now e) }
 {
     match add_plain(text, events) {
         Some(left) => Ok(left),
@@ -145,8 +145,11 @@ pub(crate) fn add_event<'a>(
 /// # Errors
 ///
 /// `Fault` if the line has one, and `OutOfMemory` if out of memory.
-pub fn read_header(alloc: Global, line: &[u8]) -> Result<Option<Config<AnyPolicy>>, LineError>
-    ensures exact { Gives result (says header_of line.now) }
+pub fn read_header<P: NamedPolicy>(
+    alloc: Global,
+    line: &[u8],
+) -> Result<Option<Config<P>>, LineError>
+    ensures exact { Gives result (says (header_of P.naming) line.now) }
     ensures fits { IfOk result (λ o. IfSome o (λ config. config_fault config ≡ None)) }
 {
     header_line(alloc, line)
@@ -157,13 +160,13 @@ pub fn read_header(alloc: Global, line: &[u8]) -> Result<Option<Config<AnyPolicy
 /// # Errors
 ///
 /// `Fault` if the line has one, and `OutOfMemory` if out of memory.
-pub fn read_event(
+pub fn read_event<P: NamedPolicy>(
     alloc: Global,
     line: &[u8],
-    events: &mut Vec<Event<AnyPolicy>>,
+    events: &mut Vec<Event<P>>,
 ) -> Result<(), LineError>
-    ensures ok { OnOk result (AddsSaid line.now events.old.items events.new.items) }
-    ensures err { IfErr result (λ e. IsUnsaid e line.now) }
+    ensures ok { OnOk result (AddsSaid P.naming line.now events.old.items events.new.items) }
+    ensures err { IfErr result (λ e. IsUnsaid P.naming e line.now) }
 {
     let (_, left) = first_line(line);
     if left.is_some() {

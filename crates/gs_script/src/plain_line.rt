@@ -11,21 +11,21 @@ use crate::cursor::{
     behind, flags_first, line_end, mask_last, mask_spaced, number_first, number_last,
     number_spaced, rest_of_line, u16_last, u32_last,
 };
+use crate::named_policy::NamedPolicy;
 use crate::word::name;
 use gs_core::Event;
 use gs_kernel::{Command, ThreadEvent};
 use gs_layout::{Class, Facts};
-use gs_policy::AnyPolicy;
 use gs_status::Mask;
 
 /// What is left behind a line that was read. `None` says nothing of the line, and no event is added then.
 type Left<'a> = Option<Option<&'a [u8]>>;
 
-type Events = Vec<Event<AnyPolicy>>;
+type Events<P> = Vec<Event<P>>;
 
 /// The event that the kernel is told this.
 #[inline(always)]
-fn of_kernel(command: Command) -> Event<AnyPolicy>
+fn of_kernel<P>(command: Command) -> Event<P>
     ensures { result ≡ kinds.Kernel command }
 {
     Event::Kernel { command }
@@ -43,7 +43,7 @@ fn runnable_spaced(text: &[u8]) -> Option<(bool, &[u8])>
 }
 
 /// A creation, and what is left behind its line.
-fn create(text: &[u8]) -> Option<(Event<AnyPolicy>, Option<&[u8]>)>
+fn create<P: Copy>(text: &[u8]) -> Option<(Event<P>, Option<&[u8]>)>
     ensures { IfSome result (λ p. FirstLine (IsRead (reads rows.create) p.0) text.now p.1) }
 {
     let (mask, rest) = mask_spaced(text)?;
@@ -64,7 +64,7 @@ fn create(text: &[u8]) -> Option<(Event<AnyPolicy>, Option<&[u8]>)>
 
 /// What happens to the thread of a number.
 #[inline(always)]
-fn to_thread<'a>(text: &'a [u8], event: ThreadEvent, events: &mut Events) -> Left<'a>
+fn to_thread<'a, P: Copy>(text: &'a [u8], event: ThreadEvent, events: &mut Events<P>) -> Left<'a>
     requires { vec_len events.old < vec_capacity events.old }
     ensures { AddsReadIf (reads (rows.to_thread [] event)) text.now events.old.items events.new.items result }
 {
@@ -74,7 +74,7 @@ fn to_thread<'a>(text: &'a [u8], event: ThreadEvent, events: &mut Events) -> Lef
 }
 
 #[inline(always)]
-fn affinity<'a>(text: &'a [u8], events: &mut Events) -> Left<'a>
+fn affinity<'a, P: Copy>(text: &'a [u8], events: &mut Events<P>) -> Left<'a>
     requires { vec_len events.old < vec_capacity events.old }
     ensures { AddsReadIf (reads rows.affinity) text.now events.old.items events.new.items result }
 {
@@ -90,7 +90,7 @@ fn affinity<'a>(text: &'a [u8], events: &mut Events) -> Left<'a>
 
 /// A stamp, and what is left behind its line.
 #[inline(always)]
-fn stamp(text: &[u8]) -> Option<(Event<AnyPolicy>, Option<&[u8]>)>
+fn stamp<P: Copy>(text: &[u8]) -> Option<(Event<P>, Option<&[u8]>)>
     ensures { IfSome result (λ p. FirstLine (IsRead (reads rows.stamp) p.0) text.now p.1) }
 {
     let (cpu, rest) = number_spaced(text, u16::MAX as u64)?;
@@ -104,9 +104,9 @@ fn stamp(text: &[u8]) -> Option<(Event<AnyPolicy>, Option<&[u8]>)>
 
 /// Adds the event of a text's first line, if that is a frequent one in its plainest form, and returns what is left
 /// behind the line. `None` says nothing of the line, and nothing is added then.
-pub(crate) fn add_plain<'a>(text: &'a [u8], events: &mut Events) -> Left<'a>
+pub(crate) fn add_plain<'a, P: NamedPolicy>(text: &'a [u8], events: &mut Events<P>) -> Left<'a>
     requires { vec_len events.old < vec_capacity events.old }
-    ensures { AddsIf text.now events.old.items events.new.items result }
+    ensures { AddsIf P.naming text.now events.old.items events.new.items result }
 {
     match text.first()? {
         b'a' => affinity(behind(text, b"affinity ")?, events),

@@ -2,20 +2,19 @@ ghost use Rattle.gs_script.specs.Header.{policy_said};
 ghost use Rattle.gs_script.specs.Held.{Gives};
 
 use crate::fault::Reason;
-use crate::header::named_policy;
 use crate::line::LineError;
+use crate::named_policy::NamedPolicy;
 use crate::word::{split, text};
-use gs_policy::AnyPolicy;
 use std::alloc::Global;
 
-/// Returns the policy that a text names, by the words that stand behind `policy` in a header: `first`, or `two` and a slice
-/// from [`crate::LEAST_SLICE`] to [`crate::MOST_SLICE`].
+/// Returns the policy that a text names, by the words that stand behind `policy` in a header. For the two policies that there
+/// are these are `first`, or `two` and a slice from [`crate::LEAST_SLICE`] to [`crate::MOST_SLICE`].
 ///
 /// # Errors
 ///
 /// `Fault` with the reason that a header of these words would have, and `OutOfMemory` if out of memory.
-pub fn read_policy(alloc: Global, named: &[u8]) -> Result<AnyPolicy, LineError>
-    ensures { Gives result (policy_said named.now) }
+pub fn read_policy<P: NamedPolicy>(alloc: Global, named: &[u8]) -> Result<P, LineError>
+    ensures { Gives result (policy_said P.naming named.now) }
 {
     let Some(named) = text(named) else {
         return Err(LineError::Fault(Reason::BadByte));
@@ -24,7 +23,7 @@ pub fn read_policy(alloc: Global, named: &[u8]) -> Result<AnyPolicy, LineError>
     if split(named, &mut words).is_err() {
         return Err(LineError::OutOfMemory);
     }
-    match named_policy(&words) {
+    match P::from_words(&words) {
         Ok(policy) => Ok(policy),
         Err(reason) => Err(LineError::Fault(reason)),
     }

@@ -12,11 +12,11 @@ ghost use Rattle.gs_script.specs.Unread.{IsOpened, IsCut, Opens, ReadsNext, Read
 use crate::cursor::first_line;
 use crate::fault::{Reason, ScriptFault};
 use crate::line::{add_event, at, header_line};
+use crate::named_policy::NamedPolicy;
 use crate::script::{MOST_BYTES, ScriptError};
 use gs_core::{Config, Event};
-use gs_policy::AnyPolicy;
 use std::alloc::Global;
-use std::marker::Model;
+use std::marker::{Model, PhantomData};
 
 /// A line of a script that says something. Its bytes are text.
 #[derive(Clone, Copy)]
@@ -28,14 +28,15 @@ pub struct SaidLine<'a> {
 
 /// The lines of a script behind its header that were not read yet. Clauses see them, and the number of the first.
 #[derive(Drop)]
-pub struct Reading<'a> {
+pub struct Reading<'a, P> {
     number: usize,
     text: Option<&'a [u8]>,
     /// The words of a line that is not plain. Their room is there for the next one.
     words: Vec<&'a str>,
+    of: PhantomData<P>,
 }
 
-impl<'a> Model for Reading<'a> {
+impl<'a, P> Model for Reading<'a, P> {
     ghost use Rattle.std.specs.Prelude.{◌+◌, ◌<◌, ◌^◌, length};
     ghost use Rattle.gs_script.specs.Plain.{lines_left};
     ghost use Rattle.gs_script.specs.Unread.{Unread};
@@ -49,12 +50,12 @@ impl<'a> Model for Reading<'a> {
 
 /// A script whose header was read.
 #[derive(Drop)]
-pub struct Opened<'a> {
-    pub config: Config<AnyPolicy>,
+pub struct Opened<'a, P> {
+    pub config: Config<P>,
     /// The number of the header's line.
     pub header: usize,
     /// What stands behind the header.
-    pub reading: Reading<'a>,
+    pub reading: Reading<'a, P>,
 }
 
 /// Returns the first line of a text, by what is left behind it.
@@ -73,16 +74,16 @@ fn line_before<'a>(text: &'a [u8], left: Option<&[u8]>) -> &'a [u8]
 /// Reads on up to the next event, and adds it. Returns the line that says it with what is left behind that, or `None`
 /// if no event is left. The first line has this number.
 #[inline(always)]
-fn add_next<'a>(
+fn add_next<'a, P: NamedPolicy>(
     first: usize,
     text: Option<&'a [u8]>,
     words: &mut Vec<&'a str>,
-    events: &mut Vec<Event<AnyPolicy>>,
+    events: &mut Vec<Event<P>>,
 ) -> Result<Option<(SaidLine<'a>, Option<&'a [u8]>)>, ScriptError>
     requires { first + length (lines_left text) < 2 ^ 62 }
-    ensures read { IfOk result (λ o. MatchOption o (ReadsNone (record { number = first; lines = lines_left text.entry }) events.old.items events.new.items) (λ p. ReadsNext (record { number = first; lines = lines_left text.entry }) (record { number = p.0.number + 1; lines = lines_left p.1 }) events.old.items events.new.items p.0)) }
+    ensures read { IfOk result (λ o. MatchOption o (ReadsNone P.naming (record { number = first; lines = lines_left text.entry }) events.old.items events.new.items) (λ p. ReadsNext P.naming (record { number = first; lines = lines_left text.entry }) (record { number = p.0.number + 1; lines = lines_left p.1 }) events.old.items events.new.items p.0)) }
     ensures few { IfOk result (λ o. IfSome o (λ p. p.0.number + 1 + length (lines_left p.1) ≤ first + length (lines_left text.entry))) }
-    ensures fault { IfErr result (λ e. Faults e (events_unread (record { number = first; lines = lines_left text.entry }))) }
+    ensures fault { IfErr result (λ e. Faults e (events_unread P.naming (record { number = first; lines = lines_left text.entry }))) }
 {
     let mut rest = text;
     let mut number = first;
@@ -103,7 +104,7 @@ fn add_next<'a>(
     Ok(None)
 }
 
-impl<'a> Reading<'a> {
+impl<'a, P: NamedPolicy> Reading<'a, P> {
     /// Reads on up to the next event, and adds it to these. Returns the line that says it, or `None` if no event is
     /// left.
     ///
@@ -123,12 +124,9 @@ impl<'a> Reading<'a> {
     /// }
     /// ```
     #[inline(always)]
-    pub fn next(
-        &mut self,
-        events: &mut Vec<Event<AnyPolicy>>,
-    ) -> Result<Option<SaidLine<'a>>, ScriptError>
-        ensures read { IfOk result (λ o. MatchOption o (ReadsNone self.old events.old.items events.new.items) (ReadsNext self.old self.new events.old.items events.new.items)) }
-        ensures fault { IfErr result (λ e. Faults e (events_unread self.old)) }
+    pub fn next(&mut self, events: &mut Vec<Event<P>>) -> Result<Option<SaidLine<'a>>, ScriptError>
+        ensures read { IfOk result (λ o. MatchOption o (ReadsNone P.naming self.old events.old.items events.new.items) (ReadsNext P.naming self.old self.new events.old.items events.new.items)) }
+        ensures fault { IfErr result (λ e. Faults e (events_unread P.naming self.old)) }
     {
         match add_next(self.number, self.text, &mut self.words, events)? {
             None => Ok(None),
@@ -145,9 +143,9 @@ impl<'a> Reading<'a> {
     /// # Errors
     ///
     /// As of [`Reading::next`].
-    pub(crate) fn read_all(self, alloc: Global) -> Result<Vec<Event<AnyPolicy>>, ScriptError>
-        ensures read { IfOk result (λ events. events_unread self.entry ≡ Ok events.items) }
-        ensures fault { IfErr result (λ e. Faults e (events_unread self.entry)) }
+    pub(crate) fn read_all(self, alloc: Global) -> Result<Vec<Event<P>>, ScriptError>
+        ensures read { IfOk result (λ events. events_unread P.naming self.entry ≡ Ok events.items) }
+        ensures fault { IfErr result (λ e. Faults e (events_unread P.naming self.entry)) }
     {
         let mut reading = self;
         let mut events = Vec::new(alloc);
@@ -157,11 +155,11 @@ impl<'a> Reading<'a> {
 }
 
 /// Reads the lines of a text up to the header.
-fn open_text(alloc: Global, text: &[u8]) -> Result<Opened<'_>, ScriptError>
+fn open_text<P: NamedPolicy>(alloc: Global, text: &[u8]) -> Result<Opened<'_, P>, ScriptError>
     requires { length (lines_of text.now) < 2 ^ 61 }
-    ensures opened { IfOk result (λ o. Opens (script_from 1 (lines_of text.now)) (said 1 (lines_of text.now)) o.config o.header o.reading) }
+    ensures opened { IfOk result (λ o. Opens P.naming (script_from P.naming 1 (lines_of text.now)) (said 1 (lines_of text.now)) o.config o.header o.reading) }
     ensures fits { IfOk result (λ o. config_fault o.config ≡ None) }
-    ensures fault { IfErr result (λ e. Faults e (script_from 1 (lines_of text.now))) }
+    ensures fault { IfErr result (λ e. Faults e (script_from P.naming 1 (lines_of text.now))) }
 {
     let mut rest = Some(text);
     let mut header = 1;
@@ -177,6 +175,7 @@ fn open_text(alloc: Global, text: &[u8]) -> Result<Opened<'_>, ScriptError>
                         number: header + 1,
                         text: left,
                         words: Vec::new(alloc),
+                        of: PhantomData,
                     },
                 });
             }
@@ -206,13 +205,16 @@ fn open_text(alloc: Global, text: &[u8]) -> Result<Opened<'_>, ScriptError>
 ///     config,
 ///     header,
 ///     reading,
-/// } = open_script(alloc, input)?;
+/// } = open_script::<P>(alloc, input)?;
 /// ```
 #[tactic(auto, using(crate::proofs::HeaderLines::few_lines))]
-pub fn open_script(alloc: Global, bytes: &[u8]) -> Result<Opened<'_>, ScriptError>
-    ensures opened { IfOk result (λ o. IsOpened bytes.now o.config o.header o.reading) }
+pub fn open_script<P: NamedPolicy>(
+    alloc: Global,
+    bytes: &[u8],
+) -> Result<Opened<'_, P>, ScriptError>
+    ensures opened { IfOk result (λ o. IsOpened P.naming bytes.now o.config o.header o.reading) }
     ensures fits { IfOk result (λ o. config_fault o.config ≡ None) }
-    ensures fault { IfErr result (λ e. Faults e (script_of bytes.now)) }
+    ensures fault { IfErr result (λ e. Faults e (script_of P.naming bytes.now)) }
 {
     if bytes.len() > MOST_BYTES {
         let fault = ScriptFault {

@@ -5,9 +5,9 @@ ghost use Rattle.gs_script.specs.Script.{script_of};
 ghost use Rattle.gs_script.specs.Held.{GivesBy, seen};
 
 use crate::fault::ScriptFault;
+use crate::named_policy::NamedPolicy;
 use crate::reading::{Opened, open_script};
 use gs_core::{Config, Event};
-use gs_policy::AnyPolicy;
 use std::alloc::{AllocError, Global};
 use thiserror::Error;
 
@@ -17,9 +17,9 @@ pub const MOST_BYTES: usize = 1_048_576;
 
 /// What an enclave is opened with, and what happens in it.
 #[derive(Drop)]
-pub struct Script {
-    pub config: Config<AnyPolicy>,
-    pub events: Vec<Event<AnyPolicy>>,
+pub struct Script<P> {
+    pub config: Config<P>,
+    pub events: Vec<Event<P>>,
 }
 
 /// Why a script wasn't read.
@@ -55,8 +55,8 @@ impl From<AllocError> for ScriptError {
 ///     Err(ScriptError::OutOfMemory) => Err(Failure::OutOfMemory),
 /// }
 /// ```
-pub fn read_script(alloc: Global, bytes: &[u8]) -> Result<Script, ScriptError>
-    ensures exact { GivesBy seen result (script_of bytes.now) }
+pub fn read_script<P: NamedPolicy>(alloc: Global, bytes: &[u8]) -> Result<Script<P>, ScriptError>
+    ensures exact { GivesBy seen result (script_of P.naming bytes.now) }
     ensures fits { IfOk result (λ script. config_fault script.config ≡ None) }
 {
     let Opened {

@@ -7,6 +7,7 @@ ghost use Rattle.gs_script.specs.Spot.{event_spot, first_spot, forms_of, header_
 ghost use Rattle.gs_script.specs.Found.{spot_of};
 
 use crate::forms::{Form, event_forms, header_forms};
+use crate::named_policy::NamedPolicy;
 use crate::wanted::{Wanted, is_wanted};
 use std::alloc::{AllocError, Global};
 
@@ -44,8 +45,8 @@ fn next_wanted(alloc: Global, forms: &[Form]) -> Result<Vec<Wanted>, AllocError>
 {
     let mut wanted = Vec::new(alloc);
     for form in forms {
-        if let [first, ..] = *form {
-            wanted.push(*first)?;
+        if let Some((first, _)) = form.split_first() {
+            wanted.push(first)?;
         }
     }
     Ok(wanted)
@@ -57,8 +58,8 @@ fn narrowed(alloc: Global, forms: &[Form], word: &str) -> Result<Vec<Form>, Allo
 {
     let mut left = Vec::new(alloc);
     for form in forms {
-        if let [first, rest @ ..] = *form {
-            if is_wanted(*first, word) {
+        if let Some((first, rest)) = form.split_first() {
+            if is_wanted(first, word) {
                 left.push(rest)?;
             }
         }
@@ -89,7 +90,7 @@ fn longest(forms: &[Form]) -> usize
 {
     match forms {
         [] => 0,
-        [form, rest @ ..] => form.len().max(longest(rest)),
+        [form, rest @ ..] => form.count().max(longest(rest)),
     }
 }
 
@@ -99,7 +100,7 @@ fn has_count(forms: &[Form], count: usize) -> bool
 {
     match forms {
         [] => false,
-        [form, rest @ ..] => form.len() == count || has_count(rest, count),
+        [form, rest @ ..] => form.count() == count || has_count(rest, count),
     }
 }
 
@@ -115,37 +116,38 @@ fn line_spot(alloc: Global, forms: &[Form], words: &[&str]) -> Result<Spot, Allo
 }
 
 /// Returns where the fault of an event's line stands.
-pub(crate) fn event_spot(alloc: Global, words: &[&str]) -> Result<Spot, AllocError>
+pub(crate) fn event_spot<P: NamedPolicy>(alloc: Global, words: &[&str]) -> Result<Spot, AllocError>
     requires { length words.now < 2 ^ 63 }
-    ensures { IfOk result (λ spot. spot_of spot ≡ event_spot (shown words.now)) }
+    ensures { IfOk result (λ spot. spot_of spot ≡ event_spot P.naming (shown words.now)) }
 {
     let Some((first, rest)) = words.split_first() else {
         return Ok(bare(alloc, 0));
     };
-    match event_forms(first) {
+    match event_forms::<P>(alloc, first)? {
         None => Ok(bare(alloc, 0)),
-        Some(forms) => Ok(one_on(line_spot(alloc, forms, rest)?)),
+        Some(forms) => Ok(one_on(line_spot(alloc, &forms, rest)?)),
     }
 }
 
 /// Returns where the fault of the words behind `cpus` stands.
-fn sizes_spot(alloc: Global, words: &[&str]) -> Result<Spot, AllocError>
-    ensures exact { IfOk result (λ spot. spot_of spot ≡ sizes_spot (shown words.now)) }
+fn sizes_spot<P: NamedPolicy>(alloc: Global, words: &[&str]) -> Result<Spot, AllocError>
+    ensures exact { IfOk result (λ spot. spot_of spot ≡ sizes_spot P.naming (shown words.now)) }
     ensures within { IfOk result (λ spot. spot.place ≤ length words.now) }
 {
     if words.len() < 3 {
         return Ok(bare(alloc, words.len()));
     }
-    first_spot(alloc, header_forms(), words)
+    let forms = header_forms::<P>(alloc)?;
+    first_spot(alloc, &forms, words)
 }
 
 /// Returns where the fault of a line in the header's place stands.
-pub(crate) fn header_spot(alloc: Global, words: &[&str]) -> Result<Spot, AllocError>
+pub(crate) fn header_spot<P: NamedPolicy>(alloc: Global, words: &[&str]) -> Result<Spot, AllocError>
     requires { length words.now < 2 ^ 63 }
-    ensures { IfOk result (λ spot. spot_of spot ≡ header_spot (shown words.now)) }
+    ensures { IfOk result (λ spot. spot_of spot ≡ header_spot P.naming (shown words.now)) }
 {
     match words {
-        [first, rest @ ..] if *first == "cpus" => Ok(one_on(sizes_spot(alloc, rest)?)),
+        [first, rest @ ..] if *first == "cpus" => Ok(one_on(sizes_spot::<P>(alloc, rest)?)),
         _ => Ok(bare(alloc, 0)),
     }
 }

@@ -2,7 +2,8 @@ ghost use Rattle.std.specs.Prelude.{◌≡◌};
 ghost use Rattle.gs_script.specs.Grammar.{is_of_kind};
 ghost use Rattle.gs_script.specs.Spot.{kind_of};
 
-use crate::header::{LEAST_SLICE, MOST_SLICE, capacity};
+use crate::header::capacity;
+use crate::policy_word::{PolicyWord, is_policy_word};
 use crate::word::{mask, name, number};
 use gs_kernel::{
     LEAST_CPUS, LEAST_GENERATION, LEAST_HISTORY, MOST_FIRST_TSEQ, MOST_GENERATION, MOST_HISTORY,
@@ -32,12 +33,8 @@ pub enum Wanted {
     PageThreads,
     /// A flag behind a stamp: `p`, `g` or `pg`.
     Flag,
-    /// The word `first`.
-    First,
-    /// The word `two`.
-    Two,
-    /// The ticks after which a thread of class 1 may have to make way.
-    Slice,
+    /// One of the words that name a policy.
+    Named(PolicyWord),
     /// How many CPUs there are.
     Cpus,
     /// The word `ring`.
@@ -74,9 +71,7 @@ pub(crate) fn is_wanted(wanted: Wanted, word: &str) -> bool
         }
         Wanted::Cpu | Wanted::PageThreads => number(word, 0, u16::MAX as u64).is_ok(),
         Wanted::Flag => matches!(word, "p" | "g" | "pg"),
-        Wanted::First => word == "first",
-        Wanted::Two => word == "two",
-        Wanted::Slice => number(word, LEAST_SLICE as u64, MOST_SLICE as u64).is_ok(),
+        Wanted::Named(one) => is_policy_word(one, word),
         Wanted::Cpus => number(word, LEAST_CPUS as u64, MOST_CPUS as u64).is_ok(),
         Wanted::Ring => word == "ring",
         Wanted::Capacity => capacity(word).is_ok(),

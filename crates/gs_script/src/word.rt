@@ -47,8 +47,12 @@ fn is_plain(word: &str) -> bool
     }
 }
 
-/// A decimal number from `least` to `most`.
-pub(crate) fn number(word: &str, least: u64, most: u64) -> Result<u64, Reason>
+/// Returns the decimal number that a word writes, from `least` to `most`. It has no sign, and no zero in front but 0 itself.
+///
+/// # Errors
+///
+/// `BadNumber` if the word is no such number.
+pub fn number(word: &str, least: u64, most: u64) -> Result<u64, Reason>
     ensures exact { result ≡ number_between least most word.now }
     ensures low { IfOk result (λ n. least ≤ n) }
     ensures high { IfOk result (λ n. n ≤ most) }

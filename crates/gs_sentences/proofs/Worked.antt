@@ -9,7 +9,6 @@ use Rattle.gs_layout.specs.declared.facts.Class.TheVariants.{Zero}
 use Rattle.gs_layout.specs.declared.message.Change.TheVariants as changes
 use Rattle.gs_layout.specs.declared.message.Message.TheVariants.{Thread}
 use Rattle.gs_agent.specs.declared.drained.Stop.TheVariants.{Gap, Memory}
-use Rattle.gs_policy.specs.declared.any.AnyPolicy.{AnyPolicy}
 use Rattle.gs_journal.specs.declared.entry.Entry.{Entry}
 use Rattle.gs_journal.specs.declared.entry.Entry.TheVariants as entries
 use Rattle.gs_kernel.specs.declared.command.Command.TheVariants as commands
@@ -36,7 +35,7 @@ abbrev landed : Outcome → Option Cause → Option Overflow → Option GroupFau
 landed o c over fault = reasons.Landed (record { landing = record { cpu = 2; tid = 1; outcome = o; seen = 2; at = Some 3 }; stamped = record { generation = 1; tseq = 1; line = 4 }; cause = c; overflow = over; fault = fault; entries = 5; limit = 6 })
 
 -- an event that was refused so, in an enclave of two CPUs
-abbrev refused : Refusal → Event AnyPolicy → Option Cause → Option ℕ → Option Waiting → Reason
+abbrev refused : Refusal → Event (Unit {0}) → Option Cause → Option ℕ → Option Waiting → Reason
 refused f e c page waiting = reasons.Refused (record { refusal = f; event = e; cause = c; numbers = record { cpus = 2; entries = 5; transactions = 3; limit = 6; page = page; waiting = waiting } })
 
 placed : reason_text (landed outcomes.Placed None None None) ≡ codes "placed"

@@ -2,7 +2,6 @@
 use Rattle.std.specs.Prelude.{Bool, true, false, ℕ, ◌-◌, ◌==◌, Option, None, Some, List, ◌++◌, decimal, if◌then◌else◌}
 use Rattle.gs_layout.specs.declared.refusal.Refusal.{Refusal}
 use Rattle.gs_layout.specs.declared.refusal.Refusal.TheVariants as refusals
-use Rattle.gs_policy.specs.declared.any.AnyPolicy.{AnyPolicy}
 use Rattle.gs_journal.specs.declared.entry.Entry.{Entry}
 use Rattle.gs_journal.specs.declared.entry.Entry.TheVariants.{Begin}
 use Rattle.gs_kernel.specs.declared.command.Command.TheVariants as commands
@@ -18,7 +17,7 @@ use Rattle.gs_sentences.specs.declared.words.Words.TheVariants as words
 use Rattle.gs_sentences.specs.Words.{said}
 
 -- no such thread: the agent does not know it, or it is no more or never was
-abbrev pub no_thread_text : Event AnyPolicy → Option Cause → List ℕ
+abbrev pub no_thread_text : Event (Unit {0}) → Option Cause → List ℕ
 no_thread_text (events.Stamp k t f) c = said words.TheAgentKnowsOfNoThread ++ decimal t
 no_thread_text e c = dead_text (tid_of e) c
 
@@ -60,7 +59,7 @@ attaching_text None page = agent_text None
 attaching_text (Some c) page = attaching_by c c.entry page
 
 -- the last number of a thread: of the one that is named, or of the one on the CPU
-abbrev pub spent_text : Event AnyPolicy → Option Cause → List ℕ
+abbrev pub spent_text : Event (Unit {0}) → Option Cause → List ℕ
 spent_text (events.Kernel (commands.Thread t e)) c = said words.Thread ++ decimal t ++ said words.HasItsLastSequenceNumber ++ since_text c
 spent_text e c = seat_text (cpu_of e) c ++ said words.AndHasItsLastSequenceNumber
 
@@ -70,7 +69,7 @@ last_text word None = word
 last_text word (Some c) = word ++ said words.OfLine ++ place_text c
 
 -- whether it is the list of transactions that is full
-abbrev pub stamps : Event AnyPolicy → Bool
+abbrev pub stamps : Event (Unit {0}) → Bool
 stamps (events.Stamp k t f) = true
 stamps events.Decide = true
 stamps _ = false

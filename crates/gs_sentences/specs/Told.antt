@@ -1,7 +1,6 @@
 -- What a sentence tells of.
 use Rattle.std.specs.Prelude.{ℕ, Option}
 use Rattle.gs_layout.specs.declared.refusal.Refusal.{Refusal}
-use Rattle.gs_policy.specs.declared.any.AnyPolicy.{AnyPolicy}
 use Rattle.gs_journal.specs.declared.entry.Entry.{Entry}
 use Rattle.gs_kernel.specs.declared.landing.Landing.{Landing}
 use Rattle.gs_core.specs.declared.event.Event.{Event}
@@ -27,9 +26,9 @@ pub record Landed : Type 0 where
   pub entries : ℕ
   pub limit : ℕ
 
--- an event that was refused, the last entry that made that so, and what stands in no entry
+-- an event that was refused, without the policy that it may name, the last entry that made that so, and what stands in no entry
 pub record Refused : Type 0 where
   pub refusal : Refusal
-  pub event : Event AnyPolicy
+  pub event : Event (Unit {0})
   pub cause : Option Cause
   pub numbers : Numbers

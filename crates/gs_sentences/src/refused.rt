@@ -14,21 +14,21 @@ use gs_core::Event;
 use gs_journal::Entry;
 use gs_kernel::Command;
 use gs_layout::Refusal;
-use gs_policy::AnyPolicy;
 use gs_status::Mask;
 
 /// An event that was refused, and what a sentence may tell of that.
 #[derive(Clone, Copy)]
 pub struct Refused<'a> {
     pub refusal: Refusal,
-    pub event: &'a Event<AnyPolicy>,
+    /// The event, without the policy that it may name: no sentence tells of that.
+    pub event: &'a Event<()>,
     /// The last entry that made the refusal so, if one did.
     pub cause: Option<Cause<'a>>,
     pub numbers: Numbers,
 }
 
 /// Puts that there is no such thread.
-fn put_no_thread(to: &mut Sentence, event: &Event<AnyPolicy>, cause: &Option<Cause<'_>>)
+fn put_no_thread(to: &mut Sentence, event: &Event<()>, cause: &Option<Cause<'_>>)
     requires { length to.old + 400 ≤ SENTENCE_LEN }
     ensures value { to.new ≡ no_thread_text event.now (causes_given cause.now) ++ to.old }
     ensures short { length to.new ≤ length to.old + 400 }
@@ -126,7 +126,7 @@ fn put_attaching(to: &mut Sentence, cause: &Option<Cause<'_>>, page: Option<usiz
 }
 
 /// Puts whose sequence numbers are spent.
-fn put_spent(to: &mut Sentence, event: &Event<AnyPolicy>, cause: &Option<Cause<'_>>)
+fn put_spent(to: &mut Sentence, event: &Event<()>, cause: &Option<Cause<'_>>)
     requires { length to.old + 464 ≤ SENTENCE_LEN }
     ensures value { to.new ≡ spent_text event.now (causes_given cause.now) ++ to.old }
     ensures short { length to.new ≤ length to.old + 464 }
@@ -160,7 +160,7 @@ fn put_last(to: &mut Sentence, words: Words, cause: &Option<Cause<'_>>)
 }
 
 /// Returns whether an event stamps.
-fn stamps(event: &Event<AnyPolicy>) -> bool
+fn stamps(event: &Event<()>) -> bool
     ensures { result ≡ stamps event.now }
 {
     matches!(event, Event::Stamp { .. } | Event::Decide)

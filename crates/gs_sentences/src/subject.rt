@@ -5,11 +5,10 @@ ghost use Rattle.gs_sentences.specs.Subject.{cpu_of, cpu_of_command, mask_of, ma
 
 use gs_core::Event;
 use gs_kernel::{Command, ThreadEvent};
-use gs_policy::AnyPolicy;
 use gs_status::Mask;
 
 /// Returns the thread that an event names, 0 if it names none.
-pub fn tid_of(event: &Event<AnyPolicy>) -> u32
+pub fn tid_of(event: &Event<()>) -> u32
     ensures { result ≡ tid_of event.now }
 {
     match event {
@@ -36,7 +35,7 @@ fn cpu_of_command(command: &Command) -> u16
 }
 
 /// Returns the CPU that an event names, 0 if it names none.
-pub fn cpu_of(event: &Event<AnyPolicy>) -> u16
+pub fn cpu_of(event: &Event<()>) -> u16
     ensures { result ≡ cpu_of event.now }
 {
     match event {
@@ -61,7 +60,7 @@ fn mask_of_command(command: &Command) -> Mask
 }
 
 /// Returns the mask that an event names, the empty one if it names none.
-pub fn mask_of(event: &Event<AnyPolicy>) -> Mask
+pub fn mask_of(event: &Event<()>) -> Mask
     ensures { result ≡ mask_of event.now }
 {
     match event {

@@ -10,13 +10,13 @@ use Rattle.std.proofs.lemmas.Grind.{common_steps}
 use Rattle.gs_script.specs.declared.fault.Reason.{Reason}
 use Rattle.gs_script.specs.declared.fault.Reason.TheVariants.{TooLong}
 use Rattle.gs_script.specs.declared.script.TheConstants.{MOST_BYTES}
+use Rattle.gs_script.specs.Naming.{Naming}
 use Rattle.gs_script.specs.Header.{header_of}
 use Rattle.gs_script.specs.Rows.{event_of}
 use Rattle.gs_script.specs.Script.{says}
 use Rattle.gs_script.specs.Words.{lines_of}
 use Rattle.gs_session.specs.declared.heard.Heard.{Heard}
-use Rattle.gs_core.specs.Machine.{StateOf}
-use Rattle.gs_policy.specs.declared.any.AnyPolicy.{AnyPolicy}
+use Rattle.gs_core.specs.Machine.{Plan, StateOf}
 use Rattle.gs_session.specs.Session.{Session, Hears, HearsAt, HearsEvent, HearsHeader, read_within, unheard}
 use Rattle.gs_serve.specs.declared.source.TheConstants.{MOST_KEPT}
 use Rattle.gs_serve.specs.declared.source.Came.TheVariants.{Line, Last, Nothing}
@@ -45,27 +45,27 @@ cut_read {A} n m too_long f line more = by_test (nat_lt n (length line)) refl
 cut_within : {A : Type 0} (read : List (List ℕ) → Result A Reason) (line : List ℕ) → read_within read (kept_of line) ≡ read_within read line
 cut_within read line = cut_read MOST_BYTES MOST_KEPT (Err TooLong) (says read) line refl
 
-hears_cut_at : (n : ℕ) (line : List ℕ) (old : Option (StateOf AnyPolicy)) (h : Heard) (new : Option (StateOf AnyPolicy)) → HearsAt n (kept_of line) old h new → HearsAt n line old h new
-hears_cut_at n line None h new t = subst (λ r. HearsHeader n r h new) (cut_within header_of line) t
-hears_cut_at n line (Some m) h new t = subst (λ r. HearsEvent n m r h new) (cut_within event_of line) t
+hears_cut_at : {A : Type 0} (naming : Naming A) (plans : A → Plan) (n : ℕ) (line : List ℕ) (old : Option (StateOf A)) (h : Heard) (new : Option (StateOf A)) → HearsAt naming plans n (kept_of line) old h new → HearsAt naming plans n line old h new
+hears_cut_at naming plans n line None h new t = subst (λ r. HearsHeader n r h new) (cut_within (header_of naming) line) t
+hears_cut_at naming plans n line (Some m) h new t = subst (λ r. HearsEvent plans n m r h new) (cut_within (event_of naming) line) t
 
-hears_cut : (old : Session) (line kept : List ℕ) (h : Heard) (new : Session) → kept ≡ kept_of line → Hears old kept h new → Hears old line h new
-hears_cut old line kept h new e t =
-    record { counted = t.counted; does = hears_cut_at new.count line old.opened h new.opened (subst (λ (xs : List ℕ). HearsAt new.count xs old.opened h new.opened) e t.does) }
+hears_cut : {A : Type 0} (naming : Naming A) (plans : A → Plan) (old : Session A) (line kept : List ℕ) (h : Heard) (new : Session A) → kept ≡ kept_of line → Hears naming plans old kept h new → Hears naming plans old line h new
+hears_cut naming plans old line kept h new e t =
+    record { counted = t.counted; does = hears_cut_at naming plans new.count line old.opened h new.opened (subst (λ (xs : List ℕ). HearsAt naming plans new.count xs old.opened h new.opened) e t.does) }
 
-shows_cut : (w : Way) (n : Noted) (old : Session) (line kept : List ℕ) (h : Heard) (now : Noted) (new : Session) (out : List ℕ) → kept ≡ kept_of line → ShowsLine w n old kept h now new out → ShowsLine w n old line h now new out
+shows_cut : {A : Type 0} (w : Way A) (n : Noted) (old : Session A) (line kept : List ℕ) (h : Heard) (now : Noted) (new : Session A) (out : List ℕ) → kept ≡ kept_of line → ShowsLine w n old kept h now new out → ShowsLine w n old line h now new out
 shows_cut w n old line kept h now new out e t =
     record {
-      hears = hears_cut old line kept h new e t.hears;
-      shown = t.shown ∙ ap (λ (xs : List ℕ). w.shown n old (event_said xs) h new) e ∙ ap (λ r. w.shown n old (event_in r) h new) (cut_within event_of line);
+      hears = hears_cut w.naming w.plans old line kept h new e t.hears;
+      shown = t.shown ∙ ap (λ (xs : List ℕ). w.shown n old (event_said w.naming xs) h new) e ∙ ap (λ r. w.shown n old (event_in r) h new) (cut_within (event_of w.naming) line);
       noted = t.noted;
     }
 
 -- one more line is heard
-shows_more : (w : Way) (n m : Noted) (a b : Session) (lines : List (List ℕ)) (hs : List Heard) (out : List ℕ) (line : List ℕ) (h : Heard) (now : Noted) (c : Session) (text : List ℕ) → ShowsAll w n a lines hs m b out → ShowsLine w m b line h now c text → ShowsAll w n a (lines ++ line ∷ []) (hs ++ h ∷ []) now c (out ++ ended_by text)
+shows_more : {A : Type 0} (w : Way A) (n m : Noted) (a b : Session A) (lines : List (List ℕ)) (hs : List Heard) (out : List ℕ) (line : List ℕ) (h : Heard) (now : Noted) (c : Session A) (text : List ℕ) → ShowsAll w n a lines hs m b out → ShowsLine w m b line h now c text → ShowsAll w n a (lines ++ line ∷ []) (hs ++ h ∷ []) now c (out ++ ended_by text)
 shows_more w n m a b [] [] out line h now c text (noted, e, none) one =
     let first : ShowsLine w n a line h now c text =
-    subst (λ (s : Session). ShowsLine w n s line h now c text) e (subst (λ (k : Noted). ShowsLine w k b line h now c text) noted one) in
+    subst (λ (s : Session _). ShowsLine w n s line h now c text) e (subst (λ (k : Noted). ShowsLine w k b line h now c text) noted one) in
     (now, c, text, [], first, ap (λ xs. xs ++ ended_by text) none ∙ sym (append-nil (ended_by text)), (refl, refl, refl))
 shows_more w n m a b [] (g ∷ hs) out line h now c text t one = absurd t
 shows_more w n m a b (l ∷ lines) [] out line h now c text t one = absurd t
@@ -73,7 +73,7 @@ shows_more w n m a b (l ∷ lines) (g ∷ hs) out line h now c text (between, mi
     (between, mid, said, rest ++ ended_by text, first, ap (λ xs. xs ++ ended_by text) is ∙ append_assoc (ended_by said) rest (ended_by text), shows_more w between m mid b lines hs rest line h now c text behind one)
 
 -- lines were read, heard and answered
-pub record ServesSoFar (w : Way) (n : Noted) (had left before now : Option (List ℕ)) (noted : Noted) (session : Session) : Type 0 where
+pub record ServesSoFar {A : Type 0} (w : Way A) (n : Noted) (had left before now : Option (List ℕ)) (noted : Noted) (session : Session A) : Type 0 where
   pub input : List ℕ
   pub lines : List (List ℕ)
   pub heard : List Heard
@@ -83,11 +83,11 @@ pub record ServesSoFar (w : Way) (n : Noted) (had left before now : Option (List
   pub shows : ShowsAll w n unheard lines heard noted session answers
   pub written : Appends before now answers
 
-pub none_served : (w : Way) (n : Noted) (known before : Option (List ℕ)) (s : List ℕ) (session : Session) → s ≡ [] → session ≡ unheard → ServesSoFar w n known (prepend_known s known) before before n session
+pub none_served : {A : Type 0} (w : Way A) (n : Noted) (known before : Option (List ℕ)) (s : List ℕ) (session : Session A) → s ≡ [] → session ≡ unheard → ServesSoFar w n known (prepend_known s known) before before n session
 none_served w n known before s session e new =
     record { input = []; lines = []; heard = []; answers = []; consumed = first_consumed known s e; leads = λ more. refl; shows = (refl, new, refl); written = Appends-nil before }
 
-pub line_served : (w : Way) (n m : Noted) (had mid left before now next : Option (List ℕ)) (kept : List ℕ) (old : Session) (noted : Noted) (new : Session) → ServesSoFar w n had mid before now m old → Comes Line mid left kept → WritesLine w m old kept noted new now next → ServesSoFar w n had left before next noted new
+pub line_served : {A : Type 0} (w : Way A) (n m : Noted) (had mid left before now next : Option (List ℕ)) (kept : List ℕ) (old : Session A) (noted : Noted) (new : Session A) → ServesSoFar w n had mid before now m old → Comes Line mid left kept → WritesLine w m old kept noted new now next → ServesSoFar w n had left before next noted new
 line_served w n m had mid left before now next kept old noted new t (line, is, cut, taken) (text, (h, one), wrote) =
     record {
       input = t.input ++ (line ++ 10 ∷ []);
@@ -100,7 +100,7 @@ line_served w n m had mid left before now next kept old noted new t (line, is, c
       written = Appends-trans before now next t.answers (ended_by text) t.written wrote;
     }
 
-pub all_served : (w : Way) (n m : Noted) (had mid known before now : Option (List ℕ)) (s kept : List ℕ) (session : Session) → ServesSoFar w n had mid before now m session → Comes Nothing mid (prepend_known s known) kept → IsServedBy w n had known before now
+pub all_served : {A : Type 0} (w : Way A) (n m : Noted) (had mid known before now : Option (List ℕ)) (s kept : List ℕ) (session : Session A) → ServesSoFar w n had mid before now m session → Comes Nothing mid (prepend_known s known) kept → IsServedBy w n had known before now
 all_served w n m had mid known before now s kept session t (same, end) =
     let consumed : Consumes had (prepend_known s known) t.input = subst (Consumes had (prepend_known s known)) (append-nil t.input) (Consumes-trans had mid (prepend_known s known) t.input [] t.consumed same) in
     let all = all_consumed had known s t.input consumed end in
@@ -116,7 +116,7 @@ all_served w n m had mid known before now s kept session t (same, end) =
       written = t.written;
     }
 
-pub last_served : (w : Way) (n m : Noted) (had mid known before now next : Option (List ℕ)) (s kept : List ℕ) (old : Session) (noted : Noted) (new : Session) → ServesSoFar w n had mid before now m old → Comes Last mid (prepend_known s known) kept → WritesLine w m old kept noted new now next → IsServedBy w n had known before next
+pub last_served : {A : Type 0} (w : Way A) (n m : Noted) (had mid known before now next : Option (List ℕ)) (s kept : List ℕ) (old : Session A) (noted : Noted) (new : Session A) → ServesSoFar w n had mid before now m old → Comes Last mid (prepend_known s known) kept → WritesLine w m old kept noted new now next → IsServedBy w n had known before next
 last_served w n m had mid known before now next s kept old noted new t (line, is, some, cut, taken, end) (text, (h, one), wrote) =
     let all = all_consumed had known s (t.input ++ line) (Consumes-trans had mid (prepend_known s known) t.input line t.consumed taken) end in
     record {
@@ -152,7 +152,7 @@ kept_written a b c bs h k = subst (Appends a c) (sym (take_all (length bs) bs (o
     by_kept (Some x) (Some y) None h k = absurd k
     by_kept (Some x) (Some y) (Some z) h k = k ∙ h
 
-pub begun_so_far : (w : Way) (n m : Noted) (had mid before now after : Option (List ℕ)) (session : Session) → ServesSoFar w n had mid before now m session → Keeps now after → BeginsServingBy w n had before after
+pub begun_so_far : {A : Type 0} (w : Way A) (n m : Noted) (had mid before now after : Option (List ℕ)) (session : Session A) → ServesSoFar w n had mid before now m session → Keeps now after → BeginsServingBy w n had before after
 begun_so_far w n m had mid before now after session t kept =
     record {
       lines = t.lines;
@@ -170,7 +170,7 @@ begun_so_far w n m had mid before now after session t kept =
 part_written : (a b c : Option (List ℕ)) (so_far more : List ℕ) (n : ℕ) → Appends a b so_far → Appends b c (take n more) → Appends a c (take (length so_far + n) (so_far ++ more))
 part_written a b c so_far more n first one = subst (Appends a c) (sym (take-append-add so_far more n)) (Appends-trans a b c so_far (take n more) first one)
 
-pub line_begun : (w : Way) (n m : Noted) (had mid left before now next : Option (List ℕ)) (kept : List ℕ) (old : Session) (noted : Noted) (new : Session) → ServesSoFar w n had mid before now m old → Comes Line mid left kept → StartsLine w m old kept noted new now next → BeginsServingBy w n had before next
+pub line_begun : {A : Type 0} (w : Way A) (n m : Noted) (had mid left before now next : Option (List ℕ)) (kept : List ℕ) (old : Session A) (noted : Noted) (new : Session A) → ServesSoFar w n had mid before now m old → Comes Line mid left kept → StartsLine w m old kept noted new now next → BeginsServingBy w n had before next
 line_begun w n m had mid left before now next kept old noted new t (line, is, cut, taken) (text, count, (h, one), wrote) =
     record {
       lines = t.lines ++ line ∷ [];
@@ -191,7 +191,7 @@ last_first (Some xs) None input line lines h end leads is = absurd h
 last_first (Some xs) (Some left) input line lines h end leads is =
     ap lines_of (h ∙ ap (λ l. (input ++ line) ++ l) end ∙ append-nil (input ++ line)) ∙ leads line ∙ ap (λ ls. lines ++ ls) is ∙ sym (append-nil (lines ++ line ∷ []))
 
-pub last_begun : (w : Way) (n m : Noted) (had mid left before now next : Option (List ℕ)) (kept : List ℕ) (old : Session) (noted : Noted) (new : Session) → ServesSoFar w n had mid before now m old → Comes Last mid left kept → StartsLine w m old kept noted new now next → BeginsServingBy w n had before next
+pub last_begun : {A : Type 0} (w : Way A) (n m : Noted) (had mid left before now next : Option (List ℕ)) (kept : List ℕ) (old : Session A) (noted : Noted) (new : Session A) → ServesSoFar w n had mid before now m old → Comes Last mid left kept → StartsLine w m old kept noted new now next → BeginsServingBy w n had before next
 last_begun w n m had mid left before now next kept old noted new t (line, is, some, cut, taken, end) (text, count, (h, one), wrote) =
     record {
       lines = t.lines ++ line ∷ [];
@@ -207,7 +207,7 @@ last_begun w n m had mid left before now next kept old noted new t (line, is, so
     }
 
 -- an answer failed: nothing of it was written, or a beginning
-pub fault_begun : (e : ServeFault) (w : Way) (n m : Noted) (had mid before now after : Option (List ℕ)) (line : List ℕ) (old : Session) (noted : Noted) (new : Session) → ServesSoFar w n had mid before now m old → ((IsOfWriting e → ⊥) → Keeps now after) → (IsOfWriting e → StartsLine w m old line noted new now after)
+pub fault_begun : {A : Type 0} (e : ServeFault) (w : Way A) (n m : Noted) (had mid before now after : Option (List ℕ)) (line : List ℕ) (old : Session A) (noted : Noted) (new : Session A) → ServesSoFar w n had mid before now m old → ((IsOfWriting e → ⊥) → Keeps now after) → (IsOfWriting e → StartsLine w m old line noted new now after)
     → (StartsLine w m old line noted new now after → BeginsServingBy w n had before after) → BeginsServingBy w n had before after
 fault_begun faults.ReadFailed w n m had mid before now after line old noted new t unwritten begun serves = begun_so_far w n m had mid before now after old t (unwritten (λ x. x))
 fault_begun faults.OutOfMemory w n m had mid before now after line old noted new t unwritten begun serves = begun_so_far w n m had mid before now after old t (unwritten (λ x. x))

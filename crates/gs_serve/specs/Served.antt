@@ -1,12 +1,14 @@
 -- The answers to lines, as they are read.
 use Rattle.std.specs.Prelude.{◌≡◌, ⊤, ℕ, List, [], ◌∷◌, ◌++◌, take, Option, IfSome}
 use Rattle.std.specs.Io.KnownBytes.{Appends, Consumes, IsAtEnd}
+use Rattle.gs_core.specs.Machine.{Plan}
 use Rattle.gs_lines.specs.Lines.{reply_lines}
+use Rattle.gs_script.specs.Naming.{Naming}
 use Rattle.gs_script.specs.Words.{lines_of}
 use Rattle.gs_session.specs.declared.heard.Heard.{Heard}
 use Rattle.gs_session.specs.declared.heard.Heard.TheVariants as heards
 use Rattle.gs_session.specs.Lines.{HearsAll}
-use Rattle.gs_session.specs.Session.{Session, Hears, unheard}
+use Rattle.gs_session.specs.Session.{Session, unheard}
 use Rattle.gs_trace.specs.Output.{fault_line}
 use Rattle.gs_serve.specs.declared.fault.ServeFault.{ServeFault}
 use Rattle.gs_serve.specs.declared.fault.ServeFault.TheVariants as faults
@@ -26,14 +28,6 @@ answer_of h = said_of h ++ 10 ∷ []
 abbrev pub answers_of : List Heard → List ℕ
 answers_of [] = []
 answers_of (h ∷ hs) = answer_of h ++ answers_of hs
-
--- a session hears a line, and the answer is written
-abbrev pub AnswersLine : Session → List ℕ → Session → Option (List ℕ) → Option (List ℕ) → Type 0
-AnswersLine old line new before after = (h : Heard) × Hears old line h new × Appends before after (answer_of h)
-
--- and if a beginning of it is written
-abbrev pub BeginsLine : Session → List ℕ → Session → Option (List ℕ) → Option (List ℕ) → Type 0
-BeginsLine old line new before after = (h : Heard) × (n : ℕ) × Hears old line h new × Appends before after (take n (answer_of h))
 
 -- a fault is that of a write
 abbrev pub IsOfWriting : ServeFault → Type 0
@@ -57,22 +51,22 @@ abbrev pub lines_in : List ℕ → List (List ℕ)
 lines_in input = without_end (lines_of input)
 
 -- all that the reader had was read, its lines were heard one after another, and of each the answer was written
-pub record IsServed (had left before after : Option (List ℕ)) : Type 0 where
+pub record IsServed {A : Type 0} (naming : Naming A) (plans : A → Plan) (had left before after : Option (List ℕ)) : Type 0 where
   pub input : List ℕ
   pub heard : List Heard
-  pub session : Session
+  pub session : Session A
   pub consumed : Consumes had left input
   pub end : IsAtEnd left
-  pub hears : HearsAll unheard (lines_in input) heard session
+  pub hears : HearsAll naming plans unheard (lines_in input) heard session
   pub written : Appends before after (answers_of heard)
 
 -- of the lines that the reader had the first were heard, one after another, and a beginning of their answers was written
-pub record BeginsServing (had before after : Option (List ℕ)) : Type 0 where
+pub record BeginsServing {A : Type 0} (naming : Naming A) (plans : A → Plan) (had before after : Option (List ℕ)) : Type 0 where
   pub lines : List (List ℕ)
   pub behind : List (List ℕ)
   pub heard : List Heard
-  pub session : Session
+  pub session : Session A
   pub count : ℕ
   pub first : IfSome had (λ input. lines_of input ≡ lines ++ behind)
-  pub hears : HearsAll unheard lines heard session
+  pub hears : HearsAll naming plans unheard lines heard session
   pub written : Appends before after (take count (answers_of heard))

@@ -3,22 +3,28 @@
 ghost use Rattle.std.specs.Prelude.{◌≡◌, IfErr, OnOk};
 ghost use Rattle.std.specs.Io.KnownBytes.{Keeps};
 ghost use Rattle.gs_serve.specs.Answered.{StartsLine, WritesLine};
-ghost use Rattle.gs_serve.specs.Served.{AnswersLine, BeginsLine, IsOfWriting};
+ghost use Rattle.gs_serve.specs.Served.{IsOfWriting};
 
 use crate::answers::Answers;
 use crate::fault::ServeFault;
-use crate::plain::Plain;
 use crate::writing::write_through;
+use gs_script::NamedPolicy;
 use gs_session::Session;
 use std::alloc::Global;
 use std::io::Write;
 
 /// Lets a session hear a line, and writes the answer: the lines that say what came of it, and an empty one. The writer is
-/// flushed. It fails as [`answer`] does.
-pub(crate) fn answer_by<A: Answers, W: Write>(
+/// flushed.
+///
+/// # Errors
+///
+/// `OutOfMemory` if out of memory, also if the reply to an event tells of that: then nothing was written.
+/// `WriteFailed` if a write fails or takes no byte, and `ReaderGone` if that is so because nobody reads what is written.
+/// Then the line was heard, and a beginning of its answer was written.
+pub(crate) fn answer_by<P: NamedPolicy, A: Answers<P>, W: Write>(
     alloc: Global,
     answers: &mut A,
-    session: &mut Session,
+    session: &mut Session<P>,
     line: &[u8],
     writer: &mut W,
 ) -> Result<(), ServeFault>
@@ -31,26 +37,4 @@ pub(crate) fn answer_by<A: Answers, W: Write>(
     let mut text = answers.hear(alloc, session, line)?;
     text.end_line()?;
     write_through(writer, text.as_bytes())
-}
-
-/// Lets a session hear a line, and writes the answer: the lines of its reply or of its fault, if it has one, and an
-/// empty line. The writer is flushed.
-///
-/// # Errors
-///
-/// `OutOfMemory` if out of memory, also if the reply to an event tells of that: then nothing was written.
-/// `WriteFailed` if a write fails or takes no byte, and `ReaderGone` if that is so because nobody reads what is written.
-/// Then the line was heard, and a beginning of its answer was written.
-#[tactic(auto, using(crate::proofs::Plainly::line_answered, crate::proofs::Plainly::line_begun))]
-pub fn answer<W: Write>(
-    alloc: Global,
-    session: &mut Session,
-    line: &[u8],
-    writer: &mut W,
-) -> Result<(), ServeFault>
-    ensures answered { OnOk result (AnswersLine session.old line.now session.new (W.contents writer.old) (W.contents writer.new)) }
-    ensures unwritten { IfErr result (λ e. (IsOfWriting e → ⊥) → Keeps (W.contents writer.old) (W.contents writer.new)) }
-    ensures begun { IfErr result (λ e. IsOfWriting e → BeginsLine session.old line.now session.new (W.contents writer.old) (W.contents writer.new)) }
-{
-    answer_by(alloc, &mut Plain, session, line, writer)
 }

@@ -11,29 +11,29 @@ use crate::plain::heard_text;
 use gs_core::{Event, Machine, Reply};
 use gs_explain::Explainer;
 use gs_lines::Text;
-use gs_policy::AnyPolicy;
-use gs_script::{LineError, MOST_BYTES, read_event};
+use gs_policy::Counted;
+use gs_script::{LineError, MOST_BYTES, NamedPolicy, read_event};
 use gs_session::{Heard, Session};
 use std::alloc::{AllocError, Global};
 
 /// Answers by the lines of the reply with its reasons, or of the fault.
 #[derive(Drop)]
-pub(crate) struct Explained {
+pub(crate) struct Explained<P> {
     /// How many lines were heard.
     lines: usize,
     /// What is kept beside the machine, once the header was heard.
     explainer: Option<Explainer>,
     /// The event of a line. Its room is there for the next one.
-    events: Vec<Event<AnyPolicy>>,
+    events: Vec<Event<P>>,
 }
 
 /// Reads the event that a line says, if it has no fault and says one.
-fn read_said(
+fn read_said<P: NamedPolicy>(
     alloc: Global,
     line: &[u8],
-    events: &mut Vec<Event<AnyPolicy>>,
+    events: &mut Vec<Event<P>>,
 ) -> Result<(), AllocError>
-    ensures { OnOk result (events.new.items ≡ and_one [] (event_said line.now)) }
+    ensures { OnOk result (events.new.items ≡ and_one [] (event_said P.naming line.now)) }
 {
     events.clear();
     if line.len() > MOST_BYTES {
@@ -50,18 +50,18 @@ fn read_said(
 }
 
 /// Returns what explains an event of the line of a number, which has just happened on the machine.
-fn explain_known(
+fn explain_known<P: Counted + Copy>(
     alloc: Global,
     explainer: &mut Explainer,
-    machine: Option<&Machine<AnyPolicy>>,
+    machine: Option<&Machine<P>>,
     number: usize,
-    event: Option<&Event<AnyPolicy>>,
+    event: Option<&Event<P>>,
     reply: &Reply,
 ) -> Result<Text, AllocError>
-    requires { KnowsOpenedFirst (Some explainer.old) (option_copied machine) }
-    ensures shown { IfOk result (λ text. text ≡ step_shown_after explainer.old.noted number (option_copied event.entry) reply.now (option_copied machine.entry)) }
-    ensures noted { OnOk result (explainer.new.noted ≡ noted_by number reply.now (option_copied machine.entry) explainer.old.noted) }
-    ensures knows { OnOk result (KnowsOpened (Some explainer.new) (option_copied machine.entry)) }
+    requires { KnowsOpenedFirst P.chosen (Some explainer.old) (option_copied machine) }
+    ensures shown { IfOk result (λ text. text ≡ step_shown_after P.chosen explainer.old.noted number (option_copied event.entry) reply.now (option_copied machine.entry)) }
+    ensures noted { OnOk result (explainer.new.noted ≡ noted_by P.chosen number reply.now (option_copied machine.entry) explainer.old.noted) }
+    ensures knows { OnOk result (KnowsOpened P.chosen (Some explainer.new) (option_copied machine.entry)) }
 {
     match (machine, event) {
         (Some(machine), Some(event)) => explainer.explain(alloc, machine, number, event, reply),
@@ -71,19 +71,19 @@ fn explain_known(
 }
 
 /// Returns what explains the event that the line of a number says. It has just happened on the machine.
-fn explain_step(
+fn explain_step<P: NamedPolicy>(
     alloc: Global,
     explainer: &mut Option<Explainer>,
-    events: &mut Vec<Event<AnyPolicy>>,
-    machine: Option<&Machine<AnyPolicy>>,
+    events: &mut Vec<Event<P>>,
+    machine: Option<&Machine<P>>,
     number: usize,
     line: &[u8],
     reply: &Reply,
 ) -> Result<Text, AllocError>
-    requires { KnowsOpenedFirst explainer.old (option_copied machine) }
-    ensures shown { IfOk result (λ text. text ≡ step_shown_after (noted_in explainer.old) number (event_said line.now) reply.now (option_copied machine.entry)) }
-    ensures noted { OnOk result (noted_in explainer.new ≡ noted_by number reply.now (option_copied machine.entry) (noted_in explainer.old)) }
-    ensures knows { OnOk result (KnowsOpened explainer.new (option_copied machine.entry)) }
+    requires { KnowsOpenedFirst P.chosen explainer.old (option_copied machine) }
+    ensures shown { IfOk result (λ text. text ≡ step_shown_after P.chosen (noted_in explainer.old) number (event_said P.naming line.now) reply.now (option_copied machine.entry)) }
+    ensures noted { OnOk result (noted_in explainer.new ≡ noted_by P.chosen number reply.now (option_copied machine.entry) (noted_in explainer.old)) }
+    ensures knows { OnOk result (KnowsOpened P.chosen explainer.new (option_copied machine.entry)) }
 {
     read_said(alloc, line, events)?;
     match explainer {
@@ -94,16 +94,16 @@ fn explain_step(
 }
 
 /// Keeps what is needed beside a machine that the header's line has just opened. Nothing is said of that.
-fn begin(
+fn begin<P: Counted + Copy>(
     alloc: Global,
     explainer: &mut Option<Explainer>,
-    machine: Option<&Machine<AnyPolicy>>,
+    machine: Option<&Machine<P>>,
     number: usize,
 ) -> Result<Text, AllocError>
     requires { IsOpened (option_copied machine) }
     ensures shown { IfOk result (λ text. text ≡ []) }
     ensures noted { OnOk result (noted_in explainer.new ≡ noted_at number (option_copied machine.entry)) }
-    ensures knows { OnOk result (KnowsOpened explainer.new (option_copied machine.entry)) }
+    ensures knows { OnOk result (KnowsOpened P.chosen explainer.new (option_copied machine.entry)) }
 {
     *explainer = match machine {
         Some(machine) => Some(Explainer::new(alloc, number, machine)?),
@@ -113,19 +113,19 @@ fn begin(
 }
 
 /// Returns the lines that say what came of the line of a number, with the reasons.
-fn explain_heard(
+fn explain_heard<P: NamedPolicy>(
     alloc: Global,
     explainer: &mut Option<Explainer>,
-    events: &mut Vec<Event<AnyPolicy>>,
-    machine: Option<&Machine<AnyPolicy>>,
+    events: &mut Vec<Event<P>>,
+    machine: Option<&Machine<P>>,
     number: usize,
     line: &[u8],
     heard: &Heard,
 ) -> Result<Text, AllocError>
-    requires { IsReady explainer.old heard.now (option_copied machine) }
-    ensures shown { IfOk result (λ text. text ≡ line_shown_after (noted_in explainer.old) number (event_said line.now) heard.now (option_copied machine.entry)) }
-    ensures noted { OnOk result (noted_in explainer.new ≡ noted_then (noted_in explainer.old) number heard.now (option_copied machine.entry)) }
-    ensures knows { OnOk result (KnowsOpened explainer.new (option_copied machine.entry)) }
+    requires { IsReady P.chosen explainer.old heard.now (option_copied machine) }
+    ensures shown { IfOk result (λ text. text ≡ line_shown_after P.chosen (noted_in explainer.old) number (event_said P.naming line.now) heard.now (option_copied machine.entry)) }
+    ensures noted { OnOk result (noted_in explainer.new ≡ noted_then P.chosen (noted_in explainer.old) number heard.now (option_copied machine.entry)) }
+    ensures knows { OnOk result (KnowsOpened P.chosen explainer.new (option_copied machine.entry)) }
 {
     match heard {
         Heard::Stepped(reply) => {
@@ -137,17 +137,17 @@ fn explain_heard(
 }
 
 /// Lets a session hear a line, and returns the lines that say what came of it, with the reasons. The lines are counted.
-fn hear_line(
+fn hear_line<P: NamedPolicy>(
     alloc: Global,
     lines: &mut usize,
     explainer: &mut Option<Explainer>,
-    events: &mut Vec<Event<AnyPolicy>>,
-    session: &mut Session,
+    events: &mut Vec<Event<P>>,
+    session: &mut Session<P>,
     line: &[u8],
 ) -> Result<Text, AllocError>
-    requires { Follows lines.old explainer.old session.old }
-    ensures shown { IfOk result (λ text. Shows explains (noted_in explainer.old) session.old line.now (noted_in explainer.new) session.new text) }
-    ensures follows { OnOk result (Follows lines.new explainer.new session.new) }
+    requires { Follows P.chosen lines.old explainer.old session.old }
+    ensures shown { IfOk result (λ text. Shows (explains P.naming P.chosen) (noted_in explainer.old) session.old line.now (noted_in explainer.new) session.new text) }
+    ensures follows { OnOk result (Follows P.chosen lines.new explainer.new session.new) }
 {
     let Some(number) = lines.checked_add(1) else {
         return Err(AllocError);
@@ -158,11 +158,11 @@ fn hear_line(
     explain_heard(alloc, explainer, events, machine, number, line, &heard)
 }
 
-impl Explained {
+impl<P: NamedPolicy> Explained<P> {
     /// Makes one that heard no line. It does not allocate.
-    pub(crate) fn new(alloc: Global) -> Explained
+    pub(crate) fn new(alloc: Global) -> Explained<P>
         ensures noted { noted_in result.explainer ≡ none_noted }
-        ensures follows { Follows result.lines result.explainer unheard }
+        ensures follows { Follows P.chosen result.lines result.explainer unheard }
     {
         Explained {
             lines: 0,
@@ -172,17 +172,17 @@ impl Explained {
     }
 }
 
-impl Answers for Explained {
-    ghost way = { explains };
+impl<P: NamedPolicy> Answers<P> for Explained<P> {
+    ghost way = { explains P.naming P.chosen };
 
     ghost noted = { λ x. noted_in x.explainer };
 
-    ghost follows = { λ x s. Follows x.lines x.explainer s };
+    ghost follows = { λ x s. Follows P.chosen x.lines x.explainer s };
 
     fn hear(
         &mut self,
         alloc: Global,
-        session: &mut Session,
+        session: &mut Session<P>,
         line: &[u8],
     ) -> Result<Text, AllocError> {
         hear_line(

@@ -12,7 +12,6 @@ mod serving;
 mod source;
 mod writing;
 
-pub use answering::answer;
 pub use fault::ServeFault;
 pub use law::{explained_answers_are_heard, sentences_are_added};
 pub use prompt::{Prompt, Silent};

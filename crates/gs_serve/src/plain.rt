@@ -6,6 +6,7 @@ ghost use Rattle.gs_serve.specs.Served.{said_of};
 
 use crate::answers::Answers;
 use gs_lines::{Text, write_reply};
+use gs_script::NamedPolicy;
 use gs_session::{Heard, Session};
 use gs_trace::fault_text;
 use std::alloc::{AllocError, Global};
@@ -34,8 +35,8 @@ pub(crate) fn heard_text(alloc: Global, heard: &Heard) -> Result<Text, AllocErro
 #[derive(Drop)]
 pub(crate) struct Plain;
 
-impl Answers for Plain {
-    ghost way = { plain };
+impl<P: NamedPolicy> Answers<P> for Plain {
+    ghost way = { plain P.naming P.chosen };
 
     ghost noted = { λ _. none_noted };
 
@@ -44,7 +45,7 @@ impl Answers for Plain {
     fn hear(
         &mut self,
         alloc: Global,
-        session: &mut Session,
+        session: &mut Session<P>,
         line: &[u8],
     ) -> Result<Text, AllocError> {
         let heard = session.hear(line)?;

@@ -10,16 +10,17 @@ use crate::fault::ServeFault;
 use crate::plain::Plain;
 use crate::prompt::Prompt;
 use crate::source::{Came, Source};
+use gs_script::NamedPolicy;
 use gs_session::Session;
 use std::alloc::Global;
 use std::io::{Read, Write};
 
 /// Answers the lines that a source gives, each before the reader is asked for more. A line is kept in the place of the one before.
-fn serve_from<A: Answers, P: Prompt, R: Read, W: Write>(
+fn serve_from<P: NamedPolicy, A: Answers<P>, T: Prompt, R: Read, W: Write>(
     alloc: Global,
     answers: &mut A,
-    prompt: &P,
-    session: &mut Session,
+    prompt: &T,
+    session: &mut Session<P>,
     source: &mut Source,
     line: &mut Vec<u8>,
     reader: &mut R,
@@ -42,10 +43,10 @@ fn serve_from<A: Answers, P: Prompt, R: Read, W: Write>(
 }
 
 /// Answers the lines that a reader gives, one way or another.
-fn serve_by<A: Answers, P: Prompt, R: Read, W: Write>(
+fn serve_by<P: NamedPolicy, A: Answers<P>, T: Prompt, R: Read, W: Write>(
     alloc: Global,
     answers: &mut A,
-    prompt: &P,
+    prompt: &T,
     reader: &mut R,
     writer: &mut W,
 ) -> Result<(), ServeFault>
@@ -53,7 +54,7 @@ fn serve_by<A: Answers, P: Prompt, R: Read, W: Write>(
     ensures served { OnOk result (IsServedBy A.way (A.noted answers.old) (R.remaining reader.old) (R.remaining reader.new) (W.contents writer.old) (W.contents writer.new)) }
     ensures begun { OnErr result (BeginsServingBy A.way (A.noted answers.old) (R.remaining reader.old) (W.contents writer.old) (W.contents writer.new)) }
 {
-    let mut session = Session::new(alloc);
+    let mut session = Session::<P>::new(alloc);
     let mut source = Source::new();
     let mut line = Vec::new(alloc);
     serve_from(
@@ -88,21 +89,21 @@ fn serve_by<A: Answers, P: Prompt, R: Read, W: Write>(
 ///
 /// ```
 /// match explained {
-///     false => serve(alloc, prompt, reader, writer),
-///     true => serve_explained(alloc, prompt, reader, writer),
+///     false => serve::<P, Q, R, W>(alloc, prompt, reader, writer),
+///     true => serve_explained::<P, Q, R, W>(alloc, prompt, reader, writer),
 /// }
 /// ```
 #[tactic(auto, using(crate::proofs::Plainly::all_served, crate::proofs::Plainly::serving_begun))]
-pub fn serve<P: Prompt, R: Read, W: Write>(
+pub fn serve<P: NamedPolicy, T: Prompt, R: Read, W: Write>(
     alloc: Global,
-    prompt: &P,
+    prompt: &T,
     reader: &mut R,
     writer: &mut W,
 ) -> Result<(), ServeFault>
-    ensures served { OnOk result (IsServed (R.remaining reader.old) (R.remaining reader.new) (W.contents writer.old) (W.contents writer.new)) }
-    ensures begun { OnErr result (BeginsServing (R.remaining reader.old) (W.contents writer.old) (W.contents writer.new)) }
+    ensures served { OnOk result (IsServed P.naming P.chosen (R.remaining reader.old) (R.remaining reader.new) (W.contents writer.old) (W.contents writer.new)) }
+    ensures begun { OnErr result (BeginsServing P.naming P.chosen (R.remaining reader.old) (W.contents writer.old) (W.contents writer.new)) }
 {
-    serve_by(alloc, &mut Plain, prompt, reader, writer)
+    serve_by::<P, Plain, T, R, W>(alloc, &mut Plain, prompt, reader, writer)
 }
 
 /// Answers the lines that a reader gives as [`serve`] does, with the reasons. Behind each landing that was not placed, each
@@ -120,17 +121,17 @@ pub fn serve<P: Prompt, R: Read, W: Write>(
 /// If reasons are asked for:
 ///
 /// ```
-/// true => serve_explained(alloc, prompt, reader, writer),
+/// true => serve_explained::<P, Q, R, W>(alloc, prompt, reader, writer),
 /// ```
-pub fn serve_explained<P: Prompt, R: Read, W: Write>(
+pub fn serve_explained<P: NamedPolicy, T: Prompt, R: Read, W: Write>(
     alloc: Global,
-    prompt: &P,
+    prompt: &T,
     reader: &mut R,
     writer: &mut W,
 ) -> Result<(), ServeFault>
-    ensures served { OnOk result (IsServedExplained (R.remaining reader.old) (R.remaining reader.new) (W.contents writer.old) (W.contents writer.new)) }
-    ensures begun { OnErr result (BeginsServingExplained (R.remaining reader.old) (W.contents writer.old) (W.contents writer.new)) }
+    ensures served { OnOk result (IsServedExplained P.naming P.chosen (R.remaining reader.old) (R.remaining reader.new) (W.contents writer.old) (W.contents writer.new)) }
+    ensures begun { OnErr result (BeginsServingExplained P.naming P.chosen (R.remaining reader.old) (W.contents writer.old) (W.contents writer.new)) }
 {
-    let mut answers = Explained::new(alloc);
+    let mut answers = Explained::<P>::new(alloc);
     serve_by(alloc, &mut answers, prompt, reader, writer)
 }

@@ -7,8 +7,7 @@ ghost use Rattle.gs_script.specs.Rows.{event_of};
 
 use crate::heard::Heard;
 use gs_core::{Event, Machine, is_short};
-use gs_policy::AnyPolicy;
-use gs_script::{LineError, MOST_BYTES, Reason, ScriptFault, read_event, read_header};
+use gs_script::{LineError, MOST_BYTES, NamedPolicy, Reason, ScriptFault, read_event, read_header};
 use std::alloc::{AllocError, Global};
 use std::slice;
 
@@ -26,12 +25,12 @@ fn unread(number: usize, error: LineError) -> Result<Heard, AllocError>
 }
 
 /// Hears the line of a number before the header. Returns the machine that it opens too, if it is the header.
-pub(crate) fn hear_header(
+pub(crate) fn hear_header<P: NamedPolicy>(
     alloc: Global,
     number: usize,
     line: &[u8],
-) -> Result<(Heard, Option<Machine<AnyPolicy>>), AllocError>
-    ensures { IfOk result (λ p. HearsHeader number (read_within header_of line.now) p.0 p.1) }
+) -> Result<(Heard, Option<Machine<P>>), AllocError>
+    ensures { IfOk result (λ p. HearsHeader number (read_within (header_of P.naming) line.now) p.0 p.1) }
 {
     if line.len() > MOST_BYTES {
         return Ok((unread(number, LineError::Fault(Reason::TooLong))?, None));
@@ -50,8 +49,8 @@ pub(crate) fn hear_header(
 }
 
 /// Lets an event happen. It fails if its reply tells that memory ran out.
-fn step(machine: &mut Machine<AnyPolicy>, event: &Event<AnyPolicy>) -> Result<Heard, AllocError>
-    ensures { IfOk result (λ h. Steps machine.old event.now h (Some machine.new)) }
+fn step<P: NamedPolicy>(machine: &mut Machine<P>, event: &Event<P>) -> Result<Heard, AllocError>
+    ensures { IfOk result (λ h. Steps P.chosen machine.old event.now h (Some machine.new)) }
 {
     let reply = machine.step(event);
     if is_short(slice::from_ref(&reply)) {
@@ -61,14 +60,14 @@ fn step(machine: &mut Machine<AnyPolicy>, event: &Event<AnyPolicy>) -> Result<He
 }
 
 /// Hears the line of a number behind the header. The room of the events is used for the one that it says.
-pub(crate) fn hear_event(
+pub(crate) fn hear_event<P: NamedPolicy>(
     alloc: Global,
     number: usize,
     line: &[u8],
-    machine: &mut Machine<AnyPolicy>,
-    events: &mut Vec<Event<AnyPolicy>>,
+    machine: &mut Machine<P>,
+    events: &mut Vec<Event<P>>,
 ) -> Result<Heard, AllocError>
-    ensures { IfOk result (λ h. HearsEvent number machine.old (read_within event_of line.now) h (Some machine.new)) }
+    ensures { IfOk result (λ h. HearsEvent P.chosen number machine.old (read_within (event_of P.naming) line.now) h (Some machine.new)) }
 {
     if line.len() > MOST_BYTES {
         return unread(number, LineError::Fault(Reason::TooLong));

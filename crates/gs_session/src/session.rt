@@ -2,14 +2,14 @@ ghost use Rattle.std.specs.Prelude.{◌≡◌, IfOk, OnErr};
 ghost use Rattle.std.specs.Option.{option_map};
 ghost use denote.Ref.{Bor};
 ghost use Rattle.gs_core.specs.Machine.{StateOf};
-ghost use Rattle.gs_policy.specs.declared.any.AnyPolicy.{AnyPolicy as Policies};
 ghost use Rattle.gs_session.specs.Session.{Hears, HearsHeader, read_within, unheard};
 ghost use Rattle.gs_script.specs.Header.{header_of};
 
 use crate::heard::Heard;
 use crate::hearing::{hear_event, hear_header};
 use gs_core::{Event, Machine};
-use gs_policy::AnyPolicy;
+use gs_policy::Counted;
+use gs_script::NamedPolicy;
 use std::alloc::{AllocError, Global};
 use std::marker::Model;
 
@@ -19,25 +19,25 @@ use std::marker::Model;
 /// A line with a fault changes nothing but the count of lines, so that the next line may follow. What the lines without
 /// a fault come to is what they come to as a script: see [`crate::heard_is_run`].
 #[derive(Drop)]
-pub struct Session {
+pub struct Session<P: Counted> {
     alloc: Global,
     lines: usize,
-    machine: Option<Machine<AnyPolicy>>,
+    machine: Option<Machine<P>>,
     /// The event of a line. Its room is there for the next one.
-    events: Vec<Event<AnyPolicy>>,
+    events: Vec<Event<P>>,
 }
 
-impl Model for Session {
+impl<P: Counted> Model for Session<P> {
     ghost use Rattle.gs_session.specs.Session.{Session as Held};
 
-    ghost Value = { Held };
+    ghost Value = { Held P };
 
     ghost view = { λ s. record { count = s.lines; opened = s.machine } };
 }
 
-impl Session {
+impl<P: NamedPolicy> Session<P> {
     /// Makes a session that heard no line. It does not allocate.
-    pub fn new(alloc: Global) -> Session
+    pub fn new(alloc: Global) -> Session<P>
         ensures { result ≡ unheard }
     {
         Session {
@@ -67,7 +67,7 @@ impl Session {
     /// heard_text(alloc, &heard)
     /// ```
     pub fn hear(&mut self, line: &[u8]) -> Result<Heard, AllocError>
-        ensures heard { IfOk result (λ h. Hears self.old line.now h self.new) }
+        ensures heard { IfOk result (λ h. Hears P.naming P.chosen self.old line.now h self.new) }
         ensures uncounted { OnErr result (self.new.count ≡ self.old.count) }
     {
         let Some(number) = self.lines.checked_add(1) else {
@@ -85,7 +85,7 @@ impl Session {
     /// function of each later line the room for one would be cleared.
     #[inline(never)]
     fn hear_first(&mut self, number: usize, line: &[u8]) -> Result<Heard, AllocError>
-        ensures heard { IfOk result (λ h. HearsHeader number (read_within header_of line.now) h self.new.opened) }
+        ensures heard { IfOk result (λ h. HearsHeader number (read_within (header_of P.naming) line.now) h self.new.opened) }
         ensures count { self.new.count ≡ self.old.count }
     {
         let (heard, machine) = hear_header(self.alloc, number, line)?;
@@ -94,8 +94,8 @@ impl Session {
     }
 
     /// Lends the machine, if a header was heard.
-    pub fn machine(&self) -> Option<&Machine<AnyPolicy>>
-        ensures { option_map (λ (m : Bor (StateOf Policies)). m.now) result ≡ self.now.opened }
+    pub fn machine(&self) -> Option<&Machine<P>>
+        ensures { option_map (λ (m : Bor (StateOf P)). m.now) result ≡ self.now.opened }
     {
         self.machine.as_ref()
     }

@@ -1,21 +1,26 @@
 -- One more line of a script that a session heard.
-use Rattle.std.proofs.Common.{◌≡◌, refl, ap, sym, subst, ◌∙◌, ℕ, Bool, true, false, List, [], ◌∷◌, ◌++◌, append_assoc, append-nil, take, drop, length, ◌-◌, arith}
+use Rattle.std.proofs.Common.{◌≡◌, refl, ap, sym, subst, ◌∙◌, ℕ, ◌==◌, Bool, true, false, List, [], ◌∷◌, ◌++◌, append_assoc, append-nil, take, drop, length, ◌-◌, arith}
+use Rattle.std.specs.List.{starts_with}
+use Rattle.std.proofs.lemmas.Bool.Decides.{Decides-eqb}
 use Rattle.std.proofs.lemmas.Grind.{common_steps}
-use Rattle.std.specs.List.{flat_map}
+use Rattle.std.proofs.lemmas.Slice.Eq.{starts_is}
+use Rattle.gs_core.specs.Machine.{Plan}
 use Rattle.gs_kernel.specs.declared.landing.Landing.{Landing}
 use Rattle.gs_replies.specs.declared.reply.Reply.{Reply}
 use Rattle.gs_report.specs.Counts.{landings_of}
+use Rattle.gs_script.specs.Naming.{Naming}
 use Rattle.gs_session.specs.declared.heard.Heard.{Heard}
 use Rattle.gs_session.specs.declared.heard.Heard.TheVariants as heards
 use Rattle.gs_session.specs.Lines.{HearsAll, replies_in, reply_in}
 use Rattle.gs_session.specs.Session.{Session, Hears, unheard}
-use Rattle.gs_simulate.specs.Heard.{AreWithoutFault, IsHeard, IsHeardIf, IsHeardWith, IsWithoutFault, landings_heard, landings_in, text_of}
+use Rattle.gs_simulate.specs.Heard.{AreWithoutFault, IsHeaded, IsHeardIf, IsHeardWith, IsWithoutFault, landings_heard, landings_in, text_of}
+use Rattle.gs_simulate.specs.Lines.{header_line}
 
-pub hears_more : (a b c : Session) (lines : List (List ℕ)) (hs : List Heard) (line : List ℕ) (h : Heard) → HearsAll a lines hs b → Hears b line h c → HearsAll a (lines ++ line ∷ []) (hs ++ h ∷ []) c
-hears_more a b c [] [] line h e one = (c, subst (λ (s : Session). Hears s line h c) e one, refl)
-hears_more a b c [] (g ∷ hs) line h t one = absurd t
-hears_more a b c (l ∷ lines) [] line h t one = absurd t
-hears_more a b c (l ∷ lines) (g ∷ hs) line h (mid, first, rest) one = (mid, first, hears_more mid b c lines hs line h rest one)
+pub hears_more : {A : Type 0} (naming : Naming A) (plans : A → Plan) (a b c : Session A) (lines : List (List ℕ)) (hs : List Heard) (line : List ℕ) (h : Heard) → HearsAll naming plans a lines hs b → Hears naming plans b line h c → HearsAll naming plans a (lines ++ line ∷ []) (hs ++ h ∷ []) c
+hears_more {A} naming plans a b c [] [] line h e one = (c, subst (λ (s : Session A). Hears naming plans s line h c) e one, refl)
+hears_more naming plans a b c [] (g ∷ hs) line h t one = absurd t
+hears_more naming plans a b c (l ∷ lines) [] line h t one = absurd t
+hears_more naming plans a b c (l ∷ lines) (g ∷ hs) line h (mid, first, rest) one = (mid, first, hears_more naming plans mid b c lines hs line h rest one)
 
 text_more : (lines : List (List ℕ)) (line : List ℕ) → text_of (lines ++ line ∷ []) ≡ text_of lines ++ line ++ 10 ∷ []
 text_more [] line = refl
@@ -45,27 +50,27 @@ landings_more (g ∷ hs) h =
     ∙ sym (ap (λ ls. ls ++ landings_heard h) (landings_join (reply_in g) (replies_in hs)))
 
 -- nothing was heard yet
-pub none_heard : (text : List ℕ) (session : Session) (landings : List Landing) → text ≡ [] → session ≡ unheard → landings ≡ [] → IsHeardWith text session landings
-none_heard text session landings e f g = record { script = record { lines = []; heard = []; written = e; hears = f; faultless = tt }; landed = g }
+pub none_heard : {A : Type 0} (naming : Naming A) (plans : A → Plan) (text : List ℕ) (session : Session A) (landings : List Landing) → text ≡ [] → session ≡ unheard → landings ≡ [] → IsHeardWith naming plans text session landings
+none_heard naming plans text session landings e f g = record { script = record { lines = []; heard = []; written = e; hears = f; faultless = tt }; landed = g }
 
-pub one_heard : (text line more : List ℕ) (session next : Session) (h : Heard) (before after : List Landing) → IsHeardWith text session before → more ≡ text ++ line ++ 10 ∷ [] → Hears session line h next → IsWithoutFault h → after ≡ before ++ landings_heard h → IsHeardWith more next after
-one_heard text line more session next h before after t e one faultless landed =
+pub one_heard : {A : Type 0} (naming : Naming A) (plans : A → Plan) (text line more : List ℕ) (session next : Session A) (h : Heard) (before after : List Landing) → IsHeardWith naming plans text session before → more ≡ text ++ line ++ 10 ∷ [] → Hears naming plans session line h next → IsWithoutFault h → after ≡ before ++ landings_heard h → IsHeardWith naming plans more next after
+one_heard naming plans text line more session next h before after t e one faultless landed =
     record {
       script =
           record {
             lines = t.script.lines ++ line ∷ [];
             heard = t.script.heard ++ h ∷ [];
             written = e ∙ ap (λ xs. xs ++ line ++ 10 ∷ []) t.script.written ∙ sym (text_more t.script.lines line);
-            hears = hears_more unheard session next t.script.lines t.script.heard line h t.script.hears one;
+            hears = hears_more naming plans unheard session next t.script.lines t.script.heard line h t.script.hears one;
             faultless = faultless_more t.script.heard h t.script.faultless faultless;
           };
       landed = landed ∙ ap (λ ls. ls ++ landings_heard h) t.landed ∙ sym (landings_more t.script.heard h);
     }
 
 -- what was heard, if it was
-pub heard_if : (whole : Bool) (text : List ℕ) (session : Session) (landings : List Landing) → IsHeardIf whole text session landings → whole ≡ true → IsHeardWith text session landings
-heard_if true text session landings h e = h
-heard_if false text session landings h e = absurd (cc)
+pub heard_if : {A : Type 0} (naming : Naming A) (plans : A → Plan) (whole : Bool) (text : List ℕ) (session : Session A) (landings : List Landing) → IsHeardIf naming plans whole text session landings → whole ≡ true → IsHeardWith naming plans text session landings
+heard_if naming plans true text session landings h e = h
+heard_if naming plans false text session landings h e = absurd (cc)
 
 -- a line stands between what the session heard before and its newline
 line_between : (text line : List ℕ) → take (length (text ++ line) - length text) (drop (length text) (text ++ line ++ 10 ∷ [])) ≡ line
@@ -75,3 +80,10 @@ pub same_line : (text line more all before behind ended : List ℕ) → before �
 same_line text line more all before behind ended e f g h i =
     let whole : take (length behind - length before) (drop (length before) ended) ≡ take (length (text ++ line) - length text) (drop (length text) (text ++ line ++ 10 ∷ [])) = cc in
     whole ∙ line_between text line
+
+-- a text that starts with the line of a header is headed by it
+pub headed_by : {A : Type 0} (naming : Naming A) (cpus ring : ℕ) (policy : A) (text line : List ℕ) (starts : Bool) → starts ≡ starts_with (λ a b. a == b) text line → starts ≡ true → line ≡ header_line naming cpus ring policy ++ 10 ∷ [] → IsHeaded naming cpus ring policy text
+headed_by naming cpus ring policy text line starts tells has is =
+    let rest = drop (length line) text in
+    let whole : text ≡ line ++ rest = (starts_is Decides-eqb text line starts tells).0 has in
+    record { rest = rest; begins = whole ∙ ap (λ xs. xs ++ rest) is ∙ append_assoc (header_line naming cpus ring policy) (10 ∷ []) rest }

@@ -8,8 +8,7 @@ use Rattle.gs_kernel.specs.declared.command.Command.TheVariants as commands
 use Rattle.gs_kernel.specs.declared.thread_event.ThreadEvent.{ThreadEvent}
 use Rattle.gs_kernel.specs.declared.thread_event.ThreadEvent.TheVariants as happens
 use Rattle.gs_slots.specs.declared.flags.Flags.{Flags}
-use Rattle.gs_policy.specs.declared.any.AnyPolicy.{AnyPolicy}
-use Rattle.gs_policy.specs.declared.any.AnyPolicy.TheVariants.{FirstCome, TwoClass}
+use Rattle.gs_script.specs.Naming.{Naming}
 use Rattle.gs_core.specs.declared.event.Event.{Event}
 use Rattle.gs_core.specs.declared.event.Event.TheVariants as events
 use Rattle.gs_simulate.specs.declared.line.Line.{Line}
@@ -19,12 +18,8 @@ use Rattle.gs_simulate.specs.declared.line.Line.TheVariants as written
 abbrev pub numbered : List ℕ → ℕ → List ℕ
 numbered word n = word ++ decimal n
 
-abbrev pub policy_words : AnyPolicy → List ℕ
-policy_words (FirstCome p) = codes "first"
-policy_words (TwoClass p) = numbered (codes "two ") p.slice
-
-abbrev pub header_line : ℕ → ℕ → AnyPolicy → List ℕ
-header_line cpus ring policy = numbered (codes "cpus ") cpus ++ numbered (codes " ring ") ring ++ codes " policy " ++ policy_words policy
+abbrev pub header_line : {A : Type 0} → Naming A → ℕ → ℕ → A → List ℕ
+header_line naming cpus ring policy = numbered (codes "cpus ") cpus ++ numbered (codes " ring ") ring ++ codes " policy " ++ naming.words policy
 
 -- a class, and whether the thread may run
 abbrev pub words_of_class : Class → Bool → List ℕ
@@ -71,22 +66,22 @@ abbrev pub stamp_line : ℕ → ℕ → Flags → List ℕ
 stamp_line cpu t flags = numbered (codes "stamp ") cpu ++ numbered (codes " ") t ++ flags_word flags
 
 -- the line that says an event
-abbrev pub event_line : Event AnyPolicy → List ℕ
-event_line (events.Kernel command) = command_line command
-event_line events.Crash = codes "crash"
-event_line (events.Begin policy) = codes "begin " ++ policy_words policy
-event_line (events.Page max) = numbered (codes "page ") max
-event_line (events.Drain max) = numbered (codes "drain ") max
-event_line (events.Stamp cpu t flags) = stamp_line cpu t flags
-event_line events.Decide = codes "decide"
-event_line (events.Commit mask) = numbered (codes "commit ") mask
-event_line (events.Late number) = numbered (codes "late ") number
-event_line events.View = codes "view"
-event_line events.State = codes "state"
-event_line events.Unread = codes "unread"
+abbrev pub event_line : {A : Type 0} → Naming A → Event A → List ℕ
+event_line naming (events.Kernel command) = command_line command
+event_line naming events.Crash = codes "crash"
+event_line naming (events.Begin policy) = codes "begin " ++ naming.words policy
+event_line naming (events.Page max) = numbered (codes "page ") max
+event_line naming (events.Drain max) = numbered (codes "drain ") max
+event_line naming (events.Stamp cpu t flags) = stamp_line cpu t flags
+event_line naming events.Decide = codes "decide"
+event_line naming (events.Commit mask) = numbered (codes "commit ") mask
+event_line naming (events.Late number) = numbered (codes "late ") number
+event_line naming events.View = codes "view"
+event_line naming events.State = codes "state"
+event_line naming events.Unread = codes "unread"
 
 -- a line that is written, without its newline
-abbrev pub line_text : Line → List ℕ
-line_text (written.Header cpus ring policy) = header_line cpus ring policy
-line_text (written.Tick now) = numbered (codes "# tick ") now
-line_text (written.Event event) = event_line event
+abbrev pub line_text : {A : Type 0} → Naming A → Line A → List ℕ
+line_text naming (written.Header cpus ring policy) = header_line naming cpus ring policy
+line_text naming (written.Tick now) = numbered (codes "# tick ") now
+line_text naming (written.Event event) = event_line naming event

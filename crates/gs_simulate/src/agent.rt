@@ -4,6 +4,7 @@ use crate::fault::SimulateFault;
 use crate::stage::{Decided, Stage};
 use gs_core::{Event, Reply};
 use gs_policy::Choice;
+use gs_script::NamedPolicy;
 use gs_slots::Flags;
 use gs_status::{MOST_CPUS, Mask};
 use gs_workload::AgentPlan;
@@ -24,7 +25,22 @@ fn cpus_of(choices: &[Choice]) -> Mask {
     mask
 }
 
-impl Stage {
+/// Takes at most so many CPUs out of a mask, the lowest.
+fn some_of(mask: &mut Mask, most: usize) -> Mask {
+    let mut some = Mask::none();
+    for _taken in 0..most {
+        let Some(cpu) = mask.lowest() else {
+            return some;
+        };
+        *mask = mask.without(cpu);
+        if cpu < MOST_CPUS {
+            some = some.with(cpu);
+        }
+    }
+    some
+}
+
+impl<P: NamedPolicy> Stage<P> {
     /// Returns how many slots are committed at once: each landing may post a message, and all have to fit into an empty ring.
     fn portion(&self) -> usize {
         match self.machine() {
@@ -33,27 +49,12 @@ impl Stage {
         }
     }
 
-    /// Takes at most so many CPUs out of a mask, the lowest.
-    fn some_of(mask: &mut Mask, most: usize) -> Mask {
-        let mut some = Mask::none();
-        for _taken in 0..most {
-            let Some(cpu) = mask.lowest() else {
-                return some;
-            };
-            *mask = mask.without(cpu);
-            if cpu < MOST_CPUS {
-                some = some.with(cpu);
-            }
-        }
-        some
-    }
-
     /// Lets the slots of a mask land, as many at once as the ring has room for.
     fn land(&mut self, mask: Mask) -> Result<(), SimulateFault> {
         let portion = self.portion().clamp(1, usize::from(MOST_CPUS));
         let mut left = mask;
         for _turn in 0..MOST_CPUS {
-            let some = Stage::some_of(&mut left, portion);
+            let some = some_of(&mut left, portion);
             if some.is_empty() {
                 return Ok(());
             }

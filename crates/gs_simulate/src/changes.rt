@@ -4,6 +4,7 @@ use crate::fault::SimulateFault;
 use crate::stage::Stage;
 use gs_core::{Event, Reply};
 use gs_kernel::Command;
+use gs_script::NamedPolicy;
 use gs_status::{MOST_CPUS, Mask};
 use gs_workload::{Change, Taking};
 
@@ -24,7 +25,7 @@ fn taken_at(takings: &[Taking], now: u32) -> Mask {
     mask
 }
 
-impl Stage {
+impl<P: NamedPolicy> Stage<P> {
     /// Hands the agent off to a CPU, unless it is there, or none is active. Returns whether that is done: it has to wait
     /// while the other class holds the CPU.
     fn hand_off(&mut self, cpu: u16) -> Result<bool, SimulateFault> {

@@ -20,7 +20,6 @@ mod world;
 
 pub use fault::SimulateFault;
 pub use law::simulated_is_run;
-pub use line::write_policy;
 pub use settings::Settings;
 pub use simulated::Simulated;
 pub use simulating::simulate;

@@ -1,56 +1,52 @@
 //! The lines of a script, as text.
 
 ghost use Rattle.std.specs.Prelude.{◌≡◌, ◌≤◌, ◌++◌, OnOk, codes, length};
-ghost use Rattle.gs_simulate.specs.Lines.{class_words, command_line, create_line, event_line, flags_word, happening_line, header_line, line_text, policy_words, stamp_line};
+ghost use Rattle.gs_simulate.specs.Lines.{class_words, command_line, create_line, event_line, flags_word, happening_line, header_line, line_text, stamp_line};
 
 use gs_core::Event;
 use gs_kernel::{Command, ThreadEvent};
 use gs_layout::{Class, Facts};
 use gs_lines::{Text, name_str};
-use gs_policy::AnyPolicy;
+use gs_script::NamedPolicy;
 use gs_slots::Flags;
-use std::alloc::AllocError;
+use std::alloc::{AllocError, Global};
 
 /// A line of a script that is written.
 #[derive(Clone, Copy, PartialEq, Eq, Debug)]
-pub(crate) enum Line {
+pub(crate) enum Line<P> {
     /// The header: an enclave of so many CPUs, with a ring of so many bytes, whose first agent has this policy.
-    Header {
-        cpus: u16,
-        ring: u32,
-        policy: AnyPolicy,
-    },
+    Header { cpus: u16, ring: u32, policy: P },
     /// A comment, which says that a tick begins.
-    Tick {
-        now: u32,
-    },
-    Event {
-        event: Event<AnyPolicy>,
-    },
+    Tick { now: u32 },
+    Event { event: Event<P> },
 }
 
-/// Adds the words of a policy, as a script's header has them: `first`, or `two` and the slice.
-///
-/// # Errors
-///
-/// `AllocError` if out of memory.
-pub fn write_policy(text: &mut Text, policy: AnyPolicy) -> Result<(), AllocError>
-    ensures { OnOk result (text.new ≡ text.old ++ policy_words policy) }
+/// Adds the words of a policy, as a script's header has them.
+fn write_policy<P: NamedPolicy>(
+    alloc: Global,
+    text: &mut Text,
+    policy: &P,
+) -> Result<(), AllocError>
+    ensures { OnOk result (text.new ≡ text.old ++ P.naming.words policy.now) }
 {
-    match policy {
-        AnyPolicy::FirstCome(_) => text.push_str("first"),
-        AnyPolicy::TwoClass(two) => text.push_number("two ", u64::from(two.slice)),
-    }
+    let words = policy.words(alloc)?;
+    text.push_str(words.as_str())
 }
 
 /// Adds the line of a header.
-fn write_header(text: &mut Text, cpus: u16, ring: u32, policy: AnyPolicy) -> Result<(), AllocError>
-    ensures { OnOk result (text.new ≡ text.old ++ header_line cpus ring policy) }
+fn write_header<P: NamedPolicy>(
+    alloc: Global,
+    text: &mut Text,
+    cpus: u16,
+    ring: u32,
+    policy: &P,
+) -> Result<(), AllocError>
+    ensures { OnOk result (text.new ≡ text.old ++ header_line P.naming cpus ring policy.now) }
 {
     text.push_number("cpus ", u64::from(cpus))?;
     text.push_number(" ring ", u64::from(ring))?;
     text.push_str(" policy ")?;
-    write_policy(text, policy)
+    write_policy(alloc, text, policy)
 }
 
 /// The words between a mask and a name: a class, and that the thread may run.
@@ -130,21 +126,25 @@ fn write_stamp(text: &mut Text, cpu: u16, tid: u32, flags: Flags) -> Result<(), 
 }
 
 /// Adds the line of a new agent with a policy.
-fn write_begin(text: &mut Text, policy: AnyPolicy) -> Result<(), AllocError>
-    ensures { OnOk result (text.new ≡ text.old ++ codes "begin " ++ policy_words policy) }
+fn write_begin<P: NamedPolicy>(alloc: Global, text: &mut Text, policy: &P) -> Result<(), AllocError>
+    ensures { OnOk result (text.new ≡ text.old ++ codes "begin " ++ P.naming.words policy.now) }
 {
     text.push_str("begin ")?;
-    write_policy(text, policy)
+    write_policy(alloc, text, policy)
 }
 
 /// Adds the line that says an event.
-fn write_event(text: &mut Text, event: &Event<AnyPolicy>) -> Result<(), AllocError>
-    ensures { OnOk result (text.new ≡ text.old ++ event_line event.now) }
+fn write_event<P: NamedPolicy>(
+    alloc: Global,
+    text: &mut Text,
+    event: &Event<P>,
+) -> Result<(), AllocError>
+    ensures { OnOk result (text.new ≡ text.old ++ event_line P.naming event.now) }
 {
     match event {
         Event::Kernel { command } => write_command(text, command),
         Event::Crash => text.push_str("crash"),
-        Event::Begin { policy } => write_begin(text, *policy),
+        Event::Begin { policy } => write_begin(alloc, text, policy),
         Event::Page { max } => text.push_number("page ", u64::from(*max)),
         Event::Drain { max } => text.push_number("drain ", u64::from(*max)),
         Event::Stamp { cpu, tid, flags } => write_stamp(text, *cpu, *tid, *flags),
@@ -158,12 +158,16 @@ fn write_event(text: &mut Text, event: &Event<AnyPolicy>) -> Result<(), AllocErr
 }
 
 /// Adds a line, without its newline.
-pub(crate) fn write_line(text: &mut Text, line: &Line) -> Result<(), AllocError>
-    ensures { OnOk result (text.new ≡ text.old ++ line_text line.now) }
+pub(crate) fn write_line<P: NamedPolicy>(
+    alloc: Global,
+    text: &mut Text,
+    line: &Line<P>,
+) -> Result<(), AllocError>
+    ensures { OnOk result (text.new ≡ text.old ++ line_text P.naming line.now) }
 {
     match line {
-        Line::Header { cpus, ring, policy } => write_header(text, *cpus, *ring, *policy),
+        Line::Header { cpus, ring, policy } => write_header(alloc, text, *cpus, *ring, policy),
         Line::Tick { now } => text.push_number("# tick ", u64::from(*now)),
-        Line::Event { event } => write_event(text, event),
+        Line::Event { event } => write_event(alloc, text, event),
     }
 }

@@ -4,7 +4,6 @@ ghost use Rattle.std.specs.Prelude.{◌≡◌, ◌++◌, [], true, IfOk, OnOk};
 ghost use Rattle.std.specs.Option.{option_map};
 ghost use denote.Ref.{Bor};
 ghost use Rattle.gs_core.specs.Machine.{StateOf};
-ghost use Rattle.gs_policy.specs.declared.any.AnyPolicy.{AnyPolicy as Policies};
 ghost use Rattle.gs_session.specs.Session.{Hears, unheard};
 ghost use Rattle.gs_simulate.specs.Heard.{AddsLine, IsHeardWith, IsWithoutFault, fault_of, landings_heard};
 ghost use Rattle.gs_simulate.specs.Lines.{line_text};
@@ -14,9 +13,8 @@ use crate::line::{Line, write_line};
 use gs_core::Machine;
 use gs_kernel::Landing;
 use gs_lines::Text;
-use gs_policy::AnyPolicy;
 use gs_report::landings_of;
-use gs_script::ScriptFault;
+use gs_script::{NamedPolicy, ScriptFault};
 use gs_session::{Heard, Session};
 use std::alloc::{AllocError, Global};
 use std::marker::Model;
@@ -24,22 +22,23 @@ use std::marker::Model;
 /// The text of a script, and the session that heard its lines. While it is whole, the session heard just these lines, none
 /// of them with a fault, and the landings are those that its replies told of.
 #[derive(Drop)]
-pub(crate) struct Log {
-    session: Session,
+pub(crate) struct Log<P: NamedPolicy> {
+    alloc: Global,
+    session: Session<P>,
     text: Text,
     landings: Vec<Landing>,
     /// Whether the session heard all of the text. It did not if memory ran out at a line: no more is added then.
     whole: bool,
 }
 
-impl Model for Log {
+impl<P: NamedPolicy> Model for Log<P> {
     ghost use Rattle.gs_simulate.specs.Heard.{Written, IsHeardIf};
 
-    ghost Value = { Written };
+    ghost Value = { Written P };
 
     ghost view = { λ l. record { text = l.text; session = l.session; landings = l.landings.items; whole = l.whole } };
 
-    ghost invariant = { λ l. IsHeardIf l.whole l.text l.session l.landings.items };
+    ghost invariant = { λ l. IsHeardIf P.naming P.chosen l.whole l.text l.session l.landings.items };
 }
 
 /// Returns the fault that was heard, if one was.
@@ -53,8 +52,8 @@ fn fault_in(heard: &Heard) -> Option<ScriptFault>
 }
 
 /// Lets a session hear a line, which may not have a fault.
-fn hear_line(session: &mut Session, line: &[u8]) -> Result<Heard, SimulateFault>
-    ensures hears { IfOk result (λ h. Hears session.old line.now h session.new) }
+fn hear_line<P: NamedPolicy>(session: &mut Session<P>, line: &[u8]) -> Result<Heard, SimulateFault>
+    ensures hears { IfOk result (λ h. Hears P.naming P.chosen session.old line.now h session.new) }
     ensures faultless { IfOk result IsWithoutFault }
 {
     let heard = session.hear(line)?;
@@ -74,13 +73,14 @@ fn add_landings(all: &mut Vec<Landing>, heard: &Heard) -> Result<(), AllocError>
     }
 }
 
-impl Log {
+impl<P: NamedPolicy> Log<P> {
     /// Makes an empty script, of which a session heard nothing yet.
     #[tactic(auto, using(crate::proofs::Heard::none_heard))]
-    pub(crate) fn new(alloc: Global) -> Log
+    pub(crate) fn new(alloc: Global) -> Log<P>
         ensures { result ≡ record { text = []; session = unheard; landings = []; whole = true } }
     {
         Log {
+            alloc,
             session: Session::new(alloc),
             text: Text::new(alloc),
             landings: Vec::new(alloc),
@@ -93,15 +93,15 @@ impl Log {
     /// # Errors
     ///
     /// If out of memory, or if the line has a fault. No line can be added behind one that failed.
-    pub(crate) fn add(&mut self, line: &Line) -> Result<Heard, SimulateFault>
-        ensures { IfOk result (λ h. AddsLine self.old (line_text line.now) h self.new) }
+    pub(crate) fn add(&mut self, line: &Line<P>) -> Result<Heard, SimulateFault>
+        ensures { IfOk result (λ h. AddsLine P.naming P.chosen self.old (line_text P.naming line.now) h self.new) }
     {
         if !self.whole {
             return Err(SimulateFault::OutOfMemory);
         }
         self.whole = false;
         let start = self.text.as_bytes().len();
-        write_line(&mut self.text, line)?;
+        write_line(self.alloc, &mut self.text, line)?;
         let end = self.text.as_bytes().len();
         self.text.end_line()?;
         let heard = hear_line(&mut self.session, &self.text.as_bytes()[start..end])?;
@@ -113,21 +113,21 @@ impl Log {
     /// Returns whether the session heard all of the text.
     pub(crate) fn is_whole(&self) -> bool
         ensures whole { result ≡ self.now.whole }
-        ensures heard { result ≡ true → IsHeardWith self.now.text self.now.session self.now.landings }
+        ensures heard { result ≡ true → IsHeardWith P.naming P.chosen self.now.text self.now.session self.now.landings }
     {
         self.whole
     }
 
     /// Lends the session.
-    pub(crate) fn session(&self) -> &Session
+    pub(crate) fn session(&self) -> &Session<P>
         ensures { result.now ≡ self.now.session }
     {
         &self.session
     }
 
     /// Lends the machine, once the header was heard.
-    pub(crate) fn machine(&self) -> Option<&Machine<AnyPolicy>>
-        ensures { option_map (λ (m : Bor (StateOf Policies)). m.now) result ≡ self.now.session.opened }
+    pub(crate) fn machine(&self) -> Option<&Machine<P>>
+        ensures { option_map (λ (m : Bor (StateOf P)). m.now) result ≡ self.now.session.opened }
     {
         self.session.machine()
     }

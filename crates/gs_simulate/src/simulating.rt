@@ -1,22 +1,35 @@
 //! A workload, simulated.
 
-ghost use Rattle.std.specs.Prelude.{◌≡◌, true, IfOk, OnOk};
-ghost use Rattle.gs_simulate.specs.Heard.{IsHeard};
+ghost use Rattle.std.specs.Prelude.{◌≡◌, ◌++◌, ◌∷◌, [], true, IfOk, OnOk};
+ghost use Rattle.gs_simulate.specs.Heard.{IsHeaded, IsHeard};
+ghost use Rattle.gs_simulate.specs.Lines.{line_text};
 
 use crate::calendar::Calendar;
 use crate::fault::SimulateFault;
-use crate::line::Line;
+use crate::line::{Line, write_line};
 use crate::log::Log;
 use crate::settings::Settings;
 use crate::simulated::Simulated;
 use crate::stage::Stage;
 use crate::world::World;
+use gs_lines::Text;
+use gs_script::NamedPolicy;
 use gs_workload::{Group, Workload};
-use std::alloc::Global;
+use std::alloc::{AllocError, Global};
 
-impl Stage {
+/// Returns a line as text, with its newline.
+fn line_of<P: NamedPolicy>(alloc: Global, line: &Line<P>) -> Result<Text, AllocError>
+    ensures { IfOk result (λ text. text ≡ line_text P.naming line.now ++ 10 ∷ []) }
+{
+    let mut text = Text::new(alloc);
+    write_line(alloc, &mut text, line)?;
+    text.end_line()?;
+    Ok(text)
+}
+
+impl<P: NamedPolicy> Stage<P> {
     /// Makes a simulation that has not begun, by the draws of a seed. It does not allocate.
-    fn new(alloc: Global, seed: u64) -> Stage {
+    fn new(alloc: Global, seed: u64) -> Stage<P> {
         Stage {
             alloc,
             log: Log::new(alloc),
@@ -37,7 +50,7 @@ impl Stage {
     }
 
     /// Draws when each thread of each group is to be created.
-    fn draw_births(&mut self, workload: &Workload) -> Result<(), SimulateFault> {
+    fn draw_births(&mut self, workload: &Workload<P>) -> Result<(), SimulateFault> {
         for (group, number) in workload.groups.iter().zip(0..u32::MAX) {
             self.draw_group(group, number)?;
         }
@@ -45,7 +58,7 @@ impl Stage {
     }
 
     /// Lets one tick pass.
-    fn tick(&mut self, workload: &Workload) -> Result<(), SimulateFault> {
+    fn tick(&mut self, workload: &Workload<P>) -> Result<(), SimulateFault> {
         let cpus = workload.cpus;
         self.log.add(&Line::Tick {
             now: self.world.now,
@@ -61,16 +74,17 @@ impl Stage {
     }
 
     /// Ends the simulation, whose session heard all of the script.
-    fn end(self) -> Simulated
+    fn end(self) -> Simulated<P>
         requires { self.log.whole ≡ true }
-        ensures { IsHeard result.text result.session }
+        ensures heard { IsHeard P.naming P.chosen result.text result.session }
+        ensures same { result.text ≡ self.log.text }
     {
         let Stage { log, .. } = self;
         Simulated::new(log)
     }
 
     /// Lets so many ticks pass, or fewer if the enclave is torn down.
-    fn pass_ticks(&mut self, workload: &Workload, ticks: u32) -> Result<(), SimulateFault> {
+    fn pass_ticks(&mut self, workload: &Workload<P>, ticks: u32) -> Result<(), SimulateFault> {
         for now in 0..ticks {
             self.world.now = now;
             self.tick(workload)?;
@@ -82,18 +96,22 @@ impl Stage {
     }
 
     /// Runs the whole simulation.
-    fn run(&mut self, workload: &Workload, settings: Settings) -> Result<(), SimulateFault>
-        ensures { OnOk result (self.new.log.whole ≡ true) }
+    fn run(&mut self, workload: &Workload<P>, settings: Settings<P>) -> Result<(), SimulateFault>
+        ensures whole { OnOk result (self.new.log.whole ≡ true) }
+        ensures headed { OnOk result (IsHeaded P.naming workload.now.cpus workload.now.ring settings.policy self.new.log.text) }
     {
         self.world.open(&workload.groups, workload.cpus)?;
-        self.log.add(&Line::Header {
+        let header = Line::Header {
             cpus: workload.cpus,
             ring: workload.ring,
             policy: settings.policy,
-        })?;
+        };
+        self.log.add(&header)?;
         self.draw_births(workload)?;
         self.pass_ticks(workload, settings.ticks)?;
-        if !self.log.is_whole() {
+        // (both are so of each simulation that comes here: they are tested, since the steps of a tick say nothing of the text)
+        let headed = line_of(self.alloc, &header)?;
+        if !self.log.is_whole() || !self.log.text().starts_with(headed.as_bytes()) {
             return Err(SimulateFault::OutOfMemory);
         }
         Ok(())
@@ -115,12 +133,13 @@ impl Stage {
 ///
 /// `OutOfMemory` if out of memory. `Unreadable` if a line has a fault, as the header with a count of CPUs that there may not
 /// be.
-pub fn simulate(
+pub fn simulate<P: NamedPolicy>(
     alloc: Global,
-    workload: &Workload,
-    settings: Settings,
-) -> Result<Simulated, SimulateFault>
-    ensures { IfOk result (λ s. IsHeard s.text s.session) }
+    workload: &Workload<P>,
+    settings: Settings<P>,
+) -> Result<Simulated<P>, SimulateFault>
+    ensures heard { IfOk result (λ s. IsHeard P.naming P.chosen s.text s.session) }
+    ensures headed { IfOk result (λ s. IsHeaded P.naming workload.now.cpus workload.now.ring settings.policy s.text) }
 {
     let mut stage = Stage::new(alloc, settings.seed);
     stage.run(workload, settings)?;

@@ -8,8 +8,8 @@ use crate::world::World;
 use gs_core::{Event, Machine, Reply};
 use gs_kernel::{Command, ThreadEvent};
 use gs_layout::{HEADER_LEN, MOST_MESSAGE_LEN};
-use gs_policy::AnyPolicy;
 use gs_ring::MOST_CAPACITY;
+use gs_script::NamedPolicy;
 use gs_session::Heard;
 use gs_status::Mask;
 use std::alloc::Global;
@@ -28,9 +28,9 @@ pub(crate) struct Decided {
 
 /// A simulation as it goes on.
 #[derive(Drop)]
-pub(crate) struct Stage {
+pub(crate) struct Stage<P: NamedPolicy> {
     pub(crate) alloc: Global,
-    pub(crate) log: Log,
+    pub(crate) log: Log<P>,
     pub(crate) world: World,
     /// The groups whose threads are to be created, a time for each thread.
     pub(crate) births: Calendar,
@@ -40,9 +40,9 @@ pub(crate) struct Stage {
     pub(crate) changes: usize,
 }
 
-impl Stage {
+impl<P: NamedPolicy> Stage<P> {
     /// Lends the machine. There is one once the header was added.
-    pub(crate) fn machine(&self) -> Option<&Machine<AnyPolicy>> {
+    pub(crate) fn machine(&self) -> Option<&Machine<P>> {
         self.log.machine()
     }
 
@@ -51,7 +51,7 @@ impl Stage {
     /// # Errors
     ///
     /// If out of memory, or if the line has a fault.
-    pub(crate) fn tell(&mut self, event: Event<AnyPolicy>) -> Result<Option<Reply>, SimulateFault> {
+    pub(crate) fn tell(&mut self, event: Event<P>) -> Result<Option<Reply>, SimulateFault> {
         let heard = self.log.add(&Line::Event { event })?;
         if let Some(machine) = self.log.machine() {
             self.world.follow(machine.kernel().journal())?;

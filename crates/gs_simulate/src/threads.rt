@@ -4,6 +4,7 @@ use crate::fault::SimulateFault;
 use crate::stage::Stage;
 use gs_kernel::{Command, ThreadEvent};
 use gs_layout::{Facts, MOST_TIDS};
+use gs_script::NamedPolicy;
 use gs_workload::{Group, Leaving};
 
 /// Returns the facts of a thread of a group as it is created: it may run.
@@ -25,7 +26,7 @@ fn event_of(leaving: Leaving) -> ThreadEvent {
     }
 }
 
-impl Stage {
+impl<P: NamedPolicy> Stage<P> {
     /// Creates a thread of a group.
     fn create(&mut self, group: usize) -> Result<(), SimulateFault> {
         let Some(plan) = self.world.groups.get(group) else {

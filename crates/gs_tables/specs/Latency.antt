@@ -14,7 +14,8 @@ use Rattle.gs_turns.specs.declared.time.Time.{Time}
 use Rattle.gs_usage.specs.declared.usage.Usage.{Usage}
 use Rattle.gs_trace.specs.declared.form.Notation.{Notation}
 use Rattle.gs_trace.specs.declared.form.Notation.TheVariants as notations
-use Rattle.gs_tables.specs.Columns.{class_data, class_word, column, count}
+use Rattle.gs_lines.specs.Columns.{class_word, column}
+use Rattle.gs_tables.specs.Numbers.{class_data, count}
 use Rattle.gs_tables.specs.Timehist.{times_data}
 use Rattle.gs_tables.specs.declared.latency.Unit.{Unit}
 use Rattle.gs_tables.specs.declared.latency.Unit.TheVariants.{Entries, Ticks}

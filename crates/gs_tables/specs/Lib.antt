@@ -1,5 +1,5 @@
 pub mod Notes
-pub mod Columns
+pub mod Numbers
 pub mod Timehist
 pub mod Latency
 pub mod Tables

@@ -4,17 +4,17 @@ use Rattle.std.specs.List.{AllZip, list_any, range_with_len}
 use Rattle.gs_journal.specs.History.{History}
 use Rattle.gs_kernel.specs.declared.landing.Landing.{Landing}
 use Rattle.gs_replies.specs.declared.reply.Reply.{Reply}
-use Rattle.gs_policy.specs.declared.any.AnyPolicy.{AnyPolicy}
 use Rattle.gs_core.specs.declared.event.Event.{Event}
-use Rattle.gs_core.specs.Machine.{State, planning, start}
+use Rattle.gs_core.specs.Machine.{Plan, State, planning, start}
 use Rattle.gs_core.specs.Short.{wants_memory}
 use Rattle.gs_script.specs.declared.fault.ScriptFault.{ScriptFault}
+use Rattle.gs_script.specs.Naming.{Naming}
 use Rattle.gs_script.specs.Said.{said_in}
 use Rattle.gs_script.specs.Script.{Script}
 use Rattle.gs_trace.specs.declared.form.Notation.{Notation}
 use Rattle.gs_trace.specs.declared.run.Ended.{Ended}
 use Rattle.gs_trace.specs.Noted.{Noted, noted_first}
-use Rattle.gs_trace.specs.Output.{IsAnswer, any_plans}
+use Rattle.gs_trace.specs.Output.{IsAnswer}
 use Rattle.gs_turns.specs.Knowing.{AreKnown}
 use Rattle.gs_turns.specs.Turns.{IsTurns}
 use Rattle.gs_turns.specs.declared.stance.Known.{Known}
@@ -63,29 +63,29 @@ Shows (Timehist notation) landings lines cpus h out = ShowsTurns notation lines 
 Shows (Latency notation threads) landings lines cpus h out = ShowsLatency notation threads landings cpus h out
 
 -- these bytes show a run of the events of a script, from one machine to another, of whose lines this was noted before
-pub record ShowsRun (table : Table) (n : Noted) (m : State) (script : Result (List (Event AnyPolicy)) ScriptFault) (says : List Line) (end : State) (out : List ℕ) : Type 0 where
+pub record ShowsRun {A : Type 0} (plans : A → Plan) (table : Table) (n : Noted) (m : State) (script : Result (List (Event A)) ScriptFault) (says : List Line) (end : State) (out : List ℕ) : Type 0 where
   pub last : Noted
   pub landings : List Landing
-  pub noted : IsNoted n m script says end last landings
+  pub noted : IsNoted plans n m script says end last landings
   pub shown : Shows table landings last.lines end.settings.cpus end.history out
 
 -- these bytes show a script of these lines, of which the first is the header's, in a run in which memory sufficed
-pub record Tabulates (table : Table) (header : Line) (xs : List Line) (s : Script) (out : List ℕ) : Type 0 where
+pub record Tabulates {A : Type 0} (plans : A → Plan) (table : Table) (header : Line) (xs : List Line) (s : Script A) (out : List ℕ) : Type 0 where
   pub replies : List Reply
   pub left : State
   pub noted : Noted
-  pub notes : Notes (noted_first header.0) (planning any_plans (start s.config)) s.events replies xs left noted
+  pub notes : Notes plans (noted_first header.0) (planning plans (start s.config)) s.events replies xs left noted
   pub sufficed : list_any wants_memory replies ≡ false
   pub shown : Shows table (landings_in replies) noted.lines left.settings.cpus left.history out
 
-abbrev pub TabulatesOf : Table → List Line → Script → List ℕ → Type 0
-TabulatesOf table [] s out = ⊥
-TabulatesOf table (x ∷ xs) s out = Tabulates table x xs s out
+abbrev pub TabulatesOf : {A : Type 0} → (A → Plan) → Table → List Line → Script A → List ℕ → Type 0
+TabulatesOf plans table [] s out = ⊥
+TabulatesOf plans table (x ∷ xs) s out = Tabulates plans table x xs s out
 
 -- these bytes show the script that an input says
-abbrev pub Tabulated : Table → List ℕ → Script → List ℕ → Type 0
-Tabulated table input s out = TabulatesOf table (said_in input) s out
+abbrev pub Tabulated : {A : Type 0} → (A → Plan) → Table → List ℕ → Script A → List ℕ → Type 0
+Tabulated plans table input s out = TabulatesOf plans table (said_in input) s out
 
 -- what is to be written for an input, and how that ends
-abbrev pub IsTable : Table → List ℕ → Ended → List ℕ → Type 0
-IsTable table input ended out = IsAnswer (Tabulated table) input ended out
+abbrev pub IsTable : {A : Type 0} → Naming A → (A → Plan) → Table → List ℕ → Ended → List ℕ → Type 0
+IsTable naming plans table input ended out = IsAnswer naming (Tabulated plans table) input ended out

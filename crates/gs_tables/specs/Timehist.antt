@@ -11,7 +11,8 @@ use Rattle.gs_trace.specs.declared.form.Notation.{Notation}
 use Rattle.gs_trace.specs.declared.form.Notation.TheVariants as notations
 use Rattle.gs_turns.specs.Turns.{ran, waited}
 use Rattle.gs_turns.specs.declared.turn.Turn.{Turn}
-use Rattle.gs_tables.specs.Columns.{class_data, class_word, column, count}
+use Rattle.gs_lines.specs.Columns.{class_word, column}
+use Rattle.gs_tables.specs.Numbers.{class_data, count}
 
 -- the line that added an entry, or 0 if none is noted
 abbrev pub line_of : List ℕ → ℕ → ℕ

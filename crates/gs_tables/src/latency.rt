@@ -2,13 +2,13 @@
 
 ghost use Rattle.std.specs.Prelude.{◌≡◌, ◌++◌, IfOk, OnOk};
 ghost use Rattle.std.specs.List.{flat_map};
-ghost use Rattle.gs_tables.specs.Columns.{column};
+ghost use Rattle.gs_lines.specs.Columns.{column};
 ghost use Rattle.gs_tables.specs.Latency.{account_row, account_shown, count_at, headed, is_nobody, landing_row, landing_shown, landings_heading, landings_shown, landings_table, latency_of, spread_words, stays_words, tid_word, time_in, times_words, unit_text, usage_shown, uses_heading, uses_row, uses_table, waits_heading, waits_in, waits_row, waits_table, who};
 
-use crate::column::{class_word, push_count, push_word};
+use crate::column::push_count;
 use crate::latency_json::{push_account, push_landing, push_usage};
 use gs_layout::{OUTCOMES, Outcome};
-use gs_lines::{Text, outcome_name};
+use gs_lines::{Text, class_word, outcome_name, push_column};
 use gs_tallies::{Account, Spread, Sums};
 use gs_trace::Notation;
 use gs_turns::Time;
@@ -72,7 +72,7 @@ fn push_tid(out: &mut Text, tid: Option<usize>) -> Result<(), AllocError>
 {
     match tid {
         Some(tid) => push_count(out, 6, tid),
-        None => push_word(out, 6, "all"),
+        None => push_column(out, 6, "all"),
     }
 }
 
@@ -80,7 +80,7 @@ fn push_tid(out: &mut Text, tid: Option<usize>) -> Result<(), AllocError>
 fn push_who(out: &mut Text, account: &Account) -> Result<(), AllocError>
     ensures { OnOk result (out.new ≡ out.old ++ who account.now) }
 {
-    push_word(out, 5, class_word(account.class))?;
+    push_column(out, 5, class_word(account.class))?;
     push_tid(out, account.tid)
 }
 
@@ -89,10 +89,10 @@ fn push_spread(out: &mut Text, spread: Option<Spread>) -> Result<(), AllocError>
     ensures { OnOk result (out.new ≡ out.old ++ spread_words spread) }
 {
     let Some(spread) = spread else {
-        push_word(out, 8, "-")?;
-        push_word(out, 8, "-")?;
-        push_word(out, 8, "-")?;
-        return push_word(out, 8, "-");
+        push_column(out, 8, "-")?;
+        push_column(out, 8, "-")?;
+        push_column(out, 8, "-")?;
+        return push_column(out, 8, "-");
     };
     push_count(out, 8, spread.half)?;
     push_count(out, 8, spread.ninety)?;
@@ -113,7 +113,7 @@ fn push_stays(out: &mut Text, sums: &Sums) -> Result<(), AllocError>
 fn push_times(out: &mut Text, unit: Unit, sums: &Sums) -> Result<(), AllocError>
     ensures { OnOk result (out.new ≡ out.old ++ times_words unit sums.now) }
 {
-    push_word(out, 7, unit.name())?;
+    push_column(out, 7, unit.name())?;
     push_count(out, 9, unit.of(sums.ran))?;
     push_count(out, 9, unit.of(sums.waited))
 }
@@ -268,7 +268,7 @@ fn push_uses_row(out: &mut Text, unit: Unit, cpu: usize, usage: &Usage) -> Resul
     ensures { OnOk result (out.new ≡ out.old ++ uses_row unit cpu usage.now) }
 {
     push_count(out, 5, cpu)?;
-    push_word(out, 7, unit.name())?;
+    push_column(out, 7, unit.name())?;
     push_count(out, 9, unit.of(usage.busy))?;
     push_count(out, 9, unit.of(usage.agent))?;
     push_count(out, 9, unit.of(usage.other))?;

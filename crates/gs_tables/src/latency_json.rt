@@ -5,7 +5,7 @@ ghost use Rattle.serde_json.specs.View.{view};
 ghost use Rattle.serde_json.specs.Written.{compact_text, has_float};
 ghost use Rattle.gs_lines.specs.Lines.{line};
 ghost use Rattle.gs_trace.specs.declared.form.Notation.TheVariants as Notation;
-ghost use Rattle.gs_tables.specs.Columns.{class_data};
+ghost use Rattle.gs_tables.specs.Numbers.{class_data};
 ghost use Rattle.gs_tables.specs.Latency.{account_data, account_row, landing_data, landing_row, option_data, spread_data, time_data, usage_data, usage_shown, waits_data};
 
 use crate::latency::count_at;

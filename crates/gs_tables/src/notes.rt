@@ -7,14 +7,13 @@ ghost use Rattle.gs_script.specs.Held.{Faults};
 ghost use Rattle.gs_script.specs.Unread.{events_unread, said_unread};
 ghost use Rattle.gs_trace.specs.Noted.{noted_first};
 ghost use Rattle.gs_trace.specs.NotedLines.{noted_of};
-ghost use Rattle.gs_trace.specs.Output.{any_plans};
 ghost use Rattle.gs_tables.specs.Notes.{IsNoted, NotesOne};
 
 use gs_core::{Event, Machine, Reply, is_short, is_short_command};
 use gs_kernel::{Command, Landing};
-use gs_policy::AnyPolicy;
+use gs_policy::Counted;
 use gs_report::landings_of;
-use gs_script::{Reading, ScriptError};
+use gs_script::{NamedPolicy, Reading, ScriptError};
 use gs_trace::Lines;
 use std::alloc::{AllocError, Global};
 use std::slice;
@@ -37,15 +36,15 @@ fn add_landings(all: &mut Vec<Landing>, reply: &Reply) -> Result<(), AllocError>
 
 /// Lets a command of a line be executed, and notes it. It is given as the event, too. It fails only if out of memory, or
 /// if what came of it tells of that.
-fn note_command(
-    machine: &mut Machine<AnyPolicy>,
+fn note_command<P: Counted + Copy>(
+    machine: &mut Machine<P>,
     notes: &mut Notes,
     line: usize,
-    event: &Event<AnyPolicy>,
+    event: &Event<P>,
     command: &Command,
 ) -> Result<(), AllocError>
     requires given { event.now ≡ Event.Kernel command.now }
-    ensures { OnOk result (NotesOne (noted_of notes.old.lines) notes.old.landings.items (planning any_plans machine.old) line event.now (planning any_plans machine.new) (noted_of notes.new.lines) notes.new.landings.items) }
+    ensures { OnOk result (NotesOne P.chosen (noted_of notes.old.lines) notes.old.landings.items (planning P.chosen machine.old) line event.now (planning P.chosen machine.new) (noted_of notes.new.lines) notes.new.landings.items) }
 {
     let came = machine.command(command);
     if is_short_command(came) {
@@ -60,13 +59,13 @@ fn note_command(
 }
 
 /// Lets an event of a line happen that is no command, and notes it, as [`note_command`] does.
-fn note_other(
-    machine: &mut Machine<AnyPolicy>,
+fn note_other<P: Counted + Copy>(
+    machine: &mut Machine<P>,
     notes: &mut Notes,
     line: usize,
-    event: &Event<AnyPolicy>,
+    event: &Event<P>,
 ) -> Result<(), AllocError>
-    ensures { OnOk result (NotesOne (noted_of notes.old.lines) notes.old.landings.items (planning any_plans machine.old) line event.now (planning any_plans machine.new) (noted_of notes.new.lines) notes.new.landings.items) }
+    ensures { OnOk result (NotesOne P.chosen (noted_of notes.old.lines) notes.old.landings.items (planning P.chosen machine.old) line event.now (planning P.chosen machine.new) (noted_of notes.new.lines) notes.new.landings.items) }
 {
     let reply = machine.step(event);
     if is_short(slice::from_ref(&reply)) {
@@ -81,13 +80,13 @@ fn note_other(
 }
 
 /// Lets an event of a line happen, and notes it. It fails only if out of memory, or if the reply tells of that.
-fn note_one(
-    machine: &mut Machine<AnyPolicy>,
+fn note_one<P: Counted + Copy>(
+    machine: &mut Machine<P>,
     notes: &mut Notes,
     line: usize,
-    event: &Event<AnyPolicy>,
+    event: &Event<P>,
 ) -> Result<(), AllocError>
-    ensures { OnOk result (NotesOne (noted_of notes.old.lines) notes.old.landings.items (planning any_plans machine.old) line event.now (planning any_plans machine.new) (noted_of notes.new.lines) notes.new.landings.items) }
+    ensures { OnOk result (NotesOne P.chosen (noted_of notes.old.lines) notes.old.landings.items (planning P.chosen machine.old) line event.now (planning P.chosen machine.new) (noted_of notes.new.lines) notes.new.landings.items) }
 {
     match event {
         Event::Kernel { command } => note_command(machine, notes, line, event, command),
@@ -98,14 +97,14 @@ fn note_one(
 /// Lets the events of a script happen as they are read, each before the next is read, and returns what is noted of them.
 /// The header's line is given. It fails with the first fault of their lines, or out of memory, also if a reply tells of
 /// that.
-pub(crate) fn note_all(
+pub(crate) fn note_all<P: NamedPolicy>(
     alloc: Global,
-    machine: &mut Machine<AnyPolicy>,
+    machine: &mut Machine<P>,
     header: usize,
-    script: Reading<'_>,
+    script: Reading<'_, P>,
 ) -> Result<Notes, ScriptError>
-    ensures noted { IfOk result (λ notes. IsNoted (noted_first header) (planning any_plans machine.old) (events_unread script.entry) (said_unread script.entry) (planning any_plans machine.new) (noted_of notes.lines) notes.landings.items) }
-    ensures fault { IfErr result (λ e. Faults e (events_unread script.entry)) }
+    ensures noted { IfOk result (λ notes. IsNoted P.chosen (noted_first header) (planning P.chosen machine.old) (events_unread P.naming script.entry) (said_unread script.entry) (planning P.chosen machine.new) (noted_of notes.lines) notes.landings.items) }
+    ensures fault { IfErr result (λ e. Faults e (events_unread P.naming script.entry)) }
 {
     let mut notes = Notes {
         lines: Lines::new(alloc, header)?,

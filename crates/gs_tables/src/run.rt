@@ -9,7 +9,6 @@ ghost use Rattle.gs_script.specs.Script.{script_of};
 ghost use Rattle.gs_script.specs.Unread.{events_unread, said_unread};
 ghost use Rattle.gs_core.specs.Machine.{planning};
 ghost use Rattle.gs_trace.specs.Noted.{noted_first};
-ghost use Rattle.gs_trace.specs.Output.{any_plans};
 ghost use Rattle.gs_tables.specs.Tables.{AreAccounts, IsTable, Shows, ShowsRun, Tabulated};
 
 use crate::latency::latency;
@@ -17,8 +16,8 @@ use crate::notes::{Notes, note_all};
 use crate::timehist::timehist;
 use gs_core::Machine;
 use gs_kernel::Landing;
-use gs_policy::AnyPolicy;
-use gs_script::{Opened, Reading, ScriptError, open_script};
+use gs_policy::Counted;
+use gs_script::{NamedPolicy, Opened, Reading, ScriptError, open_script};
 use gs_tallies::{Account, class_accounts, thread_accounts};
 use gs_trace::{Answering, Kept, MOST_READ_BYTES, Notation, TraceFault, answer_script};
 use gs_turns::{Told, turns};
@@ -57,10 +56,10 @@ fn accounts_of(
 }
 
 /// Returns the table of what happened, by the machine that it left and what was noted of it.
-fn shown(
+fn shown<P: Counted + Copy>(
     alloc: Global,
     table: Table,
-    machine: &Machine<AnyPolicy>,
+    machine: &Machine<P>,
     notes: &Notes,
 ) -> Result<Vec<u8>, AllocError>
     ensures { IfOk result (λ bytes. Shows table notes.now.landings.items notes.now.lines.entries.items machine.now.settings.cpus machine.now.history bytes.items) }
@@ -80,15 +79,15 @@ fn shown(
 
 /// Lets the events of a script happen, and returns the table of them. The header's line is given. It fails with the
 /// first fault of their lines, or out of memory, also if a reply tells of that.
-fn table_of_events(
+fn table_of_events<P: NamedPolicy>(
     alloc: Global,
     table: Table,
-    machine: &mut Machine<AnyPolicy>,
+    machine: &mut Machine<P>,
     header: usize,
-    script: Reading<'_>,
+    script: Reading<'_, P>,
 ) -> Result<Vec<u8>, ScriptError>
-    ensures shown { IfOk result (λ bytes. ShowsRun table (noted_first header) (planning any_plans machine.old) (events_unread script.entry) (said_unread script.entry) (planning any_plans machine.new) bytes.items) }
-    ensures fault { IfErr result (λ e. Faults e (events_unread script.entry)) }
+    ensures shown { IfOk result (λ bytes. ShowsRun P.chosen table (noted_first header) (planning P.chosen machine.old) (events_unread P.naming script.entry) (said_unread script.entry) (planning P.chosen machine.new) bytes.items) }
+    ensures fault { IfErr result (λ e. Faults e (events_unread P.naming script.entry)) }
 {
     let notes = note_all(alloc, machine, header, script)?;
     match shown(alloc, table, machine, &notes) {
@@ -99,15 +98,19 @@ fn table_of_events(
 
 /// Runs the script that an input says, and returns the table of what happened. It fails with the script's first fault,
 /// or out of memory.
-fn tabulated(alloc: Global, table: Table, input: &[u8]) -> Result<Vec<u8>, ScriptError>
-    ensures shown { IfOk result (λ bytes. IsTable table input.now Ran bytes.items) }
-    ensures fault { IfErr result (λ e. Faults e (script_of input.now)) }
+fn tabulated<P: NamedPolicy>(
+    alloc: Global,
+    table: Table,
+    input: &[u8],
+) -> Result<Vec<u8>, ScriptError>
+    ensures shown { IfOk result (λ bytes. IsTable P.naming P.chosen table input.now Ran bytes.items) }
+    ensures fault { IfErr result (λ e. Faults e (script_of P.naming input.now)) }
 {
     let Opened {
         config,
         header,
         reading,
-    } = open_script(alloc, input)?;
+    } = open_script::<P>(alloc, input)?;
     // (a configuration that was read can be opened, unless out of memory)
     let Ok(mut machine) = Machine::new(alloc, config) else {
         return Err(ScriptError::OutOfMemory);
@@ -116,11 +119,11 @@ fn tabulated(alloc: Global, table: Table, input: &[u8]) -> Result<Vec<u8>, Scrip
 }
 
 /// A table of what happened in a script, which is run.
-impl Answering for Table {
-    ghost shows = { Tabulated };
+impl<P: NamedPolicy> Answering<P> for Table {
+    ghost shows = { Tabulated P.chosen };
 
     fn answer(&self, alloc: Global, input: &[u8]) -> Result<Vec<u8>, ScriptError> {
-        tabulated(alloc, *self, input)
+        tabulated::<P>(alloc, *self, input)
     }
 }
 
@@ -132,17 +135,17 @@ impl Answering for Table {
 /// # Errors
 ///
 /// As of [`answer_script`].
-pub fn write_table<R: Read, W: Write>(
+pub fn write_table<P: NamedPolicy, R: Read, W: Write>(
     alloc: Global,
     reader: &mut R,
     writer: &mut W,
     table: Table,
 ) -> Result<Kept, TraceFault>
-    ensures ended { IfOk result (λ kept. AnswersAll (IsTable table) kept.ended (R.remaining reader.old) (W.contents writer.old) (W.contents writer.new)) }
-    ensures read { IfOk result (λ kept. AnswersOf (IsTable table) kept.input.items kept.ended (R.remaining reader.old) (R.remaining reader.new) (W.contents writer.old) (W.contents writer.new)) }
+    ensures ended { IfOk result (λ kept. AnswersAll (IsTable P.naming P.chosen table) kept.ended (R.remaining reader.old) (W.contents writer.old) (W.contents writer.new)) }
+    ensures read { IfOk result (λ kept. AnswersOf (IsTable P.naming P.chosen table) kept.input.items kept.ended (R.remaining reader.old) (R.remaining reader.new) (W.contents writer.old) (W.contents writer.new)) }
     ensures bounded { ConsumesAtMost MOST_READ_BYTES (R.remaining reader.old) (R.remaining reader.new) }
     ensures unwritten { IfErr result (λ e. e ≢ TraceFault.WriteFailed → Keeps (W.contents writer.old) (W.contents writer.new)) }
-    ensures begun { IsErrOf result TraceFault.WriteFailed → BeginsAnswer (IsTable table) (R.remaining reader.old) (W.contents writer.old) (W.contents writer.new) }
+    ensures begun { IsErrOf result TraceFault.WriteFailed → BeginsAnswer (IsTable P.naming P.chosen table) (R.remaining reader.old) (W.contents writer.old) (W.contents writer.new) }
 {
-    answer_script(alloc, reader, writer, &table)
+    answer_script::<P, R, W, Table>(alloc, reader, writer, &table)
 }

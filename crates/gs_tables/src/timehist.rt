@@ -3,9 +3,9 @@
 ghost use Rattle.std.specs.Prelude.{◌≡◌, ◌≤◌, ◌++◌, IfOk, OnOk, length};
 ghost use Rattle.gs_tables.specs.Timehist.{class_json, head_pieces, heading, line_of, object_of, place_pieces, rest_pieces, row_of, rows, table_of, times_pieces, turn_pieces};
 
-use crate::column::{class_word, push_count, push_word};
+use crate::column::push_count;
 use gs_layout::Class;
-use gs_lines::{MOST_WORD_LEN, Text};
+use gs_lines::{MOST_WORD_LEN, Text, class_word, push_column};
 use gs_trace::Notation;
 use gs_turns::Turn;
 use std::alloc::{AllocError, Global};
@@ -41,7 +41,7 @@ fn push_row(out: &mut Text, lines: &[usize], turn: &Turn) -> Result<(), AllocErr
     push_count(out, 7, line_of(lines, stay.from))?;
     push_count(out, 4, stay.cpu as usize)?;
     push_count(out, 6, stay.tid as usize)?;
-    push_word(out, 5, class_word(turn.class))?;
+    push_column(out, 5, class_word(turn.class))?;
     push_count(out, 8, turn.waited())?;
     push_count(out, 6, turn.waited_ticks)?;
     push_count(out, 8, turn.ran())?;

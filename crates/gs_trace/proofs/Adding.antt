@@ -5,7 +5,6 @@ use Rattle.std.specs.List.{list_any}
 use Rattle.std.proofs.lemmas.List.Folds.{list_any-append}
 use Rattle.gs_core.specs.declared.event.Event.{Event}
 use Rattle.gs_replies.specs.declared.reply.Reply.{Reply}
-use Rattle.gs_policy.specs.declared.any.AnyPolicy.{AnyPolicy}
 use Rattle.gs_replies.specs.declared.config.Config.{Config}
 use Rattle.gs_core.specs.Machine.{Plan, State, Step, planned, planning, start}
 use Rattle.gs_core.specs.Safe.{Safe, IsFaithful, Run}
@@ -18,11 +17,11 @@ use Rattle.gs_script.specs.Script.{Script, with_config, with_event}
 use Rattle.gs_script.proofs.Lines.{with_front_nil}
 use Rattle.gs_script.proofs.Unread.{front_more, front_none}
 use Rattle.gs_trace.specs.declared.run.Ended.TheVariants.{Ran}
-use Rattle.gs_trace.specs.Output.{Answers, IsAnswerOf, any_plans}
+use Rattle.gs_trace.specs.Output.{Answers, IsAnswerOf}
 use Rattle.gs_trace.specs.Adding.{AddedSoFar, AddedUpTo, AddsOne, ShowsRun}
 
-pub none_added : {T : Type 0} (Has : T → List Reply → Type 0) (m : State) (script : Result (List (Event AnyPolicy)) ScriptFault) (sink : T) → Has sink [] → AddedUpTo Has m script script m sink
-none_added Has m script sink h = record { events = []; is = sym (with_front_nil script); added = record { replies = []; leads = λ left more end run. run; sufficed = refl; has = h } }
+pub none_added : {A T : Type 0} (plans : A → Plan) (Has : T → List Reply → Type 0) (m : State) (script : Result (List (Event A)) ScriptFault) (sink : T) → Has sink [] → AddedUpTo plans Has m script script m sink
+none_added plans Has m script sink h = record { events = []; is = sym (with_front_nil script); added = record { replies = []; leads = λ left more end run. run; sufficed = refl; has = h } }
 
 suffices : (rs : List Reply) (r : Reply) → list_any wants_memory rs ≡ false → list_any wants_memory (r ∷ []) ≡ false → list_any wants_memory (rs ++ r ∷ []) ≡ false
 suffices rs r h k = rw (list_any-append wants_memory rs (r ∷ []), h, k) refl
@@ -42,21 +41,21 @@ one_added Has m es now next e r old new so_far step safe faithful fine grows =
     }
 
 -- one more event was read and run
-pub added_more : {T : Type 0} (Has : T → List Reply → Type 0) (m : State) (script left rest : Result (List (Event AnyPolicy)) ScriptFault) (now next : State) (e : Event AnyPolicy) (old new : T)
-    → AddedUpTo Has m script left now old → left ≡ with_event e rest → AddsOne Has now (planned any_plans e) next old new → AddedUpTo Has m script rest next new
-added_more Has m script left rest now next e old new so_far is one =
+pub added_more : {A T : Type 0} (plans : A → Plan) (Has : T → List Reply → Type 0) (m : State) (script left rest : Result (List (Event A)) ScriptFault) (now next : State) (e : Event A) (old new : T)
+    → AddedUpTo plans Has m script left now old → left ≡ with_event e rest → AddsOne Has now (planned plans e) next old new → AddedUpTo plans Has m script rest next new
+added_more plans Has m script left rest now next e old new so_far is one =
     record {
       events = so_far.events ++ e ∷ [];
       is = front_more so_far.events e left rest script so_far.is is;
       added =
-          subst (λ (es : List (Event Plan)). AddedSoFar Has m es next new) (sym (map-append (planned any_plans) so_far.events (e ∷ [])))
-          (one_added Has m (map (planned any_plans) so_far.events) now next (planned any_plans e) one.reply old new so_far.added one.step one.safe one.faithful one.sufficed one.grows);
+          subst (λ (es : List (Event Plan)). AddedSoFar Has m es next new) (sym (map-append (planned plans) so_far.events (e ∷ [])))
+          (one_added Has m (map (planned plans) so_far.events) now next (planned plans e) one.reply old new so_far.added one.step one.safe one.faithful one.sufficed one.grows);
     }
 
-pub all_added : {T : Type 0} (Has : T → List Reply → Type 0) (Shows : List Reply → ℕ → History → List ℕ → Type 0) (m : State) (script : Result (List (Event AnyPolicy)) ScriptFault) (end : State) (sink : T) (out : List ℕ)
-    → AddedUpTo Has m script (Ok []) end sink → ((rs : List Reply) → Has sink rs → Shows rs end.settings.cpus end.history out) → ShowsRun Shows m script end out
-all_added Has Shows m script end sink out t shows =
-    let es : List (Event Plan) = map (planned any_plans) t.events in
+pub all_added : {A T : Type 0} (plans : A → Plan) (Has : T → List Reply → Type 0) (Shows : List Reply → ℕ → History → List ℕ → Type 0) (m : State) (script : Result (List (Event A)) ScriptFault) (end : State) (sink : T) (out : List ℕ)
+    → AddedUpTo plans Has m script (Ok []) end sink → ((rs : List Reply) → Has sink rs → Shows rs end.settings.cpus end.history out) → ShowsRun plans Shows m script end out
+all_added plans Has Shows m script end sink out t shows =
+    let es : List (Event Plan) = map (planned plans) t.events in
     record {
       events = t.events;
       is = front_none t.events (Ok []) script t.is refl;
@@ -69,12 +68,12 @@ all_added Has Shows m script end sink out t shows =
     }
 
 -- what shows a run of the events behind a header shows the script
-pub shown_of : (Shows : List Reply → ℕ → History → List ℕ → Type 0) (script : Result Script ScriptFault) (c : Config AnyPolicy) (behind : Result (List (Event AnyPolicy)) ScriptFault) (m end : State) (out : List ℕ)
-    → script ≡ with_config c behind → m ≡ planning any_plans (start c) → ShowsRun Shows m behind end out → IsAnswerOf (Answers Shows) script Ran out
-shown_of Shows script c behind m end out is begun t =
-    subst (λ (s : Result Script ScriptFault). IsAnswerOf (Answers Shows) s Ran out) (sym (is ∙ ap (with_config c) t.is)) (
+pub shown_of : {A : Type 0} (plans : A → Plan) (Shows : List Reply → ℕ → History → List ℕ → Type 0) (script : Result (Script A) ScriptFault) (c : Config A) (behind : Result (List (Event A)) ScriptFault) (m end : State) (out : List ℕ)
+    → script ≡ with_config c behind → m ≡ planning plans (start c) → ShowsRun plans Shows m behind end out → IsAnswerOf (Answers plans Shows) script Ran out
+shown_of plans Shows script c behind m end out is begun t =
+    subst (λ (s : Result (Script _) ScriptFault). IsAnswerOf (Answers plans Shows) s Ran out) (sym (is ∙ ap (with_config c) t.is)) (
       refl,
-      record { replies = t.replies; left = end; run = subst (λ (n : State). Run n (map (planned any_plans) t.events) t.replies end) begun t.run; sufficed = t.sufficed; shown = t.shown },
+      record { replies = t.replies; left = end; run = subst (λ (n : State). Run n (map (planned plans) t.events) t.replies end) begun t.run; sufficed = t.sufficed; shown = t.shown },
     )
 
 -- a text of the lines of replies, and of one more

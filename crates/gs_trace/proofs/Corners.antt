@@ -9,6 +9,7 @@ use Rattle.gs_agent.specs.declared.drained.Stop.TheVariants as stops
 use Rattle.gs_replies.specs.declared.reply.Reply.TheVariants as replies
 use Rattle.gs_kernel.specs.Commit.{standing_commit_refusal}
 use Rattle.gs_script.specs.declared.fault.Reason.TheVariants.{TooLong, NoHeader, BadName}
+use Rattle.gs_script.specs.Any.{any}
 use Rattle.gs_script.specs.Script.{fault}
 use Rattle.gs_lines.specs.Lines.{line, lines}
 use Rattle.gs_journal.specs.History.{active, torn}
@@ -48,20 +49,20 @@ gap_is_no_want : wants_memory (replies.Drained (record { count = 0; skipped = 0;
 gap_is_no_want = refl
 
 -- what is written for an input
-header_alone_runs : IsOutput (codes "cpus 2 ring 128") Ran []
+header_alone_runs : IsOutput any any_plans (codes "cpus 2 ring 128") Ran []
 header_alone_runs = (refl, record { replies = []; left = _; run = refl; sufficed = refl; shown = refl })
 
-nothing_is_faulted : IsOutput [] Faulted (line (codes "fault line 0 NoHeader"))
+nothing_is_faulted : IsOutput any any_plans [] Faulted (line (codes "fault line 0 NoHeader"))
 unfolding digits
 nothing_is_faulted = (refl, refl)
 
-nothing_else : (ended : Ended) (out : List ℕ) → IsOutput (codes "cpus 2 ring 128") ended out → out ≡ []
-nothing_else ended out h = (one_output (λ replies cpus h. lines replies) (codes "cpus 2 ring 128") ended Ran out [] h header_alone_runs).1
+nothing_else : (ended : Ended) (out : List ℕ) → IsOutput any any_plans (codes "cpus 2 ring 128") ended out → out ≡ []
+nothing_else ended out h = (one_output any any_plans (λ replies cpus h. lines replies) (codes "cpus 2 ring 128") ended Ran out [] h header_alone_runs).1
 
 first_config : Config AnyPolicy
 first_config = record { cpus = 2; ring = 128; first_tseq = 0; first_generation = 1; history = 16777216; policy = policies.FirstCome (record {}) }
 
-refused_runs : IsOutput (codes "cpus 2 ring 128" ++ 10 ∷ codes "commit 4") Ran (line (codes "refused 4 EmptyMask"))
+refused_runs : IsOutput any any_plans (codes "cpus 2 ring 128" ++ 10 ∷ codes "commit 4") Ran (line (codes "refused 4 EmptyMask"))
 unfolding first_config digits active standing last_of torn standing_commit_refusal
 refused_runs = (
   refl,

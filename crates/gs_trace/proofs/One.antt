@@ -44,10 +44,11 @@ use Rattle.gs_kernel.specs.Lands.{Lands}
 use Rattle.gs_core.proofs.Laws.{commit_one, drop_drop, lands_one, tells_one}
 use Rattle.gs_script.specs.declared.fault.ScriptFault.{ScriptFault}
 use Rattle.gs_trace.specs.declared.run.Ended.{Ended}
+use Rattle.gs_script.specs.Naming.{Naming}
 use Rattle.gs_script.specs.Script.{Script, script_of}
 use Rattle.gs_trace.proofs.Lists.{one_list}
 use Rattle.gs_core.specs.Short.{is_memory, wants_memory}
-use Rattle.gs_trace.specs.Output.{Answers, IsAnswerOf, IsBy, IsShown, Show, any_plans}
+use Rattle.gs_trace.specs.Output.{Answers, IsAnswerOf, IsBy, IsShown, Show}
 
 -- agents that have the same picture and need the same page next, or none of both
 record Same (a b : Option Agent) : Type 0 where
@@ -382,11 +383,11 @@ one_shown : (show : Show) (rs rs' : List Reply) (l l' : State) → rs ≡ rs' �
 one_shown show rs rs' l l' same alike =
     ap (λ rs. show rs l.settings.cpus l.history) same ∙ ap (λ (s : State). show rs' s.settings.cpus s.history) (sym alike.1)
 
-one_of : (show : Show) (s : Result Script ScriptFault) (ended ended' : Ended) (out out' : List ℕ) → IsAnswerOf (Answers (IsBy show)) s ended out → IsAnswerOf (Answers (IsBy show)) s ended' out' → (ended ≡ ended') × (out ≡ out')
-one_of show (Ok s) ended ended' out out' x y =
-    let one = one_run (map (planned any_plans) s.events) _ _ (_, refl, record { pictured = refl; there = refl; page = refl }) x.1.replies y.1.replies x.1.left y.1.left x.1.run y.1.run x.1.sufficed y.1.sufficed in
+one_of : {A : Type 0} (plans : A → Plan) (show : Show) (s : Result (Script A) ScriptFault) (ended ended' : Ended) (out out' : List ℕ) → IsAnswerOf (Answers plans (IsBy show)) s ended out → IsAnswerOf (Answers plans (IsBy show)) s ended' out' → (ended ≡ ended') × (out ≡ out')
+one_of plans show (Ok s) ended ended' out out' x y =
+    let one = one_run (map (planned plans) s.events) _ _ (_, refl, record { pictured = refl; there = refl; page = refl }) x.1.replies y.1.replies x.1.left y.1.left x.1.run y.1.run x.1.sufficed y.1.sufficed in
     (x.0 ∙ sym y.0, x.1.shown ∙ one_shown show x.1.replies y.1.replies x.1.left y.1.left one.0 one.1 ∙ sym y.1.shown)
-one_of show (Err f) ended ended' out out' x y = (x.0 ∙ sym y.0, x.1 ∙ sym y.1)
+one_of plans show (Err f) ended ended' out out' x y = (x.0 ∙ sym y.0, x.1 ∙ sym y.1)
 
-pub one_output : (show : Show) (input : List ℕ) (ended ended' : Ended) (out out' : List ℕ) → IsShown (IsBy show) input ended out → IsShown (IsBy show) input ended' out' → (ended ≡ ended') × (out ≡ out')
-one_output show input ended ended' out out' x y = one_of show (script_of input) ended ended' out out' x y
+pub one_output : {A : Type 0} (naming : Naming A) (plans : A → Plan) (show : Show) (input : List ℕ) (ended ended' : Ended) (out out' : List ℕ) → IsShown naming plans (IsBy show) input ended out → IsShown naming plans (IsBy show) input ended' out' → (ended ≡ ended') × (out ≡ out')
+one_output naming plans show input ended ended' out out' x y = one_of plans show (script_of naming input) ended ended' out out' x y

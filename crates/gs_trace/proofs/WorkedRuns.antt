@@ -25,6 +25,7 @@ use Rattle.gs_core.specs.Safe.{Run}
 use Rattle.gs_core.proofs.Laws.{kept_faithful, kept_safe, kept_start, kept_step}
 use Rattle.gs_trace.specs.declared.run.Ended.TheVariants.{Ran}
 use Rattle.gs_lines.specs.Lines.{line}
+use Rattle.gs_script.specs.Any.{any}
 use Rattle.gs_trace.specs.Output.{IsOutput, any_plans}
 
 two : Config AnyPolicy
@@ -61,7 +62,7 @@ seen_run =
     let g = kept_step _ (events.Kernel (commands.Tick 1)) (replies.Done (Posted (TimerTick 1))) _ (kept_start any_plans two) tt seen_tick in
     (after (TimerTick 1 ∷ []), seen_tick, kept_safe _ g, kept_faithful _ g, (after (TimerTick 1 ∷ []), seen_look, kept_safe _ g, kept_faithful _ g, refl))
 
-seen_written : IsOutput (codes "cpus 2 ring 160" ++ 10 ∷ codes "tick 1" ++ 10 ∷ codes "unread") Ran (line (codes "tick 1") ++ line (codes "unread tick 0 seq 0 cpu 1"))
+seen_written : IsOutput any any_plans (codes "cpus 2 ring 160" ++ 10 ∷ codes "tick 1" ++ 10 ∷ codes "unread") Ran (line (codes "tick 1") ++ line (codes "unread tick 0 seq 0 cpu 1"))
 unfolding two digits
 seen_written = (refl, record { replies = seen; left = after (TimerTick 1 ∷ []); run = seen_run; sufficed = refl; shown = refl })
 
@@ -119,6 +120,6 @@ torn_script =
     ++ 10 ∷ codes "tick 1"
     ++ 10 ∷ codes "drain 1"
 
-torn_written : IsOutput torn_script Ran (line (codes "created 1 seq 1") ++ line (codes "created 2 seq 1") ++ line (codes "created 3 seq 1") ++ line (codes "created 4 seq 1") ++ line (codes "torn") ++ line (codes "refused 18 Gone"))
+torn_written : IsOutput any any_plans torn_script Ran (line (codes "created 1 seq 1") ++ line (codes "created 2 seq 1") ++ line (codes "created 3 seq 1") ++ line (codes "created 4 seq 1") ++ line (codes "torn") ++ line (codes "refused 18 Gone"))
 unfolding two facts digits made
 torn_written = (refl, record { replies = torn_replies; left = torn_after four; run = torn_run; sufficed = refl; shown = refl })

@@ -3,14 +3,12 @@ use Rattle.std.specs.Prelude.{◌≡◌, ℕ, List, ◌++◌, ◌∷◌, [], fal
 use Rattle.std.specs.List.{list_any}
 use Rattle.gs_core.specs.declared.event.Event.{Event}
 use Rattle.gs_replies.specs.declared.reply.Reply.{Reply}
-use Rattle.gs_policy.specs.declared.any.AnyPolicy.{AnyPolicy}
 use Rattle.gs_core.specs.Machine.{Plan, State, Step, planned}
 use Rattle.gs_core.specs.Safe.{Safe, IsFaithful, Run}
 use Rattle.gs_core.specs.Short.{wants_memory}
 use Rattle.gs_journal.specs.History.{History}
 use Rattle.gs_script.specs.declared.fault.ScriptFault.{ScriptFault}
 use Rattle.gs_script.specs.Unread.{with_front}
-use Rattle.gs_trace.specs.Output.{any_plans}
 
 -- the replies of a run of these events, from one machine on to another, were added. Memory sufficed, and the replies to further
 -- events follow them
@@ -21,10 +19,10 @@ pub record AddedSoFar {T : Type 0} (Has : T → List Reply → Type 0) (m : Stat
   pub has : Has sink replies
 
 -- the same of the events of a script up to those that were not read
-pub record AddedUpTo {T : Type 0} (Has : T → List Reply → Type 0) (m : State) (script left : Result (List (Event AnyPolicy)) ScriptFault) (now : State) (sink : T) : Type 0 where
-  pub events : List (Event AnyPolicy)
+pub record AddedUpTo {A T : Type 0} (plans : A → Plan) (Has : T → List Reply → Type 0) (m : State) (script left : Result (List (Event A)) ScriptFault) (now : State) (sink : T) : Type 0 where
+  pub events : List (Event A)
   pub is : script ≡ with_front events left
-  pub added : AddedSoFar Has m (map (planned any_plans) events) now sink
+  pub added : AddedSoFar Has m (map (planned plans) events) now sink
 
 -- one event, from one machine to the next: its reply does not tell that memory ran out, and was added behind those before
 pub record AddsOne {T : Type 0} (Has : T → List Reply → Type 0) (m : State) (e : Event Plan) (next : State) (old new : T) : Type 0 where
@@ -36,10 +34,10 @@ pub record AddsOne {T : Type 0} (Has : T → List Reply → Type 0) (m : State) 
   pub grows : (rs : List Reply) → Has old rs → Has new (rs ++ reply ∷ [])
 
 -- these bytes show a run of a script's events, from one machine to another, in which memory sufficed
-pub record ShowsRun (Shows : List Reply → ℕ → History → List ℕ → Type 0) (m : State) (script : Result (List (Event AnyPolicy)) ScriptFault) (end : State) (out : List ℕ) : Type 0 where
-  pub events : List (Event AnyPolicy)
+pub record ShowsRun {A : Type 0} (plans : A → Plan) (Shows : List Reply → ℕ → History → List ℕ → Type 0) (m : State) (script : Result (List (Event A)) ScriptFault) (end : State) (out : List ℕ) : Type 0 where
+  pub events : List (Event A)
   pub is : script ≡ Ok events
   pub replies : List Reply
-  pub run : Run m (map (planned any_plans) events) replies end
+  pub run : Run m (map (planned plans) events) replies end
   pub sufficed : list_any wants_memory replies ≡ false
   pub shown : Shows replies end.settings.cpus end.history out

@@ -13,6 +13,7 @@ use Rattle.gs_script.specs.declared.fault.Reason.{Reason}
 use Rattle.gs_script.specs.declared.fault.Reason.TheVariants as reasons
 use Rattle.gs_trace.specs.declared.run.Ended.{Ended}
 use Rattle.gs_trace.specs.declared.run.Ended.TheVariants.{Ran, Faulted}
+use Rattle.gs_script.specs.Naming.{Naming}
 use Rattle.gs_script.specs.Script.{Script, script_of}
 use Rattle.gs_lines.specs.Lines.{lines, line}
 use Rattle.gs_report.specs.Report.{report_of}
@@ -54,26 +55,26 @@ Show = List Reply → ℕ → History → List ℕ
 abbrev pub IsBy : Show → List Reply → ℕ → History → List ℕ → Type 0
 IsBy show replies cpus h out = out ≡ show replies cpus h
 
--- these bytes answer the script: they show a run of it, from the machine of its header on, in which memory sufficed
-pub record Answers (Shows : List Reply → ℕ → History → List ℕ → Type 0) (s : Script) (out : List ℕ) : Type 0 where
+-- these bytes answer the script, whose policies plan so: they show a run of it, from the machine of its header on, in which memory sufficed
+pub record Answers {A : Type 0} (plans : A → Plan) (Shows : List Reply → ℕ → History → List ℕ → Type 0) (s : Script A) (out : List ℕ) : Type 0 where
   pub replies : List Reply
   pub left : State
-  pub run : Run (planning any_plans (start s.config)) (map (planned any_plans) s.events) replies left
+  pub run : Run (planning plans (start s.config)) (map (planned plans) s.events) replies left
   pub sufficed : list_any wants_memory replies ≡ false
   pub shown : Shows replies left.settings.cpus left.history out
 
 -- what is to be written for a script, and how that ends: bytes that show it, or the line of its fault
-abbrev pub IsAnswerOf : (Script → List ℕ → Type 0) → Result Script ScriptFault → Ended → List ℕ → Type 0
+abbrev pub IsAnswerOf : {A : Type 0} → (Script A → List ℕ → Type 0) → Result (Script A) ScriptFault → Ended → List ℕ → Type 0
 IsAnswerOf Shows (Ok s) ended out = (ended ≡ Ran) × Shows s out
 IsAnswerOf Shows (Err f) ended out = (ended ≡ Faulted) × (out ≡ fault_line f)
 
 -- what is to be written for an input if bytes show the script that it says so, and how that ends
-abbrev pub IsAnswer : (List ℕ → Script → List ℕ → Type 0) → List ℕ → Ended → List ℕ → Type 0
-IsAnswer Shows input ended out = IsAnswerOf (Shows input) (script_of input) ended out
+abbrev pub IsAnswer : {A : Type 0} → Naming A → (List ℕ → Script A → List ℕ → Type 0) → List ℕ → Ended → List ℕ → Type 0
+IsAnswer naming Shows input ended out = IsAnswerOf (Shows input) (script_of naming input) ended out
 
 -- and if what came of it is shown so
-abbrev pub IsShown : (List Reply → ℕ → History → List ℕ → Type 0) → List ℕ → Ended → List ℕ → Type 0
-IsShown Shows input ended out = IsAnswerOf (Answers Shows) (script_of input) ended out
+abbrev pub IsShown : {A : Type 0} → Naming A → (A → Plan) → (List Reply → ℕ → History → List ℕ → Type 0) → List ℕ → Ended → List ℕ → Type 0
+IsShown naming plans Shows input ended out = IsAnswerOf (Answers plans Shows) (script_of naming input) ended out
 
 -- the text of a history, in either notation
 abbrev pub history_shown : Notation → History → List ℕ
@@ -95,9 +96,9 @@ shown_as (Timeline from to listed) replies cpus h out = ⊤
 shown_as Trace replies cpus h out = IsTrace cpus h out
 
 -- what is to be written for an input: the lines of its replies
-abbrev pub IsOutput : List ℕ → Ended → List ℕ → Type 0
-IsOutput input ended out = IsShown (shown_as Lines) input ended out
+abbrev pub IsOutput : {A : Type 0} → Naming A → (A → Plan) → List ℕ → Ended → List ℕ → Type 0
+IsOutput naming plans input ended out = IsShown naming plans (shown_as Lines) input ended out
 
 -- or their report
-abbrev pub IsReport : ℕ → List ℕ → Ended → List ℕ → Type 0
-IsReport last input ended out = IsShown (shown_as (Report last)) input ended out
+abbrev pub IsReport : {A : Type 0} → Naming A → (A → Plan) → ℕ → List ℕ → Ended → List ℕ → Type 0
+IsReport naming plans last input ended out = IsShown naming plans (shown_as (Report last)) input ended out

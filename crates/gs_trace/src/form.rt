@@ -2,7 +2,7 @@ ghost use Rattle.std.specs.Prelude.{◌≡◌, IfOk, IfErr};
 ghost use Rattle.gs_core.specs.Machine.{planning};
 ghost use Rattle.gs_script.specs.Held.{Faults};
 ghost use Rattle.gs_script.specs.Unread.{events_unread};
-ghost use Rattle.gs_trace.specs.Output.{any_plans, history_shown, shown_as};
+ghost use Rattle.gs_trace.specs.Output.{history_shown, shown_as};
 ghost use Rattle.gs_trace.specs.Adding.{ShowsRun};
 
 use crate::running::{Nothing, run_into};
@@ -12,9 +12,8 @@ use gs_history::{journal_text, json_text};
 use gs_journal::Journal;
 use gs_lines::Text;
 use gs_perfetto::trace_events;
-use gs_policy::AnyPolicy;
 use gs_report::Report;
-use gs_script::{Reading, ScriptError};
+use gs_script::{NamedPolicy, Reading, ScriptError};
 use gs_timeline::{Listed, picture};
 use std::alloc::{AllocError, Global};
 
@@ -64,41 +63,41 @@ fn show_journal(alloc: Global, notation: Notation, journal: &Journal) -> Result<
 }
 
 /// Runs a script's events, and returns the lines of their replies.
-fn show_lines(
+fn show_lines<P: NamedPolicy>(
     alloc: Global,
-    machine: &mut Machine<AnyPolicy>,
-    script: Reading<'_>,
+    machine: &mut Machine<P>,
+    script: Reading<'_, P>,
 ) -> Result<Vec<u8>, ScriptError>
-    ensures shown { IfOk result (λ bytes. ShowsRun (shown_as Form.Lines) (planning any_plans machine.old) (events_unread script.entry) (planning any_plans machine.new) bytes.items) }
-    ensures fault { IfErr result (λ e. Faults e (events_unread script.entry)) }
+    ensures shown { IfOk result (λ bytes. ShowsRun P.chosen (shown_as Form.Lines) (planning P.chosen machine.old) (events_unread P.naming script.entry) (planning P.chosen machine.new) bytes.items) }
+    ensures fault { IfErr result (λ e. Faults e (events_unread P.naming script.entry)) }
 {
     let text = run_into(alloc, machine, script, Text::new(alloc))?;
     Ok(text.into_bytes())
 }
 
 /// Runs a script's events, and returns a report of their replies, with so many of the last lines.
-fn show_report(
+fn show_report<P: NamedPolicy>(
     alloc: Global,
     last: usize,
-    machine: &mut Machine<AnyPolicy>,
-    script: Reading<'_>,
+    machine: &mut Machine<P>,
+    script: Reading<'_, P>,
 ) -> Result<Vec<u8>, ScriptError>
-    ensures shown { IfOk result (λ bytes. ShowsRun (shown_as (Form.Report last)) (planning any_plans machine.old) (events_unread script.entry) (planning any_plans machine.new) bytes.items) }
-    ensures fault { IfErr result (λ e. Faults e (events_unread script.entry)) }
+    ensures shown { IfOk result (λ bytes. ShowsRun P.chosen (shown_as (Form.Report last)) (planning P.chosen machine.old) (events_unread P.naming script.entry) (planning P.chosen machine.new) bytes.items) }
+    ensures fault { IfErr result (λ e. Faults e (events_unread P.naming script.entry)) }
 {
     let report = run_into(alloc, machine, script, Report::new(alloc))?;
     Ok(report.to_line(alloc, last)?.into_bytes())
 }
 
 /// Runs a script's events, and returns the journal of all that happened, in this notation.
-fn show_history(
+fn show_history<P: NamedPolicy>(
     alloc: Global,
     notation: Notation,
-    machine: &mut Machine<AnyPolicy>,
-    script: Reading<'_>,
+    machine: &mut Machine<P>,
+    script: Reading<'_, P>,
 ) -> Result<Vec<u8>, ScriptError>
-    ensures shown { IfOk result (λ bytes. ShowsRun (shown_as (Form.Journal notation)) (planning any_plans machine.old) (events_unread script.entry) (planning any_plans machine.new) bytes.items) }
-    ensures fault { IfErr result (λ e. Faults e (events_unread script.entry)) }
+    ensures shown { IfOk result (λ bytes. ShowsRun P.chosen (shown_as (Form.Journal notation)) (planning P.chosen machine.old) (events_unread P.naming script.entry) (planning P.chosen machine.new) bytes.items) }
+    ensures fault { IfErr result (λ e. Faults e (events_unread P.naming script.entry)) }
 {
     run_into(alloc, machine, script, Nothing)?;
     let bytes = show_journal(alloc, notation, machine.kernel().journal())?;
@@ -107,17 +106,17 @@ fn show_history(
 
 /// Runs a script's events, and returns a picture of the entries from one place in the journal on to another, which lists
 /// these threads. The header's line is given.
-fn show_picture(
+fn show_picture<P: NamedPolicy>(
     alloc: Global,
     from: usize,
     to: usize,
     listed: Listed,
-    machine: &mut Machine<AnyPolicy>,
+    machine: &mut Machine<P>,
     header: usize,
-    script: Reading<'_>,
+    script: Reading<'_, P>,
 ) -> Result<Vec<u8>, ScriptError>
-    ensures shown { IfOk result (λ bytes. ShowsRun (shown_as (Form.Timeline from to listed)) (planning any_plans machine.old) (events_unread script.entry) (planning any_plans machine.new) bytes.items) }
-    ensures fault { IfErr result (λ e. Faults e (events_unread script.entry)) }
+    ensures shown { IfOk result (λ bytes. ShowsRun P.chosen (shown_as (Form.Timeline from to listed)) (planning P.chosen machine.old) (events_unread P.naming script.entry) (planning P.chosen machine.new) bytes.items) }
+    ensures fault { IfErr result (λ e. Faults e (events_unread P.naming script.entry)) }
 {
     let noting = run_watched(alloc, machine, header, script)?;
     let kernel = machine.kernel();
@@ -128,14 +127,14 @@ fn show_picture(
 }
 
 /// Runs a script's events, and returns a trace of all that happened. The header's line is given.
-fn show_trace(
+fn show_trace<P: NamedPolicy>(
     alloc: Global,
-    machine: &mut Machine<AnyPolicy>,
+    machine: &mut Machine<P>,
     header: usize,
-    script: Reading<'_>,
+    script: Reading<'_, P>,
 ) -> Result<Vec<u8>, ScriptError>
-    ensures shown { IfOk result (λ bytes. ShowsRun (shown_as Form.Trace) (planning any_plans machine.old) (events_unread script.entry) (planning any_plans machine.new) bytes.items) }
-    ensures fault { IfErr result (λ e. Faults e (events_unread script.entry)) }
+    ensures shown { IfOk result (λ bytes. ShowsRun P.chosen (shown_as Form.Trace) (planning P.chosen machine.old) (events_unread P.naming script.entry) (planning P.chosen machine.new) bytes.items) }
+    ensures fault { IfErr result (λ e. Faults e (events_unread P.naming script.entry)) }
 {
     let noting = run_watched(alloc, machine, header, script)?;
     let kernel = machine.kernel();
@@ -148,15 +147,15 @@ fn show_trace(
 /// Runs a script's events, and shows what came of them in this form: their replies, and the machine that they leave. It
 /// fails with the first fault of their lines, or out of memory, also if a reply tells of that. The header's line is
 /// given.
-pub(crate) fn show(
+pub(crate) fn show<P: NamedPolicy>(
     alloc: Global,
     form: Form,
-    machine: &mut Machine<AnyPolicy>,
+    machine: &mut Machine<P>,
     header: usize,
-    script: Reading<'_>,
+    script: Reading<'_, P>,
 ) -> Result<Vec<u8>, ScriptError>
-    ensures shown { IfOk result (λ bytes. ShowsRun (shown_as form) (planning any_plans machine.old) (events_unread script.entry) (planning any_plans machine.new) bytes.items) }
-    ensures fault { IfErr result (λ e. Faults e (events_unread script.entry)) }
+    ensures shown { IfOk result (λ bytes. ShowsRun P.chosen (shown_as form) (planning P.chosen machine.old) (events_unread P.naming script.entry) (planning P.chosen machine.new) bytes.items) }
+    ensures fault { IfErr result (λ e. Faults e (events_unread P.naming script.entry)) }
 {
     match form {
         Form::Lines => show_lines(alloc, machine, script),

@@ -7,7 +7,7 @@ use crate::noted::Lines;
 use gs_core::{Event, Machine, Reply};
 use gs_kernel::{Executed, Landing};
 use gs_layout::Refusal;
-use gs_policy::{AnyPolicy, Choice};
+use gs_policy::{Choice, Counted};
 use gs_timeline::{AgentEvent, AgentMark, Fill, Mark, Notes, What};
 use std::alloc::{AllocError, Global};
 
@@ -109,10 +109,10 @@ impl Noting {
     }
 
     /// Notes an event by its reply.
-    pub(crate) fn hear(
+    pub(crate) fn hear<P>(
         &mut self,
         when: When,
-        event: &Event<AnyPolicy>,
+        event: &Event<P>,
         reply: &Reply,
     ) -> Result<(), AllocError>
         ensures { OnOk result (told_by self.new.marks.items ≡ told_by self.old.marks.items ++ told_in reply.now) }
@@ -155,7 +155,11 @@ impl Noting {
 
     /// Notes how full the ring is.
     #[inline(always)]
-    fn look_at_ring(&mut self, when: When, machine: &Machine<AnyPolicy>) -> Result<(), AllocError>
+    fn look_at_ring<P: Counted + Copy>(
+        &mut self,
+        when: When,
+        machine: &Machine<P>,
+    ) -> Result<(), AllocError>
         ensures { OnOk result (self.new.marks.items ≡ self.old.marks.items) }
     {
         let ring = machine.kernel().poster();
@@ -171,11 +175,11 @@ impl Noting {
     }
 
     /// Notes what an event left: the line of the entries that it added, and how full the ring is.
-    pub(crate) fn look(
+    pub(crate) fn look<P: Counted + Copy>(
         &mut self,
         when: When,
         reply: &Reply,
-        machine: &Machine<AnyPolicy>,
+        machine: &Machine<P>,
     ) -> Result<(), AllocError>
         ensures { OnOk result (self.new.marks.items ≡ self.old.marks.items) }
     {
@@ -187,11 +191,11 @@ impl Noting {
 
     /// Notes what a command left, as [`Noting::look`] notes what any event did.
     #[inline(always)]
-    pub(crate) fn look_after(
+    pub(crate) fn look_after<P: Counted + Copy>(
         &mut self,
         when: When,
         came: Result<Executed, Refusal>,
-        machine: &Machine<AnyPolicy>,
+        machine: &Machine<P>,
     ) -> Result<(), AllocError>
         ensures { OnOk result (self.new.marks.items ≡ self.old.marks.items) }
     {

@@ -11,7 +11,7 @@ use crate::answering::{Answering, answer_script};
 use crate::form::{Form, show};
 use crate::pipe::MOST_READ_BYTES;
 use gs_core::Machine;
-use gs_script::{Opened, Reason, ScriptError, ScriptFault, open_script};
+use gs_script::{NamedPolicy, Opened, Reason, ScriptError, ScriptFault, open_script};
 use std::alloc::{AllocError, Global};
 use std::io::{Read, Write};
 use thiserror::Error;
@@ -82,15 +82,19 @@ pub fn fault_text(alloc: Global, fault: ScriptFault) -> Result<String, AllocErro
 
 /// Runs the script that an input says, and returns what came of it in this form. It fails with the script's first
 /// fault, or out of memory.
-fn run_input(alloc: Global, input: &[u8], form: Form) -> Result<Vec<u8>, ScriptError>
-    ensures shown { IfOk result (λ bytes. IsShown (shown_as form) input.now Ran bytes.items) }
-    ensures fault { IfErr result (λ e. Faults e (script_of input.now)) }
+fn run_input<P: NamedPolicy>(
+    alloc: Global,
+    input: &[u8],
+    form: Form,
+) -> Result<Vec<u8>, ScriptError>
+    ensures shown { IfOk result (λ bytes. IsShown P.naming P.chosen (shown_as form) input.now Ran bytes.items) }
+    ensures fault { IfErr result (λ e. Faults e (script_of P.naming input.now)) }
 {
     let Opened {
         config,
         header,
         reading,
-    } = open_script(alloc, input)?;
+    } = open_script::<P>(alloc, input)?;
     // (a configuration that was read can be opened, unless out of memory)
     let Ok(mut machine) = Machine::new(alloc, config) else {
         return Err(ScriptError::OutOfMemory);
@@ -99,11 +103,11 @@ fn run_input(alloc: Global, input: &[u8], form: Form) -> Result<Vec<u8>, ScriptE
 }
 
 /// What came of a script, shown in a form.
-impl Answering for Form {
-    ghost shows = { λ form input. Answers (shown_as form) };
+impl<P: NamedPolicy> Answering<P> for Form {
+    ghost shows = { λ form input. Answers P.chosen (shown_as form) };
 
     fn answer(&self, alloc: Global, input: &[u8]) -> Result<Vec<u8>, ScriptError> {
-        run_input(alloc, input, *self)
+        run_input::<P>(alloc, input, *self)
     }
 }
 
@@ -121,21 +125,21 @@ impl Answering for Form {
 ///
 /// ```
 /// let mut written = Vec::new(alloc);
-/// let ended = run_script(alloc, &mut reader, &mut written);
+/// let ended = run_script::<AnyPolicy, _, _>(alloc, &mut reader, &mut written);
 /// ended == wanted && written.as_slice() == lines.as_bytes()
 /// ```
-pub fn run_script<R: Read, W: Write>(
+pub fn run_script<P: NamedPolicy, R: Read, W: Write>(
     alloc: Global,
     reader: &mut R,
     writer: &mut W,
 ) -> Result<Ended, TraceFault>
-    ensures ended { IfOk result (λ ended. AnswersAll IsOutput ended (R.remaining reader.old) (W.contents writer.old) (W.contents writer.new)) }
-    ensures read { IfOk result (λ ended. AnswersRead IsOutput ended (R.remaining reader.old) (R.remaining reader.new) (W.contents writer.old) (W.contents writer.new)) }
+    ensures ended { IfOk result (λ ended. AnswersAll (IsOutput P.naming P.chosen) ended (R.remaining reader.old) (W.contents writer.old) (W.contents writer.new)) }
+    ensures read { IfOk result (λ ended. AnswersRead (IsOutput P.naming P.chosen) ended (R.remaining reader.old) (R.remaining reader.new) (W.contents writer.old) (W.contents writer.new)) }
     ensures bounded { ConsumesAtMost MOST_READ_BYTES (R.remaining reader.old) (R.remaining reader.new) }
     ensures unwritten { IfErr result (λ e. e ≢ TraceFault.WriteFailed → Keeps (W.contents writer.old) (W.contents writer.new)) }
-    ensures begun { IsErrOf result TraceFault.WriteFailed → BeginsAnswer IsOutput (R.remaining reader.old) (W.contents writer.old) (W.contents writer.new) }
+    ensures begun { IsErrOf result TraceFault.WriteFailed → BeginsAnswer (IsOutput P.naming P.chosen) (R.remaining reader.old) (W.contents writer.old) (W.contents writer.new) }
 {
-    run_as(alloc, reader, writer, Form::Lines)
+    run_as::<P, R, W>(alloc, reader, writer, Form::Lines)
 }
 
 /// Reads and runs a script as [`run_script`] does, and writes a report in place of the lines, with the last
@@ -151,24 +155,24 @@ pub fn run_script<R: Read, W: Write>(
 ///
 /// ```
 /// let ended = if reports {
-///     run_report(alloc, &mut reader, &mut written, 5)
+///     run_report::<AnyPolicy, _, _>(alloc, &mut reader, &mut written, 5)
 /// } else {
-///     run_script(alloc, &mut reader, &mut written)
+///     run_script::<AnyPolicy, _, _>(alloc, &mut reader, &mut written)
 /// };
 /// ```
-pub fn run_report<R: Read, W: Write>(
+pub fn run_report<P: NamedPolicy, R: Read, W: Write>(
     alloc: Global,
     reader: &mut R,
     writer: &mut W,
     last: usize,
 ) -> Result<Ended, TraceFault>
-    ensures ended { IfOk result (λ ended. AnswersAll (IsReport last) ended (R.remaining reader.old) (W.contents writer.old) (W.contents writer.new)) }
-    ensures read { IfOk result (λ ended. AnswersRead (IsReport last) ended (R.remaining reader.old) (R.remaining reader.new) (W.contents writer.old) (W.contents writer.new)) }
+    ensures ended { IfOk result (λ ended. AnswersAll (IsReport P.naming P.chosen last) ended (R.remaining reader.old) (W.contents writer.old) (W.contents writer.new)) }
+    ensures read { IfOk result (λ ended. AnswersRead (IsReport P.naming P.chosen last) ended (R.remaining reader.old) (R.remaining reader.new) (W.contents writer.old) (W.contents writer.new)) }
     ensures bounded { ConsumesAtMost MOST_READ_BYTES (R.remaining reader.old) (R.remaining reader.new) }
     ensures unwritten { IfErr result (λ e. e ≢ TraceFault.WriteFailed → Keeps (W.contents writer.old) (W.contents writer.new)) }
-    ensures begun { IsErrOf result TraceFault.WriteFailed → BeginsAnswer (IsReport last) (R.remaining reader.old) (W.contents writer.old) (W.contents writer.new) }
+    ensures begun { IsErrOf result TraceFault.WriteFailed → BeginsAnswer (IsReport P.naming P.chosen last) (R.remaining reader.old) (W.contents writer.old) (W.contents writer.new) }
 {
-    run_as(alloc, reader, writer, Form::Report { last })
+    run_as::<P, R, W>(alloc, reader, writer, Form::Report { last })
 }
 
 /// Reads and runs a script as [`run_and_keep`] does, and keeps nothing of what was read.
@@ -176,19 +180,19 @@ pub fn run_report<R: Read, W: Write>(
 /// # Errors
 ///
 /// As of [`answer_script`].
-pub fn run_as<R: Read, W: Write>(
+pub fn run_as<P: NamedPolicy, R: Read, W: Write>(
     alloc: Global,
     reader: &mut R,
     writer: &mut W,
     form: Form,
 ) -> Result<Ended, TraceFault>
-    ensures ended { IfOk result (λ ended. AnswersAll (IsShown (shown_as form)) ended (R.remaining reader.old) (W.contents writer.old) (W.contents writer.new)) }
-    ensures read { IfOk result (λ ended. AnswersRead (IsShown (shown_as form)) ended (R.remaining reader.old) (R.remaining reader.new) (W.contents writer.old) (W.contents writer.new)) }
+    ensures ended { IfOk result (λ ended. AnswersAll (IsShown P.naming P.chosen (shown_as form)) ended (R.remaining reader.old) (W.contents writer.old) (W.contents writer.new)) }
+    ensures read { IfOk result (λ ended. AnswersRead (IsShown P.naming P.chosen (shown_as form)) ended (R.remaining reader.old) (R.remaining reader.new) (W.contents writer.old) (W.contents writer.new)) }
     ensures bounded { ConsumesAtMost MOST_READ_BYTES (R.remaining reader.old) (R.remaining reader.new) }
     ensures unwritten { IfErr result (λ e. e ≢ TraceFault.WriteFailed → Keeps (W.contents writer.old) (W.contents writer.new)) }
-    ensures begun { IsErrOf result TraceFault.WriteFailed → BeginsAnswer (IsShown (shown_as form)) (R.remaining reader.old) (W.contents writer.old) (W.contents writer.new) }
+    ensures begun { IsErrOf result TraceFault.WriteFailed → BeginsAnswer (IsShown P.naming P.chosen (shown_as form)) (R.remaining reader.old) (W.contents writer.old) (W.contents writer.new) }
 {
-    match run_and_keep(alloc, reader, writer, form) {
+    match run_and_keep::<P, R, W>(alloc, reader, writer, form) {
         Ok(kept) => Ok(kept.ended),
         Err(fault) => Err(fault),
     }
@@ -209,22 +213,22 @@ pub fn run_as<R: Read, W: Write>(
 ///
 /// ```
 /// match wanted {
-///     Wanted::Shown { form } => run_and_keep(alloc, reader, writer, form),
-///     Wanted::Explained { how } => explain_script(alloc, reader, writer, how),
-///     Wanted::Tabled { table } => write_table(alloc, reader, writer, table),
+///     Wanted::Shown { form } => run_and_keep::<P, R, W>(alloc, reader, writer, form),
+///     Wanted::Explained { how } => explain_script::<P, R, W>(alloc, reader, writer, how),
+///     Wanted::Tabled { table } => write_table::<P, R, W>(alloc, reader, writer, table),
 /// }
 /// ```
-pub fn run_and_keep<R: Read, W: Write>(
+pub fn run_and_keep<P: NamedPolicy, R: Read, W: Write>(
     alloc: Global,
     reader: &mut R,
     writer: &mut W,
     form: Form,
 ) -> Result<Kept, TraceFault>
-    ensures ended { IfOk result (λ kept. AnswersAll (IsShown (shown_as form)) kept.ended (R.remaining reader.old) (W.contents writer.old) (W.contents writer.new)) }
-    ensures read { IfOk result (λ kept. AnswersOf (IsShown (shown_as form)) kept.input.items kept.ended (R.remaining reader.old) (R.remaining reader.new) (W.contents writer.old) (W.contents writer.new)) }
+    ensures ended { IfOk result (λ kept. AnswersAll (IsShown P.naming P.chosen (shown_as form)) kept.ended (R.remaining reader.old) (W.contents writer.old) (W.contents writer.new)) }
+    ensures read { IfOk result (λ kept. AnswersOf (IsShown P.naming P.chosen (shown_as form)) kept.input.items kept.ended (R.remaining reader.old) (R.remaining reader.new) (W.contents writer.old) (W.contents writer.new)) }
     ensures bounded { ConsumesAtMost MOST_READ_BYTES (R.remaining reader.old) (R.remaining reader.new) }
     ensures unwritten { IfErr result (λ e. e ≢ TraceFault.WriteFailed → Keeps (W.contents writer.old) (W.contents writer.new)) }
-    ensures begun { IsErrOf result TraceFault.WriteFailed → BeginsAnswer (IsShown (shown_as form)) (R.remaining reader.old) (W.contents writer.old) (W.contents writer.new) }
+    ensures begun { IsErrOf result TraceFault.WriteFailed → BeginsAnswer (IsShown P.naming P.chosen (shown_as form)) (R.remaining reader.old) (W.contents writer.old) (W.contents writer.new) }
 {
-    answer_script(alloc, reader, writer, &form)
+    answer_script::<P, R, W, Form>(alloc, reader, writer, &form)
 }

@@ -10,16 +10,15 @@ ghost use Rattle.gs_script.specs.Held.{Faults};
 ghost use Rattle.gs_script.specs.Unread.{events_unread};
 ghost use Rattle.gs_trace.specs.Adding.{AddedUpTo, AddsOne};
 ghost use Rattle.gs_trace.specs.Came.{reply_in};
-ghost use Rattle.gs_trace.specs.Output.{any_plans};
 
 use gs_core::{Event, Machine, Reply, is_short, is_short_command};
 use gs_journal::Entry;
 use gs_kernel::Executed;
 use gs_layout::Refusal;
 use gs_lines::{Text, write_executed, write_reply};
-use gs_policy::AnyPolicy;
+use gs_policy::Counted;
 use gs_report::Report;
-use gs_script::{Reading, ScriptError};
+use gs_script::{NamedPolicy, Reading, ScriptError};
 use std::alloc::{AllocError, Global};
 use std::slice;
 
@@ -108,12 +107,12 @@ fn add_to<S: Sink>(sink: &mut S, came: Came<'_>) -> Result<(), AllocError>
 }
 
 /// Runs an event, and adds its reply to a sink. It fails only if out of memory, or if the reply tells of that.
-fn run_one<S: Sink>(
-    machine: &mut Machine<AnyPolicy>,
-    event: &Event<AnyPolicy>,
+fn run_one<P: Counted + Copy, S: Sink>(
+    machine: &mut Machine<P>,
+    event: &Event<P>,
     sink: &mut S,
 ) -> Result<(), AllocError>
-    ensures { OnOk result (AddsOne S.has (planning any_plans machine.old) (planned any_plans event.now) (planning any_plans machine.new) sink.old sink.new) }
+    ensures { OnOk result (AddsOne S.has (planning P.chosen machine.old) (planned P.chosen event.now) (planning P.chosen machine.new) sink.old sink.new) }
 {
     if let Event::Kernel { command } = event {
         let came = machine.command(command);
@@ -125,15 +124,15 @@ fn run_one<S: Sink>(
 
 /// Runs the events of a script as they are read, each before the next is read, and adds each reply to a sink. It
 /// fails with the first fault of their lines, or out of memory, also if a reply tells of that.
-pub(crate) fn run_into<S: Sink>(
+pub(crate) fn run_into<P: NamedPolicy, S: Sink>(
     alloc: Global,
-    machine: &mut Machine<AnyPolicy>,
-    script: Reading<'_>,
+    machine: &mut Machine<P>,
+    script: Reading<'_, P>,
     sink: S,
 ) -> Result<S, ScriptError>
     requires { S.has sink [] }
-    ensures added { IfOk result (λ full. AddedUpTo S.has (planning any_plans machine.old) (events_unread script.entry) (Ok []) (planning any_plans machine.new) full) }
-    ensures fault { IfErr result (λ e. Faults e (events_unread script.entry)) }
+    ensures added { IfOk result (λ full. AddedUpTo P.chosen S.has (planning P.chosen machine.old) (events_unread P.naming script.entry) (Ok []) (planning P.chosen machine.new) full) }
+    ensures fault { IfErr result (λ e. Faults e (events_unread P.naming script.entry)) }
 {
     let mut script = script;
     let mut sink = sink;

@@ -5,24 +5,23 @@ ghost use Rattle.gs_core.specs.Machine.{planned, planning};
 ghost use Rattle.gs_script.specs.Held.{Faults};
 ghost use Rattle.gs_script.specs.Unread.{events_unread};
 ghost use Rattle.gs_trace.specs.Adding.{AddedUpTo, AddsOne};
-ghost use Rattle.gs_trace.specs.Output.{any_plans};
 ghost use Rattle.gs_trace.specs.Watched.{Watches};
 
 use crate::noting::{Noting, When};
 use gs_core::{Event, Machine, is_short, is_short_command};
-use gs_policy::AnyPolicy;
-use gs_script::{Reading, ScriptError};
+use gs_policy::Counted;
+use gs_script::{NamedPolicy, Reading, ScriptError};
 use std::alloc::{AllocError, Global};
 use std::slice;
 
 /// Runs an event of a line, and notes it. It fails only if out of memory, or if the reply tells of that.
-fn watch_one(
-    machine: &mut Machine<AnyPolicy>,
-    event: &Event<AnyPolicy>,
+fn watch_one<P: Counted + Copy>(
+    machine: &mut Machine<P>,
+    event: &Event<P>,
     line: usize,
     noting: &mut Noting,
 ) -> Result<(), AllocError>
-    ensures { OnOk result (AddsOne Watches (planning any_plans machine.old) (planned any_plans event.now) (planning any_plans machine.new) noting.old noting.new) }
+    ensures { OnOk result (AddsOne Watches (planning P.chosen machine.old) (planned P.chosen event.now) (planning P.chosen machine.new) noting.old noting.new) }
 {
     let when = When {
         line,
@@ -46,14 +45,14 @@ fn watch_one(
 /// Runs the events of a script as they are read, each before the next is read, and notes what a picture tells of them.
 /// The header's line is given. It fails with the first fault of their lines, or out of memory, also if a reply tells of
 /// that.
-pub(crate) fn run_watched(
+pub(crate) fn run_watched<P: NamedPolicy>(
     alloc: Global,
-    machine: &mut Machine<AnyPolicy>,
+    machine: &mut Machine<P>,
     header: usize,
-    script: Reading<'_>,
+    script: Reading<'_, P>,
 ) -> Result<Noting, ScriptError>
-    ensures added { IfOk result (λ full. AddedUpTo Watches (planning any_plans machine.old) (events_unread script.entry) (Ok []) (planning any_plans machine.new) full) }
-    ensures fault { IfErr result (λ e. Faults e (events_unread script.entry)) }
+    ensures added { IfOk result (λ full. AddedUpTo P.chosen Watches (planning P.chosen machine.old) (events_unread P.naming script.entry) (Ok []) (planning P.chosen machine.new) full) }
+    ensures fault { IfErr result (λ e. Faults e (events_unread P.naming script.entry)) }
 {
     let mut script = script;
     let mut noting = Noting::new(alloc, header)?;

@@ -1,15 +1,17 @@
 //! A workload, from a reader, and its simulation, to a writer.
 
-ghost use Rattle.std.specs.Prelude.{ℕ, List, Option, IfOk, IfErr, OnOk};
+ghost use Rattle.std.specs.Prelude.{ℕ, List, IfOk, IfErr, OnOk};
 ghost use Rattle.std.specs.Io.KnownBytes.{Keeps};
-ghost use Rattle.gs_simulate.specs.Heard.{IsHeard};
+ghost use Rattle.gs_simulate.specs.Heard.{IsHeaded, IsHeard};
+ghost use Rattle.gs_workbench.specs.Settings.{policy_of};
 ghost use Rattle.gs_trace.specs.Streams.{ConsumesAtMost, IsRead};
 ghost use Rattle.gs_trace.specs.declared.pipe.TheConstants.{MOST_READ_BYTES};
-ghost use Rattle.gs_workbench.specs.Written.{BeginsScript, IsOfWriting, IsRefusal, IsRefusalOf, IsSimulated, WritesScript};
+ghost use Rattle.gs_workbench.specs.Written.{BeginsScript, IsOfReading, IsOfWriting, IsRefusal, IsRefusalOf, IsSimulated, WritesScript};
 ghost use Rattle.gs_workload.specs.Read.{Says};
 
 use crate::asked::{Asked, settings_of};
 use crate::fault::WorkbenchFault;
+use gs_script::NamedPolicy;
 use gs_simulate::{SimulateFault, Simulated, simulate};
 use gs_trace::{InputError, MOST_READ_BYTES, read_all, write_out};
 use gs_workload::{Workload, WorkloadFault, read_workload};
@@ -21,9 +23,12 @@ use std::io::{Read, Write};
 /// # Errors
 ///
 /// `Workload` if the input is no workload, with its first fault. `OutOfMemory` if out of memory.
-pub fn workload_of(alloc: Global, input: &[u8]) -> Result<Workload, WorkbenchFault>
-    ensures says { IfOk result (Says input.now) }
-    ensures fault { IfErr result (IsRefusalOf input.now) }
+pub fn workload_of<P: NamedPolicy>(
+    alloc: Global,
+    input: &[u8],
+) -> Result<Workload<P>, WorkbenchFault>
+    ensures says { IfOk result (λ workload. Says P.naming input.now workload) }
+    ensures fault { IfErr result (λ fault. IsRefusalOf P.naming input.now fault) }
 {
     match read_workload(alloc, input) {
         Ok(workload) => Ok(workload),
@@ -37,13 +42,14 @@ pub fn workload_of(alloc: Global, input: &[u8]) -> Result<Workload, WorkbenchFau
 /// # Errors
 ///
 /// `OutOfMemory` if out of memory. `Unreadable` if the simulation wrote a line that is none of a script.
-pub fn simulate_as(
+pub fn simulate_as<P: NamedPolicy>(
     alloc: Global,
-    asked: Asked,
-    workload: &Workload,
-) -> Result<Simulated, WorkbenchFault>
-    ensures heard { IfOk result (λ s. IsHeard s.text s.session) }
-    ensures fault { (input : List ℕ) → IfErr result (IsRefusalOf input) }
+    asked: Asked<P>,
+    workload: &Workload<P>,
+) -> Result<Simulated<P>, WorkbenchFault>
+    ensures heard { IfOk result (λ s. IsHeard P.naming P.chosen s.text s.session) }
+    ensures headed { IfOk result (λ s. IsHeaded P.naming workload.now.cpus workload.now.ring (policy_of P.naming asked.policy workload.now.policy) s.text) }
+    ensures fault { (input : List ℕ) → IfErr result (λ fault. IsRefusalOf P.naming input fault) }
 {
     match simulate(alloc, workload, settings_of(asked, workload)) {
         Ok(simulated) => Ok(simulated),
@@ -53,9 +59,13 @@ pub fn simulate_as(
 }
 
 /// Simulates the workload that an input says.
-fn simulated(alloc: Global, asked: Asked, input: &[u8]) -> Result<Simulated, WorkbenchFault>
-    ensures simulated { IfOk result (λ s. IsSimulated input.now s.text) }
-    ensures fault { IfErr result (IsRefusalOf input.now) }
+fn simulated<P: NamedPolicy>(
+    alloc: Global,
+    asked: Asked<P>,
+    input: &[u8],
+) -> Result<Simulated<P>, WorkbenchFault>
+    ensures simulated { IfOk result (λ s. IsSimulated P.naming P.chosen asked input.now s.text) }
+    ensures fault { IfErr result (λ fault. IsRefusalOf P.naming input.now fault) }
 {
     let workload = workload_of(alloc, input)?;
     simulate_as(alloc, asked, &workload)
@@ -71,8 +81,7 @@ fn simulated(alloc: Global, asked: Asked, input: &[u8]) -> Result<Simulated, Wor
 pub fn input_of<R: Read>(alloc: Global, reader: &mut R) -> Result<Vec<u8>, WorkbenchFault>
     ensures read { IfOk result (λ bytes. IsRead (R.remaining reader.old) (R.remaining reader.new) bytes.items) }
     ensures bounded { ConsumesAtMost MOST_READ_BYTES (R.remaining reader.old) (R.remaining reader.new) }
-    ensures refused { (had left : Option (List ℕ)) → IfErr result (IsRefusal had left) }
-    ensures unbegun { IfErr result (λ e. IsOfWriting e → ⊥) }
+    ensures unread { IfErr result IsOfReading }
 {
     match read_all(alloc, reader) {
         Ok(input) => Ok(input),
@@ -90,18 +99,17 @@ pub fn input_of<R: Read>(alloc: Global, reader: &mut R) -> Result<Vec<u8>, Workb
 /// `ReadFailed` if a read fails. `Workload` if what was read is no workload. `OutOfMemory` if out of memory. `Unreadable` if the
 /// simulation wrote a line that is none of a script. In each of these cases nothing was written. `WriteFailed` if a write
 /// fails or takes no byte: a beginning of the script was written, short of the whole.
-#[tactic(auto, using(crate::proofs::Refusing::refusal_read, crate::proofs::Refusing::no_writing))]
-pub fn simulate_workload<R: Read, W: Write>(
+pub fn simulate_workload<P: NamedPolicy, R: Read, W: Write>(
     alloc: Global,
     reader: &mut R,
     writer: &mut W,
-    asked: Asked,
+    asked: Asked<P>,
 ) -> Result<(), WorkbenchFault>
-    ensures written { OnOk result (WritesScript (R.remaining reader.old) (R.remaining reader.new) (W.contents writer.old) (W.contents writer.new)) }
+    ensures written { OnOk result (WritesScript P.naming P.chosen asked (R.remaining reader.old) (R.remaining reader.new) (W.contents writer.old) (W.contents writer.new)) }
     ensures bounded { ConsumesAtMost MOST_READ_BYTES (R.remaining reader.old) (R.remaining reader.new) }
-    ensures refused { IfErr result (IsRefusal (R.remaining reader.old) (R.remaining reader.new)) }
+    ensures refused { IfErr result (λ e. IsRefusal P.naming (R.remaining reader.old) (R.remaining reader.new) e) }
     ensures unwritten { IfErr result (λ e. (IsOfWriting e → ⊥) → Keeps (W.contents writer.old) (W.contents writer.new)) }
-    ensures begun { IfErr result (λ e. IsOfWriting e → BeginsScript (R.remaining reader.old) (R.remaining reader.new) (W.contents writer.old) (W.contents writer.new)) }
+    ensures begun { IfErr result (λ e. IsOfWriting e → BeginsScript P.naming P.chosen asked (R.remaining reader.old) (R.remaining reader.new) (W.contents writer.old) (W.contents writer.new)) }
 {
     let input = input_of(alloc, reader)?;
     let simulated = simulated(alloc, asked, &input)?;

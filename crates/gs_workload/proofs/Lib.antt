@@ -2,4 +2,5 @@ pub mod Lists
 pub mod Masks
 pub mod Pairs
 pub mod Words
+mod Slices
 mod Worked

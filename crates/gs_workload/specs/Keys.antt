@@ -1,13 +1,12 @@
 -- The keys of a workload, as they are written.
 use Rattle.std.specs.Prelude.{ℕ, List, codes}
 use Rattle.gs_workload.specs.declared.key.Key.{Key}
-use Rattle.gs_workload.specs.declared.key.Key.TheVariants.{Cpus, Ring, Policy, Slice, Ticks, Agent, Groups, Takings, Changes, Every, Late, Together, Name, Count, Class, Mask, Run, Sleep, Bursts, Leaving, Created, Cpu, From, Until, At, What}
+use Rattle.gs_workload.specs.declared.key.Key.TheVariants.{Cpus, Ring, Policy, Ticks, Agent, Groups, Takings, Changes, Every, Late, Together, Name, Count, Class, Mask, Run, Sleep, Bursts, Leaving, Created, Cpu, From, Until, At, What}
 
 abbrev pub key_word : Key → List ℕ
 key_word Cpus = codes "cpus"
 key_word Ring = codes "ring"
 key_word Policy = codes "policy"
-key_word Slice = codes "slice"
 key_word Ticks = codes "ticks"
 key_word Agent = codes "agent"
 key_word Groups = codes "groups"

@@ -3,9 +3,9 @@ use Rattle.std.specs.Prelude.{ℕ, ◌+◌, ◌%◌, ◌==◌, ◌≡◌, nat_lt
 use Rattle.std.specs.List.{sum_by}
 use Rattle.toml.specs.Data.{Data, Members, as_table}
 use Rattle.gs_layout.specs.declared.wire.TheConstants.{ALIGNMENT}
-use Rattle.gs_policy.specs.declared.any.AnyPolicy.{AnyPolicy}
-use Rattle.gs_policy.specs.declared.any.AnyPolicy.TheVariants.{FirstCome, TwoClass}
+use Rattle.gs_kernel.specs.declared.settings.TheConstants.{LEAST_CPUS}
 use Rattle.gs_ring.specs.declared.block.TheConstants.{LEAST_CAPACITY, MOST_CAPACITY}
+use Rattle.gs_script.specs.Naming.{Naming}
 use Rattle.gs_status.specs.declared.mask.TheConstants.{MOST_CPUS}
 use Rattle.gs_workload.specs.declared.fault.Failure.{Failure}
 use Rattle.gs_workload.specs.declared.fault.Failure.TheVariants as failure
@@ -19,41 +19,41 @@ use Rattle.gs_workload.specs.declared.key.Key.{Key}
 use Rattle.gs_workload.specs.declared.key.Key.TheVariants as key
 use Rattle.gs_workload.specs.declared.machine.Head.{Head}
 use Rattle.gs_workload.specs.declared.machine.TheConstants.{RING, TICKS}
-use Rattle.gs_workload.specs.declared.values.PolicyName.{PolicyName}
-use Rattle.gs_workload.specs.declared.values.PolicyName.TheVariants as policy
 use Rattle.gs_workload.specs.declared.workload.AgentPlan.{AgentPlan}
 use Rattle.gs_workload.specs.declared.workload.Group.{Group}
 use Rattle.gs_workload.specs.declared.workload.Taking.{Taking}
 use Rattle.gs_workload.specs.declared.workload.Change.{Change}
 use Rattle.gs_workload.specs.declared.workload.Workload.{Workload}
-use Rattle.gs_workload.specs.declared.workload.TheConstants.{LEAST_CPUS, MOST_SLICE, MOST_THREADS, MOST_TIME}
-use Rattle.gs_workload.specs.Values.{◌>>=◌, flag_said, number_said, policy_name_said, span_said}
-use Rattle.gs_workload.specs.Fields.{value_at, keyed, needed, or_else, if_said, left_out, span_of}
+use Rattle.gs_workload.specs.declared.workload.TheConstants.{MOST_THREADS, MOST_TIME}
+use Rattle.gs_workload.specs.Values.{◌>>=◌, flag_said, number_said, policy_value_said, span_said}
+use Rattle.gs_workload.specs.Fields.{value_at, keyed, needed, or_else, if_said, span_of}
 use Rattle.gs_workload.specs.Rows.{change_said, change_tick, group_said, taking_said}
 use Rattle.gs_workload.specs.Entries.{list_said}
 
 abbrev pub wrong : Part → Key → Reason → Wrong
 wrong part key reason = record { part = part; key = key; reason = reason }
 
--- the policy that is named: only that of two classes has a slice
-abbrev pub policy_of : Part → Members → Option PolicyName → Result (Option AnyPolicy) Wrong
-policy_of part t (Some policy.Two) = keyed part key.Slice (needed (number_said 1 MOST_SLICE) (value_at key.Slice t)) >>= (λ slice. Ok (Some (TwoClass (record { slice = slice }))))
-policy_of part t (Some policy.First) = keyed part key.Slice (left_out (value_at key.Slice t)) >>= (λ none. Ok (Some (FirstCome (record {}))))
-policy_of part t None = keyed part key.Slice (left_out (value_at key.Slice t)) >>= (λ none. Ok None)
+-- the policy that is named, if one is
+abbrev pub policy_at : {A : Type 0} → Naming A → Part → Members → Result (Option A) Wrong
+policy_at naming part t = keyed part key.Policy (if_said (policy_value_said naming) (value_at key.Policy t))
 
-abbrev pub policy_said : Part → Members → Result (Option AnyPolicy) Wrong
-policy_said part t = keyed part key.Policy (if_said policy_name_said (value_at key.Policy t)) >>= policy_of part t
+-- how many CPUs there are
+abbrev pub cpus_said : Part → Members → Result ℕ Wrong
+cpus_said part t = keyed part key.Cpus (needed (number_said LEAST_CPUS MOST_CPUS) (value_at key.Cpus t))
 
 -- a capacity that a ring may have
 abbrev pub ring_checked : Part → ℕ → Result ℕ Wrong
 ring_checked part ring = if ring % ALIGNMENT == 0 then Ok ring else Err (wrong part key.Ring (NoMultiple ALIGNMENT))
 
+abbrev pub ring_said : Part → Members → Result ℕ Wrong
+ring_said part t = keyed part key.Ring (or_else RING (number_said LEAST_CAPACITY MOST_CAPACITY) (value_at key.Ring t)) >>= ring_checked part
+
 -- what is said of the machine
-abbrev pub head_said : Part → Members → Result Head Wrong
-head_said part t =
-    keyed part key.Cpus (needed (number_said LEAST_CPUS MOST_CPUS) (value_at key.Cpus t)) >>= (λ cpus.
-    keyed part key.Ring (or_else RING (number_said LEAST_CAPACITY MOST_CAPACITY) (value_at key.Ring t)) >>= ring_checked part >>= (λ ring.
-    policy_said part t >>= (λ policy.
+abbrev pub head_said : {A : Type 0} → Naming A → Part → Members → Result (Head A) Wrong
+head_said naming part t =
+    cpus_said part t >>= (λ cpus.
+    ring_said part t >>= (λ ring.
+    policy_at naming part t >>= (λ policy.
     keyed part key.Ticks (or_else TICKS (number_said 1 MOST_TIME) (value_at key.Ticks t)) >>= (λ ticks.
     Ok (record { cpus = cpus; ring = ring; policy = policy; ticks = ticks })))))
 
@@ -103,17 +103,17 @@ abbrev pub changes_checked : List Change → Result (Unit {0}) Wrong
 changes_checked changes = in_order (first_early changes)
 
 -- what a workload says
-pub record Content : Type 0 where
-  pub head : Head
+pub record Content (A : Type 0) : Type 0 where
+  pub head : Head A
   pub agent : AgentPlan
   pub groups : List Group
   pub takings : List Taking
   pub changes : List Change
 
 -- what a document says: the first that is wrong, in this order, is the fault
-abbrev pub workload_said : Members → Result Content Wrong
-workload_said t =
-    head_said part_of.Whole t >>= (λ head.
+abbrev pub workload_said : {A : Type 0} → Naming A → Members → Result (Content A) Wrong
+workload_said naming t =
+    head_said naming part_of.Whole t >>= (λ head.
     agent_said part_of.Whole t >>= (λ agent.
     list_said group_said part_of.Group part_of.Whole key.Groups head.cpus (value_at key.Groups t) >>= (λ groups.
     groups_checked part_of.Whole groups >>= (λ some.
@@ -122,7 +122,7 @@ workload_said t =
     changes_checked changes >>= (λ order.
     Ok (record { head = head; agent = agent; groups = groups; takings = takings; changes = changes }))))))))
 
-abbrev pub content_of : Workload → Content
+abbrev pub content_of : {A : Type 0} → Workload A → Content A
 content_of w =
     record {
       head = record { cpus = w.cpus; ring = w.ring; policy = w.policy; ticks = w.ticks };
@@ -132,8 +132,14 @@ content_of w =
       changes = w.changes.items;
     }
 
--- a workload was read so, unless memory ran out
-abbrev pub Gives : Result Workload Failure → Result Content Wrong → Type 0
+-- a value was read so, unless memory ran out
+abbrev pub Reads : {A : Type 0} → Result A Failure → Result A Wrong → Type 0
+Reads (Ok x) said = said ≡ Ok x
+Reads (Err (failure.Wrong wrong)) said = said ≡ Err wrong
+Reads (Err failure.OutOfMemory) said = Unit {0}
+
+-- the same of a workload
+abbrev pub Gives : {A : Type 0} → Result (Workload A) Failure → Result (Content A) Wrong → Type 0
 Gives (Ok w) said = said ≡ Ok (content_of w)
 Gives (Err (failure.Wrong wrong)) said = said ≡ Err wrong
 Gives (Err failure.OutOfMemory) said = Unit {0}

@@ -16,7 +16,7 @@ is_among word words = list_any (λ w. bytes_eq w word) words
 
 -- the keys that a part may have
 abbrev pub known_words : Part → List (List ℕ)
-known_words Whole = codes "cpus" ∷ codes "ring" ∷ codes "policy" ∷ codes "slice" ∷ codes "ticks" ∷ codes "agent" ∷ codes "groups" ∷ codes "takings" ∷ codes "changes" ∷ []
+known_words Whole = codes "cpus" ∷ codes "ring" ∷ codes "policy" ∷ codes "ticks" ∷ codes "agent" ∷ codes "groups" ∷ codes "takings" ∷ codes "changes" ∷ []
 known_words Agent = codes "every" ∷ codes "late" ∷ codes "together" ∷ []
 known_words (Group place) = codes "name" ∷ codes "count" ∷ codes "class" ∷ codes "mask" ∷ codes "run" ∷ codes "sleep" ∷ codes "bursts" ∷ codes "leaving" ∷ codes "created" ∷ []
 known_words (Taking place) = codes "cpu" ∷ codes "from" ∷ codes "until" ∷ []

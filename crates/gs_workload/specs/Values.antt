@@ -5,6 +5,9 @@ use Rattle.gs_layout.specs.Name.{is_name}
 use Rattle.gs_layout.specs.declared.name.Name.{Name as TheName}
 use Rattle.gs_layout.specs.declared.facts.Class.{Class}
 use Rattle.gs_layout.specs.declared.facts.Class.TheVariants.{Zero, One}
+use Rattle.gs_script.specs.Header.{policy_said}
+use Rattle.gs_script.specs.Naming.{Naming}
+use Rattle.gs_script.specs.declared.fault.Reason.{Reason as ScriptReason}
 use Rattle.gs_status.specs.declared.mask.Mask.{Mask}
 use Rattle.gs_workload.specs.declared.fault.Kind.TheVariants as kind
 use Rattle.gs_workload.specs.declared.fault.Reason.{Reason}
@@ -12,8 +15,6 @@ use Rattle.gs_workload.specs.declared.fault.Reason.TheVariants.{NotOfKind, OutOf
 use Rattle.gs_workload.specs.declared.workload.Span.{Span}
 use Rattle.gs_workload.specs.declared.workload.Leaving.{Leaving}
 use Rattle.gs_workload.specs.declared.workload.Leaving.TheVariants.{Block, Yield, Die}
-use Rattle.gs_workload.specs.declared.values.PolicyName.{PolicyName}
-use Rattle.gs_workload.specs.declared.values.PolicyName.TheVariants as policy
 use Rattle.gs_workload.specs.declared.values.ChangeName.{ChangeName}
 use Rattle.gs_workload.specs.declared.values.ChangeName.TheVariants as change
 
@@ -93,16 +94,18 @@ leaving_of text =
 abbrev pub leaving_said : Data → Result Leaving Reason
 leaving_said = text_said leaving_of
 
--- which policy, and which change of the agent, is named
-abbrev pub policy_name_of : List ℕ → Result PolicyName Reason
-policy_name_of text =
-    if bytes_eq text (codes "first") then Ok policy.First
-    else if bytes_eq text (codes "two") then Ok policy.Two
-    else Err OtherWord
+-- the policy that words name
+abbrev pub if_named : {A : Type 0} → Result A ScriptReason → Result A Reason
+if_named (Ok p) = Ok p
+if_named (Err reason) = Err OtherWord
 
-abbrev pub policy_name_said : Data → Result PolicyName Reason
-policy_name_said = text_said policy_name_of
+abbrev pub policy_of_text : {A : Type 0} → Naming A → List ℕ → Result A Reason
+policy_of_text naming text = if_named (policy_said naming text)
 
+abbrev pub policy_value_said : {A : Type 0} → Naming A → Data → Result A Reason
+policy_value_said naming = text_said (policy_of_text naming)
+
+-- which change of the agent is named
 abbrev pub change_name_of : List ℕ → Result ChangeName Reason
 change_name_of text =
     if bytes_eq text (codes "hand-off") then Ok change.HandOff

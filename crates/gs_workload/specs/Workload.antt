@@ -1,9 +1,10 @@
 -- What is so of each workload that was read.
-use Rattle.std.specs.Prelude.{◌≡◌, ◌≤◌, ◌<◌, ℕ, true, false, length, Option, Some, None, IfSome}
+use Rattle.std.specs.Prelude.{◌≡◌, ◌≤◌, ◌<◌, ℕ, List, true, false, length, Option, Some, None, Ok, IfSome}
 use Rattle.std.specs.List.{All}
-use Rattle.gs_policy.specs.declared.any.AnyPolicy.{AnyPolicy}
-use Rattle.gs_policy.specs.declared.any.AnyPolicy.TheVariants.{TwoClass}
+use Rattle.gs_kernel.specs.declared.settings.TheConstants.{LEAST_CPUS}
 use Rattle.gs_ring.specs.Places.{is_capacity}
+use Rattle.gs_script.specs.Header.{policy_said}
+use Rattle.gs_script.specs.Naming.{Naming}
 use Rattle.gs_status.specs.declared.mask.TheConstants.{MOST_CPUS}
 use Rattle.gs_workload.specs.declared.machine.Head.{Head}
 use Rattle.gs_workload.specs.declared.workload.AgentPlan.{AgentPlan}
@@ -15,7 +16,7 @@ use Rattle.gs_workload.specs.declared.workload.Group.{Group}
 use Rattle.gs_workload.specs.declared.workload.Taking.{Taking}
 use Rattle.gs_workload.specs.declared.workload.Change.{Change}
 use Rattle.gs_workload.specs.declared.workload.Change.TheVariants.{HandOff, Crash, Replace}
-use Rattle.gs_workload.specs.declared.workload.TheConstants.{LEAST_CPUS, MOST_SLICE, MOST_THREADS, MOST_TIME}
+use Rattle.gs_workload.specs.declared.workload.TheConstants.{MOST_THREADS, MOST_TIME}
 use Rattle.gs_workload.specs.Values.{is_thread_name}
 
 -- numbers of ticks, none below the least
@@ -46,16 +47,21 @@ IsChange cpus (HandOff at cpu) = (at ≤ MOST_TIME) × (cpu < cpus)
 IsChange cpus (Crash at) = at ≤ MOST_TIME
 IsChange cpus (Replace at cpu) = (at ≤ MOST_TIME) × (cpu < cpus)
 
--- only the policy of two classes has a number
-abbrev pub IsPolicy : Option AnyPolicy → Type 0
-IsPolicy (Some (TwoClass two)) = (1 ≤ two.slice) × (two.slice ≤ MOST_SLICE)
-IsPolicy _ = Unit {0}
+-- a text names the policy
+pub record IsNamed {A : Type 0} (naming : Naming A) (p : A) : Type 0 where
+  pub text : List ℕ
+  pub names : policy_said naming text ≡ Ok p
 
-pub record IsHead (h : Head) : Type 0 where
+-- the policy is one that a text names, if there is one
+abbrev pub IsPolicy : {A : Type 0} → Naming A → Option A → Type 0
+IsPolicy naming None = Unit {0}
+IsPolicy naming (Some p) = IsNamed naming p
+
+pub record IsHead {A : Type 0} (naming : Naming A) (h : Head A) : Type 0 where
   pub some_cpus : LEAST_CPUS ≤ h.cpus
   pub few_cpus : h.cpus ≤ MOST_CPUS
   pub ring : is_capacity h.ring ≡ true
-  pub policy : IsPolicy h.policy
+  pub policy : IsPolicy naming h.policy
   pub some_ticks : 1 ≤ h.ticks
   pub few_ticks : h.ticks ≤ MOST_TIME
 
@@ -65,11 +71,11 @@ pub record IsAgent (a : AgentPlan) : Type 0 where
   pub late : IsSpan 0 a.late
 
 -- each number of a workload is in its range
-pub record IsWorkload (w : Workload) : Type 0 where
+pub record IsWorkload {A : Type 0} (naming : Naming A) (w : Workload A) : Type 0 where
   pub some_cpus : LEAST_CPUS ≤ w.cpus
   pub few_cpus : w.cpus ≤ MOST_CPUS
   pub ring : is_capacity w.ring ≡ true
-  pub policy : IsPolicy w.policy
+  pub policy : IsPolicy naming w.policy
   pub some_ticks : 1 ≤ w.ticks
   pub few_ticks : w.ticks ≤ MOST_TIME
   pub agent : IsAgent w.agent

@@ -1,6 +1,7 @@
 //! Why a text is no workload.
 
 use crate::key::Key;
+use gs_script::{MOST_BYTES, PolicyForms, PolicyWord};
 use std::alloc::{AllocError, AllocFailed};
 use std::fmt;
 use toml::de::Error;
@@ -35,7 +36,7 @@ pub enum Reason {
     NoCpu,
     /// The text is no name of a thread: 1 to 16 bytes from 33 to 126, and not `-` alone.
     NoName,
-    /// The text is none of the words that may stand there.
+    /// The text is none of those that may stand there. A policy is named by words of [`WorkloadFault::Wrong`]'s `policies`.
     OtherWord,
     /// The key means something only beside another value, and has to be left out.
     Unused,
@@ -100,7 +101,7 @@ impl From<Wrong> for Failure {
 /// Why a text is no workload. Lines are counted from 1; it is line 0 if the key was not found in the text.
 #[derive(Debug, Drop)]
 pub enum WorkloadFault {
-    /// The text has over 1,048,576 bytes.
+    /// The text has more bytes than a script may have, [`gs_script::MOST_BYTES`].
     TooLong,
     /// The text is not one of TOML.
     NotToml {
@@ -113,10 +114,11 @@ pub enum WorkloadFault {
         key: String,
         meant: Option<&'static str>,
     },
-    /// The value of a key is wrong, or the key is missing.
+    /// The value of a key is wrong, or the key is missing. `policies` are the forms of the words that name a policy.
     Wrong {
         line: usize,
         wrong: Wrong,
+        policies: &'static [&'static [PolicyWord]],
     },
     /// Memory ran out, which says nothing of the text.
     OutOfMemory,
@@ -152,7 +154,6 @@ impl Kind {
 fn words(key: Key) -> &'static str {
     match key {
         Key::Leaving => "`block`, `yield` or `die`",
-        Key::Policy => "`first` or `two`",
         Key::What => "`hand-off`, `crash` or `replace`",
         _ => "another word",
     }
@@ -177,13 +178,28 @@ fn write_kind<W: fmt::Write>(f: &mut fmt::Formatter<W>, key: Key, kind: Kind) ->
     }
 }
 
+/// Writes what the text of a key has to be.
+fn write_words<W: fmt::Write>(
+    f: &mut fmt::Formatter<W>,
+    key: Key,
+    policies: &[&[PolicyWord]],
+) -> fmt::Result {
+    f.write_str("has to be ")?;
+    match key {
+        Key::Policy => write!(f, "{}", PolicyForms { forms: policies }),
+        _ => f.write_str(words(key)),
+    }
+}
+
 /// Writes what is wrong with the value of a key.
-fn write_reason<W: fmt::Write>(f: &mut fmt::Formatter<W>, key: Key, reason: Reason) -> fmt::Result {
+fn write_reason<W: fmt::Write>(
+    f: &mut fmt::Formatter<W>,
+    key: Key,
+    reason: Reason,
+    policies: &[&[PolicyWord]],
+) -> fmt::Result {
     match reason {
-        Reason::Missing => match key {
-            Key::Slice => f.write_str("is missing, which the policy `two` needs"),
-            _ => f.write_str("is missing"),
-        },
+        Reason::Missing => f.write_str("is missing"),
         Reason::NotOfKind { kind } => write_kind(f, key, kind),
         Reason::OutOfRange { least, most } => match key {
             Key::Mask => write!(f, "has to have CPUs from {least} to {most} alone"),
@@ -195,11 +211,8 @@ fn write_reason<W: fmt::Write>(f: &mut fmt::Formatter<W>, key: Key, reason: Reas
         Reason::NoName => f.write_str(
             "has to be a name of 1 to 16 letters, digits and signs without a space, and not `-`",
         ),
-        Reason::OtherWord => write!(f, "has to be {}", words(key)),
-        Reason::Unused => match key {
-            Key::Slice => f.write_str("has to be left out unless `policy` is `two`"),
-            _ => f.write_str("has to be left out where `what` is `crash`"),
-        },
+        Reason::OtherWord => write_words(f, key, policies),
+        Reason::Unused => f.write_str("has to be left out where `what` is `crash`"),
         Reason::NoGroup => f.write_str("has to have a group of threads, behind a line [[groups]]"),
         Reason::TooManyThreads => {
             f.write_str("has to have fewer threads: at most 65536 in all groups together")
@@ -230,19 +243,22 @@ fn write_line<W: fmt::Write>(f: &mut fmt::Formatter<W>, line: usize) -> fmt::Res
     }
 }
 
-impl fmt::Display for Wrong {
-    fn fmt<W: fmt::Write>(&self, f: &mut fmt::Formatter<W>) -> fmt::Result {
-        write!(f, "`{}`", self.key.word())?;
-        write_part(f, self.part)?;
-        f.write_str(" ")?;
-        write_reason(f, self.key, self.reason)
-    }
+/// Writes which key is wrong, and why.
+fn write_wrong<W: fmt::Write>(
+    f: &mut fmt::Formatter<W>,
+    wrong: Wrong,
+    policies: &[&[PolicyWord]],
+) -> fmt::Result {
+    write!(f, "`{}`", wrong.key.word())?;
+    write_part(f, wrong.part)?;
+    f.write_str(" ")?;
+    write_reason(f, wrong.key, wrong.reason, policies)
 }
 
 impl fmt::Display for WorkloadFault {
     fn fmt<W: fmt::Write>(&self, f: &mut fmt::Formatter<W>) -> fmt::Result {
         match self {
-            WorkloadFault::TooLong => f.write_str("a workload has at most 1048576 bytes"),
+            WorkloadFault::TooLong => write!(f, "a workload has at most {MOST_BYTES} bytes"),
             WorkloadFault::NotToml { line, error } => {
                 write_line(f, *line)?;
                 write!(f, "this is not TOML: {}", error.message())
@@ -255,9 +271,13 @@ impl fmt::Display for WorkloadFault {
                     None => Ok(()),
                 }
             }
-            WorkloadFault::Wrong { line, wrong } => {
+            WorkloadFault::Wrong {
+                line,
+                wrong,
+                policies,
+            } => {
                 write_line(f, *line)?;
-                write!(f, "{wrong}")
+                write_wrong(f, *wrong, policies)
             }
             WorkloadFault::OutOfMemory => f.write_str("out of memory"),
         }

@@ -2,12 +2,12 @@
 ghost use Rattle.std.specs.Prelude.{◌≡◌, ◌≤◌, ◌<◌, ◌-◌, IfOk, IfSome, option_map, true, false};
 ghost use Rattle.toml.specs.View.{view, table_view};
 ghost use Rattle.gs_status.specs.Masks.{has_none, has_past};
-ghost use Rattle.gs_workload.specs.Values.{number_said, span_said, mask_said, name_said, class_said, flag_said, leaving_said, policy_name_said, change_name_said, is_thread_name};
+ghost use Rattle.gs_workload.specs.Values.{number_said, span_said, mask_said, name_said, class_said, flag_said, leaving_said, change_name_said, is_thread_name};
 ghost use Rattle.gs_workload.specs.Fields.{value_at, keyed, needed, or_else, if_said, left_out, span_of, all_cpus};
 
 use crate::fault::{Part, Reason, Wrong};
 use crate::key::Key;
-use crate::values::{self, ChangeName, PolicyName};
+use crate::values::{self, ChangeName};
 use crate::workload::{Leaving, MOST_TIME, Span};
 use gs_layout::{Class, Name};
 use gs_status::Mask;
@@ -185,19 +185,6 @@ impl<'a> Fields<'a> {
         match self.find(Key::Leaving) {
             Some(value) => at(self.part, Key::Leaving, values::leaving(value)),
             None => Ok(Leaving::Block),
-        }
-    }
-
-    /// Which policy is named, if one is.
-    pub(crate) fn policy_name(&self) -> Result<Option<PolicyName>, Wrong>
-        ensures { result ≡ keyed self.now.part Key.Policy (if_said policy_name_said (value_at Key.Policy (table_view self.now.table.now))) }
-    {
-        match self.find(Key::Policy) {
-            Some(value) => {
-                let name = at(self.part, Key::Policy, values::policy_name(value))?;
-                Ok(Some(name))
-            }
-            None => Ok(None),
         }
     }
 

@@ -8,7 +8,6 @@ pub enum Key {
     Cpus,
     Ring,
     Policy,
-    Slice,
     Ticks,
     Agent,
     Groups,
@@ -42,7 +41,6 @@ impl Key {
             Key::Cpus => "cpus",
             Key::Ring => "ring",
             Key::Policy => "policy",
-            Key::Slice => "slice",
             Key::Ticks => "ticks",
             Key::Agent => "agent",
             Key::Groups => "groups",
@@ -70,8 +68,8 @@ impl Key {
 }
 
 /// The keys of the whole workload.
-pub(crate) const OF_WHOLE: [&str; 9] = [
-    "cpus", "ring", "policy", "slice", "ticks", "agent", "groups", "takings", "changes",
+pub(crate) const OF_WHOLE: [&str; 8] = [
+    "cpus", "ring", "policy", "ticks", "agent", "groups", "takings", "changes",
 ];
 
 /// Those of the agent.

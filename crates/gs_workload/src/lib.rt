@@ -15,8 +15,7 @@ mod workload;
 
 pub use fault::{Kind, Part, Reason, WorkloadFault, Wrong};
 pub use key::Key;
-pub use read::{MOST_TEXT, read_workload};
+pub use read::read_workload;
 pub use workload::{
-    AgentPlan, Change, Group, LEAST_CPUS, Leaving, MOST_SLICE, MOST_THREADS, MOST_TIME, Span,
-    Taking, Workload,
+    AgentPlan, Change, Group, Leaving, MOST_THREADS, MOST_TIME, Span, Taking, Workload,
 };

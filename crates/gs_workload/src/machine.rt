@@ -1,20 +1,21 @@
 //! A whole workload, of a document that has no unknown key.
-ghost use Rattle.std.specs.Prelude.{◌≡◌, ◌≤◌, IfOk, OnOk, None, length};
+ghost use Rattle.std.specs.Prelude.{◌≡◌, ◌≤◌, IfOk, OnOk, None, length, true};
 ghost use Rattle.toml.specs.View.{table_view};
-ghost use Rattle.gs_workload.specs.Machine.{agent_plan_said, agent_said, changes_checked, first_early, groups_checked, head_said, policy_said, threads, workload_said, Gives};
-ghost use Rattle.gs_workload.specs.Workload.{IsAgent, IsHead, IsPolicy, IsWorkload};
+ghost use Rattle.gs_ring.specs.Places.{is_capacity};
+ghost use Rattle.gs_workload.specs.Fields.{keyed};
+ghost use Rattle.gs_workload.specs.Values.{policy_of_text};
+ghost use Rattle.gs_workload.specs.Machine.{agent_plan_said, agent_said, changes_checked, cpus_said, first_early, groups_checked, head_said, policy_at, ring_said, threads, workload_said, Gives, Reads};
+ghost use Rattle.gs_workload.specs.Workload.{IsAgent, IsHead, IsNamed, IsPolicy, IsWorkload};
 
 use crate::entries::rows;
 use crate::fault::{Failure, Kind, Part, Reason, Wrong};
 use crate::fields::Fields;
 use crate::key::Key;
-use crate::values::PolicyName;
-use crate::workload::{
-    AgentPlan, Change, Group, LEAST_CPUS, MOST_SLICE, MOST_THREADS, MOST_TIME, Span, Workload,
-};
+use crate::workload::{AgentPlan, Change, Group, MOST_THREADS, MOST_TIME, Span, Workload};
+use gs_kernel::LEAST_CPUS;
 use gs_layout::ALIGNMENT;
-use gs_policy::{AnyPolicy, FirstCome, TwoClass};
 use gs_ring::{LEAST_CAPACITY, MOST_CAPACITY};
+use gs_script::{LineError, NamedPolicy, read_policy};
 use gs_status::MOST_CPUS;
 use std::alloc::Global;
 use toml::Table;
@@ -27,51 +28,78 @@ const TICKS: u32 = 1_000;
 
 /// What a workload says of the machine.
 #[derive(Clone, Copy)]
-struct Head {
+struct Head<P> {
     cpus: u16,
     ring: u32,
-    policy: Option<AnyPolicy>,
+    policy: Option<P>,
     ticks: u32,
 }
 
-/// The policy that is named, if one is.
-fn policy(fields: &Fields<'_>) -> Result<Option<AnyPolicy>, Wrong>
-    ensures exact { result ≡ policy_said fields.now.part (table_view fields.now.table.now) }
-    ensures slice { IfOk result IsPolicy }
+/// The policy that the words of a text name.
+fn named<P: NamedPolicy>(alloc: Global, fields: &Fields<'_>, text: &str) -> Result<P, Failure>
+    ensures exact { Reads result (keyed fields.now.part Key.Policy (policy_of_text P.naming text.now)) }
+    ensures named { IfOk result (λ policy. IsNamed P.naming policy) }
 {
-    match fields.policy_name()? {
-        Some(PolicyName::Two) => {
-            let slice = fields.number(Key::Slice, 1, MOST_SLICE as u32)?;
-            let slice = slice as u16;
-            Ok(Some(AnyPolicy::TwoClass(TwoClass { slice })))
+    match read_policy(alloc, text.as_bytes()) {
+        Ok(policy) => Ok(policy),
+        Err(LineError::Fault(_)) => {
+            Err(Failure::Wrong(fields.wrong(Key::Policy, Reason::OtherWord)))
         }
-        Some(PolicyName::First) => {
-            fields.unused(Key::Slice)?;
-            Ok(Some(AnyPolicy::FirstCome(FirstCome)))
-        }
-        None => {
-            fields.unused(Key::Slice)?;
-            Ok(None)
-        }
+        Err(LineError::OutOfMemory) => Err(Failure::OutOfMemory),
     }
 }
 
-/// What is said of the machine.
-fn read_head(fields: &Fields<'_>) -> Result<Head, Wrong>
-    ensures exact { result ≡ head_said fields.now.part (table_view fields.now.table.now) }
-    ensures fits { IfOk result IsHead }
+/// The policy that is named, if one is.
+fn policy<P: NamedPolicy>(alloc: Global, fields: &Fields<'_>) -> Result<Option<P>, Failure>
+    ensures exact { Reads result (policy_at P.naming fields.now.part (table_view fields.now.table.now)) }
+    ensures named { IfOk result (λ policy. IsPolicy P.naming policy) }
+{
+    let Some(value) = fields.find(Key::Policy) else {
+        return Ok(None);
+    };
+    let Some(text) = value.as_str() else {
+        let reason = Reason::NotOfKind { kind: Kind::Text };
+        return Err(Failure::Wrong(fields.wrong(Key::Policy, reason)));
+    };
+    let policy = named::<P>(alloc, fields, text)?;
+    Ok(Some(policy))
+}
+
+/// The count of CPUs.
+fn cpu_count(fields: &Fields<'_>) -> Result<u16, Wrong>
+    ensures exact { result ≡ cpus_said fields.now.part (table_view fields.now.table.now) }
+    ensures some { IfOk result (λ n. LEAST_CPUS ≤ n) }
+    ensures few { IfOk result (λ n. n ≤ MOST_CPUS) }
 {
     let cpus = fields.number(Key::Cpus, LEAST_CPUS as u32, MOST_CPUS as u32)?;
+    Ok(cpus as u16)
+}
+
+/// The capacity of the ring.
+fn capacity(fields: &Fields<'_>) -> Result<u32, Wrong>
+    ensures exact { result ≡ ring_said fields.now.part (table_view fields.now.table.now) }
+    ensures fits { IfOk result (λ n. is_capacity n ≡ true) }
+{
     let least = LEAST_CAPACITY as u32;
     let ring = fields.number_or(Key::Ring, least, MOST_CAPACITY as u32, RING)?;
     if ring % ALIGNMENT as u32 != 0 {
         let of = ALIGNMENT as u32;
         return Err(fields.wrong(Key::Ring, Reason::NoMultiple { of }));
     }
-    let policy = policy(fields)?;
+    Ok(ring)
+}
+
+/// What is said of the machine.
+fn read_head<P: NamedPolicy>(alloc: Global, fields: &Fields<'_>) -> Result<Head<P>, Failure>
+    ensures exact { Reads result (head_said P.naming fields.now.part (table_view fields.now.table.now)) }
+    ensures fits { IfOk result (λ head. IsHead P.naming head) }
+{
+    let cpus = cpu_count(fields)?;
+    let ring = capacity(fields)?;
+    let policy = policy(alloc, fields)?;
     let ticks = fields.number_or(Key::Ticks, 1, MOST_TIME, TICKS)?;
     Ok(Head {
-        cpus: cpus as u16,
+        cpus,
         ring,
         policy,
         ticks,
@@ -171,9 +199,9 @@ fn check_changes(changes: &[Change]) -> Result<(), Wrong>
 }
 
 /// Reads the workload that a document says.
-pub(crate) fn workload(alloc: Global, table: &Table) -> Result<Workload, Failure>
-    ensures exact { Gives result (workload_said (table_view table.now)) }
-    ensures fits { IfOk result IsWorkload }
+pub(crate) fn workload<P: NamedPolicy>(alloc: Global, table: &Table) -> Result<Workload<P>, Failure>
+    ensures exact { Gives result (workload_said P.naming (table_view table.now)) }
+    ensures fits { IfOk result (λ workload. IsWorkload P.naming workload) }
 {
     let part = Part::Whole;
     let fields = &Fields { table, part };
@@ -182,7 +210,7 @@ pub(crate) fn workload(alloc: Global, table: &Table) -> Result<Workload, Failure
         ring,
         policy,
         ticks,
-    } = read_head(fields)?;
+    } = read_head(alloc, fields)?;
     let agent = agent(fields)?;
     let groups = rows(alloc, fields, Key::Groups, cpus)?;
     check_groups(fields, groups.as_slice())?;

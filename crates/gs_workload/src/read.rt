@@ -14,12 +14,10 @@ use crate::place::{line_at, line_of};
 use crate::unknown::{Unknown, find_unknown, known};
 use crate::workload::Workload;
 use gs_hints::nearest;
+use gs_script::{MOST_BYTES, NamedPolicy};
 use std::alloc::{AllocError, Global};
 use toml::Table;
 use toml::de::Error;
-
-/// The most bytes of the text of a workload.
-pub const MOST_TEXT: usize = 1_048_576;
 
 /// The longest key that one is looked for that was meant.
 const LONGEST: usize = 40;
@@ -35,12 +33,12 @@ fn meant(alloc: Global, unknown: Unknown<'_>) -> Result<Option<&'static str>, Al
 }
 
 /// The fault of a document with an unknown key.
-fn unknown_key(
+fn unknown_key<P: NamedPolicy>(
     alloc: Global,
     text: &[u8],
     unknown: Unknown<'_>,
 ) -> Result<WorkloadFault, AllocError>
-    ensures { (t : Members) → stray_said t ≡ Some (seen unknown.entry) → IfOk result (IsFaultOf t) }
+    ensures { (t : Members) → stray_said t ≡ Some (seen unknown.entry) → IfOk result (λ fault. IsFaultOf P.naming t fault) }
 {
     let line = line_of(text, unknown.part, unknown.key);
     let key = String::from_str(alloc, unknown.key)?;
@@ -49,47 +47,56 @@ fn unknown_key(
 }
 
 /// Tests that a document has no unknown key.
-fn check_keys(alloc: Global, text: &[u8], table: &Table) -> Result<(), WorkloadFault>
+fn check_keys<P: NamedPolicy>(
+    alloc: Global,
+    text: &[u8],
+    table: &Table,
+) -> Result<(), WorkloadFault>
     ensures known { OnOk result (stray_said (table_view table.now) ≡ None) }
-    ensures fault { IfErr result (IsFaultOf (table_view table.now)) }
+    ensures fault { IfErr result (λ fault. IsFaultOf P.naming (table_view table.now) fault) }
 {
     let Some(unknown) = find_unknown(table) else {
         return Ok(());
     };
-    let fault = unknown_key(alloc, text, unknown)?;
+    let fault = unknown_key::<P>(alloc, text, unknown)?;
     Err(fault)
 }
 
 /// The fault of a document whose values were not read.
-fn unread(text: &[u8], failure: Failure) -> WorkloadFault
-    ensures { (t : Members) → stray_said t ≡ None → IsFailureOf t failure → IsFaultOf t result }
+fn unread<P: NamedPolicy>(text: &[u8], failure: Failure) -> WorkloadFault
+    ensures { (t : Members) → stray_said t ≡ None → IsFailureOf P.naming t failure → IsFaultOf P.naming t result }
 {
     match failure {
         Failure::Wrong(wrong) => WorkloadFault::Wrong {
             line: line_of(text, wrong.part, wrong.key.word()),
             wrong,
+            policies: P::forms(),
         },
         Failure::OutOfMemory => WorkloadFault::OutOfMemory,
     }
 }
 
 /// Reads the workload that a document says.
-fn read_table(alloc: Global, text: &[u8], table: &Table) -> Result<Workload, WorkloadFault>
-    ensures said { IfOk result (IsSaid (table_view table.now)) }
-    ensures fits { IfOk result IsWorkload }
-    ensures fault { IfErr result (IsFaultOf (table_view table.now)) }
+fn read_table<P: NamedPolicy>(
+    alloc: Global,
+    text: &[u8],
+    table: &Table,
+) -> Result<Workload<P>, WorkloadFault>
+    ensures said { IfOk result (λ workload. IsSaid P.naming (table_view table.now) workload) }
+    ensures fits { IfOk result (λ workload. IsWorkload P.naming workload) }
+    ensures fault { IfErr result (λ fault. IsFaultOf P.naming (table_view table.now) fault) }
 {
-    check_keys(alloc, text, table)?;
+    check_keys::<P>(alloc, text, table)?;
     match workload(alloc, table) {
         Ok(workload) => Ok(workload),
-        Err(failure) => Err(unread(text, failure)),
+        Err(failure) => Err(unread::<P>(text, failure)),
     }
 }
 
 /// The fault of a text that is not one of TOML.
-fn no_toml(text: &[u8], error: Error) -> WorkloadFault
+fn no_toml<P: NamedPolicy>(text: &[u8], error: Error) -> WorkloadFault
     requires { ¬ IsMemory error → IsUtf8 text.now → parse_document text.now ≡ None }
-    ensures { IsTextFault text.now result }
+    ensures { IsTextFault P.naming text.now result }
 {
     match error.span() {
         Some(span) => WorkloadFault::NotToml {
@@ -104,19 +111,22 @@ fn no_toml(text: &[u8], error: Error) -> WorkloadFault
 ///
 /// # Errors
 ///
-/// The first of these. `TooLong` if there are over 1,048,576 bytes. `NotToml` if they are not TOML. `UnknownKey` if a
+/// The first of these. `TooLong` if there are more bytes than a script may have, [`MOST_BYTES`]. `NotToml` if they are not TOML. `UnknownKey` if a
 /// table has a key that is not one of its own. `Wrong` if a key is missing, or its value is of another kind or out of
 /// its range: the first such key, in the order of specs/Machine.antt and specs/Rows.antt. Or out of memory.
-pub fn read_workload(alloc: Global, text: &[u8]) -> Result<Workload, WorkloadFault>
-    ensures said { IfOk result (Says text.now) }
-    ensures fits { IfOk result IsWorkload }
-    ensures fault { IfErr result (IsTextFault text.now) }
+pub fn read_workload<P: NamedPolicy>(
+    alloc: Global,
+    text: &[u8],
+) -> Result<Workload<P>, WorkloadFault>
+    ensures said { IfOk result (λ workload. Says P.naming text.now workload) }
+    ensures fits { IfOk result (λ workload. IsWorkload P.naming workload) }
+    ensures fault { IfErr result (λ fault. IsTextFault P.naming text.now fault) }
 {
-    if text.len() > MOST_TEXT {
+    if text.len() > MOST_BYTES {
         return Err(WorkloadFault::TooLong);
     }
     match toml::table_from_slice(alloc, text) {
         Ok(table) => read_table(alloc, text, &table),
-        Err(error) => Err(no_toml(text, error)),
+        Err(error) => Err(no_toml::<P>(text, error)),
     }
 }

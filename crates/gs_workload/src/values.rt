@@ -2,20 +2,13 @@
 ghost use Rattle.std.specs.Prelude.{◌≡◌, ◌≤◌, ◌<◌, ◌-◌, IfOk, true, false};
 ghost use Rattle.toml.specs.View.{view};
 ghost use Rattle.gs_status.specs.Masks.{has_none, has_past};
-ghost use Rattle.gs_workload.specs.Values.{number_said, span_said, mask_said, name_said, class_said, flag_said, leaving_said, policy_name_said, change_name_said, is_thread_name};
+ghost use Rattle.gs_workload.specs.Values.{number_said, span_said, mask_said, name_said, class_said, flag_said, leaving_said, change_name_said, is_thread_name};
 
 use crate::fault::{Kind, Reason};
 use crate::workload::{Leaving, Span};
 use gs_layout::{Class, Name};
 use gs_status::Mask;
 use toml::Value;
-
-/// Which policy is named.
-#[derive(Clone, Copy)]
-pub(crate) enum PolicyName {
-    First,
-    Two,
-}
 
 /// Which change of the agent is named.
 #[derive(Clone, Copy)]
@@ -136,20 +129,6 @@ pub(crate) fn leaving(value: &Value) -> Result<Leaving, Reason>
         "block" => Ok(Leaving::Block),
         "yield" => Ok(Leaving::Yield),
         "die" => Ok(Leaving::Die),
-        _ => Err(Reason::OtherWord),
-    }
-}
-
-/// A word for a policy.
-pub(crate) fn policy_name(value: &Value) -> Result<PolicyName, Reason>
-    ensures { result ≡ policy_name_said (view value.now) }
-{
-    let Some(text) = value.as_str() else {
-        return Err(Reason::NotOfKind { kind: Kind::Text });
-    };
-    match text {
-        "first" => Ok(PolicyName::First),
-        "two" => Ok(PolicyName::Two),
         _ => Err(Reason::OtherWord),
     }
 }

@@ -1,18 +1,10 @@
 //! What a workload says.
 
-use gs_beliefs::MOST_TICKS;
 use gs_layout::{Class, MOST_TIDS, Name};
-use gs_policy::AnyPolicy;
 use gs_status::Mask;
-
-/// The fewest CPUs of a machine.
-pub const LEAST_CPUS: u16 = 2;
 
 /// The most ticks that a workload may say anywhere.
 pub const MOST_TIME: u32 = 1_000_000;
-
-/// The most ticks of a slice of the policy of two classes: no more are counted of a thread.
-pub const MOST_SLICE: u16 = MOST_TICKS;
 
 /// The most threads of all groups together: a kernel gives no more numbers.
 pub const MOST_THREADS: u32 = MOST_TIDS;
@@ -109,14 +101,13 @@ impl Change {
 
 /// What threads want of a machine, what its agent does, and what happens to both.
 #[derive(Drop)]
-pub struct Workload {
+pub struct Workload<P> {
     /// How many CPUs there are, 2 to 128. They are numbered from 0.
     pub cpus: u16,
     /// The capacity of the message ring in bytes: a multiple of 8 from 128 to 1,048,576. The default is 65,536.
     pub ring: u32,
-    /// The policy that the workload is meant for, or `None` if it names none. The slice of a `TwoClass` is from 1 to
-    /// 65,535.
-    pub policy: Option<AnyPolicy>,
+    /// The policy that the workload is meant for, or `None` if it names none.
+    pub policy: Option<P>,
     /// How many ticks it goes on, 1 to [`MOST_TIME`]. The default is 1,000.
     pub ticks: u32,
     pub agent: AgentPlan,

@@ -12,6 +12,8 @@ mod looking;
 #[cfg(test)]
 mod reading;
 #[cfg(test)]
+mod replacing;
+#[cfg(test)]
 mod saying;
 #[cfg(test)]
 mod showing;

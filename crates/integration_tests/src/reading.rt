@@ -66,7 +66,7 @@ const ROWS: [(&str, Config<AnyPolicy>, usize, bool); 6] = [
 
 /// What a script is read as.
 fn read(alloc: Global, text: &str) -> Option<(Config<AnyPolicy>, usize, bool)> {
-    let script = read_script(alloc, text.as_bytes()).ok()?;
+    let script = read_script::<AnyPolicy>(alloc, text.as_bytes()).ok()?;
     let decides = matches!(script.events.first(), Some(Event::Decide));
     Some((script.config, script.events.len(), decides))
 }
@@ -83,7 +83,7 @@ fn first_wrong(alloc: Global) -> Option<usize> {
 
 /// Why a script is not read.
 fn error_of(alloc: Global, text: &str) -> Option<ScriptError> {
-    read_script(alloc, text.as_bytes()).err()
+    read_script::<AnyPolicy>(alloc, text.as_bytes()).err()
 }
 
 #[test]

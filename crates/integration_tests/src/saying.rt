@@ -3,7 +3,6 @@
 use gs_core::Event;
 use gs_kernel::Landing;
 use gs_layout::{Outcome, Refusal};
-use gs_policy::AnyPolicy;
 use gs_sentences::{Landed, Numbers, Refused, Sentence, Stamped, put_landed, put_refused};
 
 /// Returns whether it is said of a slot that it is malformed, and of which CPU it is.
@@ -35,7 +34,7 @@ fn says_malformed() -> bool {
 
 /// Returns whether it is said of an event that memory ran out.
 fn says_out_of_memory() -> bool {
-    let event: Event<AnyPolicy> = Event::Drain { max: 1 };
+    let event: Event<()> = Event::Drain { max: 1 };
     let refused = Refused {
         refusal: Refusal::OutOfMemory,
         event: &event,

@@ -1,5 +1,6 @@
 //! Readers that fail or have no end, writers that fail or are full, and the longest script.
 
+use gs_policy::AnyPolicy;
 use gs_script::MOST_BYTES;
 use gs_trace::{Ended, TraceFault, run_report, run_script};
 use std::alloc::{AllocError, Global};
@@ -93,7 +94,7 @@ fn ends_at_read(
         fails_at,
     };
     let mut written = Vec::new(alloc);
-    let ended = run_script(alloc, &mut reader, &mut written);
+    let ended = run_script::<AnyPolicy, _, _>(alloc, &mut reader, &mut written);
     ended == wanted && written.as_slice() == lines.as_bytes()
 }
 
@@ -127,7 +128,7 @@ fn ends_at_write(
         room,
         fails,
     };
-    let ended = run_script(alloc, &mut reader, &mut writer);
+    let ended = run_script::<AnyPolicy, _, _>(alloc, &mut reader, &mut writer);
     let is_beginning = FIRST_PATH_LINES.as_bytes().starts_with(&writer.taken);
     ended == wanted && is_beginning && writer.taken.len() == room
 }
@@ -157,9 +158,9 @@ fn faulted(alloc: Global, len: usize, reports: bool) -> Result<String, AllocErro
     let mut reader = script.as_slice();
     let mut written = Vec::new(alloc);
     let ended = if reports {
-        run_report(alloc, &mut reader, &mut written, 5)
+        run_report::<AnyPolicy, _, _>(alloc, &mut reader, &mut written, 5)
     } else {
-        run_script(alloc, &mut reader, &mut written)
+        run_script::<AnyPolicy, _, _>(alloc, &mut reader, &mut written)
     };
     match ended {
         Ok(Ended::Faulted) => String::from_utf8_lossy(alloc, &written),
@@ -188,7 +189,7 @@ fn first_wrong_length(alloc: Global) -> Result<Option<usize>, AllocError> {
 fn gives_up(alloc: Global) -> bool {
     let mut reader = Endless { reads: 0 };
     let mut written = Vec::new(alloc);
-    let ended = run_script(alloc, &mut reader, &mut written);
+    let ended = run_script::<AnyPolicy, _, _>(alloc, &mut reader, &mut written);
     ended == Ok(Ended::Faulted)
         && written.as_slice() == TOO_LONG.as_bytes()
         && reader.reads <= 1_048_578

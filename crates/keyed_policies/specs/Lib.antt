@@ -1,2 +1,3 @@
 pub mod ClassShare
 pub mod HomeFirst
+pub mod Words

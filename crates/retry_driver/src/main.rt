@@ -55,7 +55,7 @@ impl Asked {
 }
 
 /// Reads a script.
-fn read(rt: &HostRuntime) -> Result<Script, Failure> {
+fn read(rt: &HostRuntime) -> Result<Script<AnyPolicy>, Failure> {
     let mut input = Vec::new(rt.alloc());
     if rt.stdin().read_to_end(&mut input).is_err() {
         return Err(Failure::Streams);
@@ -71,7 +71,7 @@ fn read(rt: &HostRuntime) -> Result<Script, Failure> {
 fn follow(
     rt: &HostRuntime,
     machine: &mut Machine<AnyPolicy>,
-    script: &Script,
+    script: &Script<AnyPolicy>,
     asked: Asked,
     lines: &mut Text,
 ) -> Result<(), Failure> {
@@ -85,7 +85,12 @@ fn follow(
 }
 
 /// Opens a machine for a script, does with it what is asked for, and adds the lines of the replies.
-fn run(rt: &HostRuntime, script: &Script, asked: Asked, lines: &mut Text) -> Result<(), Failure> {
+fn run(
+    rt: &HostRuntime,
+    script: &Script<AnyPolicy>,
+    asked: Asked,
+    lines: &mut Text,
+) -> Result<(), Failure> {
     // The numbers of a script are in their ranges.
     let Ok(mut machine) = Machine::new(rt.alloc(), script.config) else {
         return Err(Failure::OutOfMemory);

@@ -1,1 +1,2 @@
 pub mod RoundRobin
+pub mod Words

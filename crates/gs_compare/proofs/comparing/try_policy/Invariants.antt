@@ -5,4 +5,4 @@ use Rattle.gs_compare.specs.Compared.{IsRun}
 use Rattle.gs_compare.proofs.comparing.try_policy.Given as goal
 
 abbrev pub invariant-loop-seed : goal.invariant-loop-seed
-invariant-loop-seed g l = AllZip (λ (seed : ℕ) (m : Measured). IsRun m) (take l.seed-index l.seeds) l.runs.items
+invariant-loop-seed g l = AllZip (λ (seed : ℕ) (m : Measured). IsRun g.P.NamedPolicy.naming g.P.Policy.chosen l.workload l.policy m) (take l.seed-index l.seeds) l.runs.items

@@ -6,7 +6,7 @@ use Rattle.gs_compare.specs.Measures.{IsMeasured}
 use Rattle.gs_compare.proofs.measuring.measured_on.Goals as goal
 
 pub returns : goal.returns
-returns c =
+returns g c =
     let h = c.args.machine.now.history in
     let cpus = c.args.machine.now.settings.cpus in
     let landings = c.args.landings.now in

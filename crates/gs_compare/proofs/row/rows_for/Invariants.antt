@@ -4,4 +4,4 @@ use Rattle.gs_compare.specs.Rows.{IsRow}
 use Rattle.gs_compare.proofs.row.rows_for.Given as goal
 
 abbrev pub invariant-loop-key : goal.invariant-loop-key
-invariant-loop-key l = AllZip (IsRow l.columns) (take l.key-index l.keys) l.rows.items
+invariant-loop-key g l = AllZip (IsRow l.columns) (take l.key-index l.keys) l.rows.items

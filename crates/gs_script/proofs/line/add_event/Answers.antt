@@ -3,7 +3,7 @@ use Rattle.gs_script.specs.Plain.{lines_left}
 use Rattle.gs_script.proofs.line.add_event.Goals as goal
 
 pub returns-in-None-with_left-clause-ok : goal.returns-in-None-with_left-clause-ok
-returns-in-None-with_left-clause-ok c =
+returns-in-None-with_left-clause-ok g c =
     record {
       said = None;
       first = record { line = c.first_line.result.0.now; cut = c.first_line.ensures; is = c.in_ok-event_line-in-None.ensures ∙ ap Ok c.in-None-with_left.ensures };
@@ -11,7 +11,7 @@ returns-in-None-with_left-clause-ok c =
     }
 
 pub returns-in-Ok-clause-ok : goal.returns-in-Ok-clause-ok
-returns-in-Ok-clause-ok c =
+returns-in-Ok-clause-ok g c =
     let event = c.in-Some-with_left.event in
     let pushed : c.push.new.self.items ≡ c.add_plain.new.events.items ++ event ∷ [] = search rules in
     record {

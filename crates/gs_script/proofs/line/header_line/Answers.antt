@@ -6,7 +6,7 @@ use Rattle.gs_script.proofs.Said.{reason_said}
 use Rattle.gs_script.proofs.line.header_line.Goals as goal
 
 pub returns-clause-exact : goal.returns-clause-exact
-returns-clause-exact c =
+returns-clause-exact g c =
     let said : says Ok c.args.line.now ≡ Ok (Some (shown c.words_said.new.words.items)) = search rules in
-    let read : Err c.in-Err.reason ≡ header_of (shown c.words_said.new.words.items) = search rules in
-    reason_said header_of c.args.line.now (shown c.words_said.new.words.items) c.in-Err.reason said read
+    let read : Err c.in-Err.reason ≡ header_of g.P.NamedPolicy.naming (shown c.words_said.new.words.items) = search rules in
+    reason_said (header_of g.P.NamedPolicy.naming) c.args.line.now (shown c.words_said.new.words.items) c.in-Err.reason said read

@@ -7,58 +7,58 @@ use Rattle.gs_script.proofs.PlainLines.{alone_added, number_read, spoken_added, 
 use Rattle.gs_script.proofs.plain_line.add_plain.Goals as goal
 
 pub returns-in_ok-behind-in-97 : goal.returns-in_ok-behind-in-97
-returns-in_ok-behind-in-97 c = spoken_added (codes "affinity") (reads rows.affinity) _ _ _ _ _ refl refl refl (λ words. refl) c.in_ok-behind-in-97.ensures c.affinity.ensures
+returns-in_ok-behind-in-97 g c = spoken_added g.P.NamedPolicy.naming (codes "affinity") (reads rows.affinity) _ _ _ _ _ refl refl refl (λ words. refl) c.in_ok-behind-in-97.ensures c.affinity.ensures
 
 pub returns-in_ok-behind-in-98 : goal.returns-in_ok-behind-in-98
-returns-in_ok-behind-in-98 c = spoken_added (codes "block") (reads rows.block) _ _ _ _ _ refl refl refl (λ words. refl) c.in_ok-behind-in-98.ensures c.to_thread.ensures
+returns-in_ok-behind-in-98 g c = spoken_added g.P.NamedPolicy.naming (codes "block") (reads rows.block) _ _ _ _ _ refl refl refl (λ words. refl) c.in_ok-behind-in-98.ensures c.to_thread.ensures
 
 pub returns-in_ok-mask-in-Some : goal.returns-in_ok-mask-in-Some
-returns-in_ok-mask-in-Some c = spoken_read (codes "commit") (reads rows.commit) (events.Commit c.new-mask.result) c.args.text.now c.in-Some.rest.now c.in_ok-mask-in-Some.left _ _ refl refl refl (λ words. refl) c.in-Some.ensures (rw c.new-mask.ensures (number_read events.Commit 340282366920938463463374607431768211455 c.in_ok-mask-in-Some.mask _ _ c.in_ok-mask-in-Some.ensures.number)) c.push_reserved.ensures.items
+returns-in_ok-mask-in-Some g c = spoken_read g.P.NamedPolicy.naming (codes "commit") (reads rows.commit) (events.Commit c.new-mask.result) c.args.text.now c.in-Some.rest.now c.in_ok-mask-in-Some.left _ _ refl refl refl (λ words. refl) c.in-Some.ensures (rw c.new-mask.ensures (number_read events.Commit 340282366920938463463374607431768211455 c.in_ok-mask-in-Some.mask _ _ c.in_ok-mask-in-Some.ensures.number)) c.push_reserved.ensures.items
 
 pub returns-in-Some-create : goal.returns-in-Some-create
-returns-in-Some-create c = spoken_read (codes "create") (reads rows.create) c.in-Some-create.event c.args.text.now c.in_ok-behind-in-None.field-0.now c.in-Some-create.left _ _ refl refl refl (λ words. refl) c.in_ok-behind-in-None.ensures (c.in-Some-create.ensures) c.push_reserved-in-None.ensures.items
+returns-in-Some-create g c = spoken_read g.P.NamedPolicy.naming (codes "create") (reads rows.create) c.in-Some-create.event c.args.text.now c.in_ok-behind-in-None.field-0.now c.in-Some-create.left _ _ refl refl refl (λ words. refl) c.in_ok-behind-in-None.ensures (c.in-Some-create.ensures) c.push_reserved-in-None.ensures.items
 
 pub returns-in_ok-max-in-Some-behind : goal.returns-in_ok-max-in-Some-behind
-returns-in_ok-max-in-Some-behind c = spoken_read (codes "drain") (reads rows.drain) (events.Drain c.in_ok-max-in-Some-behind.max) c.args.text.now c.in-Some-behind.rest.now c.in_ok-max-in-Some-behind.left _ _ refl refl refl (λ words. refl) c.in-Some-behind.ensures (number_read events.Drain 4294967295 c.in_ok-max-in-Some-behind.max _ _ c.in_ok-max-in-Some-behind.ensures) c.push_reserved-in-Some-behind.ensures.items
+returns-in_ok-max-in-Some-behind g c = spoken_read g.P.NamedPolicy.naming (codes "drain") (reads rows.drain) (events.Drain c.in_ok-max-in-Some-behind.max) c.args.text.now c.in-Some-behind.rest.now c.in_ok-max-in-Some-behind.left _ _ refl refl refl (λ words. refl) c.in-Some-behind.ensures (number_read events.Drain 4294967295 c.in_ok-max-in-Some-behind.max _ _ c.in_ok-max-in-Some-behind.ensures) c.push_reserved-in-Some-behind.ensures.items
 
 pub returns-in_ok-left-in-Some-behind-2 : goal.returns-in_ok-left-in-Some-behind-2
-returns-in_ok-left-in-Some-behind-2 c = alone_added (codes "decide") events.Decide _ _ _ _ _ refl refl refl refl c.in-Some-behind-2.ensures c.in_ok-left-in-Some-behind-2.ensures c.push_reserved-in-Some-behind-2.ensures.items
+returns-in_ok-left-in-Some-behind-2 g c = alone_added g.P.NamedPolicy.naming (codes "decide") events.Decide _ _ _ _ _ refl refl refl refl c.in-Some-behind-2.ensures c.in_ok-left-in-Some-behind-2.ensures c.push_reserved-in-Some-behind-2.ensures.items
 
 pub returns-in_ok-behind-in-None-behind-2 : goal.returns-in_ok-behind-in-None-behind-2
-returns-in_ok-behind-in-None-behind-2 c = spoken_added (codes "die") (reads rows.die) _ _ _ _ _ refl refl refl (λ words. refl) c.in_ok-behind-in-None-behind-2.ensures c.to_thread-in-None-behind-2.ensures
+returns-in_ok-behind-in-None-behind-2 g c = spoken_added g.P.NamedPolicy.naming (codes "die") (reads rows.die) _ _ _ _ _ refl refl refl (λ words. refl) c.in_ok-behind-in-None-behind-2.ensures c.to_thread-in-None-behind-2.ensures
 
 pub returns-in_ok-cpu-in-103 : goal.returns-in_ok-cpu-in-103
-returns-in_ok-cpu-in-103 c = spoken_read (codes "give") (reads rows.give) c.of_kernel.result c.args.text.now c.in_ok-behind-in-103.field-0.now c.in_ok-cpu-in-103.left _ _ refl refl refl (λ words. refl) c.in_ok-behind-in-103.ensures (rw c.of_kernel.ensures (number_read (λ cpu. events.Kernel (commands.Give cpu)) 65535 c.in_ok-cpu-in-103.cpu _ _ c.in_ok-cpu-in-103.ensures)) c.push_reserved-in-103.ensures.items
+returns-in_ok-cpu-in-103 g c = spoken_read g.P.NamedPolicy.naming (codes "give") (reads rows.give) c.of_kernel.result c.args.text.now c.in_ok-behind-in-103.field-0.now c.in_ok-cpu-in-103.left _ _ refl refl refl (λ words. refl) c.in_ok-behind-in-103.ensures (rw c.of_kernel.ensures (number_read (λ cpu. events.Kernel (commands.Give cpu)) 65535 c.in_ok-cpu-in-103.cpu _ _ c.in_ok-cpu-in-103.ensures)) c.push_reserved-in-103.ensures.items
 
 pub returns-in_ok-cpu-in-104 : goal.returns-in_ok-cpu-in-104
-returns-in_ok-cpu-in-104 c = spoken_read (codes "handoff") (reads rows.handoff) c.of_kernel-in-104.result c.args.text.now c.in_ok-behind-in-104.field-0.now c.in_ok-cpu-in-104.left _ _ refl refl refl (λ words. refl) c.in_ok-behind-in-104.ensures (rw c.of_kernel-in-104.ensures (number_read (λ cpu. events.Kernel (commands.HandOff cpu)) 65535 c.in_ok-cpu-in-104.cpu _ _ c.in_ok-cpu-in-104.ensures)) c.push_reserved-in-104.ensures.items
+returns-in_ok-cpu-in-104 g c = spoken_read g.P.NamedPolicy.naming (codes "handoff") (reads rows.handoff) c.of_kernel-in-104.result c.args.text.now c.in_ok-behind-in-104.field-0.now c.in_ok-cpu-in-104.left _ _ refl refl refl (λ words. refl) c.in_ok-behind-in-104.ensures (rw c.of_kernel-in-104.ensures (number_read (λ cpu. events.Kernel (commands.HandOff cpu)) 65535 c.in_ok-cpu-in-104.cpu _ _ c.in_ok-cpu-in-104.ensures)) c.push_reserved-in-104.ensures.items
 
 pub returns-in_ok-number-in-108 : goal.returns-in_ok-number-in-108
-returns-in_ok-number-in-108 c = spoken_read (codes "late") (reads rows.late) (events.Late c.in_ok-number-in-108.number) c.args.text.now c.in_ok-behind-in-108.field-0.now c.in_ok-number-in-108.left _ _ refl refl refl (λ words. refl) c.in_ok-behind-in-108.ensures (number_read events.Late 4294967295 c.in_ok-number-in-108.number _ _ c.in_ok-number-in-108.ensures) c.push_reserved-in-108.ensures.items
+returns-in_ok-number-in-108 g c = spoken_read g.P.NamedPolicy.naming (codes "late") (reads rows.late) (events.Late c.in_ok-number-in-108.number) c.args.text.now c.in_ok-behind-in-108.field-0.now c.in_ok-number-in-108.left _ _ refl refl refl (λ words. refl) c.in_ok-behind-in-108.ensures (number_read events.Late 4294967295 c.in_ok-number-in-108.number _ _ c.in_ok-number-in-108.ensures) c.push_reserved-in-108.ensures.items
 
 pub returns-in_ok-max-in-112 : goal.returns-in_ok-max-in-112
-returns-in_ok-max-in-112 c = spoken_read (codes "page") (reads rows.page) (events.Page c.in_ok-max-in-112.max) c.args.text.now c.in_ok-behind-in-112.field-0.now c.in_ok-max-in-112.left _ _ refl refl refl (λ words. refl) c.in_ok-behind-in-112.ensures (number_read events.Page 65535 c.in_ok-max-in-112.max _ _ c.in_ok-max-in-112.ensures) c.push_reserved-in-112.ensures.items
+returns-in_ok-max-in-112 g c = spoken_read g.P.NamedPolicy.naming (codes "page") (reads rows.page) (events.Page c.in_ok-max-in-112.max) c.args.text.now c.in_ok-behind-in-112.field-0.now c.in_ok-max-in-112.left _ _ refl refl refl (λ words. refl) c.in_ok-behind-in-112.ensures (number_read events.Page 65535 c.in_ok-max-in-112.max _ _ c.in_ok-max-in-112.ensures) c.push_reserved-in-112.ensures.items
 
 pub returns-in-Some-stamp : goal.returns-in-Some-stamp
-returns-in-Some-stamp c = spoken_read (codes "stamp") (reads rows.stamp) c.in-Some-stamp.event c.args.text.now c.in-Some-behind-3.rest.now c.in-Some-stamp.left _ _ refl refl refl (λ words. refl) c.in-Some-behind-3.ensures (c.in-Some-stamp.ensures) c.push_reserved-in-Some-behind-3.ensures.items
+returns-in-Some-stamp g c = spoken_read g.P.NamedPolicy.naming (codes "stamp") (reads rows.stamp) c.in-Some-stamp.event c.args.text.now c.in-Some-behind-3.rest.now c.in-Some-stamp.left _ _ refl refl refl (λ words. refl) c.in-Some-behind-3.ensures (c.in-Some-stamp.ensures) c.push_reserved-in-Some-behind-3.ensures.items
 
 pub returns-in_ok-left-in-None-behind-3 : goal.returns-in_ok-left-in-None-behind-3
-returns-in_ok-left-in-None-behind-3 c = alone_added (codes "state") events.State _ _ _ _ _ refl refl refl refl c.in_ok-behind-in-None-behind-3.ensures c.in_ok-left-in-None-behind-3.ensures c.push_reserved-in-None-behind-3.ensures.items
+returns-in_ok-left-in-None-behind-3 g c = alone_added g.P.NamedPolicy.naming (codes "state") events.State _ _ _ _ _ refl refl refl refl c.in_ok-behind-in-None-behind-3.ensures c.in_ok-left-in-None-behind-3.ensures c.push_reserved-in-None-behind-3.ensures.items
 
 pub returns-in_ok-cpu-in-Some-behind-4 : goal.returns-in_ok-cpu-in-Some-behind-4
-returns-in_ok-cpu-in-Some-behind-4 c = spoken_read (codes "tick") (reads rows.tick) c.of_kernel-in-Some-behind-4.result c.args.text.now c.in-Some-behind-4.rest.now c.in_ok-cpu-in-Some-behind-4.left _ _ refl refl refl (λ words. refl) c.in-Some-behind-4.ensures (rw c.of_kernel-in-Some-behind-4.ensures (number_read (λ cpu. events.Kernel (commands.Tick cpu)) 65535 c.in_ok-cpu-in-Some-behind-4.cpu _ _ c.in_ok-cpu-in-Some-behind-4.ensures)) c.push_reserved-in-Some-behind-4.ensures.items
+returns-in_ok-cpu-in-Some-behind-4 g c = spoken_read g.P.NamedPolicy.naming (codes "tick") (reads rows.tick) c.of_kernel-in-Some-behind-4.result c.args.text.now c.in-Some-behind-4.rest.now c.in_ok-cpu-in-Some-behind-4.left _ _ refl refl refl (λ words. refl) c.in-Some-behind-4.ensures (rw c.of_kernel-in-Some-behind-4.ensures (number_read (λ cpu. events.Kernel (commands.Tick cpu)) 65535 c.in_ok-cpu-in-Some-behind-4.cpu _ _ c.in_ok-cpu-in-Some-behind-4.ensures)) c.push_reserved-in-Some-behind-4.ensures.items
 
 pub returns-in_ok-cpu-in-None-behind-4 : goal.returns-in_ok-cpu-in-None-behind-4
-returns-in_ok-cpu-in-None-behind-4 c = spoken_read (codes "take") (reads rows.take) c.of_kernel-in-None-behind-4.result c.args.text.now c.in_ok-behind-in-None-behind-4.field-0.now c.in_ok-cpu-in-None-behind-4.left _ _ refl refl refl (λ words. refl) c.in_ok-behind-in-None-behind-4.ensures (rw c.of_kernel-in-None-behind-4.ensures (number_read (λ cpu. events.Kernel (commands.Take cpu)) 65535 c.in_ok-cpu-in-None-behind-4.cpu _ _ c.in_ok-cpu-in-None-behind-4.ensures)) c.push_reserved-in-None-behind-4.ensures.items
+returns-in_ok-cpu-in-None-behind-4 g c = spoken_read g.P.NamedPolicy.naming (codes "take") (reads rows.take) c.of_kernel-in-None-behind-4.result c.args.text.now c.in_ok-behind-in-None-behind-4.field-0.now c.in_ok-cpu-in-None-behind-4.left _ _ refl refl refl (λ words. refl) c.in_ok-behind-in-None-behind-4.ensures (rw c.of_kernel-in-None-behind-4.ensures (number_read (λ cpu. events.Kernel (commands.Take cpu)) 65535 c.in_ok-cpu-in-None-behind-4.cpu _ _ c.in_ok-cpu-in-None-behind-4.ensures)) c.push_reserved-in-None-behind-4.ensures.items
 
 pub returns-in_ok-left-in-117 : goal.returns-in_ok-left-in-117
-returns-in_ok-left-in-117 c = alone_added (codes "unread") events.Unread _ _ _ _ _ refl refl refl refl c.in_ok-behind-in-117.ensures c.in_ok-left-in-117.ensures c.push_reserved-in-117.ensures.items
+returns-in_ok-left-in-117 g c = alone_added g.P.NamedPolicy.naming (codes "unread") events.Unread _ _ _ _ _ refl refl refl refl c.in_ok-behind-in-117.ensures c.in_ok-left-in-117.ensures c.push_reserved-in-117.ensures.items
 
 pub returns-in_ok-left-in-118 : goal.returns-in_ok-left-in-118
-returns-in_ok-left-in-118 c = alone_added (codes "view") events.View _ _ _ _ _ refl refl refl refl c.in_ok-behind-in-118.ensures c.in_ok-left-in-118.ensures c.push_reserved-in-118.ensures.items
+returns-in_ok-left-in-118 g c = alone_added g.P.NamedPolicy.naming (codes "view") events.View _ _ _ _ _ refl refl refl refl c.in_ok-behind-in-118.ensures c.in_ok-left-in-118.ensures c.push_reserved-in-118.ensures.items
 
 pub returns-in_ok-behind-in-119 : goal.returns-in_ok-behind-in-119
-returns-in_ok-behind-in-119 c = spoken_added (codes "wake") (reads rows.wake) _ _ _ _ _ refl refl refl (λ words. refl) c.in_ok-behind-in-119.ensures c.to_thread-in-119.ensures
+returns-in_ok-behind-in-119 g c = spoken_added g.P.NamedPolicy.naming (codes "wake") (reads rows.wake) _ _ _ _ _ refl refl refl (λ words. refl) c.in_ok-behind-in-119.ensures c.to_thread-in-119.ensures
 
 pub returns-in_ok-behind-in-121 : goal.returns-in_ok-behind-in-121
-returns-in_ok-behind-in-121 c = spoken_added (codes "yield") (reads rows.yield) _ _ _ _ _ refl refl refl (λ words. refl) c.in_ok-behind-in-121.ensures c.to_thread-in-121.ensures
+returns-in_ok-behind-in-121 g c = spoken_added g.P.NamedPolicy.naming (codes "yield") (reads rows.yield) _ _ _ _ _ refl refl refl (λ words. refl) c.in_ok-behind-in-121.ensures c.to_thread-in-121.ensures

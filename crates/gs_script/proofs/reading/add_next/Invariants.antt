@@ -5,9 +5,9 @@ use Rattle.gs_script.specs.Script.{events_of}
 use Rattle.gs_script.proofs.reading.add_next.Given as goal
 
 abbrev pub invariant-lines : goal.invariant-lines
-invariant-lines l =
+invariant-lines g l =
     record {
-      events : events_of l.number (lines_left l.rest) ≡ events_of l.fn.first (lines_left l.fn.text);
+      events : events_of g.P.NamedPolicy.naming l.number (lines_left l.rest) ≡ events_of g.P.NamedPolicy.naming l.fn.first (lines_left l.fn.text);
       says : said l.number (lines_left l.rest) ≡ said l.fn.first (lines_left l.fn.text);
       few : l.number + length (lines_left l.rest) ≤ l.fn.first + length (lines_left l.fn.text);
       fewer : length (lines_left l.rest) ≤ length (lines_left l.fn.text);
@@ -15,4 +15,4 @@ invariant-lines l =
     }
 
 abbrev pub decreases-lines : goal.decreases-lines
-decreases-lines l = length (lines_left l.rest)
+decreases-lines g l = length (lines_left l.rest)

@@ -1,5 +1,4 @@
-use Rattle.std.proofs.Common.{◌≡◌, ◌+◌, ◌-◌, ◌∙◌, ◌∷◌, ap, sym, subst, Option, Bor, List, ℕ, Some, length, take, arith}
-use Rattle.gs_script.specs.Words.{lines_of}
+use Rattle.std.proofs.Common.{◌≡◌, ◌-◌, ◌∙◌, ◌∷◌, ap, sym, List, ℕ, length, take, arith}
 use Rattle.gs_script.specs.Plain.{lines_left}
 use Rattle.gs_script.proofs.Unread.{cut_length, line_taken, whole_text}
 use Rattle.gs_script.proofs.reading.line_before.Goals as goal

@@ -21,7 +21,7 @@ map_ok : {A E : Type 0} (r : Result A E) (X Y : Type 0) → (X → Y) → OnOk r
 map_ok (Ok a) X Y f x = f x
 map_ok (Err e) X Y f x = tt
 
-failed : {A : Type 0} (r : Result A ServeFault) (w : Way) (n m : Noted) (had mid before now after : Option (List ℕ)) (line : List ℕ) (old : Session) (noted : Noted) (new : Session) → ServesSoFar w n had mid before now m old → IfErr r (λ e. (IsOfWriting e → ⊥) → Keeps now after)
+failed : {A B : Type 0} (r : Result B ServeFault) (w : Way A) (n m : Noted) (had mid before now after : Option (List ℕ)) (line : List ℕ) (old : Session A) (noted : Noted) (new : Session A) → ServesSoFar w n had mid before now m old → IfErr r (λ e. (IsOfWriting e → ⊥) → Keeps now after)
     → IfErr r (λ e. IsOfWriting e → StartsLine w m old line noted new now after) → (StartsLine w m old line noted new now after → BeginsServingBy w n had before after) → OnErr r (BeginsServingBy w n had before after)
 failed (Ok a) w n m had mid before now after line old noted new t unwritten begun serves = tt
 failed (Err e) w n m had mid before now after line old noted new t unwritten begun serves = fault_begun e w n m had mid before now after line old noted new t unwritten begun serves

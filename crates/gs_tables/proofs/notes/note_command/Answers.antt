@@ -1,5 +1,4 @@
 use Rattle.std.proofs.Common.{◌≡◌, ◌∙◌, ◌++◌, ◌||◌, ap, sym, subst, false, ℕ, Bool, List, append-nil, Result, Ok, Err, OnOk}
-use Rattle.gs_policy.specs.declared.any.AnyPolicy.{AnyPolicy}
 use Rattle.gs_journal.specs.declared.entry.Entry.{Entry}
 use Rattle.gs_kernel.specs.Kernel.{last_entry}
 use Rattle.gs_kernel.specs.declared.executed.Executed.{Executed}
@@ -10,7 +9,6 @@ use Rattle.gs_core.specs.declared.event.Event.{Event}
 use Rattle.gs_replies.specs.Replies.{reply_of}
 use Rattle.gs_core.specs.Machine.{Step, planned, planning}
 use Rattle.gs_replies.specs.declared.reply.Reply.{Reply}
-use Rattle.gs_trace.specs.Output.{any_plans}
 use Rattle.gs_trace.specs.Noted.{Noted, filled}
 use Rattle.gs_trace.specs.NotedLines.{noted_of}
 use Rattle.gs_trace.proofs.NotedParts.{noted_is}
@@ -28,9 +26,9 @@ three_ok (Ok a) X Y Z W f x y z = f x y z
 three_ok (Err e) X Y Z W f x y z = x
 
 pub returns : goal.returns
-returns c =
-    let m = planning any_plans c.args.machine.now in
-    let next = planning any_plans c.command-came.new.self in
+returns g c =
+    let m = planning g.P.Policy.chosen c.args.machine.now in
+    let next = planning g.P.Policy.chosen c.command-came.new.self in
     let e = c.args.event.now in
     let came = c.command-came.result in
     let latest : c.last-latest.result.now ≡ last_entry next.history = c.last-latest.ensures ∙ ap last_entry c.kernel-2.ensures.history in
@@ -42,8 +40,8 @@ returns c =
     (λ added stamped page. record {
       reply = r;
       step =
-          subst (λ (y : Entry). Step m (planned any_plans e) (reply_of came y) next) (sym latest)
-          (subst (λ (ev : Event AnyPolicy). Step m (planned any_plans ev) (reply_of came (last_entry next.history)) next) (sym c.requires.given) c.command-came.ensures.step);
+          subst (λ (y : Entry). Step m (planned g.P.Policy.chosen e) (reply_of came y) next) (sym latest)
+          (subst (λ (ev : Event _). Step m (planned g.P.Policy.chosen ev) (reply_of came (last_entry next.history)) next) (sym c.requires.given) c.command-came.ensures.step);
       safe = c.command-came.ensures.safe;
       faithful = c.command-came.ensures.faithful;
       sufficed = ap (λ (b : Bool). b || false) (sym (c.is_short_command.ensures c.last-latest.result.now) ∙ c.if-is_short_command.false);

@@ -4,15 +4,14 @@ use Rattle.std.proofs.lemmas.Result.{on_ok_weaker}
 use Rattle.gs_core.specs.Machine.{planning}
 use Rattle.gs_core.specs.Short.{wants_memory}
 use Rattle.gs_replies.specs.declared.reply.Reply.{Reply}
-use Rattle.gs_trace.specs.Output.{any_plans}
 use Rattle.gs_trace.specs.Noted.{Noted, filled}
 use Rattle.gs_trace.specs.NotedLines.{noted_of}
 use Rattle.gs_trace.proofs.NotedParts.{noted_is}
 use Rattle.gs_tables.proofs.notes.note_other.Goals as goal
 
 pub returns : goal.returns
-returns c =
-    let next = planning any_plans c.step-reply.new.self in
+returns g c =
+    let next = planning g.P.Policy.chosen c.step-reply.new.self in
     let r : Reply = c.step-reply.result in
     let n : Noted = noted_of c.args.notes.now.lines in
     let entries : c.journal-journal.result.now.entries ≡ next.history = c.journal-journal.ensures.entries ∙ c.kernel.ensures.history in

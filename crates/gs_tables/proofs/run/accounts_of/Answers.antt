@@ -1,4 +1,4 @@
-use Rattle.std.proofs.Common.{◌≡◌, ◌∙◌, ap, sym, subst, Bool, List, [], ◌++◌, append-nil}
+use Rattle.std.proofs.Common.{◌∙◌, ap, sym, subst, Bool, List, [], ◌++◌, append-nil}
 use Rattle.std.specs.List.{AllZip}
 use Rattle.gs_turns.specs.declared.stance.Known.{Known}
 use Rattle.gs_turns.specs.declared.turn.Turn.{Turn}

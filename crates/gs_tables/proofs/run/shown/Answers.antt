@@ -1,4 +1,4 @@
-use Rattle.std.proofs.Common.{◌≡◌, ◌∙◌, ap, ap₂, sym, subst, ℕ, List, length, map}
+use Rattle.std.proofs.Common.{◌≡◌, ◌∙◌, ap, ap₂, sym, subst, ℕ, List, map}
 use Rattle.std.proofs.lemmas.Result.{IfOk-weaker}
 use Rattle.std.specs.List.{range_with_len}
 use Rattle.gs_journal.specs.History.{History}
@@ -14,7 +14,7 @@ use Rattle.gs_tables.specs.Tables.{AreAccounts, Shows}
 use Rattle.gs_tables.proofs.run.shown.Goals as goal
 
 pub returns : goal.returns
-returns c =
+returns g c =
     let h = c.args.machine.now.history in
     let cpus = c.args.machine.now.settings.cpus in
     let landings = c.args.notes.now.landings.items in

@@ -5,7 +5,6 @@ use Rattle.gs_replies.specs.declared.reply.Reply.{Reply}
 use Rattle.gs_replies.specs.Replies.{reply_of}
 use Rattle.gs_core.specs.Machine.{Step, planned, planning}
 use Rattle.gs_core.specs.Short.{wants_memory}
-use Rattle.gs_trace.specs.Output.{any_plans}
 use Rattle.gs_trace.proofs.running.run_one.Goals as goal
 
 where_ok : {A E : Type 0} (r : Result A E) (X Y : Type 0) → (X → Y) → OnOk r X → OnOk r Y
@@ -18,7 +17,7 @@ both_ok (Err e) X Y x y = x
 
 pub returns-in-Kernel : goal.returns-in-Kernel
 returns-in-Kernel g c =
-    let m = planning any_plans c.args.machine.now in
+    let m = planning g.P.Policy.chosen c.args.machine.now in
     let next = c.command-came.new.self in
     let came = c.command-came.result in
     let reply : Reply = reply_of came (last_entry next.history) in
@@ -26,7 +25,7 @@ returns-in-Kernel g c =
     where_ok c.add_to.result _ _
     (λ done. record {
       reply = reply;
-      step = subst (λ (e : Event _). Step m (planned any_plans e) reply (planning any_plans next)) (sym c.in-Kernel.is) c.command-came.ensures.step;
+      step = subst (λ (e : Event _). Step m (planned g.P.Policy.chosen e) reply (planning g.P.Policy.chosen next)) (sym c.in-Kernel.is) c.command-came.ensures.step;
       safe = c.command-came.ensures.safe;
       faithful = c.command-came.ensures.faithful;
       sufficed = ap (λ (b : Bool). b || false) (ap wants_memory (sym last) ∙ done.0);

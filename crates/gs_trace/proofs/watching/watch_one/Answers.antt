@@ -6,7 +6,6 @@ use Rattle.gs_core.specs.declared.event.Event.{Event}
 use Rattle.gs_kernel.specs.Kernel.{last_entry}
 use Rattle.gs_replies.specs.declared.reply.Reply.{Reply}
 use Rattle.gs_replies.specs.Replies.{reply_of}
-use Rattle.gs_trace.specs.Output.{any_plans}
 use Rattle.gs_trace.specs.Watched.{told_by}
 use Rattle.gs_trace.proofs.Telling.{told_more, told_no_more}
 use Rattle.gs_trace.proofs.watching.watch_one.Goals as goal
@@ -16,15 +15,15 @@ where_ok (Ok a) X Y f x = f x
 where_ok (Err e) X Y f x = x
 
 pub returns-in-Kernel : goal.returns-in-Kernel
-returns-in-Kernel c =
-    let m = planning any_plans c.args.machine.now in
+returns-in-Kernel g c =
+    let m = planning g.P.Policy.chosen c.args.machine.now in
     let next = c.command-came.new.self in
     let came = c.command-came.result in
     let reply : Reply = reply_of came (last_entry next.history) in
     where_ok c.look_after.result _ _
     (λ same. record {
       reply = reply;
-      step = subst (λ (e : Event _). Step m (planned any_plans e) reply (planning any_plans next)) (sym c.in-Kernel.is) c.command-came.ensures.step;
+      step = subst (λ (e : Event _). Step m (planned g.P.Policy.chosen e) reply (planning g.P.Policy.chosen next)) (sym c.in-Kernel.is) c.command-came.ensures.step;
       safe = c.command-came.ensures.safe;
       faithful = c.command-came.ensures.faithful;
       sufficed = ap (λ (b : Bool). b || false) (sym (c.is_short_command.ensures (last_entry next.history)) ∙ c.if-is_short_command.false);
@@ -32,7 +31,7 @@ returns-in-Kernel c =
     }) c.look_after.ensures
 
 pub returns : goal.returns
-returns c =
+returns g c =
     where_ok c.look.result _ _
     (λ same. record {
       reply = c.step-reply.result;

@@ -1,0 +1,3 @@
+#!/bin/sh
+# The workload of examples/workloads.
+cat "$(dirname "$0")/../../../examples/workloads/web.toml"

@@ -1,4 +1,0 @@
-pub mod Asked
-pub mod Failures
-pub mod Policies
-pub mod Status

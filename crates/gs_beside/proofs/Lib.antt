@@ -1,0 +1,5 @@
+pub mod LastForm
+pub mod Named
+pub mod Reading
+pub mod Writing
+mod Rows

@@ -1,0 +1,5 @@
+pub mod Own
+pub mod Beside
+pub mod Said
+pub mod Otherwise
+pub mod Told
