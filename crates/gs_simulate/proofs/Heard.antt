@@ -1,9 +1,9 @@
 -- One more line of a script that a session heard.
-use Rattle.std.proofs.Common.{◌≡◌, refl, ap, sym, subst, ◌∙◌, ℕ, ◌==◌, Bool, true, false, List, [], ◌∷◌, ◌++◌, append_assoc, append-nil, take, drop, length, ◌-◌, arith}
-use Rattle.std.specs.List.{starts_with}
-use Rattle.std.proofs.lemmas.Bool.Decides.{Decides-eqb}
+use Rattle.std.proofs.Common.{◌≡◌, refl, ap, sym, subst, ◌∙◌, ℕ, ◌≤◌, Bool, true, false, cond, Some, None, List, [], ◌∷◌, ◌++◌, append_assoc, append-nil, take, drop, length, ◌-◌, arith}
+use Rattle.std.proofs.Math.Seq.{take-length}
 use Rattle.std.proofs.lemmas.Grind.{common_steps}
-use Rattle.std.proofs.lemmas.Slice.Eq.{starts_is}
+use Rattle.std.proofs.lemmas.List.{length-append, take-append-drop, take-append-le}
+use Rattle.std.proofs.lemmas.Option.{same_Some}
 use Rattle.gs_core.specs.Machine.{Plan}
 use Rattle.gs_kernel.specs.declared.landing.Landing.{Landing}
 use Rattle.gs_replies.specs.declared.reply.Reply.{Reply}
@@ -13,7 +13,7 @@ use Rattle.gs_session.specs.declared.heard.Heard.{Heard}
 use Rattle.gs_session.specs.declared.heard.Heard.TheVariants as heards
 use Rattle.gs_session.specs.Lines.{HearsAll, replies_in, reply_in}
 use Rattle.gs_session.specs.Session.{Session, Hears, unheard}
-use Rattle.gs_simulate.specs.Heard.{AreWithoutFault, IsHeaded, IsHeardIf, IsHeardWith, IsWithoutFault, landings_heard, landings_in, text_of}
+use Rattle.gs_simulate.specs.Heard.{AreWithoutFault, IsHeaded, IsHeardIf, IsHeardWhole, IsHeardWith, IsWithoutFault, Written, head_of, landings_heard, landings_in, text_of}
 use Rattle.gs_simulate.specs.Lines.{header_line}
 
 pub hears_more : {A : Type 0} (naming : Naming A) (plans : A → Plan) (a b c : Session A) (lines : List (List ℕ)) (hs : List Heard) (line : List ℕ) (h : Heard) → HearsAll naming plans a lines hs b → Hears naming plans b line h c → HearsAll naming plans a (lines ++ line ∷ []) (hs ++ h ∷ []) c
@@ -50,8 +50,8 @@ landings_more (g ∷ hs) h =
     ∙ sym (ap (λ ls. ls ++ landings_heard h) (landings_join (reply_in g) (replies_in hs)))
 
 -- nothing was heard yet
-pub none_heard : {A : Type 0} (naming : Naming A) (plans : A → Plan) (text : List ℕ) (session : Session A) (landings : List Landing) → text ≡ [] → session ≡ unheard → landings ≡ [] → IsHeardWith naming plans text session landings
-none_heard naming plans text session landings e f g = record { script = record { lines = []; heard = []; written = e; hears = f; faultless = tt }; landed = g }
+pub none_heard : {A : Type 0} (naming : Naming A) (plans : A → Plan) (text : List ℕ) (session : Session A) (landings : List Landing) → text ≡ [] → session ≡ unheard → landings ≡ [] → IsHeardWhole naming plans text session landings 0
+none_heard naming plans text session landings e f g = record { heard = record { script = record { lines = []; heard = []; written = e; hears = f; faultless = tt }; landed = g }; within = omega arith }
 
 pub one_heard : {A : Type 0} (naming : Naming A) (plans : A → Plan) (text line more : List ℕ) (session next : Session A) (h : Heard) (before after : List Landing) → IsHeardWith naming plans text session before → more ≡ text ++ line ++ 10 ∷ [] → Hears naming plans session line h next → IsWithoutFault h → after ≡ before ++ landings_heard h → IsHeardWith naming plans more next after
 one_heard naming plans text line more session next h before after t e one faultless landed =
@@ -68,9 +68,10 @@ one_heard naming plans text line more session next h before after t e one faultl
     }
 
 -- what was heard, if it was
-pub heard_if : {A : Type 0} (naming : Naming A) (plans : A → Plan) (whole : Bool) (text : List ℕ) (session : Session A) (landings : List Landing) → IsHeardIf naming plans whole text session landings → whole ≡ true → IsHeardWith naming plans text session landings
-heard_if naming plans true text session landings h e = h
-heard_if naming plans false text session landings h e = absurd (cc)
+pub heard_if : {A : Type 0} (naming : Naming A) (plans : A → Plan) (whole : Bool) (text : List ℕ) (session : Session A) (landings : List Landing) (headed : ℕ) → IsHeardIf naming plans whole text session landings headed → whole ≡ true
+    → IsHeardWhole naming plans text session landings headed
+heard_if naming plans true text session landings headed h e = h
+heard_if naming plans false text session landings headed h e = absurd (cc)
 
 -- a line stands between what the session heard before and its newline
 line_between : (text line : List ℕ) → take (length (text ++ line) - length text) (drop (length text) (text ++ line ++ 10 ∷ [])) ≡ line
@@ -81,9 +82,37 @@ same_line text line more all before behind ended e f g h i =
     let whole : take (length behind - length before) (drop (length before) ended) ≡ take (length (text ++ line) - length text) (drop (length text) (text ++ line ++ 10 ∷ [])) = cc in
     whole ∙ line_between text line
 
--- a text that starts with the line of a header is headed by it
-pub headed_by : {A : Type 0} (naming : Naming A) (cpus ring : ℕ) (policy : A) (text line : List ℕ) (starts : Bool) → starts ≡ starts_with (λ a b. a == b) text line → starts ≡ true → line ≡ header_line naming cpus ring policy ++ 10 ∷ [] → IsHeaded naming cpus ring policy text
-headed_by naming cpus ring policy text line starts tells has is =
-    let rest = drop (length line) text in
-    let whole : text ≡ line ++ rest = (starts_is Decides-eqb text line starts tells).0 has in
-    record { rest = rest; begins = whole ∙ ap (λ xs. xs ++ rest) is ∙ append_assoc (header_line naming cpus ring policy) (10 ∷ []) rest }
+-- the head stays as it is where more is added
+pub head_kept : (headed : ℕ) (text more new : List ℕ) → headed ≤ length text → new ≡ text ++ more → take headed new ≡ take headed text
+head_kept headed text more new le e = ap (take headed) e ∙ take-append-le headed text more le
+
+pub still_within : (headed : ℕ) (text more new : List ℕ) → headed ≤ length text → new ≡ text ++ more → headed ≤ length new
+still_within headed text more new le e = subst (λ xs. headed ≤ length xs) (sym e) (omega (arith, le, length-append text more))
+
+-- what is the head of a text begins it
+pub head_whole : {A : Type 0} (w : Written A) (head : List ℕ) → head_of w ≡ Some head → w.whole ≡ true
+head_whole w head e = by_whole w.whole e
+  where
+    by_whole : (b : Bool) → cond b (Some (take w.headed w.text)) None ≡ Some head → b ≡ true
+    by_whole true e = refl
+    by_whole false e = absurd (cc)
+
+pub headed_by : {A : Type 0} (naming : Naming A) (cpus ring : ℕ) (policy : A) (w : Written A) → head_of w ≡ Some (header_line naming cpus ring policy ++ 10 ∷ []) → IsHeaded naming cpus ring policy w.text
+headed_by naming cpus ring policy w e = by_whole w.whole e
+  where
+    by_whole : (b : Bool) → cond b (Some (take w.headed w.text)) None ≡ Some (header_line naming cpus ring policy ++ 10 ∷ []) → IsHeaded naming cpus ring policy w.text
+    by_whole true e =
+        let front = same_Some (take w.headed w.text) (header_line naming cpus ring policy ++ 10 ∷ []) e in
+        record {
+          rest = drop w.headed w.text;
+          begins = sym (take-append-drop w.headed w.text) ∙ (ap (λ xs. xs ++ drop w.headed w.text) front ∙ append_assoc (header_line naming cpus ring policy) (10 ∷ []) (drop w.headed w.text));
+        }
+    by_whole false e = absurd (cc)
+
+-- the head of a text that was heard is that of the text with more behind it
+pub kept_head : {A : Type 0} (w : Written A) (more new : List ℕ) → w.whole ≡ true → w.headed ≤ length w.text → new ≡ w.text ++ more → Some (take w.headed new) ≡ head_of w
+kept_head w more new e le f = ap Some (head_kept w.headed w.text more new le f) ∙ sym (ap (λ b. cond b (Some (take w.headed w.text)) None) e)
+
+-- all of a text is its head, once that is settled
+pub settled_head : {A : Type 0} (w : Written A) (old line : List ℕ) → w.whole ≡ true → old ≡ [] → w.text ≡ old ++ line ++ 10 ∷ [] → head_of (record w { headed = length w.text }) ≡ Some (line ++ 10 ∷ [])
+settled_head w old line e none f = ap (λ b. cond b (Some (take (length w.text) w.text)) None) e ∙ ap Some (take-length w.text ∙ (f ∙ ap (λ xs. xs ++ line ++ 10 ∷ []) none))

@@ -1,5 +1,5 @@
 -- The script that a simulation writes, and the session that heard it.
-use Rattle.std.specs.Prelude.{◌≡◌, ⊤, ℕ, Bool, true, false, List, [], ◌∷◌, ◌++◌, Option, None, Some}
+use Rattle.std.specs.Prelude.{◌≡◌, ⊤, ℕ, Bool, true, false, List, [], ◌∷◌, ◌++◌, Option, None, Some, if◌then◌else◌, ◌≤◌, length, take}
 use Rattle.std.specs.List.{flat_map}
 use Rattle.gs_core.specs.Machine.{Plan}
 use Rattle.gs_kernel.specs.declared.landing.Landing.{Landing}
@@ -61,16 +61,26 @@ pub record IsHeardWith {A : Type 0} (naming : Naming A) (plans : A → Plan) (te
   pub script : IsHeard naming plans text session
   pub landed : landings ≡ landings_in (replies_in script.heard)
 
--- a text, a session, the landings that its replies told of, and whether it heard the text
+-- a text, a session, the landings that its replies told of, whether it heard the text, and how many bytes of the text are its head
 pub record Written (A : Type 0) : Type 0 where
   pub text : List ℕ
   pub session : Session A
   pub landings : List Landing
   pub whole : Bool
+  pub headed : ℕ
 
-abbrev pub IsHeardIf : {A : Type 0} → Naming A → (A → Plan) → Bool → List ℕ → Session A → List Landing → Type 0
-IsHeardIf naming plans true text session landings = IsHeardWith naming plans text session landings
-IsHeardIf naming plans false text session landings = ⊤
+-- the head of a text that was heard
+abbrev pub head_of : {A : Type 0} → Written A → Option (List ℕ)
+head_of w = if w.whole then Some (take w.headed w.text) else None
+
+-- the same of a text of which so many bytes are the head
+pub record IsHeardWhole {A : Type 0} (naming : Naming A) (plans : A → Plan) (text : List ℕ) (session : Session A) (landings : List Landing) (headed : ℕ) : Type 0 where
+  pub heard : IsHeardWith naming plans text session landings
+  pub within : headed ≤ length text
+
+abbrev pub IsHeardIf : {A : Type 0} → Naming A → (A → Plan) → Bool → List ℕ → Session A → List Landing → ℕ → Type 0
+IsHeardIf naming plans true text session landings headed = IsHeardWhole naming plans text session landings headed
+IsHeardIf naming plans false text session landings headed = ⊤
 
 -- a line is added to the text, and is what the session heard
 pub record AddsLine {A : Type 0} (naming : Naming A) (plans : A → Plan) (old : Written A) (line : List ℕ) (h : Heard) (new : Written A) : Type 0 where

@@ -1,5 +1,8 @@
 //! What the agent does.
 
+ghost use Rattle.std.specs.Prelude.{◌≡◌, OnOk};
+ghost use Rattle.gs_simulate.specs.Heard.{head_of};
+
 use crate::fault::SimulateFault;
 use crate::stage::{Decided, Stage};
 use gs_core::{Event, Reply};
@@ -50,7 +53,9 @@ impl<P: NamedPolicy> Stage<P> {
     }
 
     /// Lets the slots of a mask land, as many at once as the ring has room for.
-    fn land(&mut self, mask: Mask) -> Result<(), SimulateFault> {
+    fn land(&mut self, mask: Mask) -> Result<(), SimulateFault>
+        ensures { OnOk result (head_of self.new.log ≡ head_of self.old.log) }
+    {
         let portion = self.portion().clamp(1, usize::from(MOST_CPUS));
         let mut left = mask;
         for _turn in 0..MOST_CPUS {
@@ -65,14 +70,18 @@ impl<P: NamedPolicy> Stage<P> {
     }
 
     /// Takes the first off that is due of what was decided. Returns for which CPUs it was decided.
-    fn take_due(&mut self) -> Option<Mask> {
+    fn take_due(&mut self) -> Option<Mask>
+        ensures { self.new.log ≡ self.old.log }
+    {
         let now = u64::from(self.world.now);
         let place = self.decided.iter().position(|decided| decided.at <= now)?;
         Some(self.decided.remove(place).mask)
     }
 
     /// Lets what was decided land, if it is due.
-    pub(crate) fn land_due(&mut self) -> Result<(), SimulateFault> {
+    pub(crate) fn land_due(&mut self) -> Result<(), SimulateFault>
+        ensures { OnOk result (head_of self.new.log ≡ head_of self.old.log) }
+    {
         for _turn in 0..self.decided.len() {
             match self.take_due() {
                 Some(mask) => self.land(mask)?,
@@ -83,7 +92,9 @@ impl<P: NamedPolicy> Stage<P> {
     }
 
     /// Lets the agent stamp what its policy plans, each by itself. Returns for which CPUs that was.
-    fn decide_each(&mut self) -> Result<Mask, SimulateFault> {
+    fn decide_each(&mut self) -> Result<Mask, SimulateFault>
+        ensures { OnOk result (head_of self.new.log ≡ head_of self.old.log) }
+    {
         match self.tell(Event::Decide)? {
             Some(Reply::Decided { choices, .. }) => Ok(cpus_of(choices.as_slice())),
             _ => Ok(Mask::none()),
@@ -102,7 +113,9 @@ impl<P: NamedPolicy> Stage<P> {
     }
 
     /// Lets the agent stamp what its policy plans, as a group. Returns for which CPUs that was.
-    fn decide_together(&mut self) -> Result<Mask, SimulateFault> {
+    fn decide_together(&mut self) -> Result<Mask, SimulateFault>
+        ensures { OnOk result (head_of self.new.log ≡ head_of self.old.log) }
+    {
         let choices = self.plan()?;
         for choice in &choices {
             self.tell(Event::Stamp {
@@ -118,7 +131,9 @@ impl<P: NamedPolicy> Stage<P> {
     }
 
     /// Lets the agent decide. What it decides lands now or later, as is drawn.
-    fn decide(&mut self, plan: &AgentPlan) -> Result<(), SimulateFault> {
+    fn decide(&mut self, plan: &AgentPlan) -> Result<(), SimulateFault>
+        ensures { OnOk result (head_of self.new.log ≡ head_of self.old.log) }
+    {
         let mask = if plan.together {
             self.decide_together()?
         } else {
@@ -136,13 +151,17 @@ impl<P: NamedPolicy> Stage<P> {
     }
 
     /// Lets the slots of a mask land at a later tick.
-    fn postpone(&mut self, at: u64, mask: Mask) -> Result<(), AllocError> {
+    fn postpone(&mut self, at: u64, mask: Mask) -> Result<(), AllocError>
+        ensures { self.new.log ≡ self.old.log }
+    {
         self.decided.push(Decided { at, mask })?;
         Ok(())
     }
 
     /// Lets the agent take in all messages and decide, if one is active and it is its tick.
-    pub(crate) fn agent_turn(&mut self, plan: &AgentPlan) -> Result<(), SimulateFault> {
+    pub(crate) fn agent_turn(&mut self, plan: &AgentPlan) -> Result<(), SimulateFault>
+        ensures { OnOk result (head_of self.new.log ≡ head_of self.old.log) }
+    {
         if self.agent_cpu().is_none() || self.world.now.checked_rem(plan.every) != Some(0) {
             return Ok(());
         }

@@ -1,5 +1,8 @@
 //! How the agent changes, and which CPUs the other class has.
 
+ghost use Rattle.std.specs.Prelude.{◌≡◌, OnOk};
+ghost use Rattle.gs_simulate.specs.Heard.{head_of};
+
 use crate::fault::SimulateFault;
 use crate::stage::Stage;
 use gs_core::{Event, Reply};
@@ -28,7 +31,9 @@ fn taken_at(takings: &[Taking], now: u32) -> Mask {
 impl<P: NamedPolicy> Stage<P> {
     /// Hands the agent off to a CPU, unless it is there, or none is active. Returns whether that is done: it has to wait
     /// while the other class holds the CPU.
-    fn hand_off(&mut self, cpu: u16) -> Result<bool, SimulateFault> {
+    fn hand_off(&mut self, cpu: u16) -> Result<bool, SimulateFault>
+        ensures { OnOk result (head_of self.new.log ≡ head_of self.old.log) }
+    {
         let Some(there) = self.agent_cpu() else {
             return Ok(true);
         };
@@ -42,7 +47,9 @@ impl<P: NamedPolicy> Stage<P> {
     }
 
     /// Lets the agent crash, if there is one. What it decided does not land any more.
-    fn crash(&mut self) -> Result<(), SimulateFault> {
+    fn crash(&mut self) -> Result<(), SimulateFault>
+        ensures { OnOk result (head_of self.new.log ≡ head_of self.old.log) }
+    {
         if self.has_agent() {
             self.tell(Event::Crash)?;
             self.decided.clear();
@@ -51,7 +58,9 @@ impl<P: NamedPolicy> Stage<P> {
     }
 
     /// Tells the agent that attaches of all threads that live.
-    fn tell_pages(&mut self) -> Result<(), SimulateFault> {
+    fn tell_pages(&mut self) -> Result<(), SimulateFault>
+        ensures { OnOk result (head_of self.new.log ≡ head_of self.old.log) }
+    {
         for _page in 0..MOST_PAGES {
             match self.tell(Event::Page { max: PAGE })? {
                 Some(Reply::Page { next: Some(_), .. }) => {}
@@ -63,7 +72,9 @@ impl<P: NamedPolicy> Stage<P> {
 
     /// Lets a new agent take over, on a CPU. Returns whether that is done: it has to wait while the other class holds the
     /// CPU.
-    fn replace(&mut self, cpu: u16) -> Result<bool, SimulateFault> {
+    fn replace(&mut self, cpu: u16) -> Result<bool, SimulateFault>
+        ensures { OnOk result (head_of self.new.log ≡ head_of self.old.log) }
+    {
         if self.taken().has(cpu) {
             return Ok(false);
         }
@@ -76,7 +87,9 @@ impl<P: NamedPolicy> Stage<P> {
     }
 
     /// Lets one change of the agent happen. Returns whether it is done.
-    fn change(&mut self, change: Change) -> Result<bool, SimulateFault> {
+    fn change(&mut self, change: Change) -> Result<bool, SimulateFault>
+        ensures { OnOk result (head_of self.new.log ≡ head_of self.old.log) }
+    {
         match change {
             Change::HandOff { cpu, .. } => self.hand_off(cpu),
             Change::Crash { .. } => {
@@ -88,7 +101,9 @@ impl<P: NamedPolicy> Stage<P> {
     }
 
     /// Lets the changes of the agent happen that are due, in order.
-    pub(crate) fn change_agent(&mut self, changes: &[Change]) -> Result<(), SimulateFault> {
+    pub(crate) fn change_agent(&mut self, changes: &[Change]) -> Result<(), SimulateFault>
+        ensures { OnOk result (head_of self.new.log ≡ head_of self.old.log) }
+    {
         for place in self.changes..changes.len() {
             let change = changes[place];
             if change.at() > self.world.now || !self.change(change)? {
@@ -100,7 +115,9 @@ impl<P: NamedPolicy> Stage<P> {
     }
 
     /// Lets the other class take a CPU or give it back, if it is to have it or not.
-    fn set_taken(&mut self, cpu: u16, is_to_be: bool) -> Result<(), SimulateFault> {
+    fn set_taken(&mut self, cpu: u16, is_to_be: bool) -> Result<(), SimulateFault>
+        ensures { OnOk result (head_of self.new.log ≡ head_of self.old.log) }
+    {
         let is_taken = self.taken().has(cpu);
         if is_to_be && !is_taken && self.agent_cpu() != Some(cpu) {
             if self.has_room()? {
@@ -113,7 +130,9 @@ impl<P: NamedPolicy> Stage<P> {
     }
 
     /// Lets the other class take CPUs and give them back.
-    pub(crate) fn take_cpus(&mut self, cpus: u16, takings: &[Taking]) -> Result<(), SimulateFault> {
+    pub(crate) fn take_cpus(&mut self, cpus: u16, takings: &[Taking]) -> Result<(), SimulateFault>
+        ensures { OnOk result (head_of self.new.log ≡ head_of self.old.log) }
+    {
         let mask = taken_at(takings, self.world.now);
         for cpu in 0..cpus {
             self.set_taken(cpu, mask.has(cpu))?;

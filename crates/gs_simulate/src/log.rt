@@ -1,11 +1,11 @@
 //! The script that is written, and the session that heard it.
 
-ghost use Rattle.std.specs.Prelude.{◌≡◌, ◌++◌, [], true, IfOk, OnOk};
+ghost use Rattle.std.specs.Prelude.{◌≡◌, ◌++◌, [], true, IfOk, OnOk, length};
 ghost use Rattle.std.specs.Option.{option_map};
 ghost use denote.Ref.{Bor};
 ghost use Rattle.gs_core.specs.Machine.{StateOf};
 ghost use Rattle.gs_session.specs.Session.{Hears, unheard};
-ghost use Rattle.gs_simulate.specs.Heard.{AddsLine, IsHeardWith, IsWithoutFault, fault_of, landings_heard};
+ghost use Rattle.gs_simulate.specs.Heard.{AddsLine, IsHeardWith, IsWithoutFault, fault_of, head_of, landings_heard};
 ghost use Rattle.gs_simulate.specs.Lines.{line_text};
 
 use crate::fault::SimulateFault;
@@ -29,6 +29,8 @@ pub(crate) struct Log<P: NamedPolicy> {
     landings: Vec<Landing>,
     /// Whether the session heard all of the text. It did not if memory ran out at a line: no more is added then.
     whole: bool,
+    /// How many bytes of the text are its head, which stays as it is.
+    headed: usize,
 }
 
 impl<P: NamedPolicy> Model for Log<P> {
@@ -36,9 +38,9 @@ impl<P: NamedPolicy> Model for Log<P> {
 
     ghost Value = { Written P };
 
-    ghost view = { λ l. record { text = l.text; session = l.session; landings = l.landings.items; whole = l.whole } };
+    ghost view = { λ l. record { text = l.text; session = l.session; landings = l.landings.items; whole = l.whole; headed = l.headed } };
 
-    ghost invariant = { λ l. IsHeardIf P.naming P.chosen l.whole l.text l.session l.landings.items };
+    ghost invariant = { λ l. IsHeardIf P.naming P.chosen l.whole l.text l.session l.landings.items l.headed };
 }
 
 /// Returns the fault that was heard, if one was.
@@ -77,7 +79,7 @@ impl<P: NamedPolicy> Log<P> {
     /// Makes an empty script, of which a session heard nothing yet.
     #[tactic(auto, using(crate::proofs::Heard::none_heard))]
     pub(crate) fn new(alloc: Global) -> Log<P>
-        ensures { result ≡ record { text = []; session = unheard; landings = []; whole = true } }
+        ensures { result ≡ record { text = []; session = unheard; landings = []; whole = true; headed = 0 } }
     {
         Log {
             alloc,
@@ -85,6 +87,7 @@ impl<P: NamedPolicy> Log<P> {
             text: Text::new(alloc),
             landings: Vec::new(alloc),
             whole: true,
+            headed: 0,
         }
     }
 
@@ -94,7 +97,8 @@ impl<P: NamedPolicy> Log<P> {
     ///
     /// If out of memory, or if the line has a fault. No line can be added behind one that failed.
     pub(crate) fn add(&mut self, line: &Line<P>) -> Result<Heard, SimulateFault>
-        ensures { IfOk result (λ h. AddsLine P.naming P.chosen self.old (line_text P.naming line.now) h self.new) }
+        ensures added { IfOk result (λ h. AddsLine P.naming P.chosen self.old (line_text P.naming line.now) h self.new) }
+        ensures kept { OnOk result (head_of self.new ≡ head_of self.old) }
     {
         if !self.whole {
             return Err(SimulateFault::OutOfMemory);
@@ -108,6 +112,13 @@ impl<P: NamedPolicy> Log<P> {
         add_landings(&mut self.landings, &heard)?;
         self.whole = true;
         Ok(heard)
+    }
+
+    /// Makes all of the text its head.
+    pub(crate) fn settle(&mut self)
+        ensures { self.new ≡ record self.old { headed = length self.old.text } }
+    {
+        self.headed = self.text.as_bytes().len();
     }
 
     /// Returns whether the session heard all of the text.

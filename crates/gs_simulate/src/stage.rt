@@ -1,5 +1,8 @@
 //! A simulation as it goes on.
 
+ghost use Rattle.std.specs.Prelude.{◌≡◌, OnOk};
+ghost use Rattle.gs_simulate.specs.Heard.{head_of};
+
 use crate::calendar::Calendar;
 use crate::fault::SimulateFault;
 use crate::line::Line;
@@ -51,7 +54,9 @@ impl<P: NamedPolicy> Stage<P> {
     /// # Errors
     ///
     /// If out of memory, or if the line has a fault.
-    pub(crate) fn tell(&mut self, event: Event<P>) -> Result<Option<Reply>, SimulateFault> {
+    pub(crate) fn tell(&mut self, event: Event<P>) -> Result<Option<Reply>, SimulateFault>
+        ensures { OnOk result (head_of self.new.log ≡ head_of self.old.log) }
+    {
         let heard = self.log.add(&Line::Event { event })?;
         if let Some(machine) = self.log.machine() {
             self.world.follow(machine.kernel().journal())?;
@@ -64,12 +69,16 @@ impl<P: NamedPolicy> Stage<P> {
     }
 
     /// Tells the kernel something. Returns whether it did it.
-    pub(crate) fn command(&mut self, command: Command) -> Result<bool, SimulateFault> {
+    pub(crate) fn command(&mut self, command: Command) -> Result<bool, SimulateFault>
+        ensures { OnOk result (head_of self.new.log ≡ head_of self.old.log) }
+    {
         Ok(self.tell(Event::Kernel { command })?.is_some())
     }
 
     /// Lets something happen to a thread.
-    pub(crate) fn happen(&mut self, tid: u32, event: ThreadEvent) -> Result<(), SimulateFault> {
+    pub(crate) fn happen(&mut self, tid: u32, event: ThreadEvent) -> Result<(), SimulateFault>
+        ensures { OnOk result (head_of self.new.log ≡ head_of self.old.log) }
+    {
         self.command(Command::Thread { tid, event })?;
         Ok(())
     }
@@ -87,7 +96,9 @@ impl<P: NamedPolicy> Stage<P> {
     }
 
     /// Lets the agent take in all messages.
-    pub(crate) fn drain(&mut self) -> Result<(), SimulateFault> {
+    pub(crate) fn drain(&mut self) -> Result<(), SimulateFault>
+        ensures { OnOk result (head_of self.new.log ≡ head_of self.old.log) }
+    {
         self.tell(Event::Drain { max: MOST_MESSAGES })?;
         Ok(())
     }
@@ -124,7 +135,9 @@ impl<P: NamedPolicy> Stage<P> {
 
     /// Returns whether there is room in the ring for so many bytes of messages. If there is not, the agent takes in what is
     /// there before. Without an agent nobody does, and what would be told has to wait.
-    pub(crate) fn has_room_for(&mut self, len: usize) -> Result<bool, SimulateFault> {
+    pub(crate) fn has_room_for(&mut self, len: usize) -> Result<bool, SimulateFault>
+        ensures { OnOk result (head_of self.new.log ≡ head_of self.old.log) }
+    {
         if self.fits(len) {
             return Ok(true);
         }
@@ -136,7 +149,9 @@ impl<P: NamedPolicy> Stage<P> {
     }
 
     /// Returns whether there is room in the ring for any message.
-    pub(crate) fn has_room(&mut self) -> Result<bool, SimulateFault> {
+    pub(crate) fn has_room(&mut self) -> Result<bool, SimulateFault>
+        ensures { OnOk result (head_of self.new.log ≡ head_of self.old.log) }
+    {
         self.has_room_for(MOST_MESSAGE_LEN)
     }
 }

@@ -1,5 +1,8 @@
 //! What the threads do.
 
+ghost use Rattle.std.specs.Prelude.{◌≡◌, OnOk};
+ghost use Rattle.gs_simulate.specs.Heard.{head_of};
+
 use crate::fault::SimulateFault;
 use crate::stage::Stage;
 use gs_kernel::{Command, ThreadEvent};
@@ -28,7 +31,9 @@ fn event_of(leaving: Leaving) -> ThreadEvent {
 
 impl<P: NamedPolicy> Stage<P> {
     /// Creates a thread of a group.
-    fn create(&mut self, group: usize) -> Result<(), SimulateFault> {
+    fn create(&mut self, group: usize) -> Result<(), SimulateFault>
+        ensures { OnOk result (head_of self.new.log ≡ head_of self.old.log) }
+    {
         let Some(plan) = self.world.groups.get(group) else {
             return Ok(());
         };
@@ -40,7 +45,9 @@ impl<P: NamedPolicy> Stage<P> {
     }
 
     /// Creates the threads that are due.
-    pub(crate) fn create_due(&mut self) -> Result<(), SimulateFault> {
+    pub(crate) fn create_due(&mut self) -> Result<(), SimulateFault>
+        ensures { OnOk result (head_of self.new.log ≡ head_of self.old.log) }
+    {
         for _thread in 0..MOST_TIDS {
             let Some(group) = self.births.due(self.world.now) else {
                 return Ok(());
@@ -55,7 +62,9 @@ impl<P: NamedPolicy> Stage<P> {
     }
 
     /// Wakes a thread, if it sleeps and its time has come.
-    fn wake(&mut self, tid: u32) -> Result<(), SimulateFault> {
+    fn wake(&mut self, tid: u32) -> Result<(), SimulateFault>
+        ensures { OnOk result (head_of self.new.log ≡ head_of self.old.log) }
+    {
         let now = self.world.now;
         match self.world.thread(tid) {
             Some(thread) if thread.is_due(now) => self.happen(tid, ThreadEvent::Wake),
@@ -64,7 +73,9 @@ impl<P: NamedPolicy> Stage<P> {
     }
 
     /// Wakes the threads whose time has come.
-    pub(crate) fn wake_due(&mut self) -> Result<(), SimulateFault> {
+    pub(crate) fn wake_due(&mut self) -> Result<(), SimulateFault>
+        ensures { OnOk result (head_of self.new.log ≡ head_of self.old.log) }
+    {
         for _thread in 0..MOST_TIDS {
             let Some(tid) = self.world.sleepers.due(self.world.now) else {
                 return Ok(());
@@ -87,7 +98,9 @@ impl<P: NamedPolicy> Stage<P> {
     }
 
     /// Lets the bursts end of the threads that run and have no tick left.
-    pub(crate) fn end_bursts(&mut self, cpus: u16) -> Result<(), SimulateFault> {
+    pub(crate) fn end_bursts(&mut self, cpus: u16) -> Result<(), SimulateFault>
+        ensures { OnOk result (head_of self.new.log ≡ head_of self.old.log) }
+    {
         for cpu in 0..cpus {
             if let Some((tid, leaving)) = self.ending_on(usize::from(cpu))
                 && self.has_room()?
@@ -100,7 +113,9 @@ impl<P: NamedPolicy> Stage<P> {
 
     /// Lets the timers tick: those of the CPUs on which threads run, and all of them while a thread waits. The burst of
     /// each thread that runs is a tick shorter then.
-    pub(crate) fn tick_cpus(&mut self, cpus: u16) -> Result<(), SimulateFault> {
+    pub(crate) fn tick_cpus(&mut self, cpus: u16) -> Result<(), SimulateFault>
+        ensures { OnOk result (head_of self.new.log ≡ head_of self.old.log) }
+    {
         for cpu in 0..cpus {
             let running = self.world.running.get(usize::from(cpu)).copied().flatten();
             if (running.is_some() || self.world.waiting > 0) && self.has_room()? {
