@@ -11,8 +11,8 @@
 //! that is tried, and after it `tried`, or `refused` if it was out of memory. So an allocator that fails on purpose can hear
 //! when it may: it is not to fail where the machine is looked at.
 //!
-//! The exit status is 0, 2 if the script has a fault, 3 if the words are others, 4 if a read or a write fails, 5 if out of
-//! memory where nothing is tried, and 7 if something differs.
+//! The exit status is 0 if all is well. It is 2 if the script has a fault, 3 if the words are others, and 4 if a read or a write
+//! fails. If out of memory where nothing is tried, it is 5. If something differs, it is 7.
 #![tactic(auto)]
 
 mod failure;
