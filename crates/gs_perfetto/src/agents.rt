@@ -3,10 +3,9 @@
 ghost use Rattle.std.specs.Prelude.{◌≡◌};
 
 use crate::events::{When, begin_event, end_event, end_slice};
-use crate::text::Text;
 use crate::tracks::{ACTIVE, AGENT_BEGIN, AGENT_END, AGENT_INSTANT, ATTACHING};
 use gs_journal::Entry;
-use gs_timeline::{AgentEvent, Digits};
+use gs_timeline::{AgentEvent, Digits, Text};
 use std::alloc::AllocError;
 
 /// The track of the agent that there is, if there is one.
@@ -17,7 +16,7 @@ pub(crate) struct Agent {
 
 /// Tells the beginning of an agent that is active on a CPU.
 fn write_active(out: &mut Text, when: When<'_>, generation: u32, cpu: u16) -> Result<(), AllocError>
-    ensures { out.new ≡ out.old }
+    ensures { out.new.settled ≡ out.old.settled }
 {
     begin_event(out, AGENT_BEGIN, ACTIVE, when.place)?;
     out.push_number(",\"name\":\"generation ", u64::from(generation))?;
@@ -29,7 +28,7 @@ fn write_active(out: &mut Text, when: When<'_>, generation: u32, cpu: u16) -> Re
 
 /// Tells the beginning of an agent that attaches.
 fn write_attaching(out: &mut Text, when: When<'_>, generation: u32) -> Result<(), AllocError>
-    ensures { out.new ≡ out.old }
+    ensures { out.new.settled ≡ out.old.settled }
 {
     begin_event(out, AGENT_BEGIN, ATTACHING, when.place)?;
     out.push_number(",\"name\":\"generation ", u64::from(generation))?;
@@ -39,7 +38,7 @@ fn write_attaching(out: &mut Text, when: When<'_>, generation: u32) -> Result<()
 
 /// Tells what is said of a page: how many threads it told of, and from which the next one goes on.
 fn write_page(out: &mut Text, count: u16, next: Option<u32>) -> Result<(), AllocError>
-    ensures { out.new ≡ out.old }
+    ensures { out.new.settled ≡ out.old.settled }
 {
     out.push_number(
         ",\"name\":\"page\",\"args\":{\"threads\":",
@@ -60,7 +59,7 @@ impl Agent {
 
     /// Ends the agent that there is.
     pub(crate) fn end(&mut self, out: &mut Text, place: &Digits) -> Result<(), AllocError>
-        ensures { out.new ≡ out.old }
+        ensures { out.new.settled ≡ out.old.settled }
     {
         match self.track.take() {
             Some(track) => end_slice(out, AGENT_END, track, place),
@@ -76,7 +75,7 @@ impl Agent {
         when: When<'_>,
         entry: &Entry,
     ) -> Result<(), AllocError>
-        ensures { out.new ≡ out.old }
+        ensures { out.new.settled ≡ out.old.settled }
     {
         match entry {
             Entry::Role { generation, cpu } => {
@@ -101,7 +100,7 @@ impl Agent {
         when: When<'_>,
         event: AgentEvent,
     ) -> Result<(), AllocError>
-        ensures { out.new ≡ out.old }
+        ensures { out.new.settled ≡ out.old.settled }
     {
         let track = self.track.unwrap_or(ATTACHING);
         begin_event(out, AGENT_INSTANT, track, when.place)?;

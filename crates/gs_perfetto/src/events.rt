@@ -2,8 +2,7 @@
 
 ghost use Rattle.std.specs.Prelude.{◌≡◌};
 
-use crate::text::Text;
-use gs_timeline::Digits;
+use gs_timeline::{Digits, Text};
 use std::alloc::AllocError;
 
 /// When and by what something happens.
@@ -26,7 +25,7 @@ pub(crate) fn begin_event(
     track: u64,
     place: &Digits,
 ) -> Result<(), AllocError>
-    ensures { out.new ≡ out.old }
+    ensures { out.new.settled ≡ out.old.settled }
 {
     out.push_number_digits(head, track, TIME, place)
 }
@@ -35,7 +34,7 @@ pub(crate) fn begin_event(
 /// in front of them.
 #[inline(always)]
 pub(crate) fn end_event(out: &mut Text, front: &str, when: When<'_>) -> Result<(), AllocError>
-    ensures { out.new ≡ out.old }
+    ensures { out.new.settled ≡ out.old.settled }
 {
     out.push_str(front)?;
     out.push_digits("\"line\":", when.line)?;
@@ -51,7 +50,7 @@ pub(crate) fn end_slice(
     track: u64,
     place: &Digits,
 ) -> Result<(), AllocError>
-    ensures { out.new ≡ out.old }
+    ensures { out.new.settled ≡ out.old.settled }
 {
     begin_event(out, head, track, place)?;
     out.push_str("}")

@@ -7,7 +7,6 @@ mod labels;
 mod queue;
 mod slices;
 mod slots;
-mod text;
 mod trace;
 mod tracks;
 mod walk;

@@ -2,16 +2,15 @@
 
 ghost use Rattle.std.specs.Prelude.{◌≡◌};
 
-use crate::text::Text;
 use crate::tracks::{RING, WAITING};
 use gs_journal::Entry;
 use gs_layout::{Change, Message};
-use gs_timeline::Digits;
+use gs_timeline::{Digits, Text};
 use std::alloc::{AllocError, Global};
 
 /// Tells how many bytes of the ring are in use.
 pub(crate) fn write_fill(out: &mut Text, place: &Digits, used: usize) -> Result<(), AllocError>
-    ensures { out.new ≡ out.old }
+    ensures { out.new.settled ≡ out.old.settled }
 {
     out.push_digits(RING, place)?;
     out.push_number(",\"args\":{\"bytes\":", used as u64)?;
@@ -96,7 +95,7 @@ impl Queue {
     /// Tells how many threads may run and are on no CPU.
     #[inline(always)]
     pub(crate) fn write(&self, out: &mut Text, place: &Digits) -> Result<(), AllocError>
-        ensures { out.new ≡ out.old }
+        ensures { out.new.settled ≡ out.old.settled }
     {
         out.push_digits(WAITING, place)?;
         out.push_number(",\"args\":{\"threads\":", self.shown as u64)?;
@@ -106,7 +105,7 @@ impl Queue {
     /// Tells it if it is not what was shown before.
     #[inline(always)]
     pub(crate) fn show(&mut self, out: &mut Text, place: &Digits) -> Result<(), AllocError>
-        ensures { out.new ≡ out.old }
+        ensures { out.new.settled ≡ out.old.settled }
     {
         let waiting = self.may_run.saturating_sub(self.running);
         if waiting == self.shown {

@@ -4,12 +4,11 @@ ghost use Rattle.std.specs.Prelude.{◌≡◌};
 ghost use Rattle.gs_perfetto.specs.Events.{outcome_args};
 
 use crate::events::{TIME, When, begin_event, end_event, end_slice};
-use crate::text::Text;
 use crate::tracks::{
     SLOT_BEGIN, SLOT_END, SLOT_INSTANT, SLOT_SLICE, WAY_BEGIN, WAY_END, slot_track,
 };
 use gs_layout::Outcome;
-use gs_timeline::{Digits, Mark, What};
+use gs_timeline::{Digits, Mark, Text, What};
 use std::alloc::{AllocError, Global};
 
 /// Makes a list of nothing for each of so many CPUs.
@@ -75,7 +74,7 @@ pub(crate) struct Slots {
 /// Tells the beginning of the way of a transaction.
 #[inline(always)]
 fn begin_way(out: &mut Text, number: &Digits, place: &Digits) -> Result<(), AllocError>
-    ensures { out.new ≡ out.old }
+    ensures { out.new.settled ≡ out.old.settled }
 {
     out.push_digits(WAY_BEGIN, place)?;
     out.push_digits(",\"id\":", number)?;
@@ -90,7 +89,7 @@ fn end_way(
     number: &Digits,
     place: &Digits,
 ) -> Result<(), AllocError>
-    ensures { out.new ≡ out.old }
+    ensures { out.new.settled ≡ out.old.settled }
 {
     out.push_digits(WAY_END, track)?;
     out.push_digits(TIME, place)?;
@@ -111,7 +110,7 @@ fn flags_of(preempt: bool, group: bool) -> &'static str {
 /// Ends the event of a stamp. Most are of neither kind, so that what ends them is known.
 #[inline(always)]
 fn end_stamp(out: &mut Text, preempt: bool, group: bool, when: When<'_>) -> Result<(), AllocError>
-    ensures { out.new ≡ out.old }
+    ensures { out.new.settled ≡ out.old.settled }
 {
     if preempt || group {
         end_event(out, flags_of(preempt, group), when)
@@ -130,7 +129,7 @@ fn write_stamp(
     landing: Option<usize>,
     name: &str,
 ) -> Result<(), AllocError>
-    ensures { out.new ≡ out.old }
+    ensures { out.new.settled ≡ out.old.settled }
 {
     let head = if landing.is_some() {
         SLOT_SLICE
@@ -180,7 +179,7 @@ fn write_landing(
     when: When<'_>,
     outcome: Outcome,
 ) -> Result<(), AllocError>
-    ensures { out.new ≡ out.old }
+    ensures { out.new.settled ≡ out.old.settled }
 {
     out.push_digits(SLOT_INSTANT, track)?;
     out.push_digits(TIME, when.place)?;
@@ -217,7 +216,7 @@ impl Slots {
         place: &Digits,
         stamped: Option<Stamped>,
     ) -> Result<(), AllocError>
-        ensures { out.new ≡ out.old }
+        ensures { out.new.settled ≡ out.old.settled }
     {
         match self.replace(cpu, stamped) {
             Some(Stamped { open: true, .. }) => end_slice(out, SLOT_END, slot_track(cpu), place),
@@ -234,7 +233,7 @@ impl Slots {
         landing: Option<usize>,
         name: &str,
     ) -> Result<(), AllocError>
-        ensures { out.new ≡ out.old }
+        ensures { out.new.settled ≡ out.old.settled }
     {
         self.count = self.count.saturating_add(1);
         let stamped = Stamped {
@@ -254,7 +253,7 @@ impl Slots {
         when: When<'_>,
         outcome: Outcome,
     ) -> Result<(), AllocError>
-        ensures { out.new ≡ out.old }
+        ensures { out.new.settled ≡ out.old.settled }
     {
         let number = match self.replace(mark.cpu, None) {
             Some(stamped) => stamped.number,
@@ -277,7 +276,7 @@ impl Slots {
         landing: Option<usize>,
         name: &str,
     ) -> Result<(), AllocError>
-        ensures { out.new ≡ out.old }
+        ensures { out.new.settled ≡ out.old.settled }
     {
         match mark.what {
             What::Stamped { preempt, group } => {
@@ -300,7 +299,7 @@ impl Slots {
 
     /// Tells the end of what is stamped in any slot.
     pub(crate) fn clear(&mut self, out: &mut Text, place: &Digits) -> Result<(), AllocError>
-        ensures { out.new ≡ out.old }
+        ensures { out.new.settled ≡ out.old.settled }
     {
         for cpu in 0..self.cpus {
             self.set(out, cpu, place, None)?;

@@ -1,14 +1,13 @@
 ghost use Rattle.std.specs.Prelude.{◌≡◌, List, [], IfOk, OnOk, map};
 ghost use Rattle.std.specs.List.Sorted.{IsPermutation};
 ghost use Rattle.gs_perfetto.specs.Events.{slice_front};
-ghost use Rattle.gs_perfetto.specs.Slices.{Adds, HasEach};
+ghost use Rattle.gs_timeline.specs.Pieces.{Adds, HasEach};
 ghost use Rattle.gs_timeline.specs.Stays.{all_stays};
 
-use crate::text::Text;
 use crate::tracks::write_tracks;
 use crate::walk::Walk;
 use gs_journal::Journal;
-use gs_timeline::{Notes, Sheet, Stay, all_stays};
+use gs_timeline::{Notes, Sheet, Stay, Text, all_stays};
 use std::alloc::{AllocError, Global};
 
 /// Returns the stays on so many CPUs in the order in which they began.
@@ -22,7 +21,7 @@ fn stays_in_order(alloc: Global, journal: &Journal, cpus: u16) -> Result<Vec<Sta
 
 /// Tells all that a walk tells, and adds the stays, each where it begins.
 fn write_events(out: &mut Text, walk: &mut Walk<'_>, stays: &[Stay]) -> Result<(), AllocError>
-    ensures { OnOk result (Adds (map slice_front stays.now) out.old out.new) }
+    ensures { OnOk result (Adds (map slice_front stays.now) out.old.settled out.new.settled) }
 {
     for stay in stays {
         walk.tell_up_to(out, stay.from)?;

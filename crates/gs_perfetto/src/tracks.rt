@@ -3,7 +3,7 @@
 ghost use Rattle.std.specs.Prelude.{◌≡◌};
 ghost use Rattle.gs_perfetto.specs.Events.{cpu_track};
 
-use crate::text::Text;
+use gs_timeline::Text;
 use std::alloc::AllocError;
 
 /// The processes that the tracks are of. The number of a track has to follow.
@@ -79,7 +79,7 @@ pub(crate) fn slot_track(cpu: u16) -> u64 {
 
 /// Tells a fact about a process or a track, up to its value: which fact, and of which process and track.
 fn begin_fact(out: &mut Text, fact: &str, process: &str, track: u64) -> Result<(), AllocError>
-    ensures { out.new ≡ out.old }
+    ensures { out.new.settled ≡ out.old.settled }
 {
     out.push_str(",\n{\"ph\":\"M\",\"name\":\"")?;
     out.push_str(fact)?;
@@ -89,7 +89,7 @@ fn begin_fact(out: &mut Text, fact: &str, process: &str, track: u64) -> Result<(
 
 /// Tells what a process is called.
 fn name_process(out: &mut Text, process: &str, track: u64, name: &str) -> Result<(), AllocError>
-    ensures { out.new ≡ out.old }
+    ensures { out.new.settled ≡ out.old.settled }
 {
     begin_fact(out, "process_name", process, track)?;
     out.push_str(",\"args\":{\"name\":\"")?;
@@ -99,7 +99,7 @@ fn name_process(out: &mut Text, process: &str, track: u64, name: &str) -> Result
 
 /// Tells where a track stands among those of its process.
 fn sort_track(out: &mut Text, process: &str, track: u64) -> Result<(), AllocError>
-    ensures { out.new ≡ out.old }
+    ensures { out.new.settled ≡ out.old.settled }
 {
     begin_fact(out, "thread_sort_index", process, track)?;
     out.push_number(",\"args\":{\"sort_index\":", track)?;
@@ -108,7 +108,7 @@ fn sort_track(out: &mut Text, process: &str, track: u64) -> Result<(), AllocErro
 
 /// Tells what a track is called, and where it stands.
 fn name_track(out: &mut Text, process: &str, track: u64, name: &str) -> Result<(), AllocError>
-    ensures { out.new ≡ out.old }
+    ensures { out.new.settled ≡ out.old.settled }
 {
     begin_fact(out, "thread_name", process, track)?;
     out.push_str(",\"args\":{\"name\":\"")?;
@@ -125,7 +125,7 @@ fn name_track_of(
     words: &str,
     cpu: u16,
 ) -> Result<(), AllocError>
-    ensures { out.new ≡ out.old }
+    ensures { out.new.settled ≡ out.old.settled }
 {
     begin_fact(out, "thread_name", process, track)?;
     out.push_str(",\"args\":{\"name\":\"")?;
@@ -136,7 +136,7 @@ fn name_track_of(
 
 /// Tells what all processes and tracks are called. Nothing stands before it but what begins the list.
 pub(crate) fn write_tracks(out: &mut Text, cpus: u16) -> Result<(), AllocError>
-    ensures { out.new ≡ out.old }
+    ensures { out.new.settled ≡ out.old.settled }
 {
     out.push_str(
         "{\"ph\":\"M\",\"name\":\"process_name\",\"pid\":1,\"args\":{\"name\":\"CPUs\"}}",

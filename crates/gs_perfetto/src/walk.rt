@@ -2,18 +2,18 @@
 
 ghost use Rattle.std.specs.Prelude.{◌≡◌, ◌∷◌, [], OnOk};
 ghost use Rattle.gs_perfetto.specs.Events.{slice_front};
-ghost use Rattle.gs_perfetto.specs.Slices.{Adds};
+ghost use Rattle.gs_timeline.specs.Pieces.{Adds};
 
 use crate::agents::Agent;
 use crate::events::{When, begin_event, end_event, end_slice};
 use crate::labels::Labels;
 use crate::queue::{Queue, write_fill};
+use crate::slices::write_slice;
 use crate::slots::{Slots, landings_of};
-use crate::text::Text;
 use crate::tracks::{CPU_BEGIN, CPU_END, EVERYWHERE, cpu_track};
 use gs_journal::{Entry, Journal};
 use gs_layout::{Change, Message};
-use gs_timeline::{Digits, Notes, Stay};
+use gs_timeline::{Digits, Notes, Stay, Text};
 use std::alloc::{AllocError, Global};
 
 /// How far a trace came.
@@ -43,7 +43,7 @@ pub(crate) struct Walk<'a> {
 
 /// Tells the beginning of a time that the other class has a CPU.
 fn write_taken(out: &mut Text, when: When<'_>, cpu: u16) -> Result<(), AllocError>
-    ensures { out.new ≡ out.old }
+    ensures { out.new.settled ≡ out.old.settled }
 {
     begin_event(out, CPU_BEGIN, cpu_track(cpu), when.place)?;
     end_event(out, ",\"name\":\"other class\",\"args\":{", when)
@@ -51,7 +51,7 @@ fn write_taken(out: &mut Text, when: When<'_>, cpu: u16) -> Result<(), AllocErro
 
 /// Tells a tear-down.
 fn write_torn(out: &mut Text, when: When<'_>) -> Result<(), AllocError>
-    ensures { out.new ≡ out.old }
+    ensures { out.new.settled ≡ out.old.settled }
 {
     begin_event(out, EVERYWHERE, cpu_track(0), when.place)?;
     end_event(out, ",\"name\":\"torn\",\"args\":{", when)
@@ -106,15 +106,15 @@ impl<'a> Walk<'a> {
 
     /// Adds a stay as a slice.
     pub(crate) fn add_slice(&mut self, out: &mut Text, stay: &Stay) -> Result<(), AllocError>
-        ensures { OnOk result (Adds (slice_front stay.now ∷ []) out.old out.new) }
+        ensures { OnOk result (Adds (slice_front stay.now ∷ []) out.old.settled out.new.settled) }
     {
         self.go(stay.from);
-        out.add_slice(stay, &self.line, &self.place, self.labels.of(stay.tid))
+        write_slice(out, stay, &self.line, &self.place, self.labels.of(stay.tid))
     }
 
     /// Tells what is counted at the beginning.
     pub(crate) fn begin(&self, out: &mut Text) -> Result<(), AllocError>
-        ensures { out.new ≡ out.old }
+        ensures { out.new.settled ≡ out.old.settled }
     {
         write_fill(out, &self.place, 0)?;
         self.queue.write(out, &self.place)
@@ -123,7 +123,7 @@ impl<'a> Walk<'a> {
     /// Tells what events did to transactions, of those that begin at this place or before.
     #[inline(always)]
     fn tell_marks(&mut self, out: &mut Text, place: usize) -> Result<(), AllocError>
-        ensures { out.new ≡ out.old }
+        ensures { out.new.settled ≡ out.old.settled }
     {
         let marks = self.notes.marks;
         for at in self.mark..marks.len() {
@@ -147,7 +147,7 @@ impl<'a> Walk<'a> {
     /// Tells what happened to agents that no entry tells, up to this place.
     #[inline(always)]
     fn tell_agents(&mut self, out: &mut Text, place: usize) -> Result<(), AllocError>
-        ensures { out.new ≡ out.old }
+        ensures { out.new.settled ≡ out.old.settled }
     {
         let marks = self.notes.agents;
         for at in self.agent_mark..marks.len() {
@@ -169,7 +169,7 @@ impl<'a> Walk<'a> {
     /// Tells how full the ring is, up to this place.
     #[inline(always)]
     fn tell_fills(&mut self, out: &mut Text, place: usize) -> Result<(), AllocError>
-        ensures { out.new ≡ out.old }
+        ensures { out.new.settled ≡ out.old.settled }
     {
         let fills = self.notes.fills;
         for at in self.fill..fills.len() {
@@ -195,7 +195,7 @@ impl<'a> Walk<'a> {
 
     /// Ends the time that the other class has a CPU, if it has it.
     fn give(&mut self, out: &mut Text, cpu: u16) -> Result<(), AllocError>
-        ensures { out.new ≡ out.old }
+        ensures { out.new.settled ≡ out.old.settled }
     {
         if self.take(cpu, false) {
             end_slice(out, CPU_END, cpu_track(cpu), &self.place)?;
@@ -206,7 +206,7 @@ impl<'a> Walk<'a> {
     /// Tells an entry. It is folded into the walk, and lends no part of the entry, so that this is never written out whole.
     #[inline(always)]
     fn tell_entry(&mut self, out: &mut Text, place: usize, entry: &Entry) -> Result<(), AllocError>
-        ensures { out.new ≡ out.old }
+        ensures { out.new.settled ≡ out.old.settled }
     {
         self.go(place);
         match entry {
@@ -251,7 +251,7 @@ impl<'a> Walk<'a> {
 
     /// Tells all up to a place: what happened before its entry, and that entry.
     pub(crate) fn tell_up_to(&mut self, out: &mut Text, last: usize) -> Result<(), AllocError>
-        ensures { out.new ≡ out.old }
+        ensures { out.new.settled ≡ out.old.settled }
     {
         let journal = self.journal;
         for place in self.entry..journal.len() {
@@ -274,7 +274,7 @@ impl<'a> Walk<'a> {
 
     /// Tells what happened behind the last entry, once all entries were told, and ends what goes on.
     pub(crate) fn finish(&mut self, out: &mut Text) -> Result<(), AllocError>
-        ensures { out.new ≡ out.old }
+        ensures { out.new.settled ≡ out.old.settled }
     {
         let end = self.journal.len();
         self.tell_marks(out, end)?;

@@ -1,9 +1,12 @@
+pub mod Bars
 pub mod Counts
 pub mod Endings
 pub mod Escapes
 pub mod Homes
 pub mod Lanes
+pub mod Lives
 pub mod Marks
+pub mod Pieces
 pub mod Places
 pub mod Shapes
 pub mod Stays

@@ -1,12 +1,14 @@
 //! The agents: their row, with how each began and ended and what pages it was given, and where each is active.
 
+ghost use Rattle.std.specs.Prelude.{◌≡◌};
+
 use crate::layout::{ABOVE, BAR, TOP, row_of};
 use crate::notes::{AgentEvent, AgentMark};
 use crate::part::{EDGE, Part};
+use crate::phrases::{begin_path, begin_text};
 use crate::rect::{Rect, write_from_to};
-use crate::sheet::Sheet;
 use crate::spans::Reign;
-use crate::text::{begin_path, begin_text};
+use crate::text::Text;
 use crate::threads::{digits, room_for};
 use gs_journal::{Entry, Journal};
 use std::alloc::{AllocError, Global};
@@ -22,7 +24,7 @@ const PAGES: u64 = 4;
 
 /// Adds what is said of an agent in both of its bars, behind the bar's place.
 fn write_title(
-    out: &mut Sheet,
+    out: &mut Text,
     part: &Part<'_>,
     reign: &Reign,
     style: &str,
@@ -42,14 +44,16 @@ fn write_title(
 
 /// Adds the bar of an agent, with what is said of it.
 fn write_bar(
-    out: &mut Sheet,
+    out: &mut Text,
     bar: &Rect,
     generation: u64,
     style: &str,
-    title: &Sheet,
-) -> Result<(), AllocError> {
+    title: &Text,
+) -> Result<(), AllocError>
+    ensures { out.new.settled ≡ out.old.settled }
+{
     bar.write(out)?;
-    out.push_sheet(title)?;
+    out.push_text(title)?;
     let letters = digits(generation);
     if room_for(letters) > bar.width {
         return Ok(());
@@ -65,12 +69,14 @@ fn write_bar(
 /// Adds an agent: in the row of the agents, and, while it is active, on its CPU. What is said of it is put together in
 /// `title` first.
 pub(crate) fn write_reign(
-    out: &mut Sheet,
-    title: &mut Sheet,
+    out: &mut Text,
+    title: &mut Text,
     part: &Part<'_>,
     cpus: u16,
     reign: &Reign,
-) -> Result<(), AllocError> {
+) -> Result<(), AllocError>
+    ensures { out.new.settled ≡ out.old.settled }
+{
     let bar = Rect {
         x: part.x(reign.from),
         y: TOP,
@@ -156,7 +162,9 @@ pub(crate) fn steps(
 }
 
 /// Adds the word of what happened to an agent, if it ends before `limit`.
-fn write_word(out: &mut Sheet, x: u64, limit: u64, word: &str) -> Result<(), AllocError> {
+fn write_word(out: &mut Text, x: u64, limit: u64, word: &str) -> Result<(), AllocError>
+    ensures { out.new.settled ≡ out.old.settled }
+{
     if word.is_empty() || x.saturating_add(room_for(word.len() as u64)) > limit {
         return Ok(());
     }
@@ -166,11 +174,9 @@ fn write_word(out: &mut Sheet, x: u64, limit: u64, word: &str) -> Result<(), All
 }
 
 /// Adds the words of what happened to the agents, each where the next one leaves room.
-pub(crate) fn write_steps(
-    out: &mut Sheet,
-    part: &Part<'_>,
-    steps: &[Step],
-) -> Result<(), AllocError> {
+pub(crate) fn write_steps(out: &mut Text, part: &Part<'_>, steps: &[Step]) -> Result<(), AllocError>
+    ensures { out.new.settled ≡ out.old.settled }
+{
     let mut limit = part.x(part.behind()).saturating_add(EDGE);
     for step in steps.iter().rev() {
         if part.has(step.place) {
@@ -184,12 +190,14 @@ pub(crate) fn write_steps(
 
 /// Adds the tick of a page.
 fn write_page(
-    out: &mut Sheet,
+    out: &mut Text,
     x: u64,
     mark: &AgentMark,
     count: u16,
     next: Option<u32>,
-) -> Result<(), AllocError> {
+) -> Result<(), AllocError>
+    ensures { out.new.settled ≡ out.old.settled }
+{
     begin_path(out, "page", x, TOP + BAR - PAGE)?;
     out.push_number("v", PAGE)?;
     out.push_number("\"><title>line ", mark.line as u64)?;
@@ -204,10 +212,12 @@ fn write_page(
 
 /// Adds a tick for each page that an agent was given. Those of one place stand before one another.
 pub(crate) fn write_pages(
-    out: &mut Sheet,
+    out: &mut Text,
     part: &Part<'_>,
     marks: &[AgentMark],
-) -> Result<(), AllocError> {
+) -> Result<(), AllocError>
+    ensures { out.new.settled ≡ out.old.settled }
+{
     let mut last = 0;
     let mut shift: u64 = 0;
     for mark in marks.iter().rev() {

@@ -1,8 +1,10 @@
+ghost use Rattle.std.specs.Prelude.{◌≡◌};
+
 use crate::layout::{BAR, row_of};
 use crate::part::Part;
 use crate::rect::{Rect, write_from_to};
-use crate::sheet::Sheet;
 use crate::stay::Stay;
+use crate::text::Text;
 use std::alloc::AllocError;
 
 /// Stays on a CPU that are narrower than a pixel each, in pixels that touch: they are drawn as one bar.
@@ -28,10 +30,12 @@ impl Blur {
     /// Adds a stay behind the others. If its pixel does not touch theirs, it draws the others first.
     pub(crate) fn add(
         &mut self,
-        out: &mut Sheet,
+        out: &mut Text,
         part: &Part<'_>,
         stay: &Stay,
-    ) -> Result<(), AllocError> {
+    ) -> Result<(), AllocError>
+        ensures { out.new.settled ≡ out.old.settled }
+    {
         if part.width(self.to, stay.from) > 1 {
             self.write(out, part)?;
         }
@@ -44,7 +48,9 @@ impl Blur {
     }
 
     /// Draws the stays as one bar, if there are any, and lets go of them.
-    pub(crate) fn write(&mut self, out: &mut Sheet, part: &Part<'_>) -> Result<(), AllocError> {
+    pub(crate) fn write(&mut self, out: &mut Text, part: &Part<'_>) -> Result<(), AllocError>
+        ensures { out.new.settled ≡ out.old.settled }
+    {
         if self.stays > 0 {
             let bar = Rect {
                 x: part.x(self.from),

@@ -1,17 +1,19 @@
 //! How many decisions are shown, and what came of them: a line below the heading, which is also what the shapes mean.
 
-ghost use Rattle.std.specs.Prelude.{◌≡◌, ◌+◌, ◌<◌, ℕ, if◌then◌else◌, IfOk, get_or, length, map, replicate};
+ghost use Rattle.std.specs.Prelude.{◌≡◌, ◌++◌, ◌+◌, ◌<◌, ℕ, if◌then◌else◌, IfOk, OnOk, get_or, length, map, replicate};
 ghost use Rattle.std.specs.List.{range_with_len};
+ghost use Rattle.gs_layout.specs.Outcome.{outcome_numbered};
 ghost use Rattle.gs_layout.specs.declared.outcome.TheConstants.{OUTCOMES};
-ghost use Rattle.gs_timeline.specs.Counts.{count_of, is_counted, is_placed, takes};
+ghost use Rattle.gs_timeline.specs.Counts.{any_came, came_to, count_of, is_counted, is_placed, sums, takes, told_by};
+ghost use Rattle.gs_timeline.specs.Pieces.{Adds};
 ghost use Rattle.gs_timeline.specs.declared.counts.Which.TheVariants.{Failed, Numbered, Placed, Stamped};
 
 use crate::decided::failure_of;
 use crate::notes::{Mark, What};
 use crate::part::Part;
+use crate::phrases::{begin_path, begin_text};
 use crate::shapes::{shape_of, words_of};
-use crate::sheet::Sheet;
-use crate::text::{begin_path, begin_text};
+use crate::text::Text;
 use crate::threads::{digits, room_for};
 use gs_layout::{OUTCOMES, Outcome};
 use std::alloc::{AllocError, Global};
@@ -49,7 +51,7 @@ enum Which {
     Placed,
     /// Those that landed, and whose thread was not.
     Failed,
-    /// Those of them whose outcome has this number. Clauses alone name these.
+    /// Those of them whose outcome has this number. Contracts alone use this.
     Numbered(u16),
 }
 
@@ -150,7 +152,9 @@ struct Pen {
 
 impl Pen {
     /// Adds an outcome: its shape, its words, and how many landings came to it.
-    fn write(&mut self, out: &mut Sheet, outcome: Outcome, count: u64) -> Result<(), AllocError> {
+    fn write(&mut self, out: &mut Text, outcome: Outcome, count: u64) -> Result<(), AllocError>
+        ensures { OnOk result (Adds (came_to outcome count) out.old.settled out.new.settled) }
+    {
         let words = words_of(outcome);
         let letters = (words.len() as u64)
             .saturating_add(digits(count))
@@ -168,27 +172,55 @@ impl Pen {
         )?;
         out.push_str(shape_of(outcome))?;
         out.push_str("\"/>\n")?;
+        out.settle();
         begin_text(out, self.x.saturating_add(SHAPE), self.y, "lost")?;
         out.push_str(words)?;
         out.push_number(" ", count)?;
         out.push_str("</text>\n")?;
+        out.settle();
         self.x = self.x.saturating_add(width);
         Ok(())
+    }
+
+    /// Adds the outcome of a number, if some landings came to it.
+    fn write_any(&mut self, out: &mut Text, number: u16, count: u64) -> Result<(), AllocError>
+        ensures { OnOk result (Adds (any_came (outcome_numbered number) count) out.old.settled out.new.settled) }
+    {
+        match Outcome::numbered(number) {
+            Some(outcome) if count > 0 => self.write(out, outcome, count),
+            _ => Ok(()),
+        }
+    }
+}
+
+impl Counts {
+    /// Returns how many landings came to the outcome of a number, and were not placed.
+    fn came_to(&self, number: u16) -> u64
+        ensures { result ≡ get_or self.now.outcomes.items number 0 }
+    {
+        self.outcomes.get(number as usize).copied().unwrap_or(0)
     }
 }
 
 /// Adds how many decisions are shown, and how many were placed or not.
-pub(crate) fn write_sums(out: &mut Sheet, counts: &Counts) -> Result<(), AllocError> {
+pub(crate) fn write_sums(out: &mut Text, counts: &Counts) -> Result<(), AllocError>
+    ensures settled { out.new.settled ≡ out.old.settled }
+    ensures told { OnOk result (out.new.told ≡ out.old.told ++ sums counts.now.stamped counts.now.placed counts.now.failed) }
+{
     out.push_number("Decisions: stamped ", counts.stamped)?;
     out.push_number(", placed ", counts.placed)?;
     out.push_number(", not placed ", counts.failed)
 }
 
 /// Adds how many decisions are shown, and what came of them.
-pub(crate) fn write_counted(out: &mut Sheet, counts: &Counts) -> Result<(), AllocError> {
+pub(crate) fn write_counted(out: &mut Text, counts: &Counts) -> Result<(), AllocError>
+    ensures { OnOk result (Adds (told_by counts.now) out.old.settled out.new.settled) }
+{
     begin_text(out, 10, FIRST, "count")?;
+    out.settle();
     write_sums(out, counts)?;
     out.push_str("</text>\n")?;
+    out.settle();
     let numbers = [counts.stamped, counts.placed, counts.failed];
     let mut letters = WORDS;
     for number in &numbers {
@@ -199,10 +231,7 @@ pub(crate) fn write_counted(out: &mut Sheet, counts: &Counts) -> Result<(), Allo
         y: FIRST,
     };
     for number in 0..OUTCOMES {
-        let count = counts.outcomes.get(number as usize).copied().unwrap_or(0);
-        if let (Some(outcome), true) = (Outcome::numbered(number), count > 0) {
-            pen.write(out, outcome, count)?;
-        }
+        pen.write_any(out, number, counts.came_to(number))?;
     }
     Ok(())
 }

@@ -7,9 +7,9 @@ use crate::layout::decided_of;
 use crate::lives::{Life, life_of};
 use crate::notes::{Mark, What};
 use crate::part::{EDGE, Part};
+use crate::phrases::{begin_path, begin_text};
 use crate::shapes::{MIXED, STAMP, shape_of, words_of};
-use crate::sheet::Sheet;
-use crate::text::{begin_path, begin_text};
+use crate::text::Text;
 use crate::threads::{letters_of, room_for, write_called, write_thread};
 use gs_layout::Outcome;
 use std::alloc::{AllocError, Global};
@@ -46,7 +46,9 @@ pub(crate) fn is_stamp(mark: &Mark) -> bool {
 }
 
 /// Adds what an event did to a transaction.
-fn write_what(out: &mut Sheet, what: What) -> Result<(), AllocError> {
+fn write_what(out: &mut Text, what: What) -> Result<(), AllocError>
+    ensures { out.new.settled ≡ out.old.settled }
+{
     match what {
         What::Stamped { preempt, group } => {
             out.push_str("stamped")?;
@@ -66,7 +68,10 @@ fn write_what(out: &mut Sheet, what: What) -> Result<(), AllocError> {
 }
 
 /// Adds a mark in words: its line, before which entry it was, what was done, and to which thread and CPU.
-pub(crate) fn write_mark(out: &mut Sheet, lives: &[Life], mark: &Mark) -> Result<(), AllocError> {
+#[inline(always)]
+pub(crate) fn write_mark(out: &mut Text, lives: &[Life], mark: &Mark) -> Result<(), AllocError>
+    ensures { out.new.settled ≡ out.old.settled }
+{
     let entry = mark.entries as u64;
     out.push_two("line ", mark.line as u64, ", before entry ", entry)?;
     out.push_str(": ")?;
@@ -82,7 +87,7 @@ struct Cluster {
     cpu: u16,
     x: u64,
     /// A line for each of the first marks.
-    title: Sheet,
+    title: Text,
     marks: u64,
     stamps: u64,
     failures: u64,
@@ -97,7 +102,7 @@ impl Cluster {
         Cluster {
             cpu,
             x: 0,
-            title: Sheet::new(alloc),
+            title: Text::new(alloc),
             marks: 0,
             stamps: 0,
             failures: 0,
@@ -121,6 +126,7 @@ impl Cluster {
     }
 
     /// Adds a mark behind the others.
+    #[inline(always)]
     fn add(&mut self, lives: &[Life], mark: &Mark) -> Result<(), AllocError> {
         if self.marks < MOST_TOLD {
             if self.marks > 0 {
@@ -137,7 +143,9 @@ impl Cluster {
     }
 
     /// Adds the shapes: a ring if something was stamped, and that of an outcome if something was not placed.
-    fn write_shapes(&self, out: &mut Sheet, y: u64) -> Result<(), AllocError> {
+    fn write_shapes(&self, out: &mut Text, y: u64) -> Result<(), AllocError>
+        ensures { out.new.settled ≡ out.old.settled }
+    {
         let class = match self.first {
             Some(_) => "failed",
             None => "stamp",
@@ -159,11 +167,13 @@ impl Cluster {
     /// placed, and of which thread, or how many were not.
     fn write_words(
         &self,
-        out: &mut Sheet,
+        out: &mut Text,
         lives: &[Life],
         y: u64,
         limit: u64,
-    ) -> Result<(), AllocError> {
+    ) -> Result<(), AllocError>
+        ensures { out.new.settled ≡ out.old.settled }
+    {
         let Some((tid, outcome)) = self.first else {
             return Ok(());
         };
@@ -196,14 +206,16 @@ impl Cluster {
     }
 
     /// Draws the marks, if there are any, with words beside them that end before `limit`, and lets go of them.
-    fn write(&mut self, out: &mut Sheet, lives: &[Life], limit: u64) -> Result<(), AllocError> {
+    fn write(&mut self, out: &mut Text, lives: &[Life], limit: u64) -> Result<(), AllocError>
+        ensures { out.new.settled ≡ out.old.settled }
+    {
         if self.marks == 0 {
             return Ok(());
         }
         let y = decided_of(self.cpu);
         self.write_shapes(out, y)?;
         out.push_str("\"><title>")?;
-        out.push_sheet(&self.title)?;
+        out.push_text(&self.title)?;
         let others = self.marks.saturating_sub(MOST_TOLD);
         if others > 0 {
             out.push_number("\nand more: ", others)?;
@@ -222,13 +234,15 @@ impl Cluster {
 
 /// Adds the marks of a CPU: those are drawn that are stamps, or landings that were not placed.
 pub(crate) fn write_decided(
-    out: &mut Sheet,
+    out: &mut Text,
     alloc: Global,
     part: &Part<'_>,
     lives: &[Life],
     cpu: u16,
     marks: &[Mark],
-) -> Result<(), AllocError> {
+) -> Result<(), AllocError>
+    ensures { out.new.settled ≡ out.old.settled }
+{
     let mut cluster = Cluster::new(alloc, cpu);
     for mark in marks {
         let drawn = is_stamp(mark) || failure_of(mark).is_some();

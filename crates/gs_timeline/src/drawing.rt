@@ -1,5 +1,13 @@
-ghost use Rattle.std.specs.Prelude.{◌≡◌, slice_get};
+ghost use Rattle.std.specs.Prelude.{◌≡◌, ◌<◌, ◌++◌, List, ℕ, Some, IfOk, OnOk, flat_map, length, map, slice_get};
+ghost use Rattle.std.specs.Option.{option_map};
+ghost use Rattle.gs_timeline.specs.Bars.{bars, pieces_of, scale};
+ghost use Rattle.gs_timeline.specs.Counts.{decisions, told_by};
 ghost use Rattle.gs_timeline.specs.Endings.{ending_of};
+ghost use Rattle.gs_timeline.specs.Lanes.{LaneOf};
+ghost use Rattle.gs_timeline.specs.Lives.{born, class_among, class_of};
+ghost use Rattle.gs_timeline.specs.Pieces.{Adds, HasEach};
+ghost use Rattle.gs_timeline.specs.Places.{scale_of};
+ghost use Rattle.gs_timeline.specs.Stays.{all_stays, stays};
 
 use crate::agents::{steps, write_pages, write_reign, write_steps};
 use crate::bars::{BarDigits, write_stay};
@@ -13,17 +21,18 @@ use crate::lane::Lane;
 use crate::layout::{BAR, TOP, row_of};
 use crate::legend::{write_legend, write_style};
 use crate::listing::{Line, listing};
-use crate::lives::{Life, add_stays, end_strips, life_of, lives};
+use crate::lives::{Life, life_of, lives};
 use crate::marks::{write_axis, write_hold, write_marks};
 use crate::notes::{Listed, Notes};
 use crate::part::{EDGE, LEFT, Part};
+use crate::phrases::begin_text;
 use crate::rect::{Rect, write_entry};
 use crate::ring::write_ring;
 use crate::sheet::Sheet;
 use crate::slots::{clearings, marks_by_cpu, write_stamped};
 use crate::spans::{Hold, holds, reigns};
 use crate::stay::Stay;
-use crate::text::begin_text;
+use crate::text::Text;
 use crate::walk::stays;
 use gs_journal::{Entry, Journal};
 use std::alloc::{AllocError, Global};
@@ -35,7 +44,9 @@ const AGAIN: u64 = 1_000;
 const LEAST_WIDTH: u64 = 910;
 
 /// Adds the background of a row whose bars begin at `y`.
-fn write_back(out: &mut Sheet, part: &Part<'_>, y: u64) -> Result<(), AllocError> {
+fn write_back(out: &mut Text, part: &Part<'_>, y: u64) -> Result<(), AllocError>
+    ensures { out.new.settled ≡ out.old.settled }
+{
     let row = Rect {
         x: LEFT,
         y,
@@ -47,7 +58,9 @@ fn write_back(out: &mut Sheet, part: &Part<'_>, y: u64) -> Result<(), AllocError
 }
 
 /// Adds the row of a CPU: its name, and when the other class held it.
-fn write_row(out: &mut Sheet, part: &Part<'_>, cpu: u16, holds: &[Hold]) -> Result<(), AllocError> {
+fn write_row(out: &mut Text, part: &Part<'_>, cpu: u16, holds: &[Hold]) -> Result<(), AllocError>
+    ensures { out.new.settled ≡ out.old.settled }
+{
     let y = row_of(cpu);
     begin_text(out, 10, y.saturating_add(17), "label")?;
     out.push_number("CPU ", u64::from(cpu))?;
@@ -60,7 +73,9 @@ fn write_row(out: &mut Sheet, part: &Part<'_>, cpu: u16, holds: &[Hold]) -> Resu
 }
 
 /// Adds the name of a CPU's row again, where a wide picture repeats it.
-fn write_again(out: &mut Sheet, part: &Part<'_>, cpu: u16) -> Result<(), AllocError> {
+fn write_again(out: &mut Text, part: &Part<'_>, cpu: u16) -> Result<(), AllocError>
+    ensures { out.new.settled ≡ out.old.settled }
+{
     let y = row_of(cpu).saturating_add(BAR + 10);
     let places = part.width(part.first(), part.behind()) / AGAIN;
     for place in 1..places {
@@ -85,14 +100,16 @@ fn ending_at(journal: &Journal, place: usize) -> Ending
 
 /// Adds the bars of the threads on a CPU.
 fn write_stays(
-    out: &mut Sheet,
+    out: &mut Text,
     kept: &mut BarDigits,
     part: &Part<'_>,
     cpu: u16,
     journal: &Journal,
     lives: &[Life],
     stays: &[Stay],
-) -> Result<(), AllocError> {
+) -> Result<(), AllocError>
+    ensures { OnOk result (Adds (flat_map (pieces_of (scale part.now) (class_among (map born lives.now)) journal.now.entries) stays.now) out.old.settled out.new.settled) }
+{
     let mut blur = Blur::new(cpu);
     for stay in stays {
         if part.width(stay.from, stay.to) > 0 {
@@ -109,22 +126,28 @@ fn write_stays(
 
 /// Adds the rows of the CPUs, with who was on each.
 fn write_rows(
-    out: &mut Sheet,
+    out: &mut Text,
     alloc: Global,
     part: &Part<'_>,
     journal: &Journal,
     lives: &[Life],
     lanes: &[Lane],
     cpus: u16,
-) -> Result<(), AllocError> {
+) -> Result<(), AllocError>
+    requires count { length lanes.now ≡ cpus }
+    requires stays { (c : ℕ) → c < cpus → option_map (λ (lane : LaneOf). lane.ended) (slice_get lanes.now c) ≡ Some (stays journal.now.entries c) }
+    ensures { OnOk result (Adds (flat_map (pieces_of (scale part.now) (class_among (map born lives.now)) journal.now.entries) (all_stays journal.now.entries cpus)) out.old.settled out.new.settled) }
+{
     let held = holds(alloc, journal, cpus)?;
     let mut kept = BarDigits::new();
     for cpu in 0..cpus {
-        let (Some(lane), Some(held)) = (lanes.get(cpu as usize), held.get(cpu as usize)) else {
-            break;
+        let holds: &[Hold] = match held.get(cpu as usize) {
+            Some(held) => held.ended(),
+            None => &[],
         };
-        write_row(out, part, cpu, held.ended())?;
-        write_stays(out, &mut kept, part, cpu, journal, lives, lane.stays())?;
+        write_row(out, part, cpu, holds)?;
+        let stays = lanes[cpu as usize].stays();
+        write_stays(out, &mut kept, part, cpu, journal, lives, stays)?;
         write_again(out, part, cpu)?;
     }
     Ok(())
@@ -132,14 +155,16 @@ fn write_rows(
 
 /// Adds what was decided of the CPUs, above the bars of each.
 fn write_decisions(
-    out: &mut Sheet,
+    out: &mut Text,
     alloc: Global,
     part: &Part<'_>,
     journal: &Journal,
     lives: &[Life],
     cpus: u16,
     notes: &Notes<'_>,
-) -> Result<(), AllocError> {
+) -> Result<(), AllocError>
+    ensures { out.new.settled ≡ out.old.settled }
+{
     let slots = marks_by_cpu(alloc, notes.marks, cpus)?;
     let cleared = clearings(alloc, journal)?;
     for cpu in 0..cpus {
@@ -155,14 +180,16 @@ fn write_decisions(
 
 /// Adds the row of the agents, and where each was active.
 fn write_agents(
-    out: &mut Sheet,
+    out: &mut Text,
     alloc: Global,
     part: &Part<'_>,
     journal: &Journal,
     cpus: u16,
     notes: &Notes<'_>,
-) -> Result<(), AllocError> {
-    let mut title = Sheet::new(alloc);
+) -> Result<(), AllocError>
+    ensures { out.new.settled ≡ out.old.settled }
+{
+    let mut title = Text::new(alloc);
     for reign in &reigns(alloc, journal)? {
         write_reign(out, &mut title, part, cpus, reign)?;
     }
@@ -171,14 +198,14 @@ fn write_agents(
 }
 
 /// Adds a width and a height.
-fn write_size(out: &mut Sheet, width: u64, height: u64) -> Result<(), AllocError> {
+fn write_size(out: &mut Text, width: u64, height: u64) -> Result<(), AllocError> {
     out.push_number(" width=\"", width)?;
     out.push_number("\" height=\"", height)?;
     out.push_str("\"")
 }
 
 /// Adds the heading: which entries are shown, of how many, and whether the last of all is a tear-down.
-fn write_heading(out: &mut Sheet, part: &Part<'_>, journal: &Journal) -> Result<(), AllocError> {
+fn write_heading(out: &mut Text, part: &Part<'_>, journal: &Journal) -> Result<(), AllocError> {
     out.push_str("<text x=\"10\" y=\"22\" font-size=\"14\" font-weight=\"bold\">Who ran where: ")?;
     out.push_decimal(part.count() as u64)?;
     out.push_number(" of ", journal.len() as u64)?;
@@ -197,7 +224,7 @@ fn write_heading(out: &mut Sheet, part: &Part<'_>, journal: &Journal) -> Result<
 
 /// Adds what a picture is, in words, for whoever does not see it.
 fn write_description(
-    out: &mut Sheet,
+    out: &mut Text,
     cpus: u16,
     threads: usize,
     journal: &Journal,
@@ -225,7 +252,9 @@ struct Head<'a> {
 }
 
 /// Adds the beginning of the picture: its size, what it is, how its parts look, its heading and what its marks mean.
-fn write_head(out: &mut Sheet, part: &Part<'_>, head: &Head<'_>) -> Result<(), AllocError> {
+fn write_head(out: &mut Text, part: &Part<'_>, head: &Head<'_>) -> Result<(), AllocError>
+    ensures { OnOk result ((start : List ℕ) × Adds (told_by head.now.counts.now) start out.new.settled) }
+{
     let width = part.x(part.behind()).saturating_add(EDGE).max(LEAST_WIDTH);
     out.push_str("<svg xmlns=\"http://www.w3.org/2000/svg\"")?;
     write_size(out, width, head.height)?;
@@ -258,7 +287,12 @@ struct Drawn<'a> {
 }
 
 /// Adds the whole picture: its beginning, its rows with what stands in them, its foot and its end.
-fn draw(out: &mut Sheet, alloc: Global, drawn: &Drawn<'_>) -> Result<(), AllocError> {
+fn draw(out: &mut Text, alloc: Global, drawn: &Drawn<'_>) -> Result<(), AllocError>
+    requires count { length drawn.now.lanes.now ≡ drawn.now.cpus }
+    requires stays { (c : ℕ) → c < drawn.now.cpus → option_map (λ (lane : LaneOf). lane.ended) (slice_get drawn.now.lanes.now c) ≡ Some (stays drawn.now.journal.now.entries c) }
+    ensures decisions { OnOk result (HasEach (told_by drawn.now.counts.now) (out.new.settled ++ out.new.told)) }
+    ensures stays { OnOk result (HasEach (flat_map (pieces_of (scale drawn.now.part.now) (class_among (map born drawn.now.lives.now)) drawn.now.journal.now.entries) (all_stays drawn.now.journal.now.entries drawn.now.cpus)) (out.new.settled ++ out.new.told)) }
+{
     let Drawn {
         cpus,
         journal,
@@ -293,8 +327,8 @@ fn draw(out: &mut Sheet, alloc: Global, drawn: &Drawn<'_>) -> Result<(), AllocEr
 
 /// Returns a picture of a history as SVG: a row for each of so many CPUs, and in it a bar for each stay of a thread. Above
 /// the bars of a CPU stand the decisions of the notes: each stamp, and each landing that was not placed, with what it
-/// came to. Marks that are near to one another are drawn as one, whose title tells of each of the first ones. Below the
-/// rows threads are listed.
+/// came to. Marks that are near to one another are drawn as one, and its title tells of the first few. Below the rows
+/// threads are listed.
 ///
 /// It shows the entries from place `from` to place `to`, that one too. Of more than
 /// [`MOST_SINGLE`](crate::MOST_SINGLE) several share a pixel, and stays that are narrower are drawn together if they
@@ -311,17 +345,16 @@ pub fn picture(
     from: usize,
     to: usize,
     listed: Listed,
-) -> Result<Sheet, AllocError> {
+) -> Result<Sheet, AllocError>
+    ensures decisions { IfOk result (λ text. HasEach (decisions (scale_of (length journal.now.entries) from to) notes.now.marks.now) text) }
+    ensures stays { IfOk result (λ text. HasEach (bars (scale_of (length journal.now.entries) from to) journal.now.entries cpus) text) }
+{
     let part = Part::new(journal.len(), notes.lines, from, to);
-    let mut lives = lives(alloc, journal, &part)?;
     let lanes = stays(alloc, journal, cpus)?;
-    for lane in &lanes {
-        add_stays(&mut lives, &part, lane.stays())?;
-    }
-    end_strips(&mut lives)?;
+    let lives = lives(alloc, journal, &part, &lanes)?;
     let lines = listing(alloc, &lives, listed)?;
     let counts = counted(alloc, &part, notes.marks)?;
-    let mut out = Sheet::new(alloc);
+    let mut out = Text::new(alloc);
     let drawn = Drawn {
         cpus,
         journal,
@@ -333,5 +366,5 @@ pub fn picture(
         counts: &counts,
     };
     draw(&mut out, alloc, &drawn)?;
-    Ok(out)
+    Ok(out.into_sheet())
 }

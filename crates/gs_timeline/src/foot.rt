@@ -1,10 +1,12 @@
+ghost use Rattle.std.specs.Prelude.{◌≡◌};
+
 use crate::layout::{LINE, foot_of};
 use crate::listing::Line;
 use crate::lives::{Life, life_of};
 use crate::part::Part;
-use crate::sheet::Sheet;
+use crate::phrases::begin_text;
 use crate::strip::Strip;
-use crate::text::begin_text;
+use crate::text::Text;
 use crate::threads::{shade_of, write_called, write_thread};
 use gs_layout::Class;
 use std::alloc::AllocError;
@@ -18,7 +20,9 @@ pub(crate) fn end_of_foot(cpus: u16, listed: usize) -> u64 {
 }
 
 /// Adds behind how many entries threads ran, and behind how many they waited.
-fn write_counts(out: &mut Sheet, ran: usize, waited: usize) -> Result<(), AllocError> {
+fn write_counts(out: &mut Text, ran: usize, waited: usize) -> Result<(), AllocError>
+    ensures { out.new.settled ≡ out.old.settled }
+{
     if ran == 0 {
         out.push_str(": never ran, ")?;
     } else {
@@ -30,12 +34,14 @@ fn write_counts(out: &mut Sheet, ran: usize, waited: usize) -> Result<(), AllocE
 
 /// Adds a path of lengths on the axis, of these classes.
 fn write_strip(
-    out: &mut Sheet,
+    out: &mut Text,
     y: u64,
     class: &str,
     shade: &str,
     strip: &Strip,
-) -> Result<(), AllocError> {
+) -> Result<(), AllocError>
+    ensures { out.new.settled ≡ out.old.settled }
+{
     out.push_number("<path transform=\"translate(0 ", y)?;
     out.push_str(")\" class=\"")?;
     out.push_str(class)?;
@@ -46,7 +52,9 @@ fn write_strip(
 }
 
 /// Adds the title of what a thread did.
-fn write_life_title(out: &mut Sheet, life: &Life) -> Result<(), AllocError> {
+fn write_life_title(out: &mut Text, life: &Life) -> Result<(), AllocError>
+    ensures { out.new.settled ≡ out.old.settled }
+{
     out.push_str("<title>")?;
     write_thread(out, life.tid, Some(life))?;
     write_counts(out, life.ran().entries(), life.waited())?;
@@ -54,7 +62,9 @@ fn write_life_title(out: &mut Sheet, life: &Life) -> Result<(), AllocError> {
 }
 
 /// Adds what a thread did: behind how many of the shown entries it ran and waited, and when.
-fn write_life(out: &mut Sheet, part: &Part<'_>, y: u64, life: &Life) -> Result<(), AllocError> {
+fn write_life(out: &mut Text, part: &Part<'_>, y: u64, life: &Life) -> Result<(), AllocError>
+    ensures { out.new.settled ≡ out.old.settled }
+{
     begin_text(out, 10, y, "thread")?;
     out.push_decimal(u64::from(life.tid))?;
     if life.is_named() {
@@ -75,13 +85,9 @@ fn write_life(out: &mut Sheet, part: &Part<'_>, y: u64, life: &Life) -> Result<(
 }
 
 /// Adds how many more threads of a class there are that ran, or that never did.
-fn write_more(
-    out: &mut Sheet,
-    y: u64,
-    class: Class,
-    ran: bool,
-    count: u64,
-) -> Result<(), AllocError> {
+fn write_more(out: &mut Text, y: u64, class: Class, ran: bool, count: u64) -> Result<(), AllocError>
+    ensures { out.new.settled ≡ out.old.settled }
+{
     begin_text(out, 10, y, "thread")?;
     out.push_decimal(count)?;
     out.push_number(" more, of class ", class.number() as u64)?;
@@ -90,7 +96,9 @@ fn write_more(
 }
 
 /// Adds what the threads of a class did together.
-fn write_class(out: &mut Sheet, y: u64, lives: &[Life], class: Class) -> Result<(), AllocError> {
+fn write_class(out: &mut Text, y: u64, lives: &[Life], class: Class) -> Result<(), AllocError>
+    ensures { out.new.settled ≡ out.old.settled }
+{
     let mut ran: usize = 0;
     let mut waited: usize = 0;
     let mut threads: u64 = 0;
@@ -110,12 +118,14 @@ fn write_class(out: &mut Sheet, y: u64, lives: &[Life], class: Class) -> Result<
 
 /// Adds what the classes did, and what the threads did that are listed.
 pub(crate) fn write_foot(
-    out: &mut Sheet,
+    out: &mut Text,
     part: &Part<'_>,
     cpus: u16,
     lives: &[Life],
     lines: &[Line],
-) -> Result<(), AllocError> {
+) -> Result<(), AllocError>
+    ensures { out.new.settled ≡ out.old.settled }
+{
     let mut y = foot_of(cpus).saturating_add(LINE);
     write_class(out, y, lives, Class::Zero)?;
     y = y.saturating_add(LINE);

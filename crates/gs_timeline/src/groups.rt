@@ -1,12 +1,14 @@
 //! The groups: those that land together have a bracket that joins their CPUs.
 
+ghost use Rattle.std.specs.Prelude.{◌≡◌};
+
 use crate::decided::{failure_of, write_mark};
 use crate::layout::decided_of;
 use crate::lives::Life;
 use crate::notes::{Mark, What};
 use crate::part::Part;
-use crate::sheet::Sheet;
-use crate::text::begin_path;
+use crate::phrases::begin_path;
+use crate::text::Text;
 use std::alloc::{AllocError, Global};
 
 /// How far before their place a bracket stands.
@@ -17,11 +19,13 @@ const MOST_TOLD: usize = 8;
 
 /// Adds the bracket of a group that landed, if that is shown.
 fn write_group(
-    out: &mut Sheet,
+    out: &mut Text,
     part: &Part<'_>,
     lives: &[Life],
     group: &[Mark],
-) -> Result<(), AllocError> {
+) -> Result<(), AllocError>
+    ensures { out.new.settled ≡ out.old.settled }
+{
     let [first, others @ ..] = group else {
         return Ok(());
     };
@@ -67,13 +71,15 @@ fn none_grouped(alloc: Global, cpus: u16) -> Result<Vec<bool>, AllocError> {
 
 /// Adds a bracket for each group that landed.
 pub(crate) fn write_groups(
-    out: &mut Sheet,
+    out: &mut Text,
     alloc: Global,
     part: &Part<'_>,
     lives: &[Life],
     cpus: u16,
     marks: &[Mark],
-) -> Result<(), AllocError> {
+) -> Result<(), AllocError>
+    ensures { out.new.settled ≡ out.old.settled }
+{
     let mut grouped = none_grouped(alloc, cpus)?;
     let mut group: Vec<Mark> = Vec::new(alloc);
     for mark in marks {

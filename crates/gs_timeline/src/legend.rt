@@ -1,4 +1,4 @@
-use crate::sheet::Sheet;
+use crate::text::Text;
 use std::alloc::AllocError;
 
 /// How the parts of a picture look in a light scheme. Each text has a contrast of 4.5 at least to what it stands on, and each
@@ -27,7 +27,7 @@ const LETTERS: &str =
     "<text x=\"10\" y=\"74\" class=\"small\">Letters tell why a thread left: P preempted, B blocked, Y yielded, D died, A affinity, T torn down. Point at a bar or a mark to read more.</text>\n";
 
 /// Adds how the parts of a picture look. A scheme that is dark has a style sheet of its own.
-pub(crate) fn write_style(out: &mut Sheet) -> Result<(), AllocError> {
+pub(crate) fn write_style(out: &mut Text) -> Result<(), AllocError> {
     out.push_str("<style>")?;
     out.push_str(LIGHT)?;
     out.push_str(SHAPES)?;
@@ -38,7 +38,7 @@ pub(crate) fn write_style(out: &mut Sheet) -> Result<(), AllocError> {
 }
 
 /// Adds what the marks of a picture mean.
-pub(crate) fn write_legend(out: &mut Sheet) -> Result<(), AllocError> {
+pub(crate) fn write_legend(out: &mut Text) -> Result<(), AllocError> {
     out.push_str(SAMPLES)?;
     out.push_str(LETTERS)
 }

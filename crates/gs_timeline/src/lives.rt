@@ -1,8 +1,12 @@
+ghost use Rattle.std.specs.Prelude.{◌≡◌, ◌-◌, IfOk, OnOk, map};
+ghost use Rattle.gs_timeline.specs.Lives.{born, class_among, class_known, creations};
+
+use crate::lane::Lane;
 use crate::part::Part;
-use crate::sheet::Sheet;
+use crate::phrases::write_escaped;
 use crate::stay::Stay;
 use crate::strip::Strip;
-use crate::text::write_escaped;
+use crate::text::Text;
 use gs_journal::{Entry, Journal};
 use gs_layout::{Change, Class, Facts, Message};
 use std::alloc::{AllocError, Global};
@@ -16,7 +20,7 @@ pub(crate) struct Life {
     name: String,
     letters: u64,
     /// Which thread it is, in words.
-    words: Sheet,
+    words: Text,
     /// Since which entry it lives and may run, if it does.
     ready_since: Option<usize>,
     /// When it lived and could run.
@@ -26,7 +30,7 @@ pub(crate) struct Life {
 }
 
 /// Adds which thread it is: its tid, its name if it has one, and its class.
-fn write_words(out: &mut Sheet, tid: u32, name: &str, class: Class) -> Result<(), AllocError> {
+fn write_words(out: &mut Text, tid: u32, name: &str, class: Class) -> Result<(), AllocError> {
     out.push_number("thread ", u64::from(tid))?;
     if !name.is_empty() {
         out.push_str(" ")?;
@@ -37,10 +41,12 @@ fn write_words(out: &mut Sheet, tid: u32, name: &str, class: Class) -> Result<()
 
 impl Life {
     /// Makes the life of a thread that the entry of this place creates.
-    fn new(alloc: Global, tid: u32, facts: &Facts, place: usize) -> Result<Life, AllocError> {
+    fn new(alloc: Global, tid: u32, facts: &Facts, place: usize) -> Result<Life, AllocError>
+        ensures { IfOk result (λ life. born life ≡ (tid, facts.now.class)) }
+    {
         let mut name = String::new(alloc);
         write_escaped(&mut name, &facts.name)?;
-        let mut words = Sheet::new(alloc);
+        let mut words = Text::new(alloc);
         write_words(&mut words, tid, name.as_str(), facts.class)?;
         Ok(Life {
             tid,
@@ -65,7 +71,7 @@ impl Life {
     }
 
     /// Lends which thread it is, in words: its tid, its name if it has one, and its class.
-    pub(crate) fn words(&self) -> &Sheet {
+    pub(crate) fn words(&self) -> &Text {
         &self.words
     }
 
@@ -75,7 +81,9 @@ impl Life {
     }
 
     /// Ends the time that it may run, by the entry of this place, if it may.
-    fn end(&mut self, part: &Part<'_>, place: usize) -> Result<(), AllocError> {
+    fn end(&mut self, part: &Part<'_>, place: usize) -> Result<(), AllocError>
+        ensures { born self.new ≡ born self.old }
+    {
         match self.ready_since.take() {
             Some(since) => self.ready.add(part, since, place),
             None => Ok(()),
@@ -83,10 +91,45 @@ impl Life {
     }
 
     /// Begins a time that it may run, by the entry of this place, if it may not.
-    fn begin(&mut self, place: usize) {
+    fn begin(&mut self, place: usize)
+        ensures { born self.new ≡ born self.old }
+    {
         if self.ready_since.is_none() {
             self.ready_since = Some(place);
         }
+    }
+
+    /// Changes as a message about it says, whose entry is that of this place.
+    #[inline(always)]
+    fn tell(&mut self, part: &Part<'_>, place: usize, change: &Change) -> Result<(), AllocError>
+        ensures { born self.new ≡ born self.old }
+    {
+        match change {
+            Change::Blocked { .. } | Change::Dead { .. } => self.end(part, place),
+            Change::Wakeup => {
+                self.begin(place);
+                Ok(())
+            }
+            Change::Created { .. }
+            | Change::Preempted { .. }
+            | Change::Yield { .. }
+            | Change::Affinity { .. } => Ok(()),
+        }
+    }
+
+    /// Adds a stay on a CPU.
+    fn add_stay(&mut self, part: &Part<'_>, stay: &Stay) -> Result<(), AllocError>
+        ensures { born self.new ≡ born self.old }
+    {
+        self.ran.add(part, stay.from, stay.to)
+    }
+
+    /// Draws its last times.
+    fn end_strips(&mut self) -> Result<(), AllocError>
+        ensures { born self.new ≡ born self.old }
+    {
+        self.ready.end()?;
+        self.ran.end()
     }
 
     /// Lends when it lived and could run.
@@ -106,13 +149,30 @@ impl Life {
 }
 
 /// Returns the place of a thread in a list by tid, whose first is 1.
-fn index_of(tid: u32) -> usize {
+fn index_of(tid: u32) -> usize
+    ensures { result ≡ tid - 1 }
+{
     (tid as usize).saturating_sub(1)
 }
 
 /// Lends the life of a thread, or returns `None` if it was not created.
-pub(crate) fn life_of(lives: &[Life], tid: u32) -> Option<&Life> {
-    lives.get(index_of(tid)).filter(|life| life.tid == tid)
+pub(crate) fn life_of(lives: &[Life], tid: u32) -> Option<&Life>
+    ensures { class_known result ≡ class_among (map born lives.now) tid }
+{
+    match lives.get(index_of(tid)) {
+        Some(life) if life.tid == tid => Some(life),
+        _ => None,
+    }
+}
+
+/// Returns the class of a life, if there is one.
+pub(crate) fn class_known(life: Option<&Life>) -> Option<Class>
+    ensures { result ≡ class_known life.entry }
+{
+    match life {
+        Some(life) => Some(life.class),
+        None => None,
+    }
 }
 
 /// Changes a thread's life as a message about it says.
@@ -123,62 +183,53 @@ fn tell(
     place: usize,
     tid: u32,
     change: &Change,
-) -> Result<(), AllocError> {
-    let Some(life) = lives.get_mut(index_of(tid)) else {
-        return Ok(());
-    };
-    match change {
-        Change::Blocked { .. } | Change::Dead { .. } => life.end(part, place)?,
-        Change::Wakeup => life.begin(place),
-        Change::Created { .. }
-        | Change::Preempted { .. }
-        | Change::Yield { .. }
-        | Change::Affinity { .. } => {}
+) -> Result<(), AllocError>
+    ensures { OnOk result (map born lives.new ≡ map born lives.old) }
+{
+    let index = index_of(tid);
+    if index < lives.len() {
+        lives[index].tell(part, place, change)?;
     }
     Ok(())
 }
 
 /// Ends the time that each thread may run, by the entry of this place.
-fn end_all(lives: &mut [Life], part: &Part<'_>, place: usize) -> Result<(), AllocError> {
-    for life in lives.iter_mut() {
-        life.end(part, place)?;
+fn end_all(lives: &mut [Life], part: &Part<'_>, place: usize) -> Result<(), AllocError>
+    ensures { OnOk result (map born lives.new ≡ map born lives.old) }
+{
+    for index in 0..lives.len() {
+        lives[index].end(part, place)?;
     }
     Ok(())
 }
 
 /// Adds the stays of threads on a CPU.
-pub(crate) fn add_stays(
-    lives: &mut [Life],
-    part: &Part<'_>,
-    stays: &[Stay],
-) -> Result<(), AllocError> {
+fn add_stays(lives: &mut [Life], part: &Part<'_>, stays: &[Stay]) -> Result<(), AllocError>
+    ensures { OnOk result (map born lives.new ≡ map born lives.old) }
+{
     for stay in stays {
-        if let Some(life) = lives.get_mut(index_of(stay.tid)) {
-            life.ran.add(part, stay.from, stay.to)?;
+        let index = index_of(stay.tid);
+        if index < lives.len() {
+            lives[index].add_stay(part, stay)?;
         }
     }
     Ok(())
 }
 
 /// Draws the last times of each thread.
-pub(crate) fn end_strips(lives: &mut [Life]) -> Result<(), AllocError> {
-    for life in lives.iter_mut() {
-        life.ready.end()?;
-        life.ran.end()?;
+fn end_strips(lives: &mut [Life]) -> Result<(), AllocError>
+    ensures { OnOk result (map born lives.new ≡ map born lives.old) }
+{
+    for index in 0..lives.len() {
+        lives[index].end_strips()?;
     }
     Ok(())
 }
 
-/// Returns the life of each thread that was created, in increasing order of tid.
-///
-/// # Errors
-///
-/// `AllocError` if out of memory.
-pub(crate) fn lives(
-    alloc: Global,
-    journal: &Journal,
-    part: &Part<'_>,
-) -> Result<Vec<Life>, AllocError> {
+/// Returns the life of each thread that was created, in increasing order of tid, without stays.
+fn created(alloc: Global, journal: &Journal, part: &Part<'_>) -> Result<Vec<Life>, AllocError>
+    ensures { IfOk result (λ lives. map born lives.items ≡ creations journal.now.entries) }
+{
     let mut lives = Vec::new(alloc);
     for place in 0..journal.len() {
         match journal.entry(place) {
@@ -197,5 +248,23 @@ pub(crate) fn lives(
         }
     }
     end_all(&mut lives, part, journal.len())?;
+    Ok(lives)
+}
+
+/// Returns the life of each thread that was created, in increasing order of tid, with its stays on CPUs, of which there is a lane
+/// each.
+pub(crate) fn lives(
+    alloc: Global,
+    journal: &Journal,
+    part: &Part<'_>,
+    lanes: &[Lane],
+) -> Result<Vec<Life>, AllocError>
+    ensures { IfOk result (λ lives. map born lives.items ≡ creations journal.now.entries) }
+{
+    let mut lives = created(alloc, journal, part)?;
+    for lane in lanes {
+        add_stays(&mut lives, part, lane.stays())?;
+    }
+    end_strips(&mut lives)?;
     Ok(lives)
 }

@@ -1,10 +1,12 @@
+ghost use Rattle.std.specs.Prelude.{◌≡◌};
+
 use crate::digits::Digits;
 use crate::layout::{BAR, TOP, foot_of, row_of};
 use crate::part::Part;
+use crate::phrases::{begin_path, begin_text};
 use crate::rect::{Rect, write_entry, write_from_to};
-use crate::sheet::Sheet;
 use crate::spans::Hold;
-use crate::text::{begin_path, begin_text};
+use crate::text::Text;
 use gs_journal::{Entry, Journal};
 use gs_layout::Message;
 use std::alloc::AllocError;
@@ -19,7 +21,9 @@ const LOWER: u64 = 12;
 const AXIS: u64 = 26;
 
 /// Adds the hatching of a CPU that the other class holds.
-pub(crate) fn write_hold(out: &mut Sheet, part: &Part<'_>, hold: &Hold) -> Result<(), AllocError> {
+pub(crate) fn write_hold(out: &mut Text, part: &Part<'_>, hold: &Hold) -> Result<(), AllocError>
+    ensures { out.new.settled ≡ out.old.settled }
+{
     if part.shown(hold.from, hold.to) == 0 {
         return Ok(());
     }
@@ -39,12 +43,14 @@ pub(crate) fn write_hold(out: &mut Sheet, part: &Part<'_>, hold: &Hold) -> Resul
 /// Adds the mark of a tick. The digits of where it stands are kept in `y`: ticks of one CPU mostly follow one another.
 #[inline(always)]
 fn write_tick(
-    out: &mut Sheet,
+    out: &mut Text,
     y: &mut Digits,
     part: &Part<'_>,
     place: usize,
     cpu: u16,
-) -> Result<(), AllocError> {
+) -> Result<(), AllocError>
+    ensures { out.new.settled ≡ out.old.settled }
+{
     y.set(row_of(cpu).saturating_sub(3));
     out.push_number_digits("<path d=\"M", part.x(place), " ", y)?;
     if part.unit() < TITLED {
@@ -56,7 +62,9 @@ fn write_tick(
 }
 
 /// Adds the line of a tear-down, through all rows.
-fn write_torn(out: &mut Sheet, part: &Part<'_>, cpus: u16, place: usize) -> Result<(), AllocError> {
+fn write_torn(out: &mut Text, part: &Part<'_>, cpus: u16, place: usize) -> Result<(), AllocError>
+    ensures { out.new.settled ≡ out.old.settled }
+{
     let x = part.x(place);
     let end = foot_of(cpus);
     out.push_number("<path class=\"torn\" d=\"M", x)?;
@@ -75,11 +83,13 @@ fn write_torn(out: &mut Sheet, part: &Part<'_>, cpus: u16, place: usize) -> Resu
 
 /// Adds the tear-downs.
 fn write_tears(
-    out: &mut Sheet,
+    out: &mut Text,
     part: &Part<'_>,
     cpus: u16,
     journal: &Journal,
-) -> Result<(), AllocError> {
+) -> Result<(), AllocError>
+    ensures { out.new.settled ≡ out.old.settled }
+{
     for place in 0..journal.len() {
         if matches!(journal.entry(place), Entry::Torn) && part.has(place) {
             write_torn(out, part, cpus, place)?;
@@ -90,11 +100,13 @@ fn write_tears(
 
 /// Adds ticks and a tear-down.
 pub(crate) fn write_marks(
-    out: &mut Sheet,
+    out: &mut Text,
     part: &Part<'_>,
     cpus: u16,
     journal: &Journal,
-) -> Result<(), AllocError> {
+) -> Result<(), AllocError>
+    ensures { out.new.settled ≡ out.old.settled }
+{
     out.push_str("<g class=\"tick\">\n")?;
     let mut y = Digits::new(0);
     let mut torn = false;
@@ -116,12 +128,14 @@ pub(crate) fn write_marks(
 
 /// Adds the numbers of the axis at an entry, whose middle is at `x`: its place, and below that the line that added it.
 fn write_numbers(
-    out: &mut Sheet,
+    out: &mut Text,
     part: &Part<'_>,
     x: u64,
     y: u64,
     place: usize,
-) -> Result<(), AllocError> {
+) -> Result<(), AllocError>
+    ensures { out.new.settled ≡ out.old.settled }
+{
     begin_text(out, x, y, "axis")?;
     out.push_decimal(place as u64)?;
     out.push_str("</text>\n")?;
@@ -134,7 +148,9 @@ fn write_numbers(
 }
 
 /// Adds what the two numbers of the axis are.
-fn write_names(out: &mut Sheet, y: u64) -> Result<(), AllocError> {
+fn write_names(out: &mut Text, y: u64) -> Result<(), AllocError>
+    ensures { out.new.settled ≡ out.old.settled }
+{
     begin_text(out, 10, y, "small")?;
     out.push_str("entry</text>\n")?;
     begin_text(out, 10, y.saturating_add(LOWER), "small")?;
@@ -145,11 +161,13 @@ fn write_names(out: &mut Sheet, y: u64) -> Result<(), AllocError> {
 /// place and the line of the script stand above the rows and below them. If there are fewer entries than a step of the
 /// axis, the first has these too.
 pub(crate) fn write_axis(
-    out: &mut Sheet,
+    out: &mut Text,
     part: &Part<'_>,
     cpus: u16,
     end: u64,
-) -> Result<(), AllocError> {
+) -> Result<(), AllocError>
+    ensures { out.new.settled ≡ out.old.settled }
+{
     let step = part.step();
     let above = TOP.saturating_sub(34);
     let below = foot_of(cpus).saturating_sub(AXIS - 10);

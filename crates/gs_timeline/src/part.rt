@@ -1,5 +1,5 @@
-ghost use Rattle.std.specs.Prelude.{◌≡◌, ◌<◌, ◌≤◌, ◌*◌, ◌-◌};
-ghost use Rattle.gs_timeline.specs.Places.{behind, meets, x_of};
+ghost use Rattle.std.specs.Prelude.{◌≡◌, ◌<◌, ◌≤◌, ◌*◌, ◌-◌, ◌&&◌, nat_le, nat_lt};
+ghost use Rattle.gs_timeline.specs.Places.{behind, meets, scale_of, x_of};
 ghost use Rattle.gs_timeline.specs.declared.part.TheConstants.{MOST_SINGLE, WIDEST};
 
 /// The most entries of which each has a pixel of its own: a browser still opens a picture of this size. If there are
@@ -34,7 +34,9 @@ pub(crate) struct Part<'a> {
 impl<'a> Part<'a> {
     /// Makes the part from entry `from` to entry `to`, that one too, of so many entries, which these lines added.
     #[tactic(auto, using(crate::proofs::Shared::shared_by))]
-    pub(crate) fn new(entries: usize, lines: &'a [usize], from: usize, to: usize) -> Part<'a> {
+    pub(crate) fn new(entries: usize, lines: &'a [usize], from: usize, to: usize) -> Part<'a>
+        ensures { record { first = result.first; count = result.count; sharing = result.sharing; unit = result.unit } ≡ scale_of entries from to }
+    {
         let behind = entries.min(to.saturating_add(1));
         let count = behind.saturating_sub(from);
         let unit = (ROOM / count.max(1)).clamp(1, WIDEST);
@@ -76,7 +78,9 @@ impl<'a> Part<'a> {
     }
 
     /// Returns whether an entry is shown.
-    pub(crate) fn has(&self, place: usize) -> bool {
+    pub(crate) fn has(&self, place: usize) -> bool
+        ensures { result ≡ (nat_le self.now.first place && nat_lt place (behind self.now.first self.now.count)) }
+    {
         place >= self.first && place < self.behind()
     }
 

@@ -1,5 +1,7 @@
+ghost use Rattle.std.specs.Prelude.{◌≡◌};
+
 use crate::part::Part;
-use crate::sheet::Sheet;
+use crate::text::Text;
 use std::alloc::AllocError;
 
 /// Where a bar is, in units of the picture.
@@ -14,7 +16,9 @@ pub(crate) struct Rect {
 impl Rect {
     /// Adds the beginning of the bar, up to its last number. What it is filled with follows behind a quotation mark.
     #[inline(always)]
-    pub(crate) fn write(&self, out: &mut Sheet) -> Result<(), AllocError> {
+    pub(crate) fn write(&self, out: &mut Text) -> Result<(), AllocError>
+        ensures { out.new.settled ≡ out.old.settled }
+    {
         out.push_two("<rect x=\"", self.x, "\" y=\"", self.y)?;
         out.push_two("\" width=\"", self.width, "\" height=\"", self.height)
     }
@@ -30,7 +34,9 @@ impl Rect {
     }
 
     /// Adds the beginning of a text in the middle of the bar, up to its last number.
-    pub(crate) fn write_text(&self, out: &mut Sheet) -> Result<(), AllocError> {
+    pub(crate) fn write_text(&self, out: &mut Text) -> Result<(), AllocError>
+        ensures { out.new.settled ≡ out.old.settled }
+    {
         let middle = self.middle();
         let base = self.base();
         out.push_two("<text x=\"", middle, "\" y=\"", base)
@@ -40,11 +46,13 @@ impl Rect {
 /// Adds an entry by its place, and by the line that added it.
 #[inline(always)]
 pub(crate) fn write_entry(
-    out: &mut Sheet,
+    out: &mut Text,
     part: &Part<'_>,
     words: &str,
     place: usize,
-) -> Result<(), AllocError> {
+) -> Result<(), AllocError>
+    ensures { out.new.settled ≡ out.old.settled }
+{
     let Some(line) = part.line(place) else {
         return out.push_number(words, place as u64);
     };
@@ -53,12 +61,15 @@ pub(crate) fn write_entry(
 }
 
 /// Adds from which entry on and to which something is.
+#[inline(always)]
 pub(crate) fn write_from_to(
-    out: &mut Sheet,
+    out: &mut Text,
     part: &Part<'_>,
     from: usize,
     to: usize,
-) -> Result<(), AllocError> {
+) -> Result<(), AllocError>
+    ensures { out.new.settled ≡ out.old.settled }
+{
     write_entry(out, part, " from entry ", from)?;
     write_entry(out, part, " to ", to)
 }

@@ -1,11 +1,13 @@
 //! How full the ring is, as a strip.
 
+ghost use Rattle.std.specs.Prelude.{◌≡◌};
+
 use crate::digits::Digits;
 use crate::layout::{BAR, RING};
 use crate::notes::Fill;
 use crate::part::{LEFT, Part};
-use crate::sheet::Sheet;
-use crate::text::begin_text;
+use crate::phrases::begin_text;
+use crate::text::Text;
 use std::alloc::AllocError;
 
 /// How high the strip is where so many bytes of so many are in use: as high as a bar if all are, and not flat if some are.
@@ -29,7 +31,9 @@ struct Edge {
 impl Edge {
     /// Goes on to a place.
     #[inline(always)]
-    fn go(&mut self, out: &mut Sheet, x: u64) -> Result<(), AllocError> {
+    fn go(&mut self, out: &mut Text, x: u64) -> Result<(), AllocError>
+        ensures { out.new.settled ≡ out.old.settled }
+    {
         if x <= self.x {
             return Ok(());
         }
@@ -46,13 +50,10 @@ impl Edge {
     }
 
     /// Is so high from a place on. Of those that share a pixel the highest is shown there.
-    fn set(
-        &mut self,
-        out: &mut Sheet,
-        shared: bool,
-        x: u64,
-        height: u64,
-    ) -> Result<(), AllocError> {
+    #[inline(always)]
+    fn set(&mut self, out: &mut Text, shared: bool, x: u64, height: u64) -> Result<(), AllocError>
+        ensures { out.new.settled ≡ out.old.settled }
+    {
         self.go(out, x)?;
         self.most = if shared {
             self.most.max(height)
@@ -75,11 +76,13 @@ fn most_used(fills: &[Fill]) -> usize {
 
 /// Adds the strip of a ring of so many bytes, of which it shows how many are in use.
 pub(crate) fn write_ring(
-    out: &mut Sheet,
+    out: &mut Text,
     part: &Part<'_>,
     fills: &[Fill],
     ring: usize,
-) -> Result<(), AllocError> {
+) -> Result<(), AllocError>
+    ensures { out.new.settled ≡ out.old.settled }
+{
     begin_text(out, 10, RING + 11, "label")?;
     out.push_str("ring</text>\n")?;
     begin_text(out, 10, RING + 24, "small")?;

@@ -1,9 +1,11 @@
 //! The slots of the CPUs: what happened to each, and when something was stamped in it.
 
+ghost use Rattle.std.specs.Prelude.{◌≡◌};
+
 use crate::layout::decided_of;
 use crate::notes::{Mark, What};
 use crate::part::Part;
-use crate::sheet::Sheet;
+use crate::text::Text;
 use gs_journal::{Entry, Journal};
 use std::alloc::{AllocError, Global};
 
@@ -61,13 +63,16 @@ fn cleared_by(clearings: &[usize], from: usize, end: usize) -> usize {
 }
 
 /// Adds the length of a time that something is stamped in a slot.
+#[inline(always)]
 fn write_length(
-    out: &mut Sheet,
+    out: &mut Text,
     part: &Part<'_>,
     y: u64,
     from: usize,
     to: usize,
-) -> Result<(), AllocError> {
+) -> Result<(), AllocError>
+    ensures { out.new.settled ≡ out.old.settled }
+{
     let width = part.width(from, to);
     if width == 0 {
         return Ok(());
@@ -79,13 +84,15 @@ fn write_length(
 /// Adds a line for each time that something is stamped in the slot of a CPU: from its stamp to its landing, or to where
 /// the slot was cleared. So many entries are the journal's.
 pub(crate) fn write_stamped(
-    out: &mut Sheet,
+    out: &mut Text,
     part: &Part<'_>,
     cpu: u16,
     marks: &[Mark],
     clearings: &[usize],
     entries: usize,
-) -> Result<(), AllocError> {
+) -> Result<(), AllocError>
+    ensures { out.new.settled ≡ out.old.settled }
+{
     if marks.is_empty() {
         return Ok(());
     }

@@ -1,5 +1,7 @@
+ghost use Rattle.std.specs.Prelude.{◌≡◌};
+
 use crate::part::Part;
-use crate::sheet::Sheet;
+use crate::text::Text;
 use std::alloc::{AllocError, Global};
 
 /// A length on the axis.
@@ -70,7 +72,9 @@ impl Strip {
     }
 
     /// Adds the data of a path that draws the times.
-    pub(crate) fn write(&self, out: &mut Sheet) -> Result<(), AllocError> {
+    pub(crate) fn write(&self, out: &mut Text) -> Result<(), AllocError>
+        ensures { out.new.settled ≡ out.old.settled }
+    {
         for length in &self.lengths {
             let long = length.to.saturating_sub(length.from);
             out.push_two("M", length.from, " 0h", long)?;

@@ -1,47 +1,146 @@
-ghost use Rattle.std.specs.Prelude.{◌≡◌, ◌++◌, OnOk, string_bytes};
-ghost use Rattle.gs_timeline.specs.Escapes.{escaped, shown};
+//! The text of a picture or of a trace: what is settled of it, and what was told behind that.
 
+ghost use Rattle.std.specs.Prelude.{◌≡◌, ◌++◌, [], decimal, OnOk};
+
+use crate::digits::Digits;
 use crate::sheet::Sheet;
-use gs_layout::Name;
-use std::alloc::AllocError;
+use std::alloc::{AllocError, Global};
+use std::marker::Model;
 
-/// Adds the beginning of a text of this class that stands at a place. What it says follows.
-#[inline(always)]
-pub(crate) fn begin_text(out: &mut Sheet, x: u64, y: u64, class: &str) -> Result<(), AllocError> {
-    out.push_two("<text x=\"", x, "\" y=\"", y)?;
-    out.push_str("\" class=\"")?;
-    out.push_str(class)?;
-    out.push_str("\">")
+/// A text that grows at its end, and of which a beginning is settled. What adds to it fails only if out of memory, and
+/// changes nothing of what is settled.
+#[derive(Drop)]
+pub struct Text {
+    sheet: Sheet,
+    /// How many of the bytes are settled.
+    settled: usize,
 }
 
-/// Adds the beginning of a path of this class, up to a place on it.
-#[inline(always)]
-pub(crate) fn begin_path(out: &mut Sheet, class: &str, x: u64, y: u64) -> Result<(), AllocError> {
-    out.push_str("<path class=\"")?;
-    out.push_str(class)?;
-    out.push_two("\" d=\"M", x, " ", y)
+impl Model for Text {
+    ghost use Rattle.std.specs.Prelude.{◌≤◌, drop, length, take};
+    ghost use Rattle.gs_timeline.specs.Pieces.{Written};
+
+    ghost Value = { Written };
+
+    ghost view = { λ t. record { settled = take t.settled t.sheet; told = drop t.settled t.sheet } };
+
+    ghost invariant = { λ t. t.settled ≤ length t.sheet };
 }
 
-/// Adds a byte of a name: a mark of the language by what stands for it.
-fn write_byte(out: &mut String, byte: u8) -> Result<(), AllocError>
-    ensures { OnOk result (string_bytes out.new ≡ string_bytes out.old ++ shown byte) }
-{
-    match byte {
-        b'<' => out.push_str("&lt;"),
-        b'>' => out.push_str("&gt;"),
-        b'&' => out.push_str("&amp;"),
-        b'"' => out.push_str("&quot;"),
-        _ => out.push(char::from(byte)),
+impl Text {
+    /// Makes an empty text. It does not allocate.
+    pub fn new(alloc: Global) -> Text
+        ensures { result ≡ record { settled = []; told = [] } }
+    {
+        Text {
+            sheet: Sheet::new(alloc),
+            settled: 0,
+        }
     }
-}
 
-/// Adds a name so that it is shown as it is, whatever bytes it has.
-pub(crate) fn write_escaped(out: &mut String, name: &Name) -> Result<(), AllocError>
-    ensures { OnOk result (string_bytes out.new ≡ string_bytes out.old ++ escaped name.now) }
-{
-    let bytes = name.as_bytes();
-    for byte in bytes {
-        write_byte(out, *byte)?;
+    /// Tells words.
+    #[inline(always)]
+    #[tactic(auto, using(crate::proofs::Pieces::told_one, crate::proofs::Pieces::behind_one))]
+    pub fn push_str(&mut self, words: &str) -> Result<(), AllocError>
+        ensures settled { self.new.settled ≡ self.old.settled }
+        ensures told { OnOk result (self.new.told ≡ self.old.told ++ words.now) }
+    {
+        self.sheet.push_str(words)
     }
-    Ok(())
+
+    /// Tells a number.
+    #[inline(always)]
+    #[tactic(auto, using(crate::proofs::Pieces::told_one, crate::proofs::Pieces::behind_one))]
+    pub fn push_decimal(&mut self, number: u64) -> Result<(), AllocError>
+        ensures settled { self.new.settled ≡ self.old.settled }
+        ensures told { OnOk result (self.new.told ≡ self.old.told ++ decimal number) }
+    {
+        self.sheet.push_decimal(number)
+    }
+
+    /// Tells words and a number behind them.
+    #[inline(always)]
+    #[tactic(auto, using(crate::proofs::Pieces::told_two, crate::proofs::Pieces::behind_two))]
+    pub fn push_number(&mut self, words: &str, number: u64) -> Result<(), AllocError>
+        ensures settled { self.new.settled ≡ self.old.settled }
+        ensures told { OnOk result (self.new.told ≡ self.old.told ++ words.now ++ decimal number) }
+    {
+        self.sheet.push_number(words, number)
+    }
+
+    /// Tells words, a number, words and a number.
+    #[inline(always)]
+    #[tactic(auto, using(crate::proofs::Pieces::told_four, crate::proofs::Pieces::behind_four))]
+    pub fn push_two(
+        &mut self,
+        words: &str,
+        first: u64,
+        between: &str,
+        second: u64,
+    ) -> Result<(), AllocError>
+        ensures settled { self.new.settled ≡ self.old.settled }
+        ensures told { OnOk result (self.new.told ≡ self.old.told ++ words.now ++ decimal first ++ between.now ++ decimal second) }
+    {
+        self.sheet.push_two(words, first, between, second)
+    }
+
+    /// Tells words, and a number behind them whose digits are kept.
+    #[inline(always)]
+    #[tactic(auto, using(crate::proofs::Pieces::told_two, crate::proofs::Pieces::behind_two))]
+    pub fn push_digits(&mut self, words: &str, digits: &Digits) -> Result<(), AllocError>
+        ensures settled { self.new.settled ≡ self.old.settled }
+        ensures told { OnOk result (self.new.told ≡ self.old.told ++ words.now ++ decimal digits.now) }
+    {
+        self.sheet.push_digits(words, digits)
+    }
+
+    /// Tells words, a number, words and a number whose digits are kept.
+    #[inline(always)]
+    #[tactic(auto, using(crate::proofs::Pieces::told_four, crate::proofs::Pieces::behind_four))]
+    pub fn push_number_digits(
+        &mut self,
+        words: &str,
+        number: u64,
+        between: &str,
+        digits: &Digits,
+    ) -> Result<(), AllocError>
+        ensures settled { self.new.settled ≡ self.old.settled }
+        ensures told { OnOk result (self.new.told ≡ self.old.told ++ words.now ++ decimal number ++ between.now ++ decimal digits.now) }
+    {
+        self.sheet
+            .push_number_digits(words, number, between, digits)
+    }
+
+    /// Tells what another text has.
+    #[tactic(auto, using(crate::proofs::Pieces::told_one, crate::proofs::Pieces::behind_one))]
+    pub fn push_text(&mut self, other: &Text) -> Result<(), AllocError>
+        ensures { self.new.settled ≡ self.old.settled }
+    {
+        self.sheet.push_sheet(&other.sheet)
+    }
+
+    /// Settles all that was told.
+    #[inline(always)]
+    #[tactic(auto, using(crate::proofs::Pieces::all_settled, crate::proofs::Pieces::none_told))]
+    pub fn settle(&mut self)
+        ensures { self.new ≡ record { settled = self.old.settled ++ self.old.told; told = [] } }
+    {
+        self.settled = self.sheet.len();
+    }
+
+    /// Takes all away. The memory is kept.
+    pub fn clear(&mut self)
+        ensures { self.new ≡ record { settled = []; told = [] } }
+    {
+        self.sheet.clear();
+        self.settled = 0;
+    }
+
+    /// Returns the whole text: what is settled, and what was told behind that.
+    pub fn into_sheet(self) -> Sheet
+        ensures { result ≡ self.settled ++ self.told }
+    {
+        let Text { sheet, .. } = self;
+        sheet
+    }
 }

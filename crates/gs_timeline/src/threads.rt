@@ -4,7 +4,7 @@ ghost use Rattle.gs_timeline.specs.Marks.{shade_of};
 use crate::digits::Digits;
 use crate::lives::Life;
 use crate::rect::Rect;
-use crate::sheet::Sheet;
+use crate::text::Text;
 use gs_layout::Class;
 use std::alloc::AllocError;
 
@@ -42,11 +42,9 @@ pub(crate) fn letters_of(tid: u32, life: Option<&Life>) -> u64 {
 }
 
 /// Adds what a thread is called: its name, or its tid if it has no name.
-pub(crate) fn write_called(
-    out: &mut Sheet,
-    tid: u32,
-    life: Option<&Life>,
-) -> Result<(), AllocError> {
+pub(crate) fn write_called(out: &mut Text, tid: u32, life: Option<&Life>) -> Result<(), AllocError>
+    ensures { out.new.settled ≡ out.old.settled }
+{
     match named(life) {
         Some(life) => out.push_str(life.name()),
         None => out.push_decimal(u64::from(tid)),
@@ -56,12 +54,14 @@ pub(crate) fn write_called(
 /// Adds what a thread is called to its bar: its name, or its tid if it has no name or that does not fit. It adds nothing
 /// if the tid does not fit either. `base` is where texts in the bar stand.
 pub(crate) fn write_label(
-    out: &mut Sheet,
+    out: &mut Text,
     bar: &Rect,
     base: &Digits,
     tid: u32,
     life: Option<&Life>,
-) -> Result<(), AllocError> {
+) -> Result<(), AllocError>
+    ensures { out.new.settled ≡ out.old.settled }
+{
     let room = bar.width;
     let name = named(life).filter(|life| room_for(life.letters()) <= room);
     let number = u64::from(tid);
@@ -96,13 +96,12 @@ pub(crate) fn shade_of(tid: u32, class: Option<Class>) -> &'static str
 }
 
 /// Adds which thread it is: its tid, and what is known of it.
-pub(crate) fn write_thread(
-    out: &mut Sheet,
-    tid: u32,
-    life: Option<&Life>,
-) -> Result<(), AllocError> {
+#[inline(always)]
+pub(crate) fn write_thread(out: &mut Text, tid: u32, life: Option<&Life>) -> Result<(), AllocError>
+    ensures { out.new.settled ≡ out.old.settled }
+{
     match life {
-        Some(life) => out.push_sheet(life.words()),
+        Some(life) => out.push_text(life.words()),
         None => {
             out.push_number("thread ", u64::from(tid))?;
             out.push_str(", class ?")

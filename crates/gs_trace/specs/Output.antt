@@ -1,5 +1,5 @@
 -- What is to be written for the bytes of an input.
-use Rattle.std.specs.Prelude.{◌≡◌, ⊤, ℕ, List, ◌++◌, false, map, codes, decimal, Result, Ok, Err}
+use Rattle.std.specs.Prelude.{◌≡◌, ℕ, List, ◌++◌, false, length, map, codes, decimal, Result, Ok, Err}
 use Rattle.std.specs.List.{list_any}
 use Rattle.gs_replies.specs.declared.reply.Reply.{Reply}
 use Rattle.gs_policy.specs.declared.any.AnyPolicy.{AnyPolicy}
@@ -24,7 +24,9 @@ use Rattle.std.specs.List.Sorted.{IsPermutation}
 use Rattle.gs_timeline.specs.Stays.{all_stays}
 use Rattle.gs_timeline.specs.declared.stay.Stay.{Stay}
 use Rattle.gs_perfetto.specs.Events.{slice_front}
-use Rattle.gs_perfetto.specs.Slices.{HasEach}
+use Rattle.gs_timeline.specs.Bars.{bars}
+use Rattle.gs_timeline.specs.Pieces.{HasEach}
+use Rattle.gs_timeline.specs.Places.{scale_of}
 use Rattle.gs_trace.specs.declared.form.Form.{Form}
 use Rattle.gs_trace.specs.declared.form.Form.TheVariants.{Lines, Report, Journal, Timeline, Trace}
 use Rattle.gs_trace.specs.declared.form.Notation.{Notation}
@@ -85,14 +87,19 @@ history_shown notations.Json h = json_lines h
 abbrev pub IsTrace : ℕ → History → List ℕ → Type 0
 IsTrace cpus h out = (slices : List Stay) × IsPermutation (all_stays h cpus) slices × HasEach (map slice_front slices) out
 
--- which texts show what came of a script. They are the lines of its replies, a report with so many of the last of these, or the journal
--- of all that happened, the last event's entries too, and nothing else. Of a picture nothing is said here, and of a trace
--- that it has each stay
+-- a picture of the entries of a history from one place on, and to another: each stay of a thread on a CPU that ends at a later pixel than it
+-- begins has its bar
+abbrev pub IsPicture : ℕ → ℕ → ℕ → History → List ℕ → Type 0
+IsPicture from to cpus h out = HasEach (bars (scale_of (length h) from to) h cpus) out
+
+-- which texts show what came of a script. The lines of its replies, a report with so many of the last of these, and the journal of all that
+-- happened are exactly these texts. A journal has the last event's entries too. A picture has at least the bars of the stays, and a trace
+-- at least each stay
 abbrev pub shown_as : Form → List Reply → ℕ → History → List ℕ → Type 0
 shown_as Lines replies cpus h out = out ≡ lines replies
 shown_as (Report last) replies cpus h out = out ≡ report_of last replies
 shown_as (Journal notation) replies cpus h out = out ≡ history_shown notation h
-shown_as (Timeline from to listed) replies cpus h out = ⊤
+shown_as (Timeline from to listed) replies cpus h out = IsPicture from to cpus h out
 shown_as Trace replies cpus h out = IsTrace cpus h out
 
 -- what is to be written for an input: the lines of its replies

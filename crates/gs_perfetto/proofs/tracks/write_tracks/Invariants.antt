@@ -2,4 +2,4 @@ use Rattle.std.proofs.Common.{◌≡◌}
 use Rattle.gs_perfetto.proofs.tracks.write_tracks.Given as goal
 
 abbrev pub invariant-loop-cpu : goal.invariant-loop-cpu
-invariant-loop-cpu l = l.out ≡ l.fn.out
+invariant-loop-cpu l = l.out.settled ≡ l.fn.out.settled
