@@ -78,6 +78,9 @@ behind_two settled old a b h = behind_one settled (old ++ a) b (grind (arith, co
 pub behind_four : (settled : ℕ) (old a b c d : List ℕ) → settled ≤ length old → drop settled (old ++ a ++ b ++ c ++ d) ≡ drop settled old ++ a ++ b ++ c ++ d
 behind_four settled old a b c d h = behind_two settled (old ++ a ++ b) c d (grind (arith, common_steps, length-append)) ∙ ap (λ t. t ++ c ++ d) (behind_two settled old a b h)
 
+pub behind_whole : (settled n : ℕ) (old a : List ℕ) → settled ≤ length old → drop settled (old ++ a) ≡ drop settled old ++ (take n a ++ drop n a)
+behind_whole settled n old a h = behind_one settled old a h ∙ ap (λ t. drop settled old ++ t) (sym (take-append-drop n a))
+
 -- all of a text is settled, and nothing is told behind it
 pub all_settled : (settled n : ℕ) (text : List ℕ) → n ≡ length text → take n text ≡ take settled text ++ drop settled text
 all_settled settled n text e = ap (λ m. take m text) e ∙ (take-length text ∙ sym (take-append-drop settled text))

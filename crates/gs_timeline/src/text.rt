@@ -112,9 +112,10 @@ impl Text {
     }
 
     /// Tells what another text has.
-    #[tactic(auto, using(crate::proofs::Pieces::told_one, crate::proofs::Pieces::behind_one))]
+    #[tactic(auto, using(crate::proofs::Pieces::told_one, crate::proofs::Pieces::behind_whole))]
     pub fn push_text(&mut self, other: &Text) -> Result<(), AllocError>
-        ensures { self.new.settled ≡ self.old.settled }
+        ensures settled { self.new.settled ≡ self.old.settled }
+        ensures told { OnOk result (self.new.told ≡ self.old.told ++ (other.now.settled ++ other.now.told)) }
     {
         self.sheet.push_sheet(&other.sheet)
     }
