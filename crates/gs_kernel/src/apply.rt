@@ -1,11 +1,13 @@
 //! Commands that nothing refuses are applied.
 
-ghost use Rattle.std.specs.Prelude.{◌≡◌, ◌+◌, ◌<◌, ◌≤◌, IfSome, None, length, true};
+ghost use Rattle.std.specs.Prelude.{◌≡◌, ◌+◌, ◌<◌, ◌≤◌, None, false, length, true};
 ghost use Rattle.std.specs.Option.{is_some};
 ghost use Rattle.gs_layout.specs.Spelling.{IsSpellable};
 ghost use Rattle.gs_kernel.specs.declared.command.Command.{Command};
 ghost use Rattle.gs_kernel.specs.declared.effect.Effect.{Effect};
-ghost use Rattle.gs_kernel.specs.Inside.{created_in};
+ghost use Rattle.gs_journal.specs.History.{on};
+ghost use Rattle.gs_kernel.specs.Kernel.{is_spent_there, preemption};
+ghost use Rattle.gs_kernel.specs.Landing.{placing_entries};
 ghost use Rattle.gs_kernel.specs.Lands.{ComesNext};
 ghost use Rattle.gs_kernel.specs.Legal.{Frame, RoomOf, Tells, creates, effect, entries_in, message_in, most_entries, refusal};
 
@@ -51,8 +53,7 @@ impl<P: Poster> Kernel<P> {
         ensures told { Tells (RoomOf P.same P.consumed P.posted P.tight self.old.poster) self.old.history (effect self.old.settings self.old.history (Command.Take cpu)) result self.new.history }
         ensures frame { Frame P.same P.consumed P.posted self.old self.new }
     {
-        let victim = self.preemption(cpu);
-        self.tell_entry(victim, Entry::Taken { cpu })
+        self.tell_entry(cpu, Entry::Taken { cpu })
     }
 
     /// Gives a CPU back.
@@ -63,7 +64,8 @@ impl<P: Poster> Kernel<P> {
         ensures told { Tells (RoomOf P.same P.consumed P.posted P.tight self.old.poster) self.old.history (effect self.old.settings self.old.history (Command.Give cpu)) result self.new.history }
         ensures frame { Frame P.same P.consumed P.posted self.old self.new }
     {
-        self.tell_entry(None, Entry::Given { cpu })
+        self.tell_alone(Entry::Given { cpu });
+        true
     }
 
     /// Lets the timer of a CPU tick.
@@ -99,7 +101,8 @@ impl<P: Poster> Kernel<P> {
         ensures told { Tells (RoomOf P.same P.consumed P.posted P.tight self.old.poster) self.old.history (effect self.old.settings self.old.history Command.Leave) result self.new.history }
         ensures frame { Frame P.same P.consumed P.posted self.old self.new }
     {
-        self.tell_entry(None, Entry::Left)
+        self.tell_alone(Entry::Left);
+        true
     }
 
     /// Lets a new agent begin to attach.
@@ -111,7 +114,8 @@ impl<P: Poster> Kernel<P> {
         ensures frame { Frame P.same P.consumed P.posted self.old self.new }
     {
         let generation = self.next_generation();
-        self.tell_entry(None, Entry::Begin { generation })
+        self.tell_alone(Entry::Begin { generation });
+        true
     }
 
     /// Activates the agent that attaches, on a CPU.
@@ -126,17 +130,24 @@ impl<P: Poster> Kernel<P> {
         self.tell(&effect)
     }
 
-    /// Appends an entry, behind PREEMPTED of the victim, if there is one. Returns whether that fits, as [`Kernel::tell`]
-    /// does.
+    /// Appends an entry that gives a CPU to another, behind PREEMPTED of the thread there, if there is one. Returns whether
+    /// that fits, as [`Kernel::tell`] does.
     #[inline(always)]
-    pub(crate) fn tell_entry(&mut self, victim: Option<Message>, entry: Entry) -> bool
-        requires due { ComesNext self.old.settings self.old.history (Effect.Append victim entry) }
-        requires spellable { IfSome victim IsSpellable }
-        requires room { length (entries_in (Effect.Append victim entry)) ≤ self.old.room }
-        requires rows { IfSome victim (λ m. is_some (created_in m) ≡ true → 0 < self.old.rows) }
-        ensures told { Tells (RoomOf P.same P.consumed P.posted P.tight self.old.poster) self.old.history (Effect.Append victim entry) result self.new.history }
+    pub(crate) fn tell_entry(&mut self, cpu: u16, entry: Entry) -> bool
+        requires cpu { cpu < self.old.settings.cpus }
+        requires numbers { is_spent_there self.old.settings self.old.history (on self.old.history cpu) ≡ false }
+        requires due { ComesNext self.old.settings self.old.history (Effect.Append (preemption self.old.settings self.old.history cpu) entry) }
+        requires room { placing_entries (on self.old.history cpu) ≤ self.old.room }
+        ensures told { Tells (RoomOf P.same P.consumed P.posted P.tight self.old.poster) self.old.history (Effect.Append (preemption self.old.settings self.old.history cpu) entry) result self.new.history }
         ensures frame { Frame P.same P.consumed P.posted self.old self.new }
+        ensures room { self.old.room + length self.old.history ≤ self.new.room + length self.new.history }
     {
-        self.tell(&Effect::Append { victim, entry })
+        match self.victim(cpu) {
+            Some((tid, tseq)) => self.tell_behind(tid, tseq, cpu, entry),
+            None => {
+                self.tell_alone(entry);
+                true
+            }
+        }
     }
 }

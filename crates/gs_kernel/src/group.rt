@@ -12,7 +12,6 @@ ghost use Rattle.gs_kernel.specs.Lands.{Adds};
 ghost use Rattle.gs_kernel.specs.Legal.{Frame, RoomOf};
 ghost use Rattle.gs_kernel.specs.Ready.{AreApart, AreBelow, AreFree, AreNumbered, AreReady, Rises};
 
-use crate::effect::Effect;
 use crate::kernel::Kernel;
 use crate::landing::Landing;
 use crate::repeated::repeated_in;
@@ -221,14 +220,11 @@ impl<P: Poster> Kernel<P> {
         let Some(((cpu, slot), rest)) = group.split_first() else {
             return;
         };
-        self.tell(&Effect::Append {
-            victim: None,
-            entry: Entry::Placed {
-                tid: slot.tid,
-                tseq: slot.tseq,
-                cpu: *cpu,
-                generation: slot.generation,
-            },
+        self.tell_alone(Entry::Placed {
+            tid: slot.tid,
+            tseq: slot.tseq,
+            cpu: *cpu,
+            generation: slot.generation,
         });
         self.place_all(rest)
     }

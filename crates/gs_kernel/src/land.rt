@@ -11,7 +11,6 @@ ghost use Rattle.gs_kernel.specs.Landing.{verdict, verdict_in, cpu_verdict, is_g
 ghost use Rattle.gs_kernel.specs.Legal.{Frame, RoomOf, Tells};
 ghost use Rattle.gs_kernel.specs.Lands.{Lands, LandsBytes, Settles, placement};
 
-use crate::effect::Effect;
 use crate::kernel::Kernel;
 use crate::landing::Landing;
 use gs_journal::Entry;
@@ -197,16 +196,13 @@ impl<P: Poster> Kernel<P> {
         if self.journal.reserve(entries).is_err() {
             return Err(AllocError);
         }
-        let effect = Effect::Append {
-            victim: self.preemption(cpu),
-            entry: Entry::Placed {
-                tid: slot.tid,
-                tseq: slot.tseq,
-                cpu,
-                generation: slot.generation,
-            },
+        let entry = Entry::Placed {
+            tid: slot.tid,
+            tseq: slot.tseq,
+            cpu,
+            generation: slot.generation,
         };
-        Ok(self.tell(&effect))
+        Ok(self.tell_entry(cpu, entry))
     }
 }
 

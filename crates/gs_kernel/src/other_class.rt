@@ -1,6 +1,9 @@
 //! The other scheduling class takes CPUs and gives them back.
 
-ghost use Rattle.std.specs.Prelude.{◌≡◌, ◌<◌, IfSome, false};
+ghost use Rattle.std.specs.Prelude.{◌≡◌, ◌<◌, ℕ, IfSome, false};
+ghost use Rattle.std.specs.Option.{option_map};
+ghost use Rattle.gs_layout.specs.declared.message.Change.{Change};
+ghost use Rattle.gs_layout.specs.declared.message.Message.{Message};
 ghost use Rattle.gs_layout.specs.Spelling.{IsSpellable};
 ghost use Rattle.gs_journal.specs.History.{on};
 ghost use Rattle.gs_kernel.specs.Kernel.{give_refusal, is_spent_there, preemption, take_refusal};
@@ -13,20 +16,33 @@ use gs_ring::Poster;
 
 impl<P: Poster> Kernel<P> {
     /// Returns PREEMPTED of the thread on a CPU, if there is one.
+    #[inline(always)]
     pub(crate) fn preemption(&self, cpu: u16) -> Option<Message>
         requires cpu { cpu < self.now.settings.cpus }
         requires numbers { is_spent_there self.now.settings self.now.history (on self.now.history cpu) ≡ false }
         ensures value { result ≡ preemption self.now.settings self.now.history cpu }
         ensures spellable { IfSome result IsSpellable }
     {
+        let (tid, tseq) = self.victim(cpu)?;
+        Some(Message::Thread {
+            tid,
+            tseq,
+            change: Change::Preempted { cpu },
+        })
+    }
+
+    /// Returns the thread on a CPU, if there is one, and the number of the next message about it.
+    #[inline(always)]
+    pub(crate) fn victim(&self, cpu: u16) -> Option<(u32, u32)>
+        requires cpu { cpu < self.now.settings.cpus }
+        requires numbers { is_spent_there self.now.settings self.now.history (on self.now.history cpu) ≡ false }
+        ensures value { option_map (λ (v : ℕ × ℕ). Message.Thread v.0 v.1 (Change.Preempted cpu)) result ≡ preemption self.now.settings self.now.history cpu }
+        ensures spellable { IfSome result (λ v. IsSpellable (Message.Thread v.0 v.1 (Change.Preempted cpu))) }
+    {
         let Some(tid) = self.running[cpu as usize] else {
             return None;
         };
-        Some(Message::Thread {
-            tid,
-            tseq: self.seq(tid) + 1,
-            change: Change::Preempted { cpu },
-        })
+        Some((tid, self.seq(tid) + 1))
     }
 
     /// Returns the refusal that the other class's taking a CPU has of its own.

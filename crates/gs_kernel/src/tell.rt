@@ -1,7 +1,8 @@
 //! What a step adds is told: to the ring, to the journal, and in the tables; or the enclave is torn down.
 
-ghost use Rattle.std.specs.Prelude.{◌≡◌, ℕ, ◌+◌, ◌<◌, ◌≤◌, ◌++◌, None, Some, true, false, length, IfSome};
+ghost use Rattle.std.specs.Prelude.{◌≡◌, ℕ, ◌+◌, ◌<◌, ◌≤◌, ◌++◌, ◌∷◌, [], None, Some, true, false, length, IfSome};
 ghost use Rattle.std.specs.Option.{is_some, option_copied};
+ghost use Rattle.gs_layout.specs.declared.message.Change.{Change};
 ghost use Rattle.gs_layout.specs.declared.message.Message.{Message};
 ghost use Rattle.gs_layout.specs.Spelling.{IsSpellable};
 ghost use Rattle.gs_journal.specs.History.{posted};
@@ -45,6 +46,54 @@ impl<P: Poster> Kernel<P> {
         true
     }
 
+    /// Does the same with an entry that is all that a step adds. Nothing has to fit into the ring then.
+    #[inline(always)]
+    pub(crate) fn tell_alone(&mut self, entry: Entry)
+        requires due { ComesNext self.old.settings self.old.history (Effect.Append None entry) }
+        requires room { 0 < self.old.room }
+        ensures tells { Tells (RoomOf P.same P.consumed P.posted P.tight self.old.poster) self.old.history (Effect.Append None entry) true self.new.history }
+        ensures frame { Frame P.same P.consumed P.posted self.old self.new }
+        ensures room { self.old.room + length self.old.history ≤ self.new.room + length self.new.history }
+    {
+        let effect = Effect::Append {
+            victim: None,
+            entry,
+        };
+        append(&mut self.journal, &effect);
+        seat(&mut self.threads, &mut self.running, &effect);
+        self.taken = hold(self.taken, &effect);
+        self.agents = lead(self.agents, &effect);
+    }
+
+    /// Does the same with an entry behind PREEMPTED of a thread, which this takes off a CPU.
+    #[inline(always)]
+    pub(crate) fn tell_behind(&mut self, tid: u32, tseq: u32, cpu: u16, entry: Entry) -> bool
+        requires due { ComesNext self.old.settings self.old.history (Effect.Append (Some (Message.Thread tid tseq (Change.Preempted cpu))) entry) }
+        requires spellable { IsSpellable (Message.Thread tid tseq (Change.Preempted cpu)) }
+        requires room { 2 ≤ self.old.room }
+        ensures tells { Tells (RoomOf P.same P.consumed P.posted P.tight self.old.poster) self.old.history (Effect.Append (Some (Message.Thread tid tseq (Change.Preempted cpu))) entry) result self.new.history }
+        ensures frame { Frame P.same P.consumed P.posted self.old self.new }
+        ensures room { self.old.room + length self.old.history ≤ self.new.room + length self.new.history }
+    {
+        if !post_preempted(&mut self.journal, &mut self.poster, tid, tseq, cpu) {
+            self.tear_down();
+            return false;
+        }
+        let effect = Effect::Append {
+            victim: Some(Message::Thread {
+                tid,
+                tseq,
+                change: Change::Preempted { cpu },
+            }),
+            entry,
+        };
+        append(&mut self.journal, &effect);
+        update(&mut self.threads, &mut self.running, &effect);
+        self.taken = hold(self.taken, &effect);
+        self.agents = lead(self.agents, &effect);
+        true
+    }
+
     /// Does the same with a message that is all that a step adds.
     #[inline(always)]
     pub(crate) fn tell_message(&mut self, message: &Message) -> bool
@@ -63,6 +112,37 @@ impl<P: Poster> Kernel<P> {
         follow_message(&mut self.threads, &mut self.running, message);
         true
     }
+}
+
+/// Posts PREEMPTED of a thread to the ring and to the journal together, or to neither if it does not fit into
+/// the ring. Returns whether it fits.
+#[inline(never)]
+fn post_preempted<P: Poster>(
+    journal: &mut Journal,
+    poster: &mut P,
+    tid: u32,
+    tseq: u32,
+    cpu: u16,
+) -> bool
+    requires entry { 0 < journal.old.room }
+    requires few { P.count poster.old < MOST_POSTS }
+    requires spellable { IsSpellable (Message.Thread tid tseq (Change.Preempted cpu)) }
+    ensures entries { result ≡ true → journal.new.entries ≡ journal.old.entries ++ Entry.Posted (Message.Thread tid tseq (Change.Preempted cpu)) ∷ [] }
+    ensures refused { result ≡ false → journal.new ≡ journal.old }
+    ensures limit { journal.new.limit ≡ journal.old.limit }
+    ensures first_tseq { journal.new.first_tseq ≡ journal.old.first_tseq }
+    ensures told { P.posted poster.old (posted journal.old.entries) → P.posted poster.new (posted journal.new.entries) }
+    ensures tight { result ≡ false → P.tight poster.old (Message.Thread tid tseq (Change.Preempted cpu)) }
+    ensures ring { P.same poster.old poster.new }
+    ensures stays { P.consumed poster.new ≡ P.consumed poster.old }
+    ensures room { journal.old.room ≤ journal.new.room + 1 }
+{
+    let message = Message::Thread {
+        tid,
+        tseq,
+        change: Change::Preempted { cpu },
+    };
+    post(journal, poster, &message)
 }
 
 /// Posts the message, if there is one, to the ring and to the journal together, or to neither if it does not

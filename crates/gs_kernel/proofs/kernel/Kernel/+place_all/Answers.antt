@@ -1,4 +1,4 @@
-use Rattle.std.proofs.Common.{◌≡◌, ◌++◌, ◌∷◌, [], length, ap, sym, subst, arith, rules, length-append}
+use Rattle.std.proofs.Common.{◌≡◌, ◌++◌, ◌∷◌, [], length, ap, true, sym, subst, arith, rules, length-append}
 use Rattle.gs_journal.specs.History.{History}
 use Rattle.gs_kernel.specs.declared.settings.Settings.{Settings}
 use Rattle.gs_kernel.specs.Group.{Group}
@@ -13,12 +13,12 @@ place_all-requires g t c κs within =
     let p = g.P.Poster in
     let s = c.args.self.now.settings in
     let h = c.args.self.now.history in
-    let h' = c.tell.new.self.history in
+    let h' = c.tell_alone.new.self.history in
     let x = c.in-Some.field-0-0.now in
     let rest = c.in-Some.rest.now in
     let whole : c.args.group.now ≡ x ∷ rest = c.in-Some.ensures.cases.0 in
-    let now : h' ≡ h ++ placing x.0 x.1 ∷ [] = told_alone (RoomOf p.same p.consumed p.posted p.tight c.args.self.now.poster) h (placing x.0 x.1) c.tell.result h' c.tell.ensures.tells in
-    let same : c.tell.new.self.settings ≡ s = c.tell.ensures.frame.settings in
+    let now : h' ≡ h ++ placing x.0 x.1 ∷ [] = told_alone (RoomOf p.same p.consumed p.posted p.tight c.args.self.now.poster) h (placing x.0 x.1) true h' c.tell_alone.ensures.tells in
+    let same : c.tell_alone.new.self.settings ≡ s = c.tell_alone.ensures.frame.settings in
     let are = subst (λ (z : Group). AreReady s h z) whole c.requires.ready in
     let apart = subst AreApart whole c.requires.apart in
     let free = subst (λ (z : Group). AreFree h z) whole c.requires.free in
@@ -36,7 +36,7 @@ place_all-requires g t c κs within =
             (
               apart.1,
               (
-                omega (arith, n, m, k, c.tell.ensures.room, c.requires.room),
+                omega (arith, n, m, k, c.tell_alone.ensures.room, c.requires.room),
                 omega (arith, n, m, k, most, c.requires.few),
               ),
             ),

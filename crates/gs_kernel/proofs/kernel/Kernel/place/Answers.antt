@@ -1,25 +1,23 @@
-use Rattle.std.proofs.Common.{◌≡◌, false, Option, ap, sym, subst, inl, inr}
+use Rattle.std.proofs.Common.{◌≡◌, false, refl, sym, subst, inl, inr}
 use Rattle.std.proofs.lemmas.Grind.{common_steps}
 use Rattle.std.proofs.Common.{arith}
 use Rattle.gs_layout.specs.declared.outcome.Outcome.TheVariants as outcomes
 use Rattle.gs_journal.specs.History.{History, on}
 use Rattle.gs_kernel.specs.Kernel.{is_spent_there}
-use Rattle.gs_layout.specs.declared.message.Message.{Message}
-use Rattle.gs_kernel.specs.declared.effect.Effect.TheVariants.{Append}
-use Rattle.gs_kernel.specs.Landing.{IsToPlace, placing, verdict}
+use Rattle.gs_kernel.specs.Landing.{IsToPlace, verdict}
 use Rattle.gs_kernel.proofs.Placings.{placing_when}
 use Rattle.gs_kernel.proofs.kernel.Kernel.place.Goals as goal
 
-pub preemption-requires-clause-numbers : goal.preemption-requires-clause-numbers
-preemption-requires-clause-numbers g c =
+pub tell_entry-requires-clause-numbers : goal.tell_entry-requires-clause-numbers
+tell_entry-requires-clause-numbers g c =
     let k = c.self.inside in
     let h = k.journal.entries in
     let placed : verdict k.settings h c.args.cpu c.args.slot.now ≡ outcomes.Placed = grind (arith, common_steps) in
     let same : c.reserve.new.self.entries ≡ h = grind (arith, common_steps) in
     subst (λ (x : History). is_spent_there k.settings x (on x c.args.cpu) ≡ false) (sym same) (placing_when k.settings h c.args.cpu c.args.slot.now placed).numbers
 
-pub tell-requires-clause-due : goal.tell-requires-clause-due
-tell-requires-clause-due g c =
+pub tell_entry-requires-clause-due : goal.tell_entry-requires-clause-due
+tell_entry-requires-clause-due g c =
     let k = c.self.inside in
     let h = k.journal.entries in
     let placed : verdict k.settings h c.args.cpu c.args.slot.now ≡ outcomes.Placed = grind (arith, common_steps) in
@@ -29,5 +27,5 @@ tell-requires-clause-due g c =
       stamp = c.args.slot.now;
       below = grind (arith, common_steps);
       ready = subst (λ (x : History). IsToPlace k.settings x c.args.cpu c.args.slot.now) (sym same) (placing_when k.settings h c.args.cpu c.args.slot.now placed);
-      effect_is = ap (λ (o : Option Message). Append o (placing c.args.cpu c.args.slot.now)) c.preemption.ensures.value;
+      effect_is = refl;
     }))

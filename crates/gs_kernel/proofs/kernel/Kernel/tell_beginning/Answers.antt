@@ -6,8 +6,8 @@ use Rattle.gs_kernel.proofs.OtherClass.{begins_when}
 use Rattle.gs_kernel.proofs.Refusals.{free_when}
 use Rattle.gs_kernel.proofs.kernel.Kernel.tell_beginning.Goals as goal
 
-pub tell_entry-requires-clause-due : goal.tell_entry-requires-clause-due
-tell_entry-requires-clause-due g c = inl (record { command = commands.Begin; given = c.args.self.now.paged; free = c.requires.free; effect_is = ap (λ (n : ℕ). Append None (Begin n)) c.next_generation-generation.ensures })
+pub tell_alone-requires-clause-due : goal.tell_alone-requires-clause-due
+tell_alone-requires-clause-due g c = inl (record { command = commands.Begin; given = c.args.self.now.paged; free = c.requires.free; effect_is = ap (λ (n : ℕ). Append None (Begin n)) c.next_generation-generation.ensures })
 
 pub next_generation-generation-requires : goal.next_generation-generation-requires
 next_generation-generation-requires g c =
