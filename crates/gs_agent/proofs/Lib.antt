@@ -1,6 +1,7 @@
 mod Believing
 mod Followed
 mod Rooms
+mod Settling
 mod Minds
 mod Paged
 mod Views

@@ -12,7 +12,9 @@ ghost use Rattle.gs_runq.specs.Queue.{Apart, order};
 ghost use Rattle.gs_agent.specs.Picture.{HoldsWaiting, after_slot, after_stamp, after_message};
 
 use crate::rebuild::{follow_records, follow_written, make_room_for_page, make_room_for_written};
-use crate::waiting::{make_room, other_than, requeue, running_on, settle, settle_if_any};
+use crate::waiting::{
+    make_room, other_than, requeue, running_on, settle_found, settle_if_any, settle_stamped,
+};
 use gs_beliefs::{Beliefs, CpuBeliefs, Running};
 use gs_dump::{Page, WrittenPage};
 use gs_policy::{Choice, Counted, Policy};
@@ -233,7 +235,7 @@ impl Mind {
     {
         let older = self.cpus.stamp_on(cpu);
         self.cpus.stamp(cpu, tid);
-        settle(&self.view, &self.cpus, &mut self.queue, tid);
+        settle_stamped(&self.view, &self.cpus, &mut self.queue, cpu, tid);
         settle_if_any(&self.view, &self.cpus, &mut self.queue, older);
     }
 
@@ -258,7 +260,7 @@ impl Mind {
         let displaced = running_on(&self.cpus, at);
         self.cpus.learn(outcome, at, stamp.tid, stamp.tseq);
         self.cpus.unstamp(cpu);
-        settle(&self.view, &self.cpus, &mut self.queue, stamp.tid);
+        settle_found(&self.view, &self.cpus, &mut self.queue, at, stamp.tid);
         settle_if_any(&self.view, &self.cpus, &mut self.queue, named);
         settle_if_any(&self.view, &self.cpus, &mut self.queue, displaced);
     }

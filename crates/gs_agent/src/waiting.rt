@@ -76,6 +76,49 @@ pub(crate) fn settle(view: &AgentView, cpus: &Beliefs, queue: &mut RunQueue, tid
     }
 }
 
+/// Does the same of a thread that was stamped for a CPU. The stamp there is asked first: whom it names does not wait.
+#[inline(always)]
+#[tactic(auto, using(crate::proofs::Rooms::room_settled, crate::proofs::Settling::settled_stamped))]
+pub(crate) fn settle_stamped(
+    view: &AgentView,
+    cpus: &Beliefs,
+    queue: &mut RunQueue,
+    cpu: u16,
+    tid: u32,
+)
+    requires { HasRoom (look_up view.now.entries) queue.old }
+    ensures settled { queue.new ≡ settled (look_up view.now.entries) cpus.now tid queue.old }
+    ensures room { HasRoom (look_up view.now.entries) queue.new }
+{
+    if cpus.stamp_on(cpu) == Some(tid) {
+        queue.remove(tid);
+    } else {
+        settle(view, cpus, queue, tid);
+    }
+}
+
+/// Does the same of a thread that was found on a CPU, or nowhere. The belief of that CPU is asked first: whoever runs
+/// there does not wait.
+#[inline(always)]
+#[tactic(auto, using(crate::proofs::Rooms::room_settled, crate::proofs::Settling::settled_found))]
+pub(crate) fn settle_found(
+    view: &AgentView,
+    cpus: &Beliefs,
+    queue: &mut RunQueue,
+    cpu: Option<u16>,
+    tid: u32,
+)
+    requires { HasRoom (look_up view.now.entries) queue.old }
+    ensures settled { queue.new ≡ settled (look_up view.now.entries) cpus.now tid queue.old }
+    ensures room { HasRoom (look_up view.now.entries) queue.new }
+{
+    if running_on(cpus, cpu) == Some(tid) {
+        queue.remove(tid);
+    } else {
+        settle(view, cpus, queue, tid);
+    }
+}
+
 /// Does the same of a thread, if there is one.
 pub(crate) fn settle_if_any(
     view: &AgentView,

@@ -418,29 +418,13 @@ impl<P: Counted + Copy> Machine<P> {
         ensures no_gap { (max : ℕ) → event.now ≡ Event.Drain max → StopsForNoGap result }
         ensures policy { self.new.policy ≡ policy_after event.now result self.old.policy }
     {
-        match self.execute(event) {
-            Ok(reply) => reply,
-            Err(refusal) => Reply::Refused(refusal),
+        if let Err(refusal) = self.standing() {
+            return Reply::Refused(refusal);
         }
-    }
-
-    /// Lets one event happen, and returns the reply, as [`Machine::step`] does.
-    ///
-    /// # Errors
-    ///
-    /// The first refusal that applies, and then nothing changes.
-    fn execute(&mut self, event: &Event<P>) -> Result<Reply, Refusal>
-        ensures step { Step (planning P.chosen self.old) (planned P.chosen event.now) (replied result) (planning P.chosen self.new) }
-        ensures safe { Safe (planning P.chosen self.new) }
-        ensures faithful { IsFaithful (planning P.chosen self.new) }
-        ensures no_gap { (max : ℕ) → event.now ≡ Event.Drain max → StopsForNoGap (replied result) }
-        ensures policy { self.new.policy ≡ policy_after event.now (replied result) self.old.policy }
-    {
-        self.standing()?;
-        let came = self.execute_standing(event);
+        let reply = self.step_standing(event);
         // Reads a field to expose the invariant.
         let _region = &self.region;
-        came
+        reply
     }
 
     /// Tells the kernel a command, as [`Machine::step`] does at the event of it. The reply is [`Reply::executed`] of what
@@ -464,30 +448,40 @@ impl<P: Counted + Copy> Machine<P> {
     }
 
     /// Lets one event happen while the enclave stands.
-    fn execute_standing(&mut self, event: &Event<P>) -> Result<Reply, Refusal>
+    fn step_standing(&mut self, event: &Event<P>) -> Reply
         requires { torn self.old.history ≡ false }
-        ensures step { Step (planning P.chosen self.old) (planned P.chosen event.now) (replied result) (planning P.chosen self.new) }
-        ensures policy { self.new.policy ≡ policy_after event.now (replied result) self.old.policy }
+        ensures step { Step (planning P.chosen self.old) (planned P.chosen event.now) result (planning P.chosen self.new) }
+        ensures policy { self.new.policy ≡ policy_after event.now result self.old.policy }
     {
         match event {
             Event::Kernel { command } => {
-                let executed = self.execute_command(command)?;
-                Ok(Reply::executed(executed, self.kernel.last()))
+                let executed = self.execute_command(command);
+                self.command_reply(executed)
             }
-            Event::Crash => self.crash(),
+            Event::Crash => answer(self.crash()),
             Event::Begin { policy } => {
-                let executed = self.begin(*policy)?;
-                Ok(Reply::executed(executed, self.kernel.last()))
+                let executed = self.begin(*policy);
+                self.command_reply(executed)
             }
-            Event::Page { max } => self.page(*max),
-            Event::Drain { max } => self.drain(*max),
-            Event::Stamp { cpu, tid, flags } => self.stamp(*cpu, *tid, *flags),
-            Event::Decide => self.decide(),
-            Event::Commit { mask } => self.commit(*mask),
-            Event::Late { number } => self.late(*number),
-            Event::View => self.view(),
-            Event::State => self.state(),
-            Event::Unread => self.unread(),
+            Event::Page { max } => answer(self.page(*max)),
+            Event::Drain { max } => answer(self.drain(*max)),
+            Event::Stamp { cpu, tid, flags } => answer(self.stamp(*cpu, *tid, *flags)),
+            Event::Decide => answer(self.decide()),
+            Event::Commit { mask } => answer(self.commit(*mask)),
+            Event::Late { number } => answer(self.late(*number)),
+            Event::View => answer(self.view()),
+            Event::State => answer(self.state()),
+            Event::Unread => answer(self.unread()),
+        }
+    }
+
+    /// Returns the reply to a command, by what became of it.
+    fn command_reply(&self, came: Result<Executed, Refusal>) -> Reply
+        ensures { result ≡ reply_of came (last_entry self.now.history) }
+    {
+        match came {
+            Ok(executed) => Reply::executed(executed, self.kernel.last()),
+            Err(refusal) => Reply::Refused(refusal),
         }
     }
 
@@ -519,5 +513,16 @@ impl<P: Counted + Copy> Machine<P> {
             replies.push_reserved(reply);
         }
         Ok(replies)
+    }
+}
+
+/// Returns the reply to an event, by what came of it. A refusal is a reply too.
+#[inline(always)]
+fn answer(came: Result<Reply, Refusal>) -> Reply
+    ensures { result ≡ replied came }
+{
+    match came {
+        Ok(reply) => reply,
+        Err(refusal) => Reply::Refused(refusal),
     }
 }

@@ -20,8 +20,8 @@ cpus_are c = c.unstamp.ensures ∙ ap (unstamps c.args.cpu) c.learn.ensures
 -- the queue is then that of those who wait
 queue_is : (c : goal.After-settle_if_any-2) → c.settle_if_any-2.new.queue ≡ settled_all (look_up c.self.inside.view.entries) (after c) (touched c.self.inside.cpus c.args.cpu c.in-Done.at c.in-Done.stamp.tid) c.self.inside.queue
 queue_is c =
-    slot_queue (look_up c.self.inside.view.entries) c.self.inside.cpus c.unstamp.new.self c.self.inside.queue _ _ _ c.args.cpu c.in-Done.at c.in-Done.stamp.tid _ _ c.stamp_on.ensures c.running_on-displaced.ensures c.settle.ensures.settled
-    (named_queue (look_up c.self.inside.view.entries) c.unstamp.new.self c.self.inside.queue _ _ c.in-Done.stamp.tid c.stamp_on.result c.other_than-named.result c.other_than-named.ensures c.settle.ensures.settled c.settle_if_any.ensures.settled)
+    slot_queue (look_up c.self.inside.view.entries) c.self.inside.cpus c.unstamp.new.self c.self.inside.queue _ _ _ c.args.cpu c.in-Done.at c.in-Done.stamp.tid _ _ c.stamp_on.ensures c.running_on-displaced.ensures c.settle_found.ensures.settled
+    (named_queue (look_up c.self.inside.view.entries) c.unstamp.new.self c.self.inside.queue _ _ c.in-Done.stamp.tid c.stamp_on.result c.other_than-named.result c.other_than-named.ensures c.settle_found.ensures.settled c.settle_if_any.ensures.settled)
     c.settle_if_any-2.ensures.settled
     ∙ ap (λ (x : Cpus). settled_all (look_up c.self.inside.view.entries) x (touched c.self.inside.cpus c.args.cpu c.in-Done.at c.in-Done.stamp.tid) c.self.inside.queue) (cpus_are c)
 

@@ -11,7 +11,7 @@ use Rattle.gs_agent.proofs.mind.Mind.stamp.Goals as goal
 
 -- the queue is then that of those who wait
 queue_is : (c : goal.After-settle_if_any) → c.settle_if_any.new.queue ≡ settled_all (look_up c.self.inside.view.entries) (stamps c.args.cpu c.args.tid c.self.inside.cpus) (c.args.tid ∷ option_to_list (stamp_on c.self.inside.cpus c.args.cpu)) c.self.inside.queue
-queue_is c = stamp_queue (look_up c.self.inside.view.entries) c.self.inside.cpus _ c.self.inside.queue _ _ c.args.cpu c.args.tid _ c.stamp.ensures c.stamp_on-older.ensures c.settle.ensures.settled c.settle_if_any.ensures.settled
+queue_is c = stamp_queue (look_up c.self.inside.view.entries) c.self.inside.cpus _ c.self.inside.queue _ _ c.args.cpu c.args.tid _ c.stamp.ensures c.stamp_on-older.ensures c.settle_stamped.ensures.settled c.settle_if_any.ensures.settled
 
 pub invariant_of-self : goal.invariant_of-self
 invariant_of-self c =
