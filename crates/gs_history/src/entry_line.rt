@@ -4,7 +4,7 @@ ghost use Rattle.gs_history.specs.Journal.{entry_words, fields_text, journal_lin
 
 use gs_journal::{Entry, Journal};
 use gs_layout::{Change, Message};
-use gs_lines::{Text, change_name, write_cpu, write_facts, write_placed};
+use gs_lines::{Text, change_name, push_thread, write_cpu, write_facts, write_placed};
 use std::alloc::{AllocError, Global};
 
 /// Returns the word that says that a new mask took a thread off its CPU, behind a space, or nothing if it did not.
@@ -51,7 +51,7 @@ fn write_posted(out: &mut Text, message: &Message) -> Result<(), AllocError>
 {
     match message {
         Message::Thread { tid, tseq, change } => {
-            out.push_thread(change_name(change), *tid, *tseq)?;
+            push_thread(out, change_name(change), *tid, *tseq)?;
             write_fields(out, change)
         }
         Message::TimerTick { cpu } => out.push_number("tick cpu ", *cpu as u64),

@@ -1,8 +1,8 @@
 ghost use Rattle.std.specs.Prelude.{◌≡◌, ◌≤◌, ◌++◌, OnOk, length};
 ghost use Rattle.gs_lines.specs.Lines.{choice_lines, choice_text, decided_text, line, preempt_text};
 
-use crate::text::Text;
 use gs_policy::Choice;
+use gs_text::Sheet as Text;
 use std::alloc::AllocError;
 
 /// The end of a choice's line: whether its thread takes the CPU from somebody.
@@ -18,8 +18,8 @@ fn write_choice(out: &mut Text, number: u64, choice: &Choice) -> Result<(), Allo
     ensures { OnOk result (out.new ≡ out.old ++ line (choice_text number choice.now)) }
 {
     let Choice { cpu, tid, preempt } = *choice;
-    out.push_two("stamped ", number, " cpu ", cpu as u64, " thread ")?;
-    out.push_between("", tid as u64, choice_end(preempt))
+    out.push_two("stamped ", number, " cpu ", cpu as u64)?;
+    out.push_between(" thread ", tid as u64, choice_end(preempt))
 }
 
 /// Adds the lines of choices, whose numbers are `first` and those that follow it.

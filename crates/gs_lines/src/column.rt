@@ -3,8 +3,8 @@
 ghost use Rattle.std.specs.Prelude.{◌≡◌, ◌+◌, ◌-◌, ◌≤◌, ◌++◌, OnOk, codes, length, replicate};
 ghost use Rattle.gs_lines.specs.Columns.{class_word, column};
 
-use crate::text::Text;
 use gs_layout::Class;
+use gs_text::Sheet as Text;
 use std::alloc::AllocError;
 
 /// The most places of a column.

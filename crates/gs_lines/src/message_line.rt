@@ -1,9 +1,10 @@
 ghost use Rattle.std.specs.Prelude.{◌≡◌, ◌≤◌, ◌++◌, OnOk, length};
 ghost use Rattle.gs_lines.specs.Lines.{begin_text, change_text, cpu_text, entry_text, kind_text, line, message_lines, message_text, off_text, posted_text, role_text};
 
-use crate::text::Text;
+use crate::thread::{push_thread, push_thread_line};
 use gs_journal::Entry;
 use gs_layout::{Change, Kind, Message};
+use gs_text::Sheet as Text;
 use std::alloc::AllocError;
 
 /// The name of a kind.
@@ -39,7 +40,7 @@ fn write_message(out: &mut Text, message: &Message) -> Result<(), AllocError>
 {
     let kind = kind_name(message.kind());
     out.push_str("unread ")?;
-    out.push_thread(kind, message.tid(), message.tseq())?;
+    push_thread(out, kind, message.tid(), message.tseq())?;
     out.push_str(" cpu ")?;
     write_cpu(out, message.cpu())?;
     out.end_line()
@@ -91,10 +92,10 @@ fn write_change(out: &mut Text, tid: u32, tseq: u32, change: &Change) -> Result<
             off: true,
             ..
         } => {
-            out.push_thread(change_name(change), tid, tseq)?;
+            push_thread(out, change_name(change), tid, tseq)?;
             out.push_between(" off ", *cpu as u64, "\n")
         }
-        _ => out.push_thread_line(change_name(change), tid, tseq),
+        _ => push_thread_line(out, change_name(change), tid, tseq),
     }
 }
 
@@ -109,7 +110,7 @@ pub fn write_placed(
 ) -> Result<(), AllocError>
     ensures { OnOk result (out.new ≡ out.old ++ entry_text (Entry.Placed tid tseq cpu generation)) }
 {
-    out.push_thread("placed", tid, tseq)?;
+    push_thread(out, "placed", tid, tseq)?;
     out.push_number(" cpu ", cpu as u64)?;
     out.push_number(" generation ", generation as u64)
 }

@@ -4,13 +4,14 @@ ghost use Rattle.gs_lines.specs.Lines.{refusal_text, outcome_text, drained_text,
 
 use crate::choice_line::write_decided;
 use crate::message_line::{write_entry, write_messages};
-use crate::text::{MOST_WORD_LEN, Text};
+use crate::thread::push_thread_line;
 use crate::thread_line::{write_threads, write_view};
 use gs_agent::{Drained, Stop};
 use gs_core::Reply;
 use gs_journal::Entry;
 use gs_kernel::{Executed, Landing};
 use gs_layout::{Outcome, Refusal};
+use gs_text::Sheet as Text;
 use std::alloc::{AllocError, Global};
 
 /// The number and the name of a refusal.
@@ -64,7 +65,7 @@ pub fn outcome_name(outcome: Outcome) -> &'static str
     }
 }
 
-/// Adds the line of what became of a transaction, with a word of at most 5 bytes and a number before it.
+/// Adds the line of what became of a transaction, with a word and a number before it.
 #[inline(always)]
 #[tactic(auto, unfolding(crate::specs::Lines::thread_text))]
 fn write_landed(
@@ -73,11 +74,11 @@ fn write_landed(
     number: u64,
     landing: &Landing,
 ) -> Result<(), AllocError>
-    requires { length head.now ≤ 5 }
     ensures { OnOk result (out.new ≡ out.old ++ line (head.now ++ decimal number ++ codes " " ++ landed_text landing.now)) }
 {
+    out.push_between(head, number, " ")?;
     let name = outcome_name(landing.outcome);
-    out.push_numbered_thread(head, number, name, landing.tid, landing.seen)
+    push_thread_line(out, name, landing.tid, landing.seen)
 }
 
 /// Adds the line of a landing. It fails only if out of memory.
@@ -113,7 +114,6 @@ pub fn write_torn(out: &mut Text, torn: bool) -> Result<(), AllocError>
 
 /// Adds a word and a number, if the number isn't 0.
 fn write_part(out: &mut Text, word: &str, number: usize) -> Result<(), AllocError>
-    requires { length word.now ≤ MOST_WORD_LEN }
     ensures { OnOk result (out.new ≡ out.old ++ unless_zero word.now number) }
 {
     if number == 0 {

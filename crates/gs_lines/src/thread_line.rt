@@ -2,9 +2,10 @@ ghost use Rattle.std.specs.Prelude.{◌≡◌, ◌≤◌, ◌++◌, OnOk, codes,
 ghost use Rattle.gs_lines.specs.Lines.{class_text, facts_text, known_text, line, live_lines, live_text, name_text, runnable_text, view_lines, view_text};
 
 use crate::message_line::write_cpu;
-use crate::text::{MOST_WORD_LEN, Text};
+use crate::thread::push_thread;
 use gs_dump::DumpRecord;
 use gs_layout::{Class, Facts, Known, Name};
+use gs_text::Sheet as Text;
 use std::alloc::AllocError;
 
 /// Whether a thread may run, and the word before its mask.
@@ -61,11 +62,10 @@ pub fn write_facts(out: &mut Text, facts: &Facts) -> Result<(), AllocError>
 
 /// Adds a word and what is known of a thread.
 fn write_known(out: &mut Text, word: &str, tid: u32, known: &Known) -> Result<(), AllocError>
-    requires { length word.now ≤ MOST_WORD_LEN }
     ensures { OnOk result (out.new ≡ out.old ++ word.now ++ codes " " ++ known_text tid known.now) }
 {
-    out.push_thread(word, tid, known.tseq)?;
-    out.push_space()?;
+    push_thread(out, word, tid, known.tseq)?;
+    out.push_str(" ")?;
     write_facts(out, &known.facts)
 }
 

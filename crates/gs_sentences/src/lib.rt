@@ -1,6 +1,7 @@
 //! Sentences that say why an event came out as it did, with the values at hand.
 #![tactic(auto)]
 
+mod backwards;
 mod cause;
 mod group;
 mod landed;

@@ -3,7 +3,7 @@
 ghost use Rattle.std.specs.Prelude.{◌≡◌, ◌+◌, ◌≤◌, ◌++◌, [], decimal, drop, length};
 ghost use Rattle.std.specs.Str.{IsUtf8};
 
-use gs_lines::{put, put_mask, put_number};
+use crate::backwards::{put, put_mask, put_number};
 use std::marker::Model;
 
 /// The most bytes of a [`Sentence`].

@@ -1,11 +1,11 @@
 //! A table with a line for each turn.
 
-ghost use Rattle.std.specs.Prelude.{◌≡◌, ◌≤◌, ◌++◌, IfOk, OnOk, length};
+ghost use Rattle.std.specs.Prelude.{◌≡◌, ◌++◌, IfOk, OnOk};
 ghost use Rattle.gs_tables.specs.Timehist.{class_json, head_pieces, heading, line_of, object_of, place_pieces, rest_pieces, row_of, rows, table_of, times_pieces, turn_pieces};
 
 use crate::column::push_count;
 use gs_layout::Class;
-use gs_lines::{MOST_WORD_LEN, Text, class_word, push_column};
+use gs_lines::{Text, class_word, push_column};
 use gs_trace::Notation;
 use gs_turns::Turn;
 use std::alloc::{AllocError, Global};
@@ -64,7 +64,6 @@ fn class_json(class: Option<Class>) -> &'static str
 
 /// Adds a time to an object, behind words: how many entries it is, and how many ticks.
 fn push_times(out: &mut Text, words: &str, entries: usize, ticks: usize) -> Result<(), AllocError>
-    requires { length words.now ≤ MOST_WORD_LEN }
     ensures { OnOk result (out.new ≡ out.old ++ times_pieces words.now entries ticks) }
 {
     out.push_number(words, entries as u64)?;

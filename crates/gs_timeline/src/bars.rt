@@ -5,7 +5,6 @@ ghost use Rattle.gs_timeline.specs.Pieces.{Adds};
 ghost use Rattle.gs_timeline.specs.Places.{x_in};
 ghost use Rattle.gs_timeline.specs.declared.layout.TheConstants.{BAR};
 
-use crate::digits::Digits;
 use crate::ending::Ending;
 use crate::layout::{BAR, row_of};
 use crate::lives::{Life, class_known};
@@ -15,6 +14,7 @@ use crate::stay::Stay;
 use crate::text::Text;
 use crate::threads::{shade_of, write_label, write_thread};
 use gs_layout::Class;
+use gs_text::Digits;
 use std::alloc::AllocError;
 
 /// How much lower the bar of a thread of class 1 is than that of one of class 0.

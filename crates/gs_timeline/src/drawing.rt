@@ -28,13 +28,13 @@ use crate::part::{EDGE, LEFT, Part};
 use crate::phrases::begin_text;
 use crate::rect::{Rect, write_entry};
 use crate::ring::write_ring;
-use crate::sheet::Sheet;
 use crate::slots::{clearings, marks_by_cpu, write_stamped};
 use crate::spans::{Hold, holds, reigns};
 use crate::stay::Stay;
 use crate::text::Text;
 use crate::walk::stays;
 use gs_journal::{Entry, Journal};
+use gs_text::Sheet;
 use std::alloc::{AllocError, Global};
 
 /// How far from one another a wide picture repeats the names of its rows.

@@ -1,6 +1,5 @@
 ghost use Rattle.std.specs.Prelude.{◌≡◌};
 
-use crate::digits::Digits;
 use crate::layout::{BAR, TOP, foot_of, row_of};
 use crate::part::Part;
 use crate::phrases::{begin_path, begin_text};
@@ -9,6 +8,7 @@ use crate::spans::Hold;
 use crate::text::Text;
 use gs_journal::{Entry, Journal};
 use gs_layout::Message;
+use gs_text::Digits;
 use std::alloc::AllocError;
 
 /// The least width of an entry whose tick has a title.

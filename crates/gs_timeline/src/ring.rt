@@ -2,12 +2,12 @@
 
 ghost use Rattle.std.specs.Prelude.{◌≡◌};
 
-use crate::digits::Digits;
 use crate::layout::{BAR, RING};
 use crate::notes::Fill;
 use crate::part::{LEFT, Part};
 use crate::phrases::begin_text;
 use crate::text::Text;
+use gs_text::Digits;
 use std::alloc::AllocError;
 
 /// How high the strip is where so many bytes of so many are in use: as high as a bar if all are, and not flat if some are.

@@ -2,8 +2,7 @@
 
 ghost use Rattle.std.specs.Prelude.{◌≡◌, ◌++◌, [], decimal, OnOk};
 
-use crate::digits::Digits;
-use crate::sheet::Sheet;
+use gs_text::{Digits, Sheet};
 use std::alloc::{AllocError, Global};
 use std::marker::Model;
 

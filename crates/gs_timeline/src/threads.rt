@@ -1,11 +1,11 @@
 ghost use Rattle.std.specs.Prelude.{◌≡◌};
 ghost use Rattle.gs_timeline.specs.Marks.{shade_of};
 
-use crate::digits::Digits;
 use crate::lives::Life;
 use crate::rect::Rect;
 use crate::text::Text;
 use gs_layout::Class;
+use gs_text::Digits;
 use std::alloc::AllocError;
 
 /// How wide a letter in a bar is: each is as wide as any other.

@@ -58,6 +58,7 @@ pub(crate) trait Sink: Drop {
 impl Sink for Text {
     ghost has = { λ text rs. text ≡ lines rs };
 
+    #[inline(always)]
     #[tactic(auto, using(crate::proofs::Adding::text_more))]
     fn put(&mut self, came: Came<'_>) -> Result<(), AllocError> {
         match came {

@@ -17,4 +17,4 @@ returns c =
     let p3 = codes ",\"message\":\"affinity\",\"off\":" in
     let p4 = compact_text (boolean c.args.off) in
     let p5 = thread_piece c.args.tid c.args.tseq in
-    before r c.args.out.now p0 new (p1 ++ (w2 ++ (d2 ++ (p3 ++ (p4 ++ p5))))) c.in_ok-write_cpu.ensures (before r c.write_cpu.new.out p1 new (w2 ++ (d2 ++ (p3 ++ (p4 ++ p5)))) c.in_ok-write_place.ensures (before r c.write_place.new.out w2 new (d2 ++ (p3 ++ (p4 ++ p5))) c.in_ok-push_str.ensures (before r c.push_str.new.self d2 new (p3 ++ (p4 ++ p5)) c.in_ok-write_mask.ensures (before r c.write_mask.new.out p3 new (p4 ++ p5) c.in_ok-push_str-2.ensures (before r c.push_str-2.new.self p4 new p5 c.in_ok-write_flag.ensures c.write_thread.ensures)))))
+    before r c.args.out.now p0 new (p1 ++ (w2 ++ (d2 ++ (p3 ++ (p4 ++ p5))))) c.in_ok-write_cpu.ensures (before r c.write_cpu.new.out p1 new (w2 ++ (d2 ++ (p3 ++ (p4 ++ p5)))) c.in_ok-write_place.ensures (before r c.write_place.new.out w2 new (d2 ++ (p3 ++ (p4 ++ p5))) c.in_ok-push_str.ensures.added (before r c.push_str.new.self d2 new (p3 ++ (p4 ++ p5)) c.in_ok-write_mask.ensures (before r c.write_mask.new.out p3 new (p4 ++ p5) c.in_ok-push_str-2.ensures.added (before r c.push_str-2.new.self p4 new p5 c.in_ok-write_flag.ensures c.write_thread.ensures)))))

@@ -11,4 +11,4 @@ returns c =
     let w1 = codes ",\"generation\":" in
     let d1 = decimal c.args.generation in
     let p2 = codes ",\"kind\":\"begin\"}" in
-    before_number r c.args.out.now w0 d0 new (w1 ++ (d1 ++ p2)) c.in_ok-write_first_place.ensures (before_number r c.write_first_place.new.out w1 d1 new p2 c.in_ok-push_number.ensures c.push_str.ensures)
+    before_number r c.args.out.now w0 d0 new (w1 ++ (d1 ++ p2)) c.in_ok-write_first_place.ensures (before_number r c.write_first_place.new.out w1 d1 new p2 c.in_ok-push_number.ensures.added c.push_str.ensures.added)

@@ -21,4 +21,4 @@ returns c =
     let p5 = codes ",\"runnable\":" in
     let p6 = compact_text (boolean c.args.facts.now.runnable) in
     let p7 = thread_piece c.args.tid c.args.tseq in
-    before_number r c.args.out.now w0 d0 new (p1 ++ (w2 ++ (d2 ++ (p3 ++ (p4 ++ (p5 ++ (p6 ++ p7))))))) (rw c.number.ensures at c.in_ok-push_number.ensures) (before r c.push_number.new.self p1 new (w2 ++ (d2 ++ (p3 ++ (p4 ++ (p5 ++ (p6 ++ p7)))))) c.in_ok-write_place.ensures (before r c.write_place.new.out w2 new (d2 ++ (p3 ++ (p4 ++ (p5 ++ (p6 ++ p7))))) c.in_ok-push_str.ensures (before r c.push_str.new.self d2 new (p3 ++ (p4 ++ (p5 ++ (p6 ++ p7)))) c.in_ok-write_mask.ensures (before r c.write_mask.new.out p3 new (p4 ++ (p5 ++ (p6 ++ p7))) c.in_ok-push_str-2.ensures (before r c.push_str-2.new.self p4 new (p5 ++ (p6 ++ p7)) c.in_ok-write_name.ensures (before r c.write_name.new.out p5 new (p6 ++ p7) c.in_ok-push_str-3.ensures (before r c.push_str-3.new.self p6 new p7 c.in_ok-write_flag.ensures c.write_thread.ensures)))))))
+    before_number r c.args.out.now w0 d0 new (p1 ++ (w2 ++ (d2 ++ (p3 ++ (p4 ++ (p5 ++ (p6 ++ p7))))))) (rw c.number.ensures at c.in_ok-push_number.ensures.added) (before r c.push_number.new.self p1 new (w2 ++ (d2 ++ (p3 ++ (p4 ++ (p5 ++ (p6 ++ p7)))))) c.in_ok-write_place.ensures (before r c.write_place.new.out w2 new (d2 ++ (p3 ++ (p4 ++ (p5 ++ (p6 ++ p7))))) c.in_ok-push_str.ensures.added (before r c.push_str.new.self d2 new (p3 ++ (p4 ++ (p5 ++ (p6 ++ p7)))) c.in_ok-write_mask.ensures (before r c.write_mask.new.out p3 new (p4 ++ (p5 ++ (p6 ++ p7))) c.in_ok-push_str-2.ensures.added (before r c.push_str-2.new.self p4 new (p5 ++ (p6 ++ p7)) c.in_ok-write_name.ensures (before r c.write_name.new.out p5 new (p6 ++ p7) c.in_ok-push_str-3.ensures.added (before r c.push_str-3.new.self p6 new p7 c.in_ok-write_flag.ensures c.write_thread.ensures)))))))

@@ -10,4 +10,4 @@ returns c =
     let p0 = cpu_piece (Some c.args.cpu) in
     let p1 = place_piece c.args.place in
     let p2 = c.args.words.now in
-    before r c.args.out.now p0 new (p1 ++ p2) c.in_ok-write_cpu.ensures (before r c.write_cpu.new.out p1 new p2 c.in_ok-write_place.ensures c.push_str.ensures)
+    before r c.args.out.now p0 new (p1 ++ p2) c.in_ok-write_cpu.ensures (before r c.write_cpu.new.out p1 new p2 c.in_ok-write_place.ensures c.push_str.ensures.added)

@@ -11,4 +11,4 @@ returns c =
     let p1 = place_piece c.args.place in
     let p2 = c.args.words.now in
     let p3 = thread_piece c.args.tid c.args.tseq in
-    before r c.args.out.now p0 new (p1 ++ (p2 ++ p3)) c.in_ok-write_cpu.ensures (before r c.write_cpu.new.out p1 new (p2 ++ p3) c.in_ok-write_place.ensures (before r c.write_place.new.out p2 new p3 c.in_ok-push_str.ensures c.write_thread.ensures))
+    before r c.args.out.now p0 new (p1 ++ (p2 ++ p3)) c.in_ok-write_cpu.ensures (before r c.write_cpu.new.out p1 new (p2 ++ p3) c.in_ok-write_place.ensures (before r c.write_place.new.out p2 new p3 c.in_ok-push_str.ensures.added c.write_thread.ensures))

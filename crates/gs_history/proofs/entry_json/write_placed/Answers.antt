@@ -13,4 +13,4 @@ returns c =
     let d2 = decimal c.args.generation in
     let p3 = codes ",\"kind\":\"placed\"" in
     let p4 = thread_piece c.args.tid c.args.tseq in
-    before r c.args.out.now p0 new (p1 ++ (w2 ++ (d2 ++ (p3 ++ p4)))) c.in_ok-write_cpu.ensures (before r c.write_cpu.new.out p1 new (w2 ++ (d2 ++ (p3 ++ p4))) c.in_ok-write_place.ensures (before_number r c.write_place.new.out w2 d2 new (p3 ++ p4) c.in_ok-push_number.ensures (before r c.push_number.new.self p3 new p4 c.in_ok-push_str.ensures c.write_thread.ensures)))
+    before r c.args.out.now p0 new (p1 ++ (w2 ++ (d2 ++ (p3 ++ p4)))) c.in_ok-write_cpu.ensures (before r c.write_cpu.new.out p1 new (w2 ++ (d2 ++ (p3 ++ p4))) c.in_ok-write_place.ensures (before_number r c.write_place.new.out w2 d2 new (p3 ++ p4) c.in_ok-push_number.ensures.added (before r c.push_number.new.self p3 new p4 c.in_ok-push_str.ensures.added c.write_thread.ensures)))

@@ -12,4 +12,4 @@ returns c =
     let w2 = codes ",\"generation\":" in
     let d2 = decimal c.args.generation in
     let p3 = codes ",\"kind\":\"role\"}" in
-    before r c.args.out.now p0 new (p1 ++ (w2 ++ (d2 ++ p3))) c.in_ok-write_cpu.ensures (before r c.write_cpu.new.out p1 new (w2 ++ (d2 ++ p3)) c.in_ok-write_place.ensures (before_number r c.write_place.new.out w2 d2 new p3 c.in_ok-push_number.ensures c.push_str.ensures))
+    before r c.args.out.now p0 new (p1 ++ (w2 ++ (d2 ++ p3))) c.in_ok-write_cpu.ensures (before r c.write_cpu.new.out p1 new (w2 ++ (d2 ++ p3)) c.in_ok-write_place.ensures (before_number r c.write_place.new.out w2 d2 new p3 c.in_ok-push_number.ensures.added c.push_str.ensures.added))

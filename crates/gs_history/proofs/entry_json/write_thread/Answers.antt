@@ -11,4 +11,4 @@ returns c =
     let w1 = codes ",\"tid\":" in
     let d1 = decimal c.args.tid in
     let p2 = codes "}" in
-    before_number r c.args.out.now w0 d0 new (w1 ++ (d1 ++ p2)) c.in_ok-push_number.ensures (before_number r c.push_number.new.self w1 d1 new p2 c.in_ok-push_number-2.ensures c.push_str.ensures)
+    before_number r c.args.out.now w0 d0 new (w1 ++ (d1 ++ p2)) c.in_ok-push_number.ensures.added (before_number r c.push_number.new.self w1 d1 new p2 c.in_ok-push_number-2.ensures.added c.push_str.ensures.added)

@@ -9,4 +9,4 @@ returns c =
     let w0 = codes "{\"entry\":" in
     let d0 = decimal c.args.place in
     let p1 = codes ",\"kind\":\"torn\"}" in
-    before_number r c.args.out.now w0 d0 new p1 c.in_ok-write_first_place.ensures c.push_str.ensures
+    before_number r c.args.out.now w0 d0 new p1 c.in_ok-write_first_place.ensures c.push_str.ensures.added

@@ -11,4 +11,4 @@ returns c =
     let d0 = decimal c.args.place in
     let p1 = codes ",\"kind\":\"posted\",\"message\":\"woken\"" in
     let p2 = thread_piece c.args.tid c.args.tseq in
-    before_number r c.args.out.now w0 d0 new (p1 ++ p2) c.in_ok-write_first_place.ensures (before r c.write_first_place.new.out p1 new p2 c.in_ok-push_str.ensures c.write_thread.ensures)
+    before_number r c.args.out.now w0 d0 new (p1 ++ p2) c.in_ok-write_first_place.ensures (before r c.write_first_place.new.out p1 new p2 c.in_ok-push_str.ensures.added c.write_thread.ensures)

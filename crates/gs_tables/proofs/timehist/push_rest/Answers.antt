@@ -15,7 +15,7 @@ returns c =
     on_ok_weaker c.push_str.result
     (λ end. four c.args.out.now c.push_times.new.out c.push_number.new.self c.push_times-2.new.out c.push_str.new.self (times_pieces (codes ",\"ran\":{\"entries\":") (ran t) t.ran_ticks) (codes ",\"tid\":") (decimal t.stay.tid) (times_pieces (codes ",\"waited\":{\"entries\":") (waited t) t.waited_ticks) (codes "}\n")
     (c.in_ok-push_times.ensures ∙ ap (λ (n : ℕ). c.args.out.now ++ times_pieces (codes ",\"ran\":{\"entries\":") n t.ran_ticks) c.ran.ensures)
-    c.in_ok-push_number.ensures
+    c.in_ok-push_number.ensures.added
     (c.in_ok-push_times-2.ensures ∙ ap (λ (n : ℕ). c.push_number.new.self ++ times_pieces (codes ",\"waited\":{\"entries\":") n t.waited_ticks) c.waited.ensures)
     end)
-    c.push_str.ensures
+    c.push_str.ensures.added

@@ -9,11 +9,11 @@ the_line : (g : _) (c : goal.After-self-2-1 g) → Hears g.P.NamedPolicy.naming 
 the_line g c =
     let same =
     same_line c.self.inside.text (line_text g.P.NamedPolicy.naming c.args.line.now) c.write_line.new.text c.end_line.new.self c.as_bytes-start.result.now c.as_bytes-end.result.now c.as_bytes.result.now
-    c.as_bytes-start.ensures c.in_ok-write_line.ensures c.as_bytes-end.ensures c.in_ok-end_line.ensures c.as_bytes.ensures in
+    c.as_bytes-start.ensures c.in_ok-write_line.ensures c.as_bytes-end.ensures c.in_ok-end_line.ensures.added c.as_bytes.ensures in
     subst (λ (xs : List ℕ). Hears g.P.NamedPolicy.naming g.P.Policy.chosen c.self.inside.session xs c.in_ok-heard.heard c.hear_line.new.session) same c.in_ok-heard.ensures.hears
 
 the_text : (g : _) (c : goal.After-self-2-1 g) → c.end_line.new.self ≡ c.self.inside.text ++ line_text g.P.NamedPolicy.naming c.args.line.now ++ 10 ∷ []
-the_text g c = c.in_ok-end_line.ensures ∙ ap (λ (xs : List ℕ). xs ++ 10 ∷ []) c.in_ok-write_line.ensures
+the_text g c = c.in_ok-end_line.ensures.added ∙ ap (λ (xs : List ℕ). xs ++ 10 ∷ []) c.in_ok-write_line.ensures
 
 pub invariant_of-self-2 : goal.invariant_of-self-2
 invariant_of-self-2 g c =

@@ -1,6 +1,0 @@
-use Rattle.std.proofs.Common.{drop}
-use Rattle.gs_lines.proofs.Utf8.{both_utf8}
-use Rattle.gs_lines.proofs.backwards.put.Goals as goal
-
-pub returns-clause-utf8 : goal.returns-clause-utf8
-returns-clause-utf8 c = both_utf8 c.as_bytes.result.now (drop c.args.end c.args.array.now) (drop c.put_bytes.result c.put_bytes.new.array) c.put_bytes.ensures.written c.as_bytes.ensures.utf8

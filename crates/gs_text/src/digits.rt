@@ -1,0 +1,64 @@
+ghost use Rattle.std.specs.Prelude.{◌≡◌, ◌+◌, ◌≤◌, ◌++◌, decimal, length, take};
+ghost use Rattle.std.specs.Str.{IsUtf8};
+
+use crate::forwards::{DIGITS, put, put_number};
+use std::marker::Model;
+
+/// A number with its digits, which are kept until it is another number: for one that is written several times.
+#[derive(Drop)]
+pub struct Digits {
+    number: u64,
+    /// The digits, and behind them anything.
+    bytes: [u8; DIGITS],
+    len: usize,
+}
+
+impl Model for Digits {
+    ghost use Rattle.std.specs.Prelude.{◌≡◌, ◌<◌, ◌≤◌, ◌^◌, ℕ, decimal, take};
+    ghost use Rattle.gs_text.specs.declared.forwards.TheConstants.{DIGITS};
+
+    ghost Value = { ℕ };
+
+    ghost view = { λ d. d.number };
+
+    ghost invariant = { λ d. record {
+      within : d.len ≤ DIGITS;
+      fits : d.number < 2 ^ 64;
+      written : take d.len d.bytes ≡ decimal d.number;
+    } };
+}
+
+impl Digits {
+    /// Keeps those of a number.
+    pub fn new(number: u64) -> Digits
+        ensures { result ≡ number }
+    {
+        let mut bytes = [0; DIGITS];
+        let len = put_number(&mut bytes, 0, number);
+        Digits { number, bytes, len }
+    }
+
+    /// Is this number from now on.
+    #[inline(always)]
+    pub fn set(&mut self, number: u64)
+        ensures { self.new ≡ number }
+    {
+        if number != self.number {
+            self.len = put_number(&mut self.bytes, 0, number);
+            self.number = number;
+        }
+    }
+
+    /// Writes the digits, for which there is room however many they are, and returns the place behind them. All that is kept is
+    /// copied: a copy whose length is known takes no call.
+    #[inline(always)]
+    pub(crate) fn put(&self, bytes: &mut [u8], at: usize) -> usize
+        requires { at + DIGITS ≤ length bytes.old }
+        ensures end { result ≤ at + DIGITS }
+        ensures written { take result bytes.new ≡ take at bytes.old ++ decimal self.now }
+        ensures utf8 { IsUtf8 (take at bytes.old) → IsUtf8 (take result bytes.new) }
+    {
+        put(bytes, at, &self.bytes);
+        at + self.len
+    }
+}

@@ -1,0 +1,236 @@
+//! Words and numbers, written into bytes from a place on.
+
+ghost use Rattle.std.specs.Prelude.{◌≡◌, ◌+◌, ◌*◌, ◌<◌, ◌≤◌, ◌++◌, decimal, length, take};
+ghost use Rattle.std.specs.Str.{IsUtf8};
+
+use crate::digits::Digits;
+use itoa::{Buffer, write_digits};
+
+/// The most digits that a number of 64 bits has.
+pub(crate) const DIGITS: usize = 20;
+
+/// The most digits that a mask has.
+pub(crate) const MASK_DIGITS: usize = 39;
+
+/// A number that is not below this has more than eight digits.
+const LONG: u64 = 100_000_000;
+
+/// Writes more bytes, and returns the place behind them.
+#[inline(always)]
+pub(crate) fn put(bytes: &mut [u8], at: usize, more: &[u8]) -> usize
+    requires { at + length more.now ≤ length bytes.old }
+    ensures end { result ≡ at + length more.now }
+    ensures written { take result bytes.new ≡ take at bytes.old ++ more.now }
+    ensures utf8 { IsUtf8 more.now → IsUtf8 (take at bytes.old) → IsUtf8 (take result bytes.new) }
+{
+    let end = at + more.len();
+    bytes[at..end].copy_from_slice(more);
+    end
+}
+
+/// Returns how many digits a number has that is below 10,000.
+#[inline(always)]
+fn short_count(number: u64) -> usize
+    requires { number < 10_000 }
+    ensures { result ≡ length (decimal number) }
+{
+    match number {
+        0..10 => 1,
+        10..100 => 2,
+        100..1_000 => 3,
+        _ => 4,
+    }
+}
+
+/// Returns how many digits a number has that has at most eight.
+#[inline(always)]
+fn digit_count(number: u64) -> usize
+    requires { number < LONG }
+    ensures { result ≡ length (decimal number) }
+{
+    match number {
+        0..10_000 => short_count(number),
+        10_000..100_000 => 5,
+        100_000..1_000_000 => 6,
+        1_000_000..10_000_000 => 7,
+        _ => 8,
+    }
+}
+
+/// Writes any number, and returns the place behind it.
+#[cold]
+#[inline(never)]
+fn put_long(bytes: &mut [u8], at: usize, number: u64) -> usize
+    requires { at + DIGITS ≤ length bytes.old }
+    ensures end { result ≤ at + DIGITS }
+    ensures written { take result bytes.new ≡ take at bytes.old ++ decimal number }
+    ensures utf8 { IsUtf8 (take at bytes.old) → IsUtf8 (take result bytes.new) }
+{
+    let mut buffer = Buffer::new();
+    put(bytes, at, buffer.format(number).as_bytes())
+}
+
+/// Writes a number, for which there is room whatever it is, and returns the place behind it.
+#[inline(always)]
+pub(crate) fn put_number(bytes: &mut [u8], at: usize, number: u64) -> usize
+    requires { at + DIGITS ≤ length bytes.old }
+    ensures end { result ≤ at + DIGITS }
+    ensures written { take result bytes.new ≡ take at bytes.old ++ decimal number }
+    ensures utf8 { IsUtf8 (take at bytes.old) → IsUtf8 (take result bytes.new) }
+{
+    if number >= LONG {
+        return put_long(bytes, at, number);
+    }
+    let end = at + digit_count(number);
+    write_digits(number, bytes, end);
+    end
+}
+
+/// Writes words and a number, for which there is room whatever it is, and returns the place behind them.
+#[inline(always)]
+pub(crate) fn put_behind(bytes: &mut [u8], at: usize, words: &str, number: u64) -> usize
+    requires { at + length words.now + DIGITS ≤ length bytes.old }
+    ensures end { result ≤ at + length words.now + DIGITS }
+    ensures written { take result bytes.new ≡ take at bytes.old ++ words.now ++ decimal number }
+    ensures utf8 { IsUtf8 (take at bytes.old) → IsUtf8 (take result bytes.new) }
+{
+    let behind = put(bytes, at, words.as_bytes());
+    put_number(bytes, behind, number)
+}
+
+/// Writes words, a number and words, for which there is room whatever it is, and returns the place behind them.
+#[inline(always)]
+pub(crate) fn put_between(
+    bytes: &mut [u8],
+    at: usize,
+    words: &str,
+    number: u64,
+    behind: &str,
+) -> usize
+    requires { at + length words.now + DIGITS + length behind.now ≤ length bytes.old }
+    ensures end { result ≤ at + length words.now + DIGITS + length behind.now }
+    ensures written { take result bytes.new ≡ take at bytes.old ++ words.now ++ decimal number ++ behind.now }
+    ensures utf8 { IsUtf8 (take at bytes.old) → IsUtf8 (take result bytes.new) }
+{
+    let end = put_behind(bytes, at, words, number);
+    put(bytes, end, behind.as_bytes())
+}
+
+/// Writes words, a number, words and a number, for which there is room whatever they are, and returns the place behind them.
+#[inline(always)]
+pub(crate) fn put_two(
+    bytes: &mut [u8],
+    at: usize,
+    words: &str,
+    first: u64,
+    between: &str,
+    second: u64,
+) -> usize
+    requires { at + length words.now + length between.now + 2 * DIGITS ≤ length bytes.old }
+    ensures end { result ≤ at + length words.now + length between.now + 2 * DIGITS }
+    ensures written { take result bytes.new ≡ take at bytes.old ++ words.now ++ decimal first ++ between.now ++ decimal second }
+    ensures utf8 { IsUtf8 (take at bytes.old) → IsUtf8 (take result bytes.new) }
+{
+    let behind = put_behind(bytes, at, words, first);
+    put_behind(bytes, behind, between, second)
+}
+
+/// Writes a mask, for which there is room whatever it is, and returns the place behind it. One of 64 bits is written as a number.
+#[inline(always)]
+pub(crate) fn put_mask(bytes: &mut [u8], at: usize, mask: u128) -> usize
+    requires { at + MASK_DIGITS ≤ length bytes.old }
+    ensures end { result ≤ at + MASK_DIGITS }
+    ensures written { take result bytes.new ≡ take at bytes.old ++ decimal mask }
+    ensures utf8 { IsUtf8 (take at bytes.old) → IsUtf8 (take result bytes.new) }
+{
+    match u64::try_from(mask) {
+        Ok(number) => put_number(bytes, at, number),
+        Err(_) => put_long_mask(bytes, at, mask),
+    }
+}
+
+/// Writes any mask, and returns the place behind it.
+#[inline(never)]
+fn put_long_mask(bytes: &mut [u8], at: usize, mask: u128) -> usize
+    requires { at + MASK_DIGITS ≤ length bytes.old }
+    ensures end { result ≤ at + MASK_DIGITS }
+    ensures written { take result bytes.new ≡ take at bytes.old ++ decimal mask }
+    ensures utf8 { IsUtf8 (take at bytes.old) → IsUtf8 (take result bytes.new) }
+{
+    let mut buffer = Buffer::new();
+    put(bytes, at, buffer.format(mask).as_bytes())
+}
+
+/// Writes words, a mask and words, for which there is room whatever it is, and returns the place behind them.
+#[inline(always)]
+pub(crate) fn put_mask_between(
+    bytes: &mut [u8],
+    at: usize,
+    words: &str,
+    mask: u128,
+    behind: &str,
+) -> usize
+    requires { at + length words.now + MASK_DIGITS + length behind.now ≤ length bytes.old }
+    ensures end { result ≤ at + length words.now + MASK_DIGITS + length behind.now }
+    ensures written { take result bytes.new ≡ take at bytes.old ++ words.now ++ decimal mask ++ behind.now }
+    ensures utf8 { IsUtf8 (take at bytes.old) → IsUtf8 (take result bytes.new) }
+{
+    let from = put(bytes, at, words.as_bytes());
+    let end = put_mask(bytes, from, mask);
+    put(bytes, end, behind.as_bytes())
+}
+
+/// Writes a word, words, a number, words, a number and words, for which there is room whatever they are, and returns the place
+/// behind them.
+#[inline(always)]
+pub(crate) fn put_word_two(
+    bytes: &mut [u8],
+    at: usize,
+    word: &str,
+    words: &str,
+    first: u64,
+    between: &str,
+    second: u64,
+    behind: &str,
+) -> usize
+    requires { at + length word.now + length words.now + length between.now + length behind.now + 2 * DIGITS ≤ length bytes.old }
+    ensures end { result ≤ at + length word.now + length words.now + length between.now + length behind.now + 2 * DIGITS }
+    ensures written { take result bytes.new ≡ take at bytes.old ++ word.now ++ words.now ++ decimal first ++ between.now ++ decimal second ++ behind.now }
+    ensures utf8 { IsUtf8 (take at bytes.old) → IsUtf8 (take result bytes.new) }
+{
+    let from = put(bytes, at, word.as_bytes());
+    let end = put_two(bytes, from, words, first, between, second);
+    put(bytes, end, behind.as_bytes())
+}
+
+/// Writes words and a number whose digits are kept, for which there is room whatever it is, and returns the place behind them.
+#[inline(always)]
+pub(crate) fn put_digits(bytes: &mut [u8], at: usize, words: &str, digits: &Digits) -> usize
+    requires { at + length words.now + DIGITS ≤ length bytes.old }
+    ensures end { result ≤ at + length words.now + DIGITS }
+    ensures written { take result bytes.new ≡ take at bytes.old ++ words.now ++ decimal digits.now }
+    ensures utf8 { IsUtf8 (take at bytes.old) → IsUtf8 (take result bytes.new) }
+{
+    let behind = put(bytes, at, words.as_bytes());
+    digits.put(bytes, behind)
+}
+
+/// Writes words, a number, words and a number whose digits are kept, for which there is room whatever they are, and returns the
+/// place behind them.
+#[inline(always)]
+pub(crate) fn put_number_digits(
+    bytes: &mut [u8],
+    at: usize,
+    words: &str,
+    number: u64,
+    between: &str,
+    digits: &Digits,
+) -> usize
+    requires { at + length words.now + length between.now + 2 * DIGITS ≤ length bytes.old }
+    ensures end { result ≤ at + length words.now + length between.now + 2 * DIGITS }
+    ensures written { take result bytes.new ≡ take at bytes.old ++ words.now ++ decimal number ++ between.now ++ decimal digits.now }
+    ensures utf8 { IsUtf8 (take at bytes.old) → IsUtf8 (take result bytes.new) }
+{
+    let behind = put_behind(bytes, at, words, number);
+    put_digits(bytes, behind, between, digits)
+}
