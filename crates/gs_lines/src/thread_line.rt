@@ -2,7 +2,6 @@ ghost use Rattle.std.specs.Prelude.{◌≡◌, ◌≤◌, ◌++◌, OnOk, codes,
 ghost use Rattle.gs_lines.specs.Lines.{class_text, facts_text, known_text, line, live_lines, live_text, name_text, runnable_text, view_lines, view_text};
 
 use crate::message_line::write_cpu;
-use crate::thread::push_thread;
 use gs_dump::DumpRecord;
 use gs_layout::{Class, Facts, Known, Name};
 use gs_text::Sheet as Text;
@@ -64,8 +63,7 @@ pub fn write_facts(out: &mut Text, facts: &Facts) -> Result<(), AllocError>
 fn write_known(out: &mut Text, word: &str, tid: u32, known: &Known) -> Result<(), AllocError>
     ensures { OnOk result (out.new ≡ out.old ++ word.now ++ codes " " ++ known_text tid known.now) }
 {
-    push_thread(out, word, tid, known.tseq)?;
-    out.push_str(" ")?;
+    out.push_word_two(word, " ", tid as u64, " seq ", known.tseq as u64, " ")?;
     write_facts(out, &known.facts)
 }
 
