@@ -81,7 +81,7 @@ impl Page {
         requires { is_text said.now.bytes.now ≡ true }
         ensures { OnOk result (self.new ≡ self.old ++ heading (said_line said.now)) }
     {
-        self.text.push_mask("line ", said.number as u128, ": ")?;
+        self.text.push_between("line ", said.number as u64, ": ")?;
         self.text.append(said.bytes)?;
         self.text.end_line()
     }
@@ -145,10 +145,10 @@ impl Page {
             return Ok(());
         }
         if end == first + 1 {
-            return self.text.push_mask("  entry ", first as u128, "\n");
+            return self.text.push_between("  entry ", first as u64, "\n");
         }
         self.text.push_number("  entries ", first as u64)?;
-        self.text.push_mask(" to ", (end - 1) as u128, "\n")
+        self.text.push_between(" to ", (end - 1) as u64, "\n")
     }
 
     /// Adds why a transaction was not placed, in a line of its own.
