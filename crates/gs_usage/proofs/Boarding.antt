@@ -137,10 +137,10 @@ tally_more h n first set ticked u t v lt is heard used tick = record {
         ∙ both_bits (has_use u h (first + i) n) (is_tick_there (first + i) (slice_get h n)))
 
 -- there is room for what is counted
-pub entries_fit : (h : History) (n first : ℕ) (u : Use) (t : Tally) → n < length h → IsTally h n first u t → (i : ℕ) → i < MOST_CPUS → entries_to n t i < 2 ^ length t.entries.words.items
+pub entries_fit : (h : History) (n first : ℕ) (u : Use) (t : Tally) → n < length h → IsTally h n first u t → (i : ℕ) → i < MOST_CPUS → entries_to n t i < 2 ^ length t.entries.digits.items
 entries_fit h n first u t lt is i small = let few = (time_bound n u h (first + i)).0 in let same = is.entries i small in let room = is.room.entries in omega (arith, few, same, room, lt)
 
-pub ticks_fit : (h : History) (n first : ℕ) (u : Use) (t : Tally) → n < length h → IsTally h n first u t → (i : ℕ) → i < MOST_CPUS → ticks_in t i + 1 < 2 ^ length t.ticks.words.items
+pub ticks_fit : (h : History) (n first : ℕ) (u : Use) (t : Tally) → n < length h → IsTally h n first u t → (i : ℕ) → i < MOST_CPUS → ticks_in t i + 1 < 2 ^ length t.ticks.digits.items
 ticks_fit h n first u t lt is i small = let few = (time_bound n u h (first + i)).1 in let same = is.ticks i small in let room = is.room.ticks in omega (arith, few, same, room, lt)
 
 pub entries_few : (h : History) (n first : ℕ) (u : Use) (t : Tally) → IsTally h n first u t → (i : ℕ) → i < MOST_CPUS → entries_to n t i ≤ n

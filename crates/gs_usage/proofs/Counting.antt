@@ -5,7 +5,8 @@ use Rattle.std.specs.Int.{bit_at}
 use Rattle.std.proofs.lemmas.Nat.{mul-le}
 use Rattle.std.proofs.Math.Nat.{mul_assoc}
 use Rattle.std.proofs.lemmas.Nat.Bits.{bit_at-lt, bit_at-zero, bit_at_and, bit_at_or, bit_at_xor}
-use Rattle.gs_usage.specs.Counting.{counted}
+use Rattle.gs_usage.specs.Counting.{counted, totalled}
+use Rattle.gs_usage.specs.declared.totals.Digit.{Digit}
 
 -- the sum of three digits, and what is carried
 three : (x y z : ℕ) → x < 2 → y < 2 → z < 2 → ((x + y) % 2 + z) % 2 + 2 * max (min x y) (min z ((x + y) % 2)) ≡ x + y + z
@@ -111,3 +112,24 @@ room_more most n left lt =
     let next : n + 1 ≡ suc n = omega arith in
     let twice : 2 ^ n * (2 * (left / 2 + 1)) ≡ 2 ^ (n + 1) * (left / 2 + 1) = sym (mul_assoc (2 ^ n) 2 (left / 2 + 1)) ∙ ap (λ (m : ℕ). m * (left / 2 + 1)) (sym (ap (λ (m : ℕ). 2 ^ m) next ∙ pow-suc 2 n)) in
     omega (arith, lt, more, twice)
+
+-- one more digit of totals
+pub totalled_more : (ds : List Digit) (i : ℕ) → totalled (ds ++ record { word = 0; kept = 0 } ∷ []) i ≡ totalled ds i
+totalled_more [] i = let none = bit_at-zero i in omega (arith, none)
+totalled_more (d ∷ ds) i = ap (λ (m : ℕ). bit_at d.word i + bit_at d.kept i + 2 * m) (totalled_more ds i)
+
+-- a set more of a digit that keeps another
+pub joined_digit : (w k s i a : ℕ) → bit_at w i + bit_at k i + 2 * a + bit_at s i ≡ bit_at (bit_xor (bit_xor w k) s) i + bit_at 0 i + 2 * (a + bit_at (bit_or (bit_and w k) (bit_and s (bit_xor w k))) i)
+joined_digit w k s i a = let sum = digits w k s i in let none = bit_at-zero i in omega (arith, sum, none)
+
+-- so many more of one digit, whatever it keeps
+pub summed_digit : (w d c k s t i a : ℕ) → bit_at d i ≡ t % 2 * bit_at s i
+    → bit_at w i + bit_at k i + 2 * a + t * bit_at s i + bit_at c i ≡ bit_at (bit_xor (bit_xor w d) c) i + bit_at k i + 2 * (a + t / 2 * bit_at s i + bit_at (bit_or (bit_and w d) (bit_and c (bit_xor w d))) i)
+summed_digit w d c k s t i a is = let sum = added_digit w d c s t i a is in beside (bit_at w i) (bit_at k i) a (t * bit_at s i) (bit_at c i) (bit_at (bit_xor (bit_xor w d) c) i) (a + t / 2 * bit_at s i + bit_at (bit_or (bit_and w d) (bit_and c (bit_xor w d))) i) sum
+  where
+    beside : (w k a t c x m : ℕ) → w + 2 * a + t + c ≡ x + 2 * m → w + k + 2 * a + t + c ≡ x + k + 2 * m
+    beside w k a t c x m e = omega (arith, e)
+
+-- what is left has room for one digit less, whatever is kept
+pub room_kept : (s k a n : ℕ) → s + k + 2 * a < 2 ^ suc n → a < 2 ^ n
+room_kept s k a n lt = omega (arith, lt, pow-suc 2 n)

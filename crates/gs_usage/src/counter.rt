@@ -1,6 +1,6 @@
 //! Counts of many places at once.
 
-ghost use Rattle.std.specs.Prelude.{◌≡◌, ◌<◌, ◌≤◌, ◌+◌, ◌*◌, ◌^◌, ◌/◌, ◌%◌, ℕ, IfOk, length, max, min, nat_lt};
+ghost use Rattle.std.specs.Prelude.{◌≡◌, ◌<◌, ◌≤◌, ◌+◌, ◌^◌, ℕ, IfOk, length, max, min, nat_lt};
 ghost use Rattle.gs_status.specs.Masks.{has};
 ghost use Rattle.std.specs.Int.{bit_at};
 ghost use Rattle.gs_usage.specs.Counting.{counted};
@@ -9,14 +9,7 @@ ghost use Rattle.gs_status.specs.declared.mask.TheConstants.{MOST_CPUS};
 use gs_status::MOST_CPUS;
 use std::alloc::{AllocError, Global};
 
-/// Returns the places of a set whose count has a one as its lowest digit, if each has this one.
-fn digit_of(set: u128, times: usize) -> u128
-    ensures { (i : ℕ) → bit_at result i ≡ times % 2 * bit_at set i }
-{
-    if times % 2 == 1 { set } else { 0 }
-}
-
-/// Adds to counts those that are carried from the digits before.
+/// Adds one to the count of each place of a set.
 fn carry(words: &mut [u128], carried: u128)
     requires { (i : ℕ) → i < MOST_CPUS → counted words.old i + bit_at carried i < 2 ^ length words.old }
     ensures counts { (i : ℕ) → i < MOST_CPUS → counted words.new i ≡ counted words.old i + bit_at carried i }
@@ -29,28 +22,6 @@ fn carry(words: &mut [u128], carried: u128)
         let old = *word;
         *word = old ^ carried;
         carry(others, old & carried);
-    }
-}
-
-/// Adds to counts the places of a set, so many times each, and once those that are carried from the digits before.
-fn add(words: &mut [u128], set: u128, times: usize, carried: u128)
-    requires { (i : ℕ) → i < MOST_CPUS → counted words.old i + times * bit_at set i + bit_at carried i < 2 ^ length words.old }
-    ensures counts { (i : ℕ) → i < MOST_CPUS → counted words.new i ≡ counted words.old i + times * bit_at set i + bit_at carried i }
-    ensures count { length words.new ≡ length words.old }
-{
-    if times == 0 {
-        return carry(words, carried);
-    }
-    if let Some((word, others)) = words.split_first_mut() {
-        let old = *word;
-        let digit = digit_of(set, times);
-        *word = old ^ digit ^ carried;
-        add(
-            others,
-            set,
-            times / 2,
-            old & digit | carried & (old ^ digit),
-        );
     }
 }
 
@@ -70,25 +41,18 @@ fn take(words: &mut [u128], set: u128)
     }
 }
 
-/// Returns the set of the places that are in another or whose count is not 0.
-fn marked(words: &[u128], others: u128) -> u128
-    ensures { (i : ℕ) → bit_at result i ≡ max (bit_at others i) (min 1 (counted words.now i)) }
+/// Returns the set of the places that are in another or whose count is not 0. No place is that is not in a third set: the
+/// digits are read until all of these are found.
+fn marked(words: &[u128], others: u128, all: u128) -> u128
+    requires { (i : ℕ) → i < MOST_CPUS → max (bit_at others i) (min 1 (counted words.now i)) ≤ bit_at all i }
+    ensures { (i : ℕ) → i < MOST_CPUS → bit_at result i ≡ max (bit_at others i) (min 1 (counted words.now i)) }
 {
-    match words.split_first() {
-        Some((word, rest)) => marked(rest, others | *word),
-        None => others,
+    if others == all {
+        return all;
     }
-}
-
-/// Returns the count of a place.
-fn count(words: &[u128], place: u16) -> usize
-    requires place { place < MOST_CPUS }
-    requires fits { counted words.now place ≤ usize.MAX }
-    ensures { result ≡ counted words.now place }
-{
     match words.split_first() {
-        Some((word, rest)) => (*word >> place & 1) as usize + 2 * count(rest, place),
-        None => 0,
+        Some((word, rest)) => marked(rest, others | *word, all),
+        None => others,
     }
 }
 
@@ -137,13 +101,13 @@ impl Counter {
         Ok(Counter { words })
     }
 
-    /// Adds so many to the count of each CPU of a set.
-    pub(crate) fn add(&mut self, set: u128, times: usize)
-        requires { (i : ℕ) → i < MOST_CPUS → counted self.old.words.items i + times * bit_at set i < 2 ^ length self.old.words.items }
-        ensures counts { (i : ℕ) → i < MOST_CPUS → counted self.new.words.items i ≡ counted self.old.words.items i + times * bit_at set i }
+    /// Adds one to the count of each CPU of a set.
+    pub(crate) fn add(&mut self, set: u128)
+        requires { (i : ℕ) → i < MOST_CPUS → counted self.old.words.items i + bit_at set i < 2 ^ length self.old.words.items }
+        ensures counts { (i : ℕ) → i < MOST_CPUS → counted self.new.words.items i ≡ counted self.old.words.items i + bit_at set i }
         ensures room { length self.new.words.items ≡ length self.old.words.items }
     {
-        add(self.words.as_mut_slice(), set, times, 0);
+        carry(self.words.as_mut_slice(), set);
     }
 
     /// Takes one from the count of each CPU of a set. No such count is 0.
@@ -163,19 +127,11 @@ impl Counter {
         clear(self.words.as_mut_slice());
     }
 
-    /// Returns the set of the CPUs whose count is not 0.
-    pub(crate) fn marked(&self) -> u128
-        ensures { (i : ℕ) → has result i ≡ nat_lt 0 (counted self.now.words.items i) }
+    /// Returns the set of the CPUs whose count is not 0, of which each is in this set.
+    pub(crate) fn marked(&self, all: u128) -> u128
+        requires { (i : ℕ) → i < MOST_CPUS → min 1 (counted self.now.words.items i) ≤ bit_at all i }
+        ensures { (i : ℕ) → i < MOST_CPUS → has result i ≡ nat_lt 0 (counted self.now.words.items i) }
     {
-        marked(&self.words, 0)
-    }
-
-    /// Returns the count of a CPU.
-    pub(crate) fn count(&self, place: u16) -> usize
-        requires place { place < MOST_CPUS }
-        requires fits { counted self.now.words.items place ≤ usize.MAX }
-        ensures { result ≡ counted self.now.words.items place }
-    {
-        count(&self.words, place)
+        marked(&self.words, 0, all)
     }
 }

@@ -66,6 +66,20 @@ fn agent_then(first: u16, before: u128, entry: &Entry) -> u128
     }
 }
 
+/// Returns which CPUs the other class has behind an entry, and which one the active agent is on.
+fn led_then(first: u16, taken: u128, agent: u128, entry: &Entry) -> (u128, u128)
+    ensures taken { (i : ℕ) → i < MOST_CPUS → has result.0 i ≡ unwrap_or (taken_by (first + i) entry.now) (has taken i) }
+    ensures agent { (i : ℕ) → i < MOST_CPUS → has result.1 i ≡ agent_then (first + i) entry.now (has agent i) }
+{
+    match entry {
+        Entry::Posted { .. } | Entry::Placed { .. } => (taken, agent),
+        _ => (
+            taken_then(first, taken, entry),
+            agent_then(first, agent, entry),
+        ),
+    }
+}
+
 /// Notes how many threads wait for each CPU behind an entry by which this changed of what one thread waits for.
 fn note_waiting(
     waiting: &mut Counter,
@@ -89,9 +103,16 @@ fn note_waiting(
     if change.before == change.after {
         return;
     }
-    waiting.add(in_block(first, change.after), 1);
-    waiting.take(in_block(first, change.before));
-    *wanted = waiting.marked();
+    let after = in_block(first, change.after);
+    let before = in_block(first, change.before);
+    let most = either(*wanted, after);
+    waiting.add(after);
+    if before == 0 {
+        *wanted = most;
+    } else {
+        waiting.take(before);
+        *wanted = waiting.marked(most);
+    }
 }
 
 impl Facts {
@@ -137,8 +158,7 @@ impl Facts {
         requires wanted { (i : ℕ) → i < MOST_CPUS → has self.old.wanted i ≡ nat_lt 0 (counted self.old.waiting.words.items i) }
         ensures { OnOk result (AreFactsThen first entry.now change.now self.old self.new) }
     {
-        self.taken = taken_then(first, self.taken, entry);
-        self.agent = agent_then(first, self.agent, entry);
+        (self.taken, self.agent) = led_then(first, self.taken, self.agent, entry);
         self.seats.hear(first, entry)?;
         note_waiting(&mut self.waiting, &mut self.wanted, first, entry, change);
         Ok(())

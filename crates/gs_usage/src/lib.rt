@@ -10,6 +10,7 @@ mod seats;
 mod sets;
 mod tally;
 mod threads;
+mod totals;
 mod usage;
 mod walk;
 

@@ -72,5 +72,11 @@ pub(crate) fn in_block(first: u16, mask: Mask) -> u128
     ensures { (i : ℕ) → has result i ≡ has mask (first + i) }
 {
     let bits = mask.bits();
-    if first < MOST_CPUS { bits >> first } else { 0 }
+    if first == 0 {
+        bits
+    } else if first < MOST_CPUS {
+        bits >> first
+    } else {
+        0
+    }
 }

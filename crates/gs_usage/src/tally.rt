@@ -2,11 +2,10 @@
 
 ghost use Rattle.std.specs.Prelude.{◌≡◌, ◌<◌, ◌≤◌, ◌+◌, ◌*◌, ◌^◌, ℕ, IfOk, length, min};
 ghost use Rattle.std.specs.Int.{bit_at};
-ghost use Rattle.gs_usage.specs.Counting.{counted};
 ghost use Rattle.gs_usage.specs.Tallies.{HasRoom, IsTallyThen, entries_to, ticks_in};
 ghost use Rattle.gs_status.specs.declared.mask.TheConstants.{MOST_CPUS};
 
-use crate::counter::Counter;
+use crate::totals::Totals;
 use gs_status::MOST_CPUS;
 use gs_turns::Time;
 use std::alloc::{AllocError, Global};
@@ -18,8 +17,8 @@ pub(crate) struct Tally {
     set: u128,
     /// The place of the entry from which on they have it and that is not yet in `entries`.
     since: usize,
-    entries: Counter,
-    ticks: Counter,
+    entries: Totals,
+    ticks: Totals,
 }
 
 impl Tally {
@@ -35,8 +34,8 @@ impl Tally {
         ensures since { IfOk result (λ tally. tally.since ≡ 0) }
         ensures room { IfOk result (λ tally. HasRoom most tally) }
     {
-        let entries = Counter::new(alloc, most)?;
-        let ticks = Counter::new(alloc, most)?;
+        let entries = Totals::new(alloc, most)?;
+        let ticks = Totals::new(alloc, most)?;
         Ok(Tally {
             set,
             since: 0,
@@ -46,13 +45,14 @@ impl Tally {
     }
 
     /// Adds the entries that are not yet in `entries`, and notes that the entry of this place leaves the use to the CPUs of a set.
+    #[inline(always)]
     fn settle(&mut self, place: usize, set: u128)
         requires since { self.old.since ≤ place }
-        requires fits { (i : ℕ) → i < MOST_CPUS → entries_to place self.old i < 2 ^ length self.old.entries.words.items }
+        requires fits { (i : ℕ) → i < MOST_CPUS → entries_to place self.old i < 2 ^ length self.old.entries.digits.items }
         ensures set { self.new.set ≡ set }
         ensures since { self.new.since ≤ place }
         ensures entries { (i : ℕ) → i < MOST_CPUS → entries_to (place + 1) self.new i ≡ entries_to place self.old i + bit_at set i }
-        ensures room { length self.new.entries.words.items ≡ length self.old.entries.words.items }
+        ensures room { length self.new.entries.digits.items ≡ length self.old.entries.digits.items }
         ensures ticks { self.new.ticks ≡ self.old.ticks }
     {
         self.entries.add(self.set, place - self.since);
@@ -64,11 +64,11 @@ impl Tally {
     #[inline(always)]
     fn turn(&mut self, place: usize, set: u128)
         requires since { self.old.since ≤ place }
-        requires fits { (i : ℕ) → i < MOST_CPUS → entries_to place self.old i < 2 ^ length self.old.entries.words.items }
+        requires fits { (i : ℕ) → i < MOST_CPUS → entries_to place self.old i < 2 ^ length self.old.entries.digits.items }
         ensures set { self.new.set ≡ set }
         ensures since { self.new.since ≤ place }
         ensures entries { (i : ℕ) → i < MOST_CPUS → entries_to (place + 1) self.new i ≡ entries_to place self.old i + bit_at set i }
-        ensures room { length self.new.entries.words.items ≡ length self.old.entries.words.items }
+        ensures room { length self.new.entries.digits.items ≡ length self.old.entries.digits.items }
         ensures ticks { self.new.ticks ≡ self.old.ticks }
     {
         if set != self.set {
@@ -79,16 +79,16 @@ impl Tally {
     /// Notes a tick of the CPUs of a set, of those that have the use.
     #[inline(always)]
     fn tick(&mut self, ticked: u128)
-        requires { (i : ℕ) → i < MOST_CPUS → ticks_in self.old i + 1 < 2 ^ length self.old.ticks.words.items }
+        requires { (i : ℕ) → i < MOST_CPUS → ticks_in self.old i + 1 < 2 ^ length self.old.ticks.digits.items }
         ensures ticks { (i : ℕ) → i < MOST_CPUS → ticks_in self.new i ≡ ticks_in self.old i + min (bit_at self.old.set i) (bit_at ticked i) }
-        ensures room { length self.new.ticks.words.items ≡ length self.old.ticks.words.items }
+        ensures room { length self.new.ticks.digits.items ≡ length self.old.ticks.digits.items }
         ensures entries { self.new.entries ≡ self.old.entries }
         ensures set { self.new.set ≡ self.old.set }
         ensures since { self.new.since ≡ self.old.since }
     {
         let set = self.set & ticked;
         if set != 0 {
-            self.ticks.add(set, 1);
+            self.ticks.add_once(set);
         }
     }
 
@@ -97,7 +97,7 @@ impl Tally {
     #[tactic(auto, using(crate::proofs::Bits::none_ticked))]
     pub(crate) fn hear(&mut self, place: usize, set: u128)
         requires since { self.old.since ≤ place }
-        requires fits { (i : ℕ) → i < MOST_CPUS → entries_to place self.old i < 2 ^ length self.old.entries.words.items }
+        requires fits { (i : ℕ) → i < MOST_CPUS → entries_to place self.old i < 2 ^ length self.old.entries.digits.items }
         ensures { IsTallyThen place set 0 self.old self.new }
     {
         self.turn(place, set);
@@ -106,7 +106,7 @@ impl Tally {
     /// Notes an entry that leaves the use to the same CPUs, and is a tick of the CPUs of a set.
     #[inline(always)]
     pub(crate) fn stay(&mut self, ticked: u128)
-        requires { (i : ℕ) → i < MOST_CPUS → ticks_in self.old i + 1 < 2 ^ length self.old.ticks.words.items }
+        requires { (i : ℕ) → i < MOST_CPUS → ticks_in self.old i + 1 < 2 ^ length self.old.ticks.digits.items }
         ensures { (n : ℕ) → self.old.since ≤ n → IsTallyThen n self.old.set ticked self.old self.new }
     {
         self.tick(ticked);
@@ -120,7 +120,7 @@ impl Tally {
         ensures { result ≡ entries_to place self.now cpu }
     {
         let lasting = (self.set >> cpu & 1) as usize;
-        self.entries.count(cpu) + (place - self.since) * lasting
+        self.entries.total(cpu) + (place - self.since) * lasting
     }
 
     /// Returns behind how many of so many entries a CPU had the use, and how many of these are ticks of the CPU.
@@ -134,7 +134,7 @@ impl Tally {
     {
         Time {
             entries: self.entries(place, cpu),
-            ticks: self.ticks.count(cpu),
+            ticks: self.ticks.total(cpu),
         }
     }
 }

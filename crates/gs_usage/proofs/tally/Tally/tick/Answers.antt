@@ -6,7 +6,7 @@ use Rattle.gs_usage.proofs.tally.Tally.tick.Goals as goal
 
 pub returns-then-set-ne0-clause-ticks : goal.returns-then-set-ne0-clause-ticks
 returns-then-set-ne0-clause-ticks c = λ i lt.
-    let more = c.add.ensures.counts i lt in
+    let more = c.add_once.ensures.totals i lt in
     let both = bit_at_and c.args.self.now.set c.args.ticked i in
     omega (arith, more, both)
 
