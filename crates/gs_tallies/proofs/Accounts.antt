@@ -1,5 +1,5 @@
 -- What is in the groups of classes, and lists side by side with one more at the end of each.
-use Rattle.std.proofs.Common.{◌≡◌, refl, ap, subst, sym, ◌==◌, Bool, true, false, Option, None, Some, List, [], ◌∷◌, ◌++◌, slice_get}
+use Rattle.std.proofs.Common.{◌≡◌, refl, ap, subst, sym, ◌==◌, Bool, true, false, Option, None, Some, List, [], ◌∷◌, ◌++◌, get_or}
 use Rattle.std.proofs.Math.Path.{fun_ext}
 use Rattle.std.specs.List.{AllZip, filter}
 use Rattle.gs_layout.specs.declared.facts.Class.{Class}
@@ -8,7 +8,10 @@ use Rattle.gs_kernel.specs.declared.landing.Landing.{Landing}
 use Rattle.gs_turns.specs.declared.stance.Known.{Known}
 use Rattle.gs_turns.specs.declared.turn.Turn.{Turn}
 use Rattle.gs_tallies.specs.declared.account.Account.{Account}
-use Rattle.gs_tallies.specs.Accounts.{IsAccount, IsAccountIn, IsAccountOfClass, class_known, class_place, is_landing_of_class}
+use Rattle.gs_tallies.specs.declared.landings.LandingDraft.{LandingDraft}
+use Rattle.gs_tallies.specs.declared.tally.TurnDraft.{TurnDraft}
+use Rattle.gs_tallies.specs.Accounts.{IsAccount, IsAccountOfClass, class_known, class_place, is_landing_of_class}
+use Rattle.gs_tallies.specs.Drafts.{IsAccountIn, IsLandingDraft, IsTurnDraft}
 use Rattle.gs_tallies.specs.Groups.{one_more}
 use Rattle.gs_tallies.specs.Tallies.{is_of_class, same_class}
 
@@ -28,9 +31,9 @@ kept_alike : {A : Type 0} (p q : A → Bool) → ((x : A) → p x ≡ q x) → (
 kept_alike p q same xs = ap (λ f. filter f xs) (fun_ext same)
 
 -- what is in the groups of a class is what that class comes to
-pub of_class : (threads : List Known) (turns : List Turn) (landings : List Landing) (by_turn : List (List Turn)) (by_landing : List (List Landing)) (k : Option Class) (a : Account)
-    → slice_get by_turn (class_place k) ≡ Some (filter (λ (t : Turn). class_place t.class == class_place k) turns)
-    → slice_get by_landing (class_place k) ≡ Some (filter (λ (l : Landing). class_place (class_known threads l.tid) == class_place k) landings)
+pub of_class : (threads : List Known) (turns : List Turn) (landings : List Landing) (by_turn : List TurnDraft) (by_landing : List LandingDraft) (k : Option Class) (a : Account)
+    → ((d : TurnDraft) → IsTurnDraft (filter (λ (t : Turn). class_place t.class == class_place k) turns) (get_or by_turn (class_place k) d))
+    → ((d : LandingDraft) → IsLandingDraft (filter (λ (l : Landing). class_place (class_known threads l.tid) == class_place k) landings) (get_or by_landing (class_place k) d))
     → IsAccountIn by_turn by_landing (class_place k) k None a
     → IsAccountOfClass threads turns landings k a
 of_class threads turns landings by_turn by_landing k a ts ls is =

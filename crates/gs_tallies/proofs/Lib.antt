@@ -1,3 +1,4 @@
 mod Ranks
 mod Groups
 mod Accounts
+mod Outcomes

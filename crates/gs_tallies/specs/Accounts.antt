@@ -1,5 +1,5 @@
 -- What the turns and the landings of a class, or of a thread, come to.
-use Rattle.std.specs.Prelude.{◌≡◌, ℕ, ◌==◌, Bool, Option, None, Some, List, [], ◌∷◌, is_some, length, map, slice_get}
+use Rattle.std.specs.Prelude.{◌≡◌, ℕ, ◌==◌, Bool, Option, None, Some, List, [], ◌∷◌, is_some, length, map}
 use Rattle.std.specs.List.{count_by, filter, range_with_len}
 use Rattle.gs_layout.specs.declared.facts.Class.{Class}
 use Rattle.gs_layout.specs.declared.facts.Class.TheVariants.{Zero, One}
@@ -25,10 +25,6 @@ pub record IsAccount (k : Option Class) (t : Option ℕ) (ts : List Turn) (ls : 
   pub tid : a.tid ≡ t
   pub turns : IsTally ts a.tally
   pub landings : a.landings ≡ outcomes_of ls
-
--- this is what the turns and landings in the groups of a place come to
-abbrev pub IsAccountIn : List (List Turn) → List (List Landing) → ℕ → Option Class → Option ℕ → Account → Type 0
-IsAccountIn turns landings place k t a = (ts : List Turn) (ls : List Landing) → slice_get turns place ≡ Some ts → slice_get landings place ≡ Some ls → IsAccount k t ts ls a
 
 -- the class of a thread, by what is known of each
 abbrev pub class_known : List Known → ℕ → Option Class

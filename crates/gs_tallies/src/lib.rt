@@ -4,6 +4,7 @@
 mod account;
 mod group;
 mod grouping;
+mod landings;
 mod spread;
 mod sums;
 mod tally;

@@ -2,7 +2,7 @@ ghost use Rattle.std.specs.Prelude.{◌≡◌, ◌+◌, ◌*◌, ◌<◌, ◌≤
 ghost use Rattle.std.specs.List.Sorted.{IsNonDecreasing};
 ghost use Rattle.gs_tallies.specs.Spreads.{IsPercentile, IsSpread, percent_of};
 
-use std::alloc::{AllocError, Global};
+use std::alloc::AllocError;
 
 /// How some numbers are spread: percentiles by the nearest rank.
 #[derive(Clone, Copy, PartialEq, Eq, Debug)]
@@ -68,14 +68,14 @@ fn spread_in(rising: &[usize]) -> Spread
 /// # Errors
 ///
 /// `AllocError` if out of memory.
-pub(crate) fn spread_of(alloc: Global, numbers: &[usize]) -> Result<Option<Spread>, AllocError>
-    ensures some { IfOk result (λ spread. IfSome spread (IsSpread numbers.now)) }
-    ensures none { IfOk result (λ spread. IfNone spread (numbers.now ≡ [])) }
+pub(crate) fn spread_of(numbers: Vec<usize>) -> Result<Option<Spread>, AllocError>
+    ensures some { IfOk result (λ spread. IfSome spread (IsSpread numbers.items)) }
+    ensures none { IfOk result (λ spread. IfNone spread (numbers.items ≡ [])) }
 {
     if numbers.is_empty() {
         return Ok(None);
     }
-    let mut rising = Vec::from_slice(alloc, numbers)?;
+    let mut rising = numbers;
     rising.sort()?;
     Ok(Some(spread_in(&rising)))
 }

@@ -1,7 +1,6 @@
-ghost use Rattle.std.specs.Prelude.{◌≡◌};
-ghost use Rattle.std.specs.List.{count_by};
-ghost use Rattle.gs_turns.specs.Turns.{ran, waited};
-ghost use Rattle.gs_tallies.specs.Tallies.{is_migrated, is_preempted, ran_ticks, sums_of, time_of, waited_ticks};
+ghost use Rattle.std.specs.Prelude.{◌≡◌, ◌+◌, ◌<◌, ◌∷◌, ◌++◌, List, [], cond, length, min};
+ghost use Rattle.gs_turns.specs.declared.turn.Turn.{Turn};
+ghost use Rattle.gs_tallies.specs.Tallies.{is_migrated, is_preempted, sums_of};
 
 use gs_timeline::Ending;
 use gs_turns::{Time, Turn};
@@ -38,51 +37,37 @@ fn is_migrated(turn: &Turn) -> bool
     }
 }
 
-/// Returns how long threads ran.
-fn ran_of(turns: &[Turn]) -> Time
-    ensures { result ≡ time_of ran ran_ticks turns.now }
+/// Returns a count and one more, if it is so. It stops at the most that 64 bits hold.
+fn one_more_if(count: usize, is: bool) -> usize
+    ensures { result ≡ min (count + cond is 1 0) usize.MAX }
 {
-    let mut time = Time::none();
-    for turn in turns {
-        time = time.with(turn.ran(), turn.ran_ticks);
+    if is { count.saturating_add(1) } else { count }
+}
+
+impl Sums {
+    /// What no turns come to.
+    pub(crate) fn none() -> Sums
+        ensures { result ≡ sums_of [] }
+    {
+        Sums {
+            stays: 0,
+            ran: Time::none(),
+            waited: Time::none(),
+            preempted: 0,
+            migrated: 0,
+        }
     }
-    time
-}
 
-/// Returns how long they waited.
-fn waited_of(turns: &[Turn]) -> Time
-    ensures { result ≡ time_of waited waited_ticks turns.now }
-{
-    let mut time = Time::none();
-    for turn in turns {
-        time = time.with(turn.waited(), turn.waited_ticks);
-    }
-    time
-}
-
-/// Returns how many stays were preempted.
-fn preempted_of(turns: &[Turn]) -> usize
-    ensures { result ≡ count_by is_preempted turns.now }
-{
-    turns.iter().filter(|turn| is_preempted(turn)).count()
-}
-
-/// Returns how many are on another CPU than the thread's stay before.
-fn migrated_of(turns: &[Turn]) -> usize
-    ensures { result ≡ count_by is_migrated turns.now }
-{
-    turns.iter().filter(|turn| is_migrated(turn)).count()
-}
-
-/// Returns what turns come to.
-pub(crate) fn sums_of(turns: &[Turn]) -> Sums
-    ensures { result ≡ sums_of turns.now }
-{
-    Sums {
-        stays: turns.len(),
-        ran: ran_of(turns),
-        waited: waited_of(turns),
-        preempted: preempted_of(turns),
-        migrated: migrated_of(turns),
+    /// Returns what turns come to and one more.
+    pub(crate) fn with(self, turn: &Turn) -> Sums
+        ensures { (ts : List Turn) → length ts < usize.MAX → self ≡ sums_of ts → result ≡ sums_of (ts ++ turn.now ∷ []) }
+    {
+        Sums {
+            stays: one_more_if(self.stays, true),
+            ran: self.ran.with(turn.ran(), turn.ran_ticks),
+            waited: self.waited.with(turn.waited(), turn.waited_ticks),
+            preempted: one_more_if(self.preempted, is_preempted(turn)),
+            migrated: one_more_if(self.migrated, is_migrated(turn)),
+        }
     }
 }

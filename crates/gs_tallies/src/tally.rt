@@ -1,10 +1,12 @@
-ghost use Rattle.std.specs.Prelude.{◌≡◌, IfOk, map};
-ghost use Rattle.gs_turns.specs.Turns.{waited};
-ghost use Rattle.gs_tallies.specs.Tallies.{IsTally, waited_ticks};
+ghost use Rattle.std.specs.Prelude.{◌≡◌, List, IfOk, map};
+ghost use Rattle.gs_turns.specs.declared.turn.Turn.{Turn};
+ghost use Rattle.gs_tallies.specs.Drafts.{IsTurnDraft, entries_in, ticks_in, wait_of};
+ghost use Rattle.gs_tallies.specs.Tallies.{IsTally};
 
+use crate::group::Draft;
 use crate::spread::{Spread, spread_of};
-use crate::sums::{Sums, sums_of};
-use gs_turns::Turn;
+use crate::sums::Sums;
+use gs_turns::{Time, Turn};
 use std::alloc::{AllocError, Global};
 
 /// What turns come to, and how their waits are spread.
@@ -17,41 +19,82 @@ pub struct Tally {
     pub waits_in_ticks: Option<Spread>,
 }
 
-/// Returns how many entries the thread of each turn waited.
-fn waits_in_entries(alloc: Global, turns: &[Turn]) -> Result<Vec<usize>, AllocError>
-    ensures { IfOk result (λ waits. waits.items ≡ map waited turns.now) }
-{
-    let mut waits = Vec::with_capacity(alloc, turns.len())?;
-    for turn in turns {
-        waits.push(turn.waited())?;
-    }
-    Ok(waits)
+/// What turns come to as far as they are gone through.
+#[derive(Drop)]
+pub(crate) struct TurnDraft {
+    sums: Sums,
+    /// How long the thread of each turn waited.
+    waits: Vec<Time>,
 }
 
-/// Returns how many ticks the thread of each turn waited.
-fn waits_in_ticks(alloc: Global, turns: &[Turn]) -> Result<Vec<usize>, AllocError>
-    ensures { IfOk result (λ waits. waits.items ≡ map waited_ticks turns.now) }
+/// Returns how long the thread of a turn waited.
+fn wait_of(turn: &Turn) -> Time
+    ensures { result ≡ wait_of turn.now }
 {
-    let mut waits = Vec::with_capacity(alloc, turns.len())?;
-    for turn in turns {
-        waits.push(turn.waited_ticks)?;
+    Time {
+        entries: turn.waited(),
+        ticks: turn.waited_ticks,
     }
-    Ok(waits)
 }
 
-/// Returns what turns come to.
-///
-/// # Errors
-///
-/// `AllocError` if out of memory.
-pub(crate) fn tally_of(alloc: Global, turns: &[Turn]) -> Result<Tally, AllocError>
-    ensures { IfOk result (IsTally turns.now) }
+/// Returns how many entries each of some waits took.
+fn entries_of(alloc: Global, waits: &[Time]) -> Result<Vec<usize>, AllocError>
+    ensures { IfOk result (λ all. all.items ≡ map entries_in waits.now) }
 {
-    let entries = waits_in_entries(alloc, turns)?;
-    let ticks = waits_in_ticks(alloc, turns)?;
-    Ok(Tally {
-        sums: sums_of(turns),
-        waits_in_entries: spread_of(alloc, &entries)?,
-        waits_in_ticks: spread_of(alloc, &ticks)?,
-    })
+    let mut all = Vec::with_capacity(alloc, waits.len())?;
+    for wait in waits {
+        all.push(wait.entries)?;
+    }
+    Ok(all)
+}
+
+/// Returns how many ticks each of some waits took.
+fn ticks_of(alloc: Global, waits: &[Time]) -> Result<Vec<usize>, AllocError>
+    ensures { IfOk result (λ all. all.items ≡ map ticks_in waits.now) }
+{
+    let mut all = Vec::with_capacity(alloc, waits.len())?;
+    for wait in waits {
+        all.push(wait.ticks)?;
+    }
+    Ok(all)
+}
+
+impl Draft<Turn> for TurnDraft {
+    ghost use Rattle.gs_tallies.specs.Drafts.{IsTurnDraft};
+
+    ghost drafts = { IsTurnDraft };
+
+    fn empty(alloc: Global) -> TurnDraft {
+        TurnDraft {
+            sums: Sums::none(),
+            waits: Vec::new(alloc),
+        }
+    }
+
+    fn add(&mut self, turn: &Turn) -> Result<(), AllocError> {
+        self.waits.push(wait_of(turn))?;
+        self.sums = self.sums.with(turn);
+        Ok(())
+    }
+}
+
+impl TurnDraft {
+    /// Returns what the turns come to.
+    ///
+    /// # Errors
+    ///
+    /// `AllocError` if out of memory.
+    pub(crate) fn tally(&self, alloc: Global) -> Result<Tally, AllocError>
+        ensures { IfOk result (λ tally. (ts : List Turn) → IsTurnDraft ts self.now → IsTally ts tally) }
+    {
+        let entries = entries_of(alloc, &self.waits)?;
+        let waits_in_entries = spread_of(entries)?;
+        let ticks = ticks_of(alloc, &self.waits)?;
+        let waits_in_ticks = spread_of(ticks)?;
+        Ok(Tally {
+            sums: self.sums,
+            waits_in_entries,
+            waits_in_ticks,
+        })
+    }
 }

@@ -11,7 +11,7 @@ use crate::threads::Threads;
 use crate::ticks::{Ticks, ticks_of};
 use crate::turn::Turn;
 use gs_journal::Journal;
-use gs_timeline::{Ending, Stay, all_stays};
+use gs_timeline::{Ending, Stay, stays_in_order};
 use std::alloc::{AllocError, Global};
 
 /// What a journal tells of its threads.
@@ -92,7 +92,7 @@ fn turns_of(
 /// Returns the turns of all threads on so many CPUs, in order of the entries that began them, and what is known of each
 /// thread behind all entries.
 ///
-/// It walks the entries three times, and sorts the turns.
+/// It walks the entries three times.
 ///
 /// # Errors
 ///
@@ -102,7 +102,6 @@ pub fn turns(alloc: Global, journal: &Journal, cpus: u16) -> Result<Told, AllocE
     ensures known { IfOk result (λ told. AreKnown journal.now.entries (length journal.now.entries) told.threads.items) }
 {
     let ticks = ticks_of(alloc, journal, cpus)?;
-    let mut order = all_stays(alloc, journal, cpus)?;
-    order.sort_by_key(|stay| stay.from)?;
+    let order = stays_in_order(alloc, journal, cpus)?;
     turns_of(alloc, journal, &ticks, &order)
 }

@@ -1,11 +1,12 @@
-use Rattle.std.proofs.Common.{◌≡◌, ◌∙◌, ◌+◌, ap, sym, subst, ℕ, Some, List, Option, length, slice_get, take, arith}
+use Rattle.std.proofs.Common.{◌≡◌, ◌∙◌, ◌+◌, ap, sym, subst, ℕ, Some, List, Option, get_or, length, take, arith}
 use Rattle.std.specs.List.{AllZip, filter, range_with_len}
 use Rattle.std.specs.Option.{is_some}
 use Rattle.std.proofs.lemmas.List.{take_all}
 use Rattle.std.proofs.lemmas.List.FromFn.{get_or-range_with_len, length-range_with_len}
 use Rattle.gs_layout.specs.declared.facts.Class.{Class}
-use Rattle.gs_kernel.specs.declared.landing.Landing.{Landing}
-use Rattle.gs_turns.specs.declared.turn.Turn.{Turn}
+use Rattle.gs_tallies.specs.Drafts.{IsLandingDraft, IsTurnDraft}
+use Rattle.gs_tallies.specs.declared.landings.LandingDraft.{LandingDraft}
+use Rattle.gs_tallies.specs.declared.tally.TurnDraft.{TurnDraft}
 use Rattle.gs_tallies.specs.Accounts.{IsAccount, IsAccountOfThread, is_created, is_landing_of, is_turn_of}
 use Rattle.gs_tallies.proofs.Accounts.{zip_none, zip_one}
 use Rattle.gs_tallies.proofs.Groups.{kept_more}
@@ -31,7 +32,9 @@ loop-tid-preserved c =
     elim c.if-is_some.branch [
       | then-is_some+in_ok-account+in_ok-push w ↦
           let own : IsAccount c.class_known-class.result (Some i) (filter (is_turn_of i) turns) (filter (is_landing_of i) landings) w.in_ok-account.account =
-          w.in_ok-account.ensures _ _ (ap (λ (all : List (List Turn)). slice_get all i) w.deref.ensures.value ∙ c.in_ok-turns.ensures.each i c.loop-tid-test.true) (ap (λ (all : List (List Landing)). slice_get all i) w.deref-then-is_some.ensures.value ∙ c.in_ok-landings.ensures.each i c.loop-tid-test.true) in
+          w.in_ok-account.ensures _ _
+          (λ d. subst (λ (all : List TurnDraft). IsTurnDraft _ (get_or all i d)) (sym w.deref.ensures.value) (c.in_ok-turns.ensures.each i d c.loop-tid-test.true))
+          (λ d. subst (λ (all : List LandingDraft). IsLandingDraft _ (get_or all i d)) (sym w.deref-then-is_some.ensures.value) (c.in_ok-landings.ensures.each i d c.loop-tid-test.true)) in
           let is : R i w.in_ok-account.account = subst (λ (k : Option Class). IsAccount k (Some i) (filter (is_turn_of i) turns) (filter (is_landing_of i) landings) w.in_ok-account.account) c.class_known-class.ensures own in
           subst (AllZip R _) (sym (ap (λ v. v.items) w.accounts-is ∙ w.in_ok-push.ensures.items)) (zip_one R (is_created threads i) before c.loop-tid.accounts.items i w.in_ok-account.account (sym created ∙ w.if-is_some.true) c.loop-tid.invariant is)
       | else-is_some w ↦ subst (AllZip R _) (sym (ap (λ v. v.items) w.accounts-is)) (zip_none R (is_created threads i) before c.loop-tid.accounts.items i (sym created ∙ w.if-is_some.false) c.loop-tid.invariant)

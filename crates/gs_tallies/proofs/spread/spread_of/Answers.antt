@@ -1,4 +1,4 @@
-use Rattle.std.proofs.Common.{sym, subst, ℕ, List}
+use Rattle.std.proofs.Common.{sym, subst, ℕ}
 use Rattle.std.specs.List.Sorted.{IsNonDecreasingBy, IsPermutation}
 use Rattle.std.proofs.lemmas.List.Sorted.{IsNonDecreasingBy-from_sort}
 use Rattle.gs_tallies.proofs.Ranks.{spread_reordered}
@@ -12,6 +12,5 @@ spread_in-requires-clause-rising c = subst (IsNonDecreasingBy itself) (sym c.der
 
 pub returns-clause-some : goal.returns-clause-some
 returns-clause-some c =
-    let moved : IsPermutation c.args.numbers.now c.deref.result.now =
-    subst (IsPermutation c.args.numbers.now) (sym c.deref.ensures.value) (subst (λ (xs : List ℕ). IsPermutation xs c.sort.new.self.items) c.in_ok-rising.ensures.items c.sort.ensures.permutation) in
-    spread_reordered c.args.numbers.now c.deref.result.now c.spread_in.result moved c.spread_in.ensures
+    let moved : IsPermutation c.args.numbers.items c.deref.result.now = subst (IsPermutation c.args.numbers.items) (sym c.deref.ensures.value) c.sort.ensures.permutation in
+    spread_reordered c.args.numbers.items c.deref.result.now c.spread_in.result moved c.spread_in.ensures
