@@ -14,7 +14,9 @@ use crate::teller::Teller;
 use crate::telling::explain_all;
 use gs_core::Machine;
 use gs_script::{NamedPolicy, Opened, ScriptError, open_script};
-use gs_trace::{Answering, Kept, MOST_READ_BYTES, TraceFault, answer_script};
+use gs_trace::{
+    Answering, Kept, MOST_READ_BYTES, TraceFault, Unanswered, answer_script, write_out,
+};
 use std::alloc::Global;
 use std::io::{Read, Write};
 
@@ -64,8 +66,15 @@ fn explained<P: NamedPolicy>(
 impl<P: NamedPolicy> Answering<P> for Explanation {
     ghost shows = { Told P.chosen };
 
-    fn answer(&self, alloc: Global, input: &[u8]) -> Result<Vec<u8>, ScriptError> {
-        explained::<P>(alloc, *self, input)
+    fn answer<W: Write>(
+        &self,
+        alloc: Global,
+        input: &[u8],
+        writer: &mut W,
+    ) -> Result<(), Unanswered> {
+        let bytes = explained::<P>(alloc, *self, input)?;
+        write_out(writer, bytes.as_slice())?;
+        Ok(())
     }
 }
 

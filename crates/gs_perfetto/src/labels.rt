@@ -1,6 +1,7 @@
 //! What threads are called.
 
-use gs_layout::{MOST_NAME_LEN, Name};
+use gs_journal::{Entry, Journal};
+use gs_layout::{Change, MOST_NAME_LEN, Message, Name};
 use gs_lines::name_str;
 use json::Writer;
 use std::alloc::{AllocError, Global};
@@ -11,7 +12,7 @@ const UNKNOWN: &str = "\"thread\"";
 /// Room for a name in quotation marks, or for `thread` and a tid.
 const ROOM: usize = 2 * MOST_NAME_LEN + 2;
 
-/// What each thread that was created so far is called, as JSON, by tid.
+/// What each thread of a journal is called, as JSON, by tid.
 #[derive(Drop)]
 pub(crate) struct Labels {
     quoted: Vec<String>,
@@ -38,17 +39,27 @@ fn label(alloc: Global, tid: u32, name: &Name) -> Result<String, AllocError> {
 }
 
 impl Labels {
-    /// Knows of no thread. It does not allocate.
-    pub(crate) fn new(alloc: Global) -> Labels {
-        Labels {
-            quoted: Vec::new(alloc),
+    /// Notes what each thread is called that a journal creates. It walks the entries once.
+    pub(crate) fn new(alloc: Global, journal: &Journal) -> Result<Labels, AllocError> {
+        let mut quoted = Vec::new(alloc);
+        for place in 0..journal.len() {
+            if let Entry::Posted {
+                message: Message::Thread {
+                    tid,
+                    change: Change::Created { facts },
+                    ..
+                },
+            } = journal.entry(place)
+            {
+                quoted.push(label(alloc, tid, &facts.name)?)?;
+            }
         }
+        Ok(Labels { quoted })
     }
 
-    /// Notes what a thread is called that is created.
-    pub(crate) fn add(&mut self, alloc: Global, tid: u32, name: &Name) -> Result<(), AllocError> {
-        self.quoted.push(label(alloc, tid, name)?)?;
-        Ok(())
+    /// Returns how many threads there are.
+    pub(crate) fn len(&self) -> usize {
+        self.quoted.len()
     }
 
     /// Lends what a thread is called, as JSON.

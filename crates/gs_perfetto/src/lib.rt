@@ -11,4 +11,4 @@ mod trace;
 mod tracks;
 mod walk;
 
-pub use trace::trace_events;
+pub use trace::Trace;

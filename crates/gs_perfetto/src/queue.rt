@@ -30,14 +30,14 @@ pub(crate) struct Queue {
 }
 
 impl Queue {
-    /// Makes the queue of an enclave without threads.
-    pub(crate) fn new(alloc: Global) -> Queue {
-        Queue {
-            ready: Vec::new(alloc),
+    /// Makes the queue of an enclave without threads, with room for so many.
+    pub(crate) fn new(alloc: Global, threads: usize) -> Result<Queue, AllocError> {
+        Ok(Queue {
+            ready: Vec::with_capacity(alloc, threads)?,
             may_run: 0,
             running: 0,
             shown: 0,
-        }
+        })
     }
 
     /// Notes whether a thread may run from now on.

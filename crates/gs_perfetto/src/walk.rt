@@ -1,8 +1,9 @@
 //! What a trace tells beside the stays, place by place.
 
-ghost use Rattle.std.specs.Prelude.{◌≡◌, ◌∷◌, [], OnOk};
+ghost use Rattle.std.specs.Prelude.{◌≡◌, ◌∷◌, [], OnErr, OnOk};
 ghost use Rattle.gs_perfetto.specs.Events.{slice_front};
 ghost use Rattle.gs_timeline.specs.Pieces.{Adds};
+ghost use Rattle.gs_timeline.specs.Sent.{Grows, Sends};
 
 use crate::agents::Agent;
 use crate::events::{When, begin_event, end_event, end_slice};
@@ -12,16 +13,15 @@ use crate::slices::write_slice;
 use crate::slots::{Slots, landings_of};
 use crate::tracks::{CPU_BEGIN, CPU_END, EVERYWHERE, cpu_track};
 use gs_journal::{Entry, Journal};
-use gs_layout::{Change, Message};
-use gs_timeline::{Digits, Notes, Stay, Text};
+use gs_timeline::{Digits, Notes, Stay, Text, WriteFailed};
 use std::alloc::{AllocError, Global};
+use std::io::Write;
 
 /// How far a trace came.
 #[derive(Drop)]
 pub(crate) struct Walk<'a> {
     journal: &'a Journal,
     notes: Notes<'a>,
-    alloc: Global,
     labels: Labels,
     /// Of each mark that is a stamp, before which entry its transaction lands from its slot, if it does.
     landings: Vec<Option<usize>>,
@@ -69,11 +69,12 @@ impl<'a> Walk<'a> {
         for _ in 0..cpus {
             taken.push(false)?;
         }
+        let labels = Labels::new(alloc, journal)?;
+        let threads = labels.len();
         Ok(Walk {
             journal,
             notes,
-            labels: Labels::new(alloc),
-            alloc,
+            labels,
             landings: landings_of(alloc, notes.marks, cpus)?,
             entry: 0,
             mark: 0,
@@ -81,7 +82,7 @@ impl<'a> Walk<'a> {
             fill: 0,
             agent: Agent::new(),
             slots: Slots::new(alloc, cpus)?,
-            queue: Queue::new(alloc),
+            queue: Queue::new(alloc, threads)?,
             taken,
             cpus,
             place: Digits::new(0),
@@ -122,8 +123,14 @@ impl<'a> Walk<'a> {
 
     /// Tells what events did to transactions, of those that begin at this place or before.
     #[inline(always)]
-    fn tell_marks(&mut self, out: &mut Text, place: usize) -> Result<(), AllocError>
-        ensures { out.new.settled ≡ out.old.settled }
+    fn tell_marks<W: Write>(
+        &mut self,
+        out: &mut Text,
+        writer: &mut W,
+        place: usize,
+    ) -> Result<(), WriteFailed>
+        ensures sent { OnOk result (Sends [] (W.contents writer.old) (W.contents writer.new) out.old.settled out.new.settled) }
+        ensures stuck { OnErr result (Grows (W.contents writer.old) (W.contents writer.new)) }
     {
         let marks = self.notes.marks;
         for at in self.mark..marks.len() {
@@ -140,14 +147,21 @@ impl<'a> Walk<'a> {
             self.slots
                 .hear(out, mark, when, landing, self.labels.of(mark.tid))?;
             self.mark = at + 1;
+            out.spill(writer)?;
         }
         Ok(())
     }
 
     /// Tells what happened to agents that no entry tells, up to this place.
     #[inline(always)]
-    fn tell_agents(&mut self, out: &mut Text, place: usize) -> Result<(), AllocError>
-        ensures { out.new.settled ≡ out.old.settled }
+    fn tell_agents<W: Write>(
+        &mut self,
+        out: &mut Text,
+        writer: &mut W,
+        place: usize,
+    ) -> Result<(), WriteFailed>
+        ensures sent { OnOk result (Sends [] (W.contents writer.old) (W.contents writer.new) out.old.settled out.new.settled) }
+        ensures stuck { OnErr result (Grows (W.contents writer.old) (W.contents writer.new)) }
     {
         let marks = self.notes.agents;
         for at in self.agent_mark..marks.len() {
@@ -162,14 +176,21 @@ impl<'a> Walk<'a> {
             };
             self.agent.mark(out, when, mark.event)?;
             self.agent_mark = at + 1;
+            out.spill(writer)?;
         }
         Ok(())
     }
 
     /// Tells how full the ring is, up to this place.
     #[inline(always)]
-    fn tell_fills(&mut self, out: &mut Text, place: usize) -> Result<(), AllocError>
-        ensures { out.new.settled ≡ out.old.settled }
+    fn tell_fills<W: Write>(
+        &mut self,
+        out: &mut Text,
+        writer: &mut W,
+        place: usize,
+    ) -> Result<(), WriteFailed>
+        ensures sent { OnOk result (Sends [] (W.contents writer.old) (W.contents writer.new) out.old.settled out.new.settled) }
+        ensures stuck { OnErr result (Grows (W.contents writer.old) (W.contents writer.new)) }
     {
         let fills = self.notes.fills;
         for at in self.fill..fills.len() {
@@ -179,6 +200,7 @@ impl<'a> Walk<'a> {
             self.place.set(fill.entries as u64);
             write_fill(out, &self.place, fill.used)?;
             self.fill = at + 1;
+            out.spill(writer)?;
         }
         Ok(())
     }
@@ -219,16 +241,6 @@ impl<'a> Walk<'a> {
                 write_taken(out, when, *cpu)?;
             }
             Entry::Given { cpu } => self.give(out, *cpu)?,
-            Entry::Posted {
-                message: Message::Thread {
-                    tid,
-                    change: Change::Created { facts },
-                    ..
-                },
-            } => {
-                let name = facts.name;
-                self.labels.add(self.alloc, *tid, &name)?;
-            }
             Entry::Begin { .. } => self.slots.clear(out, &self.place)?,
             Entry::Torn => {
                 self.slots.clear(out, &self.place)?;
@@ -250,18 +262,25 @@ impl<'a> Walk<'a> {
     }
 
     /// Tells all up to a place: what happened before its entry, and that entry.
-    pub(crate) fn tell_up_to(&mut self, out: &mut Text, last: usize) -> Result<(), AllocError>
-        ensures { out.new.settled ≡ out.old.settled }
+    pub(crate) fn tell_up_to<W: Write>(
+        &mut self,
+        out: &mut Text,
+        writer: &mut W,
+        last: usize,
+    ) -> Result<(), WriteFailed>
+        ensures sent { OnOk result (Sends [] (W.contents writer.old) (W.contents writer.new) out.old.settled out.new.settled) }
+        ensures stuck { OnErr result (Grows (W.contents writer.old) (W.contents writer.new)) }
     {
         let journal = self.journal;
         for place in self.entry..journal.len() {
             if place > last {
                 break;
             }
-            self.tell_marks(out, place)?;
-            self.tell_agents(out, place)?;
-            self.tell_fills(out, place)?;
+            self.tell_marks(out, writer, place)?;
+            self.tell_agents(out, writer, place)?;
+            self.tell_fills(out, writer, place)?;
             self.tell_entry(out, place, &journal.entry(place))?;
+            out.spill(writer)?;
             self.entry = place + 1;
         }
         Ok(())
@@ -273,14 +292,27 @@ impl<'a> Walk<'a> {
     }
 
     /// Tells what happened behind the last entry, once all entries were told, and ends what goes on.
-    pub(crate) fn finish(&mut self, out: &mut Text) -> Result<(), AllocError>
-        ensures { out.new.settled ≡ out.old.settled }
+    pub(crate) fn finish<W: Write>(
+        &mut self,
+        out: &mut Text,
+        writer: &mut W,
+    ) -> Result<(), WriteFailed>
+        ensures sent { OnOk result (Sends [] (W.contents writer.old) (W.contents writer.new) out.old.settled out.new.settled) }
+        ensures stuck { OnErr result (Grows (W.contents writer.old) (W.contents writer.new)) }
     {
         let end = self.journal.len();
-        self.tell_marks(out, end)?;
-        self.tell_agents(out, end)?;
-        self.tell_fills(out, end)?;
+        self.tell_marks(out, writer, end)?;
+        self.tell_agents(out, writer, end)?;
+        self.tell_fills(out, writer, end)?;
         self.go(end);
+        self.end_all(out)?;
+        Ok(())
+    }
+
+    /// Ends what goes on.
+    fn end_all(&mut self, out: &mut Text) -> Result<(), AllocError>
+        ensures { out.new.settled ≡ out.old.settled }
+    {
         self.slots.clear(out, &self.place)?;
         self.agent.end(out, &self.place)?;
         for cpu in 0..self.cpus {

@@ -19,7 +19,9 @@ use gs_kernel::Landing;
 use gs_policy::Counted;
 use gs_script::{NamedPolicy, Opened, Reading, ScriptError, open_script};
 use gs_tallies::{Account, class_accounts, thread_accounts};
-use gs_trace::{Answering, Kept, MOST_READ_BYTES, Notation, TraceFault, answer_script};
+use gs_trace::{
+    Answering, Kept, MOST_READ_BYTES, Notation, TraceFault, Unanswered, answer_script, write_out,
+};
 use gs_turns::{Told, turns};
 use gs_usage::usages;
 use std::alloc::{AllocError, Global};
@@ -122,8 +124,15 @@ fn tabulated<P: NamedPolicy>(
 impl<P: NamedPolicy> Answering<P> for Table {
     ghost shows = { Tabulated P.chosen };
 
-    fn answer(&self, alloc: Global, input: &[u8]) -> Result<Vec<u8>, ScriptError> {
-        tabulated::<P>(alloc, *self, input)
+    fn answer<W: Write>(
+        &self,
+        alloc: Global,
+        input: &[u8],
+        writer: &mut W,
+    ) -> Result<(), Unanswered> {
+        let bytes = tabulated::<P>(alloc, *self, input)?;
+        write_out(writer, bytes.as_slice())?;
+        Ok(())
     }
 }
 

@@ -1,4 +1,4 @@
-ghost use Rattle.std.specs.Prelude.{◌≡◌, ◌+◌, ◌≤◌, ◌++◌, ◌∷◌, [], decimal, length, take, vec_len, OnErr, OnOk};
+ghost use Rattle.std.specs.Prelude.{◌≡◌, ◌+◌, ◌≤◌, ◌++◌, ◌∷◌, [], decimal, length, take, vec_len, OnErr, OnOk, IfOk};
 ghost use Rattle.std.specs.Str.{IsUtf8};
 
 use crate::digits::Digits;
@@ -81,6 +81,19 @@ impl Sheet {
             bytes: Vec::new(alloc),
             len: 0,
         }
+    }
+
+    /// Makes an empty text with room for so many bytes.
+    ///
+    /// # Errors
+    ///
+    /// `AllocError` if out of memory.
+    pub fn with_room(alloc: Global, room: usize) -> Result<Sheet, AllocError>
+        ensures { IfOk result (λ sheet. sheet ≡ []) }
+    {
+        let mut sheet = Sheet::new(alloc);
+        make_room(&mut sheet.bytes, sheet.len, room)?;
+        Ok(sheet)
     }
 
     /// Lends the bytes of the text.

@@ -1,12 +1,12 @@
 -- Pieces of a text that grows at its end.
-use Rattle.std.proofs.Common.{◌≡◌, ◌≤◌, ◌<◌, ◌+◌, Bool, true, false, cond, flat_map, get_or, subst, sym, ap, ◌∙◌, ℕ, List, [], ◌∷◌, ◌++◌, take, drop, length, arith, append-nil, append_assoc}
+use Rattle.std.proofs.Common.{◌≡◌, ◌≤◌, ◌<◌, ◌+◌, Bool, true, false, cond, flat_map, get_or, sym, ap, ◌∙◌, ℕ, List, [], ◌∷◌, ◌++◌, take, drop, length, arith, append-nil, append_assoc}
 use Rattle.std.proofs.Math.Seq.{drop-length, take-length}
 use Rattle.std.proofs.lemmas.Grind.{common_steps, flat_map-append}
 use Rattle.std.proofs.lemmas.List.{drop-append-le, length-append, take-append-drop, take-append-le, take_more}
 use Rattle.gs_timeline.specs.Pieces.{Adds, HasEach}
 
 -- a text with more in front of it
-has_behind : (front : List ℕ) (ps : List (List ℕ)) (text : List ℕ) → HasEach ps text → HasEach ps (front ++ text)
+pub has_behind : (front : List ℕ) (ps : List (List ℕ)) (text : List ℕ) → HasEach ps text → HasEach ps (front ++ text)
 has_behind front [] text h = tt
 has_behind front (p ∷ ps) text (before, behind, is, others) = (front ++ before, behind, ap (λ t. front ++ t) is ∙ sym (append_assoc front before (p ++ behind)), others)
 
@@ -19,9 +19,6 @@ has_then (p ∷ ps) qs a b (before, behind, is, others) k = (
   ap (λ t. t ++ b) is ∙ (append_assoc before (p ++ behind) b ∙ ap (λ t. before ++ t) (append_assoc p behind b)),
   has_then ps qs behind b others k,
 )
-
-pub adds_none : (text : List ℕ) → Adds [] text text
-adds_none text = ([], sym (append-nil text), tt)
 
 pub adds_told : (old told new : List ℕ) → new ≡ old ++ told → Adds [] old new
 adds_told old told new e = (told, e, tt)
@@ -128,11 +125,9 @@ pub adds_if : (b : Bool) (ps : List (List ℕ)) (old new : List ℕ) → b ≡ t
 adds_if true ps old new e a = a
 adds_if false ps old new e a = absurd (cc)
 
--- what the first of a list add, and what the next one adds
-pub adds_next : {X : Type 0} (f : X → List (List ℕ)) (xs : List X) (i : ℕ) (d : X) (old now new : List ℕ) → i < length xs → Adds (flat_map f (take i xs)) old now → Adds (f (get_or xs i d)) now new → Adds (flat_map f (take (i + 1) xs)) old new
-adds_next f xs i d old now new lt first one =
-    let more = ap (flat_map f) (take_more xs i d lt) ∙ (flat_map-append f (take i xs) (get_or xs i d ∷ []) ∙ ap (λ ps. flat_map f (take i xs) ++ ps) (append-nil (f (get_or xs i d)))) in
-    subst (λ ps. Adds ps old new) (sym more) (adds_then (flat_map f (take i xs)) (f (get_or xs i d)) old now new first one)
+-- the pieces of the first of a list, and those of the next one
+pub pieces_more : {X : Type 0} (f : X → List (List ℕ)) (xs : List X) (i : ℕ) (d : X) → i < length xs → flat_map f (take (i + 1) xs) ≡ flat_map f (take i xs) ++ f (get_or xs i d)
+pieces_more f xs i d lt = ap (flat_map f) (take_more xs i d lt) ∙ (flat_map-append f (take i xs) (get_or xs i d ∷ []) ∙ ap (λ ps. flat_map f (take i xs) ++ ps) (append-nil (f (get_or xs i d))))
 
 -- a text has the first of its pieces, and the last of them
 pub has_front : (ps qs : List (List ℕ)) (text : List ℕ) → HasEach (ps ++ qs) text → HasEach ps text

@@ -36,6 +36,10 @@ told c n l = l.ended ++ standing_stay c n l.there
 abbrev pub left : ℕ → ℕ → LaneOf → LaneOf
 left c n l = record { ended = told c n l; there = None }
 
+-- a thread leaves by entry n, if it is there
+abbrev pub gone : ℕ → ℕ → ℕ → LaneOf → LaneOf
+gone c t n l = if option_eq nat_eq (Some t) (seat l) then left c n l else l
+
 -- entry n leaves this thread on the CPU, or nobody: if that is as before, nothing changes
 abbrev pub seated : ℕ → ℕ → Option ℕ → LaneOf → LaneOf
 seated c n after l = if option_eq nat_eq after (seat l) then l else record (left c n l) { there = option_map (λ (t : ℕ). (t, n)) after }

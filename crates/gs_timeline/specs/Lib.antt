@@ -3,10 +3,12 @@ pub mod Counts
 pub mod Endings
 pub mod Escapes
 pub mod Homes
+pub mod InOrder
 pub mod Lanes
 pub mod Lives
 pub mod Marks
 pub mod Pieces
+pub mod Sent
 pub mod Places
 pub mod Shapes
 pub mod Stays

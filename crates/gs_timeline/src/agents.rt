@@ -1,17 +1,19 @@
 //! The agents: their row, with how each began and ended and what pages it was given, and where each is active.
 
-ghost use Rattle.std.specs.Prelude.{◌≡◌};
+ghost use Rattle.std.specs.Prelude.{◌≡◌, [], OnErr, OnOk};
+ghost use Rattle.gs_timeline.specs.Sent.{Grows, Sends};
 
 use crate::layout::{ABOVE, BAR, TOP, row_of};
 use crate::notes::{AgentEvent, AgentMark};
 use crate::part::{EDGE, Part};
 use crate::phrases::{begin_path, begin_text};
 use crate::rect::{Rect, write_from_to};
-use crate::spans::Reign;
+use crate::spans::{News, Reign, Turn};
 use crate::text::Text;
 use crate::threads::{digits, room_for};
-use gs_journal::{Entry, Journal};
+use gs_text::WriteFailed;
 use std::alloc::{AllocError, Global};
+use std::io::Write;
 
 /// How many letters stand before the generation of an agent.
 const AGENT: u64 = 6;
@@ -28,7 +30,9 @@ fn write_title(
     part: &Part<'_>,
     reign: &Reign,
     style: &str,
-) -> Result<(), AllocError> {
+) -> Result<(), AllocError>
+    ensures { out.new.settled ≡ out.old.settled }
+{
     out.push_str("\" class=\"")?;
     out.push_str(style)?;
     out.push_number(
@@ -45,15 +49,16 @@ fn write_title(
 /// Adds the bar of an agent, with what is said of it.
 fn write_bar(
     out: &mut Text,
+    part: &Part<'_>,
     bar: &Rect,
-    generation: u64,
+    reign: &Reign,
     style: &str,
-    title: &Text,
 ) -> Result<(), AllocError>
     ensures { out.new.settled ≡ out.old.settled }
 {
     bar.write(out)?;
-    out.push_text(title)?;
+    write_title(out, part, reign, style)?;
+    let generation = u64::from(reign.generation);
     let letters = digits(generation);
     if room_for(letters) > bar.width {
         return Ok(());
@@ -66,15 +71,8 @@ fn write_bar(
     out.push_str("</text>\n")
 }
 
-/// Adds an agent: in the row of the agents, and, while it is active, on its CPU. What is said of it is put together in
-/// `title` first.
-pub(crate) fn write_reign(
-    out: &mut Text,
-    title: &mut Text,
-    part: &Part<'_>,
-    cpus: u16,
-    reign: &Reign,
-) -> Result<(), AllocError>
+/// Adds an agent: in the row of the agents, and, while it is active, on its CPU.
+fn write_reign(out: &mut Text, part: &Part<'_>, cpus: u16, reign: &Reign) -> Result<(), AllocError>
     ensures { out.new.settled ≡ out.old.settled }
 {
     let bar = Rect {
@@ -90,14 +88,11 @@ pub(crate) fn write_reign(
         Some(_) => "active",
         None => "attaching",
     };
-    let generation = u64::from(reign.generation);
-    title.clear();
-    write_title(title, part, reign, style)?;
-    write_bar(out, &bar, generation, style, title)?;
+    write_bar(out, part, &bar, reign, style)?;
     match reign.cpu {
         Some(cpu) if cpu < cpus => {
             let y = row_of(cpu);
-            write_bar(out, &Rect { y, ..bar }, generation, style, title)
+            write_bar(out, part, &Rect { y, ..bar }, reign, style)
         }
         _ => Ok(()),
     }
@@ -135,26 +130,27 @@ fn crashes(alloc: Global, marks: &[AgentMark]) -> Result<Vec<usize>, AllocError>
 /// Returns what happened to the agents, in order.
 pub(crate) fn steps(
     alloc: Global,
-    journal: &Journal,
+    turns: &[Turn],
     marks: &[AgentMark],
 ) -> Result<Vec<Step>, AllocError> {
     let mut steps = Vec::new(alloc);
     let crashes = crashes(alloc, marks)?;
     let mut active = false;
-    for place in 0..journal.len() {
-        let word = match journal.entry(place) {
-            Entry::Role { .. } => {
+    for turn in turns {
+        let place = turn.place;
+        let word = match turn.news {
+            News::Role { .. } => {
                 let word = word_of_role(place, active);
                 active = true;
                 word
             }
-            Entry::Begin { .. } => "begin",
-            Entry::Left => {
+            News::Begin { .. } => "begin",
+            News::Left => {
                 active = false;
                 let crashed = crashes.binary_search(&place).is_ok();
                 if crashed { "crash" } else { "leave" }
             }
-            _ => continue,
+            News::Torn => continue,
         };
         steps.push(Step { place, word })?;
     }
@@ -173,17 +169,43 @@ fn write_word(out: &mut Text, x: u64, limit: u64, word: &str) -> Result<(), Allo
     out.push_str("</text>\n")
 }
 
-/// Adds the words of what happened to the agents, each where the next one leaves room.
-pub(crate) fn write_steps(out: &mut Text, part: &Part<'_>, steps: &[Step]) -> Result<(), AllocError>
-    ensures { out.new.settled ≡ out.old.settled }
+/// Adds an agent each, and writes what is long enough.
+pub(crate) fn write_reigns<W: Write>(
+    out: &mut Text,
+    writer: &mut W,
+    part: &Part<'_>,
+    cpus: u16,
+    reigns: &[Reign],
+) -> Result<(), WriteFailed>
+    ensures sent { OnOk result (Sends [] (W.contents writer.old) (W.contents writer.new) out.old.settled out.new.settled) }
+    ensures stuck { OnErr result (Grows (W.contents writer.old) (W.contents writer.new)) }
+{
+    for reign in reigns {
+        write_reign(out, part, cpus, reign)?;
+        out.spill(writer)?;
+    }
+    Ok(())
+}
+
+/// Adds the words of what happened to the agents, each where the next one leaves room, and writes what is long enough.
+pub(crate) fn write_steps<W: Write>(
+    out: &mut Text,
+    writer: &mut W,
+    part: &Part<'_>,
+    steps: &[Step],
+) -> Result<(), WriteFailed>
+    ensures sent { OnOk result (Sends [] (W.contents writer.old) (W.contents writer.new) out.old.settled out.new.settled) }
+    ensures stuck { OnErr result (Grows (W.contents writer.old) (W.contents writer.new)) }
 {
     let mut limit = part.x(part.behind()).saturating_add(EDGE);
     for step in steps.iter().rev() {
-        if part.has(step.place) {
-            let x = part.x(step.place);
-            write_word(out, x, limit, step.word)?;
-            limit = x;
+        if !part.has(step.place) {
+            continue;
         }
+        let x = part.x(step.place);
+        write_word(out, x, limit, step.word)?;
+        out.spill(writer)?;
+        limit = x;
     }
     Ok(())
 }
@@ -210,35 +232,36 @@ fn write_page(
     out.push_str("</title></path>\n")
 }
 
-/// Adds a tick for each page that an agent was given. Those of one place stand before one another.
-pub(crate) fn write_pages(
+/// Adds a tick for each page that an agent was given, and writes what is long enough. Those of one place stand before one
+/// another.
+pub(crate) fn write_pages<W: Write>(
     out: &mut Text,
+    writer: &mut W,
     part: &Part<'_>,
     marks: &[AgentMark],
-) -> Result<(), AllocError>
-    ensures { out.new.settled ≡ out.old.settled }
+) -> Result<(), WriteFailed>
+    ensures sent { OnOk result (Sends [] (W.contents writer.old) (W.contents writer.new) out.old.settled out.new.settled) }
+    ensures stuck { OnErr result (Grows (W.contents writer.old) (W.contents writer.new)) }
 {
     let mut last = 0;
     let mut shift: u64 = 0;
     for mark in marks.iter().rev() {
-        if let AgentEvent::Page { count, next } = mark.event {
-            let x = part.x(mark.entries);
-            shift = if x == last {
-                shift.saturating_add(PAGES)
-            } else {
-                PAGES
-            };
-            last = x;
-            if part.meets(mark.entries) {
-                write_page(
-                    out,
-                    x.saturating_sub(shift.min(part.unit() as u64)),
-                    mark,
-                    count,
-                    next,
-                )?;
-            }
+        let AgentEvent::Page { count, next } = mark.event else {
+            continue;
+        };
+        let x = part.x(mark.entries);
+        shift = if x == last {
+            shift.saturating_add(PAGES)
+        } else {
+            PAGES
+        };
+        last = x;
+        if !part.meets(mark.entries) {
+            continue;
         }
+        let before = x.saturating_sub(shift.min(part.unit() as u64));
+        write_page(out, before, mark, count, next)?;
+        out.spill(writer)?;
     }
     Ok(())
 }

@@ -57,6 +57,7 @@ enum Which {
 
 impl Which {
     /// Returns whether a decision is one of these.
+    #[inline(always)]
     fn takes(self, mark: &Mark) -> bool
         ensures { result ≡ takes self mark.now }
     {
@@ -87,20 +88,47 @@ fn is_placed(what: What) -> bool
     )
 }
 
-/// Returns how many of the decisions are shown and counted.
-fn count(part: &Part<'_>, marks: &[Mark], which: Which) -> usize
-    ensures { result ≡ count_of part.now which marks.now }
+/// Returns whether a decision is shown, and one of these.
+#[inline(always)]
+fn is_counted(part: &Part<'_>, which: Which, mark: &Mark) -> bool
+    ensures { result ≡ is_counted part.now which mark.now }
 {
-    let mut count: usize = 0;
-    for mark in marks {
-        if part.meets(mark.entries) && which.takes(mark) {
-            count += 1;
+    part.meets(mark.entries) && which.takes(mark)
+}
+
+/// How many decisions are shown that were stamped, placed and not placed.
+#[derive(Clone, Copy)]
+struct Tally {
+    stamped: u64,
+    placed: u64,
+    failed: u64,
+}
+
+impl Tally {
+    /// Counts a decision, if it is shown.
+    #[inline(always)]
+    fn count(&mut self, part: &Part<'_>, mark: &Mark)
+        requires stamped { self.old.stamped < u64.MAX }
+        requires placed { self.old.placed < u64.MAX }
+        requires failed { self.old.failed < u64.MAX }
+        ensures stamped { self.new.stamped ≡ (if is_counted part.now Stamped mark.now then self.old.stamped + 1 else self.old.stamped) }
+        ensures placed { self.new.placed ≡ (if is_counted part.now Placed mark.now then self.old.placed + 1 else self.old.placed) }
+        ensures failed { self.new.failed ≡ (if is_counted part.now Failed mark.now then self.old.failed + 1 else self.old.failed) }
+    {
+        if is_counted(part, Which::Stamped, mark) {
+            self.stamped += 1;
+        }
+        if is_counted(part, Which::Placed, mark) {
+            self.placed += 1;
+        }
+        if is_counted(part, Which::Failed, mark) {
+            self.failed += 1;
         }
     }
-    count
 }
 
 /// Counts a decision by the number of its outcome, if it is shown, landed and was not placed.
+#[inline(always)]
 fn count_outcome(counts: &mut [u64], part: &Part<'_>, mark: &Mark)
     requires all { length counts.old ≡ OUTCOMES }
     requires few { (n : ℕ) → n < OUTCOMES → get_or counts.old n 0 < u64.MAX }
@@ -115,14 +143,25 @@ fn count_outcome(counts: &mut [u64], part: &Part<'_>, mark: &Mark)
     counts[outcome.number() as usize] += 1;
 }
 
-/// Counts the marks that are shown by the number of what they came to, into counts of none. It walks the marks once.
-fn count_outcomes(counts: &mut [u64], part: &Part<'_>, marks: &[Mark])
+/// Counts the marks that are shown, those that were not placed also by the number of what they came to, into counts of
+/// none. It walks the marks once.
+fn count_marks(counts: &mut [u64], part: &Part<'_>, marks: &[Mark]) -> Tally
     requires { counts.old ≡ replicate OUTCOMES 0 }
-    ensures { counts.new ≡ map (λ n. count_of part.now (Numbered n) marks.now) (range_with_len 0 OUTCOMES) }
+    ensures outcomes { counts.new ≡ map (λ n. count_of part.now (Numbered n) marks.now) (range_with_len 0 OUTCOMES) }
+    ensures stamped { result.stamped ≡ count_of part.now Stamped marks.now }
+    ensures placed { result.placed ≡ count_of part.now Placed marks.now }
+    ensures failed { result.failed ≡ count_of part.now Failed marks.now }
 {
+    let mut tally = Tally {
+        stamped: 0,
+        placed: 0,
+        failed: 0,
+    };
     for mark in marks {
+        tally.count(part, mark);
         count_outcome(counts, part, mark);
     }
+    tally
 }
 
 /// Counts the marks that are shown.
@@ -134,11 +173,11 @@ pub(crate) fn counted(alloc: Global, part: &Part<'_>, marks: &[Mark]) -> Result<
 {
     let mut outcomes = Vec::new(alloc);
     outcomes.resize(OUTCOMES as usize, 0)?;
-    count_outcomes(outcomes.as_mut_slice(), part, marks);
+    let tally = count_marks(outcomes.as_mut_slice(), part, marks);
     Ok(Counts {
-        stamped: count(part, marks, Which::Stamped) as u64,
-        placed: count(part, marks, Which::Placed) as u64,
-        failed: count(part, marks, Which::Failed) as u64,
+        stamped: tally.stamped,
+        placed: tally.placed,
+        failed: tally.failed,
         outcomes,
     })
 }

@@ -1,7 +1,8 @@
 //! What is decided of a CPU: stamps and landings that were not placed, in a line above its bars.
 
-ghost use Rattle.std.specs.Prelude.{◌≡◌};
+ghost use Rattle.std.specs.Prelude.{◌≡◌, [], OnErr, OnOk};
 ghost use Rattle.gs_timeline.specs.Marks.{failure_of};
+ghost use Rattle.gs_timeline.specs.Sent.{Grows, Sends};
 
 use crate::layout::decided_of;
 use crate::lives::{Life, life_of};
@@ -12,13 +13,15 @@ use crate::shapes::{MIXED, STAMP, shape_of, words_of};
 use crate::text::Text;
 use crate::threads::{letters_of, room_for, write_called, write_thread};
 use gs_layout::Outcome;
-use std::alloc::{AllocError, Global};
+use gs_text::WriteFailed;
+use std::alloc::AllocError;
+use std::io::Write;
 
 /// Marks that are nearer than this to the first of them are drawn as one.
 const NEAR: u64 = 11;
 
 /// How many marks that are drawn as one have a line each in its title, at most.
-const MOST_TOLD: u64 = 8;
+const MOST_TOLD: usize = 8;
 
 /// Where the words of a mark begin, behind its middle.
 const BESIDE: u64 = 8;
@@ -67,13 +70,19 @@ fn write_what(out: &mut Text, what: What) -> Result<(), AllocError>
     }
 }
 
-/// Adds a mark in words: its line, before which entry it was, what was done, and to which thread and CPU.
+/// Adds a mark in words, behind those that tell of its line: before which entry it was, what was done, and to which thread
+/// and CPU.
 #[inline(always)]
-pub(crate) fn write_mark(out: &mut Text, lives: &[Life], mark: &Mark) -> Result<(), AllocError>
+pub(crate) fn write_mark(
+    out: &mut Text,
+    words: &str,
+    lives: &[Life],
+    mark: &Mark,
+) -> Result<(), AllocError>
     ensures { out.new.settled ≡ out.old.settled }
 {
     let entry = mark.entries as u64;
-    out.push_two("line ", mark.line as u64, ", before entry ", entry)?;
+    out.push_two(words, mark.line as u64, ", before entry ", entry)?;
     out.push_str(": ")?;
     write_what(out, mark.what)?;
     out.push_str(", ")?;
@@ -82,13 +91,13 @@ pub(crate) fn write_mark(out: &mut Text, lives: &[Life], mark: &Mark) -> Result<
 }
 
 /// Marks of a CPU that are near to one another, and are drawn as one.
-#[derive(Drop)]
+#[derive(Clone, Copy)]
 struct Cluster {
     cpu: u16,
     x: u64,
-    /// A line for each of the first marks.
-    title: Text,
-    marks: u64,
+    /// The places of the first marks, which have a line each.
+    told: [usize; MOST_TOLD],
+    marks: usize,
     stamps: u64,
     failures: u64,
     /// The first landing that was not placed, and whether another one came to something else.
@@ -97,12 +106,12 @@ struct Cluster {
 }
 
 impl Cluster {
-    /// Makes a cluster of no marks, on this CPU. It does not allocate.
-    fn new(alloc: Global, cpu: u16) -> Cluster {
+    /// Makes a cluster of no marks, on this CPU.
+    fn new(cpu: u16) -> Cluster {
         Cluster {
             cpu,
             x: 0,
-            title: Text::new(alloc),
+            told: [0; MOST_TOLD],
             marks: 0,
             stamps: 0,
             failures: 0,
@@ -125,21 +134,35 @@ impl Cluster {
         }
     }
 
-    /// Adds a mark behind the others.
+    /// Adds a mark of this place behind the others.
     #[inline(always)]
-    fn add(&mut self, lives: &[Life], mark: &Mark) -> Result<(), AllocError> {
-        if self.marks < MOST_TOLD {
-            if self.marks > 0 {
-                self.title.push_str("\n")?;
-            }
-            write_mark(&mut self.title, lives, mark)?;
+    fn add(&mut self, place: usize, mark: &Mark) {
+        if let Some(free) = self.told.get_mut(self.marks) {
+            *free = place;
         }
         self.marks = self.marks.saturating_add(1);
         match failure_of(mark) {
             Some(outcome) => self.add_failure(mark.tid, outcome),
             None => self.stamps = self.stamps.saturating_add(1),
         }
-        Ok(())
+    }
+
+    /// Adds the title: a line for each of the first marks, and how many more there are.
+    fn write_title(&self, out: &mut Text, lives: &[Life], marks: &[Mark]) -> Result<(), AllocError>
+        ensures { out.new.settled ≡ out.old.settled }
+    {
+        out.push_str("\"><title>")?;
+        for (index, place) in self.told.iter().take(self.marks).enumerate() {
+            if let Some(mark) = marks.get(*place) {
+                let words = if index == 0 { "line " } else { "\nline " };
+                write_mark(out, words, lives, mark)?;
+            }
+        }
+        let others = self.marks.saturating_sub(MOST_TOLD);
+        if others > 0 {
+            out.push_number("\nand more: ", others as u64)?;
+        }
+        out.push_str("</title></path>\n")
     }
 
     /// Adds the shapes: a ring if something was stamped, and that of an outcome if something was not placed.
@@ -205,8 +228,24 @@ impl Cluster {
         out.push_str("</text>\n")
     }
 
-    /// Draws the marks, if there are any, with words beside them that end before `limit`, and lets go of them.
-    fn write(&mut self, out: &mut Text, lives: &[Life], limit: u64) -> Result<(), AllocError>
+    /// Lets go of the marks.
+    fn clear(&mut self) {
+        self.marks = 0;
+        self.stamps = 0;
+        self.failures = 0;
+        self.first = None;
+        self.mixed = false;
+    }
+
+    /// Draws the marks, which are some of these, if there are any, with words beside them that end before `limit`, and lets
+    /// go of them.
+    fn write(
+        &mut self,
+        out: &mut Text,
+        lives: &[Life],
+        marks: &[Mark],
+        limit: u64,
+    ) -> Result<(), AllocError>
         ensures { out.new.settled ≡ out.old.settled }
     {
         if self.marks == 0 {
@@ -214,46 +253,58 @@ impl Cluster {
         }
         let y = decided_of(self.cpu);
         self.write_shapes(out, y)?;
-        out.push_str("\"><title>")?;
-        out.push_text(&self.title)?;
-        let others = self.marks.saturating_sub(MOST_TOLD);
-        if others > 0 {
-            out.push_number("\nand more: ", others)?;
-        }
-        out.push_str("</title></path>\n")?;
+        self.write_title(out, lives, marks)?;
         self.write_words(out, lives, y, limit)?;
-        self.title.clear();
-        self.marks = 0;
-        self.stamps = 0;
-        self.failures = 0;
-        self.first = None;
-        self.mixed = false;
+        self.clear();
+        Ok(())
+    }
+
+    /// Goes to a place. If the marks are not near to it, it draws them and lets go of them, and begins there.
+    fn reach(
+        &mut self,
+        out: &mut Text,
+        lives: &[Life],
+        marks: &[Mark],
+        x: u64,
+    ) -> Result<(), AllocError>
+        ensures { out.new.settled ≡ out.old.settled }
+    {
+        if !self.reaches(x) {
+            self.write(out, lives, marks, x)?;
+            self.x = x;
+        }
         Ok(())
     }
 }
 
-/// Adds the marks of a CPU: those are drawn that are stamps, or landings that were not placed.
-pub(crate) fn write_decided(
+/// Adds the marks of a CPU, which are those of these places: those are drawn that are stamps, or landings that were not
+/// placed. It writes what is long enough.
+pub(crate) fn write_decided<W: Write>(
     out: &mut Text,
-    alloc: Global,
+    writer: &mut W,
     part: &Part<'_>,
     lives: &[Life],
     cpu: u16,
     marks: &[Mark],
-) -> Result<(), AllocError>
-    ensures { out.new.settled ≡ out.old.settled }
+    places: &[usize],
+) -> Result<(), WriteFailed>
+    ensures sent { OnOk result (Sends [] (W.contents writer.old) (W.contents writer.new) out.old.settled out.new.settled) }
+    ensures stuck { OnErr result (Grows (W.contents writer.old) (W.contents writer.new)) }
 {
-    let mut cluster = Cluster::new(alloc, cpu);
-    for mark in marks {
+    let mut cluster = Cluster::new(cpu);
+    for place in places {
+        let Some(mark) = marks.get(*place) else {
+            continue;
+        };
         let drawn = is_stamp(mark) || failure_of(mark).is_some();
-        if drawn && part.meets(mark.entries) {
-            let x = part.x(mark.entries);
-            if !cluster.reaches(x) {
-                cluster.write(out, lives, x)?;
-                cluster.x = x;
-            }
-            cluster.add(lives, mark)?;
+        if !drawn || !part.meets(mark.entries) {
+            continue;
         }
+        cluster.reach(out, lives, marks, part.x(mark.entries))?;
+        out.spill(writer)?;
+        cluster.add(*place, mark);
     }
-    cluster.write(out, lives, part.x(part.behind()).saturating_add(EDGE))
+    let end = part.x(part.behind()).saturating_add(EDGE);
+    cluster.write(out, lives, marks, end)?;
+    Ok(())
 }

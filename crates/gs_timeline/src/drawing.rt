@@ -1,41 +1,43 @@
-ghost use Rattle.std.specs.Prelude.{◌≡◌, ◌<◌, ◌++◌, List, ℕ, Some, IfOk, OnOk, flat_map, length, map, slice_get};
+ghost use Rattle.std.specs.Prelude.{◌≡◌, ◌<◌, ◌++◌, [], List, ℕ, Some, IfOk, OnErr, OnOk, flat_map, length, map, slice_get};
+ghost use Rattle.std.specs.Io.KnownBytes.{Appends};
 ghost use Rattle.std.specs.Option.{option_map};
 ghost use Rattle.gs_timeline.specs.Bars.{bars, pieces_of, scale};
 ghost use Rattle.gs_timeline.specs.Counts.{decisions, told_by};
 ghost use Rattle.gs_timeline.specs.Endings.{ending_of};
 ghost use Rattle.gs_timeline.specs.Lanes.{LaneOf};
-ghost use Rattle.gs_timeline.specs.Lives.{born, class_among, class_of};
+ghost use Rattle.gs_timeline.specs.Lives.{born, class_among};
 ghost use Rattle.gs_timeline.specs.Pieces.{Adds, HasEach};
 ghost use Rattle.gs_timeline.specs.Places.{scale_of};
+ghost use Rattle.gs_timeline.specs.Sent.{Grows, Sends};
 ghost use Rattle.gs_timeline.specs.Stays.{all_stays, stays};
 
-use crate::agents::{steps, write_pages, write_reign, write_steps};
+use crate::agents::{write_pages, write_reigns, write_steps};
 use crate::bars::{BarDigits, write_stay};
 use crate::blur::Blur;
-use crate::counts::{Counts, counted, write_counted, write_sums};
+use crate::counts::{Counts, write_counted, write_sums};
 use crate::decided::write_decided;
 use crate::ending::Ending;
 use crate::foot::{end_of_foot, write_foot};
+use crate::gathered::{Drawn, Gathered};
 use crate::groups::write_groups;
-use crate::lane::Lane;
 use crate::layout::{BAR, TOP, row_of};
 use crate::legend::{write_legend, write_style};
-use crate::listing::{Line, listing};
-use crate::lives::{Life, life_of, lives};
+use crate::lives::{Life, life_of};
 use crate::marks::{write_axis, write_hold, write_marks};
 use crate::notes::{Listed, Notes};
 use crate::part::{EDGE, LEFT, Part};
 use crate::phrases::begin_text;
 use crate::rect::{Rect, write_entry};
 use crate::ring::write_ring;
-use crate::slots::{clearings, marks_by_cpu, write_stamped};
-use crate::spans::{Hold, holds, reigns};
+use crate::slots::write_stamped;
+use crate::spans::{HeldTimes, Hold};
 use crate::stay::Stay;
 use crate::text::Text;
-use crate::walk::stays;
 use gs_journal::{Entry, Journal};
-use gs_text::Sheet;
+use gs_text::WriteFailed;
 use std::alloc::{AllocError, Global};
+use std::io::Write;
+use std::marker::Model;
 
 /// How far from one another a wide picture repeats the names of its rows.
 const AGAIN: u64 = 1_000;
@@ -57,32 +59,59 @@ fn write_back(out: &mut Text, part: &Part<'_>, y: u64) -> Result<(), AllocError>
     out.push_str("\" class=\"row\"/>\n")
 }
 
-/// Adds the row of a CPU: its name, and when the other class held it.
-fn write_row(out: &mut Text, part: &Part<'_>, cpu: u16, holds: &[Hold]) -> Result<(), AllocError>
+/// Adds the row of a CPU: its name, and its background.
+fn write_row(out: &mut Text, part: &Part<'_>, cpu: u16) -> Result<(), AllocError>
     ensures { out.new.settled ≡ out.old.settled }
 {
     let y = row_of(cpu);
     begin_text(out, 10, y.saturating_add(17), "label")?;
     out.push_number("CPU ", u64::from(cpu))?;
     out.push_str("</text>\n")?;
-    write_back(out, part, y)?;
+    write_back(out, part, y)
+}
+
+/// Adds when the other class held a CPU, and writes what is long enough.
+fn write_holds<W: Write>(
+    out: &mut Text,
+    writer: &mut W,
+    part: &Part<'_>,
+    holds: &[Hold],
+) -> Result<(), WriteFailed>
+    ensures sent { OnOk result (Sends [] (W.contents writer.old) (W.contents writer.new) out.old.settled out.new.settled) }
+    ensures stuck { OnErr result (Grows (W.contents writer.old) (W.contents writer.new)) }
+{
     for hold in holds {
         write_hold(out, part, hold)?;
+        out.spill(writer)?;
     }
     Ok(())
 }
 
-/// Adds the name of a CPU's row again, where a wide picture repeats it.
-fn write_again(out: &mut Text, part: &Part<'_>, cpu: u16) -> Result<(), AllocError>
+/// Adds the name of a CPU's row again, at `x`.
+fn write_name(out: &mut Text, x: u64, y: u64, cpu: u16) -> Result<(), AllocError>
     ensures { out.new.settled ≡ out.old.settled }
+{
+    begin_text(out, x, y, "again")?;
+    out.push_number("CPU ", u64::from(cpu))?;
+    out.push_str("</text>\n")
+}
+
+/// Adds the name of a CPU's row again, where a wide picture repeats it, and writes what is long enough.
+fn write_again<W: Write>(
+    out: &mut Text,
+    writer: &mut W,
+    part: &Part<'_>,
+    cpu: u16,
+) -> Result<(), WriteFailed>
+    ensures sent { OnOk result (Sends [] (W.contents writer.old) (W.contents writer.new) out.old.settled out.new.settled) }
+    ensures stuck { OnErr result (Grows (W.contents writer.old) (W.contents writer.new)) }
 {
     let y = row_of(cpu).saturating_add(BAR + 10);
     let places = part.width(part.first(), part.behind()) / AGAIN;
     for place in 1..places {
         let x = LEFT.saturating_add(place.saturating_mul(AGAIN));
-        begin_text(out, x, y, "again")?;
-        out.push_number("CPU ", u64::from(cpu))?;
-        out.push_str("</text>\n")?;
+        write_name(out, x, y, cpu)?;
+        out.spill(writer)?;
     }
     Ok(())
 }
@@ -98,103 +127,119 @@ fn ending_at(journal: &Journal, place: usize) -> Ending
     Ending::of(None)
 }
 
-/// Adds the bars of the threads on a CPU.
-fn write_stays(
+/// Adds the bar of a stay that is at least a pixel wide. One that is narrower, and shown, is drawn with others that touch it.
+#[inline(always)]
+fn write_next(
     out: &mut Text,
     kept: &mut BarDigits,
+    blur: &mut Blur,
     part: &Part<'_>,
-    cpu: u16,
     journal: &Journal,
     lives: &[Life],
-    stays: &[Stay],
+    stay: &Stay,
 ) -> Result<(), AllocError>
-    ensures { OnOk result (Adds (flat_map (pieces_of (scale part.now) (class_among (map born lives.now)) journal.now.entries) stays.now) out.old.settled out.new.settled) }
+    ensures { OnOk result (Adds (pieces_of (scale part.now) (class_among (map born lives.now)) journal.now.entries stay.now) out.old.settled out.new.settled) }
 {
-    let mut blur = Blur::new(cpu);
-    for stay in stays {
-        if part.width(stay.from, stay.to) > 0 {
-            blur.write(out, part)?;
-            let life = life_of(lives, stay.tid);
-            let ending = ending_at(journal, stay.to);
-            write_stay(out, kept, part, stay, life, ending)?;
-        } else if part.shown(stay.from, stay.to) > 0 {
-            blur.add(out, part, stay)?;
-        }
+    if part.width(stay.from, stay.to) > 0 {
+        blur.write(out, part)?;
+        let life = life_of(lives, stay.tid);
+        let ending = ending_at(journal, stay.to);
+        return write_stay(out, kept, part, stay, life, ending);
     }
-    blur.write(out, part)
-}
-
-/// Adds the rows of the CPUs, with who was on each.
-fn write_rows(
-    out: &mut Text,
-    alloc: Global,
-    part: &Part<'_>,
-    journal: &Journal,
-    lives: &[Life],
-    lanes: &[Lane],
-    cpus: u16,
-) -> Result<(), AllocError>
-    requires count { length lanes.now ≡ cpus }
-    requires stays { (c : ℕ) → c < cpus → option_map (λ (lane : LaneOf). lane.ended) (slice_get lanes.now c) ≡ Some (stays journal.now.entries c) }
-    ensures { OnOk result (Adds (flat_map (pieces_of (scale part.now) (class_among (map born lives.now)) journal.now.entries) (all_stays journal.now.entries cpus)) out.old.settled out.new.settled) }
-{
-    let held = holds(alloc, journal, cpus)?;
-    let mut kept = BarDigits::new();
-    for cpu in 0..cpus {
-        let holds: &[Hold] = match held.get(cpu as usize) {
-            Some(held) => held.ended(),
-            None => &[],
-        };
-        write_row(out, part, cpu, holds)?;
-        let stays = lanes[cpu as usize].stays();
-        write_stays(out, &mut kept, part, cpu, journal, lives, stays)?;
-        write_again(out, part, cpu)?;
+    if part.shown(stay.from, stay.to) > 0 {
+        return blur.add(out, part, stay);
     }
     Ok(())
 }
 
-/// Adds what was decided of the CPUs, above the bars of each.
-fn write_decisions(
+/// Adds the bars of the threads on a CPU, and writes what is long enough.
+fn write_stays<W: Write>(
     out: &mut Text,
-    alloc: Global,
-    part: &Part<'_>,
-    journal: &Journal,
-    lives: &[Life],
-    cpus: u16,
-    notes: &Notes<'_>,
-) -> Result<(), AllocError>
-    ensures { out.new.settled ≡ out.old.settled }
+    writer: &mut W,
+    kept: &mut BarDigits,
+    drawn: &Drawn<'_>,
+    cpu: u16,
+    stays: &[Stay],
+) -> Result<(), WriteFailed>
+    ensures sent { OnOk result (Sends (flat_map (pieces_of (scale drawn.now.part.now) (class_among (map born drawn.now.all.now.lives.items)) drawn.now.journal.now.entries) stays.now) (W.contents writer.old) (W.contents writer.new) out.old.settled out.new.settled) }
+    ensures stuck { OnErr result (Grows (W.contents writer.old) (W.contents writer.new)) }
 {
-    let slots = marks_by_cpu(alloc, notes.marks, cpus)?;
-    let cleared = clearings(alloc, journal)?;
-    for cpu in 0..cpus {
-        let Some(slot) = slots.get(cpu as usize) else {
-            break;
-        };
-        let marks = slot.as_slice();
-        write_stamped(out, part, cpu, marks, cleared.as_slice(), journal.len())?;
-        write_decided(out, alloc, part, lives, cpu, marks)?;
+    let part = drawn.part;
+    let journal = drawn.journal;
+    let lives = drawn.all.lives.as_slice();
+    let mut blur = Blur::new(cpu);
+    for stay in stays {
+        write_next(out, kept, &mut blur, part, journal, lives, stay)?;
+        out.spill(writer)?;
     }
-    write_groups(out, alloc, part, lives, cpus, notes.marks)
+    blur.write(out, part)?;
+    Ok(())
 }
 
-/// Adds the row of the agents, and where each was active.
-fn write_agents(
-    out: &mut Text,
-    alloc: Global,
-    part: &Part<'_>,
-    journal: &Journal,
-    cpus: u16,
-    notes: &Notes<'_>,
-) -> Result<(), AllocError>
-    ensures { out.new.settled ≡ out.old.settled }
-{
-    let mut title = Text::new(alloc);
-    for reign in &reigns(alloc, journal)? {
-        write_reign(out, &mut title, part, cpus, reign)?;
+/// Lends the times that the other class held a CPU.
+fn holds_of(held: &[HeldTimes], cpu: u16) -> &[Hold] {
+    match held.get(cpu as usize) {
+        Some(held) => held.ended(),
+        None => &[],
     }
-    write_steps(out, part, steps(alloc, journal, notes.agents)?.as_slice())?;
-    write_pages(out, part, notes.agents)
+}
+
+/// Adds the rows of the CPUs, with who was on each, and writes what is long enough.
+fn write_rows<W: Write>(
+    out: &mut Text,
+    writer: &mut W,
+    drawn: &Drawn<'_>,
+) -> Result<(), WriteFailed>
+    requires count { length drawn.now.all.now.lanes.items ≡ drawn.now.cpus }
+    requires stays { (c : ℕ) → c < drawn.now.cpus → option_map (λ (lane : LaneOf). lane.ended) (slice_get drawn.now.all.now.lanes.items c) ≡ Some (stays drawn.now.journal.now.entries c) }
+    ensures sent { OnOk result (Sends (flat_map (pieces_of (scale drawn.now.part.now) (class_among (map born drawn.now.all.now.lives.items)) drawn.now.journal.now.entries) (all_stays drawn.now.journal.now.entries drawn.now.cpus)) (W.contents writer.old) (W.contents writer.new) out.old.settled out.new.settled) }
+    ensures stuck { OnErr result (Grows (W.contents writer.old) (W.contents writer.new)) }
+{
+    let part = drawn.part;
+    let mut kept = BarDigits::new();
+    for cpu in 0..drawn.cpus {
+        write_row(out, part, cpu)?;
+        write_holds(out, writer, part, holds_of(&drawn.all.holds, cpu))?;
+        let stays = drawn.all.lanes[cpu as usize].stays();
+        write_stays(out, writer, &mut kept, drawn, cpu, stays)?;
+        write_again(out, writer, part, cpu)?;
+        out.spill(writer)?;
+    }
+    Ok(())
+}
+
+/// Adds what was decided of the CPUs, above the bars of each, and writes what is long enough.
+fn write_decisions<W: Write>(
+    out: &mut Text,
+    writer: &mut W,
+    drawn: &Drawn<'_>,
+) -> Result<(), WriteFailed>
+    ensures sent { OnOk result (Sends [] (W.contents writer.old) (W.contents writer.new) out.old.settled out.new.settled) }
+    ensures stuck { OnErr result (Grows (W.contents writer.old) (W.contents writer.new)) }
+{
+    let all = drawn.all;
+    let marks = drawn.notes.marks;
+    for cpu in 0..drawn.cpus {
+        write_stamped(out, writer, drawn, cpu)?;
+        let places = all.slots.list(cpu as usize);
+        write_decided(out, writer, drawn.part, &all.lives, cpu, marks, places)?;
+        out.spill(writer)?;
+    }
+    write_groups(out, writer, drawn.part, &all.lives, marks, &all.groups)
+}
+
+/// Adds the row of the agents, and where each was active, and writes what is long enough.
+fn write_agents<W: Write>(
+    out: &mut Text,
+    writer: &mut W,
+    drawn: &Drawn<'_>,
+) -> Result<(), WriteFailed>
+    ensures sent { OnOk result (Sends [] (W.contents writer.old) (W.contents writer.new) out.old.settled out.new.settled) }
+    ensures stuck { OnErr result (Grows (W.contents writer.old) (W.contents writer.new)) }
+{
+    write_reigns(out, writer, drawn.part, drawn.cpus, &drawn.all.reigns)?;
+    write_steps(out, writer, drawn.part, &drawn.all.steps)?;
+    write_pages(out, writer, drawn.part, drawn.notes.agents)
 }
 
 /// Adds a width and a height.
@@ -241,130 +286,191 @@ fn write_description(
     )
 }
 
-/// What the beginning of a picture tells.
-#[derive(Clone, Copy)]
-struct Head<'a> {
-    height: u64,
-    cpus: u16,
-    threads: usize,
-    journal: &'a Journal,
-    counts: &'a Counts,
-}
-
-/// Adds the beginning of the picture: its size, what it is, how its parts look, its heading and what its marks mean.
-fn write_head(out: &mut Text, part: &Part<'_>, head: &Head<'_>) -> Result<(), AllocError>
-    ensures { OnOk result ((start : List ℕ) × Adds (told_by head.now.counts.now) start out.new.settled) }
-{
-    let width = part.x(part.behind()).saturating_add(EDGE).max(LEAST_WIDTH);
-    out.push_str("<svg xmlns=\"http://www.w3.org/2000/svg\"")?;
-    write_size(out, width, head.height)?;
-    out.push_number(" viewBox=\"0 0 ", width)?;
-    out.push_number(" ", head.height)?;
-    out.push_str(
-        "\" font-family=\"sans-serif\" font-size=\"12\" role=\"img\" aria-labelledby=\"title desc\">\n",
-    )?;
-    write_description(out, head.cpus, head.threads, head.journal, head.counts)?;
-    write_style(out)?;
-    out.push_str("<rect")?;
-    write_size(out, width, head.height)?;
-    out.push_str(" class=\"page-back\"/>\n")?;
-    write_heading(out, part, head.journal)?;
-    write_legend(out)?;
-    write_counted(out, head.counts)
-}
-
-/// What a picture is drawn of.
-#[derive(Clone, Copy)]
-struct Drawn<'a> {
-    cpus: u16,
-    journal: &'a Journal,
-    notes: &'a Notes<'a>,
-    part: &'a Part<'a>,
-    lives: &'a [Life],
-    lanes: &'a [Lane],
-    lines: &'a [Line],
-    counts: &'a Counts,
-}
-
-/// Adds the whole picture: its beginning, its rows with what stands in them, its foot and its end.
-fn draw(out: &mut Text, alloc: Global, drawn: &Drawn<'_>) -> Result<(), AllocError>
-    requires count { length drawn.now.lanes.now ≡ drawn.now.cpus }
-    requires stays { (c : ℕ) → c < drawn.now.cpus → option_map (λ (lane : LaneOf). lane.ended) (slice_get drawn.now.lanes.now c) ≡ Some (stays drawn.now.journal.now.entries c) }
-    ensures decisions { OnOk result (HasEach (told_by drawn.now.counts.now) (out.new.settled ++ out.new.told)) }
-    ensures stays { OnOk result (HasEach (flat_map (pieces_of (scale drawn.now.part.now) (class_among (map born drawn.now.lives.now)) drawn.now.journal.now.entries) (all_stays drawn.now.journal.now.entries drawn.now.cpus)) (out.new.settled ++ out.new.told)) }
+/// Adds the beginning of the picture, whose height is `end`: its size, what it is, how its parts look, its heading and what
+/// its marks mean.
+fn write_head(out: &mut Text, drawn: &Drawn<'_>, end: u64) -> Result<(), AllocError>
+    ensures { OnOk result ((start : List ℕ) × Adds (told_by drawn.now.all.now.counts) start out.new.settled) }
 {
     let Drawn {
         cpus,
         journal,
-        notes,
         part,
-        lives,
-        lanes,
-        lines,
-        counts,
+        all,
+        ..
     } = *drawn;
-    let end = end_of_foot(cpus, lines.len());
-    let head = Head {
-        height: end,
-        cpus,
-        threads: lives.len(),
-        journal,
-        counts,
-    };
-    write_head(out, part, &head)?;
-    write_axis(out, part, cpus, end)?;
-    begin_text(out, 10, TOP + 17, "label")?;
-    out.push_str("agent</text>\n")?;
-    write_back(out, part, TOP)?;
-    write_ring(out, part, notes.fills, notes.ring)?;
-    write_rows(out, alloc, part, journal, lives, lanes, cpus)?;
-    write_agents(out, alloc, part, journal, cpus, notes)?;
-    write_marks(out, part, cpus, journal)?;
-    write_decisions(out, alloc, part, journal, lives, cpus, notes)?;
-    write_foot(out, part, cpus, lives, lines)?;
-    out.push_str("</svg>\n")
+    let width = part.x(part.behind()).saturating_add(EDGE).max(LEAST_WIDTH);
+    out.push_str("<svg xmlns=\"http://www.w3.org/2000/svg\"")?;
+    write_size(out, width, end)?;
+    out.push_number(" viewBox=\"0 0 ", width)?;
+    out.push_number(" ", end)?;
+    out.push_str(
+        "\" font-family=\"sans-serif\" font-size=\"12\" role=\"img\" aria-labelledby=\"title desc\">\n",
+    )?;
+    write_description(out, cpus, all.lives.len(), journal, &all.counts)?;
+    write_style(out)?;
+    out.push_str("<rect")?;
+    write_size(out, width, end)?;
+    out.push_str(" class=\"page-back\"/>\n")?;
+    write_heading(out, part, journal)?;
+    write_legend(out)?;
+    write_counted(out, &all.counts)
 }
 
-/// Returns a picture of a history as SVG: a row for each of so many CPUs, and in it a bar for each stay of a thread. Above
-/// the bars of a CPU stand the decisions of the notes: each stamp, and each landing that was not placed, with what it
-/// came to. Marks that are near to one another are drawn as one, and its title tells of the first few. Below the rows
-/// threads are listed.
-///
-/// It shows the entries from place `from` to place `to`, that one too. Of more than
-/// [`MOST_SINGLE`](crate::MOST_SINGLE) several share a pixel, and stays that are narrower are drawn together if they
-/// touch.
-///
-/// # Errors
-///
-/// `AllocError` if out of memory.
-pub fn picture(
-    alloc: Global,
-    cpus: u16,
-    journal: &Journal,
-    notes: &Notes<'_>,
-    from: usize,
-    to: usize,
-    listed: Listed,
-) -> Result<Sheet, AllocError>
-    ensures decisions { IfOk result (λ text. HasEach (decisions (scale_of (length journal.now.entries) from to) notes.now.marks.now) text) }
-    ensures stays { IfOk result (λ text. HasEach (bars (scale_of (length journal.now.entries) from to) journal.now.entries cpus) text) }
+/// Adds what the row of the agents is called, and its background.
+fn write_agent_row(out: &mut Text, part: &Part<'_>) -> Result<(), AllocError>
+    ensures { out.new.settled ≡ out.old.settled }
 {
-    let part = Part::new(journal.len(), notes.lines, from, to);
-    let lanes = stays(alloc, journal, cpus)?;
-    let lives = lives(alloc, journal, &part, &lanes)?;
-    let lines = listing(alloc, &lives, listed)?;
-    let counts = counted(alloc, &part, notes.marks)?;
-    let mut out = Text::new(alloc);
-    let drawn = Drawn {
+    begin_text(out, 10, TOP + 17, "label")?;
+    out.push_str("agent</text>\n")?;
+    write_back(out, part, TOP)
+}
+
+/// Adds what stands above the rows: the axis, which goes down to `end`, the row of the agents, and that of the ring. It
+/// writes what is long enough.
+fn write_above<W: Write>(
+    out: &mut Text,
+    writer: &mut W,
+    drawn: &Drawn<'_>,
+    end: u64,
+) -> Result<(), WriteFailed>
+    ensures sent { OnOk result (Sends [] (W.contents writer.old) (W.contents writer.new) out.old.settled out.new.settled) }
+    ensures stuck { OnErr result (Grows (W.contents writer.old) (W.contents writer.new)) }
+{
+    let part = drawn.part;
+    write_axis(out, writer, part, drawn.cpus, end)?;
+    write_agent_row(out, part)?;
+    write_ring(out, writer, part, drawn.notes.fills, drawn.notes.ring)
+}
+
+/// Adds what is drawn over the rows, and the foot below them. It writes what is long enough.
+fn write_below<W: Write>(
+    out: &mut Text,
+    writer: &mut W,
+    drawn: &Drawn<'_>,
+) -> Result<(), WriteFailed>
+    ensures sent { OnOk result (Sends [] (W.contents writer.old) (W.contents writer.new) out.old.settled out.new.settled) }
+    ensures stuck { OnErr result (Grows (W.contents writer.old) (W.contents writer.new)) }
+{
+    let Drawn {
         cpus,
         journal,
-        notes,
-        part: &part,
-        lives: &lives,
-        lanes: &lanes,
-        lines: &lines,
-        counts: &counts,
-    };
-    draw(&mut out, alloc, &drawn)?;
-    Ok(out.into_sheet())
+        part,
+        all,
+        ..
+    } = *drawn;
+    write_agents(out, writer, drawn)?;
+    write_marks(out, writer, part, cpus, journal)?;
+    write_decisions(out, writer, drawn)?;
+    write_foot(out, writer, part, cpus, &all.lives, &all.lines)
+}
+
+/// Adds the whole picture: its beginning, its rows with what stands in them, its foot and its end. It writes what is long
+/// enough.
+fn draw<W: Write>(out: &mut Text, writer: &mut W, drawn: &Drawn<'_>) -> Result<(), WriteFailed>
+    requires count { length drawn.now.all.now.lanes.items ≡ drawn.now.cpus }
+    requires stays { (c : ℕ) → c < drawn.now.cpus → option_map (λ (lane : LaneOf). lane.ended) (slice_get drawn.now.all.now.lanes.items c) ≡ Some (stays drawn.now.journal.now.entries c) }
+    ensures sent { OnOk result ((start : List ℕ) × Sends (told_by drawn.now.all.now.counts ++ flat_map (pieces_of (scale drawn.now.part.now) (class_among (map born drawn.now.all.now.lives.items)) drawn.now.journal.now.entries) (all_stays drawn.now.journal.now.entries drawn.now.cpus)) (W.contents writer.old) (W.contents writer.new) start out.new.settled) }
+    ensures stuck { OnErr result (Grows (W.contents writer.old) (W.contents writer.new)) }
+{
+    let end = end_of_foot(drawn.cpus, drawn.all.lines.len());
+    write_head(out, drawn, end)?;
+    write_above(out, writer, drawn, end)?;
+    write_rows(out, writer, drawn)?;
+    write_below(out, writer, drawn)?;
+    out.push_str("</svg>\n")?;
+    Ok(())
+}
+
+/// A picture of a history as SVG, of which nothing is written yet: a row for each of so many CPUs, and in it a bar for each
+/// stay of a thread. Above the bars of a CPU stand the decisions of the notes: each stamp, and each landing that was not
+/// placed, with what it came to. Marks that are near to one another are drawn as one, and its title tells of the first few.
+/// Below the rows threads are listed.
+///
+/// Contracts see pieces that the text has, in order: what is told of decisions, and then what is drawn of stays.
+#[derive(Drop)]
+pub struct Picture<'a> {
+    cpus: u16,
+    journal: &'a Journal,
+    notes: Notes<'a>,
+    part: Part<'a>,
+    all: Gathered,
+    /// What is drawn and not written yet.
+    out: Text,
+}
+
+impl<'a> Model for Picture<'a> {
+    ghost use Rattle.std.specs.Prelude.{◌≡◌, ◌<◌, ◌++◌, [], List, ℕ, Some, flat_map, length, map, slice_get};
+    ghost use Rattle.std.specs.Option.{option_map};
+    ghost use Rattle.gs_timeline.specs.Bars.{pieces_of, scale};
+    ghost use Rattle.gs_timeline.specs.Counts.{told_by};
+    ghost use Rattle.gs_timeline.specs.Lanes.{LaneOf};
+    ghost use Rattle.gs_timeline.specs.Lives.{born, class_among};
+    ghost use Rattle.gs_timeline.specs.Stays.{all_stays, stays};
+
+    ghost Value = { List (List ℕ) };
+
+    ghost view = { λ p. told_by p.all.counts ++ flat_map (pieces_of (scale p.part) (class_among (map born p.all.lives.items)) p.journal.now.entries) (all_stays p.journal.now.entries p.cpus) };
+
+    ghost invariant = { λ p. (length p.all.lanes.items ≡ p.cpus) × ((c : ℕ) → c < p.cpus → option_map (λ (lane : LaneOf). lane.ended) (slice_get p.all.lanes.items c) ≡ Some (stays p.journal.now.entries c)) };
+}
+
+impl<'a> Picture<'a> {
+    /// Gathers what a picture shows of the entries from place `from` to place `to`, that one too, and makes room for it to
+    /// be written piece by piece. Of more than [`MOST_SINGLE`](crate::MOST_SINGLE) entries several share a pixel, and stays
+    /// that are narrower are drawn together if they touch.
+    ///
+    /// # Errors
+    ///
+    /// `AllocError` if out of memory.
+    pub fn new(
+        alloc: Global,
+        cpus: u16,
+        journal: &'a Journal,
+        notes: Notes<'a>,
+        from: usize,
+        to: usize,
+        listed: Listed,
+    ) -> Result<Picture<'a>, AllocError>
+        ensures { IfOk result (λ picture. picture ≡ decisions (scale_of (length journal.now.entries) from to) notes.entry.marks.now ++ bars (scale_of (length journal.now.entries) from to) journal.now.entries cpus) }
+    {
+        let part = Part::new(journal.len(), notes.lines, from, to);
+        let all = Gathered::new(alloc, cpus, journal, &notes, &part, listed)?;
+        Ok(Picture {
+            cpus,
+            journal,
+            notes,
+            part,
+            all,
+            out: Text::with_room(alloc)?,
+        })
+    }
+
+    /// Draws the picture, and writes it piece by piece: it is never kept whole.
+    ///
+    /// # Errors
+    ///
+    /// `WriteFailed` if a write fails or takes no byte, or if memory runs out beyond what was made room for. A beginning was
+    /// written then.
+    pub fn write<W: Write>(self, writer: &mut W) -> Result<(), WriteFailed>
+        ensures written { OnOk result ((text : List ℕ) × Appends (W.contents writer.old) (W.contents writer.new) text × HasEach self.entry text) }
+        ensures stuck { OnErr result (Grows (W.contents writer.old) (W.contents writer.new)) }
+    {
+        let Picture {
+            cpus,
+            journal,
+            notes,
+            part,
+            all,
+            mut out,
+        } = self;
+        let drawn = Drawn {
+            cpus,
+            journal,
+            notes,
+            part: &part,
+            all: &all,
+        };
+        draw(&mut out, writer, &drawn)?;
+        out.send(writer)
+    }
 }

@@ -1,4 +1,5 @@
-ghost use Rattle.std.specs.Prelude.{◌≡◌};
+ghost use Rattle.std.specs.Prelude.{◌≡◌, [], OnErr, OnOk};
+ghost use Rattle.gs_timeline.specs.Sent.{Grows, Sends};
 
 use crate::layout::{LINE, foot_of};
 use crate::listing::Line;
@@ -9,7 +10,9 @@ use crate::strip::Strip;
 use crate::text::Text;
 use crate::threads::{shade_of, write_called, write_thread};
 use gs_layout::Class;
+use gs_text::WriteFailed;
 use std::alloc::AllocError;
+use std::io::Write;
 
 /// How many lines are above those of the threads, and behind them.
 const LINES: u64 = 5;
@@ -32,37 +35,47 @@ fn write_counts(out: &mut Text, ran: usize, waited: usize) -> Result<(), AllocEr
     out.push_number("waited ", waited as u64)
 }
 
-/// Adds a path of lengths on the axis, of these classes.
-fn write_strip(
-    out: &mut Text,
-    y: u64,
-    class: &str,
-    shade: &str,
-    strip: &Strip,
-) -> Result<(), AllocError>
+/// Adds the beginning of a path of lengths on the axis, of these classes.
+fn begin_strip(out: &mut Text, y: u64, class: &str, shade: &str) -> Result<(), AllocError>
     ensures { out.new.settled ≡ out.old.settled }
 {
     out.push_number("<path transform=\"translate(0 ", y)?;
     out.push_str(")\" class=\"")?;
     out.push_str(class)?;
     out.push_str(shade)?;
-    out.push_str("\" d=\"")?;
-    strip.write(out)?;
-    out.push_str("\">")
+    out.push_str("\" d=\"")
 }
 
-/// Adds the title of what a thread did.
-fn write_life_title(out: &mut Text, life: &Life) -> Result<(), AllocError>
+/// Adds the end of a path of lengths, with what the thread did.
+fn end_strip(out: &mut Text, life: &Life) -> Result<(), AllocError>
     ensures { out.new.settled ≡ out.old.settled }
 {
-    out.push_str("<title>")?;
+    out.push_str("\"><title>")?;
     write_thread(out, life.tid, Some(life))?;
     write_counts(out, life.ran().entries(), life.waited())?;
     out.push_str("</title></path>\n")
 }
 
-/// Adds what a thread did: behind how many of the shown entries it ran and waited, and when.
-fn write_life(out: &mut Text, part: &Part<'_>, y: u64, life: &Life) -> Result<(), AllocError>
+/// Adds a path of lengths on the axis, which are times of a thread, and writes what is long enough.
+fn write_strip<W: Write>(
+    out: &mut Text,
+    writer: &mut W,
+    y: u64,
+    class: &str,
+    life: &Life,
+    strip: &Strip,
+) -> Result<(), WriteFailed>
+    ensures sent { OnOk result (Sends [] (W.contents writer.old) (W.contents writer.new) out.old.settled out.new.settled) }
+    ensures stuck { OnErr result (Grows (W.contents writer.old) (W.contents writer.new)) }
+{
+    begin_strip(out, y, class, shade_of(life.tid, Some(life.class)))?;
+    strip.write(out, writer)?;
+    end_strip(out, life)?;
+    Ok(())
+}
+
+/// Adds which thread has a line.
+fn begin_life(out: &mut Text, y: u64, life: &Life) -> Result<(), AllocError>
     ensures { out.new.settled ≡ out.old.settled }
 {
     begin_text(out, 10, y, "thread")?;
@@ -71,17 +84,36 @@ fn write_life(out: &mut Text, part: &Part<'_>, y: u64, life: &Life) -> Result<()
         out.push_str(" ")?;
         write_called(out, life.tid, Some(life))?;
     }
-    out.push_str("</text>\n")?;
-    let middle = y.saturating_sub(4);
-    let shade = shade_of(life.tid, Some(life.class));
-    write_strip(out, middle, "ready ", shade, life.ready())?;
-    write_life_title(out, life)?;
-    write_strip(out, middle, "ran ", shade, life.ran())?;
-    write_life_title(out, life)?;
+    out.push_str("</text>\n")
+}
+
+/// Adds behind how many of the shown entries a thread ran and waited, at the end of its line.
+fn end_life(out: &mut Text, part: &Part<'_>, y: u64, life: &Life) -> Result<(), AllocError>
+    ensures { out.new.settled ≡ out.old.settled }
+{
     begin_text(out, part.x(part.behind()).saturating_add(8), y, "thread")?;
     out.push_number("class ", life.class.number() as u64)?;
     write_counts(out, life.ran().entries(), life.waited())?;
     out.push_str("</text>\n")
+}
+
+/// Adds what a thread did: behind how many of the shown entries it ran and waited, and when. It writes what is long enough.
+fn write_life<W: Write>(
+    out: &mut Text,
+    writer: &mut W,
+    part: &Part<'_>,
+    y: u64,
+    life: &Life,
+) -> Result<(), WriteFailed>
+    ensures sent { OnOk result (Sends [] (W.contents writer.old) (W.contents writer.new) out.old.settled out.new.settled) }
+    ensures stuck { OnErr result (Grows (W.contents writer.old) (W.contents writer.new)) }
+{
+    let middle = y.saturating_sub(4);
+    begin_life(out, y, life)?;
+    write_strip(out, writer, middle, "ready ", life, life.ready())?;
+    write_strip(out, writer, middle, "ran ", life, life.ran())?;
+    end_life(out, part, y, life)?;
+    Ok(())
 }
 
 /// Adds how many more threads of a class there are that ran, or that never did.
@@ -116,14 +148,8 @@ fn write_class(out: &mut Text, y: u64, lives: &[Life], class: Class) -> Result<(
     out.push_str("</text>\n")
 }
 
-/// Adds what the classes did, and what the threads did that are listed.
-pub(crate) fn write_foot(
-    out: &mut Text,
-    part: &Part<'_>,
-    cpus: u16,
-    lives: &[Life],
-    lines: &[Line],
-) -> Result<(), AllocError>
+/// Adds what the classes did, and what the lines below that are. Returns where the last of these lines stands.
+fn write_classes(out: &mut Text, cpus: u16, lives: &[Life]) -> Result<u64, AllocError>
     ensures { out.new.settled ≡ out.old.settled }
 {
     let mut y = foot_of(cpus).saturating_add(LINE);
@@ -135,16 +161,50 @@ pub(crate) fn write_foot(
     out.push_str(
         "Threads, those that never ran first, and then by how long they waited. Thick: it ran; thin: it could run, and waited; nothing: it could not run.</text>\n",
     )?;
+    Ok(y)
+}
+
+/// Adds a line below the rows, and writes what is long enough.
+fn write_line<W: Write>(
+    out: &mut Text,
+    writer: &mut W,
+    part: &Part<'_>,
+    y: u64,
+    lives: &[Life],
+    line: &Line,
+) -> Result<(), WriteFailed>
+    ensures sent { OnOk result (Sends [] (W.contents writer.old) (W.contents writer.new) out.old.settled out.new.settled) }
+    ensures stuck { OnErr result (Grows (W.contents writer.old) (W.contents writer.new)) }
+{
+    match line {
+        Line::Thread { tid } => match life_of(lives, *tid) {
+            Some(life) => write_life(out, writer, part, y, life),
+            None => Ok(()),
+        },
+        Line::More { class, ran, count } => {
+            write_more(out, y, *class, *ran, *count)?;
+            Ok(())
+        }
+    }
+}
+
+/// Adds what the classes did, and what the threads did that are listed. It writes what is long enough.
+pub(crate) fn write_foot<W: Write>(
+    out: &mut Text,
+    writer: &mut W,
+    part: &Part<'_>,
+    cpus: u16,
+    lives: &[Life],
+    lines: &[Line],
+) -> Result<(), WriteFailed>
+    ensures sent { OnOk result (Sends [] (W.contents writer.old) (W.contents writer.new) out.old.settled out.new.settled) }
+    ensures stuck { OnErr result (Grows (W.contents writer.old) (W.contents writer.new)) }
+{
+    let mut y = write_classes(out, cpus, lives)?;
     for line in lines {
         y = y.saturating_add(LINE);
-        match line {
-            Line::Thread { tid } => {
-                if let Some(life) = life_of(lives, *tid) {
-                    write_life(out, part, y, life)?;
-                }
-            }
-            Line::More { class, ran, count } => write_more(out, y, *class, *ran, *count)?,
-        }
+        write_line(out, writer, part, y, lives, line)?;
+        out.spill(writer)?;
     }
     Ok(())
 }

@@ -1,6 +1,7 @@
 //! The groups: those that land together have a bracket that joins their CPUs.
 
-ghost use Rattle.std.specs.Prelude.{◌≡◌};
+ghost use Rattle.std.specs.Prelude.{◌≡◌, [], OnErr, OnOk};
+ghost use Rattle.gs_timeline.specs.Sent.{Grows, Sends};
 
 use crate::decided::{failure_of, write_mark};
 use crate::layout::decided_of;
@@ -8,8 +9,11 @@ use crate::lives::Life;
 use crate::notes::{Mark, What};
 use crate::part::Part;
 use crate::phrases::begin_path;
+use crate::picks::Picks;
 use crate::text::Text;
+use gs_text::WriteFailed;
 use std::alloc::{AllocError, Global};
+use std::io::Write;
 
 /// How far before their place a bracket stands.
 const BEFORE: u64 = 8;
@@ -17,47 +21,125 @@ const BEFORE: u64 = 8;
 /// How many of a group have a line each in the title of its bracket, at most.
 const MOST_TOLD: usize = 8;
 
-/// Adds the bracket of a group that landed, if that is shown.
-fn write_group(
+/// Lends the mark of a place, if there is one.
+fn mark_at<'a>(marks: &'a [Mark], place: Option<&usize>) -> Option<&'a Mark> {
+    match place {
+        Some(place) => marks.get(*place),
+        None => None,
+    }
+}
+
+/// Returns whether one of a group was not placed. Then none was.
+fn has_failed(marks: &[Mark], group: &[usize]) -> bool {
+    for place in group {
+        if marks
+            .get(*place)
+            .is_some_and(|mark| failure_of(mark).is_some())
+        {
+            return true;
+        }
+    }
+    false
+}
+
+/// Adds the beginning of a group's bracket: from the CPU of its first mark to that of its last one, at `x`.
+fn begin_bracket(
     out: &mut Text,
-    part: &Part<'_>,
-    lives: &[Life],
-    group: &[Mark],
+    x: u64,
+    failed: bool,
+    marks: &[Mark],
+    group: &[usize],
+    first: &Mark,
 ) -> Result<(), AllocError>
     ensures { out.new.settled ≡ out.old.settled }
 {
-    let [first, others @ ..] = group else {
-        return Ok(());
-    };
-    if !part.meets(first.entries) {
-        return Ok(());
-    }
-    let last = others.last().unwrap_or(first);
-    let x = part.x(first.entries).saturating_sub(BEFORE);
-    let failed = group.iter().any(|mark| failure_of(mark).is_some());
     let class = if failed { "group lost-group" } else { "group" };
     begin_path(out, class, x, decided_of(first.cpu))?;
-    out.push_number("V", decided_of(last.cpu))?;
-    for mark in group {
-        out.push_number("M", x)?;
-        out.push_number(" ", decided_of(mark.cpu))?;
-        out.push_str("h4")?;
+    let last = mark_at(marks, group.last()).unwrap_or(first);
+    out.push_number("V", decided_of(last.cpu))
+}
+
+/// Adds the end of a bracket at one of its CPUs.
+fn write_end(out: &mut Text, x: u64, cpu: u16) -> Result<(), AllocError>
+    ensures { out.new.settled ≡ out.old.settled }
+{
+    out.push_two("M", x, " ", decided_of(cpu))?;
+    out.push_str("h4")
+}
+
+/// Adds the ends of a group's bracket at its CPUs, and writes what is long enough.
+fn write_ends<W: Write>(
+    out: &mut Text,
+    writer: &mut W,
+    x: u64,
+    marks: &[Mark],
+    group: &[usize],
+) -> Result<(), WriteFailed>
+    ensures sent { OnOk result (Sends [] (W.contents writer.old) (W.contents writer.new) out.old.settled out.new.settled) }
+    ensures stuck { OnErr result (Grows (W.contents writer.old) (W.contents writer.new)) }
+{
+    for place in group {
+        let Some(mark) = marks.get(*place) else {
+            continue;
+        };
+        write_end(out, x, mark.cpu)?;
+        out.spill(writer)?;
     }
+    Ok(())
+}
+
+/// Adds the title of a group's bracket: how many they are, whether they were placed, and what is told of the first few.
+fn write_title(
+    out: &mut Text,
+    lives: &[Life],
+    failed: bool,
+    marks: &[Mark],
+    group: &[usize],
+) -> Result<(), AllocError>
+    ensures { out.new.settled ≡ out.old.settled }
+{
     out.push_number("\"><title>group of ", group.len() as u64)?;
     out.push_str(if failed {
         ": none placed"
     } else {
         ": all placed"
     })?;
-    for mark in group.iter().take(MOST_TOLD) {
-        out.push_str("\n")?;
-        write_mark(out, lives, mark)?;
+    for place in group.iter().take(MOST_TOLD) {
+        if let Some(mark) = marks.get(*place) {
+            write_mark(out, "\nline ", lives, mark)?;
+        }
     }
     let more = group.len().saturating_sub(MOST_TOLD);
     if more > 0 {
         out.push_number("\nand more: ", more as u64)?;
     }
     out.push_str("</title></path>\n")
+}
+
+/// Adds the bracket of a group that landed, if that is shown, and writes what is long enough.
+fn write_group<W: Write>(
+    out: &mut Text,
+    writer: &mut W,
+    part: &Part<'_>,
+    lives: &[Life],
+    marks: &[Mark],
+    group: &[usize],
+) -> Result<(), WriteFailed>
+    ensures sent { OnOk result (Sends [] (W.contents writer.old) (W.contents writer.new) out.old.settled out.new.settled) }
+    ensures stuck { OnErr result (Grows (W.contents writer.old) (W.contents writer.new)) }
+{
+    let Some(first) = mark_at(marks, group.first()) else {
+        return Ok(());
+    };
+    if !part.meets(first.entries) {
+        return Ok(());
+    }
+    let x = part.x(first.entries).saturating_sub(BEFORE);
+    let failed = has_failed(marks, group);
+    begin_bracket(out, x, failed, marks, group, first)?;
+    write_ends(out, writer, x, marks, group)?;
+    write_title(out, lives, failed, marks, group)?;
+    Ok(())
 }
 
 /// Makes the mark of so many CPUs in whose slots nothing of a group is stamped.
@@ -69,20 +151,16 @@ fn none_grouped(alloc: Global, cpus: u16) -> Result<Vec<bool>, AllocError> {
     Ok(grouped)
 }
 
-/// Adds a bracket for each group that landed.
-pub(crate) fn write_groups(
-    out: &mut Text,
-    alloc: Global,
-    part: &Part<'_>,
-    lives: &[Life],
-    cpus: u16,
-    marks: &[Mark],
-) -> Result<(), AllocError>
-    ensures { out.new.settled ≡ out.old.settled }
-{
+/// Returns a list for each group that landed, with the marks that tell so, in order. So many CPUs have slots.
+///
+/// # Errors
+///
+/// `AllocError` if out of memory.
+pub(crate) fn landed_groups(alloc: Global, marks: &[Mark], cpus: u16) -> Result<Picks, AllocError> {
     let mut grouped = none_grouped(alloc, cpus)?;
-    let mut group: Vec<Mark> = Vec::new(alloc);
-    for mark in marks {
+    let mut groups = Picks::new(alloc);
+    let mut line: Option<usize> = None;
+    for (place, mark) in marks.iter().enumerate() {
         let Some(slot) = grouped.get_mut(mark.cpu as usize) else {
             continue;
         };
@@ -90,14 +168,30 @@ pub(crate) fn write_groups(
             What::Stamped { group, .. } => *slot = group,
             What::Landed { .. } if *slot => {
                 *slot = false;
-                if group.first().is_some_and(|first| first.line != mark.line) {
-                    write_group(out, part, lives, group.as_slice())?;
-                    group.clear();
-                }
-                group.push(*mark)?;
+                groups.push(place, line != Some(mark.line))?;
+                line = Some(mark.line);
             }
             What::Landed { .. } | What::Late { .. } => {}
         }
     }
-    write_group(out, part, lives, group.as_slice())
+    Ok(groups)
+}
+
+/// Adds a bracket for each group that landed, and writes what is long enough.
+pub(crate) fn write_groups<W: Write>(
+    out: &mut Text,
+    writer: &mut W,
+    part: &Part<'_>,
+    lives: &[Life],
+    marks: &[Mark],
+    groups: &Picks,
+) -> Result<(), WriteFailed>
+    ensures sent { OnOk result (Sends [] (W.contents writer.old) (W.contents writer.new) out.old.settled out.new.settled) }
+    ensures stuck { OnErr result (Grows (W.contents writer.old) (W.contents writer.new)) }
+{
+    for number in 0..groups.len() {
+        write_group(out, writer, part, lives, marks, groups.list(number))?;
+        out.spill(writer)?;
+    }
+    Ok(())
 }

@@ -1,5 +1,5 @@
 ghost use Rattle.std.specs.Prelude.{◌≡◌, ◌↔◌, ◌<◌, ◌^◌, IsTrue, None, OnOk, Some};
-ghost use Rattle.gs_timeline.specs.Lanes.{lane_then, left, seat, vacant};
+ghost use Rattle.gs_timeline.specs.Lanes.{gone, lane_then, left, seat, seated, vacant};
 
 use crate::stay::Stay;
 use gs_journal::{Entry, thread_then};
@@ -60,6 +60,30 @@ impl Lane {
                 to: place,
             })?;
         }
+        Ok(())
+    }
+
+    /// Takes a thread off the CPU by the entry of this place, if it is there. After an error its stay may be missing.
+    #[inline(always)]
+    pub(crate) fn leave(&mut self, cpu: u16, tid: u32, place: usize) -> Result<(), AllocError>
+        ensures { OnOk result (self.new ≡ gone cpu tid place self.old) }
+    {
+        if self.has(tid) {
+            return self.end(cpu, place);
+        }
+        Ok(())
+    }
+
+    /// Places a thread on the CPU by the entry of this place, if it is not there. After an error a stay may be missing.
+    #[inline(always)]
+    pub(crate) fn place(&mut self, cpu: u16, tid: u32, place: usize) -> Result<(), AllocError>
+        ensures { OnOk result (self.new ≡ seated cpu place (Some tid) self.old) }
+    {
+        if self.has(tid) {
+            return Ok(());
+        }
+        self.end(cpu, place)?;
+        self.there = Some((tid, place));
         Ok(())
     }
 

@@ -1,4 +1,5 @@
-ghost use Rattle.std.specs.Prelude.{◌≡◌};
+ghost use Rattle.std.specs.Prelude.{◌≡◌, ◌<◌, [], OnErr, OnOk};
+ghost use Rattle.gs_timeline.specs.Sent.{Grows, Sends};
 
 use crate::layout::{BAR, TOP, foot_of, row_of};
 use crate::part::Part;
@@ -8,8 +9,9 @@ use crate::spans::Hold;
 use crate::text::Text;
 use gs_journal::{Entry, Journal};
 use gs_layout::Message;
-use gs_text::Digits;
+use gs_text::{Digits, WriteFailed};
 use std::alloc::AllocError;
+use std::io::Write;
 
 /// The least width of an entry whose tick has a title.
 const TITLED: usize = 4;
@@ -81,33 +83,38 @@ fn write_torn(out: &mut Text, part: &Part<'_>, cpus: u16, place: usize) -> Resul
     out.push_str("torn down</text>\n")
 }
 
-/// Adds the tear-downs.
-fn write_tears(
+/// Adds the tear-downs, and writes what is long enough.
+fn write_tears<W: Write>(
     out: &mut Text,
+    writer: &mut W,
     part: &Part<'_>,
     cpus: u16,
     journal: &Journal,
-) -> Result<(), AllocError>
-    ensures { out.new.settled ≡ out.old.settled }
+) -> Result<(), WriteFailed>
+    ensures sent { OnOk result (Sends [] (W.contents writer.old) (W.contents writer.new) out.old.settled out.new.settled) }
+    ensures stuck { OnErr result (Grows (W.contents writer.old) (W.contents writer.new)) }
 {
     for place in 0..journal.len() {
-        if matches!(journal.entry(place), Entry::Torn) && part.has(place) {
-            write_torn(out, part, cpus, place)?;
+        if !matches!(journal.entry(place), Entry::Torn) || !part.has(place) {
+            continue;
         }
+        write_torn(out, part, cpus, place)?;
+        out.spill(writer)?;
     }
     Ok(())
 }
 
-/// Adds ticks and a tear-down.
-pub(crate) fn write_marks(
+/// Adds the ticks, and writes what is long enough. Returns whether there is a tear-down.
+fn write_ticks<W: Write>(
     out: &mut Text,
+    writer: &mut W,
     part: &Part<'_>,
     cpus: u16,
     journal: &Journal,
-) -> Result<(), AllocError>
-    ensures { out.new.settled ≡ out.old.settled }
+) -> Result<bool, WriteFailed>
+    ensures sent { OnOk result (Sends [] (W.contents writer.old) (W.contents writer.new) out.old.settled out.new.settled) }
+    ensures stuck { OnErr result (Grows (W.contents writer.old) (W.contents writer.new)) }
 {
-    out.push_str("<g class=\"tick\">\n")?;
     let mut y = Digits::new(0);
     let mut torn = false;
     for place in 0..journal.len() {
@@ -116,12 +123,29 @@ pub(crate) fn write_marks(
                 message: Message::TimerTick { cpu },
             } if cpu < cpus && part.has(place) => write_tick(out, &mut y, part, place, cpu)?,
             Entry::Torn => torn = true,
-            _ => {}
+            _ => continue,
         }
+        out.spill(writer)?;
     }
+    Ok(torn)
+}
+
+/// Adds ticks and tear-downs, and writes what is long enough.
+pub(crate) fn write_marks<W: Write>(
+    out: &mut Text,
+    writer: &mut W,
+    part: &Part<'_>,
+    cpus: u16,
+    journal: &Journal,
+) -> Result<(), WriteFailed>
+    ensures sent { OnOk result (Sends [] (W.contents writer.old) (W.contents writer.new) out.old.settled out.new.settled) }
+    ensures stuck { OnErr result (Grows (W.contents writer.old) (W.contents writer.new)) }
+{
+    out.push_str("<g class=\"tick\">\n")?;
+    let torn = write_ticks(out, writer, part, cpus, journal)?;
     out.push_str("</g>\n")?;
     if torn {
-        write_tears(out, part, cpus, journal)?;
+        return write_tears(out, writer, part, cpus, journal);
     }
     Ok(())
 }
@@ -157,33 +181,70 @@ fn write_names(out: &mut Text, y: u64) -> Result<(), AllocError>
     out.push_str("line</text>\n")
 }
 
-/// Adds the axis. Each entry of a round place has a line where it begins, through all that is drawn, down to `end`. The
-/// place and the line of the script stand above the rows and below them. If there are fewer entries than a step of the
-/// axis, the first has these too.
-pub(crate) fn write_axis(
+/// The axis of a part: how many entries are between two of its lines, where its numbers stand above the rows and below
+/// them, and where its lines end.
+#[derive(Clone, Copy)]
+struct Axis {
+    step: usize,
+    above: u64,
+    below: u64,
+    end: u64,
+    ghost stepped: { 0 < step },
+}
+
+impl Axis {
+    /// Returns whether an entry has a line: one of a round place, or the first of fewer than a step.
+    fn has(&self, part: &Part<'_>, place: usize) -> bool {
+        place % self.step == 0 || (part.count() < self.step && place == part.first())
+    }
+
+    /// Adds what its numbers are, above the rows and below them.
+    fn write_names(&self, out: &mut Text) -> Result<(), AllocError>
+        ensures { out.new.settled ≡ out.old.settled }
+    {
+        write_names(out, self.above)?;
+        write_names(out, self.below)
+    }
+
+    /// Adds the line of an entry, with its numbers.
+    fn write_line(&self, out: &mut Text, part: &Part<'_>, place: usize) -> Result<(), AllocError>
+        ensures { out.new.settled ≡ out.old.settled }
+    {
+        let x = part.x(place);
+        begin_path(out, "grid", x, self.above.saturating_add(LOWER + 3))?;
+        out.push_number("V", self.end)?;
+        out.push_str("\"/>\n")?;
+        write_numbers(out, part, x, self.above, place)?;
+        write_numbers(out, part, x, self.below, place)
+    }
+}
+
+/// Adds the axis, and writes what is long enough. Each entry of a round place has a line where it begins, through all that
+/// is drawn, down to `end`. The place and the line of the script stand above the rows and below them. If there are fewer
+/// entries than a step of the axis, the first has these too.
+pub(crate) fn write_axis<W: Write>(
     out: &mut Text,
+    writer: &mut W,
     part: &Part<'_>,
     cpus: u16,
     end: u64,
-) -> Result<(), AllocError>
-    ensures { out.new.settled ≡ out.old.settled }
+) -> Result<(), WriteFailed>
+    ensures sent { OnOk result (Sends [] (W.contents writer.old) (W.contents writer.new) out.old.settled out.new.settled) }
+    ensures stuck { OnErr result (Grows (W.contents writer.old) (W.contents writer.new)) }
 {
-    let step = part.step();
-    let above = TOP.saturating_sub(34);
-    let below = foot_of(cpus).saturating_sub(AXIS - 10);
-    write_names(out, above)?;
-    write_names(out, below)?;
-    let first = part.first();
-    let few = part.count() < step;
-    for place in first..part.behind() {
-        if place % step == 0 || (few && place == first) {
-            let x = part.x(place);
-            begin_path(out, "grid", x, above.saturating_add(LOWER + 3))?;
-            out.push_number("V", end)?;
-            out.push_str("\"/>\n")?;
-            write_numbers(out, part, x, above, place)?;
-            write_numbers(out, part, x, below, place)?;
+    let axis = Axis {
+        step: part.step(),
+        above: TOP.saturating_sub(34),
+        below: foot_of(cpus).saturating_sub(AXIS - 10),
+        end,
+    };
+    axis.write_names(out)?;
+    for place in part.first()..part.behind() {
+        if !axis.has(part, place) {
+            continue;
         }
+        axis.write_line(out, part, place)?;
+        out.spill(writer)?;
     }
     Ok(())
 }

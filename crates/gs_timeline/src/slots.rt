@@ -1,54 +1,25 @@
-//! The slots of the CPUs: what happened to each, and when something was stamped in it.
+//! The slots of the CPUs: when something was stamped in each.
 
-ghost use Rattle.std.specs.Prelude.{◌≡◌};
+ghost use Rattle.std.specs.Prelude.{◌≡◌, [], OnErr, OnOk};
+ghost use Rattle.gs_timeline.specs.Sent.{Grows, Sends};
 
+use crate::gathered::Drawn;
 use crate::layout::decided_of;
 use crate::notes::{Mark, What};
 use crate::part::Part;
+use crate::spans::{News, Turn};
 use crate::text::Text;
-use gs_journal::{Entry, Journal};
+use gs_text::WriteFailed;
 use std::alloc::{AllocError, Global};
-
-/// The marks of a CPU, in order.
-#[derive(Drop)]
-pub(crate) struct SlotMarks {
-    marks: Vec<Mark>,
-}
-
-impl SlotMarks {
-    /// Lends the marks.
-    pub(crate) fn as_slice(&self) -> &[Mark] {
-        self.marks.as_slice()
-    }
-}
-
-/// Returns the marks of each of so many CPUs. It walks the marks once.
-pub(crate) fn marks_by_cpu(
-    alloc: Global,
-    marks: &[Mark],
-    cpus: u16,
-) -> Result<Vec<SlotMarks>, AllocError> {
-    let mut all = Vec::with_capacity(alloc, cpus as usize)?;
-    for _ in 0..cpus {
-        all.push(SlotMarks {
-            marks: Vec::new(alloc),
-        })?;
-    }
-    for mark in marks {
-        if let Some(slot) = all.get_mut(mark.cpu as usize) {
-            slot.marks.push(*mark)?;
-        }
-    }
-    Ok(all)
-}
+use std::io::Write;
 
 /// Returns the places of the entries from which on all slots are idle, or land no more: those by which an agent began to
 /// attach, and a tear-down.
-pub(crate) fn clearings(alloc: Global, journal: &Journal) -> Result<Vec<usize>, AllocError> {
+pub(crate) fn clearings(alloc: Global, turns: &[Turn]) -> Result<Vec<usize>, AllocError> {
     let mut places = Vec::new(alloc);
-    for place in 0..journal.len() {
-        if matches!(journal.entry(place), Entry::Begin { .. } | Entry::Torn) {
-            places.push(place)?;
+    for turn in turns {
+        if matches!(turn.news, News::Begin { .. } | News::Torn) {
+            places.push(turn.place)?;
         }
     }
     Ok(places)
@@ -81,43 +52,105 @@ fn write_length(
     out.push_number("h", width)
 }
 
-/// Adds a line for each time that something is stamped in the slot of a CPU: from its stamp to its landing, or to where
-/// the slot was cleared. So many entries are the journal's.
-pub(crate) fn write_stamped(
-    out: &mut Text,
-    part: &Part<'_>,
-    cpu: u16,
-    marks: &[Mark],
-    clearings: &[usize],
-    entries: usize,
-) -> Result<(), AllocError>
-    ensures { out.new.settled ≡ out.old.settled }
-{
-    if marks.is_empty() {
-        return Ok(());
-    }
-    let y = decided_of(cpu);
-    let mut since: Option<usize> = None;
-    out.push_str("<path class=\"slot\" d=\"")?;
-    for mark in marks {
-        match mark.what {
-            What::Stamped { .. } => {
-                if let Some(from) = since {
-                    write_length(out, part, y, from, cleared_by(clearings, from, entries))?;
-                }
-                since = Some(mark.entries);
+/// The slot of a CPU, as its marks are walked: where its line is, and before which entry something was stamped in it, if
+/// that did not land yet.
+#[derive(Clone, Copy)]
+struct Slot {
+    y: u64,
+    since: Option<usize>,
+}
+
+impl Slot {
+    /// Adds the length of what is stamped in it, if something is, up to where it is cleared. So many entries are the
+    /// journal's.
+    fn clear(
+        &mut self,
+        out: &mut Text,
+        part: &Part<'_>,
+        clearings: &[usize],
+        entries: usize,
+    ) -> Result<(), AllocError>
+        ensures { out.new.settled ≡ out.old.settled }
+    {
+        match self.since.take() {
+            Some(from) => {
+                let to = cleared_by(clearings, from, entries);
+                write_length(out, part, self.y, from, to)
             }
-            What::Landed { .. } => {
-                if let Some(from) = since {
-                    write_length(out, part, y, from, mark.entries)?;
-                }
-                since = None;
-            }
-            What::Late { .. } => {}
+            None => Ok(()),
         }
     }
-    if let Some(from) = since {
-        write_length(out, part, y, from, cleared_by(clearings, from, entries))?;
+
+    /// Changes as a mark of the CPU says, and adds the length of what that ends.
+    fn hear(
+        &mut self,
+        out: &mut Text,
+        part: &Part<'_>,
+        mark: &Mark,
+        clearings: &[usize],
+        entries: usize,
+    ) -> Result<(), AllocError>
+        ensures { out.new.settled ≡ out.old.settled }
+    {
+        match mark.what {
+            What::Stamped { .. } => {
+                self.clear(out, part, clearings, entries)?;
+                self.since = Some(mark.entries);
+                Ok(())
+            }
+            What::Landed { .. } => match self.since.take() {
+                Some(from) => write_length(out, part, self.y, from, mark.entries),
+                None => Ok(()),
+            },
+            What::Late { .. } => Ok(()),
+        }
     }
-    out.push_str("\"/>\n")
+}
+
+/// Adds the data of the line of a CPU's slot, and writes what is long enough.
+fn write_lengths<W: Write>(
+    out: &mut Text,
+    writer: &mut W,
+    drawn: &Drawn<'_>,
+    cpu: u16,
+) -> Result<(), WriteFailed>
+    ensures sent { OnOk result (Sends [] (W.contents writer.old) (W.contents writer.new) out.old.settled out.new.settled) }
+    ensures stuck { OnErr result (Grows (W.contents writer.old) (W.contents writer.new)) }
+{
+    let part = drawn.part;
+    let clearings = drawn.all.clearings.as_slice();
+    let entries = drawn.journal.len();
+    let mut slot = Slot {
+        y: decided_of(cpu),
+        since: None,
+    };
+    for place in drawn.all.slots.list(cpu as usize) {
+        let Some(mark) = drawn.notes.marks.get(*place) else {
+            continue;
+        };
+        slot.hear(out, part, mark, clearings, entries)?;
+        out.spill(writer)?;
+    }
+    slot.clear(out, part, clearings, entries)?;
+    Ok(())
+}
+
+/// Adds a line for each time that something is stamped in the slot of a CPU: from its stamp to its landing, or to where
+/// the slot was cleared. It writes what is long enough.
+pub(crate) fn write_stamped<W: Write>(
+    out: &mut Text,
+    writer: &mut W,
+    drawn: &Drawn<'_>,
+    cpu: u16,
+) -> Result<(), WriteFailed>
+    ensures sent { OnOk result (Sends [] (W.contents writer.old) (W.contents writer.new) out.old.settled out.new.settled) }
+    ensures stuck { OnErr result (Grows (W.contents writer.old) (W.contents writer.new)) }
+{
+    if drawn.all.slots.list(cpu as usize).is_empty() {
+        return Ok(());
+    }
+    out.push_str("<path class=\"slot\" d=\"")?;
+    write_lengths(out, writer, drawn, cpu)?;
+    out.push_str("\"/>\n")?;
+    Ok(())
 }

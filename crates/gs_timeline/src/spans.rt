@@ -1,3 +1,5 @@
+//! Who was active and who held a CPU, from when to when.
+
 use gs_journal::{Entry, Journal};
 use std::alloc::{AllocError, Global};
 
@@ -19,30 +21,72 @@ pub(crate) struct Hold {
     pub to: usize,
 }
 
-/// Returns the agents, in order.
-pub(crate) fn reigns(alloc: Global, journal: &Journal) -> Result<Vec<Reign>, AllocError> {
-    let mut reigns = Vec::new(alloc);
-    let mut now: Option<Reign> = None;
+/// What an entry tells of agents, or a tear-down.
+#[derive(Clone, Copy)]
+pub(crate) enum News {
+    /// An agent of this generation became active on the CPU.
+    Role { generation: u32, cpu: u16 },
+    /// An agent of this generation began to attach.
+    Begin { generation: u32 },
+    /// The agent crashed or left.
+    Left,
+    /// The enclave was torn down.
+    Torn,
+}
+
+/// Such news, and the place of its entry.
+#[derive(Clone, Copy)]
+pub(crate) struct Turn {
+    pub place: usize,
+    pub news: News,
+}
+
+/// Returns what the entries tell of agents, and the tear-down, in order. It walks the entries once.
+pub(crate) fn turns(alloc: Global, journal: &Journal) -> Result<Vec<Turn>, AllocError> {
+    let mut turns = Vec::new(alloc);
     for place in 0..journal.len() {
-        let next = match journal.entry(place) {
-            Entry::Role { generation, cpu } => Some((generation, Some(cpu))),
-            Entry::Begin { generation } => Some((generation, None)),
-            Entry::Left | Entry::Torn => None,
+        let news = match journal.entry(place) {
+            Entry::Role { generation, cpu } => News::Role { generation, cpu },
+            Entry::Begin { generation } => News::Begin { generation },
+            Entry::Left => News::Left,
+            Entry::Torn => News::Torn,
             _ => continue,
         };
+        turns.push(Turn { place, news })?;
+    }
+    Ok(turns)
+}
+
+/// Returns the agents, in order. The last one ends behind so many entries, if nothing else ended it.
+pub(crate) fn reigns(
+    alloc: Global,
+    turns: &[Turn],
+    entries: usize,
+) -> Result<Vec<Reign>, AllocError> {
+    let mut reigns = Vec::new(alloc);
+    let mut now: Option<Reign> = None;
+    for turn in turns {
         if let Some(reign) = now {
-            reigns.push(Reign { to: place, ..reign })?;
+            reigns.push(Reign {
+                to: turn.place,
+                ..reign
+            })?;
         }
+        let next = match turn.news {
+            News::Role { generation, cpu } => Some((generation, Some(cpu))),
+            News::Begin { generation } => Some((generation, None)),
+            News::Left | News::Torn => None,
+        };
         now = next.map(|(generation, cpu)| Reign {
             generation,
             cpu,
-            from: place,
-            to: place,
+            from: turn.place,
+            to: turn.place,
         });
     }
     if let Some(reign) = now {
         reigns.push(Reign {
-            to: journal.len(),
+            to: entries,
             ..reign
         })?;
     }

@@ -1,8 +1,11 @@
-ghost use Rattle.std.specs.Prelude.{◌≡◌};
+ghost use Rattle.std.specs.Prelude.{◌≡◌, [], OnErr, OnOk};
+ghost use Rattle.gs_timeline.specs.Sent.{Grows, Sends};
 
 use crate::part::Part;
 use crate::text::Text;
+use gs_text::WriteFailed;
 use std::alloc::{AllocError, Global};
+use std::io::Write;
 
 /// A length on the axis.
 #[derive(Clone, Copy)]
@@ -71,13 +74,15 @@ impl Strip {
         self.entries
     }
 
-    /// Adds the data of a path that draws the times.
-    pub(crate) fn write(&self, out: &mut Text) -> Result<(), AllocError>
-        ensures { out.new.settled ≡ out.old.settled }
+    /// Adds the data of a path that draws the times, and writes what is long enough.
+    pub(crate) fn write<W: Write>(&self, out: &mut Text, writer: &mut W) -> Result<(), WriteFailed>
+        ensures sent { OnOk result (Sends [] (W.contents writer.old) (W.contents writer.new) out.old.settled out.new.settled) }
+        ensures stuck { OnErr result (Grows (W.contents writer.old) (W.contents writer.new)) }
     {
         for length in &self.lengths {
             let long = length.to.saturating_sub(length.from);
             out.push_two("M", length.from, " 0h", long)?;
+            out.spill(writer)?;
         }
         Ok(())
     }

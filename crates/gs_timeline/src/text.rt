@@ -1,10 +1,19 @@
 //! The text of a picture or of a trace: what is settled of it, and what was told behind that.
 
-ghost use Rattle.std.specs.Prelude.{◌≡◌, ◌++◌, [], decimal, OnOk};
+ghost use Rattle.std.specs.Prelude.{◌≡◌, ◌++◌, [], decimal, ℕ, List, IfOk, OnErr, OnOk};
+ghost use Rattle.std.specs.Io.KnownBytes.{Appends};
+ghost use Rattle.gs_timeline.specs.Sent.{Grows, Sends};
 
-use gs_text::{Digits, Sheet};
+use gs_text::{Digits, Sheet, WriteFailed, write_out};
 use std::alloc::{AllocError, Global};
+use std::io::Write;
 use std::marker::Model;
+
+/// A text that is written as it grows is written whenever it has so many bytes.
+const BLOCK_LEN: usize = 65_536;
+
+/// So many bytes may be told between two looks at whether it has as many: more than any part of a picture or a trace has.
+const MOST_BEHIND: usize = 32_768;
 
 /// A text that grows at its end, and of which a beginning is settled. What adds to it fails only if out of memory, and
 /// changes nothing of what is settled.
@@ -35,6 +44,20 @@ impl Text {
             sheet: Sheet::new(alloc),
             settled: 0,
         }
+    }
+
+    /// Makes an empty text with room for all that it has before it is written.
+    ///
+    /// # Errors
+    ///
+    /// `AllocError` if out of memory.
+    pub fn with_room(alloc: Global) -> Result<Text, AllocError>
+        ensures { IfOk result (λ text. text ≡ record { settled = []; told = [] }) }
+    {
+        Ok(Text {
+            sheet: Sheet::with_room(alloc, BLOCK_LEN + MOST_BEHIND)?,
+            settled: 0,
+        })
     }
 
     /// Tells words.
@@ -136,11 +159,36 @@ impl Text {
         self.settled = 0;
     }
 
-    /// Returns the whole text: what is settled, and what was told behind that.
-    pub fn into_sheet(self) -> Sheet
-        ensures { result ≡ self.settled ++ self.told }
+    /// Writes all that the text has, and takes it away.
+    ///
+    /// # Errors
+    ///
+    /// `WriteFailed` if a write fails or takes no byte: a beginning was written, short of the whole.
+    #[inline(never)]
+    #[tactic(auto, using(crate::proofs::Sent::begins))]
+    pub fn send<W: Write>(&mut self, writer: &mut W) -> Result<(), WriteFailed>
+        ensures empty { OnOk result (self.new ≡ record { settled = []; told = [] }) }
+        ensures sent { OnOk result (Appends (W.contents writer.old) (W.contents writer.new) (self.old.settled ++ self.old.told)) }
+        ensures stuck { OnErr result (Grows (W.contents writer.old) (W.contents writer.new)) }
     {
-        let Text { sheet, .. } = self;
-        sheet
+        write_out(writer, self.sheet.as_bytes())?;
+        self.clear();
+        Ok(())
+    }
+
+    /// Writes all that the text has, and takes it away, once it has so many bytes that this is worth a write.
+    ///
+    /// # Errors
+    ///
+    /// As of [`Text::send`].
+    #[inline(always)]
+    pub fn spill<W: Write>(&mut self, writer: &mut W) -> Result<(), WriteFailed>
+        ensures sent { OnOk result (Sends [] (W.contents writer.old) (W.contents writer.new) self.old.settled self.new.settled) }
+        ensures stuck { OnErr result (Grows (W.contents writer.old) (W.contents writer.new)) }
+    {
+        if self.sheet.len() < BLOCK_LEN {
+            return Ok(());
+        }
+        self.send(writer)
     }
 }

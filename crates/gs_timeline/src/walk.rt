@@ -1,4 +1,4 @@
-ghost use Rattle.std.specs.Prelude.{◌≡◌, ◌+◌, ◌<◌, ◌≤◌, ℕ, None, Some, false, IfOk, OnOk, get_or, length, replicate, slice_get};
+ghost use Rattle.std.specs.Prelude.{◌≡◌, ◌+◌, ◌<◌, ◌≤◌, ℕ, Some, false, true, IfOk, OnOk, get_or, length, replicate, slice_get};
 ghost use Rattle.std.specs.Option.{option_map};
 ghost use Rattle.gs_timeline.specs.Homes.{AreHome};
 ghost use Rattle.gs_timeline.specs.Lanes.{LaneOf, each_then, empties, lane_then, left, placing, subject, vacant};
@@ -72,67 +72,53 @@ fn subject(entry: &Entry) -> Option<u32>
     }
 }
 
-/// Changes the CPUs as an entry says that takes a thread off its CPU, or all. It looks only at that CPU, if it is known.
-fn hear_leaving(
-    lanes: &mut [Lane],
-    homes: &Homes,
-    place: usize,
-    entry: &Entry,
-) -> Result<(), AllocError>
+/// Changes all CPUs as the entry of a place says.
+fn hear_everywhere(lanes: &mut [Lane], journal: &Journal, place: usize) -> Result<(), AllocError>
+    requires within { place < length journal.now.entries }
     requires few { length lanes.old ≤ u16.MAX }
-    requires home { homes.now.lost ≡ false → AreHome homes.now.cpus.items 0 lanes.old }
-    ensures { OnOk result (lanes.new ≡ each_then (lane_then place entry.now) 0 lanes.old) }
+    ensures { OnOk result (lanes.new ≡ each_then (lane_then place (get_or journal.now.entries place Entry.Torn)) 0 lanes.old) }
 {
-    let Some(tid) = subject(entry) else {
-        return hear_each(lanes, 0, place, entry);
-    };
-    if homes.is_lost() {
-        return hear_each(lanes, 0, place, entry);
-    }
+    hear_each(lanes, 0, place, &journal.entry(place))
+}
+
+/// Takes a thread off its CPU, as the entry of a place does. It looks only at that CPU, if it is known.
+#[inline(always)]
+fn leave(lanes: &mut [Lane], homes: &Homes, tid: u32, place: usize) -> Result<(), AllocError>
+    requires few { length lanes.old ≤ u16.MAX }
+    requires home { AreHome homes.now.cpus.items 0 lanes.old }
+    ensures { OnOk result ((x : Entry) → empties x ≡ true → subject x ≡ Some tid → lanes.new ≡ each_then (lane_then place x) 0 lanes.old) }
+{
     let Some(cpu) = homes.cpu(tid) else {
         return Ok(());
     };
     if cpu as usize >= lanes.len() {
         return Ok(());
     }
-    lanes[cpu as usize].hear(cpu, place, entry)
+    lanes[cpu as usize].leave(cpu, tid, place)
 }
 
-/// Changes the CPUs as an entry says. It looks only at those that the entry may change.
-fn hear(
+/// Places a thread on a CPU, as the entry of a place does. It looks only at that CPU, and at the one where the thread may be.
+#[inline(always)]
+fn seat(
     lanes: &mut [Lane],
     homes: &mut Homes,
+    tid: u32,
+    cpu: u16,
     place: usize,
-    entry: &Entry,
 ) -> Result<(), AllocError>
     requires few { length lanes.old ≤ u16.MAX }
     requires home { homes.old.lost ≡ false → AreHome homes.old.cpus.items 0 lanes.old }
-    ensures lanes { OnOk result (lanes.new ≡ each_then (lane_then place entry.now) 0 lanes.old) }
-    ensures home { OnOk result (homes.new.lost ≡ false → AreHome homes.new.cpus.items 0 lanes.new) }
+    ensures lanes { OnOk result ((x : Entry) → empties x ≡ false → placing x ≡ Some (tid, cpu) → lanes.new ≡ each_then (lane_then place x) 0 lanes.old) }
+    ensures home { OnOk result ((x : Entry) → empties x ≡ false → placing x ≡ Some (tid, cpu) → homes.new.lost ≡ false → AreHome homes.new.cpus.items 0 lanes.new) }
 {
-    if empties_a_seat(entry) {
-        return hear_leaving(lanes, homes, place, entry);
-    }
-    let Some((tid, cpu)) = placing(entry) else {
-        return Ok(());
-    };
     if cpu as usize >= lanes.len() {
         return Ok(());
     }
     homes.place(lanes, tid, cpu)?;
-    lanes[cpu as usize].hear(cpu, place, entry)
+    lanes[cpu as usize].place(cpu, tid, place)
 }
 
-/// Returns whether an entry takes a thread off its CPU, or all, or places one.
-#[inline(always)]
-fn moves_somebody(entry: &Entry) -> bool
-    ensures stays { result ≡ false → empties entry.now ≡ false }
-    ensures none { result ≡ false → placing entry.now ≡ None }
-{
-    empties_a_seat(entry) || placing(entry).is_some()
-}
-
-/// Changes the CPUs as the entry of a place says. Most entries change none: to see that takes less than to unpack one.
+/// Changes the CPUs as the entry of a place says. It looks only at those that the entry may change.
 #[inline(always)]
 fn hear_at(
     lanes: &mut [Lane],
@@ -146,10 +132,20 @@ fn hear_at(
     ensures lanes { OnOk result (lanes.new ≡ each_then (lane_then place (get_or journal.now.entries place Entry.Torn)) 0 lanes.old) }
     ensures home { OnOk result (homes.new.lost ≡ false → AreHome homes.new.cpus.items 0 lanes.new) }
 {
-    if !moves_somebody(&journal.entry(place)) {
-        return Ok(());
+    let entry = journal.entry(place);
+    if empties_a_seat(&entry) {
+        let Some(tid) = subject(&entry) else {
+            return hear_everywhere(lanes, journal, place);
+        };
+        if homes.is_lost() {
+            return hear_everywhere(lanes, journal, place);
+        }
+        return leave(lanes, homes, tid, place);
     }
-    hear(lanes, homes, place, &journal.entry(place))
+    let Some((tid, cpu)) = placing(&entry) else {
+        return Ok(());
+    };
+    seat(lanes, homes, tid, cpu, place)
 }
 
 /// Makes the lanes of so many CPUs on which nobody was yet.

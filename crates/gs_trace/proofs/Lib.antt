@@ -1,4 +1,3 @@
-mod Known
 mod Lists
 mod One
 mod Adding
@@ -6,3 +5,4 @@ mod WorkedRuns
 mod Corners
 pub mod NotedParts
 mod Telling
+mod Writing

@@ -11,10 +11,11 @@ mod run;
 mod running;
 mod watching;
 
-pub use answering::{Answering, answer_script};
+pub use answering::{Answering, Unanswered, answer_script};
 pub use form::{Form, Notation};
+pub use gs_text::{WriteFailed, write_out};
 pub use gs_timeline::Listed;
 pub use law::one_output;
 pub use noted::Lines;
-pub use pipe::{InputError, MOST_READ_BYTES, WriteFailed, read_all, write_out};
+pub use pipe::{InputError, MOST_READ_BYTES, read_all};
 pub use run::{Ended, Kept, TraceFault, fault_text, run_and_keep, run_as, run_report, run_script};

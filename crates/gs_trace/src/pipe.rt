@@ -1,10 +1,9 @@
-ghost use Rattle.std.specs.Prelude.{◌≡◌, ℕ, ◌<◌, length, take, IfOk, OnOk, OnErr};
-ghost use Rattle.std.specs.Io.KnownBytes.{Appends};
+ghost use Rattle.std.specs.Prelude.{IfOk};
 ghost use Rattle.gs_trace.specs.Streams.{ConsumesAtMost, IsRead};
 
 use gs_script::MOST_BYTES;
 use std::alloc::Global;
-use std::io::{Read, Write};
+use std::io::Read;
 
 /// How many bytes a read asks for at most.
 const BUFFER_BYTES: usize = 4096;
@@ -23,10 +22,6 @@ pub enum InputError {
     /// Out of memory.
     OutOfMemory,
 }
-
-/// A writer took no more: a write failed, or took no byte.
-#[derive(Clone, Copy, PartialEq, Eq, Debug)]
-pub struct WriteFailed;
 
 /// Reads all bytes that a reader has, or more than a script may have, but then at most [`MOST_READ_BYTES`].
 ///
@@ -56,23 +51,4 @@ pub fn read_all<R: Read>(alloc: Global, reader: &mut R) -> Result<Vec<u8>, Input
         }
     }
     Ok(bytes)
-}
-
-/// Writes the bytes.
-///
-/// # Errors
-///
-/// `WriteFailed` if a write fails or takes no byte: a beginning of the bytes was written, short of the whole.
-pub fn write_out<W: Write>(writer: &mut W, bytes: &[u8]) -> Result<(), WriteFailed>
-    ensures ok { OnOk result (Appends (W.contents writer.old) (W.contents writer.new) bytes.now) }
-    ensures err { OnErr result ((n : ℕ) × (n < length bytes.now) × Appends (W.contents writer.old) (W.contents writer.new) (take n bytes.now)) }
-{
-    let mut written = 0;
-    while written < bytes.len() {
-        match writer.write(&bytes[written..]) {
-            Ok(count) if count > 0 => written += count,
-            _ => return Err(WriteFailed),
-        }
-    }
-    Ok(())
 }

@@ -1,13 +1,12 @@
-ghost use Rattle.std.specs.Prelude.{◌≡◌, ◌≢◌, IfOk, IfErr, IsErrOf, string_bytes};
+ghost use Rattle.std.specs.Prelude.{◌≡◌, ◌≢◌, IfOk, IfErr, IsErrOf, OnOk, string_bytes};
 ghost use Rattle.std.specs.Io.KnownBytes.{Keeps};
 ghost use Rattle.gs_trace.specs.declared.run.Ended.TheVariants.{Ran};
 ghost use Rattle.gs_trace.specs.declared.run.TraceFault.TheVariants.{OutOfMemory};
 ghost use Rattle.gs_trace.specs.Output.{Answers, IsOutput, IsReport, IsShown, fault_line, reason_text, shown_as};
-ghost use Rattle.gs_script.specs.Held.{Faults};
 ghost use Rattle.gs_script.specs.Script.{script_of};
-ghost use Rattle.gs_trace.specs.Streams.{AnswersAll, AnswersOf, AnswersRead, BeginsAnswer, ConsumesAtMost};
+ghost use Rattle.gs_trace.specs.Streams.{AnswersAll, AnswersOf, AnswersRead, BeginsAnswer, ConsumesAtMost, Leaves, Writes};
 
-use crate::answering::{Answering, answer_script};
+use crate::answering::{Answering, Unanswered, answer_script};
 use crate::form::{Form, show};
 use crate::pipe::MOST_READ_BYTES;
 use gs_core::Machine;
@@ -34,7 +33,8 @@ pub enum TraceFault {
     /// Out of memory, at an event too. Nothing was written.
     #[error("out of memory")]
     OutOfMemory,
-    /// A write failed, or took no byte. A beginning of the output was written, short of the whole.
+    /// A write failed, or took no byte. So counts a picture or a trace that needs more memory while it is drawn than was made
+    /// room for. A beginning of the output was written, short of the whole.
     #[error("the output could not be written")]
     WriteFailed,
 }
@@ -80,15 +80,16 @@ pub fn fault_text(alloc: Global, fault: ScriptFault) -> Result<String, AllocErro
     Ok(text)
 }
 
-/// Runs the script that an input says, and returns what came of it in this form. It fails with the script's first
-/// fault, or out of memory.
-fn run_input<P: NamedPolicy>(
+/// Runs the script that an input says, and writes what came of it in this form. It fails with the script's first
+/// fault, or out of memory, and nothing was written then, or if a write fails.
+fn run_input<P: NamedPolicy, W: Write>(
     alloc: Global,
     input: &[u8],
     form: Form,
-) -> Result<Vec<u8>, ScriptError>
-    ensures shown { IfOk result (λ bytes. IsShown P.naming P.chosen (shown_as form) input.now Ran bytes.items) }
-    ensures fault { IfErr result (λ e. Faults e (script_of P.naming input.now)) }
+    writer: &mut W,
+) -> Result<(), Unanswered>
+    ensures shown { OnOk result (Writes (IsShown P.naming P.chosen (shown_as form) input.now Ran) (W.contents writer.old) (W.contents writer.new)) }
+    ensures left { IfErr result (Leaves (script_of P.naming input.now) (IsShown P.naming P.chosen (shown_as form) input.now Ran) (W.contents writer.old) (W.contents writer.new)) }
 {
     let Opened {
         config,
@@ -97,17 +98,22 @@ fn run_input<P: NamedPolicy>(
     } = open_script::<P>(alloc, input)?;
     // (a configuration that was read can be opened, unless out of memory)
     let Ok(mut machine) = Machine::new(alloc, config) else {
-        return Err(ScriptError::OutOfMemory);
+        return Err(Unanswered::Script(ScriptError::OutOfMemory));
     };
-    show(alloc, form, &mut machine, header, reading)
+    show(alloc, form, &mut machine, header, reading, writer)
 }
 
 /// What came of a script, shown in a form.
 impl<P: NamedPolicy> Answering<P> for Form {
     ghost shows = { λ form input. Answers P.chosen (shown_as form) };
 
-    fn answer(&self, alloc: Global, input: &[u8]) -> Result<Vec<u8>, ScriptError> {
-        run_input::<P>(alloc, input, *self)
+    fn answer<W: Write>(
+        &self,
+        alloc: Global,
+        input: &[u8],
+        writer: &mut W,
+    ) -> Result<(), Unanswered> {
+        run_input::<P, W>(alloc, input, *self, writer)
     }
 }
 

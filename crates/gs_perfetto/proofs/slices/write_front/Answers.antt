@@ -1,4 +1,4 @@
-use Rattle.std.proofs.Common.{◌≡◌, ◌-◌, ap, ◌∙◌, ◌++◌, ℕ, List, codes, decimal}
+use Rattle.std.proofs.Common.{◌≡◌, ap, ◌∙◌, ◌++◌, ℕ, List, codes, decimal}
 use Rattle.gs_timeline.proofs.Pieces.{adds_last}
 use Rattle.gs_perfetto.specs.Events.{cpu_track, slice_front}
 use Rattle.gs_perfetto.specs.declared.tracks.TheConstants.{CPU_SLICE}

@@ -1,4 +1,4 @@
-use Rattle.std.proofs.Common.{◌≡◌, ap, ◌∙◌, ◌++◌, ℕ, List, codes, decimal}
+use Rattle.std.proofs.Common.{ap, ◌∙◌, ◌++◌, ℕ, List, codes, decimal}
 use Rattle.gs_perfetto.specs.Events.{slice_back}
 use Rattle.gs_perfetto.proofs.Pieces.{back_told}
 use Rattle.gs_perfetto.proofs.slices.write_slice.Goals as goal

@@ -1,45 +1,42 @@
-use Rattle.std.proofs.Common.{◌≡◌, ◌<◌, ◌≤◌, ◌∙◌, Option, ap, subst, sym, false, true, get_or, map, nat_lt, slice_get, List, ℕ, arith}
-use Rattle.std.proofs.lemmas.Bool.Decides.{nat_tests}
-use Rattle.gs_layout.specs.declared.facts.Class.{Class}
-use Rattle.gs_timeline.specs.Bars.{bar_pieces, pieces_of, scale, width_in}
-use Rattle.gs_timeline.specs.Endings.{ending_of}
+use Rattle.std.proofs.Common.{subst, flat_map, get_or, map, take, List, ℕ}
+use Rattle.std.proofs.lemmas.List.{take_all}
+use Rattle.gs_timeline.specs.Bars.{pieces_of, scale}
 use Rattle.gs_timeline.specs.Lives.{born, class_among}
 use Rattle.gs_timeline.specs.Pieces.{Adds}
-use Rattle.gs_timeline.specs.declared.ending.Ending.{Ending}
+use Rattle.gs_timeline.specs.Sent.{Sends}
+use Rattle.gs_timeline.specs.declared.lives.Life.{Life}
+use Rattle.gs_timeline.specs.declared.gathered.Drawn.{Drawn}
 use Rattle.gs_timeline.specs.declared.stay.Stay.{Stay}
-use Rattle.gs_timeline.proofs.Pieces.{adds_if, adds_next, adds_unless}
-use Rattle.gs_timeline.proofs.drawing.write_stays.Goals.{then-width-gt0+in_ok-write+in_ok-write_stay, else-width-gt0+then-shown-gt0+in_ok-add, else-width-gt0+else-shown-gt0}
+use Rattle.gs_timeline.proofs.Sent.{grows_more, on_err, sends_grows, sends_next, sends_same}
 use Rattle.gs_timeline.proofs.drawing.write_stays.Goals as goal
 
 abbrev none : Stay
 none = record { cpu = 0; tid = 0; from = 0; to = 0 }
 
-wide : (n m : ℕ) → n ≡ m → 0 < n → nat_lt 0 m ≡ true
-wide n m e lt = grind (arith, nat_tests)
+abbrev drawn_of : Drawn → Stay → List (List ℕ)
+drawn_of d = pieces_of (scale d.part.now) (class_among (map born d.all.now.lives.items)) d.journal.now.entries
 
-narrow : (n m : ℕ) → n ≡ m → n ≤ 0 → nat_lt 0 m ≡ false
-narrow n m e le = grind (arith, nat_tests)
+abbrev first : Drawn → ℕ → List Stay → List (List ℕ)
+first d i xs = flat_map (drawn_of d) (take i xs)
+
+pub returns-in_err-write_next-clause-stuck : goal.returns-in_err-write_next-clause-stuck
+returns-in_err-write_next-clause-stuck g c = on_err _ (sends_grows (first c.args.drawn.now c.loop-stay.stay-index c.args.stays.now) _ _ _ _ c.loop-stay.invariant)
+
+pub returns-in_err-spill-clause-stuck : goal.returns-in_err-spill-clause-stuck
+returns-in_err-spill-clause-stuck g c = on_err _ (grows_more _ _ _ (sends_grows (first c.args.drawn.now c.loop-stay.stay-index c.args.stays.now) _ _ _ _ c.loop-stay.invariant) c.in_err-spill.ensures.stuck)
 
 pub loop-stay-preserved : goal.loop-stay-preserved
-loop-stay-preserved c =
-    let h = c.args.journal.now.entries in
-    let v = scale c.args.part.now in
-    let classes = class_among (map born c.args.lives.now) in
-    let f = pieces_of v classes h in
-    let i = c.loop-stay.stay-index in
+loop-stay-preserved g c =
+    let d = c.args.drawn.now in
+    let x : Stay = get_or c.args.stays.now c.loop-stay.stay-index none in
+    let one = subst (λ (ls : List Life). Adds (pieces_of (scale d.part.now) (class_among (map born ls)) d.journal.now.entries x) c.loop-stay.out.settled c.write_next.new.out.settled) c.as_slice-lives.ensures.value c.in_ok-write_next.ensures in
+    sends_next (drawn_of d) c.args.stays.now c.loop-stay.stay-index none _ _ _ _ _ _ _ c.loop-stay-test.true c.loop-stay.invariant one c.in_ok-spill.ensures.sent
+
+pub returns-in_err-write-clause-stuck : goal.returns-in_err-write-clause-stuck
+returns-in_err-write-clause-stuck g c = on_err _ (sends_grows (first c.args.drawn.now c.loop-stay.stay-index c.args.stays.now) _ _ _ _ c.loop-stay.invariant)
+
+pub returns-clause-sent : goal.returns-clause-sent
+returns-clause-sent g c =
     let xs : List Stay = c.args.stays.now in
-    let x : Stay = get_or xs i none in
-    let is_wide = nat_lt 0 (width_in v x) in
-    let drawn = bar_pieces v (classes x.tid) (ending_of (slice_get h x.to)) x in
-    let before = c.loop-stay.out.settled in
-    let after = c.if-width-gt0.out.settled in
-    adds_next f xs i none c.args.out.now.settled before after c.loop-stay-test.true c.loop-stay.invariant
-    (elim c.if-width-gt0.branch [
-      | then-width-gt0+in_ok-write+in_ok-write_stay w ↦
-          let told = subst (λ (k : Option Class). Adds (bar_pieces v k w.ending_at-ending.result x) w.write.new.out.settled w.write_stay.new.out.settled) w.life_of-life.ensures w.in_ok-write_stay.ensures in
-          let same = subst (λ (e : Ending). Adds (bar_pieces v (classes x.tid) e x) w.write.new.out.settled w.write_stay.new.out.settled) w.ending_at-ending.ensures told in
-          let from = subst (λ (t : List ℕ). Adds drawn t w.write_stay.new.out.settled) w.write.ensures same in
-          adds_if is_wide drawn before after (wide c.width.result (width_in v x) c.width.ensures w.if-width-gt0.true) (subst (λ (t : List ℕ). Adds drawn before t) (sym (ap (λ t. t.settled) w.out-is)) from)
-      | else-width-gt0+then-shown-gt0+in_ok-add w ↦ adds_unless is_wide drawn before after (narrow c.width.result (width_in v x) c.width.ensures w.if-width-gt0.false) (ap (λ t. t.settled) w.out-is ∙ w.add.ensures)
-      | else-width-gt0+else-shown-gt0 w ↦ adds_unless is_wide drawn before after (narrow c.width.result (width_in v x) c.width.ensures w.if-width-gt0.false) (ap (λ t. t.settled) w.out-is)
-    ])
+    let all = sends_same (first c.args.drawn.now c.loop-stay.stay-index xs) _ _ _ _ _ c.loop-stay.invariant c.write.ensures in
+    subst (λ (ss : List Stay). Sends (flat_map (drawn_of c.args.drawn.now) ss) (g.W.Write.contents c.args.writer.now) (g.W.Write.contents c.loop-stay.writer) c.args.out.now.settled c.write.new.out.settled) (take_all c.loop-stay.stay-index xs c.loop-stay-test.false) all

@@ -1,5 +1,6 @@
-use Rattle.std.proofs.Common.{◌≡◌}
+use Rattle.std.proofs.Common.{[]}
+use Rattle.gs_timeline.specs.Sent.{Sends}
 use Rattle.gs_timeline.proofs.marks.write_axis.Given as goal
 
 abbrev pub invariant-loop-place : goal.invariant-loop-place
-invariant-loop-place l = l.out.settled ≡ l.fn.out.settled
+invariant-loop-place g l = Sends [] (g.W.Write.contents l.fn.writer) (g.W.Write.contents l.writer) l.fn.out.settled l.out.settled

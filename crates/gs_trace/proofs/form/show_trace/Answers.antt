@@ -1,20 +1,38 @@
-use Rattle.std.proofs.Common.{◌≡◌, ◌∙◌, rules, subst, sym, ap, ℕ, List}
+use Rattle.std.proofs.Common.{◌≡◌, ◌∙◌, subst, ap, ℕ, List}
 use Rattle.gs_core.specs.Machine.{planning}
 use Rattle.gs_script.specs.Unread.{events_unread}
 use Rattle.gs_journal.specs.History.{History}
 use Rattle.gs_kernel.specs.declared.settings.Settings.{Settings}
+use Rattle.gs_trace.specs.declared.answering.Unanswered.TheVariants.{WriteFailed}
 use Rattle.gs_trace.specs.declared.form.Form.TheVariants.{Trace}
 use Rattle.gs_trace.specs.Output.{IsTrace, shown_as}
+use Rattle.gs_trace.specs.Streams.{Leaves}
 use Rattle.gs_trace.proofs.Adding.{all_added}
+use Rattle.gs_trace.proofs.Writing.{begins_trace, begins_weaker, if_error_is}
 use Rattle.gs_trace.proofs.form.show_trace.Goals as goal
+
+-- a trace of the machine's history
+same_trace : (cpus end : ℕ) (h last : History) (out : List ℕ) → cpus ≡ end → h ≡ last → IsTrace cpus h out → IsTrace end last out
+same_trace cpus end h last out e f t = subst (λ (n : ℕ). IsTrace n last out) e (subst (λ (h : History). IsTrace cpus h out) f t)
+
+pub returns-in_err-write-clause-left : goal.returns-in_err-write-clause-left
+returns-in_err-write-clause-left g c =
+    let end = planning g.P.Policy.chosen c.run_watched.new.machine in
+    let history : c.journal.result.now.entries ≡ end.history = c.journal.ensures.entries ∙ c.kernel-kernel.ensures.history in
+    let cpus : c.settings-cpus.result.cpus ≡ end.settings.cpus = ap (λ (s : Settings). s.cpus) (c.settings-cpus.ensures.value ∙ c.kernel-kernel.ensures.settings) in
+    if_error_is _ WriteFailed (Leaves (events_unread g.P.NamedPolicy.naming c.args.script) _ _ _) c.from_residual-in_err-write.ensures.1
+    (begins_weaker (IsTrace c.settings-cpus.result.cpus c.journal.result.now.entries) _ _ _
+    (λ out t. all_added g.P.Policy.chosen _ (shown_as Trace) (planning g.P.Policy.chosen c.args.machine.now) (events_unread g.P.NamedPolicy.naming c.args.script) end c.in_ok-noting.noting out c.in_ok-noting.ensures.added (λ rs h. same_trace _ _ _ _ out cpus history t))
+    (begins_trace c.settings-cpus.result.cpus c.journal.result.now.entries c.in_ok-trace.trace _ _ c.in_ok-trace.ensures.stays c.in_err-write.ensures.stuck))
 
 pub returns-clause-shown : goal.returns-clause-shown
 returns-clause-shown g c =
     let end = planning g.P.Policy.chosen c.run_watched.new.machine in
-    let out : List ℕ = c.into_bytes.result.items in
     let history : c.journal.result.now.entries ≡ end.history = c.journal.ensures.entries ∙ c.kernel-kernel.ensures.history in
     let cpus : c.settings-cpus.result.cpus ≡ end.settings.cpus = ap (λ (s : Settings). s.cpus) (c.settings-cpus.ensures.value ∙ c.kernel-kernel.ensures.settings) in
-    let bytes : out ≡ c.in_ok-text.text = search rules in
-    let text : IsTrace c.settings-cpus.result.cpus c.journal.result.now.entries out = subst (λ (bs : List ℕ). IsTrace c.settings-cpus.result.cpus c.journal.result.now.entries bs) (sym bytes) c.in_ok-text.ensures.stays in
-    let trace : IsTrace end.settings.cpus end.history out = subst (λ (n : ℕ). IsTrace n end.history out) cpus (subst (λ (h : History). IsTrace c.settings-cpus.result.cpus h out) history text) in
-    all_added g.P.Policy.chosen _ (shown_as Trace) (planning g.P.Policy.chosen c.args.machine.now) (events_unread g.P.NamedPolicy.naming c.args.script) end c.in_ok-noting.noting out c.in_ok-noting.ensures.added (λ rs h. trace)
+    let (out, written, has) = c.in_ok-write.ensures.written in
+    let trace : IsTrace c.settings-cpus.result.cpus c.journal.result.now.entries out = (c.in_ok-trace.trace, c.in_ok-trace.ensures.stays, has) in (
+      out,
+      all_added g.P.Policy.chosen _ (shown_as Trace) (planning g.P.Policy.chosen c.args.machine.now) (events_unread g.P.NamedPolicy.naming c.args.script) end c.in_ok-noting.noting out c.in_ok-noting.ensures.added (λ rs h. same_trace _ _ _ _ out cpus history trace),
+      written,
+    )

@@ -1,0 +1,94 @@
+//! What a picture is drawn of: all lists of it, made before the first of its bytes.
+
+ghost use Rattle.std.specs.Prelude.{◌≡◌, ◌<◌, ℕ, Some, IfOk, length, map, slice_get};
+ghost use Rattle.std.specs.Option.{option_map};
+ghost use Rattle.gs_timeline.specs.Bars.{scale};
+ghost use Rattle.gs_timeline.specs.Counts.{decisions, told_by};
+ghost use Rattle.gs_timeline.specs.Lanes.{LaneOf};
+ghost use Rattle.gs_timeline.specs.Lives.{born, creations};
+ghost use Rattle.gs_timeline.specs.Stays.{stays};
+
+use crate::agents::{Step, steps};
+use crate::counts::{Counts, counted};
+use crate::groups::landed_groups;
+use crate::lane::Lane;
+use crate::listing::{Line, listing};
+use crate::lives::{Life, lives};
+use crate::notes::{Listed, Notes};
+use crate::part::Part;
+use crate::picks::Picks;
+use crate::slots::clearings;
+use crate::spans::{HeldTimes, Reign, holds, reigns, turns};
+use crate::walk::stays;
+use gs_journal::Journal;
+use std::alloc::{AllocError, Global};
+
+/// What a picture is drawn of.
+#[derive(Clone, Copy)]
+pub(crate) struct Drawn<'a> {
+    pub cpus: u16,
+    pub journal: &'a Journal,
+    pub notes: Notes<'a>,
+    pub part: &'a Part<'a>,
+    pub all: &'a Gathered,
+}
+
+/// All lists that a picture is drawn of.
+#[derive(Drop)]
+pub(crate) struct Gathered {
+    /// The stays, by CPU.
+    pub lanes: Vec<Lane>,
+    /// The threads, by tid.
+    pub lives: Vec<Life>,
+    /// The lines below the rows.
+    pub lines: Vec<Line>,
+    /// How many decisions are shown.
+    pub counts: Counts,
+    /// When the other class held a CPU, by CPU.
+    pub holds: Vec<HeldTimes>,
+    pub reigns: Vec<Reign>,
+    pub steps: Vec<Step>,
+    /// Which marks are of a CPU, by CPU.
+    pub slots: Picks,
+    pub clearings: Vec<usize>,
+    /// Which marks tell that a group landed, by group.
+    pub groups: Picks,
+}
+
+impl Gathered {
+    /// Gathers what a picture of so many CPUs is drawn of. After that nothing but the text grows.
+    ///
+    /// # Errors
+    ///
+    /// `AllocError` if out of memory.
+    pub(crate) fn new(
+        alloc: Global,
+        cpus: u16,
+        journal: &Journal,
+        notes: &Notes<'_>,
+        part: &Part<'_>,
+        listed: Listed,
+    ) -> Result<Gathered, AllocError>
+        ensures count { IfOk result (λ all. length all.lanes.items ≡ cpus) }
+        ensures stays { IfOk result (λ all. (c : ℕ) → c < cpus → option_map (λ (lane : LaneOf). lane.ended) (slice_get all.lanes.items c) ≡ Some (stays journal.now.entries c)) }
+        ensures lives { IfOk result (λ all. map born all.lives.items ≡ creations journal.now.entries) }
+        ensures decisions { IfOk result (λ all. told_by all.counts ≡ decisions (scale part.now) notes.now.marks.now) }
+    {
+        let lanes = stays(alloc, journal, cpus)?;
+        let lives = lives(alloc, journal, part, &lanes)?;
+        let lines = listing(alloc, &lives, listed)?;
+        let turns = turns(alloc, journal)?;
+        Ok(Gathered {
+            lanes,
+            lives,
+            lines,
+            counts: counted(alloc, part, notes.marks)?,
+            holds: holds(alloc, journal, cpus)?,
+            reigns: reigns(alloc, &turns, journal.len())?,
+            steps: steps(alloc, &turns, notes.agents)?,
+            slots: Picks::by_cpu(alloc, notes.marks, cpus)?,
+            clearings: clearings(alloc, &turns)?,
+            groups: landed_groups(alloc, notes.marks, cpus)?,
+        })
+    }
+}
