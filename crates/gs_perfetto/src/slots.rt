@@ -41,7 +41,7 @@ pub(crate) fn landings_of(
             What::Stamped { .. } => *stamp = Some(at),
             What::Landed { .. } => {
                 if let Some(landing) = stamp.take().and_then(|at| landings.get_mut(at)) {
-                    *landing = Some(mark.entries);
+                    *landing = Some(mark.place());
                 }
             }
             What::Late { .. } => {}
@@ -138,7 +138,7 @@ fn write_stamp(
     };
     begin_event(out, head, slot_track(mark.cpu), when.place)?;
     if let Some(place) = landing {
-        out.push_number(",\"dur\":", place.saturating_sub(mark.entries) as u64)?;
+        out.push_number(",\"dur\":", place.saturating_sub(mark.place()) as u64)?;
     }
     out.push_str(",\"name\":")?;
     out.push_str(name)?;

@@ -134,12 +134,12 @@ impl<'a> Walk<'a> {
     {
         let marks = self.notes.marks;
         for at in self.mark..marks.len() {
-            let Some(mark) = marks.get(at).filter(|mark| mark.entries <= place) else {
+            let Some(mark) = marks.get(at).filter(|mark| mark.place() <= place) else {
                 break;
             };
             let landing = self.landings.get(at).copied().unwrap_or(None);
-            self.place.set(mark.entries as u64);
-            self.line.set(mark.line as u64);
+            self.place.set(u64::from(mark.entries));
+            self.line.set(u64::from(mark.line));
             let when = When {
                 place: &self.place,
                 line: &self.line,

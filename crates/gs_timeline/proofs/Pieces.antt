@@ -75,9 +75,6 @@ behind_two settled old a b h = behind_one settled (old ++ a) b (grind (arith, co
 pub behind_four : (settled : ℕ) (old a b c d : List ℕ) → settled ≤ length old → drop settled (old ++ a ++ b ++ c ++ d) ≡ drop settled old ++ a ++ b ++ c ++ d
 behind_four settled old a b c d h = behind_two settled (old ++ a ++ b) c d (grind (arith, common_steps, length-append)) ∙ ap (λ t. t ++ c ++ d) (behind_two settled old a b h)
 
-pub behind_whole : (settled n : ℕ) (old a : List ℕ) → settled ≤ length old → drop settled (old ++ a) ≡ drop settled old ++ (take n a ++ drop n a)
-behind_whole settled n old a h = behind_one settled old a h ∙ ap (λ t. drop settled old ++ t) (sym (take-append-drop n a))
-
 -- all of a text is settled, and nothing is told behind it
 pub all_settled : (settled n : ℕ) (text : List ℕ) → n ≡ length text → take n text ≡ take settled text ++ drop settled text
 all_settled settled n text e = ap (λ m. take m text) e ∙ (take-length text ∙ sym (take-append-drop settled text))
@@ -101,13 +98,9 @@ adds_four old front a b c new u v w x e f g h = adds_last (u ++ (v ++ (w ++ x)))
 pub pairs_told : (front a b c u m v n w k : List ℕ) → a ≡ front ++ u ++ m → b ≡ a ++ v ++ n → c ≡ b ++ w ++ k → c ≡ front ++ (u ++ (m ++ (v ++ (n ++ (w ++ k)))))
 pairs_told front a b c u m v n w k e f g = g ∙ (ap (λ t. t ++ w ++ k) (f ∙ ap (λ t. t ++ v ++ n) e) ∙ simp append_assoc)
 
--- a piece of three words
-pub adds_three : (old front a b c new u v w : List ℕ) → a ≡ front ++ u → b ≡ a ++ v → c ≡ b ++ w → new ≡ old ++ c → Adds ((u ++ (v ++ w)) ∷ []) old new
-adds_three old front a b c new u v w e f g h = adds_last (u ++ (v ++ w)) front old c new (g ∙ (ap (λ t. t ++ w) (f ∙ ap (λ t. t ++ v) e) ∙ simp append_assoc)) h
-
 -- of two words, each with a number behind it, and two more
-pub adds_six : (old front a b c new u m v n w x : List ℕ) → a ≡ front ++ u ++ m ++ v ++ n → b ≡ a ++ w → c ≡ b ++ x → new ≡ old ++ c → Adds ((u ++ (m ++ (v ++ (n ++ (w ++ x))))) ∷ []) old new
-adds_six old front a b c new u m v n w x e f g h = adds_last (u ++ (m ++ (v ++ (n ++ (w ++ x))))) front old c new (g ∙ (ap (λ t. t ++ x) (f ∙ ap (λ t. t ++ w) e) ∙ simp append_assoc)) h
+pub adds_six : (old front a b new u m v n w x : List ℕ) → a ≡ front ++ u ++ m ++ v ++ n → b ≡ a ++ (w ++ x) → new ≡ old ++ b → Adds ((u ++ (m ++ (v ++ (n ++ (w ++ x))))) ∷ []) old new
+adds_six old front a b new u m v n w x e f g = adds_last (u ++ (m ++ (v ++ (n ++ (w ++ x))))) front old b new (f ∙ (ap (λ t. t ++ (w ++ x)) e ∙ simp append_assoc)) g
 
 -- and of four such words, and three more
 pub adds_eleven : (old front a b c d k new u m v n w l x p r s t : List ℕ) → a ≡ front ++ u ++ m ++ v ++ n → b ≡ a ++ w ++ l ++ x ++ p → c ≡ b ++ r → d ≡ c ++ s → k ≡ d ++ t → new ≡ old ++ k

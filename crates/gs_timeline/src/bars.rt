@@ -1,4 +1,4 @@
-ghost use Rattle.std.specs.Prelude.{◌≡◌, ◌+◌, ◌-◌, ◌∷◌, [], OnOk};
+ghost use Rattle.std.specs.Prelude.{◌≡◌, ◌+◌, ◌++◌, ◌-◌, ◌∷◌, [], OnOk, codes};
 ghost use Rattle.gs_timeline.specs.Bars.{bar_front, bar_pieces, end_of, ends, has_letter, letter, lower, reason, row, scale, style, width_in};
 ghost use Rattle.gs_timeline.specs.Lives.{class_known};
 ghost use Rattle.gs_timeline.specs.Pieces.{Adds};
@@ -9,7 +9,7 @@ use crate::ending::Ending;
 use crate::layout::{BAR, row_of};
 use crate::lives::{Life, class_known};
 use crate::part::Part;
-use crate::rect::{Rect, write_from_to};
+use crate::rect::{Between, Rect};
 use crate::stay::Stay;
 use crate::text::Text;
 use crate::threads::{shade_of, write_label, write_thread};
@@ -90,19 +90,35 @@ impl BarDigits {
     }
 }
 
-/// Returns the letter that tells why a stay ended, with the end of its text.
+/// Returns the letter that tells why a stay ended, from behind the place of its text to the end of it.
 fn letter_of(ending: Ending) -> &'static str
-    ensures { result.now ≡ letter ending }
+    ensures { result.now ≡ codes "\" class=\"end\">" ++ letter ending }
 {
     match ending {
-        Ending::Preempted => "P</text>\n",
-        Ending::Blocked => "B</text>\n",
-        Ending::Yielded => "Y</text>\n",
-        Ending::Died => "D</text>\n",
-        Ending::Affinity => "A</text>\n",
-        Ending::Torn => "T</text>\n",
-        Ending::Replaced => "R</text>\n",
-        Ending::StillThere => "S</text>\n",
+        Ending::Preempted => "\" class=\"end\">P</text>\n",
+        Ending::Blocked => "\" class=\"end\">B</text>\n",
+        Ending::Yielded => "\" class=\"end\">Y</text>\n",
+        Ending::Died => "\" class=\"end\">D</text>\n",
+        Ending::Affinity => "\" class=\"end\">A</text>\n",
+        Ending::Torn => "\" class=\"end\">T</text>\n",
+        Ending::Replaced => "\" class=\"end\">R</text>\n",
+        Ending::StillThere => "\" class=\"end\">S</text>\n",
+    }
+}
+
+/// Returns what a stay's title says of why it ended, to the end of the bar.
+fn reason_of(ending: Ending) -> &'static str
+    ensures { result.now ≡ reason ending }
+{
+    match ending {
+        Ending::Preempted => ": preempted</title></rect>\n",
+        Ending::Blocked => ": blocked</title></rect>\n",
+        Ending::Yielded => ": yielded</title></rect>\n",
+        Ending::Died => ": died</title></rect>\n",
+        Ending::Affinity => ": affinity</title></rect>\n",
+        Ending::Torn => ": torn</title></rect>\n",
+        Ending::Replaced => ": replaced</title></rect>\n",
+        Ending::StillThere => ": still there</title></rect>\n",
     }
 }
 
@@ -119,7 +135,6 @@ fn write_letter(
     ensures { OnOk result (Adds (end_of (scale part.now) ending stay.now ∷ []) out.old.settled out.new.settled) }
 {
     out.push_number_digits("<text x=\"", part.x(stay.to), "\" y=\"", y)?;
-    out.push_str("\" class=\"end\">")?;
     out.push_str(letter_of(ending))?;
     out.settle();
     Ok(())
@@ -196,19 +211,17 @@ fn write_bar(
 fn write_title(
     out: &mut Text,
     cpu: &Digits,
-    part: &Part<'_>,
-    stay: &Stay,
+    between: &Between,
+    tid: u32,
     life: Option<&Life>,
     ending: Ending,
 ) -> Result<(), AllocError>
     ensures { OnOk result (Adds (reason ending ∷ []) out.old.settled out.new.settled) }
 {
-    write_thread(out, stay.tid, life)?;
+    write_thread(out, tid, life)?;
     out.push_digits(", on CPU ", cpu)?;
-    write_from_to(out, part, stay.from, stay.to)?;
-    out.push_str(": ")?;
-    out.push_str(ending.name())?;
-    out.push_str("</title></rect>\n")?;
+    between.write(out)?;
+    out.push_str(reason_of(ending))?;
     out.settle();
     Ok(())
 }
@@ -224,11 +237,12 @@ pub(crate) fn write_stay(
 ) -> Result<(), AllocError>
     ensures { OnOk result (Adds (bar_pieces (scale part.now) (class_known life.entry) ending stay.now) out.old.settled out.new.settled) }
 {
+    let between = Between::new(part, stay.from, stay.to);
     let class = class_known(life);
     let bar = bar_of(part, stay, class);
     kept.set(stay.cpu, &bar);
     write_bar(out, kept, part, stay, class, &bar)?;
-    write_title(out, &kept.cpu, part, stay, life, ending)?;
+    write_title(out, &kept.cpu, &between, stay.tid, life, ending)?;
     write_label(out, &bar, &kept.base, stay.tid, life)?;
     write_end(out, &kept.end, part, stay, bar.width, ending)
 }

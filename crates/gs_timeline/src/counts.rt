@@ -93,7 +93,7 @@ fn is_placed(what: What) -> bool
 fn is_counted(part: &Part<'_>, which: Which, mark: &Mark) -> bool
     ensures { result ≡ is_counted part.now which mark.now }
 {
-    part.meets(mark.entries) && which.takes(mark)
+    part.meets(mark.place()) && which.takes(mark)
 }
 
 /// How many decisions are shown that were stamped, placed and not placed.
@@ -134,7 +134,7 @@ fn count_outcome(counts: &mut [u64], part: &Part<'_>, mark: &Mark)
     requires few { (n : ℕ) → n < OUTCOMES → get_or counts.old n 0 < u64.MAX }
     ensures { (n : ℕ) → n < OUTCOMES → get_or counts.new n 0 ≡ (if is_counted part.now (Numbered n) mark.now then get_or counts.old n 0 + 1 else get_or counts.old n 0) }
 {
-    if !part.meets(mark.entries) {
+    if !part.meets(mark.place()) {
         return;
     }
     let Some(outcome) = failure_of(mark) else {

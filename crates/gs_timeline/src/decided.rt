@@ -8,12 +8,13 @@ use crate::layout::decided_of;
 use crate::lives::{Life, life_of};
 use crate::notes::{Mark, What};
 use crate::part::{EDGE, Part};
-use crate::phrases::{begin_path, begin_text};
+use crate::phrases::begin_text;
+use crate::rows::InRow;
 use crate::shapes::{MIXED, STAMP, shape_of, words_of};
 use crate::text::Text;
 use crate::threads::{letters_of, room_for, write_called, write_thread};
 use gs_layout::Outcome;
-use gs_text::WriteFailed;
+use gs_text::{Digits, WriteFailed};
 use std::alloc::AllocError;
 use std::io::Write;
 
@@ -43,79 +44,100 @@ pub(crate) fn failure_of(mark: &Mark) -> Option<Outcome>
     }
 }
 
-/// Returns whether a mark says that something was stamped.
-pub(crate) fn is_stamp(mark: &Mark) -> bool {
-    matches!(mark.what, What::Stamped { .. })
-}
-
-/// Adds what an event did to a transaction.
-fn write_what(out: &mut Text, what: What) -> Result<(), AllocError>
-    ensures { out.new.settled ≡ out.old.settled }
-{
-    match what {
-        What::Stamped { preempt, group } => {
-            out.push_str("stamped")?;
-            out.push_str(if preempt { " to preempt" } else { "" })?;
-            out.push_str(if group { " as one of a group" } else { "" })
-        }
-        What::Landed { outcome } => {
-            out.push_str("landed: ")?;
-            out.push_str(words_of(outcome))
-        }
-        What::Late { number, outcome } => {
-            out.push_number("transaction ", u64::from(number))?;
-            out.push_str(" landed late: ")?;
-            out.push_str(words_of(outcome))
-        }
+/// A mark is drawn if it is shown and is of a stamp, or of a landing that was not placed.
+impl InRow for Mark {
+    #[inline(always)]
+    fn row(&self, part: &Part<'_>) -> Option<u16> {
+        let is_stamp = matches!(self.what, What::Stamped { .. });
+        let is_drawn = (is_stamp || failure_of(self).is_some()) && part.meets(self.place());
+        is_drawn.then_some(self.cpu)
     }
 }
 
+/// Returns what is told of a stamp, between its entry and its thread.
+fn stamped_so(preempt: bool, group: bool) -> &'static str {
+    match (preempt, group) {
+        (false, false) => ": stamped, ",
+        (true, false) => ": stamped to preempt, ",
+        (false, true) => ": stamped as one of a group, ",
+        (true, true) => ": stamped to preempt as one of a group, ",
+    }
+}
+
+/// Adds what an event did to a transaction.
+#[inline(always)]
+fn write_what(out: &mut Text, what: What) -> Result<(), AllocError>
+    ensures { out.new.settled ≡ out.old.settled }
+{
+    let outcome = match what {
+        What::Stamped { preempt, group } => return out.push_str(stamped_so(preempt, group)),
+        What::Landed { outcome } => {
+            out.push_str(": landed: ")?;
+            outcome
+        }
+        What::Late { number, outcome } => {
+            out.push_number(": transaction ", u64::from(number))?;
+            out.push_str(" landed late: ")?;
+            outcome
+        }
+    };
+    out.push_str(words_of(outcome))?;
+    out.push_str(", ")
+}
+
 /// Adds a mark in words, behind those that tell of its line: before which entry it was, what was done, and to which thread
-/// and CPU.
+/// and CPU. The CPU's digits are kept.
 #[inline(always)]
 pub(crate) fn write_mark(
     out: &mut Text,
     words: &str,
     lives: &[Life],
     mark: &Mark,
+    cpu: &mut Digits,
 ) -> Result<(), AllocError>
     ensures { out.new.settled ≡ out.old.settled }
 {
-    let entry = mark.entries as u64;
-    out.push_two(words, mark.line as u64, ", before entry ", entry)?;
-    out.push_str(": ")?;
+    cpu.set(u64::from(mark.cpu));
+    let line = u64::from(mark.line);
+    out.push_two(words, line, ", before entry ", u64::from(mark.entries))?;
     write_what(out, mark.what)?;
-    out.push_str(", ")?;
     write_thread(out, mark.tid, life_of(lives, mark.tid))?;
-    out.push_number(", on CPU ", u64::from(mark.cpu))
+    out.push_digits(", on CPU ", cpu)
 }
 
 /// Marks of a CPU that are near to one another, and are drawn as one.
-#[derive(Clone, Copy)]
+#[derive(Drop)]
 struct Cluster {
-    cpu: u16,
+    /// Where the line of the CPU is, and that with its digits.
+    line: u64,
+    y: Digits,
+    /// The CPU.
+    cpu: Digits,
     x: u64,
-    /// The places of the first marks, which have a line each.
-    told: [usize; MOST_TOLD],
+    /// The place of the first of them among the marks of the CPU, and how many they are.
+    first: usize,
     marks: usize,
     stamps: u64,
     failures: u64,
     /// The first landing that was not placed, and whether another one came to something else.
-    first: Option<(u32, Outcome)>,
+    lost: Option<(u32, Outcome)>,
     mixed: bool,
 }
 
 impl Cluster {
     /// Makes a cluster of no marks, on this CPU.
     fn new(cpu: u16) -> Cluster {
+        let line = decided_of(cpu);
         Cluster {
-            cpu,
+            line,
+            y: Digits::new(line),
+            cpu: Digits::new(u64::from(cpu)),
             x: 0,
-            told: [0; MOST_TOLD],
+            first: 0,
             marks: 0,
             stamps: 0,
             failures: 0,
-            first: None,
+            lost: None,
             mixed: false,
         }
     }
@@ -128,18 +150,15 @@ impl Cluster {
     /// Counts a landing that was not placed.
     fn add_failure(&mut self, tid: u32, outcome: Outcome) {
         self.failures = self.failures.saturating_add(1);
-        match self.first {
-            None => self.first = Some((tid, outcome)),
+        match self.lost {
+            None => self.lost = Some((tid, outcome)),
             Some((_, first)) => self.mixed = self.mixed || first != outcome,
         }
     }
 
-    /// Adds a mark of this place behind the others.
+    /// Adds a mark behind the others.
     #[inline(always)]
-    fn add(&mut self, place: usize, mark: &Mark) {
-        if let Some(free) = self.told.get_mut(self.marks) {
-            *free = place;
-        }
+    fn add(&mut self, mark: &Mark) {
         self.marks = self.marks.saturating_add(1);
         match failure_of(mark) {
             Some(outcome) => self.add_failure(mark.tid, outcome),
@@ -148,15 +167,25 @@ impl Cluster {
     }
 
     /// Adds the title: a line for each of the first marks, and how many more there are.
-    fn write_title(&self, out: &mut Text, lives: &[Life], marks: &[Mark]) -> Result<(), AllocError>
+    fn write_title(
+        &mut self,
+        out: &mut Text,
+        lives: &[Life],
+        marks: &[Mark],
+    ) -> Result<(), AllocError>
         ensures { out.new.settled ≡ out.old.settled }
     {
-        out.push_str("\"><title>")?;
-        for (index, place) in self.told.iter().take(self.marks).enumerate() {
-            if let Some(mark) = marks.get(*place) {
-                let words = if index == 0 { "line " } else { "\nline " };
-                write_mark(out, words, lives, mark)?;
-            }
+        let told = marks
+            .iter()
+            .skip(self.first)
+            .take(self.marks.min(MOST_TOLD));
+        for (index, mark) in told.enumerate() {
+            let words = if index == 0 {
+                "\"><title>line "
+            } else {
+                "\nline "
+            };
+            write_mark(out, words, lives, mark, &mut self.cpu)?;
         }
         let others = self.marks.saturating_sub(MOST_TOLD);
         if others > 0 {
@@ -166,38 +195,32 @@ impl Cluster {
     }
 
     /// Adds the shapes: a ring if something was stamped, and that of an outcome if something was not placed.
-    fn write_shapes(&self, out: &mut Text, y: u64) -> Result<(), AllocError>
+    fn write_shapes(&self, out: &mut Text) -> Result<(), AllocError>
         ensures { out.new.settled ≡ out.old.settled }
     {
-        let class = match self.first {
-            Some(_) => "failed",
-            None => "stamp",
+        let words = match self.lost {
+            Some(_) => "<path class=\"failed\" d=\"M",
+            None => "<path class=\"stamp\" d=\"M",
         };
-        begin_path(out, class, self.x, y)?;
+        out.push_number_digits(words, self.x, " ", &self.y)?;
         if self.stamps > 0 {
             out.push_str(STAMP)?;
         }
-        let Some((_, outcome)) = self.first else {
+        let Some((_, outcome)) = self.lost else {
             return Ok(());
         };
         if self.stamps > 0 {
-            out.push_two("M", self.x, " ", y)?;
+            out.push_number_digits("M", self.x, " ", &self.y)?;
         }
         out.push_str(if self.mixed { MIXED } else { shape_of(outcome) })
     }
 
     /// Adds the words beside the shapes, as many as end before `limit`: what came of the first landing that was not
     /// placed, and of which thread, or how many were not.
-    fn write_words(
-        &self,
-        out: &mut Text,
-        lives: &[Life],
-        y: u64,
-        limit: u64,
-    ) -> Result<(), AllocError>
+    fn write_words(&self, out: &mut Text, lives: &[Life], limit: u64) -> Result<(), AllocError>
         ensures { out.new.settled ≡ out.old.settled }
     {
-        let Some((tid, outcome)) = self.first else {
+        let Some((tid, outcome)) = self.lost else {
             return Ok(());
         };
         let life = life_of(lives, tid);
@@ -215,7 +238,7 @@ impl Cluster {
         if room_for(short) > room {
             return Ok(());
         }
-        begin_text(out, x, y.saturating_add(4), "lost")?;
+        begin_text(out, x, self.line.saturating_add(4), "lost")?;
         out.push_str(words)?;
         if room_for(whole) <= room {
             out.push_str(" ")?;
@@ -233,7 +256,7 @@ impl Cluster {
         self.marks = 0;
         self.stamps = 0;
         self.failures = 0;
-        self.first = None;
+        self.lost = None;
         self.mixed = false;
     }
 
@@ -251,34 +274,35 @@ impl Cluster {
         if self.marks == 0 {
             return Ok(());
         }
-        let y = decided_of(self.cpu);
-        self.write_shapes(out, y)?;
+        self.write_shapes(out)?;
         self.write_title(out, lives, marks)?;
-        self.write_words(out, lives, y, limit)?;
+        self.write_words(out, lives, limit)?;
         self.clear();
         Ok(())
     }
 
-    /// Goes to a place. If the marks are not near to it, it draws them and lets go of them, and begins there.
+    /// Goes to `x`, where the mark of this place is. If the others are not near to it, it draws them and lets go of them,
+    /// and begins with this one.
     fn reach(
         &mut self,
         out: &mut Text,
         lives: &[Life],
         marks: &[Mark],
+        place: usize,
         x: u64,
     ) -> Result<(), AllocError>
         ensures { out.new.settled ≡ out.old.settled }
     {
         if !self.reaches(x) {
             self.write(out, lives, marks, x)?;
+            self.first = place;
             self.x = x;
         }
         Ok(())
     }
 }
 
-/// Adds the marks of a CPU, which are those of these places: those are drawn that are stamps, or landings that were not
-/// placed. It writes what is long enough.
+/// Adds the marks of a CPU that are drawn, which are these, and writes what is long enough.
 pub(crate) fn write_decided<W: Write>(
     out: &mut Text,
     writer: &mut W,
@@ -286,23 +310,16 @@ pub(crate) fn write_decided<W: Write>(
     lives: &[Life],
     cpu: u16,
     marks: &[Mark],
-    places: &[usize],
 ) -> Result<(), WriteFailed>
     ensures sent { OnOk result (Sends [] (W.contents writer.old) (W.contents writer.new) out.old.settled out.new.settled) }
     ensures stuck { OnErr result (Grows (W.contents writer.old) (W.contents writer.new)) }
 {
     let mut cluster = Cluster::new(cpu);
-    for place in places {
-        let Some(mark) = marks.get(*place) else {
-            continue;
-        };
-        let drawn = is_stamp(mark) || failure_of(mark).is_some();
-        if !drawn || !part.meets(mark.entries) {
-            continue;
-        }
-        cluster.reach(out, lives, marks, part.x(mark.entries))?;
+    for place in 0..marks.len() {
+        let mark = &marks[place];
+        cluster.reach(out, lives, marks, place, part.x(mark.place()))?;
         out.spill(writer)?;
-        cluster.add(*place, mark);
+        cluster.add(mark);
     }
     let end = part.x(part.behind()).saturating_add(EDGE);
     cluster.write(out, lives, marks, end)?;

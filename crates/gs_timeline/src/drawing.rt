@@ -3,7 +3,6 @@ ghost use Rattle.std.specs.Io.KnownBytes.{Appends};
 ghost use Rattle.std.specs.Option.{option_map};
 ghost use Rattle.gs_timeline.specs.Bars.{bars, pieces_of, scale};
 ghost use Rattle.gs_timeline.specs.Counts.{decisions, told_by};
-ghost use Rattle.gs_timeline.specs.Endings.{ending_of};
 ghost use Rattle.gs_timeline.specs.Lanes.{LaneOf};
 ghost use Rattle.gs_timeline.specs.Lives.{born, class_among};
 ghost use Rattle.gs_timeline.specs.Pieces.{Adds, HasEach};
@@ -16,7 +15,7 @@ use crate::bars::{BarDigits, write_stay};
 use crate::blur::Blur;
 use crate::counts::{Counts, write_counted, write_sums};
 use crate::decided::write_decided;
-use crate::ending::Ending;
+use crate::endings::Endings;
 use crate::foot::{end_of_foot, write_foot};
 use crate::gathered::{Drawn, Gathered};
 use crate::groups::write_groups;
@@ -116,17 +115,6 @@ fn write_again<W: Write>(
     Ok(())
 }
 
-/// Returns why a stay ended that goes on to the entry of this place, or to the last one.
-#[inline(always)]
-fn ending_at(journal: &Journal, place: usize) -> Ending
-    ensures { result ≡ ending_of (slice_get journal.now.entries place) }
-{
-    if place < journal.len() {
-        return Ending::of(Some(&journal.entry(place)));
-    }
-    Ending::of(None)
-}
-
 /// Adds the bar of a stay that is at least a pixel wide. One that is narrower, and shown, is drawn with others that touch it.
 #[inline(always)]
 fn write_next(
@@ -134,16 +122,16 @@ fn write_next(
     kept: &mut BarDigits,
     blur: &mut Blur,
     part: &Part<'_>,
-    journal: &Journal,
+    endings: &Endings<'_>,
     lives: &[Life],
     stay: &Stay,
 ) -> Result<(), AllocError>
-    ensures { OnOk result (Adds (pieces_of (scale part.now) (class_among (map born lives.now)) journal.now.entries stay.now) out.old.settled out.new.settled) }
+    ensures { OnOk result (Adds (pieces_of (scale part.now) (class_among (map born lives.now)) endings.now stay.now) out.old.settled out.new.settled) }
 {
     if part.width(stay.from, stay.to) > 0 {
         blur.write(out, part)?;
         let life = life_of(lives, stay.tid);
-        let ending = ending_at(journal, stay.to);
+        let ending = endings.at(stay.to);
         return write_stay(out, kept, part, stay, life, ending);
     }
     if part.shown(stay.from, stay.to) > 0 {
@@ -161,15 +149,15 @@ fn write_stays<W: Write>(
     cpu: u16,
     stays: &[Stay],
 ) -> Result<(), WriteFailed>
-    ensures sent { OnOk result (Sends (flat_map (pieces_of (scale drawn.now.part.now) (class_among (map born drawn.now.all.now.lives.items)) drawn.now.journal.now.entries) stays.now) (W.contents writer.old) (W.contents writer.new) out.old.settled out.new.settled) }
+    ensures sent { OnOk result (Sends (flat_map (pieces_of (scale drawn.now.part.now) (class_among (map born drawn.now.all.now.lives.items)) drawn.now.endings.now) stays.now) (W.contents writer.old) (W.contents writer.new) out.old.settled out.new.settled) }
     ensures stuck { OnErr result (Grows (W.contents writer.old) (W.contents writer.new)) }
 {
     let part = drawn.part;
-    let journal = drawn.journal;
+    let endings = drawn.endings;
     let lives = drawn.all.lives.as_slice();
     let mut blur = Blur::new(cpu);
     for stay in stays {
-        write_next(out, kept, &mut blur, part, journal, lives, stay)?;
+        write_next(out, kept, &mut blur, part, endings, lives, stay)?;
         out.spill(writer)?;
     }
     blur.write(out, part)?;
@@ -191,8 +179,8 @@ fn write_rows<W: Write>(
     drawn: &Drawn<'_>,
 ) -> Result<(), WriteFailed>
     requires count { length drawn.now.all.now.lanes.items ≡ drawn.now.cpus }
-    requires stays { (c : ℕ) → c < drawn.now.cpus → option_map (λ (lane : LaneOf). lane.ended) (slice_get drawn.now.all.now.lanes.items c) ≡ Some (stays drawn.now.journal.now.entries c) }
-    ensures sent { OnOk result (Sends (flat_map (pieces_of (scale drawn.now.part.now) (class_among (map born drawn.now.all.now.lives.items)) drawn.now.journal.now.entries) (all_stays drawn.now.journal.now.entries drawn.now.cpus)) (W.contents writer.old) (W.contents writer.new) out.old.settled out.new.settled) }
+    requires stays { (c : ℕ) → c < drawn.now.cpus → option_map (λ (lane : LaneOf). lane.ended) (slice_get drawn.now.all.now.lanes.items c) ≡ Some (stays drawn.now.endings.now c) }
+    ensures sent { OnOk result (Sends (flat_map (pieces_of (scale drawn.now.part.now) (class_among (map born drawn.now.all.now.lives.items)) drawn.now.endings.now) (all_stays drawn.now.endings.now drawn.now.cpus)) (W.contents writer.old) (W.contents writer.new) out.old.settled out.new.settled) }
     ensures stuck { OnErr result (Grows (W.contents writer.old) (W.contents writer.new)) }
 {
     let part = drawn.part;
@@ -218,13 +206,19 @@ fn write_decisions<W: Write>(
     ensures stuck { OnErr result (Grows (W.contents writer.old) (W.contents writer.new)) }
 {
     let all = drawn.all;
-    let marks = drawn.notes.marks;
     for cpu in 0..drawn.cpus {
         write_stamped(out, writer, drawn, cpu)?;
-        let places = all.slots.list(cpu as usize);
-        write_decided(out, writer, drawn.part, &all.lives, cpu, marks, places)?;
+        write_decided(
+            out,
+            writer,
+            drawn.part,
+            &all.lives,
+            cpu,
+            all.decided.of(cpu),
+        )?;
         out.spill(writer)?;
     }
+    let marks = drawn.notes.marks;
     write_groups(out, writer, drawn.part, &all.lives, marks, &all.groups)
 }
 
@@ -293,11 +287,12 @@ fn write_head(out: &mut Text, drawn: &Drawn<'_>, end: u64) -> Result<(), AllocEr
 {
     let Drawn {
         cpus,
-        journal,
+        endings,
         part,
         all,
         ..
     } = *drawn;
+    let journal = endings.journal();
     let width = part.x(part.behind()).saturating_add(EDGE).max(LEAST_WIDTH);
     out.push_str("<svg xmlns=\"http://www.w3.org/2000/svg\"")?;
     write_size(out, width, end)?;
@@ -353,13 +348,13 @@ fn write_below<W: Write>(
 {
     let Drawn {
         cpus,
-        journal,
+        endings,
         part,
         all,
         ..
     } = *drawn;
     write_agents(out, writer, drawn)?;
-    write_marks(out, writer, part, cpus, journal)?;
+    write_marks(out, writer, part, cpus, endings.journal())?;
     write_decisions(out, writer, drawn)?;
     write_foot(out, writer, part, cpus, &all.lives, &all.lines)
 }
@@ -368,8 +363,8 @@ fn write_below<W: Write>(
 /// enough.
 fn draw<W: Write>(out: &mut Text, writer: &mut W, drawn: &Drawn<'_>) -> Result<(), WriteFailed>
     requires count { length drawn.now.all.now.lanes.items ≡ drawn.now.cpus }
-    requires stays { (c : ℕ) → c < drawn.now.cpus → option_map (λ (lane : LaneOf). lane.ended) (slice_get drawn.now.all.now.lanes.items c) ≡ Some (stays drawn.now.journal.now.entries c) }
-    ensures sent { OnOk result ((start : List ℕ) × Sends (told_by drawn.now.all.now.counts ++ flat_map (pieces_of (scale drawn.now.part.now) (class_among (map born drawn.now.all.now.lives.items)) drawn.now.journal.now.entries) (all_stays drawn.now.journal.now.entries drawn.now.cpus)) (W.contents writer.old) (W.contents writer.new) start out.new.settled) }
+    requires stays { (c : ℕ) → c < drawn.now.cpus → option_map (λ (lane : LaneOf). lane.ended) (slice_get drawn.now.all.now.lanes.items c) ≡ Some (stays drawn.now.endings.now c) }
+    ensures sent { OnOk result ((start : List ℕ) × Sends (told_by drawn.now.all.now.counts ++ flat_map (pieces_of (scale drawn.now.part.now) (class_among (map born drawn.now.all.now.lives.items)) drawn.now.endings.now) (all_stays drawn.now.endings.now drawn.now.cpus)) (W.contents writer.old) (W.contents writer.new) start out.new.settled) }
     ensures stuck { OnErr result (Grows (W.contents writer.old) (W.contents writer.new)) }
 {
     let end = end_of_foot(drawn.cpus, drawn.all.lines.len());
@@ -390,7 +385,7 @@ fn draw<W: Write>(out: &mut Text, writer: &mut W, drawn: &Drawn<'_>) -> Result<(
 #[derive(Drop)]
 pub struct Picture<'a> {
     cpus: u16,
-    journal: &'a Journal,
+    endings: Endings<'a>,
     notes: Notes<'a>,
     part: Part<'a>,
     all: Gathered,
@@ -409,9 +404,9 @@ impl<'a> Model for Picture<'a> {
 
     ghost Value = { List (List ℕ) };
 
-    ghost view = { λ p. told_by p.all.counts ++ flat_map (pieces_of (scale p.part) (class_among (map born p.all.lives.items)) p.journal.now.entries) (all_stays p.journal.now.entries p.cpus) };
+    ghost view = { λ p. told_by p.all.counts ++ flat_map (pieces_of (scale p.part) (class_among (map born p.all.lives.items)) p.endings) (all_stays p.endings p.cpus) };
 
-    ghost invariant = { λ p. (length p.all.lanes.items ≡ p.cpus) × ((c : ℕ) → c < p.cpus → option_map (λ (lane : LaneOf). lane.ended) (slice_get p.all.lanes.items c) ≡ Some (stays p.journal.now.entries c)) };
+    ghost invariant = { λ p. (length p.all.lanes.items ≡ p.cpus) × ((c : ℕ) → c < p.cpus → option_map (λ (lane : LaneOf). lane.ended) (slice_get p.all.lanes.items c) ≡ Some (stays p.endings c)) };
 }
 
 impl<'a> Picture<'a> {
@@ -437,7 +432,7 @@ impl<'a> Picture<'a> {
         let all = Gathered::new(alloc, cpus, journal, &notes, &part, listed)?;
         Ok(Picture {
             cpus,
-            journal,
+            endings: Endings::new(alloc, journal)?,
             notes,
             part,
             all,
@@ -457,7 +452,7 @@ impl<'a> Picture<'a> {
     {
         let Picture {
             cpus,
-            journal,
+            endings,
             notes,
             part,
             all,
@@ -465,7 +460,7 @@ impl<'a> Picture<'a> {
         } = self;
         let drawn = Drawn {
             cpus,
-            journal,
+            endings: &endings,
             notes,
             part: &part,
             all: &all,

@@ -80,7 +80,7 @@ fn begin_life(out: &mut Text, y: u64, life: &Life) -> Result<(), AllocError>
 {
     begin_text(out, 10, y, "thread")?;
     out.push_decimal(u64::from(life.tid))?;
-    if life.is_named() {
+    if life.words().has_name() {
         out.push_str(" ")?;
         write_called(out, life.tid, Some(life))?;
     }

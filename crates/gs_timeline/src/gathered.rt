@@ -10,15 +10,16 @@ ghost use Rattle.gs_timeline.specs.Stays.{stays};
 
 use crate::agents::{Step, steps};
 use crate::counts::{Counts, counted};
-use crate::groups::landed_groups;
+use crate::endings::Endings;
 use crate::lane::Lane;
 use crate::listing::{Line, listing};
 use crate::lives::{Life, lives};
-use crate::notes::{Listed, Notes};
+use crate::notes::{Listed, Mark, Notes};
 use crate::part::Part;
 use crate::picks::Picks;
-use crate::slots::clearings;
-use crate::spans::{HeldTimes, Reign, holds, reigns, turns};
+use crate::rows::Rows;
+use crate::slots::{Pending, Stamped};
+use crate::spans::{HeldTimes, Reign, Spans, reigns};
 use crate::walk::stays;
 use gs_journal::Journal;
 use std::alloc::{AllocError, Global};
@@ -27,7 +28,7 @@ use std::alloc::{AllocError, Global};
 #[derive(Clone, Copy)]
 pub(crate) struct Drawn<'a> {
     pub cpus: u16,
-    pub journal: &'a Journal,
+    pub endings: &'a Endings<'a>,
     pub notes: Notes<'a>,
     pub part: &'a Part<'a>,
     pub all: &'a Gathered,
@@ -48,9 +49,10 @@ pub(crate) struct Gathered {
     pub holds: Vec<HeldTimes>,
     pub reigns: Vec<Reign>,
     pub steps: Vec<Step>,
-    /// Which marks are of a CPU, by CPU.
-    pub slots: Picks,
-    pub clearings: Vec<usize>,
+    /// The marks that are drawn, by CPU.
+    pub decided: Rows<Mark>,
+    /// The times that something was stamped in a slot, by CPU.
+    pub slots: Rows<Pending>,
     /// Which marks tell that a group landed, by group.
     pub groups: Picks,
 }
@@ -77,18 +79,19 @@ impl Gathered {
         let lanes = stays(alloc, journal, cpus)?;
         let lives = lives(alloc, journal, part, &lanes)?;
         let lines = listing(alloc, &lives, listed)?;
-        let turns = turns(alloc, journal)?;
+        let Spans { turns, holds } = Spans::new(alloc, journal, cpus)?;
+        let stamped = Stamped::new(alloc, part, notes.marks, &turns, cpus, journal.len())?;
         Ok(Gathered {
             lanes,
             lives,
             lines,
             counts: counted(alloc, part, notes.marks)?,
-            holds: holds(alloc, journal, cpus)?,
+            holds,
             reigns: reigns(alloc, &turns, journal.len())?,
             steps: steps(alloc, &turns, notes.agents)?,
-            slots: Picks::by_cpu(alloc, notes.marks, cpus)?,
-            clearings: clearings(alloc, &turns)?,
-            groups: landed_groups(alloc, notes.marks, cpus)?,
+            decided: Rows::new(alloc, part, notes.marks, cpus)?,
+            slots: Rows::new(alloc, part, &stamped.pending, cpus)?,
+            groups: stamped.groups,
         })
     }
 }

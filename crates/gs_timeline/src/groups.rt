@@ -6,13 +6,13 @@ ghost use Rattle.gs_timeline.specs.Sent.{Grows, Sends};
 use crate::decided::{failure_of, write_mark};
 use crate::layout::decided_of;
 use crate::lives::Life;
-use crate::notes::{Mark, What};
+use crate::notes::Mark;
 use crate::part::Part;
 use crate::phrases::begin_path;
 use crate::picks::Picks;
 use crate::text::Text;
-use gs_text::WriteFailed;
-use std::alloc::{AllocError, Global};
+use gs_text::{Digits, WriteFailed};
+use std::alloc::AllocError;
 use std::io::Write;
 
 /// How far before their place a bracket stands.
@@ -104,9 +104,10 @@ fn write_title(
     } else {
         ": all placed"
     })?;
+    let mut cpu = Digits::new(0);
     for place in group.iter().take(MOST_TOLD) {
         if let Some(mark) = marks.get(*place) {
-            write_mark(out, "\nline ", lives, mark)?;
+            write_mark(out, "\nline ", lives, mark, &mut cpu)?;
         }
     }
     let more = group.len().saturating_sub(MOST_TOLD);
@@ -131,50 +132,15 @@ fn write_group<W: Write>(
     let Some(first) = mark_at(marks, group.first()) else {
         return Ok(());
     };
-    if !part.meets(first.entries) {
+    if !part.meets(first.place()) {
         return Ok(());
     }
-    let x = part.x(first.entries).saturating_sub(BEFORE);
+    let x = part.x(first.place()).saturating_sub(BEFORE);
     let failed = has_failed(marks, group);
     begin_bracket(out, x, failed, marks, group, first)?;
     write_ends(out, writer, x, marks, group)?;
     write_title(out, lives, failed, marks, group)?;
     Ok(())
-}
-
-/// Makes the mark of so many CPUs in whose slots nothing of a group is stamped.
-fn none_grouped(alloc: Global, cpus: u16) -> Result<Vec<bool>, AllocError> {
-    let mut grouped = Vec::with_capacity(alloc, cpus as usize)?;
-    for _ in 0..cpus {
-        grouped.push(false)?;
-    }
-    Ok(grouped)
-}
-
-/// Returns a list for each group that landed, with the marks that tell so, in order. So many CPUs have slots.
-///
-/// # Errors
-///
-/// `AllocError` if out of memory.
-pub(crate) fn landed_groups(alloc: Global, marks: &[Mark], cpus: u16) -> Result<Picks, AllocError> {
-    let mut grouped = none_grouped(alloc, cpus)?;
-    let mut groups = Picks::new(alloc);
-    let mut line: Option<usize> = None;
-    for (place, mark) in marks.iter().enumerate() {
-        let Some(slot) = grouped.get_mut(mark.cpu as usize) else {
-            continue;
-        };
-        match mark.what {
-            What::Stamped { group, .. } => *slot = group,
-            What::Landed { .. } if *slot => {
-                *slot = false;
-                groups.push(place, line != Some(mark.line))?;
-                line = Some(mark.line);
-            }
-            What::Landed { .. } | What::Late { .. } => {}
-        }
-    }
-    Ok(groups)
 }
 
 /// Adds a bracket for each group that landed, and writes what is long enough.

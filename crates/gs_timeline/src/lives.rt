@@ -3,10 +3,9 @@ ghost use Rattle.gs_timeline.specs.Lives.{born, class_among, class_known, creati
 
 use crate::lane::Lane;
 use crate::part::Part;
-use crate::phrases::write_escaped;
 use crate::stay::Stay;
 use crate::strip::Strip;
-use crate::text::Text;
+use crate::words::Words;
 use gs_journal::{Entry, Journal};
 use gs_layout::{Change, Class, Facts, Message};
 use std::alloc::{AllocError, Global};
@@ -16,11 +15,8 @@ use std::alloc::{AllocError, Global};
 pub(crate) struct Life {
     pub tid: u32,
     pub class: Class,
-    /// Its name as it is shown, and how many letters that is. It has none if it has no name.
-    name: String,
-    letters: u64,
     /// Which thread it is, in words.
-    words: Text,
+    words: Words,
     /// Since which entry it lives and may run, if it does.
     ready_since: Option<usize>,
     /// When it lived and could run.
@@ -29,55 +25,24 @@ pub(crate) struct Life {
     ran: Strip,
 }
 
-/// Adds which thread it is: its tid, its name if it has one, and its class.
-fn write_words(out: &mut Text, tid: u32, name: &str, class: Class) -> Result<(), AllocError> {
-    out.push_number("thread ", u64::from(tid))?;
-    if !name.is_empty() {
-        out.push_str(" ")?;
-        out.push_str(name)?;
-    }
-    out.push_number(", class ", class.number() as u64)
-}
-
 impl Life {
     /// Makes the life of a thread that the entry of this place creates.
     fn new(alloc: Global, tid: u32, facts: &Facts, place: usize) -> Result<Life, AllocError>
         ensures { IfOk result (λ life. born life ≡ (tid, facts.now.class)) }
     {
-        let mut name = String::new(alloc);
-        write_escaped(&mut name, &facts.name)?;
-        let mut words = Text::new(alloc);
-        write_words(&mut words, tid, name.as_str(), facts.class)?;
         Ok(Life {
             tid,
             class: facts.class,
-            name,
-            letters: facts.name.as_bytes().len() as u64,
-            words,
+            words: Words::new(alloc, tid, facts)?,
             ready_since: facts.runnable.then_some(place),
             ready: Strip::new(alloc),
             ran: Strip::new(alloc),
         })
     }
 
-    /// Returns whether it has a name.
-    pub(crate) fn is_named(&self) -> bool {
-        self.letters > 0
-    }
-
-    /// Returns how many letters its name has.
-    pub(crate) fn letters(&self) -> u64 {
-        self.letters
-    }
-
-    /// Lends which thread it is, in words: its tid, its name if it has one, and its class.
-    pub(crate) fn words(&self) -> &Text {
+    /// Lends which thread it is, in words.
+    pub(crate) fn words(&self) -> &Words {
         &self.words
-    }
-
-    /// Lends its name as it is shown.
-    pub(crate) fn name(&self) -> &str {
-        self.name.as_str()
     }
 
     /// Ends the time that it may run, by the entry of this place, if it may.

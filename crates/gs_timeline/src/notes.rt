@@ -1,3 +1,5 @@
+ghost use Rattle.std.specs.Prelude.{◌≡◌};
+
 use gs_layout::Outcome;
 
 /// What an event of a script did to a transaction.
@@ -26,12 +28,22 @@ pub enum What {
 #[derive(Clone, Copy, PartialEq, Eq, Debug)]
 pub struct Mark {
     /// The line of the script that says the event, counted from 1.
-    pub line: usize,
+    pub line: u32,
     /// How many entries the journal had before the event.
-    pub entries: usize,
-    pub cpu: u16,
+    pub entries: u32,
     pub tid: u32,
     pub what: What,
+    pub cpu: u16,
+}
+
+impl Mark {
+    /// Returns before the entry of which place the event was.
+    #[inline(always)]
+    pub fn place(&self) -> usize
+        ensures { result ≡ self.now.entries }
+    {
+        self.entries as usize
+    }
 }
 
 /// What happened to an agent and adds no entry that tells it.

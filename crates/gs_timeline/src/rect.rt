@@ -43,6 +43,23 @@ impl Rect {
     }
 }
 
+/// Adds an entry by its place, and by the line that added it, if there is one.
+#[inline(always)]
+fn write_place(
+    out: &mut Text,
+    words: &str,
+    place: usize,
+    line: Option<usize>,
+) -> Result<(), AllocError>
+    ensures { out.new.settled ≡ out.old.settled }
+{
+    let Some(line) = line else {
+        return out.push_number(words, place as u64);
+    };
+    out.push_two(words, place as u64, " (line ", line as u64)?;
+    out.push_str(")")
+}
+
 /// Adds an entry by its place, and by the line that added it.
 #[inline(always)]
 pub(crate) fn write_entry(
@@ -53,15 +70,54 @@ pub(crate) fn write_entry(
 ) -> Result<(), AllocError>
     ensures { out.new.settled ≡ out.old.settled }
 {
-    let Some(line) = part.line(place) else {
-        return out.push_number(words, place as u64);
-    };
-    out.push_two(words, place as u64, " (line ", line as u64)?;
-    out.push_str(")")
+    write_place(out, words, place, part.line(place))
+}
+
+/// From which entry on and to which something is, and the lines that added these. The lines of a whole history are in no near
+/// cache, so they are looked up before they are wanted.
+#[derive(Clone, Copy)]
+pub(crate) struct Between {
+    from: usize,
+    to: usize,
+    first: Option<usize>,
+    last: Option<usize>,
+}
+
+impl Between {
+    /// Looks the lines up.
+    #[inline(always)]
+    pub(crate) fn new(part: &Part<'_>, from: usize, to: usize) -> Between {
+        Between {
+            from,
+            to,
+            first: part.line(from),
+            last: part.line(to),
+        }
+    }
+
+    /// Adds from which entry on and to which something is, with their lines.
+    #[inline(always)]
+    pub(crate) fn write(&self, out: &mut Text) -> Result<(), AllocError>
+        ensures { out.new.settled ≡ out.old.settled }
+    {
+        let (Some(first), Some(last)) = (self.first, self.last) else {
+            return self.write_some(out);
+        };
+        out.push_two(" from entry ", self.from as u64, " (line ", first as u64)?;
+        out.push_two(") to ", self.to as u64, " (line ", last as u64)?;
+        out.push_str(")")
+    }
+
+    /// Adds the same if there are not both lines.
+    fn write_some(&self, out: &mut Text) -> Result<(), AllocError>
+        ensures { out.new.settled ≡ out.old.settled }
+    {
+        write_place(out, " from entry ", self.from, self.first)?;
+        write_place(out, " to ", self.to, self.last)
+    }
 }
 
 /// Adds from which entry on and to which something is.
-#[inline(always)]
 pub(crate) fn write_from_to(
     out: &mut Text,
     part: &Part<'_>,
@@ -70,6 +126,5 @@ pub(crate) fn write_from_to(
 ) -> Result<(), AllocError>
     ensures { out.new.settled ≡ out.old.settled }
 {
-    write_entry(out, part, " from entry ", from)?;
-    write_entry(out, part, " to ", to)
+    Between::new(part, from, to).write(out)
 }

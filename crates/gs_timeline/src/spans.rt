@@ -41,22 +41,6 @@ pub(crate) struct Turn {
     pub news: News,
 }
 
-/// Returns what the entries tell of agents, and the tear-down, in order. It walks the entries once.
-pub(crate) fn turns(alloc: Global, journal: &Journal) -> Result<Vec<Turn>, AllocError> {
-    let mut turns = Vec::new(alloc);
-    for place in 0..journal.len() {
-        let news = match journal.entry(place) {
-            Entry::Role { generation, cpu } => News::Role { generation, cpu },
-            Entry::Begin { generation } => News::Begin { generation },
-            Entry::Left => News::Left,
-            Entry::Torn => News::Torn,
-            _ => continue,
-        };
-        turns.push(Turn { place, news })?;
-    }
-    Ok(turns)
-}
-
 /// Returns the agents, in order. The last one ends behind so many entries, if nothing else ended it.
 pub(crate) fn reigns(
     alloc: Global,
@@ -132,32 +116,69 @@ fn never_held(alloc: Global, cpus: u16) -> Result<Vec<HeldTimes>, AllocError> {
     Ok(all)
 }
 
-/// Returns when the other class held each of so many CPUs. It walks the entries once.
-pub(crate) fn holds(
-    alloc: Global,
-    journal: &Journal,
-    cpus: u16,
-) -> Result<Vec<HeldTimes>, AllocError> {
-    let mut all = never_held(alloc, cpus)?;
-    for place in 0..journal.len() {
-        match journal.entry(place) {
+/// What the entries tell of agents, and when the other class held each CPU.
+#[derive(Drop)]
+pub(crate) struct Spans {
+    /// What they tell of agents, and the tear-down, in order.
+    pub turns: Vec<Turn>,
+    pub holds: Vec<HeldTimes>,
+}
+
+impl Spans {
+    /// Walks the entries once, and returns what they tell of agents, and of the other class on so many CPUs.
+    ///
+    /// # Errors
+    ///
+    /// `AllocError` if out of memory.
+    pub(crate) fn new(alloc: Global, journal: &Journal, cpus: u16) -> Result<Spans, AllocError> {
+        let mut spans = Spans {
+            turns: Vec::new(alloc),
+            holds: never_held(alloc, cpus)?,
+        };
+        for place in 0..journal.len() {
+            spans.hear(place, &journal.entry(place))?;
+        }
+        for cpu in 0..cpus {
+            spans.give(cpu, journal.len())?;
+        }
+        Ok(spans)
+    }
+
+    /// Keeps that the entry of this place tells so of agents.
+    fn turn(&mut self, place: usize, news: News) -> Result<(), AllocError> {
+        self.turns.push(Turn { place, news })?;
+        Ok(())
+    }
+
+    /// Begins a time that the other class holds a CPU, by the entry of this place.
+    fn take(&mut self, cpu: u16, place: usize) {
+        if let Some(held) = self.holds.get_mut(cpu as usize) {
+            held.since = Some(place);
+        }
+    }
+
+    /// Ends the time that the other class holds a CPU, by the entry of this place, if it holds it.
+    fn give(&mut self, cpu: u16, place: usize) -> Result<(), AllocError> {
+        match self.holds.get_mut(cpu as usize) {
+            Some(held) => held.end(cpu, place),
+            None => Ok(()),
+        }
+    }
+
+    /// Changes as the entry of this place says.
+    #[inline(always)]
+    fn hear(&mut self, place: usize, entry: &Entry) -> Result<(), AllocError> {
+        match *entry {
+            Entry::Role { generation, cpu } => self.turn(place, News::Role { generation, cpu }),
+            Entry::Begin { generation } => self.turn(place, News::Begin { generation }),
+            Entry::Left => self.turn(place, News::Left),
+            Entry::Torn => self.turn(place, News::Torn),
             Entry::Taken { cpu } => {
-                if let Some(held) = all.get_mut(cpu as usize) {
-                    held.since = Some(place);
-                }
+                self.take(cpu, place);
+                Ok(())
             }
-            Entry::Given { cpu } => {
-                if let Some(held) = all.get_mut(cpu as usize) {
-                    held.end(cpu, place)?;
-                }
-            }
-            _ => {}
+            Entry::Given { cpu } => self.give(cpu, place),
+            _ => Ok(()),
         }
     }
-    for cpu in 0..cpus {
-        if let Some(held) = all.get_mut(cpu as usize) {
-            held.end(cpu, journal.len())?;
-        }
-    }
-    Ok(all)
 }

@@ -10,7 +10,7 @@ use std::io::Write;
 use std::marker::Model;
 
 /// A text that is written as it grows is written whenever it has so many bytes.
-const BLOCK_LEN: usize = 65_536;
+const BLOCK_LEN: usize = 24_576;
 
 /// So many bytes may be told between two looks at whether it has as many: more than any part of a picture or a trace has.
 const MOST_BEHIND: usize = 32_768;
@@ -131,15 +131,6 @@ impl Text {
     {
         self.sheet
             .push_number_digits(words, number, between, digits)
-    }
-
-    /// Tells what another text has.
-    #[tactic(auto, using(crate::proofs::Pieces::told_one, crate::proofs::Pieces::behind_whole))]
-    pub fn push_text(&mut self, other: &Text) -> Result<(), AllocError>
-        ensures settled { self.new.settled ≡ self.old.settled }
-        ensures told { OnOk result (self.new.told ≡ self.old.told ++ (other.now.settled ++ other.now.told)) }
-    {
-        self.sheet.push_sheet(&other.sheet)
     }
 
     /// Settles all that was told.

@@ -4,6 +4,7 @@ ghost use Rattle.gs_timeline.specs.Marks.{shade_of};
 use crate::lives::Life;
 use crate::rect::Rect;
 use crate::text::Text;
+use crate::words::Words;
 use gs_layout::Class;
 use gs_text::Digits;
 use std::alloc::AllocError;
@@ -28,15 +29,16 @@ pub(crate) fn digits(number: u64) -> u64 {
     }
 }
 
-/// Lends the life of a thread that has a name, or returns `None` if it has none.
-fn named(life: Option<&Life>) -> Option<&Life> {
-    life.filter(|life| life.is_named())
+/// Lends the words for a thread that has a name, or returns `None` if it has none.
+fn named(life: Option<&Life>) -> Option<&Words> {
+    let words = life?.words();
+    words.has_name().then_some(words)
 }
 
 /// Returns how many letters what a thread is called has.
 pub(crate) fn letters_of(tid: u32, life: Option<&Life>) -> u64 {
     match named(life) {
-        Some(life) => life.letters(),
+        Some(words) => words.letters(),
         None => digits(u64::from(tid)),
     }
 }
@@ -46,7 +48,7 @@ pub(crate) fn write_called(out: &mut Text, tid: u32, life: Option<&Life>) -> Res
     ensures { out.new.settled ≡ out.old.settled }
 {
     match named(life) {
-        Some(life) => out.push_str(life.name()),
+        Some(words) => out.push_str(words.name()),
         None => out.push_decimal(u64::from(tid)),
     }
 }
@@ -63,7 +65,7 @@ pub(crate) fn write_label(
     ensures { out.new.settled ≡ out.old.settled }
 {
     let room = bar.width;
-    let name = named(life).filter(|life| room_for(life.letters()) <= room);
+    let name = named(life).filter(|words| room_for(words.letters()) <= room);
     let number = u64::from(tid);
     if name.is_none() && room_for(digits(number)) > room {
         return Ok(());
@@ -71,7 +73,7 @@ pub(crate) fn write_label(
     out.push_number_digits("<text x=\"", bar.middle(), "\" y=\"", base)?;
     out.push_str("\" class=\"name\">")?;
     match name {
-        Some(life) => out.push_str(life.name())?,
+        Some(words) => out.push_str(words.name())?,
         None => out.push_decimal(number)?,
     }
     out.push_str("</text>\n")
@@ -101,7 +103,7 @@ pub(crate) fn write_thread(out: &mut Text, tid: u32, life: Option<&Life>) -> Res
     ensures { out.new.settled ≡ out.old.settled }
 {
     match life {
-        Some(life) => out.push_text(life.words()),
+        Some(life) => out.push_str(life.words().all()),
         None => {
             out.push_number("thread ", u64::from(tid))?;
             out.push_str(", class ?")

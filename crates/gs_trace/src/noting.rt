@@ -11,11 +11,21 @@ use gs_policy::{Choice, Counted};
 use gs_timeline::{AgentEvent, AgentMark, Fill, Mark, Notes, What};
 use std::alloc::{AllocError, Global};
 
+/// The lines of so many stampings are noted: a mark has its own.
+const NONE_STAMPED: usize = 0;
+
 /// When an event happens: the line that says it, and how many entries the journal had before it.
 #[derive(Clone, Copy)]
 pub(crate) struct When {
     pub(crate) line: usize,
     pub(crate) entries: usize,
+}
+
+/// Returns a number of lines or of entries in four bytes. There are never more than fit: neither a script nor a history has
+/// as many.
+#[inline(always)]
+fn short(number: usize) -> u32 {
+    u32::try_from(number).unwrap_or(u32::MAX)
 }
 
 /// What was noted of the events so far.
@@ -60,11 +70,11 @@ impl Noting {
         ensures { OnOk result (told_by self.new.marks.items ≡ told_by self.old.marks.items ++ told_if cpu tid what) }
     {
         self.marks.push(Mark {
-            line: when.line,
-            entries: when.entries,
-            cpu,
+            line: short(when.line),
+            entries: short(when.entries),
             tid,
             what,
+            cpu,
         })?;
         Ok(())
     }
@@ -184,8 +194,7 @@ impl Noting {
         ensures { OnOk result (self.new.marks.items ≡ self.old.marks.items) }
     {
         let entries = machine.kernel().journal().len();
-        let stamped = machine.transactions().len();
-        self.lines.note(when.line, reply, entries, stamped)?;
+        self.lines.note(when.line, reply, entries, NONE_STAMPED)?;
         self.look_at_ring(when, machine)
     }
 
@@ -201,9 +210,8 @@ impl Noting {
     {
         let last = machine.kernel().last();
         let entries = machine.kernel().journal().len();
-        let stamped = machine.transactions().len();
         self.lines
-            .note_command(when.line, came, last, entries, stamped)?;
+            .note_command(when.line, came, last, entries, NONE_STAMPED)?;
         self.look_at_ring(when, machine)
     }
 }

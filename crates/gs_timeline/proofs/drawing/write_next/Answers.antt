@@ -23,7 +23,7 @@ on_ok (Err e) p = tt
 
 pub returns-then-width-gt0 : goal.returns-then-width-gt0
 returns-then-width-gt0 c =
-    let h = c.args.journal.now.entries in
+    let h = c.args.endings.now in
     let v = scale c.args.part.now in
     let classes = class_among (map born c.args.lives.now) in
     let x : Stay = c.args.stay.now in
@@ -32,8 +32,8 @@ returns-then-width-gt0 c =
     let after = c.write_stay.new.out.settled in
     on_ok_weaker c.write_stay.result
     (λ added.
-    let told = subst (λ (k : Option Class). Adds (bar_pieces v k c.ending_at-ending.result x) middle after) c.life_of-life.ensures added in
-    let same = subst (λ (e : Ending). Adds (bar_pieces v (classes x.tid) e x) middle after) c.ending_at-ending.ensures told in
+    let told = subst (λ (k : Option Class). Adds (bar_pieces v k c.at-ending.result x) middle after) c.life_of-life.ensures added in
+    let same = subst (λ (e : Ending). Adds (bar_pieces v (classes x.tid) e x) middle after) c.at-ending.ensures told in
     let from = subst (λ (t : List ℕ). Adds drawn t after) c.write.ensures same in
     adds_if (nat_lt 0 (width_in v x)) drawn c.args.out.now.settled after (wide c.width.result (width_in v x) c.width.ensures c.if-width-gt0.true) from)
     c.write_stay.ensures

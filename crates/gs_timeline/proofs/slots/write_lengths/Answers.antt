@@ -2,17 +2,11 @@ use Rattle.std.proofs.Common.{[]}
 use Rattle.gs_timeline.proofs.Sent.{grows_more, on_err, sends_grows, sends_more, sends_same}
 use Rattle.gs_timeline.proofs.slots.write_lengths.Goals as goal
 
-pub returns-in_err-hear-clause-stuck : goal.returns-in_err-hear-clause-stuck
-returns-in_err-hear-clause-stuck g c = on_err _ (sends_grows [] _ _ _ _ c.loop-place.invariant)
+pub returns-in_err-write_length-clause-stuck : goal.returns-in_err-write_length-clause-stuck
+returns-in_err-write_length-clause-stuck g c = on_err _ (sends_grows [] _ _ _ _ c.loop-pending.invariant)
 
 pub returns-in_err-spill-clause-stuck : goal.returns-in_err-spill-clause-stuck
-returns-in_err-spill-clause-stuck g c = on_err _ (grows_more _ _ _ (sends_grows [] _ _ _ _ (sends_same [] _ _ _ _ _ c.loop-place.invariant c.hear.ensures)) c.in_err-spill.ensures.stuck)
+returns-in_err-spill-clause-stuck g c = on_err _ (grows_more _ _ _ (sends_grows [] _ _ _ _ (sends_same [] _ _ _ _ _ c.loop-pending.invariant c.write_length.ensures)) c.in_err-spill.ensures.stuck)
 
-pub loop-place-preserved : goal.loop-place-preserved
-loop-place-preserved g c = sends_more [] _ _ _ _ _ _ (sends_same [] _ _ _ _ _ c.loop-place.invariant c.hear.ensures) c.in_ok-spill.ensures.sent
-
-pub returns-in_err-clear-clause-stuck : goal.returns-in_err-clear-clause-stuck
-returns-in_err-clear-clause-stuck g c = on_err _ (sends_grows [] _ _ _ _ c.loop-place.invariant)
-
-pub returns-clause-sent : goal.returns-clause-sent
-returns-clause-sent g c = sends_same [] _ _ _ _ _ c.loop-place.invariant c.clear.ensures
+pub loop-pending-preserved : goal.loop-pending-preserved
+loop-pending-preserved g c = sends_more [] _ _ _ _ _ _ (sends_same [] _ _ _ _ _ c.loop-pending.invariant c.write_length.ensures) c.in_ok-spill.ensures.sent
