@@ -17,7 +17,7 @@ use crate::lives::{Life, lives};
 use crate::notes::{Listed, Mark, Notes};
 use crate::part::Part;
 use crate::picks::Picks;
-use crate::rows::Rows;
+use crate::rows::{Rows, counts};
 use crate::slots::{Pending, Stamped};
 use crate::spans::{HeldTimes, Reign, Spans, reigns};
 use crate::walk::stays;
@@ -80,7 +80,11 @@ impl Gathered {
         let lives = lives(alloc, journal, part, &lanes)?;
         let lines = listing(alloc, &lives, listed)?;
         let Spans { turns, holds } = Spans::new(alloc, journal, cpus)?;
-        let stamped = Stamped::new(alloc, part, notes.marks, &turns, cpus, journal.len())?;
+        let Stamped {
+            pending,
+            groups,
+            drawn,
+        } = Stamped::new(alloc, part, notes.marks, &turns, cpus, journal.len())?;
         Ok(Gathered {
             lanes,
             lives,
@@ -89,9 +93,9 @@ impl Gathered {
             holds,
             reigns: reigns(alloc, &turns, journal.len())?,
             steps: steps(alloc, &turns, notes.agents)?,
-            decided: Rows::new(alloc, part, notes.marks, cpus)?,
-            slots: Rows::new(alloc, part, &stamped.pending, cpus)?,
-            groups: stamped.groups,
+            decided: Rows::new(alloc, part, notes.marks, drawn)?,
+            slots: Rows::new(alloc, part, &pending, counts(alloc, part, &pending, cpus)?)?,
+            groups,
         })
     }
 }

@@ -1,4 +1,4 @@
-ghost use Rattle.std.specs.Prelude.{◌≡◌, ◌↔◌, ◌<◌, ◌^◌, IsTrue, None, OnOk, Some};
+ghost use Rattle.std.specs.Prelude.{◌≡◌, ◌↔◌, ◌<◌, ◌^◌, IfOk, IsTrue, None, OnOk, Some};
 ghost use Rattle.gs_timeline.specs.Lanes.{gone, lane_then, left, seat, seated, vacant};
 
 use crate::stay::Stay;
@@ -23,14 +23,18 @@ impl Model for Lane {
 }
 
 impl Lane {
-    /// Makes the lane of a CPU on which nobody was yet. It does not allocate.
-    pub(crate) fn new(alloc: Global) -> Lane
-        ensures { result ≡ vacant }
+    /// Makes the lane of a CPU on which nobody was yet, with room for so many stays.
+    ///
+    /// # Errors
+    ///
+    /// `AllocError` if out of memory.
+    pub(crate) fn with_room(alloc: Global, room: usize) -> Result<Lane, AllocError>
+        ensures { IfOk result (λ lane. lane ≡ vacant) }
     {
-        Lane {
-            ended: Vec::new(alloc),
+        Ok(Lane {
+            ended: Vec::with_capacity(alloc, room)?,
             there: None,
-        }
+        })
     }
 
     /// Returns whether a thread is on the CPU.

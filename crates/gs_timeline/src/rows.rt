@@ -19,7 +19,7 @@ pub(crate) struct Rows<T: InRow> {
 }
 
 /// Returns how many things each of so many CPUs has in its row.
-fn counts<T: InRow>(
+pub(crate) fn counts<T: InRow>(
     alloc: Global,
     part: &Part<'_>,
     all: &[T],
@@ -68,7 +68,8 @@ fn any<T: InRow>(alloc: Global, all: &[T], count: usize) -> Result<Vec<T>, Alloc
 }
 
 impl<T: InRow> Rows<T> {
-    /// Returns the rows of so many CPUs, with what is drawn in each, in order. It takes exact room for them.
+    /// Returns the rows of the CPUs, with what is drawn in each, in order. It is given how many things each row has, and takes
+    /// exact room for them.
     ///
     /// # Errors
     ///
@@ -77,9 +78,9 @@ impl<T: InRow> Rows<T> {
         alloc: Global,
         part: &Part<'_>,
         all: &[T],
-        cpus: u16,
+        counts: Vec<usize>,
     ) -> Result<Rows<T>, AllocError> {
-        let mut ends = counts(alloc, part, all, cpus)?;
+        let mut ends = counts;
         let mut things = any(alloc, all, begin_each(ends.as_mut_slice()))?;
         for thing in all {
             let Some(cpu) = thing.row(part) else {

@@ -70,12 +70,15 @@ struct Slot {
     since: Option<usize>,
     /// Whether what was stamped in it is one of a group.
     group: bool,
+    /// How many marks of its CPU are drawn.
+    drawn: usize,
 }
 
 /// One in which nothing is stamped.
 const IDLE: Slot = Slot {
     since: None,
     group: false,
+    drawn: 0,
 };
 
 /// The slots as the marks are walked.
@@ -98,6 +101,8 @@ pub(crate) struct Stamped {
     pub pending: Vec<Pending>,
     /// A list for each group that landed, with the marks that tell so, in order.
     pub groups: Picks,
+    /// How many marks of each CPU are drawn.
+    pub drawn: Vec<usize>,
 }
 
 impl Slots {
@@ -118,6 +123,7 @@ impl Slots {
             told: Stamped {
                 pending: Vec::new(alloc),
                 groups: Picks::new(alloc),
+                drawn: Vec::with_capacity(alloc, cpus as usize)?,
             },
         })
     }
@@ -150,10 +156,12 @@ impl Slots {
         self.told.groups.push(place, is_new)
     }
 
-    /// Keeps the time that something is stamped in the slot of a CPU still, up to where it is cleared.
+    /// Keeps the time that something is stamped in the slot of a CPU still, up to where it is cleared, and how many marks of
+    /// the CPU are drawn.
     fn end(&mut self, part: &Part<'_>, cpu: u16) -> Result<(), AllocError> {
-        let since = self.slots.get(cpu as usize).and_then(|slot| slot.since);
-        self.clear(part, cpu, since)
+        let slot = self.slots.get(cpu as usize).copied().unwrap_or(IDLE);
+        self.told.drawn.push(slot.drawn)?;
+        self.clear(part, cpu, slot.since)
     }
 
     /// Changes as a mark says, whose place is given, and keeps what it ends.
@@ -163,16 +171,18 @@ impl Slots {
             return Ok(());
         };
         let before = *slot;
+        if mark.row(part).is_some() {
+            slot.drawn = before.drawn.saturating_add(1);
+        }
         match mark.what {
             What::Stamped { group, .. } => {
-                *slot = Slot {
-                    since: Some(mark.place()),
-                    group,
-                };
+                slot.since = Some(mark.place());
+                slot.group = group;
                 self.clear(part, mark.cpu, before.since)
             }
             What::Landed { .. } => {
-                *slot = IDLE;
+                slot.since = None;
+                slot.group = false;
                 if before.group {
                     self.add_to_group(place, mark)?;
                 }

@@ -148,13 +148,29 @@ fn hear_at(
     seat(lanes, homes, tid, cpu, place)
 }
 
-/// Makes the lanes of so many CPUs on which nobody was yet.
-fn vacant_lanes(alloc: Global, cpus: u16) -> Result<Vec<Lane>, AllocError>
+/// Returns how many threads were placed on each of so many CPUs: at most so many stays are there.
+fn placings(alloc: Global, journal: &Journal, cpus: u16) -> Result<Vec<usize>, AllocError> {
+    let mut counts: Vec<usize> = Vec::new(alloc);
+    counts.resize(cpus as usize, 0)?;
+    for place in 0..journal.len() {
+        let Some((_, cpu)) = placing(&journal.entry(place)) else {
+            continue;
+        };
+        if let Some(count) = counts.get_mut(cpu as usize) {
+            *count = count.saturating_add(1);
+        }
+    }
+    Ok(counts)
+}
+
+/// Makes the lanes of so many CPUs on which nobody was yet, each with room for so many stays.
+fn vacant_lanes(alloc: Global, cpus: u16, rooms: &[usize]) -> Result<Vec<Lane>, AllocError>
     ensures { IfOk result (λ lanes. lanes.items ≡ replicate cpus vacant) }
 {
     let mut lanes = Vec::with_capacity(alloc, cpus as usize)?;
-    for _ in 0..cpus {
-        lanes.push(Lane::new(alloc))?;
+    for cpu in 0..cpus {
+        let room = rooms.get(cpu as usize).copied().unwrap_or(0);
+        lanes.push(Lane::with_room(alloc, room)?)?;
     }
     Ok(lanes)
 }
@@ -162,7 +178,8 @@ fn vacant_lanes(alloc: Global, cpus: u16) -> Result<Vec<Lane>, AllocError>
 /// Returns the stays on each of so many CPUs, in order. Each is as long as can be, of one thread. A thread
 /// that is there still stays to the last entry.
 ///
-/// It walks the entries once, and looks at a CPU only if an entry may change who is on it.
+/// It walks the entries twice: to make exact room, and then for the stays. It looks at a CPU only if an entry may change who
+/// is on it.
 ///
 /// # Errors
 ///
@@ -171,7 +188,8 @@ pub fn stays(alloc: Global, journal: &Journal, cpus: u16) -> Result<Vec<Lane>, A
     ensures count { IfOk result (λ lanes. length lanes.items ≡ cpus) }
     ensures stays { IfOk result (λ lanes. (c : ℕ) → c < cpus → option_map (λ (lane : LaneOf). lane.ended) (slice_get lanes.items c) ≡ Some (stays journal.now.entries c)) }
 {
-    let mut lanes = vacant_lanes(alloc, cpus)?;
+    let rooms = placings(alloc, journal, cpus)?;
+    let mut lanes = vacant_lanes(alloc, cpus, &rooms)?;
     let mut homes = Homes::new(alloc);
     for place in 0..journal.len() {
         hear_at(lanes.as_mut_slice(), &mut homes, journal, place)?;
@@ -181,7 +199,7 @@ pub fn stays(alloc: Global, journal: &Journal, cpus: u16) -> Result<Vec<Lane>, A
     Ok(lanes)
 }
 
-/// Returns all stays on so many CPUs, those of each CPU behind those of the one before. It walks the entries once.
+/// Returns all stays on so many CPUs, those of each CPU behind those of the one before. It walks the entries as [`stays`] does.
 ///
 /// # Errors
 ///
