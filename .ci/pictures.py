@@ -313,8 +313,8 @@ class Drawing:
 
     def decided(self, cpu, marks):
         """What is decided of a CPU: when something was stamped, and the marks, of which those that are near are one."""
-        if marks:
-            yield path(self.stamped(cpu, marks), **{"class": "slot"})
+        if lengths := self.stamped(cpu, marks):
+            yield path(lengths, **{"class": "slot"})
         near = []
         for mark in marks:
             if mark[5] == "placed" or not self.part.meets(mark[1]):
