@@ -1,7 +1,7 @@
 -- What the program's command line takes.
 use Rattle.std.proofs.Common.{◌≡◌, ◌≤◌, ◌<◌, ◌+◌, ◌++◌, get_or, length, map, take, is_some, ℕ, Bool, List, [], ◌∷◌, true, false, refl, codes, cond, ◌∙◌, ap, sym, subst, Option, None, Some, arith}
 use Rattle.std.specs.Fmt.{digits}
-use Rattle.std.specs.Prelude.{decimal, nat_le, nat_lt, IfSome, Result, Ok, Err, ◌&&◌, bytes_eq, option_map, option_and_then}
+use Rattle.std.specs.Prelude.{decimal, nat_le, nat_lt, Result, Ok, Err, ◌&&◌, bytes_eq, option_map, option_and_then}
 use Rattle.std.specs.List.{cons_option, filter_map}
 use Rattle.std.specs.Result.{result_ok}
 use Rattle.std.proofs.lemmas.List.{map-append, take_more}
@@ -22,8 +22,8 @@ use Rattle.gs_arguments.specs.declared.command.Command.TheVariants.{Run, Explain
 use Rattle.gs_arguments.specs.declared.command.Listed.{Listed}
 use Rattle.gs_arguments.specs.declared.command.TheConstants.{DEFAULT_LINES, LEAST_COUNT, MOST_EACH, MOST_LINES, MOST_TICKS, MOST_WORKERS}
 use Rattle.gs_arguments.specs.declared.values.Clash.{Clash}
-use Rattle.gs_arguments.specs.declared.values.Clash.TheVariants.{Backward, TwoForms}
-use Rattle.gs_arguments.specs.Arguments.{ghost_program, command_from, command_given, clash_in, unless_clashing, command_in, compare_given, AreAllowedTicks, AsksAllowed, count_of, flag_of, latency_given, number_of, threads_given, ticks_in, timeline_given}
+use Rattle.gs_arguments.specs.declared.values.Clash.TheVariants.{Backward}
+use Rattle.gs_arguments.specs.Arguments.{ghost_program, command_given, command_of, clash_in, unless_clashing, command_in, compare_given, AreAllowedTicks, AsksAllowed, count_of, flag_of, latency_given, number_of, threads_given, ticks_in, timeline_given}
 
 -- the default as a word of the command line
 pub default_word : codes "10" ≡ decimal DEFAULT_LINES
@@ -196,9 +196,8 @@ given_allowed given command is alone = by_name (bytes_eq given.0 (codes "run")) 
     by_name false false false false false false false false false false false true e = threads_allowed given.1 command e
     by_name false false false false false false false false false false false false e = absurd cc
 
-pub in_range : (given : Option (Text × List Row)) (command : Command) → command_from given ≡ Some command → AsksAllowed command
-in_range None command is = absurd cc
-in_range (Some given) command is = let met = kept (command_given given) command is in given_allowed given command met.0 met.1
+pub command_in_range : (given : Text × List Row) (command : Command) → command_of given ≡ Some command → AsksAllowed command
+command_in_range given command is = let met = kept (command_given given) command is in given_allowed given command met.0 met.1
 
 -- ---- the number that is read of a text
 

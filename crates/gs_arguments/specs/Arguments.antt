@@ -1,10 +1,13 @@
 -- The arguments of the program.
-use Rattle.std.specs.Prelude.{◌≡◌, ◌≤◌, ⊤, ℕ, List, [], ◌∷◌, Bool, true, false, Option, None, Some, codes, bytes_eq, decimal, IfSome, if◌then◌else◌, is_some, nat_le, nat_lt, ◌&&◌, filter_map, option_and_then, option_map, unwrap_or}
+use Rattle.std.specs.Prelude.{◌≡◌, ◌≤◌, ⊤, ℕ, List, [], ◌∷◌, Bool, true, false, Option, None, Some, codes, bytes_eq, decimal, IfSome, if◌then◌else◌, is_some, map, nat_le, nat_lt, ◌&&◌, filter_map, find, option_and_then, option_map, unwrap_or}
+use Rattle.std.specs.Option.{option_map_or}
 use Rattle.std.specs.Str.Parse.{digits_value, without_leading_plus}
 use Rattle.clap.specs.ValueTests.{is_unsigned_in}
-use Rattle.clap.specs.Words.{App, Row, Rule, Text, all_of, first_of, new_app, new_rule, one_of, subcommand_of, with_rule, with_subcommand}
+use Rattle.clap.specs.Words.{App, Row, Rule, Shape, Text, all_of, first_of, new_app, new_rule, one_of, subcommand_of, with_rule, with_subcommand}
 use Rattle.clap.specs.declared.builder.action.ArgAction.TheVariants.{Append, SetTrue}
 use Rattle.clap.specs.declared.builder.value_parser.ValueParser.TheVariants as vp
+use Rattle.clap.specs.Faults.{fault_of}
+use Rattle.gs_arguments.specs.declared.command.Asked.{Asked}
 use Rattle.gs_arguments.specs.declared.command.Command.{Command}
 use Rattle.gs_arguments.specs.declared.command.Command.TheVariants.{Run, Explain, Report, Journal, Timeline, Timehist, Latency, Trace, Serve, Simulate, Compare, Threads}
 use Rattle.gs_arguments.specs.declared.command.Listed.{Listed}
@@ -105,6 +108,14 @@ abbrev pub ghost_program : App
 ghost_program =
     with_subcommand (with_subcommand (with_subcommand (with_subcommand (with_subcommand (with_subcommand (with_subcommand (with_subcommand (with_subcommand (with_subcommand (with_subcommand (with_subcommand ghost_alone run_alone.top) explain_alone.top) report_alone.top) journal_alone.top) timeline_alone.top) timehist_alone.top) latency_alone.top) trace_alone.top) serve_alone.top) simulate_alone.top) compare_alone.top) threads_alone.top
 
+-- a command without the program around it
+abbrev pub alone : Shape → App
+alone command = record { top = command; subs = [] }
+
+-- the command of the program that has this name, without the program around it
+abbrev pub alone_named : Text → Option App
+alone_named name = option_map alone (find (λ command. bytes_eq name command.name) ghost_program.subs)
+
 -- the number that a text spells in decimal digits, of those that 64 bits hold
 abbrev pub number_of : Text → Option ℕ
 number_of text = if is_unsigned_in 0 18446744073709551615 text then Some (digits_value 10 (without_leading_plus text)) else None
@@ -189,47 +200,45 @@ clash_in _ = None
 abbrev pub unless_clashing : Command → Option Command
 unless_clashing command = if is_some (clash_in command) then None else Some command
 
--- the command of what was given, if something was
-abbrev pub command_from : Option (Text × List Row) → Option Command
-command_from given = option_and_then unless_clashing (option_and_then command_given given)
+-- the command of a name, with the values that were given to it, unless something in it does not go together
+abbrev pub command_of : Text × List Row → Option Command
+command_of given = option_and_then unless_clashing (command_given given)
 
 -- the command that the words of a command line give, of which the first is the program's name
 abbrev pub command_in : List Text → Option Command
-command_in words = command_from (subcommand_of ghost_program words)
+command_in words = option_and_then command_of (subcommand_of ghost_program words)
 
 -- the file of this name, of which `-` alone is standard input
 abbrev pub unless_standard : Text → Option Text
 unless_standard name = if bytes_eq name (codes "-") then None else Some name
 
--- the file that was given, if one was
-abbrev pub file_from : Option (Text × List Row) → Option Text
-file_from given = option_and_then unless_standard (option_and_then (λ given. first_of (codes "file") given.1) given)
+-- the file that was given to a command, if one was
+abbrev pub file_given : List Row → Option Text
+file_given rows = option_and_then unless_standard (first_of (codes "file") rows)
 
 -- the file that the words of a command line name
 abbrev pub file_in : List Text → Option Text
-file_in words = file_from (subcommand_of ghost_program words)
+file_in words = option_and_then (λ given. file_given given.1) (subcommand_of ghost_program words)
 
 -- the words that an option is given, in order
 abbrev pub words_in : List Row → Text → List Text
 words_in rows name = unwrap_or (all_of name rows) []
 
--- what `--policy` says of what was given, in order
-abbrev pub policies_from : Option (Text × List Row) → List Text
-policies_from None = []
-policies_from (Some given) = words_in given.1 (codes "policy")
+-- what `--policy` says of what was given to a command, in order
+abbrev pub policies_given : List Row → List Text
+policies_given rows = words_in rows (codes "policy")
 
 -- what `--policy` says in the words of a command line
 abbrev pub policies_in : List Text → List Text
-policies_in words = policies_from (subcommand_of ghost_program words)
+policies_in words = option_map_or (λ given. policies_given given.1) (subcommand_of ghost_program words) []
 
--- what `--seed` says of what was given, in order
-abbrev pub seeds_from : Option (Text × List Row) → List ℕ
-seeds_from None = []
-seeds_from (Some given) = filter_map number_of (words_in given.1 (codes "seed"))
+-- what `--seed` says of what was given to a command, in order
+abbrev pub seeds_given : List Row → List ℕ
+seeds_given rows = filter_map number_of (words_in rows (codes "seed"))
 
 -- what `--seed` says in the words of a command line
 abbrev pub seeds_in : List Text → List ℕ
-seeds_in words = seeds_from (subcommand_of ghost_program words)
+seeds_in words = option_map_or (λ given. seeds_given given.1) (subcommand_of ghost_program words) []
 
 -- there are as many ticks as there may be, if that is said
 abbrev pub AreAllowedTicks : Option ℕ → Type 0
@@ -250,3 +259,12 @@ AsksAllowed (Simulate ticks) = AreAllowedTicks ticks
 AsksAllowed (Compare ticks json csv) = AreAllowedTicks ticks × ((json && csv) ≡ false)
 AsksAllowed (Report last) = (LEAST_LINES ≤ last) × (last ≤ MOST_LINES)
 AsksAllowed (Threads workers each journal) = (LEAST_COUNT ≤ workers) × (workers ≤ MOST_WORKERS) × (LEAST_COUNT ≤ each) × (each ≤ MOST_EACH)
+
+-- what the words of a command line, which have no fault, ask for
+pub record IsAskedBy (words : List Text) (asked : Asked) : Type 0 where
+  pub faultless : fault_of ghost_program words ≡ []
+  pub command : command_in words ≡ Some asked.command
+  pub file : option_map (λ file. file.now) asked.file ≡ file_in words
+  pub policies : map (λ word. word.now) asked.policies.items ≡ policies_in words
+  pub seeds : asked.seeds.items ≡ seeds_in words
+  pub allowed : AsksAllowed asked.command

@@ -1,15 +1,15 @@
 //! What arguments ask for.
 
-ghost use Rattle.std.specs.Prelude.{◌≡◌, ◌≢◌, ℕ, List, false, Some, [], ◌∷◌, map, codes, IfOk, IfErr, MatchResult, option_map};
+ghost use Rattle.std.specs.Prelude.{◌≡◌, ◌≢◌, ℕ, List, false, Some, [], ◌∷◌, map, codes, IfOk, IfErr, IfSome, MatchResult, option_map};
 ghost use Rattle.clap.specs.Words.{kind_of};
 ghost use Rattle.clap.specs.Kinds.{HasKind, Kinds};
 ghost use Rattle.clap.specs.Faults.{fault_of};
-ghost use Rattle.gs_arguments.specs.Arguments.{AsksAllowed, command_in, file_in, ghost_program, policies_in, seeds_in};
+ghost use Rattle.gs_arguments.specs.Arguments.{AsksAllowed, IsAskedBy, command_in, file_in, ghost_program, policies_in, seeds_in};
 ghost use Rattle.gs_arguments.specs.declared.command.Command.{Command};
 ghost use Rattle.gs_arguments.specs.declared.command.Command.TheVariants.{Journal, Report};
 
 use crate::command::{Asked, Command, DEFAULT_LINES};
-use crate::program::program;
+use crate::program::{command_named, program};
 use crate::values::{Clash, asked_of, clash_in, command_given, command_of};
 use clap::error::ErrorKind;
 use std::alloc::{AllocError, Global};
@@ -36,6 +36,18 @@ fn no_command(
     }
 }
 
+/// What the words ask for, if the first after the program's name is that of a command, and if they have no fault. Of the
+/// commands only this one is made for that.
+fn asked_alone<'a, S: AsStr>(alloc: Global, words: &'a [S]) -> Option<Asked<'a>>
+    ensures { IfSome result (IsAskedBy (map S.text words.entry.now)) }
+{
+    let (_, words) = words.split_first()?;
+    let name = words.first()?.as_str();
+    let mut command = command_named(alloc, name).ok()??;
+    let matches = command.try_get_matches_from_mut(words).ok()?;
+    asked_of(alloc, command_of(name, &matches)?, &matches).ok()
+}
+
 /// Reads the arguments. The first word is the name that the program was called by.
 ///
 /// # Errors
@@ -59,10 +71,16 @@ pub fn settings<'a, S: AsStr>(alloc: Global, words: &'a [S]) -> Result<Asked<'a>
     ensures journal { (name : List ℕ) → map S.text words.entry.now ≡ name ∷ codes "journal" ∷ [] → MatchResult result (λ given. given.command ≡ Journal false) (λ e. kind_of e ≡ ErrorKind.OutOfMemory) }
     ensures report { (name : List ℕ) → map S.text words.entry.now ≡ name ∷ codes "report" ∷ [] → MatchResult result (λ given. given.command ≡ Report DEFAULT_LINES) (λ e. kind_of e ≡ ErrorKind.OutOfMemory) }
 {
+    if let Some(asked) = asked_alone(alloc, words) {
+        return Ok(asked);
+    }
     let mut command_line = program(alloc)?;
     let matches = command_line.try_get_matches_from_mut(words)?;
-    match command_of(&matches) {
-        Some(command) => Ok(asked_of(alloc, command, &matches)?),
-        None => Err(no_command(alloc, &mut command_line, command_given(&matches))?),
+    match matches.subcommand() {
+        Some((name, given)) => match command_of(name, given) {
+            Some(command) => Ok(asked_of(alloc, command, given)?),
+            None => Err(no_command(alloc, &mut command_line, command_given(name, given))?),
+        },
+        None => Err(no_command(alloc, &mut command_line, None)?),
     }
 }

@@ -1,9 +1,9 @@
 //! The commands, and the program's command line.
 
-ghost use Rattle.std.specs.Prelude.{◌≡◌, false, IfOk};
+ghost use Rattle.std.specs.Prelude.{◌≡◌, false, IfOk, option_map};
 ghost use Rattle.clap.specs.Words.{app_of};
 ghost use Rattle.clap.specs.declared.builder.command.Command.TheViews.{out-Command as fields_of};
-ghost use Rattle.gs_arguments.specs.Arguments.{compare_alone, compare_runs, explain_alone, ghost_alone, ghost_program, journal_alone, latency_alone, report_alone, run_alone, serve_alone, simulate_alone, threads_alone, timehist_alone, timeline_alone, timeline_of_part, trace_alone};
+ghost use Rattle.gs_arguments.specs.Arguments.{alone_named, compare_alone, compare_runs, explain_alone, ghost_alone, ghost_program, journal_alone, latency_alone, report_alone, run_alone, serve_alone, simulate_alone, threads_alone, timehist_alone, timeline_alone, timeline_of_part, trace_alone};
 
 use crate::command::{MOST_EACH, MOST_WORKERS};
 use crate::options::{
@@ -255,6 +255,8 @@ pub(crate) fn program<'a>(alloc: Global) -> Result<clap::Command<'a>, AllocError
 }
 
 /// The program's command line, of the program alone: with its commands.
+// (a function of its own when it runs, too: its locals are large, and few words need it)
+#[inline(never)]
 fn with_commands<'a>(
     alloc: Global,
     alone: clap::Command<'a>,
@@ -275,4 +277,29 @@ fn with_commands<'a>(
         .subcommand(simulate_command(alloc)?)?
         .subcommand(compare_command(alloc)?)?
         .subcommand(threads_command(alloc)?)
+}
+
+/// The command of this name, by itself, if there is one.
+pub(crate) fn command_named<'a>(
+    alloc: Global,
+    name: &str,
+) -> Result<Option<clap::Command<'a>>, AllocError>
+    ensures { IfOk result (λ found. option_map (λ command. app_of command) found ≡ alone_named name.now) }
+{
+    let command = match name {
+        "run" => run_command(alloc),
+        "explain" => explain_command(alloc),
+        "report" => report_command(alloc),
+        "journal" => journal_command(alloc),
+        "timeline" => timeline_command(alloc),
+        "timehist" => timehist_command(alloc),
+        "latency" => latency_command(alloc),
+        "trace" => trace_command(alloc),
+        "serve" => serve_command(alloc),
+        "simulate" => simulate_command(alloc),
+        "compare" => compare_command(alloc),
+        "threads" => threads_command(alloc),
+        _ => return Ok(None),
+    };
+    Ok(Some(command?))
 }

@@ -2,8 +2,8 @@
 
 ghost use Rattle.std.specs.List.{cons_option};
 ghost use Rattle.std.specs.Prelude.{◌≡◌, ◌++◌, [], map, codes, IfOk, OnOk, filter_map, option_and_then, option_map};
-ghost use Rattle.clap.specs.Words.{first_of, found_of, one_of, rows_of, subcommand_rows_of};
-ghost use Rattle.gs_arguments.specs.Arguments.{command_from, command_given, compare_given, clash_in, count_of, file_from, flag_of, latency_given, listed_by, number_of, policies_from, seeds_from, ticks_in, timeline_given, unless_standard, words_in};
+ghost use Rattle.clap.specs.Words.{first_of, found_of, one_of, rows_of};
+ghost use Rattle.gs_arguments.specs.Arguments.{command_given, command_of, compare_given, clash_in, count_of, file_given, flag_of, latency_given, listed_by, number_of, policies_given, seeds_given, ticks_in, timeline_given, unless_standard, words_in};
 
 use crate::command::{
     Asked, Command, LEAST_COUNT, Listed, MOST_EACH, MOST_LINES, MOST_TICKS, MOST_WORKERS,
@@ -85,34 +85,34 @@ fn latency_given(given: &clap::ArgMatches<'_>) -> Option<Command>
 }
 
 /// The command that was given, with the values of its options.
-pub(crate) fn command_given(matches: &clap::ArgMatches<'_>) -> Option<Command>
-    ensures { result ≡ option_and_then command_given (subcommand_rows_of matches.now) }
+pub(crate) fn command_given(name: &str, given: &clap::ArgMatches<'_>) -> Option<Command>
+    ensures { result ≡ command_given (name.now, rows_of (found_of given.now)) }
 {
-    match matches.subcommand()? {
-        ("run", _) => Some(Command::Run),
-        ("explain", given) => Some(Command::Explain {
+    match name {
+        "run" => Some(Command::Run),
+        "explain" => Some(Command::Explain {
             json: flag_in(given, "json")?,
         }),
-        ("report", given) => Some(Command::Report {
+        "report" => Some(Command::Report {
             last: count_in(given, "last", MOST_LINES)?,
         }),
-        ("journal", given) => Some(Command::Journal {
+        "journal" => Some(Command::Journal {
             json: flag_in(given, "json")?,
         }),
-        ("timeline", given) => timeline_given(given),
-        ("timehist", given) => Some(Command::Timehist {
+        "timeline" => timeline_given(given),
+        "timehist" => Some(Command::Timehist {
             json: flag_in(given, "json")?,
         }),
-        ("latency", given) => latency_given(given),
-        ("trace", _) => Some(Command::Trace),
-        ("serve", given) => Some(Command::Serve {
+        "latency" => latency_given(given),
+        "trace" => Some(Command::Trace),
+        "serve" => Some(Command::Serve {
             explained: flag_in(given, "explain")?,
         }),
-        ("simulate", given) => Some(Command::Simulate {
+        "simulate" => Some(Command::Simulate {
             ticks: ticks_in(given),
         }),
-        ("compare", given) => compare_given(given),
-        ("threads", given) => Some(Command::Threads {
+        "compare" => compare_given(given),
+        "threads" => Some(Command::Threads {
             workers: count_in(given, "workers", MOST_WORKERS)?,
             each: count_in(given, "each", MOST_EACH)?,
             journal: flag_in(given, "journal")?,
@@ -146,10 +146,10 @@ pub(crate) fn clash_in(command: Command) -> Option<Clash>
 }
 
 /// The command that was given, unless something in it does not go together.
-pub(crate) fn command_of(matches: &clap::ArgMatches<'_>) -> Option<Command>
-    ensures { result ≡ command_from (subcommand_rows_of matches.now) }
+pub(crate) fn command_of(name: &str, given: &clap::ArgMatches<'_>) -> Option<Command>
+    ensures { result ≡ command_of (name.now, rows_of (found_of given.now)) }
 {
-    let command = command_given(matches)?;
+    let command = command_given(name, given)?;
     match clash_in(command) {
         Some(_) => None,
         None => Some(command),
@@ -171,10 +171,9 @@ fn unless_standard(name: &str) -> Option<&str>
 }
 
 /// The file that was given, if one was.
-fn file_of<'a>(matches: &clap::ArgMatches<'a>) -> Option<&'a str>
-    ensures { option_map (λ file. file.now) result ≡ file_from (subcommand_rows_of matches.now) }
+fn file_of<'a>(given: &clap::ArgMatches<'a>) -> Option<&'a str>
+    ensures { option_map (λ file. file.now) result ≡ file_given (rows_of (found_of given.now)) }
 {
-    let (_, given) = matches.subcommand()?;
     unless_standard(file_in(given)?)
 }
 
@@ -220,44 +219,28 @@ fn numbers_of(alloc: Global, words: &[&str]) -> Result<Vec<u64>, AllocError>
     Ok(numbers)
 }
 
-/// What `--policy` says of the command that was given, in order.
-fn policies_of<'a>(
-    alloc: Global,
-    matches: &clap::ArgMatches<'a>,
-) -> Result<Vec<&'a str>, AllocError>
-    ensures { IfOk result (λ words. map (λ word. word.now) words.items ≡ policies_from (subcommand_rows_of matches.now)) }
+/// What `--seed` says, in order.
+fn seeds_of(alloc: Global, given: &clap::ArgMatches<'_>) -> Result<Vec<u64>, AllocError>
+    ensures { IfOk result (λ seeds. seeds.items ≡ seeds_given (rows_of (found_of given.now))) }
 {
-    match matches.subcommand() {
-        Some((_, given)) => words_in(alloc, given, "policy"),
-        None => Ok(Vec::new(alloc)),
-    }
+    numbers_of(alloc, &words_in(alloc, given, "seed")?)
 }
 
-/// What `--seed` says of the command that was given, in order.
-fn seeds_of(alloc: Global, matches: &clap::ArgMatches<'_>) -> Result<Vec<u64>, AllocError>
-    ensures { IfOk result (λ seeds. seeds.items ≡ seeds_from (subcommand_rows_of matches.now)) }
-{
-    match matches.subcommand() {
-        Some((_, given)) => numbers_of(alloc, &words_in(alloc, given, "seed")?),
-        None => Ok(Vec::new(alloc)),
-    }
-}
-
-/// What was given, by the command that it is.
+/// What was given to a command.
 pub(crate) fn asked_of<'a>(
     alloc: Global,
     command: Command,
-    matches: &clap::ArgMatches<'a>,
+    given: &clap::ArgMatches<'a>,
 ) -> Result<Asked<'a>, AllocError>
     ensures command { IfOk result (λ asked. asked.command ≡ command) }
-    ensures file { IfOk result (λ asked. option_map (λ file. file.now) asked.file ≡ file_from (subcommand_rows_of matches.now)) }
-    ensures policies { IfOk result (λ asked. map (λ word. word.now) asked.policies.items ≡ policies_from (subcommand_rows_of matches.now)) }
-    ensures seeds { IfOk result (λ asked. asked.seeds.items ≡ seeds_from (subcommand_rows_of matches.now)) }
+    ensures file { IfOk result (λ asked. option_map (λ file. file.now) asked.file ≡ file_given (rows_of (found_of given.now))) }
+    ensures policies { IfOk result (λ asked. map (λ word. word.now) asked.policies.items ≡ policies_given (rows_of (found_of given.now))) }
+    ensures seeds { IfOk result (λ asked. asked.seeds.items ≡ seeds_given (rows_of (found_of given.now))) }
 {
     Ok(Asked {
         command,
-        file: file_of(matches),
-        policies: policies_of(alloc, matches)?,
-        seeds: seeds_of(alloc, matches)?,
+        file: file_of(given),
+        policies: words_in(alloc, given, "policy")?,
+        seeds: seeds_of(alloc, given)?,
     })
 }

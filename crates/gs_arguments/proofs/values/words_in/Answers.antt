@@ -1,7 +1,7 @@
-use Rattle.std.proofs.Common.{◌≡◌, ◌∙◌, ℕ, List, Option, Some, [], ap, map, sym}
-use Rattle.std.specs.Prelude.{option_map, unwrap_or}
+use Rattle.std.proofs.Common.{◌∙◌, List, Option, [], ap, map}
+use Rattle.std.specs.Prelude.{unwrap_or}
 use Rattle.std.proofs.lemmas.Result.{IfOk-weaker}
-use Rattle.clap.specs.Words.{Text, found_of, all_of, rows_of}
+use Rattle.clap.specs.Words.{Text, found_of}
 use Rattle.clap.proofs.WalkLemmas.{raw_values-rows}
 use Rattle.gs_arguments.proofs.values.words_in.Goals as goal
 
