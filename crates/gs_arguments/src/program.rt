@@ -255,8 +255,6 @@ pub(crate) fn program<'a>(alloc: Global) -> Result<clap::Command<'a>, AllocError
 }
 
 /// The program's command line, of the program alone: with its commands.
-// (a function of its own when it runs, too: its locals are large, and few words need it)
-#[inline(never)]
 fn with_commands<'a>(
     alloc: Global,
     alone: clap::Command<'a>,
