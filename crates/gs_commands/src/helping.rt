@@ -6,7 +6,7 @@ ghost use Rattle.gs_commands.specs.Failures.{IsUnknown};
 
 use crate::failure::Failure;
 use crate::policy_help::add_policies;
-use gs_help::{help_text, nearest_word, reference_tables};
+use gs_help::{help_text, nearest_word, reference_rows};
 use gs_script::NamedPolicy;
 use gs_trace::{Ended, TraceFault, write_out};
 use std::alloc::{AllocError, Global};
@@ -55,11 +55,16 @@ pub(crate) fn help_word(words: &[String]) -> Option<&str>
     Some(word)
 }
 
+/// Returns the word that something is said of and that was probably meant by another one, if there is one.
+fn word_near(alloc: Global, word: &str) -> Result<Option<&'static str>, AllocError> {
+    nearest_word(alloc, &reference_rows(alloc)?, word)
+}
+
 /// Returns why nothing is said of a word.
 fn unknown(alloc: Global, word: &str) -> Failure
     ensures { IsUnknown result }
 {
-    match nearest_word(alloc, &reference_tables(), word) {
+    match word_near(alloc, word) {
         Ok(Some(near)) => Failure::NearWord(near),
         Ok(None) => Failure::UnknownWord,
         Err(_) => Failure::Script(TraceFault::OutOfMemory),
@@ -68,7 +73,7 @@ fn unknown(alloc: Global, word: &str) -> Failure
 
 /// Returns what is said of a word: what docs/REFERENCE.md says, and which policies of the program it names.
 fn text_about<P: NamedPolicy>(alloc: Global, word: &str) -> Result<String, AllocError> {
-    let mut text = help_text(alloc, &reference_tables(), word)?;
+    let mut text = help_text(alloc, &reference_rows(alloc)?, word)?;
     add_policies::<P>(&mut text, word)?;
     Ok(text)
 }

@@ -17,18 +17,10 @@ is_about word row = list_any (λ (other : Bor (List ℕ)). is_same word other.no
 abbrev pub said_of : List ℕ → Row → List ℕ
 said_of word row = if is_about word row then row.text.now else []
 
--- what these rows say of a word
+-- what rows say of a word
 abbrev pub text_about : List ℕ → List Row → List ℕ
 text_about word rows = flat_map (said_of word) rows
 
--- the words that these rows are about
-abbrev pub words_in : List Row → List (Bor (List ℕ))
-words_in rows = flat_map (λ row. row.words.now) rows
-
--- what tables say of a word
-abbrev pub text_in : List ℕ → List (Bor (List Row)) → List ℕ
-text_in word tables = flat_map (λ table. text_about word table.now) tables
-
--- the words that tables are about
-abbrev pub words_of : List (Bor (List Row)) → List (Bor (List ℕ))
-words_of tables = flat_map (λ table. words_in table.now) tables
+-- the words that rows are about
+abbrev pub words_of : List Row → List (Bor (List ℕ))
+words_of rows = flat_map (λ row. row.words.now) rows

@@ -1,6 +1,6 @@
-ghost use Rattle.std.specs.Prelude.{◌≡◌, ◌++◌, IfOk, OnOk, string_bytes};
+ghost use Rattle.std.specs.Prelude.{◌≡◌, IfOk, string_bytes};
 ghost use Rattle.gs_hints.specs.Nearest.{IsNearest};
-ghost use Rattle.gs_help.specs.About.{is_about, text_about, text_in, words_in, words_of};
+ghost use Rattle.gs_help.specs.About.{is_about, text_about, words_of};
 
 use gs_hints::nearest;
 use std::alloc::{AllocError, Global};
@@ -23,52 +23,32 @@ fn is_about(row: &Row, word: &str) -> bool
         .any(|other| other.eq_ignore_ascii_case(word))
 }
 
-/// Writes what the rows say that are about a word, in capitals or not, in order. It fails only if out of memory.
-fn write_about(text: &mut String, rows: &[Row], word: &str) -> Result<(), AllocError>
-    ensures { OnOk result (string_bytes text.new ≡ string_bytes text.old ++ text_about word.now rows.now) }
+/// Returns what the rows say that are about a word, in capitals or not, in order. It is empty if none is. It fails only if out of
+/// memory.
+pub fn help_text(alloc: Global, rows: &[Row], word: &str) -> Result<String, AllocError>
+    ensures { IfOk result (λ text. string_bytes text ≡ text_about word.now rows.now) }
 {
+    let mut text = String::new(alloc);
     for row in rows {
         if is_about(row, word) {
             text.push_str(row.text)?;
         }
     }
-    Ok(())
-}
-
-/// Adds the words that rows are about. It fails only if out of memory.
-fn add_words(words: &mut Vec<&'static str>, rows: &[Row]) -> Result<(), AllocError>
-    ensures { OnOk result (words.new.items ≡ words.old.items ++ words_in rows.now) }
-{
-    for row in rows {
-        words.extend_from_slice(row.words)?;
-    }
-    Ok(())
-}
-
-/// Returns what the rows of these tables say that are about a word, in capitals or not, in order. It is empty if none
-/// is. It fails only if out of memory.
-pub fn help_text(alloc: Global, tables: &[&'static [Row]], word: &str) -> Result<String, AllocError>
-    ensures { IfOk result (λ text. string_bytes text ≡ text_in word.now tables.now) }
-{
-    let mut text = String::new(alloc);
-    for table in tables {
-        write_about(&mut text, table, word)?;
-    }
     Ok(text)
 }
 
-/// Returns the word of these tables that was probably meant by another one, as [`nearest`] of gs_hints finds it. It
-/// fails only if out of memory.
+/// Returns the word of these rows that was probably meant by another one, as [`nearest`] of gs_hints finds it. It fails only if
+/// out of memory.
 pub fn nearest_word(
     alloc: Global,
-    tables: &[&'static [Row]],
+    rows: &[Row],
     word: &str,
 ) -> Result<Option<&'static str>, AllocError>
-    ensures { IfOk result (IsNearest word.now (words_of tables.now)) }
+    ensures { IfOk result (IsNearest word.now (words_of rows.now)) }
 {
     let mut words = Vec::new(alloc);
-    for table in tables {
-        add_words(&mut words, table)?;
+    for row in rows {
+        words.extend_from_slice(row.words)?;
     }
     nearest(alloc, word, words.as_slice())
 }

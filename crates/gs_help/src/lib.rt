@@ -6,4 +6,4 @@ mod rows;
 mod tables;
 
 pub use about::{Row, help_text, nearest_word};
-pub use tables::reference_tables;
+pub use tables::reference_rows;

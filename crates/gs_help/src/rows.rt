@@ -3,8 +3,8 @@
 use crate::about::Row;
 
 /// The rows of 'A script'.
-pub(crate) fn a_script() -> &'static [Row] {
-    &[
+pub(crate) fn a_script() -> [Row; 8] {
+    [
         Row {
             words: &["M"],
             text: "word M\n  What it is: a mask of CPUs: the sum of 2^C for each CPU C in it, in decimal\n  Range: 0 to 340282366920938463463374607431768211455\n",
@@ -41,8 +41,8 @@ pub(crate) fn a_script() -> &'static [Row] {
 }
 
 /// The rows of 'The header'.
-pub(crate) fn the_header() -> &'static [Row] {
-    &[
+pub(crate) fn the_header() -> [Row; 7] {
+    [
         Row {
             words: &["cpus"],
             text: "part of the header `cpus` C\n  What it says: how many CPUs the enclave has\n  Range: 2 to 128\n",
@@ -75,8 +75,8 @@ pub(crate) fn the_header() -> &'static [Row] {
 }
 
 /// The rows of 'Threads and CPUs'.
-pub(crate) fn threads_and_cpus() -> &'static [Row] {
-    &[
+pub(crate) fn threads_and_cpus() -> [Row; 9] {
+    [
         Row {
             words: &["create"],
             text: "line `create` M CLASS R NAME\n  What happens: a thread is created, and gets the next number\n  Refused, in this order: EmptyMask, TidsSpent\n  Reply: `created T seq S`\n",
@@ -117,8 +117,8 @@ pub(crate) fn threads_and_cpus() -> &'static [Row] {
 }
 
 /// The rows of 'The agent'.
-pub(crate) fn the_agent() -> &'static [Row] {
-    &[
+pub(crate) fn the_agent() -> [Row; 8] {
+    [
         Row {
             words: &["drain"],
             text: "line `drain` N\n  What happens: the agent takes in at most N messages\n  Refused, in this order: NotActive (none is active, none attaches)\n  Reply: `drained N`, and what stands below\n",
@@ -155,8 +155,8 @@ pub(crate) fn the_agent() -> &'static [Row] {
 }
 
 /// The rows of 'How agents come and go'.
-pub(crate) fn how_agents_come_and_go() -> &'static [Row] {
-    &[
+pub(crate) fn how_agents_come_and_go() -> [Row; 8] {
+    [
         Row {
             words: &["handoff"],
             text: "line `handoff` C\n  What happens: the active agent goes on as one of the next generation, on the CPU. What it stamped before is displaced once it lands\n  Refused, in this order: NotActive, BadCpu, AgentThere, CpuTaken, SeqSpent (of the thread there), GenSpent\n  Reply: `agent C generation G`\n",
@@ -193,8 +193,8 @@ pub(crate) fn how_agents_come_and_go() -> &'static [Row] {
 }
 
 /// The rows of 'Looks'.
-pub(crate) fn looks() -> &'static [Row] {
-    &[
+pub(crate) fn looks() -> [Row; 3] {
+    [
         Row {
             words: &["view"],
             text: "line `view`\n  What it shows: what the agent knows of each thread, in increasing order of tid\n  Refused: NotActive (none is active, none attaches)\n  Reply, a line for each: `view T seq S R mask M class CLASS name NAME`\n",
@@ -211,8 +211,8 @@ pub(crate) fn looks() -> &'static [Row] {
 }
 
 /// The rows of 'Refusals'.
-pub(crate) fn refusals() -> &'static [Row] {
-    &[
+pub(crate) fn refusals() -> [Row; 19] {
+    [
         Row {
             words: &["NoThread", "1"],
             text: "refusal 1 NoThread\n  When: the thread was never created, or is dead; of a stamp: the agent does not know it\n  What to do: create it, or drain first\n",
@@ -293,8 +293,8 @@ pub(crate) fn refusals() -> &'static [Row] {
 }
 
 /// The rows of 'Outcomes'.
-pub(crate) fn outcomes() -> &'static [Row] {
-    &[
+pub(crate) fn outcomes() -> [Row; 15] {
+    [
         Row {
             words: &["Placed", "0"],
             text: "outcome 0 Placed\n  When: none of the others applies: the thread is on the CPU now\n",
@@ -359,8 +359,8 @@ pub(crate) fn outcomes() -> &'static [Row] {
 }
 
 /// The rows of 'Faults of a script'.
-pub(crate) fn faults_of_a_script() -> &'static [Row] {
-    &[
+pub(crate) fn faults_of_a_script() -> [Row; 7] {
+    [
         Row {
             words: &["TooLong"],
             text: "fault TooLong\n  When: the script has over 1,048,576 bytes; L is 0\n",
@@ -393,8 +393,8 @@ pub(crate) fn faults_of_a_script() -> &'static [Row] {
 }
 
 /// The rows of 'Exit statuses'.
-pub(crate) fn exit_statuses() -> &'static [Row] {
-    &[
+pub(crate) fn exit_statuses() -> [Row; 6] {
+    [
         Row {
             words: &["0"],
             text: "exit status 0\n  When: the script ran, also if events were refused or the enclave was torn down; all lines were answered, or nobody reads the answers any more; the workers' agent settled; help or version was asked for\n",
