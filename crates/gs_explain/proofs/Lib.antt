@@ -11,5 +11,8 @@ mod Finding
 mod WorkedRows
 mod Stamps
 mod Lasting
+mod Retelling
+mod RowsAgain
+mod Keeping
 pub mod Knowing
 pub mod Sentences

@@ -3,6 +3,8 @@ pub mod Landings
 pub mod Marked
 pub mod Refusals
 pub mod Gone
+pub mod Retold
+pub mod ToldAgain
 pub mod Commands
 pub mod Rows
 pub mod Objects

@@ -1,10 +1,13 @@
 //! A script explained: each event with its reply, and why it came out so.
 #![tactic(auto)]
 
+mod again;
 mod cause;
+mod content;
 mod explainer;
 mod gone;
 mod hearing;
+mod kept;
 mod landed;
 mod landings;
 mod law;
@@ -15,7 +18,9 @@ mod overflow;
 mod page;
 mod refused;
 mod row;
+mod rows;
 mod run;
+mod same;
 mod teller;
 mod telling;
 mod whys;

@@ -51,16 +51,12 @@ impl Page {
         }
     }
 
-    /// Returns the bytes that are written.
-    pub(crate) fn into_bytes(self) -> Vec<u8>
-        ensures { result.items ≡ self }
+    /// Lends the bytes that are written.
+    #[inline(always)]
+    pub(crate) fn as_bytes(&self) -> &[u8]
+        ensures { result.now ≡ self.now }
     {
-        let Page {
-            text,
-            sentence: _,
-            gone: _,
-        } = self;
-        text.into_bytes()
+        self.text.as_bytes()
     }
 
     /// Returns what is written, as text.

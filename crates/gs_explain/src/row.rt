@@ -20,7 +20,6 @@ use crate::moment::Scene;
 use crate::overflow::overflow_of;
 use crate::page::Page;
 use crate::refused::{torn_down, why_refused};
-use crate::teller::Teller;
 use gs_agent::Drained;
 use gs_core::Reply;
 use gs_journal::Entry;
@@ -163,7 +162,8 @@ pub(crate) fn write_shown(
 
 /// Adds the line of an event, its reply with what explains it, and the entries that it added. An index has heard
 /// the entries before the event, so many, and hears those of the event. It fails only if out of memory.
-fn write_row(
+#[inline(always)]
+pub(crate) fn write_row(
     out: &mut Page,
     said: &SaidLine<'_>,
     scene: &Scene<'_>,
@@ -205,7 +205,7 @@ fn write_came(
 
 /// Adds the line of a command, what came of it with what explains that, and the entries that it added, as [`write_row`] does for
 /// the reply to it.
-fn write_command_row(
+pub(crate) fn write_command_row(
     out: &mut Page,
     said: &SaidLine<'_>,
     scene: &Scene<'_>,
@@ -225,33 +225,4 @@ fn write_command_row(
     hear_all(index, scene.journal, first)?;
     write_came(out, scene, index, came, last)?;
     out.added(first, scene.journal.len())
-}
-
-impl Teller for Page {
-    ghost bytes = { λ page. page };
-
-    ghost show = { row };
-
-    fn row(
-        &mut self,
-        said: &SaidLine<'_>,
-        scene: &Scene<'_>,
-        index: &mut Index,
-        first: usize,
-        reply: &Reply,
-    ) -> Result<(), AllocError> {
-        write_row(self, said, scene, index, first, reply)
-    }
-
-    fn command_row(
-        &mut self,
-        said: &SaidLine<'_>,
-        scene: &Scene<'_>,
-        index: &mut Index,
-        first: usize,
-        came: Result<Executed, Refusal>,
-        last: &Entry,
-    ) -> Result<(), AllocError> {
-        write_command_row(self, said, scene, index, first, came, last)
-    }
 }

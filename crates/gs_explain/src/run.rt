@@ -8,8 +8,9 @@ ghost use Rattle.gs_script.specs.Held.{Faults};
 ghost use Rattle.gs_script.specs.Said.{said_in};
 ghost use Rattle.gs_script.specs.Script.{script_of};
 
+use crate::again::new_block;
 use crate::objects::Objects;
-use crate::page::Page;
+use crate::rows::Rows;
 use crate::teller::Teller;
 use crate::telling::explain_all;
 use gs_core::Machine;
@@ -47,21 +48,6 @@ fn told<P: NamedPolicy, T: Teller>(alloc: Global, input: &[u8], teller: T) -> Re
     explain_all(alloc, &mut machine, header, reading, teller)
 }
 
-/// Returns what explains the script that an input says. It fails with the script's first fault, or out of memory.
-fn explained<P: NamedPolicy>(
-    alloc: Global,
-    how: Explanation,
-    input: &[u8],
-) -> Result<Vec<u8>, ScriptError>
-    ensures told { IfOk result (λ bytes. IsExplained P.naming P.chosen how input.now Ran bytes.items) }
-    ensures fault { IfErr result (λ e. Faults e (script_of P.naming input.now)) }
-{
-    match how {
-        Explanation::Lines => Ok(told::<P, _>(alloc, input, Page::new(alloc))?.into_bytes()),
-        Explanation::Json => Ok(told::<P, _>(alloc, input, Objects::new(alloc))?.into_bytes()),
-    }
-}
-
 /// What explains a script, written so.
 impl<P: NamedPolicy> Answering<P> for Explanation {
     ghost shows = { Told P.chosen };
@@ -72,9 +58,19 @@ impl<P: NamedPolicy> Answering<P> for Explanation {
         input: &[u8],
         writer: &mut W,
     ) -> Result<(), Unanswered> {
-        let bytes = explained::<P>(alloc, *self, input)?;
-        write_out(writer, bytes.as_slice())?;
-        Ok(())
+        match self {
+            Explanation::Lines => {
+                let rows = told::<P, _>(alloc, input, Rows::new(alloc))?;
+                let block = new_block(alloc)?;
+                rows.write(block, writer)?;
+                Ok(())
+            }
+            Explanation::Json => {
+                let objects = told::<P, _>(alloc, input, Objects::new(alloc))?;
+                write_out(writer, objects.into_bytes().as_slice())?;
+                Ok(())
+            }
+        }
     }
 }
 

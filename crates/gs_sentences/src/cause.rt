@@ -22,7 +22,7 @@ pub struct Cause<'a> {
 impl<'a> Cause<'a> {
     /// Returns the entry.
     #[inline(always)]
-    pub(crate) fn entry(&self) -> Entry
+    pub fn entry(&self) -> Entry
         ensures { result ≡ entry_in self.now.journal.now.entries self.now.place }
     {
         if self.place < self.journal.len() {

@@ -126,7 +126,7 @@ impl Sentence {
 
     /// Puts a number in front.
     #[inline(always)]
-    pub(crate) fn put_number(&mut self, number: u64)
+    pub fn put_number(&mut self, number: u64)
         requires { length self.old + 20 ≤ SENTENCE_LEN }
         ensures value { self.new ≡ decimal number ++ self.old }
         ensures short { length self.new ≤ length self.old + 20 }

@@ -1,0 +1,400 @@
+//! The rows of all events of a script.
+
+ghost use Rattle.std.specs.Prelude.{◌≡◌, ◌≤◌, ◌++◌, ◌<◌, ◌∷◌, [], ℕ, List, None, true, false, IfOk, IsOk, IfSome, OnOk, OnErr, length, take};
+ghost use Rattle.std.specs.Io.KnownBytes.{Appends};
+ghost use Rattle.gs_layout.specs.declared.refusal.Refusal.TheVariants as refusals;
+ghost use Rattle.gs_reasons.specs.Kept.{HasHeard};
+ghost use Rattle.gs_replies.specs.Replies.{reply_of};
+ghost use Rattle.gs_replies.specs.declared.reply.Reply.TheVariants as replies;
+ghost use Rattle.gs_script.specs.Words.{is_text};
+ghost use Rattle.gs_script.specs.Unread.{said_line};
+ghost use Rattle.gs_sentences.specs.Given.{landed_given};
+ghost use Rattle.gs_explain.specs.Marked.{IsMarked};
+ghost use Rattle.gs_explain.specs.Moment.{moment_of};
+ghost use Rattle.gs_explain.specs.Retold.{IsBegun, retold};
+ghost use Rattle.gs_explain.specs.Rows.{heading, row};
+ghost use Rattle.gs_explain.specs.ToldAgain.{AreHeld, is_kept_out, kept_put, late_told, told_text};
+ghost use Rattle.gs_explain.specs.declared.content.Told.TheVariants as tolds;
+
+use crate::again::{Again, write_retold};
+use crate::kept::{Kept, gone_again, keep_gone, keep_late, late_again};
+use crate::landed::landed;
+use crate::moment::Scene;
+use crate::page::Page;
+use crate::refused::torn_down;
+use crate::row::{write_command_row, write_row};
+use crate::teller::Teller;
+use gs_core::Reply;
+use gs_journal::Entry;
+use gs_kernel::{Executed, Landing};
+use gs_layout::{Outcome, Refusal};
+use gs_reasons::Index;
+use gs_script::SaidLine;
+use gs_sentences::{Cause, Landed};
+use gs_text::WriteFailed;
+use std::alloc::{AllocError, Global};
+use std::io::Write;
+use std::marker::Model;
+use std::slice;
+
+/// Lines are told apart by so many slots. Few lines of different words have the same.
+const SLOTS: usize = 256;
+
+/// So many are kept at most.
+const MOST_KEPT: usize = 1024;
+
+/// Returns the slot of a line, by its first byte and its last two.
+#[inline(always)]
+fn slot_of(line: &[u8]) -> usize
+    ensures { result < SLOTS }
+{
+    match line {
+        [first, .., tens, ones] => {
+            (*first as usize * 5 + *tens as usize * 10 + *ones as usize) % SLOTS
+        }
+        _ => 0,
+    }
+}
+
+/// The rows so far. What an event has behind the script's line is kept as a text only if it is not what was kept last. Clauses
+/// see the bytes that are told. What adds a row fails only if out of memory.
+#[derive(Drop)]
+pub(crate) struct Rows {
+    page: Page,
+    agains: Vec<Again>,
+    /// What was kept of events that may be told again.
+    kepts: Vec<Kept>,
+    /// Which of these is kept for the lines of each slot, counted from 1, or 0 if none is.
+    places: [usize; SLOTS],
+    /// The transaction that landed late last on a line of each slot, 0 if there is none.
+    lates: [u32; SLOTS],
+}
+
+impl Model for Rows {
+    ghost use Rattle.std.specs.Prelude.{List, ℕ};
+    ghost use Rattle.gs_explain.specs.Retold.{retold};
+    ghost use Rattle.gs_explain.specs.ToldAgain.{AreHeld};
+
+    ghost Value = { List ℕ };
+
+    ghost view = { λ r. retold 0 r.agains.items r.page };
+
+    ghost invariant = { λ r. AreHeld r.page r.agains.items r.kepts.items };
+}
+
+/// Returns what landed late, and under which number, if that was not placed and tore nothing down.
+#[inline(always)]
+fn late_of(reply: &Reply) -> Option<(u32, &Landing)>
+    ensures reply { IfSome result (λ p. reply.now ≡ replies.Late p.0 p.1.now false) }
+    ensures kept { IfSome result (λ p. is_kept_out p.1.now.outcome ≡ true) }
+{
+    match reply {
+        Reply::Late {
+            number,
+            landing,
+            torn: false,
+        } if is_kept_out(landing.outcome) => Some((*number, landing)),
+        _ => None,
+    }
+}
+
+/// Returns whether a late landing that came out so was not placed, and tore nothing down.
+#[inline(always)]
+fn is_kept_out(outcome: Outcome) -> bool
+    ensures { result ≡ is_kept_out outcome }
+{
+    !matches!(outcome, Outcome::Placed | Outcome::Gone)
+}
+
+/// Takes away what is told again, and what is kept: for when memory ran out, and what the text has is not known.
+#[cold]
+#[inline(never)]
+fn forget(agains: &mut Vec<Again>, kepts: &mut Vec<Kept>)
+    ensures agains { agains.new.items ≡ [] }
+    ensures kepts { kepts.new.items ≡ [] }
+{
+    agains.clear();
+    kepts.clear();
+}
+
+/// Keeps what was told now, and takes away what was kept before if that was much. Returns its place, counted from 1. It fails only
+/// if out of memory.
+#[inline(never)]
+fn put_kept(kepts: &mut Vec<Kept>, kept: Result<Kept, AllocError>) -> Result<usize, AllocError>
+    ensures put { OnOk result (IfOk kept (λ kept. kepts.new.items ≡ kept_put kept kepts.old.items)) }
+    ensures told { OnOk result (IsOk kept) }
+{
+    let kept = kept?;
+    if MOST_KEPT <= kepts.len() {
+        kepts.clear();
+    }
+    kepts.extend_from_slice(slice::from_ref(&kept))?;
+    Ok(kepts.len())
+}
+
+impl Rows {
+    /// Makes those of no event.
+    pub(crate) fn new(alloc: Global) -> Rows
+        ensures { result ≡ [] }
+    {
+        Rows {
+            page: Page::new(alloc),
+            agains: Vec::new(alloc),
+            kepts: Vec::new(alloc),
+            places: [0; SLOTS],
+            lates: [0; SLOTS],
+        }
+    }
+
+    /// Adds a row as text. An index has heard the entries before the event, so many, and hears those of the event.
+    #[inline(always)]
+    #[tactic(auto, using(crate::proofs::Retelling::retold_more, crate::proofs::Keeping::held_more))]
+    fn add_text(
+        &mut self,
+        said: &SaidLine<'_>,
+        scene: &Scene<'_>,
+        index: &mut Index,
+        first: usize,
+        reply: &Reply,
+    ) -> Result<(), AllocError>
+        requires text { is_text said.now.bytes.now ≡ true }
+        requires within { first ≤ length scene.now.journal.now.entries }
+        requires heard { HasHeard index.old (take first scene.now.journal.now.entries) }
+        requires marked { IsMarked scene.now.last.now.places.items scene.now.transactions.now }
+        ensures shown { OnOk result (self.new ≡ self.old ++ row (said_line said.now) (moment_of scene.now) first reply.now) }
+        ensures heard { OnOk result (HasHeard index.new scene.now.journal.now.entries) }
+    {
+        match write_row(&mut self.page, said, scene, index, first, reply) {
+            Ok(()) => Ok(()),
+            Err(error) => {
+                forget(&mut self.agains, &mut self.kepts);
+                Err(error)
+            }
+        }
+    }
+
+    /// Adds the row of a command as text, as [`Rows::add_text`] adds it with the reply.
+    #[inline(always)]
+    #[tactic(auto, using(crate::proofs::Retelling::retold_more, crate::proofs::Keeping::held_more))]
+    fn add_command_text(
+        &mut self,
+        said: &SaidLine<'_>,
+        scene: &Scene<'_>,
+        index: &mut Index,
+        first: usize,
+        came: Result<Executed, Refusal>,
+        last: &Entry,
+    ) -> Result<(), AllocError>
+        requires text { is_text said.now.bytes.now ≡ true }
+        requires within { first ≤ length scene.now.journal.now.entries }
+        requires heard { HasHeard index.old (take first scene.now.journal.now.entries) }
+        requires marked { IsMarked scene.now.last.now.places.items scene.now.transactions.now }
+        ensures shown { OnOk result (self.new ≡ self.old ++ row (said_line said.now) (moment_of scene.now) first (reply_of came last.now)) }
+        ensures heard { OnOk result (HasHeard index.new scene.now.journal.now.entries) }
+    {
+        match write_command_row(&mut self.page, said, scene, index, first, came, last) {
+            Ok(()) => Ok(()),
+            Err(error) => {
+                forget(&mut self.agains, &mut self.kepts);
+                Err(error)
+            }
+        }
+    }
+
+    /// Adds a late landing that was not placed and added no entry.
+    #[inline(always)]
+    fn add_late(
+        &mut self,
+        said: &SaidLine<'_>,
+        slot: usize,
+        number: u32,
+        landed: &Landed<'_>,
+    ) -> Result<(), AllocError>
+        requires slot { slot < SLOTS }
+        requires text { is_text said.now.bytes.now ≡ true }
+        requires overflow { landed.now.overflow ≡ None }
+        requires fault { landed.now.fault.now ≡ None }
+        ensures { OnOk result (self.new ≡ self.old ++ (heading (said_line said.now) ++ told_text (late_told number (landed_given landed.now)))) }
+    {
+        let place = self.places[slot];
+        if late_again(
+            &mut self.agains,
+            &self.page,
+            &self.kepts,
+            place,
+            said,
+            number,
+            landed,
+        )? {
+            return Ok(());
+        }
+        let kept = keep_late(&mut self.page, said, number, landed);
+        match put_kept(&mut self.kepts, kept) {
+            Ok(place) => {
+                self.places[slot] = place;
+                Ok(())
+            }
+            Err(error) => {
+                forget(&mut self.agains, &mut self.kepts);
+                Err(error)
+            }
+        }
+    }
+
+    /// Adds an event that was refused since the enclave was torn down by this entry.
+    #[inline(always)]
+    fn add_gone(&mut self, said: &SaidLine<'_>, cause: &Cause<'_>) -> Result<(), AllocError>
+        requires { is_text said.now.bytes.now ≡ true }
+        ensures { OnOk result (self.new ≡ self.old ++ (heading (said_line said.now) ++ told_text (tolds.Gone cause.now.line cause.now.place))) }
+    {
+        let slot = slot_of(said.bytes);
+        let place = self.places[slot];
+        match gone_again(
+            &mut self.agains,
+            &mut self.page,
+            &self.kepts,
+            place,
+            said,
+            cause,
+        ) {
+            Ok(true) => return Ok(()),
+            Ok(false) => {}
+            Err(error) => {
+                forget(&mut self.agains, &mut self.kepts);
+                return Err(error);
+            }
+        }
+        let kept = keep_gone(&mut self.page, said, cause);
+        match put_kept(&mut self.kepts, kept) {
+            Ok(place) => {
+                self.places[slot] = place;
+                Ok(())
+            }
+            Err(error) => {
+                forget(&mut self.agains, &mut self.kepts);
+                Err(error)
+            }
+        }
+    }
+
+    /// Adds the row of a late landing that was not placed and tore nothing down, before which there were as many entries as
+    /// behind it. An index has heard them.
+    #[inline(never)]
+    fn add_late_row(
+        &mut self,
+        said: &SaidLine<'_>,
+        scene: &Scene<'_>,
+        index: &Index,
+        slot: usize,
+        number: u32,
+        landing: &Landing,
+    ) -> Result<(), AllocError>
+        requires slot { slot < SLOTS }
+        requires text { is_text said.now.bytes.now ≡ true }
+        requires kept { is_kept_out landing.now.outcome ≡ true }
+        requires heard { HasHeard index.now scene.now.journal.now.entries }
+        requires marked { IsMarked scene.now.last.now.places.items scene.now.transactions.now }
+        ensures { OnOk result (self.new ≡ self.old ++ row (said_line said.now) (moment_of scene.now) (length scene.now.journal.now.entries) (replies.Late number landing.now false)) }
+    {
+        let count = scene.journal.len();
+        let landed = landed(scene, index, &None, true, count, landing);
+        self.add_late(said, slot, number, &landed)
+    }
+
+    /// Adds the row of an event that was refused since the enclave was torn down, as text. An index has heard all entries, and the
+    /// event added none.
+    #[cold]
+    #[inline(never)]
+    fn add_gone_text(
+        &mut self,
+        said: &SaidLine<'_>,
+        scene: &Scene<'_>,
+        index: &mut Index,
+    ) -> Result<(), AllocError>
+        requires text { is_text said.now.bytes.now ≡ true }
+        requires heard { HasHeard index.old scene.now.journal.now.entries }
+        requires marked { IsMarked scene.now.last.now.places.items scene.now.transactions.now }
+        ensures shown { OnOk result (self.new ≡ self.old ++ row (said_line said.now) (moment_of scene.now) (length scene.now.journal.now.entries) (replies.Refused refusals.Gone)) }
+        ensures heard { OnOk result (HasHeard index.new scene.now.journal.now.entries) }
+    {
+        let count = scene.journal.len();
+        self.add_text(said, scene, index, count, &Reply::Refused(Refusal::Gone))
+    }
+
+    /// Adds the row of such an event, and tells again what was told of another, if it can.
+    #[inline(never)]
+    fn add_gone_row(
+        &mut self,
+        said: &SaidLine<'_>,
+        scene: &Scene<'_>,
+        index: &mut Index,
+    ) -> Result<(), AllocError>
+        requires text { is_text said.now.bytes.now ≡ true }
+        requires heard { HasHeard index.old scene.now.journal.now.entries }
+        requires marked { IsMarked scene.now.last.now.places.items scene.now.transactions.now }
+        ensures shown { OnOk result (self.new ≡ self.old ++ row (said_line said.now) (moment_of scene.now) (length scene.now.journal.now.entries) (replies.Refused refusals.Gone)) }
+        ensures heard { OnOk result (HasHeard index.new scene.now.journal.now.entries) }
+    {
+        match torn_down(scene, index) {
+            Some(cause) => self.add_gone(said, &cause),
+            None => self.add_gone_text(said, scene, index),
+        }
+    }
+
+    /// Writes all rows, in blocks, for which an empty one is given.
+    ///
+    /// # Errors
+    ///
+    /// `WriteFailed` if a write fails or takes no byte, or out of memory: a beginning was written, short of the whole.
+    pub(crate) fn write<W: Write>(&self, block: Vec<u8>, writer: &mut W) -> Result<(), WriteFailed>
+        requires { block.items ≡ [] }
+        ensures sent { OnOk result (Appends (W.contents writer.old) (W.contents writer.new) self.now) }
+        ensures begun { OnErr result (IsBegun (W.contents writer.old) (W.contents writer.new) self.now) }
+    {
+        write_retold(self.page.as_bytes(), self.agains.as_slice(), block, writer)
+    }
+}
+
+impl Teller for Rows {
+    ghost bytes = { λ rows. rows };
+
+    ghost show = { row };
+
+    fn row(
+        &mut self,
+        said: &SaidLine<'_>,
+        scene: &Scene<'_>,
+        index: &mut Index,
+        first: usize,
+        reply: &Reply,
+    ) -> Result<(), AllocError> {
+        if scene.journal.len() == first {
+            if let Some((number, landing)) = late_of(reply) {
+                let slot = slot_of(said.bytes);
+                if number == self.lates[slot] {
+                    return self.add_late_row(said, scene, index, slot, number, landing);
+                }
+                self.lates[slot] = number;
+            }
+            if matches!(reply, Reply::Refused(Refusal::Gone)) {
+                return self.add_gone_row(said, scene, index);
+            }
+        }
+        self.add_text(said, scene, index, first, reply)
+    }
+
+    fn command_row(
+        &mut self,
+        said: &SaidLine<'_>,
+        scene: &Scene<'_>,
+        index: &mut Index,
+        first: usize,
+        came: Result<Executed, Refusal>,
+        last: &Entry,
+    ) -> Result<(), AllocError> {
+        if matches!(came, Err(Refusal::Gone)) && scene.journal.len() == first {
+            return self.add_gone_row(said, scene, index);
+        }
+        self.add_command_text(said, scene, index, first, came, last)
+    }
+}

@@ -1,0 +1,81 @@
+//! When entries and landings are the same, field by field.
+
+ghost use Rattle.std.specs.Prelude.{◌≡◌, ◌↔◌, IsTrue};
+
+use gs_journal::Entry;
+use gs_kernel::Landing;
+use gs_layout::{Change, Facts, Message};
+
+/// Returns whether these are the same facts of a thread.
+fn same_facts(one: &Facts, other: &Facts) -> bool
+    ensures { IsTrue result ↔ (one.now ≡ other.now) }
+{
+    one.mask.bits() == other.mask.bits()
+        && one.runnable == other.runnable
+        && one.class == other.class
+        && one.name.as_bytes() == other.name.as_bytes()
+}
+
+/// Returns whether messages say the same of a thread.
+fn same_change(one: &Change, other: &Change) -> bool
+    ensures { IsTrue result ↔ (one.now ≡ other.now) }
+{
+    match (one, other) {
+        (Change::Created { facts }, Change::Created { facts: f }) => same_facts(facts, f),
+        (Change::Blocked { cpu }, Change::Blocked { cpu: c }) => cpu == c,
+        (Change::Wakeup, Change::Wakeup) => true,
+        (Change::Preempted { cpu }, Change::Preempted { cpu: c }) => cpu == c,
+        (Change::Yield { cpu }, Change::Yield { cpu: c }) => cpu == c,
+        (Change::Dead { cpu }, Change::Dead { cpu: c }) => cpu == c,
+        (
+            Change::Affinity { cpu, off, mask },
+            Change::Affinity {
+                cpu: c,
+                off: o,
+                mask: m,
+            },
+        ) => cpu == c && off == o && mask.bits() == m.bits(),
+        _ => false,
+    }
+}
+
+/// Returns whether these are the same messages.
+fn same_message(one: &Message, other: &Message) -> bool
+    ensures { IsTrue result ↔ (one.now ≡ other.now) }
+{
+    match (one, other) {
+        (
+            Message::Thread { tid, tseq, change },
+            Message::Thread {
+                tid: t,
+                tseq: n,
+                change: c,
+            },
+        ) => tid == t && tseq == n && same_change(change, c),
+        (Message::TimerTick { cpu }, Message::TimerTick { cpu: c }) => cpu == c,
+        _ => false,
+    }
+}
+
+/// Returns whether these are the same entries of a journal.
+pub(crate) fn same_entry(one: &Entry, other: &Entry) -> bool
+    ensures { IsTrue result ↔ (one.now ≡ other.now) }
+{
+    match (one, other) {
+        (Entry::Posted { message }, Entry::Posted { message: m }) => same_message(message, m),
+        (Entry::Posted { .. }, _) => false,
+        (_, Entry::Posted { .. }) => false,
+        _ => one == other,
+    }
+}
+
+/// Returns whether the same became of two slots.
+pub(crate) fn same_landing(one: &Landing, other: &Landing) -> bool
+    ensures { IsTrue result ↔ (one.now ≡ other.now) }
+{
+    one.cpu == other.cpu
+        && one.tid == other.tid
+        && one.outcome == other.outcome
+        && one.seen == other.seen
+        && one.at == other.at
+}
