@@ -10,11 +10,14 @@ use gs_text::{WriteFailed, write_out};
 use std::alloc::{AllocError, Global};
 use std::io::Write;
 
-/// What is told again is written whenever there are more bytes of it than so many.
-const BLOCK_LEN: usize = 32_768;
+/// What is gathered in a block is written whenever there are more bytes of it than so many.
+const BLOCK_LEN: usize = 61_440;
 
-/// So many bytes a block has at most, since none that are more than a block are added to it.
-const MOST_LEN: usize = 2 * BLOCK_LEN;
+/// Bytes that are more than so many are written at once, and not gathered.
+const LONG_LEN: usize = 4_096;
+
+/// So many bytes a block has at most.
+const MOST_LEN: usize = BLOCK_LEN + LONG_LEN;
 
 /// A part of a text that is told again behind its first bytes, so many: the part between two places. In front of it stands the
 /// number of a script's line, unless that is 0.
@@ -89,7 +92,7 @@ fn add_any<W: Write>(block: &mut Vec<u8>, writer: &mut W, bytes: &[u8]) -> Resul
     ensures moved { OnOk result (Moves (W.contents writer.old) block.old.items bytes.now (W.contents writer.new) block.new.items) }
     ensures begun { OnErr result (IsBegun (W.contents writer.old) (W.contents writer.new) (block.old.items ++ bytes.now)) }
 {
-    if BLOCK_LEN < bytes.len() {
+    if LONG_LEN < bytes.len() {
         add_long(block, writer, bytes)
     } else {
         add(block, writer, bytes)

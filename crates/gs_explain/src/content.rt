@@ -12,7 +12,7 @@ use gs_layout::Outcome;
 use gs_sentences::{Cause, Landed, Stamped};
 
 /// An entry that is a reason, with the line that added it and its place.
-#[derive(Clone, Copy, PartialEq, Eq, Debug)]
+#[derive(Clone, Copy)]
 pub(crate) struct Source {
     pub(crate) line: usize,
     pub(crate) place: usize,
@@ -20,7 +20,7 @@ pub(crate) struct Source {
 }
 
 /// All that the bytes depend on which are told of an event behind the script's line.
-#[derive(Clone, Copy, PartialEq, Eq, Debug)]
+#[derive(Clone, Copy)]
 pub(crate) enum Told {
     /// A transaction of this number landed late and was not placed. It tore nothing down, and no group failed it.
     Late {

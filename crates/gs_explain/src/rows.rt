@@ -37,11 +37,11 @@ use std::io::Write;
 use std::marker::Model;
 use std::slice;
 
-/// Lines are told apart by so many slots. Few lines of different words have the same.
+/// Lines are told apart by so many slots. What is kept for a line is kept for all lines of its slot.
 const SLOTS: usize = 256;
 
 /// So many are kept at most.
-const MOST_KEPT: usize = 1024;
+const MOST_KEPT: usize = 1_024;
 
 /// Returns the slot of a line, by its first byte and its last two.
 #[inline(always)]
@@ -56,8 +56,8 @@ fn slot_of(line: &[u8]) -> usize
     }
 }
 
-/// The rows so far. What an event has behind the script's line is kept as a text only if it is not what was kept last. Clauses
-/// see the bytes that are told. What adds a row fails only if out of memory.
+/// The rows so far. A row that says what an earlier one says may be kept as the place of that. Clauses see the bytes that are
+/// told. What adds a row fails only if out of memory.
 #[derive(Drop)]
 pub(crate) struct Rows {
     page: Page,
@@ -66,7 +66,8 @@ pub(crate) struct Rows {
     kepts: Vec<Kept>,
     /// Which of these is kept for the lines of each slot, counted from 1, or 0 if none is.
     places: [usize; SLOTS],
-    /// The transaction that landed late last on a line of each slot, 0 if there is none.
+    /// The transaction that landed late last on a line of each slot, 0 if there is none. What landed late is kept from the second
+    /// time on, since most transactions land late once.
     lates: [u32; SLOTS],
 }
 

@@ -24,6 +24,14 @@ use gs_trace::Lines;
 use std::alloc::{AllocError, Global};
 use std::slice;
 
+/// Returns a command as an event that names no policy.
+#[inline(always)]
+fn bare_command(command: &Command) -> Event<()>
+    ensures { result ≡ Event.Kernel command.now }
+{
+    Event::Kernel { command: *command }
+}
+
 /// Lets a command be executed, and adds what explains it, as [`explain_one`] does. It is given as the event, too.
 fn explain_command<P: Counted + Copy, T: Teller>(
     machine: &mut Machine<P>,
@@ -53,7 +61,7 @@ fn explain_command<P: Counted + Copy, T: Teller>(
     mark_last(last, transactions, stamped)?;
     let latest = kernel.last();
     lines.note_command(said.number, came, latest, journal.len(), transactions.len())?;
-    let bare = event.with_policy(());
+    let bare = bare_command(command);
     let region = machine.region();
     let scene = Scene {
         noted: lines,

@@ -10,7 +10,7 @@ use Rattle.gs_reasons.specs.Kept.{HasHeard}
 use Rattle.gs_slots.specs.Reading.{states_in}
 use Rattle.gs_script.specs.Unread.{said_line}
 use Rattle.gs_explain.specs.Marked.{IsMarked}
-use Rattle.gs_explain.specs.Moment.{Moment, moment}
+use Rattle.gs_explain.specs.Moment.{Moment, bare, moment}
 use Rattle.gs_trace.specs.Noted.{Noted, filled, noted_after}
 use Rattle.gs_trace.specs.NotedLines.{noted_of}
 use Rattle.gs_explain.proofs.Grown.{stamps_kept, stamps_longer, step_keeps, step_longer}
@@ -72,9 +72,9 @@ returns g c =
     let k = c.kernel-kernel.result.now in
     let history = c.journal-journal.result.now.entries in
     let stamps = c.transactions-transactions.result.now in
-    let at_hand : made l.entries.items l.stamped.items l.page c.with_policy-bare.result history stamps (states_in 0 c.region-region.result.now) k.settings k.poster ≡ moment after e next =
-    moment_is after e next l.entries.items l.stamped.items l.page c.with_policy-bare.result history stamps (states_in 0 c.region-region.result.now) k.settings k.poster
-    (ap (λ (w : Noted). w.lines) lines) (ap (λ (w : Noted). w.stamped) lines) (ap (λ (w : Noted). w.page) lines) c.with_policy-bare.ensures entries transactions
+    let at_hand : made l.entries.items l.stamped.items l.page c.bare_command-bare.result history stamps (states_in 0 c.region-region.result.now) k.settings k.poster ≡ moment after e next =
+    moment_is after e next l.entries.items l.stamped.items l.page c.bare_command-bare.result history stamps (states_in 0 c.region-region.result.now) k.settings k.poster
+    (ap (λ (w : Noted). w.lines) lines) (ap (λ (w : Noted). w.stamped) lines) (ap (λ (w : Noted). w.page) lines) (c.bare_command-bare.ensures ∙ ap bare (sym c.requires.given)) entries transactions
     c.region-region.ensures c.kernel-kernel.ensures.settings c.kernel-kernel.ensures.posted c.kernel-kernel.ensures.ring c.kernel-kernel.ensures.consumed in
     both_ok c.command_row.result _ _ _
     (λ shown heard. record {
