@@ -120,17 +120,43 @@ fn forget(agains: &mut Vec<Again>, kepts: &mut Vec<Kept>)
 
 /// Keeps what was told now, and takes away what was kept before if that was much. Returns its place, counted from 1. It fails only
 /// if out of memory.
-#[inline(never)]
-fn put_kept(kepts: &mut Vec<Kept>, kept: Result<Kept, AllocError>) -> Result<usize, AllocError>
-    ensures put { OnOk result (IfOk kept (λ kept. kepts.new.items ≡ kept_put kept kepts.old.items)) }
-    ensures told { OnOk result (IsOk kept) }
+fn put_kept(kepts: &mut Vec<Kept>, kept: &Kept) -> Result<usize, AllocError>
+    ensures { OnOk result (kepts.new.items ≡ kept_put kept.now kepts.old.items) }
 {
-    let kept = kept?;
     if MOST_KEPT <= kepts.len() {
         kepts.clear();
     }
-    kepts.extend_from_slice(slice::from_ref(&kept))?;
+    kepts.extend_from_slice(slice::from_ref(kept))?;
     Ok(kepts.len())
+}
+
+/// Keeps what was told now, for the lines of its slot. If that failed, nothing is kept.
+#[inline(never)]
+fn settle(
+    agains: &mut Vec<Again>,
+    kepts: &mut Vec<Kept>,
+    place: &mut usize,
+    kept: Result<Kept, AllocError>,
+) -> Result<(), AllocError>
+    ensures told { OnOk result (IsOk kept) }
+    ensures put { OnOk result (IfOk kept (λ kept. kepts.new.items ≡ kept_put kept kepts.old.items)) }
+    ensures same { OnOk result (agains.new.items ≡ agains.old.items) }
+    ensures none { OnErr result ((agains.new.items ≡ []) × (kepts.new.items ≡ [])) }
+{
+    let put = match kept {
+        Ok(kept) => put_kept(kepts, &kept),
+        Err(error) => Err(error),
+    };
+    match put {
+        Ok(put) => {
+            *place = put;
+            Ok(())
+        }
+        Err(error) => {
+            forget(agains, kepts);
+            Err(error)
+        }
+    }
 }
 
 impl Rows {
@@ -230,16 +256,13 @@ impl Rows {
             return Ok(());
         }
         let kept = keep_late(&mut self.page, said, number, landed);
-        match put_kept(&mut self.kepts, kept) {
-            Ok(place) => {
-                self.places[slot] = place;
-                Ok(())
-            }
-            Err(error) => {
-                forget(&mut self.agains, &mut self.kepts);
-                Err(error)
-            }
-        }
+        settle(
+            &mut self.agains,
+            &mut self.kepts,
+            &mut self.places[slot],
+            kept,
+        )?;
+        Ok(())
     }
 
     /// Adds an event that was refused since the enclave was torn down by this entry.
@@ -266,16 +289,13 @@ impl Rows {
             }
         }
         let kept = keep_gone(&mut self.page, said, cause);
-        match put_kept(&mut self.kepts, kept) {
-            Ok(place) => {
-                self.places[slot] = place;
-                Ok(())
-            }
-            Err(error) => {
-                forget(&mut self.agains, &mut self.kepts);
-                Err(error)
-            }
-        }
+        settle(
+            &mut self.agains,
+            &mut self.kepts,
+            &mut self.places[slot],
+            kept,
+        )?;
+        Ok(())
     }
 
     /// Adds the row of a late landing that was not placed and tore nothing down, before which there were as many entries as
