@@ -43,14 +43,16 @@ const SLOTS: usize = 256;
 /// So many are kept at most.
 const MOST_KEPT: usize = 1_024;
 
-/// Returns the slot of a line, by its first byte and its last two.
+/// Returns the slot of a line, by its first byte and its last three: lines that differ only in a number have slots one behind
+/// another.
 #[inline(always)]
 fn slot_of(line: &[u8]) -> usize
     ensures { result < SLOTS }
 {
     match line {
-        [first, .., tens, ones] => {
-            (*first as usize * 5 + *tens as usize * 10 + *ones as usize) % SLOTS
+        [first, .., hundreds, tens, ones] => {
+            let number = *hundreds as usize * 100 + *tens as usize * 10 + *ones as usize;
+            (*first as usize * 5 + number) % SLOTS
         }
         _ => 0,
     }
