@@ -157,14 +157,6 @@ impl Sheet {
         self.append(b"\n")
     }
 
-    /// Adds another text.
-    pub fn push_sheet(&mut self, other: &Sheet) -> Result<(), AllocError>
-        ensures added { OnOk result (self.new ≡ self.old ++ other.now) }
-        ensures kept { OnErr result (self.new ≡ self.old) }
-    {
-        self.append(&other.bytes[..other.len])
-    }
-
     /// Adds a number.
     #[inline(always)]
     pub fn push_decimal(&mut self, number: u64) -> Result<(), AllocError>
