@@ -8,13 +8,30 @@ use std::alloc::AllocError;
 /// The most places of a column of numbers.
 const MOST_WIDTH: usize = 9;
 
-/// Returns how many digits a number has.
-#[inline(always)]
-fn digits(number: usize) -> usize
+/// Returns how many digits a number has, however many these are.
+#[cold]
+#[inline(never)]
+fn many_digits(number: usize) -> usize
     ensures { result ≡ length (decimal number) }
 {
     let mut buffer = Buffer::new();
     buffer.format(number).len()
+}
+
+/// Returns how many digits a number has.
+#[inline(always)]
+pub(crate) fn digits(number: usize) -> usize
+    ensures { result ≡ length (decimal number) }
+{
+    match number {
+        0..10 => 1,
+        10..100 => 2,
+        100..1_000 => 3,
+        1_000..10_000 => 4,
+        10_000..100_000 => 5,
+        100_000..1_000_000 => 6,
+        _ => many_digits(number),
+    }
 }
 
 /// Adds a column with a number.
