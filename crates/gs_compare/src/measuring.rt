@@ -5,7 +5,7 @@ ghost use Rattle.std.specs.List.{AllZip, count_by, filter};
 ghost use Rattle.gs_layout.specs.declared.facts.Class.TheVariants.{Zero, One};
 ghost use Rattle.gs_simulate.specs.Heard.{IsHeardWith};
 ghost use Rattle.gs_tallies.specs.Accounts.{IsAccountOfClass, IsAccountOfThread, created_in};
-ghost use Rattle.gs_compare.specs.Measures.{IsMeasured, Weighs, class_measures, count_at, cpus_of, ends_burst, history_of, idle_wanted, is_burst_of, measures_of, rans_of, tells_of, wanted_ticks};
+ghost use Rattle.gs_compare.specs.Measures.{IsMeasured, Weighs, class_measures, count_at, cpus_of, ends_burst, history_of, idle_wanted, is_burst_of, measures_of, ran_ticks_of, rans_of, tells_of, wanted_ticks};
 
 use crate::measured::{Measured, Measures};
 use crate::share::{sum_of, worst_share};
@@ -15,7 +15,7 @@ use gs_kernel::Landing;
 use gs_layout::{Class, Outcome};
 use gs_script::NamedPolicy;
 use gs_simulate::Simulated;
-use gs_tallies::{Account, class_accounts, thread_accounts};
+use gs_tallies::{Account, Held, ThreadAccount, class_accounts, thread_accounts};
 use gs_timeline::Ending;
 use gs_turns::{Told, Turn, turns};
 use gs_usage::{Usage, usages};
@@ -53,19 +53,31 @@ fn count_at(account: &Account, outcome: Outcome) -> usize
 }
 
 /// Returns whether an account is of a class.
-fn tells_of(class: Class, account: &Account) -> bool
+fn tells_of(class: Class, account: &ThreadAccount) -> bool
     ensures { result ≡ tells_of class account.now }
 {
-    account.class == Some(class)
+    match account.held() {
+        Held::Idle { class: of, .. } => of == class,
+        Held::Whole(account) => account.class == Some(class),
+    }
+}
+
+/// Returns how many ticks the thread of an account ran.
+fn ran_ticks(account: &ThreadAccount) -> usize
+    ensures { result ≡ ran_ticks_of account.now }
+{
+    match account.held() {
+        Held::Idle { .. } => 0,
+        Held::Whole(account) => account.tally.sums.ran.ticks,
+    }
 }
 
 /// Returns how many ticks each thread of a class ran, by the accounts of the threads that were created.
-fn rans_of(alloc: Global, class: Class, threads: &[Account]) -> Result<Vec<usize>, AllocError>
+fn rans_of(alloc: Global, class: Class, threads: &[ThreadAccount]) -> Result<Vec<usize>, AllocError>
     ensures { IfOk result (λ rans. rans.items ≡ rans_of class threads.now) }
 {
     let own = threads.iter().filter(|account| tells_of(class, account));
-    own.map(|account| account.tally.sums.ran.ticks)
-        .collect(alloc)
+    own.map(ran_ticks).collect(alloc)
 }
 
 /// Returns what is measured of a class, by its account, the turns, and how many ticks each of its threads ran.
@@ -90,7 +102,7 @@ fn class_measures(
     alloc: Global,
     class: Class,
     turns: &[Turn],
-    threads: &[Account],
+    threads: &[ThreadAccount],
     account: &Account,
 ) -> Result<Option<Measures>, AllocError>
     ensures { IfOk result (λ measures. measures ≡ class_measures class turns.now threads.now account.now) }
@@ -131,7 +143,11 @@ fn both_classes(
 }
 
 /// Returns what each thread comes to that was created.
-fn all_threads(alloc: Global, told: &Told, landings: &[Landing]) -> Result<Vec<Account>, AllocError>
+fn all_threads(
+    alloc: Global,
+    told: &Told,
+    landings: &[Landing],
+) -> Result<Vec<ThreadAccount>, AllocError>
     ensures { IfOk result (λ accounts. AllZip (IsAccountOfThread told.now.threads.items told.now.turns.items landings.now) (created_in told.now.threads.items) accounts.items) }
 {
     thread_accounts(alloc, &told.threads, &told.turns, landings)

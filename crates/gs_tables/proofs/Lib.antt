@@ -3,3 +3,4 @@ mod Rowing
 mod Tabled
 mod Whole
 mod Listing
+mod IdleRows

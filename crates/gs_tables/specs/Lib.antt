@@ -2,4 +2,5 @@ pub mod Notes
 pub mod Numbers
 pub mod Timehist
 pub mod Latency
+pub mod Idle
 pub mod Tables

@@ -5,11 +5,13 @@ ghost use Rattle.std.specs.List.{flat_map};
 ghost use Rattle.gs_lines.specs.Columns.{column};
 ghost use Rattle.gs_tables.specs.Latency.{account_row, account_shown, count_at, headed, is_nobody, landing_row, landing_shown, landings_heading, landings_shown, landings_table, latency_of, spread_words, stays_words, tid_word, time_in, times_words, unit_text, usage_shown, uses_heading, uses_row, uses_table, waits_heading, waits_in, waits_row, waits_table, who};
 
+use crate::accounts::Accounts;
 use crate::column::push_count;
+use crate::idle::push_idle;
 use crate::latency_json::{push_account, push_landing, push_usage};
 use gs_layout::{OUTCOMES, Outcome};
 use gs_lines::{Text, class_word, outcome_name, push_column};
-use gs_tallies::{Account, Spread, Sums};
+use gs_tallies::{Account, Held, Spread, Sums, ThreadAccount};
 use gs_trace::Notation;
 use gs_turns::Time;
 use gs_usage::Usage;
@@ -169,6 +171,21 @@ fn push_account_shown(
     push_account_row(alloc, notation, out, account)
 }
 
+/// Adds what tells of the waits of a thread.
+fn push_thread_shown(
+    alloc: Global,
+    notation: Notation,
+    out: &mut Text,
+    account: &ThreadAccount,
+) -> Result<(), AllocError>
+    ensures { OnOk result (out.new ≡ out.old ++ account_shown notation account.now) }
+{
+    match account.held() {
+        Held::Idle { class, tid } => push_idle(notation, out, class, tid),
+        Held::Whole(account) => push_account_shown(alloc, notation, out, account),
+    }
+}
+
 /// Returns how many slots of an account came to an outcome.
 pub(crate) fn count_at(account: &Account, outcome: Outcome) -> usize
     ensures { result ≡ count_at account.now outcome }
@@ -263,6 +280,21 @@ fn push_landings_shown(
     push_outcomes(alloc, notation, out, account, &ALL_OUTCOMES)
 }
 
+/// Adds what tells of the slots of a thread.
+fn push_thread_landings_shown(
+    alloc: Global,
+    notation: Notation,
+    out: &mut Text,
+    account: &ThreadAccount,
+) -> Result<(), AllocError>
+    ensures { OnOk result (out.new ≡ out.old ++ landings_shown notation account.now) }
+{
+    match account.held() {
+        Held::Idle { .. } => Ok(()),
+        Held::Whole(account) => push_landings_shown(alloc, notation, out, account),
+    }
+}
+
 /// Adds the line that tells what a CPU was used for, in a unit.
 fn push_uses_row(out: &mut Text, unit: Unit, cpu: usize, usage: &Usage) -> Result<(), AllocError>
     ensures { OnOk result (out.new ≡ out.old ++ uses_row unit cpu usage.now) }
@@ -306,19 +338,77 @@ fn push_heading(notation: Notation, out: &mut Text, names: &str) -> Result<(), A
     }
 }
 
+/// Adds what tells of the waits of classes.
+fn push_class_waits(
+    alloc: Global,
+    notation: Notation,
+    out: &mut Text,
+    accounts: &[Account],
+) -> Result<(), AllocError>
+    ensures { OnOk result (out.new ≡ out.old ++ flat_map (account_shown notation) accounts.now) }
+{
+    for account in accounts {
+        push_account_shown(alloc, notation, out, account)?;
+    }
+    Ok(())
+}
+
+/// Adds what tells of the waits of threads.
+fn push_thread_waits(
+    alloc: Global,
+    notation: Notation,
+    out: &mut Text,
+    accounts: &[ThreadAccount],
+) -> Result<(), AllocError>
+    ensures { OnOk result (out.new ≡ out.old ++ flat_map (account_shown notation) accounts.now) }
+{
+    for account in accounts {
+        push_thread_shown(alloc, notation, out, account)?;
+    }
+    Ok(())
+}
+
 /// Adds the table that tells of waits.
 #[tactic(auto, unfolding(crate::specs::Latency::waits_heading))]
 fn push_waits(
     alloc: Global,
     notation: Notation,
     out: &mut Text,
-    accounts: &[Account],
+    accounts: &Accounts,
 ) -> Result<(), AllocError>
-    ensures { OnOk result (out.new ≡ out.old ++ waits_table notation accounts.now) }
+    ensures { OnOk result (out.new ≡ out.old ++ waits_table notation (accounts.now.by_class.items ++ accounts.now.by_thread.items)) }
 {
     push_heading(notation, out, WAITS_HEADING)?;
+    push_class_waits(alloc, notation, out, &accounts.by_class)?;
+    push_thread_waits(alloc, notation, out, &accounts.by_thread)
+}
+
+/// Adds what tells of the slots of classes.
+fn push_class_landings(
+    alloc: Global,
+    notation: Notation,
+    out: &mut Text,
+    accounts: &[Account],
+) -> Result<(), AllocError>
+    ensures { OnOk result (out.new ≡ out.old ++ flat_map (landings_shown notation) accounts.now) }
+{
     for account in accounts {
-        push_account_shown(alloc, notation, out, account)?;
+        push_landings_shown(alloc, notation, out, account)?;
+    }
+    Ok(())
+}
+
+/// Adds what tells of the slots of threads.
+fn push_thread_landings(
+    alloc: Global,
+    notation: Notation,
+    out: &mut Text,
+    accounts: &[ThreadAccount],
+) -> Result<(), AllocError>
+    ensures { OnOk result (out.new ≡ out.old ++ flat_map (landings_shown notation) accounts.now) }
+{
+    for account in accounts {
+        push_thread_landings_shown(alloc, notation, out, account)?;
     }
     Ok(())
 }
@@ -329,15 +419,13 @@ fn push_landings(
     alloc: Global,
     notation: Notation,
     out: &mut Text,
-    accounts: &[Account],
+    accounts: &Accounts,
 ) -> Result<(), AllocError>
-    ensures { OnOk result (out.new ≡ out.old ++ landings_table notation accounts.now) }
+    ensures { OnOk result (out.new ≡ out.old ++ landings_table notation (accounts.now.by_class.items ++ accounts.now.by_thread.items)) }
 {
     push_heading(notation, out, LANDINGS_HEADING)?;
-    for account in accounts {
-        push_landings_shown(alloc, notation, out, account)?;
-    }
-    Ok(())
+    push_class_landings(alloc, notation, out, &accounts.by_class)?;
+    push_thread_landings(alloc, notation, out, &accounts.by_thread)
 }
 
 /// Adds the table that tells what CPUs were used for. The usages are those of the CPUs from 0 on.
@@ -361,10 +449,10 @@ fn push_uses(
 pub(crate) fn latency(
     alloc: Global,
     notation: Notation,
-    accounts: &[Account],
+    accounts: &Accounts,
     usages: &[Usage],
 ) -> Result<Vec<u8>, AllocError>
-    ensures { IfOk result (λ bytes. bytes.items ≡ latency_of notation accounts.now usages.now) }
+    ensures { IfOk result (λ bytes. bytes.items ≡ latency_of notation (accounts.now.by_class.items ++ accounts.now.by_thread.items) usages.now) }
 {
     let mut out = Text::new(alloc);
     push_waits(alloc, notation, &mut out, accounts)?;

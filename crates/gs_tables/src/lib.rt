@@ -1,7 +1,9 @@
 //! Tables of what a script's threads and CPUs did: a line for each stay of a thread on a CPU.
 #![tactic(auto)]
 
+mod accounts;
 mod column;
+mod idle;
 mod latency;
 mod latency_json;
 mod notes;

@@ -1,7 +1,5 @@
-ghost use Rattle.std.specs.Prelude.{◌≡◌, ◌≢◌, IfOk, IfErr, IsErrOf, length};
+ghost use Rattle.std.specs.Prelude.{◌≡◌, ◌≢◌, IfOk, IfErr, IsErrOf};
 ghost use Rattle.std.specs.Io.KnownBytes.{Keeps};
-ghost use Rattle.gs_journal.specs.History.{History};
-ghost use Rattle.gs_turns.specs.Knowing.{AreKnown};
 ghost use Rattle.gs_trace.specs.declared.run.Ended.TheVariants.{Ran};
 ghost use Rattle.gs_trace.specs.Streams.{AnswersAll, AnswersOf, BeginsAnswer, ConsumesAtMost};
 ghost use Rattle.gs_script.specs.Held.{Faults};
@@ -9,20 +7,19 @@ ghost use Rattle.gs_script.specs.Script.{script_of};
 ghost use Rattle.gs_script.specs.Unread.{events_unread, said_unread};
 ghost use Rattle.gs_core.specs.Machine.{planning};
 ghost use Rattle.gs_trace.specs.Noted.{noted_first};
-ghost use Rattle.gs_tables.specs.Tables.{AreAccounts, IsTable, Shows, ShowsRun, Tabulated};
+ghost use Rattle.gs_tables.specs.Tables.{IsTable, Shows, ShowsRun, Tabulated};
 
+use crate::accounts::Accounts;
 use crate::latency::latency;
 use crate::notes::{Notes, note_all};
 use crate::timehist::timehist;
 use gs_core::Machine;
-use gs_kernel::Landing;
 use gs_policy::Counted;
 use gs_script::{NamedPolicy, Opened, Reading, ScriptError, open_script};
-use gs_tallies::{Account, class_accounts, thread_accounts};
 use gs_trace::{
     Answering, Kept, MOST_READ_BYTES, Notation, TraceFault, Unanswered, answer_script, write_out,
 };
-use gs_turns::{Told, turns};
+use gs_turns::turns;
 use gs_usage::usages;
 use std::alloc::{AllocError, Global};
 use std::io::{Read, Write};
@@ -40,23 +37,6 @@ pub enum Table {
     },
 }
 
-/// Returns what the turns and landings of each class come to, and behind these, if they are listed, of each thread.
-fn accounts_of(
-    alloc: Global,
-    listed: bool,
-    told: &Told,
-    landings: &[Landing],
-) -> Result<Vec<Account>, AllocError>
-    ensures { IfOk result (λ accounts. (h : History) → AreKnown h (length h) told.now.threads.items → AreAccounts listed h told.now.turns.items landings.now accounts.items) }
-{
-    let mut accounts = class_accounts(alloc, &told.threads, &told.turns, landings)?;
-    if listed {
-        let own = thread_accounts(alloc, &told.threads, &told.turns, landings)?;
-        accounts.extend_from_slice(&own)?;
-    }
-    Ok(accounts)
-}
-
 /// Returns the table of what happened, by the machine that it left and what was noted of it.
 fn shown<P: Counted + Copy>(
     alloc: Global,
@@ -72,7 +52,7 @@ fn shown<P: Counted + Copy>(
     match table {
         Table::Timehist(notation) => timehist(alloc, notation, &notes.lines.entries, &told.turns),
         Table::Latency { notation, threads } => {
-            let accounts = accounts_of(alloc, threads, &told, &notes.landings)?;
+            let accounts = Accounts::new(alloc, threads, &told, &notes.landings)?;
             let usages = usages(alloc, journal, cpus)?;
             latency(alloc, notation, &accounts, &usages)
         }

@@ -57,6 +57,10 @@ pub record IsTally (ts : List Turn) (t : Tally) : Type 0 where
   pub no_entries : IfNone t.waits_in_entries (ts ≡ [])
   pub no_ticks : IfNone t.waits_in_ticks (ts ≡ [])
 
+-- what no turns come to
+abbrev pub no_tally : Tally
+no_tally = record { sums = sums_of []; waits_in_entries = None; waits_in_ticks = None }
+
 -- whether two classes are the same, or none is known of both
 abbrev pub same_class : Option Class → Option Class → Bool
 same_class (Some Zero) (Some Zero) = true

@@ -27,7 +27,7 @@ pub(crate) trait Draft<T> {
         ensures { drafts [] result };
 
     /// Adds a thing.
-    fn add(&mut self, thing: &T) -> Result<(), AllocError>
+    fn add(&mut self, alloc: Global, thing: &T) -> Result<(), AllocError>
         ensures { OnOk result ((xs : List T) → length xs < usize.MAX → drafts xs self.old → drafts (xs ++ thing.now ∷ []) self.new) };
 }
 
@@ -45,6 +45,7 @@ fn empty_groups<T, D: Draft<T> + Drop>(alloc: Global, count: usize) -> Result<Ve
 
 /// Adds a thing to the group of this place, if there is one.
 fn add_to<T, D: Draft<T> + Drop>(
+    alloc: Global,
     all: &mut Vec<D>,
     place: usize,
     thing: &T,
@@ -55,7 +56,7 @@ fn add_to<T, D: Draft<T> + Drop>(
     if place >= all.len() {
         return Ok(());
     }
-    all[place].add(thing)
+    all[place].add(alloc, thing)
 }
 
 /// Returns what so many groups come to, each of those things that are in it, in order. Things of other groups are in none
@@ -73,7 +74,7 @@ pub(crate) fn grouped<T, G: Grouping<T>, D: Draft<T> + Drop>(
     let _most = things.iter().len();
     let mut all = empty_groups(alloc, count)?;
     for thing in things {
-        add_to(&mut all, grouping.group_of(thing), thing)?;
+        add_to(alloc, &mut all, grouping.group_of(thing), thing)?;
     }
     Ok(all)
 }

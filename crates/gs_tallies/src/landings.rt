@@ -26,7 +26,7 @@ impl Draft<Landing> for LandingDraft {
         }
     }
 
-    fn add(&mut self, landing: &Landing) -> Result<(), AllocError> {
+    fn add(&mut self, _alloc: Global, landing: &Landing) -> Result<(), AllocError> {
         let outcome = landing.outcome.number() as usize;
         self.counts[outcome] = self.counts[outcome].saturating_add(1);
         Ok(())

@@ -1,8 +1,6 @@
-ghost use Rattle.std.specs.Prelude.{◌≡◌, ◌+◌, ◌*◌, ◌<◌, ◌≤◌, IfOk, IfSome, IfNone, [], length};
+ghost use Rattle.std.specs.Prelude.{◌≡◌, ◌+◌, ◌*◌, ◌<◌, ◌≤◌, IfSome, IfNone, [], length};
 ghost use Rattle.std.specs.List.Sorted.{IsNonDecreasing};
 ghost use Rattle.gs_tallies.specs.Spreads.{IsPercentile, IsSpread, percent_of};
-
-use std::alloc::AllocError;
 
 /// How some numbers are spread: percentiles by the nearest rank.
 #[derive(Clone, Copy, PartialEq, Eq, Debug)]
@@ -63,19 +61,14 @@ fn spread_in(rising: &[usize]) -> Spread
     }
 }
 
-/// Returns how numbers are spread, or `None` if there are none.
-///
-/// # Errors
-///
-/// `AllocError` if out of memory.
-pub(crate) fn spread_of(numbers: Vec<usize>) -> Result<Option<Spread>, AllocError>
-    ensures some { IfOk result (λ spread. IfSome spread (IsSpread numbers.items)) }
-    ensures none { IfOk result (λ spread. IfNone spread (numbers.items ≡ [])) }
+/// Returns how numbers are spread, or `None` if there are none. It sorts them.
+pub(crate) fn spread_of(numbers: &mut [usize]) -> Option<Spread>
+    ensures some { IfSome result (IsSpread numbers.old) }
+    ensures none { IfNone result (numbers.old ≡ []) }
 {
     if numbers.is_empty() {
-        return Ok(None);
+        return None;
     }
-    let mut rising = numbers;
-    rising.sort()?;
-    Ok(Some(spread_in(&rising)))
+    numbers.sort_unstable();
+    Some(spread_in(numbers))
 }

@@ -1,7 +1,7 @@
-ghost use Rattle.std.specs.Prelude.{◌≡◌, List, IfOk, map};
+ghost use Rattle.std.specs.Prelude.{◌≡◌, List, IfOk, OnOk, map};
 ghost use Rattle.gs_turns.specs.declared.turn.Turn.{Turn};
 ghost use Rattle.gs_tallies.specs.Drafts.{IsTurnDraft, entries_in, ticks_in, wait_of};
-ghost use Rattle.gs_tallies.specs.Tallies.{IsTally};
+ghost use Rattle.gs_tallies.specs.Tallies.{IsTally, no_tally};
 
 use crate::group::Draft;
 use crate::spread::{Spread, spread_of};
@@ -37,26 +37,28 @@ fn wait_of(turn: &Turn) -> Time
     }
 }
 
-/// Returns how many entries each of some waits took.
-fn entries_of(alloc: Global, waits: &[Time]) -> Result<Vec<usize>, AllocError>
-    ensures { IfOk result (λ all. all.items ≡ map entries_in waits.now) }
+/// Has a list hold how many entries each of some waits took, and nothing else.
+fn put_entries(all: &mut Vec<usize>, waits: &[Time]) -> Result<(), AllocError>
+    ensures { OnOk result (all.new.items ≡ map entries_in waits.now) }
 {
-    let mut all = Vec::with_capacity(alloc, waits.len())?;
+    all.clear();
+    all.reserve(waits.len())?;
     for wait in waits {
         all.push(wait.entries)?;
     }
-    Ok(all)
+    Ok(())
 }
 
-/// Returns how many ticks each of some waits took.
-fn ticks_of(alloc: Global, waits: &[Time]) -> Result<Vec<usize>, AllocError>
-    ensures { IfOk result (λ all. all.items ≡ map ticks_in waits.now) }
+/// Has a list hold how many ticks each of some waits took, and nothing else.
+fn put_ticks(all: &mut Vec<usize>, waits: &[Time]) -> Result<(), AllocError>
+    ensures { OnOk result (all.new.items ≡ map ticks_in waits.now) }
 {
-    let mut all = Vec::with_capacity(alloc, waits.len())?;
+    all.clear();
+    all.reserve(waits.len())?;
     for wait in waits {
         all.push(wait.ticks)?;
     }
-    Ok(all)
+    Ok(())
 }
 
 impl Draft<Turn> for TurnDraft {
@@ -71,26 +73,39 @@ impl Draft<Turn> for TurnDraft {
         }
     }
 
-    fn add(&mut self, turn: &Turn) -> Result<(), AllocError> {
+    fn add(&mut self, _alloc: Global, turn: &Turn) -> Result<(), AllocError> {
         self.waits.push(wait_of(turn))?;
         self.sums = self.sums.with(turn);
         Ok(())
     }
 }
 
+impl Tally {
+    /// What no turns come to.
+    pub(crate) fn none() -> Tally
+        ensures { result ≡ no_tally }
+    {
+        Tally {
+            sums: Sums::none(),
+            waits_in_entries: None,
+            waits_in_ticks: None,
+        }
+    }
+}
+
 impl TurnDraft {
-    /// Returns what the turns come to.
+    /// Returns what the turns come to. It sorts their waits in a list that is given, whatever that holds.
     ///
     /// # Errors
     ///
     /// `AllocError` if out of memory.
-    pub(crate) fn tally(&self, alloc: Global) -> Result<Tally, AllocError>
+    pub(crate) fn tally(&self, numbers: &mut Vec<usize>) -> Result<Tally, AllocError>
         ensures { IfOk result (λ tally. (ts : List Turn) → IsTurnDraft ts self.now → IsTally ts tally) }
     {
-        let entries = entries_of(alloc, &self.waits)?;
-        let waits_in_entries = spread_of(entries)?;
-        let ticks = ticks_of(alloc, &self.waits)?;
-        let waits_in_ticks = spread_of(ticks)?;
+        put_entries(numbers, &self.waits)?;
+        let waits_in_entries = spread_of(numbers);
+        put_ticks(numbers, &self.waits)?;
+        let waits_in_ticks = spread_of(numbers);
         Ok(Tally {
             sums: self.sums,
             waits_in_entries,

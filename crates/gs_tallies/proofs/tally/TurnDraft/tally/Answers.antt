@@ -27,14 +27,12 @@ none_of f ts (Some s) ws is none = tt
 
 pub returns : goal.returns
 returns c ts is =
-    let waits = c.deref.ensures.value ∙ is.waits in
-    let more = c.deref-2.ensures.value ∙ is.waits in
-    let entries : c.in_ok-entries.entries.items ≡ map waited ts = c.in_ok-entries.ensures ∙ (ap (map entries_in) waits ∙ in_entries ts) in
-    let ticks : c.in_ok-ticks.ticks.items ≡ map waited_ticks ts = c.in_ok-ticks.ensures ∙ (ap (map ticks_in) more ∙ in_ticks ts) in
+    let entries : c.deref_mut.result.now ≡ map waited ts = c.deref_mut.ensures.value ∙ (c.in_ok-put_entries.ensures ∙ (ap (map entries_in) (c.deref.ensures.value ∙ is.waits) ∙ in_entries ts)) in
+    let ticks : c.deref_mut-2.result.now ≡ map waited_ticks ts = c.deref_mut-2.ensures.value ∙ (c.in_ok-put_ticks.ensures ∙ (ap (map ticks_in) (c.deref-2.ensures.value ∙ is.waits) ∙ in_ticks ts)) in
     record {
       sums = is.sums;
-      entries = subst (λ (ws : List ℕ). IfSome c.in_ok-waits_in_entries.waits_in_entries (IsSpread ws)) entries c.in_ok-waits_in_entries.ensures.some;
-      ticks = subst (λ (ws : List ℕ). IfSome c.in_ok-waits_in_ticks.waits_in_ticks (IsSpread ws)) ticks c.in_ok-waits_in_ticks.ensures.some;
-      no_entries = none_of waited ts c.in_ok-waits_in_entries.waits_in_entries c.in_ok-entries.entries.items entries c.in_ok-waits_in_entries.ensures.none;
-      no_ticks = none_of waited_ticks ts c.in_ok-waits_in_ticks.waits_in_ticks c.in_ok-ticks.ticks.items ticks c.in_ok-waits_in_ticks.ensures.none;
+      entries = subst (λ (ws : List ℕ). IfSome c.spread_of-waits_in_entries.result (IsSpread ws)) entries c.spread_of-waits_in_entries.ensures.some;
+      ticks = subst (λ (ws : List ℕ). IfSome c.spread_of-waits_in_ticks.result (IsSpread ws)) ticks c.spread_of-waits_in_ticks.ensures.some;
+      no_entries = none_of waited ts c.spread_of-waits_in_entries.result c.deref_mut.result.now entries c.spread_of-waits_in_entries.ensures.none;
+      no_ticks = none_of waited_ticks ts c.spread_of-waits_in_ticks.result c.deref_mut-2.result.now ticks c.spread_of-waits_in_ticks.ensures.none;
     }

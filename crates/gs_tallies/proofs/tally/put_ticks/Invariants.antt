@@ -1,6 +1,6 @@
 use Rattle.std.proofs.Common.{◌≡◌, map, take}
 use Rattle.gs_tallies.specs.Drafts.{ticks_in}
-use Rattle.gs_tallies.proofs.tally.ticks_of.Given as goal
+use Rattle.gs_tallies.proofs.tally.put_ticks.Given as goal
 
 abbrev pub invariant-loop-wait : goal.invariant-loop-wait
 invariant-loop-wait l = l.all.items ≡ map ticks_in (take l.wait-index l.waits)
