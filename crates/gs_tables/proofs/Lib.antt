@@ -4,3 +4,4 @@ mod Tabled
 mod Whole
 mod Listing
 mod IdleRows
+mod Objects

@@ -3,4 +3,5 @@ pub mod Numbers
 pub mod Timehist
 pub mod Latency
 pub mod Idle
+pub mod Pieces
 pub mod Tables

@@ -132,12 +132,7 @@ fn push_waits_row(out: &mut Text, unit: Unit, account: &Account) -> Result<(), A
 }
 
 /// Adds what tells of the waits of an account, line by line or as an object.
-fn push_account_row(
-    alloc: Global,
-    notation: Notation,
-    out: &mut Text,
-    account: &Account,
-) -> Result<(), AllocError>
+fn push_account_row(notation: Notation, out: &mut Text, account: &Account) -> Result<(), AllocError>
     ensures { OnOk result (out.new ≡ out.old ++ account_row notation account.now) }
 {
     match notation {
@@ -145,7 +140,7 @@ fn push_account_row(
             push_waits_row(out, Unit::Entries, account)?;
             push_waits_row(out, Unit::Ticks, account)
         }
-        Notation::Json => push_account(alloc, out, account),
+        Notation::Json => push_account(out, account),
     }
 }
 
@@ -158,7 +153,6 @@ fn is_nobody(account: &Account) -> bool
 
 /// Adds what tells of the waits of an account, unless it tells of nobody.
 fn push_account_shown(
-    alloc: Global,
     notation: Notation,
     out: &mut Text,
     account: &Account,
@@ -168,12 +162,11 @@ fn push_account_shown(
     if is_nobody(account) {
         return Ok(());
     }
-    push_account_row(alloc, notation, out, account)
+    push_account_row(notation, out, account)
 }
 
 /// Adds what tells of the waits of a thread.
 fn push_thread_shown(
-    alloc: Global,
     notation: Notation,
     out: &mut Text,
     account: &ThreadAccount,
@@ -182,7 +175,7 @@ fn push_thread_shown(
 {
     match account.held() {
         Held::Idle { class, tid } => push_idle(notation, out, class, tid),
-        Held::Whole(account) => push_account_shown(alloc, notation, out, account),
+        Held::Whole(account) => push_account_shown(notation, out, account),
     }
 }
 
@@ -198,7 +191,6 @@ pub(crate) fn count_at(account: &Account, outcome: Outcome) -> usize
 
 /// Adds what tells how many slots of an account came to an outcome.
 fn push_landing_row(
-    alloc: Global,
     notation: Notation,
     out: &mut Text,
     account: &Account,
@@ -207,7 +199,7 @@ fn push_landing_row(
     ensures { OnOk result (out.new ≡ out.old ++ landing_row notation account.now outcome) }
 {
     let Notation::Lines = notation else {
-        return push_landing(alloc, out, account, outcome);
+        return push_landing(out, account, outcome);
     };
     push_who(out, account)?;
     push_count(out, 8, count_at(account, outcome))?;
@@ -218,7 +210,6 @@ fn push_landing_row(
 
 /// Adds what tells how many slots of an account came to an outcome, if any did.
 fn push_landing_shown(
-    alloc: Global,
     notation: Notation,
     out: &mut Text,
     account: &Account,
@@ -229,7 +220,7 @@ fn push_landing_shown(
     if count_at(account, outcome) == 0 {
         return Ok(());
     }
-    push_landing_row(alloc, notation, out, account, outcome)
+    push_landing_row(notation, out, account, outcome)
 }
 
 /// All outcomes, in order of their numbers.
@@ -253,7 +244,6 @@ const ALL_OUTCOMES: [Outcome; OUTCOMES as usize] = [
 
 /// Adds what tells how many slots of an account came to each of these outcomes.
 fn push_outcomes(
-    alloc: Global,
     notation: Notation,
     out: &mut Text,
     account: &Account,
@@ -262,7 +252,7 @@ fn push_outcomes(
     ensures { OnOk result (out.new ≡ out.old ++ flat_map (landing_shown notation account.now) outcomes.now) }
 {
     for outcome in outcomes {
-        push_landing_shown(alloc, notation, out, account, *outcome)?;
+        push_landing_shown(notation, out, account, *outcome)?;
     }
     Ok(())
 }
@@ -270,19 +260,17 @@ fn push_outcomes(
 /// Adds what tells of the slots of an account.
 #[tactic(auto, unfolding(crate::specs::Latency::landings_shown))]
 fn push_landings_shown(
-    alloc: Global,
     notation: Notation,
     out: &mut Text,
     account: &Account,
 ) -> Result<(), AllocError>
     ensures { OnOk result (out.new ≡ out.old ++ landings_shown notation account.now) }
 {
-    push_outcomes(alloc, notation, out, account, &ALL_OUTCOMES)
+    push_outcomes(notation, out, account, &ALL_OUTCOMES)
 }
 
 /// Adds what tells of the slots of a thread.
 fn push_thread_landings_shown(
-    alloc: Global,
     notation: Notation,
     out: &mut Text,
     account: &ThreadAccount,
@@ -291,7 +279,7 @@ fn push_thread_landings_shown(
 {
     match account.held() {
         Held::Idle { .. } => Ok(()),
-        Held::Whole(account) => push_landings_shown(alloc, notation, out, account),
+        Held::Whole(account) => push_landings_shown(notation, out, account),
     }
 }
 
@@ -311,7 +299,6 @@ fn push_uses_row(out: &mut Text, unit: Unit, cpu: usize, usage: &Usage) -> Resul
 
 /// Adds what tells what a CPU was used for.
 fn push_usage_shown(
-    alloc: Global,
     notation: Notation,
     out: &mut Text,
     cpu: usize,
@@ -324,7 +311,7 @@ fn push_usage_shown(
             push_uses_row(out, Unit::Entries, cpu, usage)?;
             push_uses_row(out, Unit::Ticks, cpu, usage)
         }
-        Notation::Json => push_usage(alloc, out, cpu, usage),
+        Notation::Json => push_usage(out, cpu, usage),
     }
 }
 
@@ -340,7 +327,6 @@ fn push_heading(notation: Notation, out: &mut Text, names: &str) -> Result<(), A
 
 /// Adds what tells of the waits of classes.
 fn push_class_waits(
-    alloc: Global,
     notation: Notation,
     out: &mut Text,
     accounts: &[Account],
@@ -348,14 +334,13 @@ fn push_class_waits(
     ensures { OnOk result (out.new ≡ out.old ++ flat_map (account_shown notation) accounts.now) }
 {
     for account in accounts {
-        push_account_shown(alloc, notation, out, account)?;
+        push_account_shown(notation, out, account)?;
     }
     Ok(())
 }
 
 /// Adds what tells of the waits of threads.
 fn push_thread_waits(
-    alloc: Global,
     notation: Notation,
     out: &mut Text,
     accounts: &[ThreadAccount],
@@ -363,29 +348,23 @@ fn push_thread_waits(
     ensures { OnOk result (out.new ≡ out.old ++ flat_map (account_shown notation) accounts.now) }
 {
     for account in accounts {
-        push_thread_shown(alloc, notation, out, account)?;
+        push_thread_shown(notation, out, account)?;
     }
     Ok(())
 }
 
 /// Adds the table that tells of waits.
 #[tactic(auto, unfolding(crate::specs::Latency::waits_heading))]
-fn push_waits(
-    alloc: Global,
-    notation: Notation,
-    out: &mut Text,
-    accounts: &Accounts,
-) -> Result<(), AllocError>
+fn push_waits(notation: Notation, out: &mut Text, accounts: &Accounts) -> Result<(), AllocError>
     ensures { OnOk result (out.new ≡ out.old ++ waits_table notation (accounts.now.by_class.items ++ accounts.now.by_thread.items)) }
 {
     push_heading(notation, out, WAITS_HEADING)?;
-    push_class_waits(alloc, notation, out, &accounts.by_class)?;
-    push_thread_waits(alloc, notation, out, &accounts.by_thread)
+    push_class_waits(notation, out, &accounts.by_class)?;
+    push_thread_waits(notation, out, &accounts.by_thread)
 }
 
 /// Adds what tells of the slots of classes.
 fn push_class_landings(
-    alloc: Global,
     notation: Notation,
     out: &mut Text,
     accounts: &[Account],
@@ -393,14 +372,13 @@ fn push_class_landings(
     ensures { OnOk result (out.new ≡ out.old ++ flat_map (landings_shown notation) accounts.now) }
 {
     for account in accounts {
-        push_landings_shown(alloc, notation, out, account)?;
+        push_landings_shown(notation, out, account)?;
     }
     Ok(())
 }
 
 /// Adds what tells of the slots of threads.
 fn push_thread_landings(
-    alloc: Global,
     notation: Notation,
     out: &mut Text,
     accounts: &[ThreadAccount],
@@ -408,39 +386,29 @@ fn push_thread_landings(
     ensures { OnOk result (out.new ≡ out.old ++ flat_map (landings_shown notation) accounts.now) }
 {
     for account in accounts {
-        push_thread_landings_shown(alloc, notation, out, account)?;
+        push_thread_landings_shown(notation, out, account)?;
     }
     Ok(())
 }
 
 /// Adds the table that tells what became of slots.
 #[tactic(auto, unfolding(crate::specs::Latency::landings_heading))]
-fn push_landings(
-    alloc: Global,
-    notation: Notation,
-    out: &mut Text,
-    accounts: &Accounts,
-) -> Result<(), AllocError>
+fn push_landings(notation: Notation, out: &mut Text, accounts: &Accounts) -> Result<(), AllocError>
     ensures { OnOk result (out.new ≡ out.old ++ landings_table notation (accounts.now.by_class.items ++ accounts.now.by_thread.items)) }
 {
     push_heading(notation, out, LANDINGS_HEADING)?;
-    push_class_landings(alloc, notation, out, &accounts.by_class)?;
-    push_thread_landings(alloc, notation, out, &accounts.by_thread)
+    push_class_landings(notation, out, &accounts.by_class)?;
+    push_thread_landings(notation, out, &accounts.by_thread)
 }
 
 /// Adds the table that tells what CPUs were used for. The usages are those of the CPUs from 0 on.
 #[tactic(auto, unfolding(crate::specs::Latency::uses_heading))]
-fn push_uses(
-    alloc: Global,
-    notation: Notation,
-    out: &mut Text,
-    usages: &[Usage],
-) -> Result<(), AllocError>
+fn push_uses(notation: Notation, out: &mut Text, usages: &[Usage]) -> Result<(), AllocError>
     ensures { OnOk result (out.new ≡ out.old ++ uses_table notation usages.now) }
 {
     push_heading(notation, out, USES_HEADING)?;
     for (cpu, usage) in usages.iter().enumerate() {
-        push_usage_shown(alloc, notation, out, cpu, usage)?;
+        push_usage_shown(notation, out, cpu, usage)?;
     }
     Ok(())
 }
@@ -455,8 +423,8 @@ pub(crate) fn latency(
     ensures { IfOk result (λ bytes. bytes.items ≡ latency_of notation (accounts.now.by_class.items ++ accounts.now.by_thread.items) usages.now) }
 {
     let mut out = Text::new(alloc);
-    push_waits(alloc, notation, &mut out, accounts)?;
-    push_landings(alloc, notation, &mut out, accounts)?;
-    push_uses(alloc, notation, &mut out, usages)?;
+    push_waits(notation, &mut out, accounts)?;
+    push_landings(notation, &mut out, accounts)?;
+    push_uses(notation, &mut out, usages)?;
     Ok(out.into_bytes())
 }

@@ -1,166 +1,190 @@
-//! What threads and CPUs did, as JSON.
+//! What threads and CPUs did, as JSON: objects that are put together piece by piece.
 
-ghost use Rattle.std.specs.Prelude.{◌≡◌, ◌++◌, IfOk, OnOk, false};
-ghost use Rattle.serde_json.specs.View.{view};
-ghost use Rattle.serde_json.specs.Written.{compact_text, has_float};
-ghost use Rattle.gs_lines.specs.Lines.{line};
+ghost use Rattle.std.specs.Prelude.{◌≡◌, ◌++◌, OnOk, Some};
 ghost use Rattle.gs_trace.specs.declared.form.Notation.TheVariants as Notation;
-ghost use Rattle.gs_tables.specs.Numbers.{class_data};
-ghost use Rattle.gs_tables.specs.Latency.{account_data, account_row, landing_data, landing_row, option_data, spread_data, time_data, usage_data, usage_shown, waits_data};
+ghost use Rattle.gs_tables.specs.Latency.{account_row, landing_row, usage_shown};
+ghost use Rattle.gs_tables.specs.Pieces.{account_front, account_pieces, account_rest, account_sums, landing_front, landing_pieces, landing_rest, option_json, spread_json, spread_pieces, usage_pieces};
+ghost use Rattle.gs_tables.specs.Timehist.{times_pieces};
 
 use crate::latency::count_at;
-use gs_layout::{Class, Outcome};
+use crate::timehist::{class_json, push_times};
+use gs_layout::Outcome;
 use gs_lines::{Text, outcome_name};
-use gs_tallies::{Account, Spread};
+use gs_tallies::{Account, Spread, Sums};
 use gs_turns::Time;
 use gs_usage::Usage;
-use serde_json::{Value, json};
-use std::alloc::{AllocError, Global};
+use std::alloc::AllocError;
 
-/// Returns a class as JSON: its number, or null for none.
-fn class_value(class: Option<Class>) -> Value
-    ensures { view result ≡ class_data class }
-{
-    match class {
-        Some(Class::Zero) => Value::from(0_usize),
-        Some(Class::One) => Value::from(1_usize),
-        None => Value::Null,
-    }
-}
-
-/// Returns a number as JSON, or null for none.
-fn option_value(number: Option<usize>) -> Value
-    ensures { view result ≡ option_data number }
+/// Adds words, and behind them a number, or null for none.
+fn push_option(out: &mut Text, words: &str, number: Option<usize>) -> Result<(), AllocError>
+    ensures { OnOk result (out.new ≡ out.old ++ words.now ++ option_json number) }
 {
     match number {
-        Some(number) => Value::from(number),
-        None => Value::Null,
+        Some(number) => out.push_number(words, number as u64),
+        None => {
+            out.push_str(words)?;
+            out.push_str("null")
+        }
     }
 }
 
-/// Returns a time as JSON.
-fn time_value(alloc: Global, time: Time) -> Result<Value, AllocError>
-    ensures { IfOk result (λ value. view value ≡ time_data time) }
+/// Adds a time to an object, behind words.
+fn push_time(out: &mut Text, words: &str, time: Time) -> Result<(), AllocError>
+    ensures { OnOk result (out.new ≡ out.old ++ times_pieces words.now time.entries time.ticks) }
 {
-    json!(in alloc; { "entries": time.entries, "ticks": time.ticks })
+    push_times(out, words, time.entries, time.ticks)
 }
 
-/// Returns how waits are spread as JSON, or null if there are none.
-fn spread_value(alloc: Global, spread: Option<Spread>) -> Result<Value, AllocError>
-    ensures { IfOk result (λ value. view value ≡ spread_data spread) }
+/// Adds how waits are spread as an object, piece by piece.
+fn push_percentiles(out: &mut Text, spread: Spread) -> Result<(), AllocError>
+    ensures { OnOk result (out.new ≡ out.old ++ spread_pieces spread) }
 {
-    let Some(spread) = spread else {
-        return Ok(Value::Null);
-    };
-    json!(in alloc; {
-        "most": spread.all,
-        "p50": spread.half,
-        "p90": spread.ninety,
-        "p99": spread.ninety_nine,
-    })
+    out.push_two(
+        "{\"most\":",
+        spread.all as u64,
+        ",\"p50\":",
+        spread.half as u64,
+    )?;
+    out.push_two(
+        ",\"p90\":",
+        spread.ninety as u64,
+        ",\"p99\":",
+        spread.ninety_nine as u64,
+    )?;
+    out.push_str("}")
 }
 
-/// Returns how the waits of an account are spread as JSON.
-fn waits_value(alloc: Global, account: &Account) -> Result<Value, AllocError>
-    ensures { IfOk result (λ value. view value ≡ waits_data account.now) }
+/// Adds how waits are spread as an object.
+#[tactic(auto, using(crate::proofs::Objects::whole_spread))]
+fn push_spread_object(out: &mut Text, spread: Spread) -> Result<(), AllocError>
+    ensures { OnOk result (out.new ≡ out.old ++ spread_json (Some spread)) }
 {
-    let entries = spread_value(alloc, account.tally.waits_in_entries)?;
-    let ticks = spread_value(alloc, account.tally.waits_in_ticks)?;
-    json!(in alloc; { "entries": entries, "ticks": ticks })
+    push_percentiles(out, spread)
 }
 
-/// Returns an account as JSON.
-fn account_value(alloc: Global, account: &Account) -> Result<Value, AllocError>
-    ensures { IfOk result (λ value. view value ≡ account_data account.now) }
+/// Adds words, and behind them how waits are spread, or null if there are none.
+fn push_spread(out: &mut Text, words: &str, spread: Option<Spread>) -> Result<(), AllocError>
+    ensures { OnOk result (out.new ≡ out.old ++ words.now ++ spread_json spread) }
+{
+    out.push_str(words)?;
+    match spread {
+        Some(spread) => push_spread_object(out, spread),
+        None => out.push_str("null"),
+    }
+}
+
+/// Begins the object of an account: with its class, and how many stays were migrated and preempted.
+fn push_front(out: &mut Text, account: &Account) -> Result<(), AllocError>
+    ensures { OnOk result (out.new ≡ out.old ++ account_front account.now) }
 {
     let sums = &account.tally.sums;
-    let ran = time_value(alloc, sums.ran)?;
-    let waited = time_value(alloc, sums.waited)?;
-    let waits = waits_value(alloc, account)?;
-    json!(in alloc; {
-        "class": class_value(account.class),
-        "migrated": sums.migrated,
-        "preempted": sums.preempted,
-        "ran": ran,
-        "stays": sums.stays,
-        "tid": option_value(account.tid),
-        "waited": waited,
-        "waits": waits,
-    })
+    out.push_str("{\"class\":")?;
+    out.push_str(class_json(account.class))?;
+    out.push_two(
+        ",\"migrated\":",
+        sums.migrated as u64,
+        ",\"preempted\":",
+        sums.preempted as u64,
+    )
 }
 
-/// Returns how many slots of an account came to an outcome as JSON.
-fn landing_value(alloc: Global, account: &Account, outcome: Outcome) -> Result<Value, AllocError>
-    ensures { IfOk result (λ value. view value ≡ landing_data account.now outcome) }
+/// Goes on with how long the threads ran and waited, how many stays there were, and the thread.
+fn push_sums(out: &mut Text, sums: &Sums, tid: Option<usize>) -> Result<(), AllocError>
+    ensures { OnOk result (out.new ≡ out.old ++ account_sums sums.now tid) }
 {
-    let name = Value::try_from_str(alloc, outcome_name(outcome))?;
-    json!(in alloc; {
-        "class": class_value(account.class),
-        "landings": count_at(account, outcome),
-        "outcome": name,
-        "tid": option_value(account.tid),
-    })
+    push_time(out, ",\"ran\":{\"entries\":", sums.ran)?;
+    out.push_number(",\"stays\":", sums.stays as u64)?;
+    push_option(out, ",\"tid\":", tid)?;
+    push_time(out, ",\"waited\":{\"entries\":", sums.waited)
 }
 
-/// Returns what a CPU was used for as JSON.
-fn usage_value(alloc: Global, cpu: usize, usage: &Usage) -> Result<Value, AllocError>
-    ensures { IfOk result (λ value. view value ≡ usage_data cpu usage.now) }
+/// Ends it, with how the waits are spread, and the line.
+fn push_rest(out: &mut Text, account: &Account) -> Result<(), AllocError>
+    ensures { OnOk result (out.new ≡ out.old ++ account_rest account.now) }
 {
-    let agent = time_value(alloc, usage.agent)?;
-    let busy = time_value(alloc, usage.busy)?;
-    let idle = time_value(alloc, usage.idle)?;
-    let other = time_value(alloc, usage.other)?;
-    let wanted = time_value(alloc, usage.wanted)?;
-    json!(in alloc; {
-        "agent": agent,
-        "busy": busy,
-        "cpu": cpu,
-        "idle": idle,
-        "other": other,
-        "wanted": wanted,
-    })
+    let tally = &account.tally;
+    push_spread(out, ",\"waits\":{\"entries\":", tally.waits_in_entries)?;
+    push_spread(out, ",\"ticks\":", tally.waits_in_ticks)?;
+    out.push_str("}}\n")
 }
 
-/// Adds a value without a fraction as a line.
-fn push_line(alloc: Global, out: &mut Text, value: &Value) -> Result<(), AllocError>
-    requires { has_float (view value.now) ≡ false }
-    ensures { OnOk result (out.new ≡ out.old ++ line (compact_text (view value.now))) }
+/// Adds an account as an object, one a line, piece by piece.
+fn push_account_pieces(out: &mut Text, account: &Account) -> Result<(), AllocError>
+    ensures { OnOk result (out.new ≡ out.old ++ account_pieces account.now) }
 {
-    out.push_str(&value.to_string(alloc)?)?;
-    out.end_line()
+    push_front(out, account)?;
+    push_sums(out, &account.tally.sums, account.tid)?;
+    push_rest(out, account)
+}
+
+/// Begins the object of an outcome: with the class of an account, and how many of its slots came to the outcome.
+fn push_landing_front(out: &mut Text, account: &Account, outcome: Outcome) -> Result<(), AllocError>
+    ensures { OnOk result (out.new ≡ out.old ++ landing_front account.now outcome) }
+{
+    out.push_str("{\"class\":")?;
+    out.push_str(class_json(account.class))?;
+    out.push_number(",\"landings\":", count_at(account, outcome) as u64)
+}
+
+/// Ends it, with the outcome and the thread, and the line.
+fn push_landing_rest(out: &mut Text, account: &Account, outcome: Outcome) -> Result<(), AllocError>
+    ensures { OnOk result (out.new ≡ out.old ++ landing_rest account.now outcome) }
+{
+    out.push_str(",\"outcome\":\"")?;
+    out.push_str(outcome_name(outcome))?;
+    push_option(out, "\",\"tid\":", account.tid)?;
+    out.push_str("}\n")
+}
+
+/// Adds how many slots of an account came to an outcome as an object, one a line, piece by piece.
+fn push_landing_pieces(
+    out: &mut Text,
+    account: &Account,
+    outcome: Outcome,
+) -> Result<(), AllocError>
+    ensures { OnOk result (out.new ≡ out.old ++ landing_pieces account.now outcome) }
+{
+    push_landing_front(out, account, outcome)?;
+    push_landing_rest(out, account, outcome)
+}
+
+/// Adds what a CPU was used for as an object, one a line, piece by piece.
+fn push_usage_pieces(out: &mut Text, cpu: usize, usage: &Usage) -> Result<(), AllocError>
+    ensures { OnOk result (out.new ≡ out.old ++ usage_pieces cpu usage.now) }
+{
+    push_time(out, "{\"agent\":{\"entries\":", usage.agent)?;
+    push_time(out, ",\"busy\":{\"entries\":", usage.busy)?;
+    out.push_number(",\"cpu\":", cpu as u64)?;
+    push_time(out, ",\"idle\":{\"entries\":", usage.idle)?;
+    push_time(out, ",\"other\":{\"entries\":", usage.other)?;
+    push_time(out, ",\"wanted\":{\"entries\":", usage.wanted)?;
+    out.push_str("}\n")
 }
 
 /// Adds an account as an object, one a line.
-pub(crate) fn push_account(
-    alloc: Global,
-    out: &mut Text,
-    account: &Account,
-) -> Result<(), AllocError>
+#[tactic(auto, using(crate::proofs::Objects::whole_account))]
+pub(crate) fn push_account(out: &mut Text, account: &Account) -> Result<(), AllocError>
     ensures { OnOk result (out.new ≡ out.old ++ account_row Notation.Json account.now) }
 {
-    push_line(alloc, out, &account_value(alloc, account)?)
+    push_account_pieces(out, account)
 }
 
 /// Adds how many slots of an account came to an outcome as an object, one a line.
+#[tactic(auto, using(crate::proofs::Objects::whole_landing))]
 pub(crate) fn push_landing(
-    alloc: Global,
     out: &mut Text,
     account: &Account,
     outcome: Outcome,
 ) -> Result<(), AllocError>
     ensures { OnOk result (out.new ≡ out.old ++ landing_row Notation.Json account.now outcome) }
 {
-    push_line(alloc, out, &landing_value(alloc, account, outcome)?)
+    push_landing_pieces(out, account, outcome)
 }
 
 /// Adds what a CPU was used for as an object, one a line.
-pub(crate) fn push_usage(
-    alloc: Global,
-    out: &mut Text,
-    cpu: usize,
-    usage: &Usage,
-) -> Result<(), AllocError>
+#[tactic(auto, using(crate::proofs::Objects::whole_usage))]
+pub(crate) fn push_usage(out: &mut Text, cpu: usize, usage: &Usage) -> Result<(), AllocError>
     ensures { OnOk result (out.new ≡ out.old ++ usage_shown Notation.Json cpu usage.now) }
 {
-    push_line(alloc, out, &usage_value(alloc, cpu, usage)?)
+    push_usage_pieces(out, cpu, usage)
 }

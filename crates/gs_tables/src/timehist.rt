@@ -52,7 +52,7 @@ fn push_row(out: &mut Text, lines: &[usize], turn: &Turn) -> Result<(), AllocErr
 }
 
 /// Returns a class as JSON: its number, or null for none.
-fn class_json(class: Option<Class>) -> &'static str
+pub(crate) fn class_json(class: Option<Class>) -> &'static str
     ensures { result.now ≡ class_json class }
 {
     match class {
@@ -63,7 +63,12 @@ fn class_json(class: Option<Class>) -> &'static str
 }
 
 /// Adds a time to an object, behind words: how many entries it is, and how many ticks.
-fn push_times(out: &mut Text, words: &str, entries: usize, ticks: usize) -> Result<(), AllocError>
+pub(crate) fn push_times(
+    out: &mut Text,
+    words: &str,
+    entries: usize,
+    ticks: usize,
+) -> Result<(), AllocError>
     ensures { OnOk result (out.new ≡ out.old ++ times_pieces words.now entries ticks) }
 {
     out.push_number(words, entries as u64)?;
