@@ -1,9 +1,10 @@
 //! Which threads are listed below the rows: those that never ran first, and the longest wait before a shorter one.
 
-use crate::lives::{Life, life_of};
+use crate::lives::{Life, class_known, life_of};
 use crate::notes::Listed;
 use gs_layout::Class;
 use std::alloc::{AllocError, Global};
+use std::mem;
 
 /// How many threads of a class that never ran are listed, if a few are.
 pub const FEW_IDLE: usize = 3;
@@ -20,26 +21,66 @@ pub(crate) enum Line {
     More { class: Class, ran: bool, count: u64 },
 }
 
-/// Where a thread stands among all: it never ran or ran, it waited long or less so, and its tid.
-type Rank = (bool, usize, u32);
+/// Where a thread stands among those that ran, or among those that never did: it waited long or less so, and its tid.
+type Rank = (usize, u32);
 
-/// Returns where each thread stands, in order.
-fn ranks(alloc: Global, lives: &[Life]) -> Result<Vec<Rank>, AllocError> {
-    let mut ranks = Vec::with_capacity(alloc, lives.len())?;
-    for life in lives {
-        let less = usize::MAX - life.waited();
-        ranks.push((life.ran().entries() > 0, less, life.tid))?;
-    }
-    ranks.sort()?;
-    Ok(ranks)
+/// Returns where a thread stands.
+#[inline(always)]
+fn rank_of(life: &Life) -> Rank {
+    (usize::MAX - life.waited(), life.tid)
 }
 
-/// How many threads may still be listed: of each class, and in all. Or the tid of the only one that may.
+/// The first few threads of some, which are counted.
+#[derive(Drop)]
+struct Firsts {
+    /// How many these are at most.
+    most: usize,
+    /// The first few, and some of those behind them. Those up to the bound are in order.
+    ranks: Vec<Rank>,
+    /// Where the last of the first few stood, once there were more.
+    bound: Option<Rank>,
+    count: u64,
+}
+
+impl Firsts {
+    /// Makes those of no threads, of which so many are kept at most. It does not allocate.
+    fn new(alloc: Global, most: usize) -> Firsts {
+        Firsts {
+            most,
+            ranks: Vec::new(alloc),
+            bound: None,
+            count: 0,
+        }
+    }
+
+    /// Puts the threads in order, and lets go of those behind the first few.
+    fn cut(&mut self) -> Result<(), AllocError> {
+        self.ranks.sort()?;
+        if self.ranks.len() > self.most {
+            self.ranks.truncate(self.most);
+            self.bound = self.ranks.last().copied();
+        }
+        Ok(())
+    }
+
+    /// Adds a thread that stands at this place. It is kept only if it may be one of the first few.
+    #[inline(always)]
+    fn add(&mut self, rank: Rank) -> Result<(), AllocError> {
+        if self.bound.is_some_and(|bound| bound < rank) {
+            return Ok(());
+        }
+        self.ranks.push(rank)?;
+        if self.ranks.len() > self.most.saturating_mul(2) {
+            return self.cut();
+        }
+        Ok(())
+    }
+}
+
+/// How many threads may be listed of those that ran, or of those that never did: of each class, and in all.
 #[derive(Clone, Copy)]
 struct Room {
-    only: Option<usize>,
-    zero: usize,
-    one: usize,
+    each: usize,
     all: usize,
 }
 
@@ -52,36 +93,86 @@ impl Room {
             Listed::Few if ran => (usize::MAX, FEW),
             Listed::Few => (FEW_IDLE, usize::MAX),
         };
-        let only = match listed {
-            Listed::One(tid) => Some(tid),
-            _ => None,
-        };
-        Room {
-            only,
-            zero: each,
-            one: each,
-            all,
+        Room { each, all }
+    }
+}
+
+/// Returns whether a thread may be listed at all.
+#[inline(always)]
+fn may_have_line(listed: Listed, tid: u32) -> bool {
+    match listed {
+        Listed::One(only) => only == tid as usize,
+        _ => true,
+    }
+}
+
+/// The threads that ran, or those that never did.
+#[derive(Drop)]
+struct Those {
+    zero: Firsts,
+    one: Firsts,
+    ran: bool,
+}
+
+impl Those {
+    /// Makes those of no threads.
+    fn new(alloc: Global, listed: Listed, ran: bool) -> Those {
+        let room = Room::new(listed, ran);
+        let most = room.each.min(room.all);
+        Those {
+            zero: Firsts::new(alloc, most),
+            one: Firsts::new(alloc, most),
+            ran,
         }
     }
 
-    /// Takes the room for a thread. Returns whether there was any.
-    fn take(&mut self, life: &Life) -> bool {
-        if self.only.is_some_and(|only| only != life.tid as usize) {
-            return false;
-        }
-        let each = match life.class {
-            Class::Zero => self.zero,
-            Class::One => self.one,
+    /// Counts a thread, and keeps it if it may have a line.
+    #[inline(always)]
+    fn add(&mut self, life: &Life, listed: Listed) -> Result<(), AllocError> {
+        let firsts = match life.class {
+            Class::Zero => &mut self.zero,
+            Class::One => &mut self.one,
         };
-        if each == 0 || self.all == 0 {
-            return false;
+        firsts.count = firsts.count.saturating_add(1);
+        if may_have_line(listed, life.tid) {
+            return firsts.add(rank_of(life));
         }
-        self.all -= 1;
-        match life.class {
-            Class::Zero => self.zero = each - 1,
-            Class::One => self.one = each - 1,
+        Ok(())
+    }
+
+    /// Returns the first of both classes, as many as there is room for, in order.
+    fn ranks(&mut self, room: usize) -> Result<Vec<Rank>, AllocError> {
+        self.zero.cut()?;
+        self.one.cut()?;
+        let mut ranks = mem::try_take(&mut self.zero.ranks)?;
+        ranks.extend_from_slice(&self.one.ranks)?;
+        ranks.sort()?;
+        ranks.truncate(room);
+        Ok(ranks)
+    }
+
+    /// Adds the lines of the first threads, as many as there is room for, and of how many more there are. Returns how many
+    /// have a line of their own.
+    fn add_lines(
+        &mut self,
+        lines: &mut Vec<Line>,
+        lives: &[Life],
+        room: usize,
+    ) -> Result<usize, AllocError> {
+        let ranks = self.ranks(room)?;
+        let mut zero = self.zero.count;
+        let mut one = self.one.count;
+        for (_, tid) in &ranks {
+            lines.push(Line::Thread { tid: *tid })?;
+            match class_known(life_of(lives, *tid)) {
+                Some(Class::Zero) => zero = zero.saturating_sub(1),
+                Some(Class::One) => one = one.saturating_sub(1),
+                None => {}
+            }
         }
-        true
+        add_more(lines, Class::Zero, self.ran, zero)?;
+        add_more(lines, Class::One, self.ran, one)?;
+        Ok(ranks.len())
     }
 }
 
@@ -93,54 +184,28 @@ fn add_more(lines: &mut Vec<Line>, class: Class, ran: bool, count: u64) -> Resul
     Ok(())
 }
 
-/// Adds the lines of the threads that ran, or of those that never did. Returns how many have a line of their own.
-fn add_those(
-    lines: &mut Vec<Line>,
-    lives: &[Life],
-    ranks: &[Rank],
-    ran: bool,
-    room: Room,
-) -> Result<usize, AllocError> {
-    let mut room = room;
-    let mut listed: usize = 0;
-    let mut zero: u64 = 0;
-    let mut one: u64 = 0;
-    for (there, _, tid) in ranks {
-        let Some(life) = life_of(lives, *tid) else {
-            continue;
-        };
-        if *there != ran {
-            continue;
-        }
-        if room.take(life) {
-            lines.push(Line::Thread { tid: *tid })?;
-            listed = listed.saturating_add(1);
-        } else {
-            match life.class {
-                Class::Zero => zero = zero.saturating_add(1),
-                Class::One => one = one.saturating_add(1),
-            }
-        }
-    }
-    add_more(lines, Class::Zero, ran, zero)?;
-    add_more(lines, Class::One, ran, one)?;
-    Ok(listed)
-}
-
 /// Returns the lines below the rows.
 pub(crate) fn listing(
     alloc: Global,
     lives: &[Life],
     listed: Listed,
 ) -> Result<Vec<Line>, AllocError> {
-    let ranks = ranks(alloc, lives)?;
-    let mut lines = Vec::new(alloc);
-    let idle = Room::new(listed, false);
-    let count = add_those(&mut lines, lives, ranks.as_slice(), false, idle)?;
-    let mut room = Room::new(listed, true);
-    if let Listed::Most(most) = listed {
-        room.all = most.saturating_sub(count);
+    let mut idle = Those::new(alloc, listed, false);
+    let mut ran = Those::new(alloc, listed, true);
+    for life in lives {
+        let those = if life.ran().entries() > 0 {
+            &mut ran
+        } else {
+            &mut idle
+        };
+        those.add(life, listed)?;
     }
-    let _ = add_those(&mut lines, lives, ranks.as_slice(), true, room)?;
+    let mut lines = Vec::new(alloc);
+    let count = idle.add_lines(&mut lines, lives, Room::new(listed, false).all)?;
+    let room = match listed {
+        Listed::Most(most) => most.saturating_sub(count),
+        _ => Room::new(listed, true).all,
+    };
+    let _ = ran.add_lines(&mut lines, lives, room)?;
     Ok(lines)
 }
