@@ -346,17 +346,11 @@ fn write_below<W: Write>(
     ensures sent { OnOk result (Sends [] (W.contents writer.old) (W.contents writer.new) out.old.settled out.new.settled) }
     ensures stuck { OnErr result (Grows (W.contents writer.old) (W.contents writer.new)) }
 {
-    let Drawn {
-        cpus,
-        endings,
-        part,
-        all,
-        ..
-    } = *drawn;
     write_agents(out, writer, drawn)?;
-    write_marks(out, writer, part, cpus, endings.journal())?;
+    let journal = drawn.endings.journal();
+    write_marks(out, writer, drawn.part, drawn.cpus, journal)?;
     write_decisions(out, writer, drawn)?;
-    write_foot(out, writer, part, cpus, &all.lives, &all.lines)
+    write_foot(out, writer, drawn)
 }
 
 /// Adds the whole picture: its beginning, its rows with what stands in them, its foot and its end. It writes what is long

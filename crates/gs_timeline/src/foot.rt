@@ -1,6 +1,7 @@
 ghost use Rattle.std.specs.Prelude.{◌≡◌, [], OnErr, OnOk};
 ghost use Rattle.gs_timeline.specs.Sent.{Grows, Sends};
 
+use crate::gathered::Drawn;
 use crate::layout::{LINE, foot_of};
 use crate::listing::Line;
 use crate::lives::{Life, life_of};
@@ -9,6 +10,7 @@ use crate::phrases::begin_text;
 use crate::strip::Strip;
 use crate::text::Text;
 use crate::threads::{shade_of, write_called, write_thread};
+use crate::times::Times;
 use gs_layout::Class;
 use gs_text::WriteFailed;
 use std::alloc::AllocError;
@@ -52,7 +54,7 @@ fn end_strip(out: &mut Text, life: &Life) -> Result<(), AllocError>
 {
     out.push_str("\"><title>")?;
     write_thread(out, life.tid, Some(life))?;
-    write_counts(out, life.ran().entries(), life.waited())?;
+    write_counts(out, life.ran(), life.waited())?;
     out.push_str("</title></path>\n")
 }
 
@@ -80,7 +82,7 @@ fn begin_life(out: &mut Text, y: u64, life: &Life) -> Result<(), AllocError>
 {
     begin_text(out, 10, y, "thread")?;
     out.push_decimal(u64::from(life.tid))?;
-    if life.words().has_name() {
+    if life.has_name() {
         out.push_str(" ")?;
         write_called(out, life.tid, Some(life))?;
     }
@@ -93,7 +95,7 @@ fn end_life(out: &mut Text, part: &Part<'_>, y: u64, life: &Life) -> Result<(), 
 {
     begin_text(out, part.x(part.behind()).saturating_add(8), y, "thread")?;
     out.push_number("class ", life.class.number() as u64)?;
-    write_counts(out, life.ran().entries(), life.waited())?;
+    write_counts(out, life.ran(), life.waited())?;
     out.push_str("</text>\n")
 }
 
@@ -104,14 +106,15 @@ fn write_life<W: Write>(
     part: &Part<'_>,
     y: u64,
     life: &Life,
+    times: &Times,
 ) -> Result<(), WriteFailed>
     ensures sent { OnOk result (Sends [] (W.contents writer.old) (W.contents writer.new) out.old.settled out.new.settled) }
     ensures stuck { OnErr result (Grows (W.contents writer.old) (W.contents writer.new)) }
 {
     let middle = y.saturating_sub(4);
     begin_life(out, y, life)?;
-    write_strip(out, writer, middle, "ready ", life, life.ready())?;
-    write_strip(out, writer, middle, "ran ", life, life.ran())?;
+    write_strip(out, writer, middle, "ready ", life, &times.ready)?;
+    write_strip(out, writer, middle, "ran ", life, &times.ran)?;
     end_life(out, part, y, life)?;
     Ok(())
 }
@@ -136,7 +139,7 @@ fn write_class(out: &mut Text, y: u64, lives: &[Life], class: Class) -> Result<(
     let mut threads: u64 = 0;
     for life in lives {
         if life.class == class {
-            ran = ran.saturating_add(life.ran().entries());
+            ran = ran.saturating_add(life.ran());
             waited = waited.saturating_add(life.waited());
             threads = threads.saturating_add(1);
         }
@@ -168,18 +171,18 @@ fn write_classes(out: &mut Text, cpus: u16, lives: &[Life]) -> Result<u64, Alloc
 fn write_line<W: Write>(
     out: &mut Text,
     writer: &mut W,
-    part: &Part<'_>,
+    drawn: &Drawn<'_>,
     y: u64,
-    lives: &[Life],
     line: &Line,
 ) -> Result<(), WriteFailed>
     ensures sent { OnOk result (Sends [] (W.contents writer.old) (W.contents writer.new) out.old.settled out.new.settled) }
     ensures stuck { OnErr result (Grows (W.contents writer.old) (W.contents writer.new)) }
 {
+    let all = drawn.all;
     match line {
-        Line::Thread { tid } => match life_of(lives, *tid) {
-            Some(life) => write_life(out, writer, part, y, life),
-            None => Ok(()),
+        Line::Thread { tid } => match (life_of(&all.lives, *tid), all.times.of(*tid)) {
+            (Some(life), Some(times)) => write_life(out, writer, drawn.part, y, life, times),
+            _ => Ok(()),
         },
         Line::More { class, ran, count } => {
             write_more(out, y, *class, *ran, *count)?;
@@ -192,18 +195,16 @@ fn write_line<W: Write>(
 pub(crate) fn write_foot<W: Write>(
     out: &mut Text,
     writer: &mut W,
-    part: &Part<'_>,
-    cpus: u16,
-    lives: &[Life],
-    lines: &[Line],
+    drawn: &Drawn<'_>,
 ) -> Result<(), WriteFailed>
     ensures sent { OnOk result (Sends [] (W.contents writer.old) (W.contents writer.new) out.old.settled out.new.settled) }
     ensures stuck { OnErr result (Grows (W.contents writer.old) (W.contents writer.new)) }
 {
-    let mut y = write_classes(out, cpus, lives)?;
-    for line in lines {
+    let all = drawn.all;
+    let mut y = write_classes(out, drawn.cpus, &all.lives)?;
+    for line in &all.lines {
         y = y.saturating_add(LINE);
-        write_line(out, writer, part, y, lives, line)?;
+        write_line(out, writer, drawn, y, line)?;
         out.spill(writer)?;
     }
     Ok(())

@@ -11,16 +11,18 @@ ghost use Rattle.gs_timeline.specs.Stays.{stays};
 use crate::agents::{Step, steps};
 use crate::counts::{Counts, counted};
 use crate::endings::Endings;
+use crate::heard::Heard;
 use crate::lane::Lane;
 use crate::listing::{Line, listing};
-use crate::lives::{Life, lives};
+use crate::lives::{Life, end_lives};
 use crate::notes::{Listed, Mark, Notes};
 use crate::part::Part;
 use crate::picks::Picks;
 use crate::rows::{Rows, counts};
 use crate::slots::{Pending, Stamped};
 use crate::spans::{HeldTimes, Reign, Spans, reigns};
-use crate::walk::stays;
+use crate::times::AllTimes;
+use crate::walk::stays_in;
 use gs_journal::Journal;
 use std::alloc::{AllocError, Global};
 
@@ -43,6 +45,8 @@ pub(crate) struct Gathered {
     pub lives: Vec<Life>,
     /// The lines below the rows.
     pub lines: Vec<Line>,
+    /// When the threads that have a line could run and ran.
+    pub times: AllTimes,
     /// How many decisions are shown.
     pub counts: Counts,
     /// When the other class held a CPU, by CPU.
@@ -76,10 +80,15 @@ impl Gathered {
         ensures lives { IfOk result (λ all. map born all.lives.items ≡ creations journal.now.entries) }
         ensures decisions { IfOk result (λ all. told_by all.counts ≡ decisions (scale part.now) notes.now.marks.now) }
     {
-        let lanes = stays(alloc, journal, cpus)?;
-        let lives = lives(alloc, journal, part, &lanes)?;
+        let Heard {
+            placings,
+            mut lives,
+            spans: Spans { turns, holds },
+        } = Heard::new(alloc, journal, part, cpus)?;
+        let lanes = stays_in(alloc, journal, cpus, &placings)?;
+        end_lives(alloc, &mut lives, part, journal.len(), &lanes, notes.marks)?;
         let lines = listing(alloc, &lives, listed)?;
-        let Spans { turns, holds } = Spans::new(alloc, journal, cpus)?;
+        let times = AllTimes::new(alloc, journal, part, &lanes, &lines, lives.len())?;
         let Stamped {
             pending,
             groups,
@@ -89,6 +98,7 @@ impl Gathered {
             lanes,
             lives,
             lines,
+            times,
             counts: counted(alloc, part, notes.marks)?,
             holds,
             reigns: reigns(alloc, &turns, journal.len())?,

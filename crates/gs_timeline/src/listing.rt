@@ -193,11 +193,7 @@ pub(crate) fn listing(
     let mut idle = Those::new(alloc, listed, false);
     let mut ran = Those::new(alloc, listed, true);
     for life in lives {
-        let those = if life.ran().entries() > 0 {
-            &mut ran
-        } else {
-            &mut idle
-        };
+        let those = if life.ran() > 0 { &mut ran } else { &mut idle };
         those.add(life, listed)?;
     }
     let mut lines = Vec::new(alloc);

@@ -1,13 +1,17 @@
-ghost use Rattle.std.specs.Prelude.{◌≡◌, ◌-◌, IfOk, OnOk, map};
-ghost use Rattle.gs_timeline.specs.Lives.{born, class_among, class_known, creations};
+ghost use Rattle.std.specs.Prelude.{◌≡◌, ◌++◌, ◌-◌, OnOk, map};
+ghost use Rattle.gs_timeline.specs.Lives.{born, class_among, class_known, created};
 
+use crate::decided::failure_of;
 use crate::lane::Lane;
+use crate::notes::Mark;
 use crate::part::Part;
+use crate::phrases::write_escaped;
+use crate::readiness::Readiness;
 use crate::stay::Stay;
-use crate::strip::Strip;
-use crate::words::Words;
-use gs_journal::{Entry, Journal};
-use gs_layout::{Change, Class, Facts, Message};
+use crate::text::Text;
+use crate::words::{Words, write_words};
+use gs_journal::Entry;
+use gs_layout::{Change, Class, Facts, Message, Name};
 use std::alloc::{AllocError, Global};
 
 /// What a history tells of a thread.
@@ -15,106 +19,139 @@ use std::alloc::{AllocError, Global};
 pub(crate) struct Life {
     pub tid: u32,
     pub class: Class,
-    /// Which thread it is, in words.
-    words: Words,
-    /// Since which entry it lives and may run, if it does.
-    ready_since: Option<usize>,
-    /// When it lived and could run.
-    ready: Strip,
-    /// When it was on a CPU.
-    ran: Strip,
+    name: Name,
+    /// Which thread it is, in words, if it is likely to be told often.
+    words: Option<Box<Words>>,
+    readiness: Readiness,
+    /// Behind how many of the shown entries it lived and could run.
+    ready: usize,
+    /// Behind how many of the shown entries it was on a CPU.
+    ran: usize,
 }
 
 impl Life {
-    /// Makes the life of a thread that the entry of this place creates.
-    fn new(alloc: Global, tid: u32, facts: &Facts, place: usize) -> Result<Life, AllocError>
-        ensures { IfOk result (λ life. born life ≡ (tid, facts.now.class)) }
+    /// Makes the life of a thread of these facts, of which nothing is told yet.
+    #[inline(always)]
+    fn new(tid: u32, facts: &Facts) -> Life
+        ensures { born result ≡ (tid, facts.now.class) }
     {
-        Ok(Life {
+        Life {
             tid,
             class: facts.class,
-            words: Words::new(alloc, tid, facts)?,
-            ready_since: facts.runnable.then_some(place),
-            ready: Strip::new(alloc),
-            ran: Strip::new(alloc),
-        })
+            name: facts.name,
+            words: None,
+            readiness: Readiness::none(),
+            ready: 0,
+            ran: 0,
+        }
     }
 
-    /// Lends which thread it is, in words.
-    pub(crate) fn words(&self) -> &Words {
-        &self.words
+    /// Returns how many letters its name has: none if it has no name.
+    pub(crate) fn letters(&self) -> u64 {
+        self.name.as_bytes().len() as u64
+    }
+
+    /// Returns whether it has a name.
+    pub(crate) fn has_name(&self) -> bool {
+        self.letters() > 0
+    }
+
+    /// Adds its name as it is shown.
+    pub(crate) fn write_name(&self, out: &mut Text) -> Result<(), AllocError>
+        ensures { out.new.settled ≡ out.old.settled }
+    {
+        match &self.words {
+            Some(words) => out.push_str(words.name()),
+            None => write_escaped(out, &self.name),
+        }
+    }
+
+    /// Adds which thread it is, in words.
+    #[inline(always)]
+    pub(crate) fn write(&self, out: &mut Text) -> Result<(), AllocError>
+        ensures { out.new.settled ≡ out.old.settled }
+    {
+        match &self.words {
+            Some(words) => out.push_str(words.all()),
+            None => write_words(out, self.tid, &self.name, self.class),
+        }
+    }
+
+    /// Makes which thread it is in words, and keeps them. They are written into a text first.
+    fn make_words(&mut self, alloc: Global, scratch: &mut Text) -> Result<(), AllocError>
+        ensures { born self.new ≡ born self.old }
+    {
+        let words = Words::new(alloc, scratch, self.tid, &self.name, self.class)?;
+        self.words = Some(Box::new(alloc, words)?);
+        Ok(())
+    }
+
+    /// Keeps which thread it is in words, if they are not kept yet.
+    #[inline(always)]
+    fn keep_words(&mut self, alloc: Global, scratch: &mut Text) -> Result<(), AllocError>
+        ensures { born self.new ≡ born self.old }
+    {
+        if self.words.is_none() {
+            return self.make_words(alloc, scratch);
+        }
+        Ok(())
+    }
+
+    /// Counts the entries from one on and before that of this place, which are shown, as those behind which it could run.
+    #[inline(always)]
+    fn add_ready(&mut self, part: &Part<'_>, since: Option<usize>, place: usize)
+        ensures { born self.new ≡ born self.old }
+    {
+        if let Some(since) = since {
+            self.ready = self.ready.saturating_add(part.shown(since, place));
+        }
     }
 
     /// Ends the time that it may run, by the entry of this place, if it may.
-    fn end(&mut self, part: &Part<'_>, place: usize) -> Result<(), AllocError>
+    fn end(&mut self, part: &Part<'_>, place: usize)
         ensures { born self.new ≡ born self.old }
     {
-        match self.ready_since.take() {
-            Some(since) => self.ready.add(part, since, place),
-            None => Ok(()),
-        }
-    }
-
-    /// Begins a time that it may run, by the entry of this place, if it may not.
-    fn begin(&mut self, place: usize)
-        ensures { born self.new ≡ born self.old }
-    {
-        if self.ready_since.is_none() {
-            self.ready_since = Some(place);
-        }
+        let since = self.readiness.end();
+        self.add_ready(part, since, place);
     }
 
     /// Changes as a message about it says, whose entry is that of this place.
     #[inline(always)]
-    fn tell(&mut self, part: &Part<'_>, place: usize, change: &Change) -> Result<(), AllocError>
+    fn tell(&mut self, part: &Part<'_>, place: usize, change: &Change)
         ensures { born self.new ≡ born self.old }
     {
-        match change {
-            Change::Blocked { .. } | Change::Dead { .. } => self.end(part, place),
-            Change::Wakeup => {
-                self.begin(place);
-                Ok(())
-            }
-            Change::Created { .. }
-            | Change::Preempted { .. }
-            | Change::Yield { .. }
-            | Change::Affinity { .. } => Ok(()),
-        }
+        let since = self.readiness.tell(place, change);
+        self.add_ready(part, since, place);
     }
 
-    /// Adds a stay on a CPU.
-    fn add_stay(&mut self, part: &Part<'_>, stay: &Stay) -> Result<(), AllocError>
+    /// Counts a stay on a CPU, and keeps which thread it is in words.
+    #[inline(always)]
+    fn add_stay(
+        &mut self,
+        alloc: Global,
+        part: &Part<'_>,
+        stay: &Stay,
+        scratch: &mut Text,
+    ) -> Result<(), AllocError>
         ensures { born self.new ≡ born self.old }
     {
-        self.ran.add(part, stay.from, stay.to)
+        self.ran = self.ran.saturating_add(part.shown(stay.from, stay.to));
+        self.keep_words(alloc, scratch)
     }
 
-    /// Draws its last times.
-    fn end_strips(&mut self) -> Result<(), AllocError>
-        ensures { born self.new ≡ born self.old }
-    {
-        self.ready.end()?;
-        self.ran.end()
-    }
-
-    /// Lends when it lived and could run.
-    pub(crate) fn ready(&self) -> &Strip {
-        &self.ready
-    }
-
-    /// Lends when it was on a CPU.
-    pub(crate) fn ran(&self) -> &Strip {
-        &self.ran
+    /// Returns behind how many of the shown entries it was on a CPU.
+    pub(crate) fn ran(&self) -> usize {
+        self.ran
     }
 
     /// Returns behind how many of the shown entries it could run, and was on no CPU.
     pub(crate) fn waited(&self) -> usize {
-        self.ready.entries().saturating_sub(self.ran.entries())
+        self.ready.saturating_sub(self.ran)
     }
 }
 
 /// Returns the place of a thread in a list by tid, whose first is 1.
-fn index_of(tid: u32) -> usize
+pub(crate) fn index_of(tid: u32) -> usize
     ensures { result ≡ tid - 1 }
 {
     (tid as usize).saturating_sub(1)
@@ -142,94 +179,105 @@ pub(crate) fn class_known(life: Option<&Life>) -> Option<Class>
 
 /// Changes a thread's life as a message about it says.
 #[inline(always)]
-fn tell(
-    lives: &mut [Life],
-    part: &Part<'_>,
-    place: usize,
-    tid: u32,
-    change: &Change,
-) -> Result<(), AllocError>
-    ensures { OnOk result (map born lives.new ≡ map born lives.old) }
+fn tell(lives: &mut [Life], part: &Part<'_>, place: usize, tid: u32, change: &Change)
+    ensures { map born lives.new ≡ map born lives.old }
 {
     let index = index_of(tid);
     if index < lives.len() {
-        lives[index].tell(part, place, change)?;
+        lives[index].tell(part, place, change);
     }
-    Ok(())
 }
 
 /// Ends the time that each thread may run, by the entry of this place.
-fn end_all(lives: &mut [Life], part: &Part<'_>, place: usize) -> Result<(), AllocError>
-    ensures { OnOk result (map born lives.new ≡ map born lives.old) }
+fn end_all(lives: &mut [Life], part: &Part<'_>, place: usize)
+    ensures { map born lives.new ≡ map born lives.old }
 {
     for index in 0..lives.len() {
-        lives[index].end(part, place)?;
+        lives[index].end(part, place);
     }
-    Ok(())
 }
 
-/// Adds the stays of threads on a CPU.
-fn add_stays(lives: &mut [Life], part: &Part<'_>, stays: &[Stay]) -> Result<(), AllocError>
+/// Counts the stays of threads on a CPU, and keeps which threads these are in words: they are told again and again.
+fn add_stays(
+    alloc: Global,
+    lives: &mut [Life],
+    part: &Part<'_>,
+    stays: &[Stay],
+    scratch: &mut Text,
+) -> Result<(), AllocError>
     ensures { OnOk result (map born lives.new ≡ map born lives.old) }
 {
     for stay in stays {
         let index = index_of(stay.tid);
         if index < lives.len() {
-            lives[index].add_stay(part, stay)?;
+            lives[index].add_stay(alloc, part, stay, scratch)?;
         }
     }
     Ok(())
 }
 
-/// Draws the last times of each thread.
-fn end_strips(lives: &mut [Life]) -> Result<(), AllocError>
+/// Keeps which threads were not placed in words: they are told again and again, too.
+fn keep_words_of_failed(
+    alloc: Global,
+    lives: &mut [Life],
+    marks: &[Mark],
+    scratch: &mut Text,
+) -> Result<(), AllocError>
     ensures { OnOk result (map born lives.new ≡ map born lives.old) }
 {
-    for index in 0..lives.len() {
-        lives[index].end_strips()?;
+    for mark in marks {
+        if failure_of(mark).is_none() {
+            continue;
+        }
+        let index = index_of(mark.tid);
+        if index < lives.len() {
+            lives[index].keep_words(alloc, scratch)?;
+        }
     }
     Ok(())
 }
 
-/// Returns the life of each thread that was created, in increasing order of tid, without stays.
-fn created(alloc: Global, journal: &Journal, part: &Part<'_>) -> Result<Vec<Life>, AllocError>
-    ensures { IfOk result (λ lives. map born lives.items ≡ creations journal.now.entries) }
+/// Changes the lives of threads as the entry of a place says.
+#[inline(always)]
+pub(crate) fn hear_lives(
+    lives: &mut Vec<Life>,
+    part: &Part<'_>,
+    place: usize,
+    entry: &Entry,
+) -> Result<(), AllocError>
+    ensures { OnOk result (map born lives.new.items ≡ map born lives.old.items ++ created entry.now) }
 {
-    let mut lives = Vec::new(alloc);
-    for place in 0..journal.len() {
-        match journal.entry(place) {
-            Entry::Posted {
-                message: Message::Thread {
-                    tid,
-                    change: Change::Created { facts },
-                    ..
-                },
-            } => lives.push(Life::new(alloc, tid, &facts, place)?)?,
-            Entry::Posted {
-                message: Message::Thread { tid, change, .. },
-            } => tell(&mut lives, part, place, tid, &change)?,
-            Entry::Torn => end_all(&mut lives, part, place)?,
-            _ => {}
+    match entry {
+        Entry::Posted {
+            message: Message::Thread { tid, change, .. },
+        } => {
+            if let Change::Created { facts } = change {
+                lives.push(Life::new(*tid, facts))?;
+            }
+            tell(lives, part, place, *tid, change);
         }
+        Entry::Torn => end_all(lives, part, place),
+        _ => {}
     }
-    end_all(&mut lives, part, journal.len())?;
-    Ok(lives)
+    Ok(())
 }
 
-/// Returns the life of each thread that was created, in increasing order of tid, with its stays on CPUs, of which there is a lane
-/// each.
-pub(crate) fn lives(
+/// Ends the lives of threads behind so many entries, and counts their stays on CPUs, of which there is a lane each. Which
+/// threads are told often is kept in words.
+pub(crate) fn end_lives(
     alloc: Global,
-    journal: &Journal,
+    lives: &mut [Life],
     part: &Part<'_>,
+    entries: usize,
     lanes: &[Lane],
-) -> Result<Vec<Life>, AllocError>
-    ensures { IfOk result (λ lives. map born lives.items ≡ creations journal.now.entries) }
+    marks: &[Mark],
+) -> Result<(), AllocError>
+    ensures { OnOk result (map born lives.new ≡ map born lives.old) }
 {
-    let mut lives = created(alloc, journal, part)?;
+    end_all(lives, part, entries);
+    let mut scratch = Text::new(alloc);
     for lane in lanes {
-        add_stays(&mut lives, part, lane.stays())?;
+        add_stays(alloc, lives, part, lane.stays(), &mut scratch)?;
     }
-    end_strips(&mut lives)?;
-    Ok(lives)
+    keep_words_of_failed(alloc, lives, marks, &mut scratch)
 }

@@ -1,4 +1,4 @@
-ghost use Rattle.std.specs.Prelude.{◌≡◌, ◌++◌, OnOk, string_bytes};
+ghost use Rattle.std.specs.Prelude.{◌≡◌, ◌++◌, OnOk};
 ghost use Rattle.gs_timeline.specs.Escapes.{escaped, shown};
 
 use crate::text::Text;
@@ -27,21 +27,23 @@ pub(crate) fn begin_path(out: &mut Text, class: &str, x: u64, y: u64) -> Result<
 }
 
 /// Adds a byte of a name: a mark of the language by what stands for it.
-fn write_byte(out: &mut String, byte: u8) -> Result<(), AllocError>
-    ensures { OnOk result (string_bytes out.new ≡ string_bytes out.old ++ shown byte) }
+fn write_byte(out: &mut Text, byte: u8) -> Result<(), AllocError>
+    ensures settled { out.new.settled ≡ out.old.settled }
+    ensures told { OnOk result (out.new.told ≡ out.old.told ++ shown byte) }
 {
     match byte {
         b'<' => out.push_str("&lt;"),
         b'>' => out.push_str("&gt;"),
         b'&' => out.push_str("&amp;"),
         b'"' => out.push_str("&quot;"),
-        _ => out.push(char::from(byte)),
+        _ => out.push_str(char::from(byte).encode_utf8(&mut [0; 4])),
     }
 }
 
 /// Adds a name so that it is shown as it is, whatever bytes it has.
-pub(crate) fn write_escaped(out: &mut String, name: &Name) -> Result<(), AllocError>
-    ensures { OnOk result (string_bytes out.new ≡ string_bytes out.old ++ escaped name.now) }
+pub(crate) fn write_escaped(out: &mut Text, name: &Name) -> Result<(), AllocError>
+    ensures settled { out.new.settled ≡ out.old.settled }
+    ensures told { OnOk result (out.new.told ≡ out.old.told ++ escaped name.now) }
 {
     let bytes = name.as_bytes();
     for byte in bytes {

@@ -1,6 +1,6 @@
 //! Who was active and who held a CPU, from when to when.
 
-use gs_journal::{Entry, Journal};
+use gs_journal::Entry;
 use std::alloc::{AllocError, Global};
 
 /// An agent, from the entry by which it began to attach or became active on a CPU to the one that ended that.
@@ -125,23 +125,24 @@ pub(crate) struct Spans {
 }
 
 impl Spans {
-    /// Walks the entries once, and returns what they tell of agents, and of the other class on so many CPUs.
+    /// Makes those of so many CPUs before the first entry.
     ///
     /// # Errors
     ///
     /// `AllocError` if out of memory.
-    pub(crate) fn new(alloc: Global, journal: &Journal, cpus: u16) -> Result<Spans, AllocError> {
-        let mut spans = Spans {
+    pub(crate) fn new(alloc: Global, cpus: u16) -> Result<Spans, AllocError> {
+        Ok(Spans {
             turns: Vec::new(alloc),
             holds: never_held(alloc, cpus)?,
-        };
-        for place in 0..journal.len() {
-            spans.hear(place, &journal.entry(place))?;
-        }
+        })
+    }
+
+    /// Ends the times that the other class holds a CPU still, behind so many entries.
+    pub(crate) fn end(&mut self, cpus: u16, entries: usize) -> Result<(), AllocError> {
         for cpu in 0..cpus {
-            spans.give(cpu, journal.len())?;
+            self.give(cpu, entries)?;
         }
-        Ok(spans)
+        Ok(())
     }
 
     /// Keeps that the entry of this place tells so of agents.
@@ -167,7 +168,7 @@ impl Spans {
 
     /// Changes as the entry of this place says.
     #[inline(always)]
-    fn hear(&mut self, place: usize, entry: &Entry) -> Result<(), AllocError> {
+    pub(crate) fn hear(&mut self, place: usize, entry: &Entry) -> Result<(), AllocError> {
         match *entry {
             Entry::Role { generation, cpu } => self.turn(place, News::Role { generation, cpu }),
             Entry::Begin { generation } => self.turn(place, News::Begin { generation }),

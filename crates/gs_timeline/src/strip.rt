@@ -14,11 +14,9 @@ struct Length {
     to: u64,
 }
 
-/// The times of a thread on the axis: how many of the shown entries they have, and the lengths that draw them. Times that
-/// touch are drawn as one.
+/// The times of a thread on the axis, as lengths that draw them. Times that touch are drawn as one.
 #[derive(Drop)]
 pub(crate) struct Strip {
-    entries: usize,
     lengths: Vec<Length>,
     from: u64,
     to: u64,
@@ -28,7 +26,6 @@ impl Strip {
     /// Makes a strip of no time. It does not allocate.
     pub(crate) fn new(alloc: Global) -> Strip {
         Strip {
-            entries: 0,
             lengths: Vec::new(alloc),
             from: 0,
             to: 0,
@@ -42,11 +39,9 @@ impl Strip {
         from: usize,
         to: usize,
     ) -> Result<(), AllocError> {
-        let shown = part.shown(from, to);
-        if shown == 0 {
+        if part.shown(from, to) == 0 {
             return Ok(());
         }
-        self.entries = self.entries.saturating_add(shown);
         let from = part.x(from);
         let to = part.x(to).max(from.saturating_add(1));
         if from < self.from || from > self.to {
@@ -67,11 +62,6 @@ impl Strip {
         }
         self.to = 0;
         Ok(())
-    }
-
-    /// Returns how many of the shown entries it has.
-    pub(crate) fn entries(&self) -> usize {
-        self.entries
     }
 
     /// Adds the data of a path that draws the times, and writes what is long enough.

@@ -142,6 +142,16 @@ impl Text {
         self.settled = self.sheet.len();
     }
 
+    /// Returns how many bytes it has.
+    pub(crate) fn len(&self) -> usize {
+        self.sheet.len()
+    }
+
+    /// Lends all that it has. Each call reads it all, to see that it is UTF-8.
+    pub(crate) fn as_str(&self) -> &str {
+        self.sheet.as_str()
+    }
+
     /// Takes all away. The memory is kept.
     pub fn clear(&mut self)
         ensures { self.new ≡ record { settled = []; told = [] } }

@@ -4,7 +4,6 @@ ghost use Rattle.gs_timeline.specs.Marks.{shade_of};
 use crate::lives::Life;
 use crate::rect::Rect;
 use crate::text::Text;
-use crate::words::Words;
 use gs_layout::Class;
 use gs_text::Digits;
 use std::alloc::AllocError;
@@ -29,16 +28,15 @@ pub(crate) fn digits(number: u64) -> u64 {
     }
 }
 
-/// Lends the words for a thread that has a name, or returns `None` if it has none.
-fn named(life: Option<&Life>) -> Option<&Words> {
-    let words = life?.words();
-    words.has_name().then_some(words)
+/// Lends the life of a thread that has a name, or returns `None` if it has none.
+fn named(life: Option<&Life>) -> Option<&Life> {
+    life.filter(|life| life.has_name())
 }
 
 /// Returns how many letters what a thread is called has.
 pub(crate) fn letters_of(tid: u32, life: Option<&Life>) -> u64 {
     match named(life) {
-        Some(words) => words.letters(),
+        Some(life) => life.letters(),
         None => digits(u64::from(tid)),
     }
 }
@@ -48,7 +46,7 @@ pub(crate) fn write_called(out: &mut Text, tid: u32, life: Option<&Life>) -> Res
     ensures { out.new.settled ≡ out.old.settled }
 {
     match named(life) {
-        Some(words) => out.push_str(words.name()),
+        Some(life) => life.write_name(out),
         None => out.push_decimal(u64::from(tid)),
     }
 }
@@ -65,7 +63,7 @@ pub(crate) fn write_label(
     ensures { out.new.settled ≡ out.old.settled }
 {
     let room = bar.width;
-    let name = named(life).filter(|words| room_for(words.letters()) <= room);
+    let name = named(life).filter(|life| room_for(life.letters()) <= room);
     let number = u64::from(tid);
     if name.is_none() && room_for(digits(number)) > room {
         return Ok(());
@@ -73,7 +71,7 @@ pub(crate) fn write_label(
     out.push_number_digits("<text x=\"", bar.middle(), "\" y=\"", base)?;
     out.push_str("\" class=\"name\">")?;
     match name {
-        Some(words) => out.push_str(words.name())?,
+        Some(life) => life.write_name(out)?,
         None => out.push_decimal(number)?,
     }
     out.push_str("</text>\n")
@@ -103,7 +101,7 @@ pub(crate) fn write_thread(out: &mut Text, tid: u32, life: Option<&Life>) -> Res
     ensures { out.new.settled ≡ out.old.settled }
 {
     match life {
-        Some(life) => out.push_str(life.words().all()),
+        Some(life) => life.write(out),
         None => {
             out.push_number("thread ", u64::from(tid))?;
             out.push_str(", class ?")

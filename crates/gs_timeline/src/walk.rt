@@ -148,17 +148,22 @@ fn hear_at(
     seat(lanes, homes, tid, cpu, place)
 }
 
+/// Counts a thread that an entry places, by its CPU.
+#[inline(always)]
+pub(crate) fn count_placing(counts: &mut [usize], entry: &Entry) {
+    let Some((_, cpu)) = placing(entry) else {
+        return;
+    };
+    if let Some(count) = counts.get_mut(cpu as usize) {
+        *count = count.saturating_add(1);
+    }
+}
+
 /// Returns how many threads were placed on each of so many CPUs: at most so many stays are there.
 fn placings(alloc: Global, journal: &Journal, cpus: u16) -> Result<Vec<usize>, AllocError> {
-    let mut counts: Vec<usize> = Vec::new(alloc);
-    counts.resize(cpus as usize, 0)?;
+    let mut counts = vec![in alloc; 0; cpus as usize]?;
     for place in 0..journal.len() {
-        let Some((_, cpu)) = placing(&journal.entry(place)) else {
-            continue;
-        };
-        if let Some(count) = counts.get_mut(cpu as usize) {
-            *count = count.saturating_add(1);
-        }
+        count_placing(&mut counts, &journal.entry(place));
     }
     Ok(counts)
 }
@@ -189,7 +194,24 @@ pub fn stays(alloc: Global, journal: &Journal, cpus: u16) -> Result<Vec<Lane>, A
     ensures stays { IfOk result (λ lanes. (c : ℕ) → c < cpus → option_map (λ (lane : LaneOf). lane.ended) (slice_get lanes.items c) ≡ Some (stays journal.now.entries c)) }
 {
     let rooms = placings(alloc, journal, cpus)?;
-    let mut lanes = vacant_lanes(alloc, cpus, &rooms)?;
+    stays_in(alloc, journal, cpus, &rooms)
+}
+
+/// Returns the same. It is given how many threads were placed on each CPU, and makes room for so many stays.
+///
+/// # Errors
+///
+/// `AllocError` if out of memory.
+pub(crate) fn stays_in(
+    alloc: Global,
+    journal: &Journal,
+    cpus: u16,
+    rooms: &[usize],
+) -> Result<Vec<Lane>, AllocError>
+    ensures count { IfOk result (λ lanes. length lanes.items ≡ cpus) }
+    ensures stays { IfOk result (λ lanes. (c : ℕ) → c < cpus → option_map (λ (lane : LaneOf). lane.ended) (slice_get lanes.items c) ≡ Some (stays journal.now.entries c)) }
+{
+    let mut lanes = vacant_lanes(alloc, cpus, rooms)?;
     let mut homes = Homes::new(alloc);
     for place in 0..journal.len() {
         hear_at(lanes.as_mut_slice(), &mut homes, journal, place)?;

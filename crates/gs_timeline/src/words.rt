@@ -1,67 +1,94 @@
 //! Which thread it is, in words.
 
+ghost use Rattle.std.specs.Prelude.{◌≡◌};
+
 use crate::phrases::write_escaped;
-use gs_layout::Facts;
-use gs_text::Sheet;
+use crate::text::Text;
+use gs_layout::{Class, Name};
 use std::alloc::{AllocError, Global};
 
-/// Which thread it is, in words: its tid, its name if it has one, and its class. They take no more memory than they are
-/// long, since those of all threads are read again and again.
+/// Which thread it is, in words, to be told again and again: its tid, its name if it has one, and its class. They take no more
+/// memory than they are long.
 #[derive(Drop)]
 pub(crate) struct Words {
     all: String,
     /// Where its name as it is shown begins and ends among them.
     begin: usize,
     end: usize,
-    /// How many letters its name has: none if it has no name.
-    letters: u64,
 }
 
-/// Adds the name of a thread as it is shown, behind a space, if it has one.
-fn write_name(out: &mut Sheet, alloc: Global, facts: &Facts) -> Result<(), AllocError> {
-    if facts.name.as_bytes().is_empty() {
+/// Adds a thread's tid.
+#[inline(always)]
+fn write_tid(out: &mut Text, tid: u32) -> Result<(), AllocError>
+    ensures { out.new.settled ≡ out.old.settled }
+{
+    out.push_number("thread ", u64::from(tid))
+}
+
+/// Adds a thread's name as it is shown, behind a space, if it has one.
+fn write_name(out: &mut Text, name: &Name) -> Result<(), AllocError>
+    ensures { out.new.settled ≡ out.old.settled }
+{
+    if name.as_bytes().is_empty() {
         return Ok(());
     }
-    let mut name = String::new(alloc);
-    write_escaped(&mut name, &facts.name)?;
     out.push_str(" ")?;
-    out.push_str(name.as_str())
+    write_escaped(out, name)
+}
+
+/// Adds a thread's class, behind its tid and its name.
+#[inline(always)]
+fn write_class(out: &mut Text, class: Class) -> Result<(), AllocError>
+    ensures { out.new.settled ≡ out.old.settled }
+{
+    out.push_number(", class ", class.number() as u64)
+}
+
+/// Adds which thread it is, in words that are not kept.
+#[cold]
+#[inline(never)]
+pub(crate) fn write_words(
+    out: &mut Text,
+    tid: u32,
+    name: &Name,
+    class: Class,
+) -> Result<(), AllocError>
+    ensures { out.new.settled ≡ out.old.settled }
+{
+    write_tid(out, tid)?;
+    write_name(out, name)?;
+    write_class(out, class)
 }
 
 impl Words {
-    /// Tells of a thread of these facts.
+    /// Tells of a thread. The words are written into a text first, which is empty or has others.
     ///
     /// # Errors
     ///
     /// `AllocError` if out of memory.
-    pub(crate) fn new(alloc: Global, tid: u32, facts: &Facts) -> Result<Words, AllocError> {
-        let mut sheet = Sheet::new(alloc);
-        sheet.push_number("thread ", u64::from(tid))?;
-        let begin = sheet.len().saturating_add(1);
-        write_name(&mut sheet, alloc, facts)?;
-        let end = sheet.len();
-        sheet.push_number(", class ", facts.class.number() as u64)?;
+    pub(crate) fn new(
+        alloc: Global,
+        scratch: &mut Text,
+        tid: u32,
+        name: &Name,
+        class: Class,
+    ) -> Result<Words, AllocError> {
+        scratch.clear();
+        write_tid(scratch, tid)?;
+        let begin = scratch.len().saturating_add(1);
+        write_name(scratch, name)?;
+        let end = scratch.len();
+        write_class(scratch, class)?;
         Ok(Words {
-            all: String::from_str(alloc, sheet.as_str())?,
+            all: String::from_str(alloc, scratch.as_str())?,
             begin,
             end,
-            letters: facts.name.as_bytes().len() as u64,
         })
     }
 
     /// Lends all of them.
     pub(crate) fn all(&self) -> &str {
         self.all.as_str()
-    }
-
-    /// Returns whether it has a name.
-    pub(crate) fn has_name(&self) -> bool {
-        self.letters > 0
-    }
-
-    /// Returns how many letters its name has.
-    pub(crate) fn letters(&self) -> u64 {
-        self.letters
     }
 
     /// Lends its name as it is shown.

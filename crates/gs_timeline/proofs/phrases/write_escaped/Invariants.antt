@@ -1,6 +1,9 @@
-use Rattle.std.proofs.Common.{◌≡◌, ◌++◌, take, string_bytes}
+use Rattle.std.proofs.Common.{◌≡◌, ◌++◌, take}
 use Rattle.gs_timeline.specs.Escapes.{escaped}
 use Rattle.gs_timeline.proofs.phrases.write_escaped.Given as goal
 
 abbrev pub invariant-loop-byte : goal.invariant-loop-byte
-invariant-loop-byte l = string_bytes l.out ≡ string_bytes l.fn.out ++ escaped (take l.byte-index l.bytes)
+invariant-loop-byte l = record {
+  settled : l.out.settled ≡ l.fn.out.settled;
+  told : l.out.told ≡ l.fn.out.told ++ escaped (take l.byte-index l.bytes);
+}

@@ -8,7 +8,7 @@ use Rattle.gs_timeline.specs.Lanes.{LaneOf, each_then, lane_then, left, vacant}
 use Rattle.gs_timeline.specs.Stays.{stays}
 use Rattle.gs_timeline.proofs.Housed.{vacant_home}
 use Rattle.gs_timeline.proofs.Walked.{AreLanes, in_place, lanes_ended, lanes_more, lanes_none, length_each}
-use Rattle.gs_timeline.proofs.walk.stays.Goals as goal
+use Rattle.gs_timeline.proofs.walk.stays_in.Goals as goal
 
 -- what stands in the place of all lanes, once each has changed
 changed : (f : ℕ → LaneOf → LaneOf) (n : ℕ) (xs ys seen : List LaneOf) → seen ≡ xs → length seen ≡ n → ys ≡ each_then f 0 seen → take n (ys ++ drop (length ys) xs) ≡ each_then f 0 xs
