@@ -149,11 +149,11 @@ fn write_stays<W: Write>(
     cpu: u16,
     stays: &[Stay],
 ) -> Result<(), WriteFailed>
-    ensures sent { OnOk result (Sends (flat_map (pieces_of (scale drawn.now.part.now) (class_among (map born drawn.now.all.now.lives.items)) drawn.now.endings.now) stays.now) (W.contents writer.old) (W.contents writer.new) out.old.settled out.new.settled) }
+    ensures sent { OnOk result (Sends (flat_map (pieces_of (scale drawn.now.part.now) (class_among (map born drawn.now.all.now.lives.items)) drawn.now.all.now.endings) stays.now) (W.contents writer.old) (W.contents writer.new) out.old.settled out.new.settled) }
     ensures stuck { OnErr result (Grows (W.contents writer.old) (W.contents writer.new)) }
 {
     let part = drawn.part;
-    let endings = drawn.endings;
+    let endings = &drawn.all.endings;
     let lives = drawn.all.lives.as_slice();
     let mut blur = Blur::new(cpu);
     for stay in stays {
@@ -179,8 +179,8 @@ fn write_rows<W: Write>(
     drawn: &Drawn<'_>,
 ) -> Result<(), WriteFailed>
     requires count { length drawn.now.all.now.lanes.items ≡ drawn.now.cpus }
-    requires stays { (c : ℕ) → c < drawn.now.cpus → option_map (λ (lane : LaneOf). lane.ended) (slice_get drawn.now.all.now.lanes.items c) ≡ Some (stays drawn.now.endings.now c) }
-    ensures sent { OnOk result (Sends (flat_map (pieces_of (scale drawn.now.part.now) (class_among (map born drawn.now.all.now.lives.items)) drawn.now.endings.now) (all_stays drawn.now.endings.now drawn.now.cpus)) (W.contents writer.old) (W.contents writer.new) out.old.settled out.new.settled) }
+    requires stays { (c : ℕ) → c < drawn.now.cpus → option_map (λ (lane : LaneOf). lane.ended) (slice_get drawn.now.all.now.lanes.items c) ≡ Some (stays drawn.now.all.now.endings c) }
+    ensures sent { OnOk result (Sends (flat_map (pieces_of (scale drawn.now.part.now) (class_among (map born drawn.now.all.now.lives.items)) drawn.now.all.now.endings) (all_stays drawn.now.all.now.endings drawn.now.cpus)) (W.contents writer.old) (W.contents writer.new) out.old.settled out.new.settled) }
     ensures stuck { OnErr result (Grows (W.contents writer.old) (W.contents writer.new)) }
 {
     let part = drawn.part;
@@ -287,12 +287,11 @@ fn write_head(out: &mut Text, drawn: &Drawn<'_>, end: u64) -> Result<(), AllocEr
 {
     let Drawn {
         cpus,
-        endings,
         part,
         all,
         ..
     } = *drawn;
-    let journal = endings.journal();
+    let journal = all.endings.journal();
     let width = part.x(part.behind()).saturating_add(EDGE).max(LEAST_WIDTH);
     out.push_str("<svg xmlns=\"http://www.w3.org/2000/svg\"")?;
     write_size(out, width, end)?;
@@ -347,7 +346,7 @@ fn write_below<W: Write>(
     ensures stuck { OnErr result (Grows (W.contents writer.old) (W.contents writer.new)) }
 {
     write_agents(out, writer, drawn)?;
-    let journal = drawn.endings.journal();
+    let journal = drawn.all.endings.journal();
     write_marks(out, writer, drawn.part, drawn.cpus, journal)?;
     write_decisions(out, writer, drawn)?;
     write_foot(out, writer, drawn)
@@ -357,8 +356,8 @@ fn write_below<W: Write>(
 /// enough.
 fn draw<W: Write>(out: &mut Text, writer: &mut W, drawn: &Drawn<'_>) -> Result<(), WriteFailed>
     requires count { length drawn.now.all.now.lanes.items ≡ drawn.now.cpus }
-    requires stays { (c : ℕ) → c < drawn.now.cpus → option_map (λ (lane : LaneOf). lane.ended) (slice_get drawn.now.all.now.lanes.items c) ≡ Some (stays drawn.now.endings.now c) }
-    ensures sent { OnOk result ((start : List ℕ) × Sends (told_by drawn.now.all.now.counts ++ flat_map (pieces_of (scale drawn.now.part.now) (class_among (map born drawn.now.all.now.lives.items)) drawn.now.endings.now) (all_stays drawn.now.endings.now drawn.now.cpus)) (W.contents writer.old) (W.contents writer.new) start out.new.settled) }
+    requires stays { (c : ℕ) → c < drawn.now.cpus → option_map (λ (lane : LaneOf). lane.ended) (slice_get drawn.now.all.now.lanes.items c) ≡ Some (stays drawn.now.all.now.endings c) }
+    ensures sent { OnOk result ((start : List ℕ) × Sends (told_by drawn.now.all.now.counts ++ flat_map (pieces_of (scale drawn.now.part.now) (class_among (map born drawn.now.all.now.lives.items)) drawn.now.all.now.endings) (all_stays drawn.now.all.now.endings drawn.now.cpus)) (W.contents writer.old) (W.contents writer.new) start out.new.settled) }
     ensures stuck { OnErr result (Grows (W.contents writer.old) (W.contents writer.new)) }
 {
     let end = end_of_foot(drawn.cpus, drawn.all.lines.len());
@@ -379,10 +378,9 @@ fn draw<W: Write>(out: &mut Text, writer: &mut W, drawn: &Drawn<'_>) -> Result<(
 #[derive(Drop)]
 pub struct Picture<'a> {
     cpus: u16,
-    endings: Endings<'a>,
     notes: Notes<'a>,
     part: Part<'a>,
-    all: Gathered,
+    all: Gathered<'a>,
     /// What is drawn and not written yet.
     out: Text,
 }
@@ -398,9 +396,9 @@ impl<'a> Model for Picture<'a> {
 
     ghost Value = { List (List ℕ) };
 
-    ghost view = { λ p. told_by p.all.counts ++ flat_map (pieces_of (scale p.part) (class_among (map born p.all.lives.items)) p.endings) (all_stays p.endings p.cpus) };
+    ghost view = { λ p. told_by p.all.counts ++ flat_map (pieces_of (scale p.part) (class_among (map born p.all.lives.items)) p.all.endings) (all_stays p.all.endings p.cpus) };
 
-    ghost invariant = { λ p. (length p.all.lanes.items ≡ p.cpus) × ((c : ℕ) → c < p.cpus → option_map (λ (lane : LaneOf). lane.ended) (slice_get p.all.lanes.items c) ≡ Some (stays p.endings c)) };
+    ghost invariant = { λ p. (length p.all.lanes.items ≡ p.cpus) × ((c : ℕ) → c < p.cpus → option_map (λ (lane : LaneOf). lane.ended) (slice_get p.all.lanes.items c) ≡ Some (stays p.all.endings c)) };
 }
 
 impl<'a> Picture<'a> {
@@ -426,7 +424,6 @@ impl<'a> Picture<'a> {
         let all = Gathered::new(alloc, cpus, journal, &notes, &part, listed)?;
         Ok(Picture {
             cpus,
-            endings: Endings::new(alloc, journal)?,
             notes,
             part,
             all,
@@ -446,7 +443,6 @@ impl<'a> Picture<'a> {
     {
         let Picture {
             cpus,
-            endings,
             notes,
             part,
             all,
@@ -454,7 +450,6 @@ impl<'a> Picture<'a> {
         } = self;
         let drawn = Drawn {
             cpus,
-            endings: &endings,
             notes,
             part: &part,
             all: &all,

@@ -1,11 +1,10 @@
 //! Why stays end, by the entries that end them.
 
-ghost use Rattle.std.specs.Prelude.{◌≡◌, IfOk, slice_get};
+ghost use Rattle.std.specs.Prelude.{◌≡◌, Some, map, slice_get};
 ghost use Rattle.gs_timeline.specs.Endings.{ending_of};
 
 use crate::ending::Ending;
 use gs_journal::Journal;
-use std::alloc::{AllocError, Global};
 use std::marker::Model;
 
 /// Why a stay ended, for each entry of a journal that may have ended it: one byte an entry, for whoever looks at entries that are far from one
@@ -29,19 +28,12 @@ impl<'a> Model for Endings<'a> {
 }
 
 impl<'a> Endings<'a> {
-    /// Looks through the entries of a journal, once.
-    ///
-    /// # Errors
-    ///
-    /// `AllocError` if out of memory.
-    pub(crate) fn new(alloc: Global, journal: &'a Journal) -> Result<Endings<'a>, AllocError>
-        ensures { IfOk result (λ endings. endings ≡ journal.now.entries) }
+    /// Keeps why a stay ended by each entry of a journal, as these say.
+    pub(crate) fn new(journal: &'a Journal, by_entry: Vec<Ending>) -> Endings<'a>
+        requires { by_entry.items ≡ map (λ x. ending_of (Some x)) journal.now.entries }
+        ensures { result ≡ journal.now.entries }
     {
-        let mut by_entry = Vec::with_capacity(alloc, journal.len())?;
-        for place in 0..journal.len() {
-            by_entry.push(Ending::of(Some(&journal.entry(place))))?;
-        }
-        Ok(Endings { journal, by_entry })
+        Endings { journal, by_entry }
     }
 
     /// Lends the journal.

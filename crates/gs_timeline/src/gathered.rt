@@ -30,15 +30,16 @@ use std::alloc::{AllocError, Global};
 #[derive(Clone, Copy)]
 pub(crate) struct Drawn<'a> {
     pub cpus: u16,
-    pub endings: &'a Endings<'a>,
     pub notes: Notes<'a>,
     pub part: &'a Part<'a>,
-    pub all: &'a Gathered,
+    pub all: &'a Gathered<'a>,
 }
 
 /// All lists that a picture is drawn of.
 #[derive(Drop)]
-pub(crate) struct Gathered {
+pub(crate) struct Gathered<'a> {
+    /// Why stays end.
+    pub endings: Endings<'a>,
     /// The stays, by CPU.
     pub lanes: Vec<Lane>,
     /// The threads, by tid.
@@ -61,7 +62,7 @@ pub(crate) struct Gathered {
     pub groups: Picks,
 }
 
-impl Gathered {
+impl<'a> Gathered<'a> {
     /// Gathers what a picture of so many CPUs is drawn of. After that nothing but the text grows.
     ///
     /// # Errors
@@ -70,13 +71,14 @@ impl Gathered {
     pub(crate) fn new(
         alloc: Global,
         cpus: u16,
-        journal: &Journal,
+        journal: &'a Journal,
         notes: &Notes<'_>,
         part: &Part<'_>,
         listed: Listed,
-    ) -> Result<Gathered, AllocError>
+    ) -> Result<Gathered<'a>, AllocError>
         ensures count { IfOk result (λ all. length all.lanes.items ≡ cpus) }
         ensures stays { IfOk result (λ all. (c : ℕ) → c < cpus → option_map (λ (lane : LaneOf). lane.ended) (slice_get all.lanes.items c) ≡ Some (stays journal.now.entries c)) }
+        ensures endings { IfOk result (λ all. all.endings ≡ journal.now.entries) }
         ensures lives { IfOk result (λ all. map born all.lives.items ≡ creations journal.now.entries) }
         ensures decisions { IfOk result (λ all. told_by all.counts ≡ decisions (scale part.now) notes.now.marks.now) }
     {
@@ -84,6 +86,7 @@ impl Gathered {
             placings,
             mut lives,
             spans: Spans { turns, holds },
+            endings,
         } = Heard::new(alloc, journal, part, cpus)?;
         let lanes = stays_in(alloc, journal, cpus, &placings)?;
         end_lives(alloc, &mut lives, part, journal.len(), &lanes, notes.marks)?;
@@ -95,6 +98,7 @@ impl Gathered {
             drawn,
         } = Stamped::new(alloc, part, notes.marks, &turns, cpus, journal.len())?;
         Ok(Gathered {
+            endings,
             lanes,
             lives,
             lines,

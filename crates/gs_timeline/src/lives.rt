@@ -6,7 +6,7 @@ use crate::lane::Lane;
 use crate::notes::Mark;
 use crate::part::Part;
 use crate::phrases::write_escaped;
-use crate::readiness::Readiness;
+use crate::readiness::{Readiness, is_turn};
 use crate::stay::Stay;
 use crate::text::Text;
 use crate::words::{Words, write_words};
@@ -20,7 +20,7 @@ pub(crate) struct Life {
     pub tid: u32,
     pub class: Class,
     name: Name,
-    /// Which thread it is, in words, if it is likely to be told often.
+    /// Which thread it is, in words, if that is told often.
     words: Option<Box<Words>>,
     readiness: Readiness,
     /// Behind how many of the shown entries it lived and could run.
@@ -66,7 +66,7 @@ impl Life {
         }
     }
 
-    /// Adds which thread it is, in words.
+    /// Adds the words that say which thread it is.
     #[inline(always)]
     pub(crate) fn write(&self, out: &mut Text) -> Result<(), AllocError>
         ensures { out.new.settled ≡ out.old.settled }
@@ -77,7 +77,7 @@ impl Life {
         }
     }
 
-    /// Makes which thread it is in words, and keeps them. They are written into a text first.
+    /// Makes the words that say which thread it is, and keeps them. They are written into a text first.
     fn make_words(&mut self, alloc: Global, scratch: &mut Text) -> Result<(), AllocError>
         ensures { born self.new ≡ born self.old }
     {
@@ -86,7 +86,7 @@ impl Life {
         Ok(())
     }
 
-    /// Keeps which thread it is in words, if they are not kept yet.
+    /// Keeps the words that say which thread it is, if they are not kept yet.
     #[inline(always)]
     fn keep_words(&mut self, alloc: Global, scratch: &mut Text) -> Result<(), AllocError>
         ensures { born self.new ≡ born self.old }
@@ -124,7 +124,7 @@ impl Life {
         self.add_ready(part, since, place);
     }
 
-    /// Counts a stay on a CPU, and keeps which thread it is in words.
+    /// Counts a stay on a CPU, and keeps the words that say which thread it is.
     #[inline(always)]
     fn add_stay(
         &mut self,
@@ -197,7 +197,7 @@ fn end_all(lives: &mut [Life], part: &Part<'_>, place: usize)
     }
 }
 
-/// Counts the stays of threads on a CPU, and keeps which threads these are in words: they are told again and again.
+/// Counts the stays of threads on a CPU, and keeps the words for these threads: they are told again and again.
 fn add_stays(
     alloc: Global,
     lives: &mut [Life],
@@ -216,7 +216,7 @@ fn add_stays(
     Ok(())
 }
 
-/// Keeps which threads were not placed in words: they are told again and again, too.
+/// Keeps the words for each thread that a transaction did not place: they are told again and again, too.
 fn keep_words_of_failed(
     alloc: Global,
     lives: &mut [Life],
@@ -254,7 +254,9 @@ pub(crate) fn hear_lives(
             if let Change::Created { facts } = change {
                 lives.push(Life::new(*tid, facts))?;
             }
-            tell(lives, part, place, *tid, change);
+            if is_turn(change) {
+                tell(lives, part, place, *tid, change);
+            }
         }
         Entry::Torn => end_all(lives, part, place),
         _ => {}
@@ -262,8 +264,8 @@ pub(crate) fn hear_lives(
     Ok(())
 }
 
-/// Ends the lives of threads behind so many entries, and counts their stays on CPUs, of which there is a lane each. Which
-/// threads are told often is kept in words.
+/// Ends the lives of threads behind so many entries, and counts their stays on CPUs, of which there is a lane each. The words
+/// for threads that are told often are kept: of most of many thousands they are never told.
 pub(crate) fn end_lives(
     alloc: Global,
     lives: &mut [Life],

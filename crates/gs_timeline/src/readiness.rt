@@ -8,6 +8,15 @@ pub(crate) struct Readiness {
     since: Option<usize>,
 }
 
+/// Returns whether a change of a thread may begin or end the time that it may run.
+#[inline(always)]
+pub(crate) fn is_turn(change: &Change) -> bool {
+    matches!(
+        change,
+        Change::Created { .. } | Change::Blocked { .. } | Change::Dead { .. } | Change::Wakeup
+    )
+}
+
 impl Readiness {
     /// That of a thread that may not run.
     pub(crate) fn none() -> Readiness {

@@ -4,7 +4,7 @@ use crate::lane::Lane;
 use crate::listing::Line;
 use crate::lives::index_of;
 use crate::part::Part;
-use crate::readiness::Readiness;
+use crate::readiness::{Readiness, is_turn};
 use crate::stay::Stay;
 use crate::strip::Strip;
 use gs_journal::{Entry, Journal};
@@ -134,7 +134,7 @@ impl AllTimes {
             match journal.entry(place) {
                 Entry::Posted {
                     message: Message::Thread { tid, change, .. },
-                } => self.tell(part, place, tid, &change)?,
+                } if is_turn(&change) => self.tell(part, place, tid, &change)?,
                 Entry::Torn => self.end_all(part, place)?,
                 _ => {}
             }

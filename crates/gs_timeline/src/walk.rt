@@ -197,7 +197,8 @@ pub fn stays(alloc: Global, journal: &Journal, cpus: u16) -> Result<Vec<Lane>, A
     stays_in(alloc, journal, cpus, &rooms)
 }
 
-/// Returns the same. It is given how many threads were placed on each CPU, and makes room for so many stays.
+/// Returns the stays on each of so many CPUs, as [`stays`] does. It is given how many threads were placed on each, and makes
+/// room for so many stays there.
 ///
 /// # Errors
 ///

@@ -12,7 +12,7 @@ abbrev told : Drawn → List (List ℕ)
 told d = told_by d.all.now.counts
 
 abbrev rows : Drawn → List (List ℕ)
-rows d = flat_map (pieces_of (scale d.part.now) (class_among (map born d.all.now.lives.items)) d.endings.now) (all_stays d.endings.now d.cpus)
+rows d = flat_map (pieces_of (scale d.part.now) (class_among (map born d.all.now.lives.items)) d.all.now.endings) (all_stays d.all.now.endings d.cpus)
 
 pub returns-in_err-write_rows-clause-stuck : goal.returns-in_err-write_rows-clause-stuck
 returns-in_err-write_rows-clause-stuck g c =

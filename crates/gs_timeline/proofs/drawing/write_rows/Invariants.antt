@@ -6,4 +6,4 @@ use Rattle.gs_timeline.specs.Stays.{all_stays}
 use Rattle.gs_timeline.proofs.drawing.write_rows.Given as goal
 
 abbrev pub invariant-loop-cpu : goal.invariant-loop-cpu
-invariant-loop-cpu g l = Sends (flat_map (pieces_of (scale l.drawn.part.now) (class_among (map born l.drawn.all.now.lives.items)) l.drawn.endings.now) (all_stays l.drawn.endings.now l.cpu)) (g.W.Write.contents l.fn.writer) (g.W.Write.contents l.writer) l.fn.out.settled l.out.settled
+invariant-loop-cpu g l = Sends (flat_map (pieces_of (scale l.drawn.part.now) (class_among (map born l.drawn.all.now.lives.items)) l.drawn.all.now.endings) (all_stays l.drawn.all.now.endings l.cpu)) (g.W.Write.contents l.fn.writer) (g.W.Write.contents l.writer) l.fn.out.settled l.out.settled

@@ -14,7 +14,7 @@ abbrev none : Stay
 none = record { cpu = 0; tid = 0; from = 0; to = 0 }
 
 abbrev drawn_of : Drawn → Stay → List (List ℕ)
-drawn_of d = pieces_of (scale d.part.now) (class_among (map born d.all.now.lives.items)) d.endings.now
+drawn_of d = pieces_of (scale d.part.now) (class_among (map born d.all.now.lives.items)) d.all.now.endings
 
 abbrev first : Drawn → ℕ → List Stay → List (List ℕ)
 first d i xs = flat_map (drawn_of d) (take i xs)
@@ -29,7 +29,7 @@ pub loop-stay-preserved : goal.loop-stay-preserved
 loop-stay-preserved g c =
     let d = c.args.drawn.now in
     let x : Stay = get_or c.args.stays.now c.loop-stay.stay-index none in
-    let one = subst (λ (ls : List Life). Adds (pieces_of (scale d.part.now) (class_among (map born ls)) d.endings.now x) c.loop-stay.out.settled c.write_next.new.out.settled) c.as_slice-lives.ensures.value c.in_ok-write_next.ensures in
+    let one = subst (λ (ls : List Life). Adds (pieces_of (scale d.part.now) (class_among (map born ls)) d.all.now.endings x) c.loop-stay.out.settled c.write_next.new.out.settled) c.as_slice-lives.ensures.value c.in_ok-write_next.ensures in
     sends_next (drawn_of d) c.args.stays.now c.loop-stay.stay-index none _ _ _ _ _ _ _ c.loop-stay-test.true c.loop-stay.invariant one c.in_ok-spill.ensures.sent
 
 pub returns-in_err-write-clause-stuck : goal.returns-in_err-write-clause-stuck

@@ -16,9 +16,9 @@ returns c =
     let all = c.in_ok-all.ensures in
     let drawn = pieces_drawn (scale c.new-part.result) v (told_by c.in_ok-all.all.counts) c.args.notes.marks.now c.in_ok-all.all.lives.items h c.args.cpus scaled all.decisions all.lives in
     let classes = class_among (map born c.in_ok-all.all.lives.items) in
-    ap (λ (k : History). told_by c.in_ok-all.all.counts ++ flat_map (pieces_of (scale c.new-part.result) classes k) (all_stays k c.args.cpus)) c.in_ok-new.ensures ∙ drawn
+    ap (λ (k : History). told_by c.in_ok-all.all.counts ++ flat_map (pieces_of (scale c.new-part.result) classes k) (all_stays k c.args.cpus)) c.in_ok-all.ensures.endings ∙ drawn
 
 pub invariant_of-result : goal.invariant_of-result
 invariant_of-result c =
     let all = c.in_ok-all.ensures in
-    (all.count, λ k lt. all.stays k lt ∙ ap (λ (h : History). Some (stays h k)) (sym c.in_ok-new.ensures))
+    (all.count, λ k lt. all.stays k lt ∙ ap (λ (h : History). Some (stays h k)) (sym c.in_ok-all.ensures.endings))

@@ -14,7 +14,7 @@ abbrev HasText : Option (List ℕ) → Option (List ℕ) → List (List ℕ) →
 HasText a b pieces = (text : List ℕ) × Appends a b text × HasEach pieces text
 
 abbrev pieces : Inside → List (List ℕ)
-pieces p = told_by p.all.counts ++ flat_map (pieces_of (scale p.part) (class_among (map born p.all.lives.items)) p.endings) (all_stays p.endings p.cpus)
+pieces p = told_by p.all.counts ++ flat_map (pieces_of (scale p.part) (class_among (map born p.all.lives.items)) p.all.endings) (all_stays p.all.endings p.cpus)
 
 pub returns-clause-written : goal.returns-clause-written
 returns-clause-written g c =
