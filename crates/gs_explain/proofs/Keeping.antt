@@ -8,7 +8,9 @@ use Rattle.std.proofs.lemmas.List.{drop-drop, drop-take, length-append}
 use Rattle.std.proofs.lemmas.List.Elements.{All-append}
 use Rattle.gs_layout.specs.declared.outcome.Outcome.{Outcome}
 use Rattle.gs_layout.specs.declared.outcome.Outcome.TheVariants as outcomes
+use Rattle.gs_layout.specs.declared.refusal.Refusal.{Refusal}
 use Rattle.gs_journal.specs.declared.entry.Entry.{Entry}
+use Rattle.gs_core.specs.declared.event.Event.{Event}
 use Rattle.gs_kernel.specs.declared.landing.Landing.{Landing}
 use Rattle.gs_kernel.specs.Lands.{is_to_place}
 use Rattle.gs_replies.specs.declared.reply.Reply.TheVariants as replies
@@ -20,7 +22,9 @@ use Rattle.gs_sentences.specs.Reason as reasons
 use Rattle.gs_sentences.specs.declared.landed.Overflow.{Overflow}
 use Rattle.gs_explain.specs.declared.again.Again.{Again}
 use Rattle.gs_explain.specs.declared.kept.Kept.{Kept}
+use Rattle.gs_explain.specs.declared.content.Count.{Count}
 use Rattle.gs_explain.specs.declared.content.Source.{Source}
+use Rattle.gs_explain.specs.declared.content.Told.TheVariants.{Refusing}
 use Rattle.gs_explain.specs.Explained.{Line}
 use Rattle.gs_explain.specs.Landings.{after_landing, because, is_gone, landed, overflow_if}
 use Rattle.gs_explain.specs.Moment.{Moment}
@@ -140,9 +144,13 @@ late_row said x first n l out none =
 pub same_source : (s : Source) (line place : ℕ) (e : Entry) → s.line ≡ line → s.place ≡ place → s.entry ≡ e → Some s ≡ Some (record { line = line; place = place; entry = e })
 same_source s line place e f g h = λ i. Some (record { line = f i; place = g i; entry = h i })
 
+-- what was refused is what is kept
+pub same_refusing : (f g : Refusal) (e k : Event (Unit {0})) (s t : Option Source) (n m : Count) → f ≡ g → e ≡ k → s ≡ t → n ≡ m → Refusing f e s n ≡ Refusing g k t m
+same_refusing f g e k s t n m a b c d = λ i. Refusing (a i) (b i) (c i) (d i)
+
 -- what is kept, once more is
 pub held_put : (text : List ℕ) (kept : Kept) (kepts : List Kept) → All (IsKept text) kepts → IsKept text kept → All (IsKept text) (kept_put kept kepts)
-held_put text kept kepts held is = by_room (nat_le 1024 (length kepts)) where
+held_put text kept kepts held is = by_room (nat_le 4096 (length kepts)) where
   by_room : (full : Bool) → All (IsKept text) (if full then kept ∷ [] else kepts ++ kept ∷ [])
   by_room true = alone (IsKept text) kept is
   by_room false = All-append (IsKept text) kepts (kept ∷ []) held (alone (IsKept text) kept is)

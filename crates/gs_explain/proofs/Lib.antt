@@ -14,5 +14,6 @@ mod Lasting
 mod Retelling
 mod RowsAgain
 mod Keeping
+mod RefusedTold
 pub mod Knowing
 pub mod Sentences

@@ -1,18 +1,23 @@
 //! What was told last, and where.
 
-ghost use Rattle.std.specs.Prelude.{◌≡◌, ◌+◌, ◌<◌, ◌≤◌, ◌++◌, List, ℕ, None, true, false, IfOk, IfSome, OnOk, length};
+ghost use Rattle.std.specs.Prelude.{◌≡◌, ◌+◌, ◌<◌, ◌≤◌, ◌++◌, List, ℕ, true, false, IfOk, IfSome, OnOk, length};
 ghost use Rattle.std.specs.List.{All};
 ghost use Rattle.gs_script.specs.Unread.{said_line};
 ghost use Rattle.gs_script.specs.Words.{is_text};
-ghost use Rattle.gs_sentences.specs.Given.{landed_given};
+ghost use Rattle.gs_sentences.specs.Given.{causes_given, landed_given};
+ghost use Rattle.gs_explain.specs.Marked.{IsMarked};
+ghost use Rattle.gs_explain.specs.Moment.{moment_of};
+ghost use Rattle.gs_explain.specs.Refusals.{refused_by};
 ghost use Rattle.gs_explain.specs.Retold.{IsWithin, part, retold, told_again};
 ghost use Rattle.gs_explain.specs.Rows.{heading};
-ghost use Rattle.gs_explain.specs.ToldAgain.{AreHeld, IsKept, late_told, told_text};
+ghost use Rattle.gs_explain.specs.ToldAgain.{AreHeld, CanBeTold, IsKept, late_told, refused_told, told_of, told_text};
 ghost use Rattle.gs_explain.specs.declared.content.Told.TheVariants as tolds;
 
 use crate::again::Again;
-use crate::content::{Told, late_told};
+use crate::content::Told;
+use crate::moment::Scene;
 use crate::page::Page;
+use crate::to_tell::ToTell;
 use gs_core::Reply;
 use gs_layout::Refusal;
 use gs_script::SaidLine;
@@ -151,6 +156,35 @@ pub(crate) fn late_again(
     push_again(agains, page, kept, said)
 }
 
+/// Tells an event again that was refused, if the same is kept behind the same line, and returns whether that is so. It fails only
+/// if out of memory.
+#[inline(always)]
+pub(crate) fn refused_again(
+    agains: &mut Vec<Again>,
+    page: &Page,
+    kepts: &[Kept],
+    place: usize,
+    said: &SaidLine<'_>,
+    scene: &Scene<'_>,
+    refusal: Refusal,
+    cause: &Option<Cause<'_>>,
+) -> Result<bool, AllocError>
+    requires marked { IsMarked scene.now.last.now.places.items scene.now.transactions.now }
+    requires held { AreHeld page.now agains.old.items kepts.now }
+    ensures told { IfOk result (λ b. b ≡ true → retold 0 agains.new.items page.now ≡ retold 0 agains.old.items page.now ++ (heading (said_line said.now) ++ told_text (refused_told (refused_by (moment_of scene.now) refusal (causes_given cause.now))))) }
+    ensures same { IfOk result (λ b. b ≡ false → agains.new.items ≡ agains.old.items) }
+    ensures held { AreHeld page.now agains.new.items kepts.now }
+{
+    if place == 0 || kepts.len() < place {
+        return Ok(false);
+    }
+    let kept = &kepts[place - 1];
+    if !kept.told.is_refused(scene, refusal, cause) {
+        return Ok(false);
+    }
+    push_again(agains, page, kept, said)
+}
+
 /// Tells an event again that was refused since the enclave was torn down by this entry, if the same is kept behind any line, and
 /// returns whether that is so. It fails only if out of memory.
 #[inline(always)]
@@ -182,53 +216,23 @@ pub(crate) fn gone_again(
     Ok(true)
 }
 
-/// Adds a late landing, and returns where it is told. It fails only if out of memory.
-#[inline(never)]
-pub(crate) fn keep_late(
+/// Tells of an event as text, and returns where it is told. It fails only if out of memory.
+#[inline(always)]
+pub(crate) fn tell_anew(
     page: &mut Page,
     said: &SaidLine<'_>,
-    number: u32,
-    landed: &Landed<'_>,
+    to_tell: &ToTell<'_>,
 ) -> Result<Kept, AllocError>
     requires text { is_text said.now.bytes.now ≡ true }
-    requires overflow { landed.now.overflow ≡ None }
-    requires fault { landed.now.fault.now ≡ None }
-    ensures shown { OnOk result (page.new ≡ page.old ++ (heading (said_line said.now) ++ told_text (late_told number (landed_given landed.now)))) }
+    requires can { CanBeTold to_tell.now }
+    ensures shown { OnOk result (page.new ≡ page.old ++ (heading (said_line said.now) ++ told_text (told_of to_tell.now))) }
     ensures kept { IfOk result (λ kept. IsKept page.new kept) }
 {
     page.heading(said)?;
     let end = page.as_bytes().len() - 1;
-    page.late(number, landed.landing)?;
-    page.landed(landed)?;
+    to_tell.write(page)?;
     Ok(Kept {
-        told: late_told(number, landed),
-        from: end - said.bytes.len(),
-        end,
-        to: page.as_bytes().len(),
-    })
-}
-
-/// Adds an event that was refused since the enclave was torn down by this entry, and returns where it is told. It fails only if
-/// out of memory.
-#[inline(never)]
-pub(crate) fn keep_gone(
-    page: &mut Page,
-    said: &SaidLine<'_>,
-    cause: &Cause<'_>,
-) -> Result<Kept, AllocError>
-    requires { is_text said.now.bytes.now ≡ true }
-    ensures shown { OnOk result (page.new ≡ page.old ++ (heading (said_line said.now) ++ told_text (tolds.Gone cause.now.line cause.now.place))) }
-    ensures kept { IfOk result (λ kept. IsKept page.new kept) }
-{
-    page.heading(said)?;
-    let end = page.as_bytes().len() - 1;
-    page.reply(&Reply::Refused(Refusal::Gone))?;
-    page.gone(cause)?;
-    Ok(Kept {
-        told: Told::Gone {
-            line: cause.line,
-            place: cause.place,
-        },
+        told: to_tell.told(),
         from: end - said.bytes.len(),
         end,
         to: page.as_bytes().len(),

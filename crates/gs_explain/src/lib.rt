@@ -23,6 +23,7 @@ mod run;
 mod same;
 mod teller;
 mod telling;
+mod to_tell;
 mod whys;
 
 pub use explainer::Explainer;

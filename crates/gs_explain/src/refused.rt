@@ -7,7 +7,7 @@ ghost use Rattle.gs_layout.specs.declared.refusal.Refusal.TheVariants as refusal
 ghost use Rattle.gs_sentences.specs.Given.{causes_given, refused_given};
 ghost use Rattle.gs_explain.specs.Moment.{moment_of};
 ghost use Rattle.gs_explain.specs.Marked.{IsMarked};
-ghost use Rattle.gs_explain.specs.Refusals.{least_stamped, no_thread_sign, numbers, refusal_sign, spent_sign, waiting, waiting_by, waits, waits_on, why_refused};
+ghost use Rattle.gs_explain.specs.Refusals.{least_stamped, no_thread_sign, numbers, refusal_sign, refused_by, spent_sign, waiting, waiting_by, waits, waits_on, why_refused};
 ghost use Rattle.gs_slots.specs.Reading.{states_in};
 ghost use Rattle.gs_slots.specs.State.{has_stamp};
 
@@ -148,7 +148,7 @@ fn waiting_by(scene: &Scene<'_>, event: &Event<()>) -> Option<Waiting>
 
 /// Returns what waits in the slot that was not idle, if that refused the event.
 #[inline(always)]
-fn waiting(scene: &Scene<'_>, refusal: Refusal) -> Option<Waiting>
+pub(crate) fn waiting(scene: &Scene<'_>, refusal: Refusal) -> Option<Waiting>
     requires { IsMarked scene.now.last.now.places.items scene.now.transactions.now }
     ensures { result ≡ waiting (moment_of scene.now) refusal }
 {
@@ -175,6 +175,36 @@ fn numbers(scene: &Scene<'_>, refusal: Refusal) -> Numbers
     }
 }
 
+/// Returns the last entry that made a refusal so, if one did.
+#[inline(always)]
+pub(crate) fn cause_of<'a>(scene: &Scene<'a>, index: &Index, refusal: Refusal) -> Option<Cause<'a>>
+    requires { HasHeard index.now scene.now.journal.now.entries }
+    ensures { causes_given result ≡ (why_refused (moment_of scene.now) refusal).cause }
+{
+    cause_at(
+        scene,
+        place_of(index, scene, refusal_sign(scene.event, refusal)),
+    )
+}
+
+/// Returns why an event was refused, by the entry that is the reason.
+#[inline(always)]
+pub(crate) fn refused_by<'a>(
+    scene: &Scene<'a>,
+    refusal: Refusal,
+    cause: Option<Cause<'a>>,
+) -> Refused<'a>
+    requires { IsMarked scene.now.last.now.places.items scene.now.transactions.now }
+    ensures { refused_given result ≡ refused_by (moment_of scene.now) refusal (causes_given cause.entry) }
+{
+    Refused {
+        refusal,
+        event: scene.event,
+        cause,
+        numbers: numbers(scene, refusal),
+    }
+}
+
 /// Returns why an event was refused.
 #[inline(always)]
 pub(crate) fn why_refused<'a>(scene: &Scene<'a>, index: &Index, refusal: Refusal) -> Refused<'a>
@@ -182,13 +212,7 @@ pub(crate) fn why_refused<'a>(scene: &Scene<'a>, index: &Index, refusal: Refusal
     requires marked { IsMarked scene.now.last.now.places.items scene.now.transactions.now }
     ensures { refused_given result ≡ why_refused (moment_of scene.now) refusal }
 {
-    let place = place_of(index, scene, refusal_sign(scene.event, refusal));
-    Refused {
-        refusal,
-        event: scene.event,
-        cause: cause_at(scene, place),
-        numbers: numbers(scene, refusal),
-    }
+    refused_by(scene, refusal, cause_of(scene, index, refusal))
 }
 
 /// Returns the entry that tore the enclave down, which explains what was refused since.

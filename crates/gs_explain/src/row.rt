@@ -6,6 +6,7 @@ ghost use Rattle.gs_layout.specs.declared.refusal.Refusal.TheVariants as refusal
 ghost use Rattle.gs_script.specs.Words.{is_text};
 ghost use Rattle.gs_script.specs.Unread.{said_line};
 ghost use Rattle.gs_replies.specs.Replies.{reply_of};
+ghost use Rattle.gs_replies.specs.declared.reply.Reply.TheVariants as replies;
 ghost use Rattle.gs_explain.specs.Marked.{IsMarked};
 ghost use Rattle.gs_explain.specs.Moment.{moment_of};
 ghost use Rattle.gs_explain.specs.Landings.{because};
@@ -181,6 +182,26 @@ pub(crate) fn write_row(
     out.heading(said)?;
     write_shown(out, scene, index, first, reply)?;
     out.added(first, scene.journal.len())
+}
+
+/// Adds the line of an event that was refused, its reply and the reason. An index has heard all entries, and the event added none.
+#[inline(always)]
+#[tactic(auto, using(crate::proofs::Keeping::none_added))]
+pub(crate) fn write_refused_row(
+    out: &mut Page,
+    said: &SaidLine<'_>,
+    scene: &Scene<'_>,
+    index: &Index,
+    refusal: Refusal,
+) -> Result<(), AllocError>
+    requires text { is_text said.now.bytes.now ≡ true }
+    requires heard { HasHeard index.now scene.now.journal.now.entries }
+    requires marked { IsMarked scene.now.last.now.places.items scene.now.transactions.now }
+    ensures { OnOk result (out.new ≡ out.old ++ row (said_line said.now) (moment_of scene.now) (length scene.now.journal.now.entries) (replies.Refused refusal)) }
+{
+    out.heading(said)?;
+    out.executed(Err(refusal), scene.kernel.last())?;
+    out.refused(&why_refused(scene, index, refusal))
 }
 
 /// Adds what explains what came of a command.

@@ -1,6 +1,6 @@
 //! The rows of all events of a script.
 
-ghost use Rattle.std.specs.Prelude.{◌≡◌, ◌≤◌, ◌++◌, ◌<◌, ◌∷◌, [], ℕ, List, None, true, false, IfOk, IsOk, IfSome, OnOk, OnErr, length, take};
+ghost use Rattle.std.specs.Prelude.{◌≡◌, ◌≤◌, ◌++◌, ◌<◌, ◌∷◌, [], ℕ, List, true, false, IfOk, IsOk, IfSome, OnOk, OnErr, length, take};
 ghost use Rattle.std.specs.Io.KnownBytes.{Appends};
 ghost use Rattle.gs_layout.specs.declared.refusal.Refusal.TheVariants as refusals;
 ghost use Rattle.gs_reasons.specs.Kept.{HasHeard};
@@ -8,29 +8,31 @@ ghost use Rattle.gs_replies.specs.Replies.{reply_of};
 ghost use Rattle.gs_replies.specs.declared.reply.Reply.TheVariants as replies;
 ghost use Rattle.gs_script.specs.Words.{is_text};
 ghost use Rattle.gs_script.specs.Unread.{said_line};
-ghost use Rattle.gs_sentences.specs.Given.{landed_given};
+ghost use Rattle.gs_sentences.specs.Given.{causes_given};
 ghost use Rattle.gs_explain.specs.Marked.{IsMarked};
 ghost use Rattle.gs_explain.specs.Moment.{moment_of};
+ghost use Rattle.gs_explain.specs.Refusals.{refused_by};
 ghost use Rattle.gs_explain.specs.Retold.{IsBegun, retold};
 ghost use Rattle.gs_explain.specs.Rows.{heading, row};
-ghost use Rattle.gs_explain.specs.ToldAgain.{AreHeld, is_kept_out, kept_put, late_told, told_text};
+ghost use Rattle.gs_explain.specs.ToldAgain.{AreHeld, CanBeTold, is_kept_out, kept_put, refused_told, told_of, told_text};
 ghost use Rattle.gs_explain.specs.declared.content.Told.TheVariants as tolds;
 
 use crate::again::{Again, write_retold};
-use crate::kept::{Kept, gone_again, keep_gone, keep_late, late_again};
+use crate::kept::{Kept, gone_again, late_again, refused_again, tell_anew};
 use crate::landed::landed;
 use crate::moment::Scene;
 use crate::page::Page;
-use crate::refused::torn_down;
-use crate::row::{write_command_row, write_row};
+use crate::refused::cause_of;
+use crate::row::{write_command_row, write_refused_row, write_row};
 use crate::teller::Teller;
+use crate::to_tell::ToTell;
 use gs_core::Reply;
 use gs_journal::Entry;
 use gs_kernel::{Executed, Landing};
 use gs_layout::{Outcome, Refusal};
 use gs_reasons::Index;
 use gs_script::SaidLine;
-use gs_sentences::{Cause, Landed};
+use gs_sentences::Cause;
 use gs_text::WriteFailed;
 use std::alloc::{AllocError, Global};
 use std::io::Write;
@@ -38,24 +40,39 @@ use std::marker::Model;
 use std::slice;
 
 /// Lines are told apart by so many slots. What is kept for a line is kept for all lines of its slot.
-const SLOTS: usize = 256;
+const SLOTS: usize = 4_096;
 
 /// So many are kept at most.
-const MOST_KEPT: usize = 1_024;
+const MOST_KEPT: usize = 4_096;
 
-/// Returns the slot of a line, by its first byte and its last three: lines that differ only in a number have slots one behind
-/// another.
+/// Returns a mark of a line: its last four bytes, or 0 if it has fewer.
+#[inline(always)]
+fn mark_of(line: &[u8]) -> u32 {
+    match line {
+        [.., thousands, hundreds, tens, ones] => {
+            u32::from_le_bytes([*thousands, *hundreds, *tens, *ones])
+        }
+        _ => 0,
+    }
+}
+
+/// Returns the slot of a line, by its first byte and its mark. Lines that differ only in a number of three digits have slots of
+/// their own.
 #[inline(always)]
 fn slot_of(line: &[u8]) -> usize
     ensures { result < SLOTS }
 {
-    match line {
-        [first, .., hundreds, tens, ones] => {
-            let number = *hundreds as usize * 100 + *tens as usize * 10 + *ones as usize;
-            (*first as usize * 5 + number) % SLOTS
-        }
-        _ => 0,
-    }
+    let first = line.first().copied().unwrap_or(0);
+    let mixed = (mark_of(line) ^ first as u32).wrapping_mul(0x9E37_79B1);
+    (mixed >> 20) as usize % SLOTS
+}
+
+/// Notes a line in its slot, and returns whether it, or one that looks like it, was the last one there.
+#[inline(always)]
+fn note_line(mark: &mut u32, line: &[u8]) -> bool {
+    let before = *mark;
+    *mark = mark_of(line);
+    before == *mark
 }
 
 /// The rows so far. A row that says what an earlier one says may be kept as the place of that. Clauses see the bytes that are
@@ -68,9 +85,9 @@ pub(crate) struct Rows {
     kepts: Vec<Kept>,
     /// Which of these is kept for the lines of each slot, counted from 1, or 0 if none is.
     places: [usize; SLOTS],
-    /// The transaction that landed late last on a line of each slot, 0 if there is none. What landed late is kept from the second
-    /// time on, since most transactions land late once.
-    lates: [u32; SLOTS],
+    /// A mark of the line of each slot that came last. What is told of a line is kept from the second time on, since most lines
+    /// come once.
+    marks: [u32; SLOTS],
 }
 
 impl Model for Rows {
@@ -133,7 +150,7 @@ fn put_kept(kepts: &mut Vec<Kept>, kept: &Kept) -> Result<usize, AllocError>
 }
 
 /// Keeps what was told now, for the lines of its slot. If that failed, nothing is kept.
-#[inline(never)]
+#[inline(always)]
 fn settle(
     agains: &mut Vec<Again>,
     kepts: &mut Vec<Kept>,
@@ -171,7 +188,7 @@ impl Rows {
             agains: Vec::new(alloc),
             kepts: Vec::new(alloc),
             places: [0; SLOTS],
-            lates: [0; SLOTS],
+            marks: [0; SLOTS],
         }
     }
 
@@ -230,67 +247,20 @@ impl Rows {
         }
     }
 
-    /// Adds a late landing that was not placed and added no entry.
-    #[inline(always)]
-    fn add_late(
+    /// Adds an event that added no entry, as text, and keeps it for the lines of its slot.
+    #[inline(never)]
+    fn add_anew(
         &mut self,
         said: &SaidLine<'_>,
         slot: usize,
-        number: u32,
-        landed: &Landed<'_>,
+        to_tell: &ToTell<'_>,
     ) -> Result<(), AllocError>
         requires slot { slot < SLOTS }
         requires text { is_text said.now.bytes.now ≡ true }
-        requires overflow { landed.now.overflow ≡ None }
-        requires fault { landed.now.fault.now ≡ None }
-        ensures { OnOk result (self.new ≡ self.old ++ (heading (said_line said.now) ++ told_text (late_told number (landed_given landed.now)))) }
+        requires can { CanBeTold to_tell.now }
+        ensures { OnOk result (self.new ≡ self.old ++ (heading (said_line said.now) ++ told_text (told_of to_tell.now))) }
     {
-        let place = self.places[slot];
-        if late_again(
-            &mut self.agains,
-            &self.page,
-            &self.kepts,
-            place,
-            said,
-            number,
-            landed,
-        )? {
-            return Ok(());
-        }
-        let kept = keep_late(&mut self.page, said, number, landed);
-        settle(
-            &mut self.agains,
-            &mut self.kepts,
-            &mut self.places[slot],
-            kept,
-        )?;
-        Ok(())
-    }
-
-    /// Adds an event that was refused since the enclave was torn down by this entry.
-    #[inline(always)]
-    fn add_gone(&mut self, said: &SaidLine<'_>, cause: &Cause<'_>) -> Result<(), AllocError>
-        requires { is_text said.now.bytes.now ≡ true }
-        ensures { OnOk result (self.new ≡ self.old ++ (heading (said_line said.now) ++ told_text (tolds.Gone cause.now.line cause.now.place))) }
-    {
-        let slot = slot_of(said.bytes);
-        let place = self.places[slot];
-        match gone_again(
-            &mut self.agains,
-            &mut self.page,
-            &self.kepts,
-            place,
-            said,
-            cause,
-        ) {
-            Ok(true) => return Ok(()),
-            Ok(false) => {}
-            Err(error) => {
-                forget(&mut self.agains, &mut self.kepts);
-                return Err(error);
-            }
-        }
-        let kept = keep_gone(&mut self.page, said, cause);
+        let kept = tell_anew(&mut self.page, said, to_tell);
         settle(
             &mut self.agains,
             &mut self.kepts,
@@ -321,46 +291,186 @@ impl Rows {
     {
         let count = scene.journal.len();
         let landed = landed(scene, index, &None, true, count, landing);
-        self.add_late(said, slot, number, &landed)
+        let place = self.places[slot];
+        if late_again(
+            &mut self.agains,
+            &self.page,
+            &self.kepts,
+            place,
+            said,
+            number,
+            &landed,
+        )? {
+            return Ok(());
+        }
+        self.add_anew(
+            said,
+            slot,
+            &ToTell::Late {
+                number,
+                landed: &landed,
+            },
+        )
     }
 
-    /// Adds the row of an event that was refused since the enclave was torn down, as text. An index has heard all entries, and the
-    /// event added none.
-    #[cold]
-    #[inline(never)]
-    fn add_gone_text(
+    /// Adds an event that was refused since the enclave was torn down by this entry. It is told again, if that is kept for the lines of
+    /// its slot.
+    #[inline(always)]
+    fn add_gone(
         &mut self,
         said: &SaidLine<'_>,
-        scene: &Scene<'_>,
-        index: &mut Index,
+        slot: usize,
+        cause: &Cause<'_>,
     ) -> Result<(), AllocError>
+        requires slot { slot < SLOTS }
         requires text { is_text said.now.bytes.now ≡ true }
-        requires heard { HasHeard index.old scene.now.journal.now.entries }
-        requires marked { IsMarked scene.now.last.now.places.items scene.now.transactions.now }
-        ensures shown { OnOk result (self.new ≡ self.old ++ row (said_line said.now) (moment_of scene.now) (length scene.now.journal.now.entries) (replies.Refused refusals.Gone)) }
-        ensures heard { OnOk result (HasHeard index.new scene.now.journal.now.entries) }
+        ensures { OnOk result (self.new ≡ self.old ++ (heading (said_line said.now) ++ told_text (tolds.Gone cause.now.line cause.now.place))) }
     {
-        let count = scene.journal.len();
-        self.add_text(said, scene, index, count, &Reply::Refused(Refusal::Gone))
+        let place = self.places[slot];
+        match gone_again(
+            &mut self.agains,
+            &mut self.page,
+            &self.kepts,
+            place,
+            said,
+            cause,
+        ) {
+            Ok(true) => Ok(()),
+            Ok(false) => self.add_anew(said, slot, &ToTell::Gone { cause: *cause }),
+            Err(error) => {
+                forget(&mut self.agains, &mut self.kepts);
+                Err(error)
+            }
+        }
     }
 
-    /// Adds the row of such an event, and tells again what was told of another, if it can.
+    /// Adds the row of an event that was refused since the enclave was torn down. An index has heard all entries.
     #[inline(never)]
     fn add_gone_row(
         &mut self,
         said: &SaidLine<'_>,
         scene: &Scene<'_>,
-        index: &mut Index,
+        index: &Index,
+        slot: usize,
+    ) -> Result<(), AllocError>
+        requires slot { slot < SLOTS }
+        requires text { is_text said.now.bytes.now ≡ true }
+        requires heard { HasHeard index.now scene.now.journal.now.entries }
+        requires marked { IsMarked scene.now.last.now.places.items scene.now.transactions.now }
+        ensures { OnOk result (self.new ≡ self.old ++ row (said_line said.now) (moment_of scene.now) (length scene.now.journal.now.entries) (replies.Refused refusals.Gone)) }
+    {
+        match cause_of(scene, index, Refusal::Gone) {
+            Some(cause) => self.add_gone(said, slot, &cause),
+            None => self.add_once(said, scene, index, Refusal::Gone),
+        }
+    }
+
+    /// Adds the row of an event that was refused, of a line that looks like the one before of its slot. It is told again, if it was told
+    /// of that.
+    #[inline(never)]
+    #[tactic(auto, using(crate::proofs::RefusedTold::refused_row))]
+    fn add_twice(
+        &mut self,
+        said: &SaidLine<'_>,
+        scene: &Scene<'_>,
+        index: &Index,
+        slot: usize,
+        refusal: Refusal,
+    ) -> Result<(), AllocError>
+        requires slot { slot < SLOTS }
+        requires text { is_text said.now.bytes.now ≡ true }
+        requires heard { HasHeard index.now scene.now.journal.now.entries }
+        requires marked { IsMarked scene.now.last.now.places.items scene.now.transactions.now }
+        ensures { OnOk result (self.new ≡ self.old ++ row (said_line said.now) (moment_of scene.now) (length scene.now.journal.now.entries) (replies.Refused refusal)) }
+    {
+        let cause = cause_of(scene, index, refusal);
+        let place = self.places[slot];
+        if refused_again(
+            &mut self.agains,
+            &self.page,
+            &self.kepts,
+            place,
+            said,
+            scene,
+            refusal,
+            &cause,
+        )? {
+            return Ok(());
+        }
+        self.add_refused_anew(said, scene, slot, refusal, &cause)
+    }
+
+    /// Adds an event that was refused, as text, and keeps it for the lines of its slot.
+    #[inline(never)]
+    fn add_refused_anew(
+        &mut self,
+        said: &SaidLine<'_>,
+        scene: &Scene<'_>,
+        slot: usize,
+        refusal: Refusal,
+        cause: &Option<Cause<'_>>,
+    ) -> Result<(), AllocError>
+        requires slot { slot < SLOTS }
+        requires text { is_text said.now.bytes.now ≡ true }
+        requires marked { IsMarked scene.now.last.now.places.items scene.now.transactions.now }
+        ensures { OnOk result (self.new ≡ self.old ++ (heading (said_line said.now) ++ told_text (refused_told (refused_by (moment_of scene.now) refusal (causes_given cause.now))))) }
+    {
+        self.add_anew(
+            said,
+            slot,
+            &ToTell::Refused {
+                scene,
+                refusal,
+                cause: *cause,
+            },
+        )
+    }
+
+    /// Adds the row of an event that was refused, as text.
+    #[inline(never)]
+    #[tactic(auto, using(crate::proofs::Retelling::retold_more, crate::proofs::Keeping::held_more))]
+    fn add_once(
+        &mut self,
+        said: &SaidLine<'_>,
+        scene: &Scene<'_>,
+        index: &Index,
+        refusal: Refusal,
     ) -> Result<(), AllocError>
         requires text { is_text said.now.bytes.now ≡ true }
-        requires heard { HasHeard index.old scene.now.journal.now.entries }
+        requires heard { HasHeard index.now scene.now.journal.now.entries }
         requires marked { IsMarked scene.now.last.now.places.items scene.now.transactions.now }
-        ensures shown { OnOk result (self.new ≡ self.old ++ row (said_line said.now) (moment_of scene.now) (length scene.now.journal.now.entries) (replies.Refused refusals.Gone)) }
-        ensures heard { OnOk result (HasHeard index.new scene.now.journal.now.entries) }
+        ensures { OnOk result (self.new ≡ self.old ++ row (said_line said.now) (moment_of scene.now) (length scene.now.journal.now.entries) (replies.Refused refusal)) }
     {
-        match torn_down(scene, index) {
-            Some(cause) => self.add_gone(said, &cause),
-            None => self.add_gone_text(said, scene, index),
+        match write_refused_row(&mut self.page, said, scene, index, refusal) {
+            Ok(()) => Ok(()),
+            Err(error) => {
+                forget(&mut self.agains, &mut self.kepts);
+                Err(error)
+            }
+        }
+    }
+
+    /// Adds the row of an event that was refused. An index has heard all entries, and the event added none.
+    #[inline(always)]
+    fn add_refused_row(
+        &mut self,
+        said: &SaidLine<'_>,
+        scene: &Scene<'_>,
+        index: &Index,
+        refusal: Refusal,
+    ) -> Result<(), AllocError>
+        requires text { is_text said.now.bytes.now ≡ true }
+        requires heard { HasHeard index.now scene.now.journal.now.entries }
+        requires marked { IsMarked scene.now.last.now.places.items scene.now.transactions.now }
+        ensures { OnOk result (self.new ≡ self.old ++ row (said_line said.now) (moment_of scene.now) (length scene.now.journal.now.entries) (replies.Refused refusal)) }
+    {
+        let slot = slot_of(said.bytes);
+        if matches!(refusal, Refusal::Gone) {
+            self.add_gone_row(said, scene, index, slot)
+        } else if note_line(&mut self.marks[slot], said.bytes) {
+            self.add_twice(said, scene, index, slot, refusal)
+        } else {
+            self.add_once(said, scene, index, refusal)
         }
     }
 
@@ -394,13 +504,11 @@ impl Teller for Rows {
         if scene.journal.len() == first {
             if let Some((number, landing)) = late_of(reply) {
                 let slot = slot_of(said.bytes);
-                if number == self.lates[slot] {
+                if note_line(&mut self.marks[slot], said.bytes) {
                     return self.add_late_row(said, scene, index, slot, number, landing);
                 }
-                self.lates[slot] = number;
-            }
-            if matches!(reply, Reply::Refused(Refusal::Gone)) {
-                return self.add_gone_row(said, scene, index);
+            } else if let Reply::Refused(refusal) = reply {
+                return self.add_refused_row(said, scene, index, *refusal);
             }
         }
         self.add_text(said, scene, index, first, reply)
@@ -415,8 +523,10 @@ impl Teller for Rows {
         came: Result<Executed, Refusal>,
         last: &Entry,
     ) -> Result<(), AllocError> {
-        if matches!(came, Err(Refusal::Gone)) && scene.journal.len() == first {
-            return self.add_gone_row(said, scene, index);
+        if let Err(refusal) = came {
+            if scene.journal.len() == first {
+                return self.add_refused_row(said, scene, index, refusal);
+            }
         }
         self.add_command_text(said, scene, index, first, came, last)
     }
