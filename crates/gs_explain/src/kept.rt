@@ -75,7 +75,7 @@ impl Kept {
 
 /// Adds to what is told again behind a text what was kept, if it was kept behind the same line, and returns whether that is so. It
 /// fails only if out of memory.
-#[inline(never)]
+#[inline(always)]
 #[tactic(auto, using(crate::proofs::Retelling::retold_one, crate::proofs::RowsAgain::within_one))]
 pub(crate) fn push_again(
     agains: &mut Vec<Again>,

@@ -159,6 +159,7 @@ impl Page {
     }
 
     /// Adds why an event was refused, in a line of its own.
+    #[inline(always)]
     pub(crate) fn refused(&mut self, refused: &Refused<'_>) -> Result<(), AllocError>
         ensures { OnOk result (self.new ≡ self.old ++ because (Some (reasons.Refused (refused_given refused.now)))) }
     {

@@ -40,39 +40,84 @@ use std::marker::Model;
 use std::slice;
 
 /// Lines are told apart by so many slots. What is kept for a line is kept for all lines of its slot.
-const SLOTS: usize = 4_096;
+const SLOTS: usize = 8_192;
 
 /// So many are kept at most.
 const MOST_KEPT: usize = 4_096;
 
-/// Returns a mark of a line: its last four bytes, or 0 if it has fewer.
+/// What is noted of the lines of a slot.
+#[derive(Clone, Copy)]
+struct Slot {
+    /// The mark of the line that came last, or its complement if it came twice. What is told of a line is kept from the third time on,
+    /// since most lines come once or twice.
+    mark: u32,
+    /// Which of those that are kept is kept for these lines, counted from 1, or 0 if none is.
+    place: usize,
+}
+
+/// Returns a mark of a line, by its last eight bytes, or by its first and last four if it has fewer. Lines that are the same have the
+/// same.
 #[inline(always)]
 fn mark_of(line: &[u8]) -> u32 {
-    match line {
-        [.., thousands, hundreds, tens, ones] => {
-            u32::from_le_bytes([*thousands, *hundreds, *tens, *ones])
+    let word = match line {
+        [.., a, b, c, d, e, f, g, h] => u64::from_le_bytes([*a, *b, *c, *d, *e, *f, *g, *h]),
+        [a, b, c, d, ..] => {
+            let last = &line[line.len() - 4..];
+            u64::from_le_bytes([*a, *b, *c, *d, last[0], last[1], last[2], last[3]])
         }
         _ => 0,
+    };
+    (word.wrapping_mul(0x9E37_79B9_7F4A_7C15) >> 32) as u32
+}
+
+/// Returns the slot of the lines that have a mark: its upper thirteen bits, of which there are as many values as slots.
+#[inline(always)]
+fn slot_of(mark: u32) -> usize {
+    (mark >> 19) as usize
+}
+
+/// Makes the slots, if there are none yet. It fails only if out of memory.
+#[inline(always)]
+fn make_slots(slots: &mut Vec<Slot>) -> Result<(), AllocError> {
+    if slots.is_empty() {
+        slots.resize(SLOTS, Slot { mark: 0, place: 0 })?;
+    }
+    Ok(())
+}
+
+/// Notes a mark in its slot, and returns whether the last two there were the same.
+#[inline(always)]
+fn note_mark(slots: &mut [Slot], mark: u32) -> bool {
+    let at = slot_of(mark);
+    if slots.len() <= at {
+        return false;
+    }
+    let before = slots[at].mark;
+    let is_twice = before == !mark;
+    slots[at].mark = if is_twice || before == mark {
+        !mark
+    } else {
+        mark
+    };
+    is_twice
+}
+
+/// Returns what is kept for the lines that have a mark, by its place, counted from 1, or 0 if nothing is.
+#[inline(always)]
+fn place_of(slots: &[Slot], mark: u32) -> usize {
+    match slots.get(slot_of(mark)) {
+        Some(slot) => slot.place,
+        None => 0,
     }
 }
 
-/// Returns the slot of a line, by its first byte and its mark. Lines that differ only in a number of three digits have slots of
-/// their own.
+/// Sets what is kept for the lines that have a mark, by its place.
 #[inline(always)]
-fn slot_of(line: &[u8]) -> usize
-    ensures { result < SLOTS }
-{
-    let first = line.first().copied().unwrap_or(0);
-    let mixed = (mark_of(line) ^ first as u32).wrapping_mul(0x9E37_79B1);
-    (mixed >> 20) as usize % SLOTS
-}
-
-/// Notes a line in its slot, and returns whether it, or one that looks like it, was the last one there.
-#[inline(always)]
-fn note_line(mark: &mut u32, line: &[u8]) -> bool {
-    let before = *mark;
-    *mark = mark_of(line);
-    before == *mark
+fn set_place(slots: &mut [Slot], mark: u32, place: usize) {
+    let at = slot_of(mark);
+    if at < slots.len() {
+        slots[at].place = place;
+    }
 }
 
 /// The rows so far. A row that says what an earlier one says may be kept as the place of that. Clauses see the bytes that are
@@ -83,11 +128,8 @@ pub(crate) struct Rows {
     agains: Vec<Again>,
     /// What was kept of events that may be told again.
     kepts: Vec<Kept>,
-    /// Which of these is kept for the lines of each slot, counted from 1, or 0 if none is.
-    places: [usize; SLOTS],
-    /// A mark of the line of each slot that came last. What is told of a line is kept from the second time on, since most lines
-    /// come once.
-    marks: [u32; SLOTS],
+    /// The slots of lines: none, before the first event that was refused or landed late.
+    slots: Vec<Slot>,
 }
 
 impl Model for Rows {
@@ -149,12 +191,13 @@ fn put_kept(kepts: &mut Vec<Kept>, kept: &Kept) -> Result<usize, AllocError>
     Ok(kepts.len())
 }
 
-/// Keeps what was told now, for the lines of its slot. If that failed, nothing is kept.
+/// Keeps what was told now, for the lines that have a mark. If that failed, nothing is kept.
 #[inline(always)]
 fn settle(
     agains: &mut Vec<Again>,
     kepts: &mut Vec<Kept>,
-    place: &mut usize,
+    slots: &mut [Slot],
+    mark: u32,
     kept: Result<Kept, AllocError>,
 ) -> Result<(), AllocError>
     ensures told { OnOk result (IsOk kept) }
@@ -168,7 +211,7 @@ fn settle(
     };
     match put {
         Ok(put) => {
-            *place = put;
+            set_place(slots, mark, put);
             Ok(())
         }
         Err(error) => {
@@ -187,8 +230,7 @@ impl Rows {
             page: Page::new(alloc),
             agains: Vec::new(alloc),
             kepts: Vec::new(alloc),
-            places: [0; SLOTS],
-            marks: [0; SLOTS],
+            slots: Vec::new(alloc),
         }
     }
 
@@ -252,10 +294,9 @@ impl Rows {
     fn add_anew(
         &mut self,
         said: &SaidLine<'_>,
-        slot: usize,
+        mark: u32,
         to_tell: &ToTell<'_>,
     ) -> Result<(), AllocError>
-        requires slot { slot < SLOTS }
         requires text { is_text said.now.bytes.now ≡ true }
         requires can { CanBeTold to_tell.now }
         ensures { OnOk result (self.new ≡ self.old ++ (heading (said_line said.now) ++ told_text (told_of to_tell.now))) }
@@ -264,7 +305,8 @@ impl Rows {
         settle(
             &mut self.agains,
             &mut self.kepts,
-            &mut self.places[slot],
+            &mut self.slots,
+            mark,
             kept,
         )?;
         Ok(())
@@ -278,11 +320,10 @@ impl Rows {
         said: &SaidLine<'_>,
         scene: &Scene<'_>,
         index: &Index,
-        slot: usize,
+        mark: u32,
         number: u32,
         landing: &Landing,
     ) -> Result<(), AllocError>
-        requires slot { slot < SLOTS }
         requires text { is_text said.now.bytes.now ≡ true }
         requires kept { is_kept_out landing.now.outcome ≡ true }
         requires heard { HasHeard index.now scene.now.journal.now.entries }
@@ -291,7 +332,7 @@ impl Rows {
     {
         let count = scene.journal.len();
         let landed = landed(scene, index, &None, true, count, landing);
-        let place = self.places[slot];
+        let place = place_of(&self.slots, mark);
         if late_again(
             &mut self.agains,
             &self.page,
@@ -305,7 +346,7 @@ impl Rows {
         }
         self.add_anew(
             said,
-            slot,
+            mark,
             &ToTell::Late {
                 number,
                 landed: &landed,
@@ -319,14 +360,13 @@ impl Rows {
     fn add_gone(
         &mut self,
         said: &SaidLine<'_>,
-        slot: usize,
+        mark: u32,
         cause: &Cause<'_>,
     ) -> Result<(), AllocError>
-        requires slot { slot < SLOTS }
         requires text { is_text said.now.bytes.now ≡ true }
         ensures { OnOk result (self.new ≡ self.old ++ (heading (said_line said.now) ++ told_text (tolds.Gone cause.now.line cause.now.place))) }
     {
-        let place = self.places[slot];
+        let place = place_of(&self.slots, mark);
         match gone_again(
             &mut self.agains,
             &mut self.page,
@@ -336,7 +376,7 @@ impl Rows {
             cause,
         ) {
             Ok(true) => Ok(()),
-            Ok(false) => self.add_anew(said, slot, &ToTell::Gone { cause: *cause }),
+            Ok(false) => self.add_anew(said, mark, &ToTell::Gone { cause: *cause }),
             Err(error) => {
                 forget(&mut self.agains, &mut self.kepts);
                 Err(error)
@@ -351,16 +391,15 @@ impl Rows {
         said: &SaidLine<'_>,
         scene: &Scene<'_>,
         index: &Index,
-        slot: usize,
+        mark: u32,
     ) -> Result<(), AllocError>
-        requires slot { slot < SLOTS }
         requires text { is_text said.now.bytes.now ≡ true }
         requires heard { HasHeard index.now scene.now.journal.now.entries }
         requires marked { IsMarked scene.now.last.now.places.items scene.now.transactions.now }
         ensures { OnOk result (self.new ≡ self.old ++ row (said_line said.now) (moment_of scene.now) (length scene.now.journal.now.entries) (replies.Refused refusals.Gone)) }
     {
         match cause_of(scene, index, Refusal::Gone) {
-            Some(cause) => self.add_gone(said, slot, &cause),
+            Some(cause) => self.add_gone(said, mark, &cause),
             None => self.add_once(said, scene, index, Refusal::Gone),
         }
     }
@@ -374,17 +413,16 @@ impl Rows {
         said: &SaidLine<'_>,
         scene: &Scene<'_>,
         index: &Index,
-        slot: usize,
+        mark: u32,
         refusal: Refusal,
     ) -> Result<(), AllocError>
-        requires slot { slot < SLOTS }
         requires text { is_text said.now.bytes.now ≡ true }
         requires heard { HasHeard index.now scene.now.journal.now.entries }
         requires marked { IsMarked scene.now.last.now.places.items scene.now.transactions.now }
         ensures { OnOk result (self.new ≡ self.old ++ row (said_line said.now) (moment_of scene.now) (length scene.now.journal.now.entries) (replies.Refused refusal)) }
     {
         let cause = cause_of(scene, index, refusal);
-        let place = self.places[slot];
+        let place = place_of(&self.slots, mark);
         if refused_again(
             &mut self.agains,
             &self.page,
@@ -397,7 +435,7 @@ impl Rows {
         )? {
             return Ok(());
         }
-        self.add_refused_anew(said, scene, slot, refusal, &cause)
+        self.add_refused_anew(said, scene, mark, refusal, &cause)
     }
 
     /// Adds an event that was refused, as text, and keeps it for the lines of its slot.
@@ -406,18 +444,17 @@ impl Rows {
         &mut self,
         said: &SaidLine<'_>,
         scene: &Scene<'_>,
-        slot: usize,
+        mark: u32,
         refusal: Refusal,
         cause: &Option<Cause<'_>>,
     ) -> Result<(), AllocError>
-        requires slot { slot < SLOTS }
         requires text { is_text said.now.bytes.now ≡ true }
         requires marked { IsMarked scene.now.last.now.places.items scene.now.transactions.now }
         ensures { OnOk result (self.new ≡ self.old ++ (heading (said_line said.now) ++ told_text (refused_told (refused_by (moment_of scene.now) refusal (causes_given cause.now))))) }
     {
         self.add_anew(
             said,
-            slot,
+            mark,
             &ToTell::Refused {
                 scene,
                 refusal,
@@ -464,11 +501,12 @@ impl Rows {
         requires marked { IsMarked scene.now.last.now.places.items scene.now.transactions.now }
         ensures { OnOk result (self.new ≡ self.old ++ row (said_line said.now) (moment_of scene.now) (length scene.now.journal.now.entries) (replies.Refused refusal)) }
     {
-        let slot = slot_of(said.bytes);
+        make_slots(&mut self.slots)?;
+        let mark = mark_of(said.bytes);
         if matches!(refusal, Refusal::Gone) {
-            self.add_gone_row(said, scene, index, slot)
-        } else if note_line(&mut self.marks[slot], said.bytes) {
-            self.add_twice(said, scene, index, slot, refusal)
+            self.add_gone_row(said, scene, index, mark)
+        } else if note_mark(&mut self.slots, mark) {
+            self.add_twice(said, scene, index, mark, refusal)
         } else {
             self.add_once(said, scene, index, refusal)
         }
@@ -503,9 +541,10 @@ impl Teller for Rows {
     ) -> Result<(), AllocError> {
         if scene.journal.len() == first {
             if let Some((number, landing)) = late_of(reply) {
-                let slot = slot_of(said.bytes);
-                if note_line(&mut self.marks[slot], said.bytes) {
-                    return self.add_late_row(said, scene, index, slot, number, landing);
+                make_slots(&mut self.slots)?;
+                let mark = mark_of(said.bytes);
+                if note_mark(&mut self.slots, mark) {
+                    return self.add_late_row(said, scene, index, mark, number, landing);
                 }
             } else if let Reply::Refused(refusal) = reply {
                 return self.add_refused_row(said, scene, index, *refusal);
