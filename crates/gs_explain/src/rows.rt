@@ -52,7 +52,7 @@ struct Slot {
     /// since most lines come once or twice.
     mark: u32,
     /// Which of those that are kept is kept for these lines, counted from 1, or 0 if none is.
-    place: usize,
+    place: u32,
 }
 
 /// Returns a mark of a line, by its last eight bytes, or by its first and last four if it has fewer. Lines that are the same have the
@@ -106,7 +106,7 @@ fn note_mark(slots: &mut [Slot], mark: u32) -> bool {
 #[inline(always)]
 fn place_of(slots: &[Slot], mark: u32) -> usize {
     match slots.get(slot_of(mark)) {
-        Some(slot) => slot.place,
+        Some(slot) => slot.place as usize,
         None => 0,
     }
 }
@@ -116,7 +116,7 @@ fn place_of(slots: &[Slot], mark: u32) -> usize {
 fn set_place(slots: &mut [Slot], mark: u32, place: usize) {
     let at = slot_of(mark);
     if at < slots.len() {
-        slots[at].place = place;
+        slots[at].place = u32::try_from(place).unwrap_or(0);
     }
 }
 
