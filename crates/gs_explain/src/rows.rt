@@ -45,11 +45,14 @@ const SLOTS: usize = 8_192;
 /// So many are kept at most.
 const MOST_KEPT: usize = 4_096;
 
+/// By this, almost all of some thousand lines that differ in one number have slots of their own.
+const MULTIPLIER: u64 = 0x1F6F_7241_70EA_FD67;
+
 /// What is noted of the lines of a slot.
 #[derive(Clone, Copy)]
 struct Slot {
-    /// The mark of the line that came last, or its complement if it came twice. What is told of a line is kept from the third time on,
-    /// since most lines come once or twice.
+    /// The mark of the line that came last, or its complement if it came twice. Of an event that was refused it is kept from the third
+    /// time on what is told, and of a late landing from the second, since most lines come once or twice.
     mark: u32,
     /// Which of those that are kept is kept for these lines, counted from 1, or 0 if none is.
     place: u32,
@@ -67,7 +70,7 @@ fn mark_of(line: &[u8]) -> u32 {
         }
         _ => 0,
     };
-    (word.wrapping_mul(0x9E37_79B9_7F4A_7C15) >> 32) as u32
+    (word.wrapping_mul(MULTIPLIER) >> 32) as u32
 }
 
 /// Returns the slot of the lines that have a mark: its upper thirteen bits, of which there are as many values as slots.
@@ -85,21 +88,23 @@ fn make_slots(slots: &mut Vec<Slot>) -> Result<(), AllocError> {
     Ok(())
 }
 
-/// Notes a mark in its slot, and returns whether the last two there were the same.
+/// Notes a mark in its slot, and returns how often it came before with no other between: 0, 1, or 2 if it was more often.
 #[inline(always)]
-fn note_mark(slots: &mut [Slot], mark: u32) -> bool {
+fn note_mark(slots: &mut [Slot], mark: u32) -> u32 {
     let at = slot_of(mark);
     if slots.len() <= at {
-        return false;
+        return 0;
     }
     let before = slots[at].mark;
-    let is_twice = before == !mark;
-    slots[at].mark = if is_twice || before == mark {
-        !mark
-    } else {
-        mark
-    };
-    is_twice
+    if before == !mark {
+        return 2;
+    }
+    if before == mark {
+        slots[at].mark = !mark;
+        return 1;
+    }
+    slots[at].mark = mark;
+    0
 }
 
 /// Returns what is kept for the lines that have a mark, by its place, counted from 1, or 0 if nothing is.
@@ -505,7 +510,7 @@ impl Rows {
         let mark = mark_of(said.bytes);
         if matches!(refusal, Refusal::Gone) {
             self.add_gone_row(said, scene, index, mark)
-        } else if note_mark(&mut self.slots, mark) {
+        } else if note_mark(&mut self.slots, mark) == 2 {
             self.add_twice(said, scene, index, mark, refusal)
         } else {
             self.add_once(said, scene, index, refusal)
@@ -543,7 +548,7 @@ impl Teller for Rows {
             if let Some((number, landing)) = late_of(reply) {
                 make_slots(&mut self.slots)?;
                 let mark = mark_of(said.bytes);
-                if note_mark(&mut self.slots, mark) {
+                if note_mark(&mut self.slots, mark) != 0 {
                     return self.add_late_row(said, scene, index, mark, number, landing);
                 }
             } else if let Reply::Refused(refusal) = reply {

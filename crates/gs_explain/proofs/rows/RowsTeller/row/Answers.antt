@@ -5,8 +5,8 @@ use Rattle.gs_reasons.specs.Kept.{HasHeard}
 use Rattle.gs_explain.proofs.Retelling.{on_ok}
 use Rattle.gs_explain.proofs.rows.RowsTeller.row.Goals as goal
 
-pub returns-then-note_mark-clause-heard : goal.returns-then-note_mark-clause-heard
-returns-then-note_mark-clause-heard c =
+pub returns-then-note_mark-ne0-clause-heard : goal.returns-then-note_mark-ne0-clause-heard
+returns-then-note_mark-ne0-clause-heard c =
     let entries : History = c.args.scene.now.journal.now.entries in
     let count = sym c.if-len-first.true ∙ c.len.ensures.value in
     let all : take c.args.first entries ≡ entries = (λ i. take (count i) entries) ∙ take-length entries in
