@@ -3,7 +3,6 @@
 ghost use Rattle.std.specs.Prelude.{◌≡◌, ◌<◌, IfSome, length};
 ghost use Rattle.gs_reasons.specs.Cause.{place_of};
 ghost use Rattle.gs_reasons.specs.Kept.{HasHeard};
-ghost use Rattle.gs_layout.specs.declared.refusal.Refusal.TheVariants as refusals;
 ghost use Rattle.gs_sentences.specs.Given.{causes_given, refused_given};
 ghost use Rattle.gs_explain.specs.Moment.{moment_of};
 ghost use Rattle.gs_explain.specs.Marked.{IsMarked};
@@ -213,13 +212,4 @@ pub(crate) fn why_refused<'a>(scene: &Scene<'a>, index: &Index, refusal: Refusal
     ensures { refused_given result ≡ why_refused (moment_of scene.now) refusal }
 {
     refused_by(scene, refusal, cause_of(scene, index, refusal))
-}
-
-/// Returns the entry that tore the enclave down, which explains what was refused since.
-#[inline(always)]
-pub(crate) fn torn_down<'a>(scene: &Scene<'a>, index: &Index) -> Option<Cause<'a>>
-    requires { HasHeard index.now scene.now.journal.now.entries }
-    ensures { causes_given result ≡ (why_refused (moment_of scene.now) refusals.Gone).cause }
-{
-    cause_at(scene, place_of(index, scene, Some(Sign::TornDown)))
 }

@@ -20,7 +20,7 @@ use crate::landings::{write_landings, write_late_landing};
 use crate::moment::Scene;
 use crate::overflow::overflow_of;
 use crate::page::Page;
-use crate::refused::{torn_down, why_refused};
+use crate::refused::{cause_of, why_refused};
 use gs_agent::Drained;
 use gs_core::Reply;
 use gs_journal::Entry;
@@ -69,7 +69,7 @@ fn write_gone(out: &mut Page, scene: &Scene<'_>, index: &Index) -> Result<(), Al
     requires marked { IsMarked scene.now.last.now.places.items scene.now.transactions.now }
     ensures { OnOk result (out.new ≡ out.old ++ because (Some (reasons.Refused (why_refused (moment_of scene.now) refusals.Gone)))) }
 {
-    match torn_down(scene, index) {
+    match cause_of(scene, index, Refusal::Gone) {
         Some(cause) => out.gone(&cause),
         None => write_refused(out, scene, index, Refusal::Gone),
     }
