@@ -123,7 +123,7 @@ fn entries_told(outcome: Outcome, entries: usize) -> usize
     }
 }
 
-/// Returns an event of which the same is told if it is refused: of a creation its mask alone.
+/// Returns an event of which the same is told if it is refused: for a creation a commit with its mask, which is all that is told.
 #[inline(always)]
 fn event_told(event: &Event<()>) -> Event<()>
     ensures { result ≡ event_told event.now }

@@ -51,8 +51,8 @@ const MULTIPLIER: u64 = 0x1F6F_7241_70EA_FD67;
 /// What is noted of the lines of a slot.
 #[derive(Clone, Copy)]
 struct Slot {
-    /// The mark of the line that came last, or its complement if it came twice. Of an event that was refused it is kept from the third
-    /// time on what is told, and of a late landing from the second, since most lines come once or twice.
+    /// The mark of the line that came last, or its complement if it came twice. What is told of a refused event is kept from the third
+    /// time on that its line comes, and of a late landing from the second, since most lines come once or twice.
     mark: u32,
     /// Which of those that are kept is kept for these lines, counted from 1, or 0 if none is.
     place: u32,
@@ -409,8 +409,8 @@ impl Rows {
         }
     }
 
-    /// Adds the row of an event that was refused, of a line that looks like the one before of its slot. It is told again, if it was told
-    /// of that.
+    /// Adds the row of an event that was refused, of a line whose mark came twice before, with no other in its slot between. It is told
+    /// again, if the same is kept of that line.
     #[inline(never)]
     #[tactic(auto, using(crate::proofs::RefusedTold::refused_row))]
     fn add_twice(

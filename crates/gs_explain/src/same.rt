@@ -101,13 +101,19 @@ fn same_command(one: &Command, other: &Command) -> bool
     }
 }
 
-/// Returns whether the first event is what is told of the second, which creates no thread.
+/// Returns whether the first event is what is told of the second: of a creation that is a commit with its mask.
 #[inline(always)]
 pub(crate) fn is_event_told(one: &Event<()>, other: &Event<()>) -> bool
     ensures { result ≡ true → one.now ≡ event_told other.now }
 {
     match (one, other) {
         (Event::Kernel { command }, Event::Kernel { command: c }) => same_command(command, c),
+        (
+            Event::Commit { mask },
+            Event::Kernel {
+                command: Command::Create { facts },
+            },
+        ) => mask.bits() == facts.mask.bits(),
         (
             Event::Stamp { cpu, tid, flags },
             Event::Stamp {
