@@ -32,7 +32,7 @@ use Rattle.gs_replies.specs.declared.reply.Reply.TheVariants as replies
 use Rattle.gs_kernel.proofs.Laws.{Entails, last_added, last_told, tells_map}
 use Rattle.gs_agent.specs.Role.{RoleOf}
 use Rattle.gs_core.specs.Follows.{follows, on_cpu}
-use Rattle.gs_replies.specs.Replies.{replied, reply_of}
+use Rattle.gs_replies.specs.Replies.{replied_as, reply_of}
 use Rattle.gs_core.specs.Machine.{Carries, Plan, State, StateOf, IsFit, fits_into, freed_by, is_given_all, kernel_refusal, led, planned_by, planning, promoted, refusal, standing_refusal, stays_with, told_refusal, Does, IsShort, Serves, Step}
 use Rattle.gs_core.specs.Held.{agent_of}
 
@@ -219,10 +219,10 @@ done_alone room h h' e Done t = (refl, t.1)
 done_alone room h h' e executed.Torn t = let none : None ≡ Some t.0.0 = t.0.1 in absurd cc
 
 -- an event whose call returned a reply, or the refusal
-pub step_of : (m : State) (e : Event Plan) (x : Result Reply Refusal) (m' : State) → torn m.history ≡ false → IfOk x (λ _. standing_refusal m e ≡ None) → IfOk x (λ r. Does m e r m') → IfErr x (IsRefusal (standing_refusal m e)) → OnErr x (m' ≡ m)
-    → ((r : Reply) → r ≡ replies.Refused refusals.OutOfMemory → IsShort e r) → Step m e (replied x) m'
-step_of m e (Ok r) m' up free does is same short = done (refusal m e) m e r m' (while_standing m e up ∙ free) does
-step_of m e (Err f) m' up free does is same short = refused (refusal m e) f m e (replies.Refused f) m' (subst (λ o. IsRefusal o f) (sym (while_standing m e up)) is) refl (short (replies.Refused f)) same
+pub step_of : {A : Type 0} (make : A → Reply) (m : State) (e : Event Plan) (x : Result A Refusal) (m' : State) → torn m.history ≡ false → IfOk x (λ _. standing_refusal m e ≡ None) → IfOk x (λ a. Does m e (make a) m') → IfErr x (IsRefusal (standing_refusal m e)) → OnErr x (m' ≡ m)
+    → ((r : Reply) → r ≡ replies.Refused refusals.OutOfMemory → IsShort e r) → Step m e (replied_as make x) m'
+step_of make m e (Ok a) m' up free does is same short = done (refusal m e) m e (make a) m' (while_standing m e up ∙ free) does
+step_of make m e (Err f) m' up free does is same short = refused (refusal m e) f m e (replies.Refused f) m' (subst (λ o. IsRefusal o f) (sym (while_standing m e up)) is) refl (short (replies.Refused f)) same
 
 pub begun_step : (m : State) (p : Plan) (x : Result Executed Refusal) (e : Entry) (m' : State) → torn m.history ≡ false → IfOk x (λ _. kernel_refusal m commands.Begin ≡ None) → IfOk x (λ y. Carries (planned_by p m) commands.Begin (reply_of (Ok y) e) m')
     → IfErr x (IsRefusal (kernel_refusal m commands.Begin)) → OnErr x (m' ≡ m) → Step m (events.Begin p) (reply_of x e) m'

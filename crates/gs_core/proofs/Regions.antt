@@ -1,6 +1,5 @@
 -- What is done to a region in which no slot is malformed is done to its states.
-use Rattle.std.proofs.Common.{◌≡◌, ℕ, zero, suc, ◌+◌, ◌<◌, Option, None, Some, Result, Ok, Err, IfOk, IfErr, OnErr, OnOk, List, [], ◌∷◌, length, map, replicate, slice_get, slice_set, get_or, refl, ap, sym, ◌∙◌, arith}
-use Rattle.std.specs.Global.{Vec}
+use Rattle.std.proofs.Common.{◌≡◌, ℕ, zero, suc, ◌+◌, ◌<◌, Option, None, Some, Result, Ok, Err, IfOk, IfErr, OnErr, OnOk, List, [], ◌∷◌, ◌++◌, length, map, replicate, slice_get, slice_set, get_or, refl, ap, sym, ◌∙◌, arith}
 use Rattle.std.specs.Result.{result_unwrap_or}
 use Rattle.std.proofs.lemmas.Option.{slice_get-get_or}
 use Rattle.gs_layout.specs.declared.known.Known.{Known}
@@ -52,22 +51,22 @@ slot_state bs zs k h e is = get_held zs k h (ap (λ (xs : List Held). slice_get 
 -- ---- commits
 
 -- a commit of a region lands its states, and leaves states
-commit_told : (room : Room) (s : Settings) (mask : ℕ) (bs left : List (List ℕ)) (zs : List SlotState) (h h' : History) (answers : List Landing) → AreRead bs zs → Adds (CommitsRegion room s mask bs h) [] answers left h'
-    → Adds (LandsCommit room s mask zs h) [] answers (told_by 0 left) h' × AreRead left (told_by 0 left)
-commit_told room s mask bs left zs h h' answers e a =
+commit_told : (room : Room) (s : Settings) (mask : ℕ) (bs left : List (List ℕ)) (zs : List SlotState) (h h' : History) (before after : List Landing) → AreRead bs zs → Adds (CommitsRegion room s mask bs h) before after left h'
+    → Adds (LandsCommit room s mask zs h) before after (told_by 0 left) h' × AreRead left (told_by 0 left)
+commit_told room s mask bs left zs h h' before after e a =
     let all = commit_read room s mask bs zs h a.made e a.lands in
     let read : AreRead left all.0.slots = ap (states_in 0) a.slots ∙ all.2.slots in
-    (record { made = all.0; lands = all.1; answers = a.answers ∙ all.2.answers; slots = told_is 0 left all.0.slots read; history = a.history ∙ all.2.history }, read_told left all.0.slots read)
+    (record { made = all.0; lands = all.1; answers = a.answers ∙ ap (λ (xs : List Landing). before ++ xs) all.2.answers; slots = told_is 0 left all.0.slots read; history = a.history ∙ all.2.history }, read_told left all.0.slots read)
 
-pub commit_lands : (room : Room) (s : Settings) (mask : ℕ) (bs left : List (List ℕ)) (zs : List SlotState) (h h' : History) (r : Result (Vec Landing) Refusal) → AreRead bs zs → IfOk r (λ l. Adds (CommitsRegion room s mask bs h) [] l.items left h')
-    → IfOk r (λ l. Adds (LandsCommit room s mask zs h) [] l.items (told_by 0 left) h')
-commit_lands room s mask bs left zs h h' (Ok l) e a = (commit_told room s mask bs left zs h h' l.items e a).0
-commit_lands room s mask bs left zs h h' (Err f) e a = tt
+pub commit_lands : (room : Room) (s : Settings) (mask : ℕ) (bs left : List (List ℕ)) (zs : List SlotState) (h h' : History) (r : Result (Unit {0}) Refusal) (before after : List Landing) → AreRead bs zs → OnOk r (Adds (CommitsRegion room s mask bs h) before after left h')
+    → OnOk r (Adds (LandsCommit room s mask zs h) before after (told_by 0 left) h')
+commit_lands room s mask bs left zs h h' (Ok k) before after e a = (commit_told room s mask bs left zs h h' before after e a).0
+commit_lands room s mask bs left zs h h' (Err f) before after e a = tt
 
-pub commit_left : (room : Room) (s : Settings) (mask : ℕ) (bs left : List (List ℕ)) (zs : List SlotState) (h h' : History) (r : Result (Vec Landing) Refusal) (same : Type 0) → AreRead bs zs → IfOk r (λ l. Adds (CommitsRegion room s mask bs h) [] l.items left h')
+pub commit_left : (room : Room) (s : Settings) (mask : ℕ) (bs left : List (List ℕ)) (zs : List SlotState) (h h' : History) (r : Result (Unit {0}) Refusal) (before after : List Landing) (same : Type 0) → AreRead bs zs → OnOk r (Adds (CommitsRegion room s mask bs h) before after left h')
     → OnErr r (same × (left ≡ bs)) → AreRead left (told_by 0 left)
-commit_left room s mask bs left zs h h' (Ok l) same e a u = (commit_told room s mask bs left zs h h' l.items e a).1
-commit_left room s mask bs left zs h h' (Err f) same e a u = read_told left zs (ap (states_in 0) u.1 ∙ e)
+commit_left room s mask bs left zs h h' (Ok k) before after same e a u = (commit_told room s mask bs left zs h h' before after e a).1
+commit_left room s mask bs left zs h h' (Err f) before after same e a u = read_told left zs (ap (states_in 0) u.1 ∙ e)
 
 -- ---- idle, collected and stamped slots
 

@@ -1,10 +1,10 @@
-ghost use Rattle.std.specs.Prelude.{◌≡◌, ◌+◌, ◌≤◌, ℕ, None, Some, Ok, IfOk, IfErr, IfSome, OnOk, OnErr, is_some, length, map, true, false};
+ghost use Rattle.std.specs.Prelude.{◌≡◌, ◌+◌, ◌≤◌, [], ℕ, None, Some, Ok, IfOk, IfErr, IfSome, OnOk, OnErr, is_some, length, map, true, false};
 ghost use Rattle.std.specs.Option.{option_map};
 ghost use Rattle.gs_layout.specs.declared.refusal.Refusal.{Refusal};
 ghost use Rattle.gs_kernel.specs.Kernel.{IsRefusal, last_entry};
 ghost use Rattle.gs_kernel.specs.declared.settings.TheConstants.{MOST_HISTORY};
 ghost use Rattle.gs_replies.specs.Config.{config_fault, IsFault};
-ghost use Rattle.gs_replies.specs.Replies.{replied, reply_of};
+ghost use Rattle.gs_replies.specs.Replies.{replied, replied_as, reply_of};
 ghost use denote.Ref.{Bor};
 ghost use Rattle.gs_agent.specs.Role.{RoleOf};
 ghost use Rattle.gs_core.specs.Held.{agent_of};
@@ -23,8 +23,8 @@ use crate::stamping::{stamp_all, stamp_refusal, stamp_thread};
 use crate::transaction::Transaction;
 use crate::transactions::Transactions;
 use crate::unread::waiting;
-use gs_agent::Role;
-use gs_kernel::{Command, Executed, Kernel};
+use gs_agent::{Drained, Role};
+use gs_kernel::{Command, Executed, Kernel, Landing};
 use gs_layout::Refusal;
 use gs_policy::{Choice, Counted};
 use gs_replies::{Config, ConfigFault, Items, Reply};
@@ -219,9 +219,11 @@ impl<P: Counted + Copy> Machine<P> {
         Some((transaction.cpu, transaction.slot))
     }
 
-    fn drain(&mut self, max: u32) -> Result<Reply, Refusal>
+    /// Lets the agent follow messages while the enclave stands.
+    #[inline(always)]
+    fn follow(&mut self, max: u32) -> Result<Drained, Refusal>
         requires { torn self.old.history ≡ false }
-        ensures step { Step (planning P.chosen self.old) (Event.Drain max) (replied result) (planning P.chosen self.new) }
+        ensures step { Step (planning P.chosen self.old) (Event.Drain max) (replied_as Reply.Drained result) (planning P.chosen self.new) }
         ensures policy { self.new.policy ≡ self.old.policy }
     {
         if !self.kernel.has_agent() {
@@ -229,7 +231,7 @@ impl<P: Counted + Copy> Machine<P> {
         }
         let role = self.role.as_mut().unwrap();
         let mut head = self.kernel.taker();
-        Ok(Reply::Drained(role.drain(&mut head, max)))
+        Ok(role.drain(&mut head, max))
     }
 
     fn view(&self) -> Result<Reply, Refusal>
@@ -285,10 +287,11 @@ impl<P: Counted + Copy> Machine<P> {
         Ok(())
     }
 
-    /// Stamps what the view has of a thread into the slot of a CPU.
-    fn stamp(&mut self, cpu: u16, tid: u32, flags: Flags) -> Result<Reply, Refusal>
+    /// Stamps what the view has of a thread into the slot of a CPU, and returns the transaction's number.
+    #[inline(always)]
+    fn stamp_slot(&mut self, cpu: u16, tid: u32, flags: Flags) -> Result<u32, Refusal>
         ensures fits { IfOk result (λ _. standing_refusal (planning P.chosen self.old) (Event.Stamp cpu tid flags) ≡ None) }
-        ensures reply { IfOk result (λ reply. reply ≡ (stamps (planning P.chosen self.old) cpu tid flags).0) }
+        ensures reply { IfOk result (λ number. Reply.Stamped number ≡ (stamps (planning P.chosen self.old) cpu tid flags).0) }
         ensures ok { OnOk result (planning P.chosen self.new ≡ (stamps (planning P.chosen self.old) cpu tid flags).1) }
         ensures refused { IfErr result (IsRefusal (standing_refusal (planning P.chosen self.old) (Event.Stamp cpu tid flags))) }
         ensures policy { self.new.policy ≡ self.old.policy }
@@ -311,9 +314,17 @@ impl<P: Counted + Copy> Machine<P> {
             tid,
             flags,
         )?;
-        Ok(Reply::Stamped {
-            number: self.transactions.len(),
-        })
+        Ok(self.transactions.len())
+    }
+
+    /// Does so while the enclave stands.
+    #[inline(always)]
+    fn stamp_standing(&mut self, cpu: u16, tid: u32, flags: Flags) -> Result<u32, Refusal>
+        requires { torn self.old.history ≡ false }
+        ensures step { Step (planning P.chosen self.old) (Event.Stamp cpu tid flags) (replied_as Reply.Stamped result) (planning P.chosen self.new) }
+        ensures policy { self.new.policy ≡ self.old.policy }
+    {
+        self.stamp_slot(cpu, tid, flags)
     }
 
     /// Stamps what the policy plans.
@@ -368,18 +379,37 @@ impl<P: Counted + Copy> Machine<P> {
         }
     }
 
-    fn commit(&mut self, mask: Mask) -> Result<Reply, Refusal>
-        requires { torn self.old.history ≡ false }
-        ensures step { Step (planning P.chosen self.old) (Event.Commit mask) (replied result) (planning P.chosen self.new) }
+    /// Lands slots while the enclave stands, and adds what became of each to an empty list. Returns whether that tore the
+    /// enclave down.
+    #[inline(always)]
+    fn land(&mut self, mask: Mask, landings: &mut Vec<Landing>) -> Result<bool, Refusal>
+        requires stands { torn self.old.history ≡ false }
+        requires empty { landings.old.items ≡ [] }
+        ensures step { Step (planning P.chosen self.old) (Event.Commit mask) (replied_as (Reply.Landed landings.new.items) result) (planning P.chosen self.new) }
+        ensures kept { OnErr result (landings.new.items ≡ []) }
         ensures policy { self.new.policy ≡ self.old.policy }
     {
-        let landings = self.region.commit(self.alloc, &mut self.kernel, mask)?;
+        let alloc = self.alloc;
+        self.region.commit(alloc, &mut self.kernel, mask, landings)?;
         let role = self.role.as_mut().unwrap();
         self.region.collect(role);
-        Ok(Reply::Landed {
-            landings: Items::new(landings),
-            torn: self.kernel.is_torn(),
-        })
+        Ok(self.kernel.is_torn())
+    }
+
+    /// Lands slots while the enclave stands, and returns the reply.
+    fn land_all(&mut self, mask: Mask) -> Reply
+        requires { torn self.old.history ≡ false }
+        ensures step { Step (planning P.chosen self.old) (Event.Commit mask) result (planning P.chosen self.new) }
+        ensures policy { self.new.policy ≡ self.old.policy }
+    {
+        let mut landings = Vec::new(self.alloc);
+        match self.land(mask, &mut landings) {
+            Ok(torn) => Reply::Landed {
+                landings: Items::new(landings),
+                torn,
+            },
+            Err(refusal) => Reply::Refused(refusal),
+        }
     }
 
     fn late(&mut self, number: u32) -> Result<Reply, Refusal>
@@ -447,6 +477,65 @@ impl<P: Counted + Copy> Machine<P> {
         came
     }
 
+    /// Lets the agent follow the messages that wait, at most `max`, as [`Machine::step`] does at `Event::Drain`. Returns what it
+    /// followed.
+    ///
+    /// # Errors
+    ///
+    /// The first refusal that applies, and then nothing changes.
+    pub fn drain(&mut self, max: u32) -> Result<Drained, Refusal>
+        ensures step { Step (planning P.chosen self.old) (Event.Drain max) (replied_as Reply.Drained result) (planning P.chosen self.new) }
+        ensures safe { Safe (planning P.chosen self.new) }
+        ensures faithful { IsFaithful (planning P.chosen self.new) }
+        ensures policy { self.new.policy ≡ self.old.policy }
+    {
+        self.standing()?;
+        let came = self.follow(max);
+        // Reads a field to expose the invariant.
+        let _region = &self.region;
+        came
+    }
+
+    /// Stamps what the agent knows of a thread into the slot of a CPU, as [`Machine::step`] does at `Event::Stamp`. Returns the
+    /// transaction's number, counted from 1.
+    ///
+    /// # Errors
+    ///
+    /// The first refusal that applies, and then nothing changes.
+    pub fn stamp(&mut self, cpu: u16, tid: u32, flags: Flags) -> Result<u32, Refusal>
+        ensures step { Step (planning P.chosen self.old) (Event.Stamp cpu tid flags) (replied_as Reply.Stamped result) (planning P.chosen self.new) }
+        ensures safe { Safe (planning P.chosen self.new) }
+        ensures faithful { IsFaithful (planning P.chosen self.new) }
+        ensures policy { self.new.policy ≡ self.old.policy }
+    {
+        self.standing()?;
+        let came = self.stamp_standing(cpu, tid, flags);
+        // Reads a field to expose the invariant.
+        let _region = &self.region;
+        came
+    }
+
+    /// Lands the stamped slots of a mask, as [`Machine::step`] does at `Event::Commit`. Returns whether that tore the enclave
+    /// down. What became of each slot is put in the place of what a list has, so that one list serves each commit.
+    ///
+    /// # Errors
+    ///
+    /// The first refusal that applies, and then nothing changes, but that the list is empty.
+    pub fn commit(&mut self, mask: Mask, landings: &mut Vec<Landing>) -> Result<bool, Refusal>
+        ensures step { Step (planning P.chosen self.old) (Event.Commit mask) (replied_as (Reply.Landed landings.new.items) result) (planning P.chosen self.new) }
+        ensures none { OnErr result (landings.new.items ≡ []) }
+        ensures safe { Safe (planning P.chosen self.new) }
+        ensures faithful { IsFaithful (planning P.chosen self.new) }
+        ensures policy { self.new.policy ≡ self.old.policy }
+    {
+        landings.clear();
+        self.standing()?;
+        let came = self.land(mask, landings);
+        // Reads a field to expose the invariant.
+        let _region = &self.region;
+        came
+    }
+
     /// Lets one event happen while the enclave stands.
     fn step_standing(&mut self, event: &Event<P>) -> Reply
         requires { torn self.old.history ≡ false }
@@ -464,10 +553,16 @@ impl<P: Counted + Copy> Machine<P> {
                 self.command_reply(executed)
             }
             Event::Page { max } => answer(self.page(*max)),
-            Event::Drain { max } => answer(self.drain(*max)),
-            Event::Stamp { cpu, tid, flags } => answer(self.stamp(*cpu, *tid, *flags)),
+            Event::Drain { max } => match self.follow(*max) {
+                Ok(drained) => Reply::Drained(drained),
+                Err(refusal) => Reply::Refused(refusal),
+            },
+            Event::Stamp { cpu, tid, flags } => match self.stamp_standing(*cpu, *tid, *flags) {
+                Ok(number) => Reply::Stamped { number },
+                Err(refusal) => Reply::Refused(refusal),
+            },
             Event::Decide => answer(self.decide()),
-            Event::Commit { mask } => answer(self.commit(*mask)),
+            Event::Commit { mask } => self.land_all(*mask),
             Event::Late { number } => answer(self.late(*number)),
             Event::View => answer(self.view()),
             Event::State => answer(self.state()),

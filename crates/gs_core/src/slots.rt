@@ -115,21 +115,23 @@ impl MachineSlots {
         role.stamp_at(self.region.slot(cpu), tid, tseq, flags)
     }
 
-    /// Lets the kernel land the slots of a mask, as `Kernel::txns_commit` says.
+    /// Lets the kernel land the slots of a mask, as `Kernel::txns_commit_into` says.
     pub(crate) fn commit<P: Poster>(
         &mut self,
         alloc: Global,
         kernel: &mut Kernel<P>,
         mask: Mask,
-    ) -> Result<Vec<Landing>, Refusal>
+        landings: &mut Vec<Landing>,
+    ) -> Result<(), Refusal>
         requires cpus { length self.old ≡ kernel.old.settings.cpus }
-        ensures accepted { IfOk result (λ _. commit_refusal kernel.old.settings kernel.old.history mask ≡ None) }
-        ensures lands { IfOk result (λ l. Adds (LandsCommit (RoomOf P.same P.consumed P.posted P.tight kernel.old.poster) kernel.old.settings mask self.old kernel.old.history) [] l.items self.new kernel.new.history) }
+        ensures accepted { OnOk result (commit_refusal kernel.old.settings kernel.old.history mask ≡ None) }
+        ensures lands { OnOk result (Adds (LandsCommit (RoomOf P.same P.consumed P.posted P.tight kernel.old.poster) kernel.old.settings mask self.old kernel.old.history) landings.old.items landings.new.items self.new kernel.new.history) }
         ensures refused { IfErr result (IsRefusal (commit_refusal kernel.old.settings kernel.old.history mask)) }
         ensures unchanged { OnErr result ((kernel.new ≡ kernel.old) × (self.new ≡ self.old)) }
+        ensures kept { OnErr result (landings.new.items ≡ landings.old.items) }
         ensures frame { Frame P.same P.consumed P.posted kernel.old kernel.new }
     {
-        kernel.txns_commit(alloc, &mut self.region, mask)
+        kernel.txns_commit_into(alloc, &mut self.region, mask, landings)
     }
 
     /// Lets a role collect what became of the slots that are done, and makes these idle.

@@ -12,7 +12,8 @@ pub use column::{MOST_COLUMN, blanks, class_word, push_column};
 pub use gs_text::Sheet as Text;
 pub use message_line::{change_name, write_cpu, write_placed};
 pub use reply_line::{
-    outcome_name, text_of, write_executed, write_landing, write_late, write_reply, write_torn,
+    outcome_name, text_of, write_committed, write_drained, write_executed, write_landing,
+    write_late, write_refused, write_reply, write_stamped, write_torn,
 };
 pub use thread::push_thread;
 pub use thread_line::{name_str, write_facts};

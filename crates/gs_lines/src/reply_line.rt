@@ -112,6 +112,15 @@ pub fn write_torn(out: &mut Text, torn: bool) -> Result<(), AllocError>
     if torn { out.push_str("torn\n") } else { Ok(()) }
 }
 
+/// Adds the lines of a commit: of its landings, and behind them that they tore the enclave down, if they did. It fails
+/// only if out of memory.
+pub fn write_committed(out: &mut Text, landings: &[Landing], torn: bool) -> Result<(), AllocError>
+    ensures { OnOk result (out.new ≡ out.old ++ landing_lines landings.now ++ torn_line torn) }
+{
+    write_landings(out, landings)?;
+    write_torn(out, torn)
+}
+
 /// Adds a word and a number, if the number isn't 0.
 fn write_part(out: &mut Text, word: &str, number: usize) -> Result<(), AllocError>
     ensures { OnOk result (out.new ≡ out.old ++ unless_zero word.now number) }
@@ -132,8 +141,8 @@ fn stop_name(stop: Option<Stop>) -> &'static str
     }
 }
 
-/// Adds the line of a drain.
-fn write_drained(out: &mut Text, drained: &Drained) -> Result<(), AllocError>
+/// Adds the line of a drain. It fails only if out of memory.
+pub fn write_drained(out: &mut Text, drained: &Drained) -> Result<(), AllocError>
     ensures { OnOk result (out.new ≡ out.old ++ line (drained_text drained.now)) }
 {
     let Drained {
@@ -171,8 +180,8 @@ fn write_page(out: &mut Text, count: u16, next: Option<u32>) -> Result<(), Alloc
     out.end_line()
 }
 
-/// Adds the line of a refusal.
-fn write_refused(out: &mut Text, refusal: Refusal) -> Result<(), AllocError>
+/// Adds the line of a refusal. It fails only if out of memory.
+pub fn write_refused(out: &mut Text, refusal: Refusal) -> Result<(), AllocError>
     ensures { OnOk result (out.new ≡ out.old ++ line (codes "refused " ++ refusal_text refusal)) }
 {
     out.push_str("refused ")?;
@@ -180,8 +189,8 @@ fn write_refused(out: &mut Text, refusal: Refusal) -> Result<(), AllocError>
     out.end_line()
 }
 
-/// Adds the line of a stamp, by its transaction's number.
-fn write_stamped(out: &mut Text, number: u32) -> Result<(), AllocError>
+/// Adds the line of a stamp, by its transaction's number. It fails only if out of memory.
+pub fn write_stamped(out: &mut Text, number: u32) -> Result<(), AllocError>
     ensures { OnOk result (out.new ≡ out.old ++ line (codes "stamped " ++ decimal number)) }
 {
     out.push_between("stamped ", number as u64, "\n")
@@ -202,10 +211,7 @@ pub fn write_reply(out: &mut Text, reply: &Reply) -> Result<(), AllocError>
         Reply::Drained(drained) => write_drained(out, drained),
         Reply::Stamped { number } => write_stamped(out, *number),
         Reply::Decided { first, choices } => write_decided(out, *first, choices.as_slice()),
-        Reply::Landed { landings, torn } => {
-            write_landings(out, landings.as_slice())?;
-            write_torn(out, *torn)
-        }
+        Reply::Landed { landings, torn } => write_committed(out, landings.as_slice(), *torn),
         Reply::Late {
             number,
             landing,

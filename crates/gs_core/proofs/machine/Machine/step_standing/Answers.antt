@@ -7,17 +7,6 @@ use Rattle.gs_core.specs.Machine.{Step, planned, planning}
 use Rattle.gs_core.proofs.Posting.{both_of, same_planning, step_of}
 use Rattle.gs_core.proofs.machine.Machine.step_standing.Goals as goal
 
-pub returns-in-Stamp-clause-step : goal.returns-in-Stamp-clause-step
-returns-in-Stamp-clause-step g c =
-    let chosen = g.P.Policy.chosen in
-    let a = c.args.self.now in
-    let b = c.stamp in
-    let e = b.ensures in
-    let event = events.Stamp c.in-Stamp.cpu c.in-Stamp.tid c.in-Stamp.flags in
-    subst (λ (r : Reply). Step (planning chosen a) (planned chosen c.args.event.now) r (planning chosen b.new.self)) (sym c.answer-in-Stamp.ensures)
-    (subst (λ (x : Event _). Step (planning chosen a) (planned chosen x) (replied b.result) (planning chosen b.new.self)) (sym c.in-Stamp.is)
-    (step_of (planning chosen a) event b.result (planning chosen b.new.self) c.requires e.fits (both_of b.result _ _ e.reply e.ok) e.refused (same_planning chosen b.result a b.new.self e.unchanged) (λ r p. p)))
-
 pub returns-in-Decide-clause-step : goal.returns-in-Decide-clause-step
 returns-in-Decide-clause-step g c =
     let chosen = g.P.Policy.chosen in
@@ -26,7 +15,7 @@ returns-in-Decide-clause-step g c =
     let e = b.ensures in
     subst (λ (r : Reply). Step (planning chosen a) (planned chosen c.args.event.now) r (planning chosen b.new.self)) (sym c.answer-in-Decide.ensures)
     (subst (λ (x : Event _). Step (planning chosen a) (planned chosen x) (replied b.result) (planning chosen b.new.self)) (sym c.in-Decide.is)
-    (step_of (planning chosen a) events.Decide b.result (planning chosen b.new.self) c.requires e.fits (both_of b.result _ _ e.reply e.ok) e.refused (same_planning chosen b.result a b.new.self e.unchanged) (λ r p. p)))
+    (step_of (λ r. r) (planning chosen a) events.Decide b.result (planning chosen b.new.self) c.requires e.fits (both_of b.result _ _ e.reply e.ok) e.refused (same_planning chosen b.result a b.new.self e.unchanged) (λ r p. p)))
 
 pub returns-in-Page-clause-step : goal.returns-in-Page-clause-step
 returns-in-Page-clause-step g c =
@@ -36,4 +25,4 @@ returns-in-Page-clause-step g c =
     let e = b.ensures in
     subst (λ (r : Reply). Step (planning chosen a) (planned chosen c.args.event.now) r (planning chosen b.new.self)) (sym c.answer-in-Page.ensures)
     (subst (λ (x : Event _). Step (planning chosen a) (planned chosen x) (replied b.result) (planning chosen b.new.self)) (sym c.in-Page.is)
-    (step_of (planning chosen a) (events.Page c.in-Page.max) b.result (planning chosen b.new.self) c.requires e.fits e.attaches e.refused (same_planning chosen b.result a b.new.self e.unchanged) (λ r p. p)))
+    (step_of (λ r. r) (planning chosen a) (events.Page c.in-Page.max) b.result (planning chosen b.new.self) c.requires e.fits e.attaches e.refused (same_planning chosen b.result a b.new.self e.unchanged) (λ r p. p)))
