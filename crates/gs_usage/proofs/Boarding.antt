@@ -14,7 +14,7 @@ use Rattle.gs_journal.proofs.Laws.{active-push, last_taken-push, on-push}
 use Rattle.gs_layout.specs.declared.message.Message.TheVariants.{Thread, TimerTick}
 use Rattle.gs_turns.specs.Ticked.{is_tick_there, tick_cpu}
 use Rattle.gs_usage.proofs.Hearing.{all_past_more, threads_more}
-use Rattle.gs_usage.specs.Counting.{counted}
+use Rattle.gs_usage.specs.Counting.{count_of}
 use Rattle.gs_usage.specs.Facts.{AreFacts, AreFactsThen, agent_then, use_now}
 use Rattle.gs_usage.specs.Seats.{IsKept, who, who_at}
 use Rattle.gs_usage.specs.Tallies.{HasRoom, IsTally, IsTallyThen, entries_to, ticks_in}
@@ -80,7 +80,7 @@ facts_more h n first x s old new f g lt is are heard counts =
       agent = λ i small. heard.agent i small ∙ (ap (agent_then (first + i) x) (are.agent i small) ∙ (sym (agent_by (first + i) x (active (take n h))) ∙ ap (is_there (first + i)) (sym (active-push (take n h) x) ∙ ap active more)));
       on = λ i small. heard.on i small ∙ (ap (then_stands (placed_on (first + i) x) ends_run x) (are.on i small) ∙ (sym (on-push (take n h) x (first + i)) ∙ ap (λ (k : History). on k (first + i)) more));
       waiting = λ i small. heard.waiting i small ∙ (ap (waiting_then (first + i) x s) (are.waiting i small) ∙ sym (counts (first + i)));
-      few = λ i small. subst (λ (w : ℕ). w ≤ n + 1) (sym (heard.waiting i small)) (waiting_less (first + i) n x s (counted f.waiting.words.items i) (are.few i small));
+      few = λ i small. subst (λ (w : ℕ). w ≤ n + 1) (sym (heard.waiting i small)) (waiting_less (first + i) n x s (count_of f.waiting i) (are.few i small));
       kept = heard.kept;
       room = subst (λ (k : ℕ). length h < 2 ^ k) (sym heard.room) are.room;
       wanted = heard.wanted;
@@ -95,10 +95,10 @@ pub use_is : (h : History) (n first : ℕ) (ts : ThreadsOf) (f : Facts) (i : ℕ
 unfolding use_of
 use_is h n first ts f i small are threads =
     let busy : has f.seats.busy i ≡ is_some (on (take n h) (first + i)) = sym (someone (has f.seats.busy i) (get_or f.seats.threads.items i 0)) ∙ ap is_some (are.on i small) in
-    let wanted : nat_lt 0 (counted f.waiting.words.items i) ≡ is_wanted (take n h) (first + i) = ap (nat_lt 0) (are.waiting i small) ∙ wanted_is h n ts (first + i) threads in
-    ap (λ (b : Bool). first_use b (has f.agent i) (has f.seats.busy i) (nat_lt 0 (counted f.waiting.words.items i))) (are.taken i small)
-    ∙ (ap (λ (b : Bool). first_use (taken (take n h) (first + i)) b (has f.seats.busy i) (nat_lt 0 (counted f.waiting.words.items i))) (are.agent i small)
-    ∙ (ap (λ (b : Bool). first_use (taken (take n h) (first + i)) (is_there (first + i) (active (take n h))) b (nat_lt 0 (counted f.waiting.words.items i))) busy
+    let wanted : nat_lt 0 (count_of f.waiting i) ≡ is_wanted (take n h) (first + i) = ap (nat_lt 0) (are.waiting i small) ∙ wanted_is h n ts (first + i) threads in
+    ap (λ (b : Bool). first_use b (has f.agent i) (has f.seats.busy i) (nat_lt 0 (count_of f.waiting i))) (are.taken i small)
+    ∙ (ap (λ (b : Bool). first_use (taken (take n h) (first + i)) b (has f.seats.busy i) (nat_lt 0 (count_of f.waiting i))) (are.agent i small)
+    ∙ (ap (λ (b : Bool). first_use (taken (take n h) (first + i)) (is_there (first + i) (active (take n h))) b (nat_lt 0 (count_of f.waiting i))) busy
     ∙ ap (first_use (taken (take n h) (first + i)) (is_there (first + i) (active (take n h))) (is_some (on (take n h) (first + i)))) wanted))
 
 -- how long a CPU had a use
@@ -149,7 +149,7 @@ entries_few h n first u t is i small = let few = (time_bound n u h (first + i)).
 pub ticks_few : (h : History) (n first : ℕ) (u : Use) (t : Tally) → IsTally h n first u t → (i : ℕ) → i < MOST_CPUS → ticks_in t i ≤ n
 ticks_few h n first u t is i small = let few = (time_bound n u h (first + i)).1 in let same = is.ticks i small in omega (arith, few, same)
 
-pub waiting_fits : (h : History) (n first : ℕ) (ts : ThreadsOf) (f : Facts) → n < length h → AreFacts h n first ts f → (i : ℕ) → i < MOST_CPUS → counted f.waiting.words.items i + 1 < 2 ^ length f.waiting.words.items
+pub waiting_fits : (h : History) (n first : ℕ) (ts : ThreadsOf) (f : Facts) → n < length h → AreFacts h n first ts f → (i : ℕ) → i < MOST_CPUS → count_of f.waiting i + 1 < 2 ^ length f.waiting.words
 waiting_fits h n first ts f lt are i small = let few = are.few i small in let room = are.room in omega (arith, few, room, lt)
 
 -- a tick leaves all as it was but for the ticks
@@ -176,7 +176,7 @@ still h n first c ts f are = record {
   taken = λ i small. refl;
   agent = λ i small. refl;
   on = λ i small. still_on c (who f.seats i);
-  waiting = λ i small. sym (still_waiting (first + i) (counted f.waiting.words.items i));
+  waiting = λ i small. sym (still_waiting (first + i) (count_of f.waiting i));
   kept = are.kept;
   room = refl;
   wanted = are.wanted;
@@ -214,7 +214,7 @@ unfolding on standing last_of
 none_on c = refl
 
 pub facts_none : (h : History) (first : ℕ) (f : Facts) → f.taken ≡ 0 → f.agent ≡ 0 → f.seats.busy ≡ 0 → IsKept f.seats.busy f.seats.threads.items f.seats.places.items
-    → ((i : ℕ) → counted f.waiting.words.items i ≡ 0) → f.wanted ≡ 0 → length h < 2 ^ length f.waiting.words.items → AreFacts h 0 first no_threads f
+    → ((i : ℕ) → count_of f.waiting i ≡ 0) → f.wanted ≡ 0 → length h < 2 ^ length f.waiting.words → AreFacts h 0 first no_threads f
 facts_none h first f no_taken no_agent no_busy kept none not_one room = record {
   taken = λ i small. ap (λ (m : ℕ). has m i) no_taken ∙ (nobody i ∙ sym (none_taken (first + i)));
   agent = λ i small. ap (λ (m : ℕ). has m i) no_agent ∙ (nobody i ∙ sym (none_there (first + i)));

@@ -3,6 +3,7 @@ mod Wanting
 mod Hearing
 mod Bits
 mod Counting
+mod Owing
 mod Seating
 mod Boarding
 mod WorkedUses

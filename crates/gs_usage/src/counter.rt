@@ -3,11 +3,12 @@
 ghost use Rattle.std.specs.Prelude.{◌≡◌, ◌<◌, ◌≤◌, ◌+◌, ◌^◌, ℕ, IfOk, length, max, min, nat_lt};
 ghost use Rattle.gs_status.specs.Masks.{has};
 ghost use Rattle.std.specs.Int.{bit_at};
-ghost use Rattle.gs_usage.specs.Counting.{counted};
+ghost use Rattle.gs_usage.specs.Counting.{count_of, counted};
 ghost use Rattle.gs_status.specs.declared.mask.TheConstants.{MOST_CPUS};
 
 use gs_status::MOST_CPUS;
 use std::alloc::{AllocError, Global};
+use std::marker::Model;
 
 /// Adds one to the count of each place of a set.
 fn carry(words: &mut [u128], carried: u128)
@@ -81,10 +82,22 @@ fn words_for(alloc: Global, most: usize) -> Result<Vec<u128>, AllocError>
     Ok(words)
 }
 
-/// Counts of the CPUs of a block. Word k has digit k of each count.
+/// Counts of the CPUs of a block. Word k has digit k of each count, but for the CPUs that are owed one: their counts are one less. So a
+/// count that goes down and up again by turns changes no digit. Clauses see the words and who is owed.
 #[derive(Drop)]
 pub(crate) struct Counter {
     words: Vec<u128>,
+    owed: u128,
+}
+
+impl Model for Counter {
+    ghost use Rattle.gs_usage.specs.Counting.{IsOwed, Owing};
+
+    ghost Value = { Owing };
+
+    ghost view = { λ c. record { words = c.words.items; owed = c.owed } };
+
+    ghost invariant = { λ c. IsOwed c.words.items c.owed };
 }
 
 impl Counter {
@@ -94,44 +107,52 @@ impl Counter {
     ///
     /// `AllocError` if out of memory.
     pub(crate) fn new(alloc: Global, most: usize) -> Result<Counter, AllocError>
-        ensures counts { IfOk result (λ counter. (i : ℕ) → counted counter.words.items i ≡ 0) }
-        ensures room { IfOk result (λ counter. most < 2 ^ length counter.words.items) }
+        ensures counts { IfOk result (λ counter. (i : ℕ) → count_of counter i ≡ 0) }
+        ensures room { IfOk result (λ counter. most < 2 ^ length counter.words) }
     {
         let words = words_for(alloc, most)?;
-        Ok(Counter { words })
+        Ok(Counter { words, owed: 0 })
     }
 
     /// Adds one to the count of each CPU of a set.
     pub(crate) fn add(&mut self, set: u128)
-        requires { (i : ℕ) → i < MOST_CPUS → counted self.old.words.items i + bit_at set i < 2 ^ length self.old.words.items }
-        ensures counts { (i : ℕ) → i < MOST_CPUS → counted self.new.words.items i ≡ counted self.old.words.items i + bit_at set i }
-        ensures room { length self.new.words.items ≡ length self.old.words.items }
+        requires { (i : ℕ) → i < MOST_CPUS → count_of self.old i + bit_at set i < 2 ^ length self.old.words }
+        ensures counts { (i : ℕ) → i < MOST_CPUS → count_of self.new i ≡ count_of self.old i + bit_at set i }
+        ensures room { length self.new.words ≡ length self.old.words }
     {
-        carry(self.words.as_mut_slice(), set);
+        let back = set & self.owed;
+        self.owed ^= back;
+        carry(self.words.as_mut_slice(), set ^ back);
     }
 
     /// Takes one from the count of each CPU of a set. No such count is 0.
     pub(crate) fn take(&mut self, set: u128)
-        requires { (i : ℕ) → i < MOST_CPUS → bit_at set i ≤ counted self.old.words.items i }
-        ensures counts { (i : ℕ) → i < MOST_CPUS → counted self.new.words.items i + bit_at set i ≡ counted self.old.words.items i }
-        ensures room { length self.new.words.items ≡ length self.old.words.items }
+        requires { (i : ℕ) → i < MOST_CPUS → bit_at set i ≤ count_of self.old i }
+        ensures counts { (i : ℕ) → i < MOST_CPUS → count_of self.new i + bit_at set i ≡ count_of self.old i }
+        ensures room { length self.new.words ≡ length self.old.words }
     {
-        take(self.words.as_mut_slice(), set);
+        let again = set & self.owed;
+        self.owed |= set;
+        take(self.words.as_mut_slice(), again);
     }
 
     /// Makes all counts 0.
     pub(crate) fn clear(&mut self)
-        ensures counts { (i : ℕ) → counted self.new.words.items i ≡ 0 }
-        ensures room { length self.new.words.items ≡ length self.old.words.items }
+        ensures counts { (i : ℕ) → count_of self.new i ≡ 0 }
+        ensures room { length self.new.words ≡ length self.old.words }
     {
+        self.owed = 0;
         clear(self.words.as_mut_slice());
     }
 
     /// Returns the set of the CPUs whose count is not 0, of which each is in this set.
     pub(crate) fn marked(&self, all: u128) -> u128
-        requires { (i : ℕ) → i < MOST_CPUS → min 1 (counted self.now.words.items i) ≤ bit_at all i }
-        ensures { (i : ℕ) → i < MOST_CPUS → has result i ≡ nat_lt 0 (counted self.now.words.items i) }
+        requires { (i : ℕ) → i < MOST_CPUS → min 1 (count_of self.now i) ≤ bit_at all i }
+        ensures { (i : ℕ) → i < MOST_CPUS → has result i ≡ nat_lt 0 (count_of self.now i) }
     {
-        marked(&self.words, 0, all)
+        match self.words.split_first() {
+            Some((word, rest)) => marked(rest, word ^ (word & self.owed), all),
+            None => 0,
+        }
     }
 }

@@ -6,7 +6,7 @@ ghost use Rattle.gs_status.specs.Masks.{has};
 ghost use Rattle.gs_status.specs.declared.mask.TheConstants.{MOST_CPUS};
 ghost use Rattle.gs_journal.specs.History.{ends_run, placed_on, taken_by};
 ghost use Rattle.gs_journal.specs.Standing.{then_stands};
-ghost use Rattle.gs_usage.specs.Counting.{counted};
+ghost use Rattle.gs_usage.specs.Counting.{count_of};
 ghost use Rattle.gs_usage.specs.Facts.{AreFactsThen, agent_then, use_now};
 ghost use Rattle.gs_usage.specs.Seats.{IsKept, who};
 ghost use Rattle.gs_usage.specs.Uses.{same_use};
@@ -88,12 +88,12 @@ fn note_waiting(
     entry: &Entry,
     change: &WaitChange,
 )
-    requires wanted { (i : ℕ) → i < MOST_CPUS → has wanted.old i ≡ nat_lt 0 (counted waiting.old.words.items i) }
-    requires room { (i : ℕ) → i < MOST_CPUS → counted waiting.old.words.items i + 1 < 2 ^ length waiting.old.words.items }
-    requires covers { (i : ℕ) → i < MOST_CPUS → cond (has change.now.before (first + i)) 1 0 ≤ counted waiting.old.words.items i + cond (has change.now.after (first + i)) 1 0 }
-    ensures counts { (i : ℕ) → i < MOST_CPUS → counted waiting.new.words.items i ≡ waiting_then (first + i) entry.now change.now (counted waiting.old.words.items i) }
-    ensures room { length waiting.new.words.items ≡ length waiting.old.words.items }
-    ensures wanted { (i : ℕ) → i < MOST_CPUS → has wanted.new i ≡ nat_lt 0 (counted waiting.new.words.items i) }
+    requires wanted { (i : ℕ) → i < MOST_CPUS → has wanted.old i ≡ nat_lt 0 (count_of waiting.old i) }
+    requires room { (i : ℕ) → i < MOST_CPUS → count_of waiting.old i + 1 < 2 ^ length waiting.old.words }
+    requires covers { (i : ℕ) → i < MOST_CPUS → cond (has change.now.before (first + i)) 1 0 ≤ count_of waiting.old i + cond (has change.now.after (first + i)) 1 0 }
+    ensures counts { (i : ℕ) → i < MOST_CPUS → count_of waiting.new i ≡ waiting_then (first + i) entry.now change.now (count_of waiting.old i) }
+    ensures room { length waiting.new.words ≡ length waiting.old.words }
+    ensures wanted { (i : ℕ) → i < MOST_CPUS → has wanted.new i ≡ nat_lt 0 (count_of waiting.new i) }
 {
     if let Entry::Torn = entry {
         waiting.clear();
@@ -126,9 +126,9 @@ impl Facts {
         ensures agent { IfOk result (λ facts. facts.agent ≡ 0) }
         ensures kept { IfOk result (λ facts. IsKept facts.seats.busy facts.seats.threads.items facts.seats.places.items) }
         ensures busy { IfOk result (λ facts. facts.seats.busy ≡ 0) }
-        ensures waiting { IfOk result (λ facts. (i : ℕ) → counted facts.waiting.words.items i ≡ 0) }
+        ensures waiting { IfOk result (λ facts. (i : ℕ) → count_of facts.waiting i ≡ 0) }
         ensures wanted { IfOk result (λ facts. facts.wanted ≡ 0) }
-        ensures room { IfOk result (λ facts. most < 2 ^ length facts.waiting.words.items) }
+        ensures room { IfOk result (λ facts. most < 2 ^ length facts.waiting.words) }
     {
         let seats = Seats::new(alloc)?;
         let waiting = Counter::new(alloc, most)?;
@@ -153,9 +153,9 @@ impl Facts {
         change: &WaitChange,
     ) -> Result<(), AllocError>
         requires kept { IsKept self.old.seats.busy self.old.seats.threads.items self.old.seats.places.items }
-        requires room { (i : ℕ) → i < MOST_CPUS → counted self.old.waiting.words.items i + 1 < 2 ^ length self.old.waiting.words.items }
-        requires covers { (i : ℕ) → i < MOST_CPUS → cond (has change.now.before (first + i)) 1 0 ≤ counted self.old.waiting.words.items i + cond (has change.now.after (first + i)) 1 0 }
-        requires wanted { (i : ℕ) → i < MOST_CPUS → has self.old.wanted i ≡ nat_lt 0 (counted self.old.waiting.words.items i) }
+        requires room { (i : ℕ) → i < MOST_CPUS → count_of self.old.waiting i + 1 < 2 ^ length self.old.waiting.words }
+        requires covers { (i : ℕ) → i < MOST_CPUS → cond (has change.now.before (first + i)) 1 0 ≤ count_of self.old.waiting i + cond (has change.now.after (first + i)) 1 0 }
+        requires wanted { (i : ℕ) → i < MOST_CPUS → has self.old.wanted i ≡ nat_lt 0 (count_of self.old.waiting i) }
         ensures { OnOk result (AreFactsThen first entry.now change.now self.old self.new) }
     {
         (self.taken, self.agent) = led_then(first, self.taken, self.agent, entry);
@@ -166,7 +166,7 @@ impl Facts {
 
     /// Returns the CPUs by what they are used for.
     pub(crate) fn sets(&self) -> Sets
-        requires { (i : ℕ) → i < MOST_CPUS → has self.now.wanted i ≡ nat_lt 0 (counted self.now.waiting.words.items i) }
+        requires { (i : ℕ) → i < MOST_CPUS → has self.now.wanted i ≡ nat_lt 0 (count_of self.now.waiting i) }
         ensures other { (i : ℕ) → i < MOST_CPUS → has result.other i ≡ same_use Other (use_now self.now i) }
         ensures agent { (i : ℕ) → i < MOST_CPUS → has result.agent i ≡ same_use Agent (use_now self.now i) }
         ensures busy { (i : ℕ) → i < MOST_CPUS → has result.busy i ≡ same_use Busy (use_now self.now i) }

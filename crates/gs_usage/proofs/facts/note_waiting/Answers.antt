@@ -3,7 +3,7 @@ use Rattle.std.specs.Int.{bit_at}
 use Rattle.std.proofs.lemmas.Bool.Decides.{nat_tests}
 use Rattle.std.proofs.lemmas.Nat.Bits.{bit_at-zero}
 use Rattle.gs_status.specs.Masks.{has}
-use Rattle.gs_usage.specs.Counting.{counted}
+use Rattle.gs_usage.specs.Counting.{count_of}
 use Rattle.gs_usage.proofs.Bits.{bit_is}
 use Rattle.gs_usage.proofs.Hearing.{stands}
 use Rattle.gs_usage.proofs.facts.note_waiting.Goals as goal
@@ -40,13 +40,13 @@ take-requires c = λ i lt.
 
 pub marked-requires : goal.marked-requires
 marked-requires c = λ i lt.
-    let was = counted c.args.waiting.now.words.items i in
+    let was = count_of c.args.waiting.now i in
     let after = bit_at c.in_block-after.result i in
     let more = c.add.ensures.counts i lt in
     let less = c.take.ensures.counts i lt in
     let most : bit_at c.either-most.result i ≡ cond (nat_lt 0 (was + after)) 1 0 =
     in_block_bit c.either-most.result i _ (most_is c.args.wanted.now c.in_block-after.result c.either-most.result i was (c.requires.wanted i lt) (c.either-most.ensures i)) in
-    subst (λ (m : ℕ). min 1 (counted c.take.new.self.words.items i) ≤ m) (sym most) (less_marked (counted c.take.new.self.words.items i) (was + after) (omega (arith, more, less)))
+    subst (λ (m : ℕ). min 1 (count_of c.take.new.self i) ≤ m) (sym most) (less_marked (count_of c.take.new.self i) (was + after) (omega (arith, more, less)))
 
 pub returns-then-before-eq0 : goal.returns-then-before-eq0
 returns-then-before-eq0 c = record {
@@ -54,17 +54,17 @@ returns-then-before-eq0 c = record {
       λ i lt.
       let after = cond (has c.args.change.now.after (c.args.first + i)) 1 0 in
       let before = cond (has c.args.change.now.before (c.args.first + i)) 1 0 in
-      let was = counted c.args.waiting.now.words.items i in
+      let was = count_of c.args.waiting.now i in
       let one = in_block_bit c.in_block-after.result i _ (c.in_block-after.ensures i) in
       let less = in_block_bit c.in_block-before.result i _ (c.in_block-before.ensures i) in
       let none : bit_at c.in_block-before.result i ≡ 0 = ap (λ (m : ℕ). bit_at m i) c.if-before-eq0.true ∙ bit_at-zero i in
       let more = c.add.ensures.counts i lt in
-      let value : counted c.add.new.self.words.items i ≡ (was + after) - before = omega (arith, one, less, none, more) in
+      let value : count_of c.add.new.self i ≡ (was + after) - before = omega (arith, one, less, none, more) in
       value ∙ sym (ap (λ (b : Bool). cond b 0 ((was + after) - before)) (stands c.args.entry.now c.in_default.not-Torn));
   room = c.add.ensures.room;
   wanted =
       λ i lt.
-      most_is c.args.wanted.now c.in_block-after.result c.either-most.result i (counted c.args.waiting.now.words.items i) (c.requires.wanted i lt) (c.either-most.ensures i)
+      most_is c.args.wanted.now c.in_block-after.result c.either-most.result i (count_of c.args.waiting.now i) (c.requires.wanted i lt) (c.either-most.ensures i)
       ∙ ap (nat_lt 0) (sym (c.add.ensures.counts i lt));
 }
 
@@ -74,12 +74,12 @@ returns-else-before-eq0 c = record {
       λ i lt.
       let after = cond (has c.args.change.now.after (c.args.first + i)) 1 0 in
       let before = cond (has c.args.change.now.before (c.args.first + i)) 1 0 in
-      let was = counted c.args.waiting.now.words.items i in
+      let was = count_of c.args.waiting.now i in
       let one = in_block_bit c.in_block-after.result i _ (c.in_block-after.ensures i) in
       let left = in_block_bit c.in_block-before.result i _ (c.in_block-before.ensures i) in
       let more = c.add.ensures.counts i lt in
       let less = c.take.ensures.counts i lt in
-      let value : counted c.take.new.self.words.items i ≡ (was + after) - before = omega (arith, one, left, more, less) in
+      let value : count_of c.take.new.self i ≡ (was + after) - before = omega (arith, one, left, more, less) in
       value ∙ sym (ap (λ (b : Bool). cond b 0 ((was + after) - before)) (stands c.args.entry.now c.in_default.not-Torn));
   room = c.take.ensures.room ∙ c.add.ensures.room;
   wanted = λ i lt. c.marked.ensures i lt;

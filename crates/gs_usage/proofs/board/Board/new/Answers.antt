@@ -17,7 +17,7 @@ returns-clause-board c =
     let long = c.len-most.ensures.value in
     record {
       waits = subst (AreThreads h 0) none (threads_none h);
-      are = subst (λ (ts : ThreadsOf). AreFacts h 0 first ts c.in_ok-new.field-0) none (facts_none h first c.in_ok-new.field-0 made.taken made.agent made.busy made.kept made.waiting made.wanted (subst (λ (n : ℕ). n < 2 ^ length c.in_ok-new.field-0.waiting.words.items) long made.room));
+      are = subst (λ (ts : ThreadsOf). AreFacts h 0 first ts c.in_ok-new.field-0) none (facts_none h first c.in_ok-new.field-0 made.taken made.agent made.busy made.kept made.waiting made.wanted (subst (λ (n : ℕ). n < 2 ^ length c.in_ok-new.field-0.waiting.words) long made.room));
       others = tally_none h first 0 Other c.in_ok-new-2.field-0 c.in_ok-new-2.ensures.set c.in_ok-new-2.ensures.entries c.in_ok-new-2.ensures.ticks c.in_ok-new-2.ensures.since (subst (λ (n : ℕ). HasRoom n c.in_ok-new-2.field-0) long c.in_ok-new-2.ensures.room) (λ i small. nobody i);
       agents = tally_none h first 0 Agent c.in_ok-new-3.field-0 c.in_ok-new-3.ensures.set c.in_ok-new-3.ensures.entries c.in_ok-new-3.ensures.ticks c.in_ok-new-3.ensures.since (subst (λ (n : ℕ). HasRoom n c.in_ok-new-3.field-0) long c.in_ok-new-3.ensures.room) (λ i small. nobody i);
       runs = tally_none h first 0 Busy c.in_ok-new-4.field-0 c.in_ok-new-4.ensures.set c.in_ok-new-4.ensures.entries c.in_ok-new-4.ensures.ticks c.in_ok-new-4.ensures.since (subst (λ (n : ℕ). HasRoom n c.in_ok-new-4.field-0) long c.in_ok-new-4.ensures.room) (λ i small. nobody i);
