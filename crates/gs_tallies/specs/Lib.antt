@@ -1,7 +1,8 @@
 pub mod Spreads
 pub mod Tallies
 pub mod Groups
-pub mod Lazily
+pub mod Chains
+pub mod Each
 pub mod Accounts
 pub mod Drafts
 pub mod Threads

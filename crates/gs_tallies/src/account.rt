@@ -2,6 +2,7 @@ ghost use Rattle.std.specs.Prelude.{◌≡◌, ◌<◌, IfOk, length};
 ghost use Rattle.std.specs.List.{AllZip};
 ghost use Rattle.gs_tallies.specs.Accounts.{IsAccountOfClass, classes};
 ghost use Rattle.gs_tallies.specs.Drafts.{IsAccountIn};
+ghost use Rattle.gs_tallies.specs.Tallies.{no_tally};
 
 use crate::group::grouped;
 use crate::grouping::ByClass;
@@ -22,6 +23,22 @@ pub struct Account {
     pub tally: Tally,
     /// How many slots came to each outcome, in the place of its number.
     pub landings: [usize; OUTCOMES as usize],
+}
+
+impl Account {
+    /// That of nobody.
+    pub fn none() -> Account
+        ensures class { result.class ≡ None }
+        ensures tid { result.tid ≡ None }
+        ensures tally { result.tally ≡ no_tally }
+    {
+        Account {
+            class: None,
+            tid: None,
+            tally: Tally::none(),
+            landings: [0; OUTCOMES as usize],
+        }
+    }
 }
 
 /// Returns what the things of the groups of a place come to: those of a class, or of one thread of that class.

@@ -2,10 +2,11 @@
 #![tactic(auto)]
 
 mod account;
+mod chains;
+mod each;
 mod group;
 mod grouping;
 mod landings;
-mod lazy;
 mod spread;
 mod sums;
 mod tally;
@@ -13,6 +14,7 @@ mod thread;
 mod threads;
 
 pub use account::{Account, class_accounts};
+pub use each::{EachThread, Scratch};
 pub use spread::Spread;
 pub use sums::Sums;
 pub use tally::Tally;

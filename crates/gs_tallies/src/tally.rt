@@ -1,4 +1,4 @@
-ghost use Rattle.std.specs.Prelude.{◌≡◌, List, IfOk, OnOk, map};
+ghost use Rattle.std.specs.Prelude.{◌≡◌, List, [], IfOk, OnOk, map};
 ghost use Rattle.gs_turns.specs.declared.turn.Turn.{Turn};
 ghost use Rattle.gs_tallies.specs.Drafts.{IsTurnDraft, entries_in, ticks_in, wait_of};
 ghost use Rattle.gs_tallies.specs.Tallies.{IsTally, no_tally};
@@ -94,6 +94,14 @@ impl Tally {
 }
 
 impl TurnDraft {
+    /// Is of no turns from now on. The memory is kept.
+    pub(crate) fn clear(&mut self)
+        ensures { IsTurnDraft [] self.new }
+    {
+        self.sums = Sums::none();
+        self.waits.clear();
+    }
+
     /// Returns what the turns come to. It sorts their waits in a list that is given, whatever that holds.
     ///
     /// # Errors
