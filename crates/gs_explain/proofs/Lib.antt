@@ -1,5 +1,6 @@
 mod Heard
 mod Grown
+mod Happened
 mod Told
 mod Overflows
 mod Values
@@ -12,8 +13,8 @@ mod WorkedRows
 mod Stamps
 mod Lasting
 mod Retelling
+mod Rowing
 mod RowsAgain
 mod Keeping
-mod RefusedTold
 pub mod Knowing
 pub mod Sentences

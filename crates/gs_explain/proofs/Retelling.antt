@@ -6,8 +6,13 @@ use Rattle.std.proofs.KnownBytes.{Appends-nil, Appends-trans}
 use Rattle.std.proofs.lemmas.List.{drop-append-le, take-append-le, length-append, length-drop, take_rest}
 use Rattle.std.proofs.Math.Seq.{take-append-add, drop-length}
 use Rattle.std.proofs.Math.ListN.{drop_of_length-le}
-use Rattle.gs_explain.specs.declared.again.Again.{Again}
-use Rattle.gs_explain.specs.Retold.{IsBegun, IsWithin, Leads, Moves, numbered, part, retold, told_again}
+use Rattle.gs_sentences.specs.declared.tail.Tail.{Tail}
+use Rattle.gs_sentences.specs.declared.tail.Tail.TheVariants as tails
+use Rattle.gs_sentences.specs.Parts.{part}
+use Rattle.gs_sentences.specs.Tails.{Stands, tail_text}
+use Rattle.gs_explain.specs.declared.piece.Piece.{Piece}
+use Rattle.gs_explain.specs.Retold.{IsBegun, IsWithin, Leads, Moves, piece_text, retold}
+use Rattle.gs_explain.specs.Rows.{heading}
 
 -- a part of a text that grows is the same
 pub part_more : (from to : ℕ) (text more : List ℕ) → from ≤ length text → to ≤ length text → part from to (text ++ more) ≡ part from to text
@@ -15,32 +20,40 @@ part_more from to text more begins ends =
     let short : to - from ≤ length (drop from text) = omega (arith, ends, length-drop from text) in
     ap (take (to - from)) (drop-append-le from text more begins) ∙ take-append-le (to - from) (drop from text) more short
 
--- what is told again of it is the same
-again_more : (a : Again) (text more : List ℕ) → IsWithin (length text) a → told_again a (text ++ more) ≡ told_again a text
-again_more a text more within = ap (λ bytes. numbered a.number ++ bytes) (part_more a.from a.to text more (omega (arith, within.some, within.to)) within.to)
+-- a row, for where none is
+abbrev pub nothing : Piece
+nothing = record { line = record { ref_ptr = (0, 0); now = [] }; tail = tails.Part 0 0; at = 0; number = 0 }
+
+-- what is told of it is the same
+tail_more : (t : Tail) (text more : List ℕ) → Stands (length text) t → tail_text (text ++ more) t ≡ tail_text text t
+tail_more (tails.Part from to) text more s = part_more from to text more (omega (arith, s.0, s.1)) s.1
+tail_more _ text more s = refl
+
+piece_more : (p : Piece) (text more : List ℕ) → IsWithin (length text) p → piece_text p (text ++ more) ≡ piece_text p text
+piece_more p text more within = ap (λ bytes. heading (p.number, p.line.now) ++ bytes) (tail_more p.tail text more within.tail)
 
 longer : (xs vs ys ws zs us more : List ℕ) → xs ≡ vs → ys ≡ ws → zs ≡ us ++ more → xs ++ (ys ++ zs) ≡ (vs ++ (ws ++ us)) ++ more
 longer xs vs ys ws zs us more e f g =
     (λ i. e i ++ (f i ++ g i)) ∙ (ap (λ t. vs ++ t) (sym (append_assoc ws us more)) ∙ sym (append_assoc vs (ws ++ us) more))
 
 -- what is told of a text that grows at its end
-pub retold_more : (done : ℕ) (agains : List Again) (text more : List ℕ) → done ≤ length text → All (IsWithin (length text)) agains → retold done agains (text ++ more) ≡ retold done agains text ++ more
+pub retold_more : (done : ℕ) (pieces : List Piece) (text more : List ℕ) → done ≤ length text → All (IsWithin (length text)) pieces → retold done pieces (text ++ more) ≡ retold done pieces text ++ more
 retold_more done [] text more le within = drop-append-le done text more le
-retold_more done (a ∷ rest) text more le within =
-    let first : IsWithin (length text) a = within 0 a (omega arith) in
+retold_more done (p ∷ rest) text more le within =
+    let first : IsWithin (length text) p = within 0 p (omega arith) in
     let others : All (IsWithin (length text)) rest = λ k d lt. within (suc k) d (omega (arith, lt)) in
-    let here : part done a.at (text ++ more) ≡ part done a.at text = part_more done a.at text more le first.at in
-    let again : told_again a (text ++ more) ≡ told_again a text = again_more a text more first in
-    let then : retold a.at rest (text ++ more) ≡ retold a.at rest text ++ more = retold_more a.at rest text more first.at others in
+    let here : part done p.at (text ++ more) ≡ part done p.at text = part_more done p.at text more le first.at in
+    let again : piece_text p (text ++ more) ≡ piece_text p text = piece_more p text more first in
+    let then : retold p.at rest (text ++ more) ≡ retold p.at rest text ++ more = retold_more p.at rest text more first.at others in
     longer _ _ _ _ _ _ more here again then
 
 -- one more is told at the end
-pub retold_one : (done : ℕ) (agains : List Again) (a : Again) (text : List ℕ) → a.at ≡ length text → retold done (agains ++ a ∷ []) text ≡ retold done agains text ++ told_again a text
-retold_one done [] a text e =
-    let all : part done a.at text ≡ drop done text = (λ i. take (e i - done) (drop done text)) ∙ take_rest text done in
-    let none : drop a.at text ≡ [] = (λ i. drop (e i) text) ∙ drop-length text in
-    rw (all, none, append-nil)
-retold_one done (b ∷ rest) a text e = longer (part done b.at text) (part done b.at text) (told_again b text) (told_again b text) (retold b.at (rest ++ a ∷ []) text) (retold b.at rest text) (told_again a text) refl refl (retold_one b.at rest a text e)
+pub retold_one : (done : ℕ) (pieces : List Piece) (p : Piece) (text : List ℕ) → p.at ≡ length text → retold done (pieces ++ p ∷ []) text ≡ retold done pieces text ++ piece_text p text
+retold_one done [] p text e =
+    let all : part done p.at text ≡ drop done text = (λ i. take (e i - done) (drop done text)) ∙ take_rest text done in
+    let none : drop p.at text ≡ [] = (λ i. drop (e i) text) ∙ drop-length text in
+    (λ i. all i ++ (piece_text p text ++ none i)) ∙ ap (λ t. drop done text ++ t) (append-nil (piece_text p text))
+retold_one done (b ∷ rest) p text e = longer (part done b.at text) (part done b.at text) (piece_text b text) (piece_text b text) (retold b.at (rest ++ p ∷ []) text) (retold b.at rest text) (piece_text p text) refl refl (retold_one b.at rest p text e)
 
 -- bytes are added behind others
 pub moves_then : (a b c : Option (List ℕ)) (block bytes left more rest : List ℕ) → Moves a block bytes b left → Moves b left more c rest → Moves a block (bytes ++ more) c rest
@@ -111,18 +124,18 @@ on_err (Ok x) q = tt
 on_err (Err e) q = q
 
 -- the part that is told next, what is told again, and the rest
-pub next_told : (done : ℕ) (agains : List Again) (i : ℕ) (d : Again) (text : List ℕ) → i < length agains
-    → retold done (drop i agains) text ≡ part done (get_or agains i d).at text ++ (told_again (get_or agains i d) text ++ retold (get_or agains i d).at (drop (i + 1) agains) text)
-next_told done agains i d text lt = rw (add-one, drop-cons agains i d)
+pub next_told : (done : ℕ) (pieces : List Piece) (i : ℕ) (d : Piece) (text : List ℕ) → i < length pieces
+    → retold done (drop i pieces) text ≡ part done (get_or pieces i d).at text ++ (piece_text (get_or pieces i d) text ++ retold (get_or pieces i d).at (drop (i + 1) pieces) text)
+next_told done pieces i d text lt = rw (add-one, drop-cons pieces i d)
 
 -- what is left, by the part that is told next
-pub leads_next : (a b : Option (List ℕ)) (whole block : List ℕ) (done : ℕ) (agains : List Again) (i : ℕ) (d : Again) (text : List ℕ) → i < length agains → Leads a whole b (block ++ retold done (drop i agains) text)
-    → Leads a whole b (block ++ (part done (get_or agains i d).at text ++ (told_again (get_or agains i d) text ++ retold (get_or agains i d).at (drop (i + 1) agains) text)))
-leads_next a b whole block done agains i d text lt leads = subst (λ t. Leads a whole b (block ++ t)) (next_told done agains i d text lt) leads
+pub leads_next : (a b : Option (List ℕ)) (whole block : List ℕ) (done : ℕ) (pieces : List Piece) (i : ℕ) (d : Piece) (text : List ℕ) → i < length pieces → Leads a whole b (block ++ retold done (drop i pieces) text)
+    → Leads a whole b (block ++ (part done (get_or pieces i d).at text ++ (piece_text (get_or pieces i d) text ++ retold (get_or pieces i d).at (drop (i + 1) pieces) text)))
+leads_next a b whole block done pieces i d text lt leads = subst (λ t. Leads a whole b (block ++ t)) (next_told done pieces i d text lt) leads
 
 -- what is left, once all was told again
-pub leads_last : (a b : Option (List ℕ)) (whole block : List ℕ) (done : ℕ) (agains : List Again) (i : ℕ) (text : List ℕ) → length agains ≤ i → Leads a whole b (block ++ retold done (drop i agains) text) → Leads a whole b (block ++ drop done text)
-leads_last a b whole block done agains i text le leads = subst (λ rest. Leads a whole b (block ++ retold done rest text)) (drop_of_length-le agains le) leads
+pub leads_last : (a b : Option (List ℕ)) (whole block : List ℕ) (done : ℕ) (pieces : List Piece) (i : ℕ) (text : List ℕ) → length pieces ≤ i → Leads a whole b (block ++ retold done (drop i pieces) text) → Leads a whole b (block ++ drop done text)
+leads_last a b whole block done pieces i text le leads = subst (λ rest. Leads a whole b (block ++ retold done rest text)) (drop_of_length-le pieces le) leads
 
 pub on_ok : {T E Q : Type 0} (r : Result T E) → Q → OnOk r Q
 on_ok (Ok x) q = q

@@ -2,7 +2,6 @@ pub mod Moment
 pub mod Landings
 pub mod Marked
 pub mod Refusals
-pub mod Gone
 pub mod Retold
 pub mod ToldAgain
 pub mod Commands

@@ -50,19 +50,23 @@ overflow_of e m = record { needs = need m.ring (written m.ring (posted m.history
 abbrev pub overflow_in : Event (Unit {0}) → RingState → Overflow
 overflow_in e r = record { needs = need r.capacity (end r) (size_of e); free = free r }
 
-abbrev pub moment : {A : Type 0} → Noted → Event A → State → Moment
-moment n e m =
+abbrev pub moment_with : Noted → Event (Unit {0}) → State → Moment
+moment_with n e m =
     record {
       lines = n.lines;
       stamped = n.stamped;
       page = n.page;
-      event = bare e;
+      event = e;
       history = m.history;
       transactions = m.transactions;
       slots = map Ok m.slots;
       settings = m.settings;
-      overflow = overflow_of (bare e) m;
+      overflow = overflow_of e m;
     }
+
+-- the same of an event that may name a policy
+abbrev pub moment : {A : Type 0} → Noted → Event A → State → Moment
+moment n e m = moment_with n (bare e) m
 
 -- an entry and the line that added it
 abbrev pub caused : ℕ → Option ℕ → Option Entry → Option Cause

@@ -12,7 +12,7 @@ use Rattle.gs_reasons.specs.Cause.{place_of}
 use Rattle.gs_sentences.specs.Subject.{cpu_of, tid_of}
 use Rattle.gs_sentences.specs.declared.numbers.Numbers.{Numbers}
 use Rattle.gs_sentences.specs.declared.numbers.Waiting.{Waiting}
-use Rattle.gs_sentences.specs.Told.{Cause, Refused}
+use Rattle.gs_sentences.specs.Told.{Refused}
 use Rattle.gs_explain.specs.Moment.{Moment, cause_at}
 use Rattle.gs_explain.specs.Landings.{last_for, line_at}
 
@@ -84,9 +84,6 @@ numbers x f =
       waiting = waiting x f;
     }
 
--- why an event was refused, if this is the reason
-abbrev pub refused_by : Moment → Refusal → Option Cause → Refused
-refused_by x f c = record { refusal = f; event = x.event; cause = c; numbers = numbers x f }
-
+-- why an event was refused
 abbrev pub why_refused : Moment → Refusal → Refused
 why_refused x f = record { refusal = f; event = x.event; cause = cause_at x (place_of (refusal_sign x.event f) x.history); numbers = numbers x f }

@@ -1,30 +1,29 @@
--- A text of which parts are told again.
-use Rattle.std.specs.Prelude.{◌≡◌, ◌<◌, ◌≤◌, ◌-◌, ◌==◌, if◌then◌else◌, ℕ, List, Option, [], ◌∷◌, ◌++◌, codes, decimal, drop, length, take}
+-- A text with rows that are told between.
+use Rattle.std.specs.Prelude.{◌≡◌, ◌<◌, ◌≤◌, true, false, ℕ, List, Option, [], ◌∷◌, ◌++◌, drop, length, take}
 use Rattle.std.specs.Io.KnownBytes.{Appends}
-use Rattle.gs_explain.specs.declared.again.Again.{Again}
+use Rattle.std.specs.Str.{IsUtf8}
+use Rattle.gs_script.specs.Words.{is_text}
+use Rattle.gs_explain.specs.declared.piece.Piece.{Piece}
+use Rattle.gs_sentences.specs.Parts.{part}
+use Rattle.gs_explain.specs.Rows.{heading}
+use Rattle.gs_sentences.specs.declared.tail.Tail.{Tail}
+use Rattle.gs_sentences.specs.Tails.{Stands, is_part, tail_text}
 
--- the bytes of a text from one place to another
-abbrev pub part : ℕ → ℕ → List ℕ → List ℕ
-part from to text = take (to - from) (drop from text)
+-- a row
+abbrev pub piece_text : Piece → List ℕ → List ℕ
+piece_text p text = heading (p.number, p.line.now) ++ tail_text text p.tail
 
--- the number of a script's line, as it stands in front of the line: nothing, if there is none
-abbrev pub numbered : ℕ → List ℕ
-numbered n = if n == 0 then [] else codes "line " ++ decimal n ++ codes ": "
-
--- what is told again
-abbrev pub told_again : Again → List ℕ → List ℕ
-told_again a text = numbered a.number ++ part a.from a.to text
-
--- a text from a place on, with what is told again between
-abbrev pub retold : ℕ → List Again → List ℕ → List ℕ
+-- a text from a place on, with rows between
+abbrev pub retold : ℕ → List Piece → List ℕ → List ℕ
 retold done [] text = drop done text
-retold done (a ∷ rest) text = part done a.at text ++ (told_again a text ++ retold a.at rest text)
+retold done (p ∷ rest) text = part done p.at text ++ (piece_text p text ++ retold p.at rest text)
 
--- what is told again stands in the first bytes of a text, so many
-pub record IsWithin (len : ℕ) (a : Again) : Type 0 where
-  pub at : a.at ≤ len
-  pub some : a.from < a.to
-  pub to : a.to ≤ len
+-- a row is told behind some of the first bytes of a text, so many, and what it tells of the text stands in them
+pub record IsWithin (len : ℕ) (p : Piece) : Type 0 where
+  pub at : p.at ≤ len
+  pub line : is_text p.line.now ≡ true
+  pub short : length p.line.now ≤ 96
+  pub tail : Stands len p.tail
 
 -- of these bytes a beginning was written, short of the whole
 abbrev pub IsBegun : Option (List ℕ) → Option (List ℕ) → List ℕ → Type 0
@@ -37,3 +36,15 @@ Moves before block bytes after left = (sent : List ℕ) × Appends before after 
 -- a beginning of these bytes was written, and the rest is left
 abbrev pub Leads : Option (List ℕ) → List ℕ → Option (List ℕ) → List ℕ → Type 0
 Leads before whole after rest = (sent : List ℕ) × Appends before after sent × (whole ≡ sent ++ rest)
+
+-- a row ends in so many bytes that were told behind a script's line
+pub record EndsIn (told : List ℕ) (len : ℕ) (row : List ℕ) : Type 0 where
+  pub front : List ℕ
+  pub is : row ≡ front ++ told
+  pub size : len ≡ length told
+  pub utf8 : IsUtf8 told
+  pub short : length told ≤ 440
+
+-- that is what was told last, unless that is a part of a text
+abbrev pub Ends : Tail → ℕ → List ℕ → Type 0
+Ends t len row = is_part t ≡ false → (text : List ℕ) → EndsIn (tail_text text t) len row

@@ -1,5 +1,5 @@
 -- What has been explained so far.
-use Rattle.std.specs.Prelude.{◌≡◌, Option, List, [], ◌∷◌, ◌++◌, ℕ, false, Result, Ok}
+use Rattle.std.specs.Prelude.{◌≡◌, ◌≤◌, Option, List, [], ◌∷◌, ◌++◌, ℕ, false, Result, Ok, length, take}
 use Rattle.std.specs.List.{list_any}
 use Rattle.gs_replies.specs.declared.reply.Reply.{Reply}
 use Rattle.gs_core.specs.declared.event.Event.{Event}
@@ -13,6 +13,22 @@ use Rattle.gs_script.specs.Unread.{with_front}
 use Rattle.gs_trace.specs.Noted.{Noted, noted_after}
 use Rattle.gs_explain.specs.Marked.{IsMarked}
 use Rattle.gs_explain.specs.Explained.{Explains, Line, Show, row_of}
+use Rattle.gs_explain.specs.Moment.{moment_with}
+
+-- before an event there were so many entries, all of which an index heard, and so many transactions, of which it is marked which was stamped last for each CPU
+pub record Stood (first stamped : ℕ) (index : Index) (marks : List (Option ℕ)) (next : State) : Type 0 where
+  pub entries : first ≤ length next.history
+  pub heard : HasHeard index (take first next.history)
+  pub transactions : stamped ≤ length next.transactions
+  pub marked : IsMarked marks (take stamped next.transactions)
+
+-- what came of an event of a line was explained: it does not tell that memory ran out, the lines are noted, and an index heard what was added
+pub record TellsOne (show : Show) (n : Noted) (first : ℕ) (x : Line) (e : Event (Unit {0})) (reply : Reply) (next : State) (noted : Noted) (index : Index) (marks : List (Option ℕ)) (old new : List ℕ) : Type 0 where
+  pub sufficed : list_any wants_memory (reply ∷ []) ≡ false
+  pub lines : noted ≡ noted_after x.0 reply next n
+  pub heard : HasHeard index next.history
+  pub marked : IsMarked marks next.transactions
+  pub shown : new ≡ old ++ show x (moment_with (noted_after x.0 reply next n) e next) first reply
 
 -- one event of a line happened and was explained: the reply does not tell that memory ran out, the lines are noted, and an index heard what was added
 pub record ExplainsOne {A : Type 0} (plans : A → Plan) (show : Show) (n : Noted) (m : State) (x : Line) (e : Event A) (next : State) (noted : Noted) (index : Index) (marks : List (Option ℕ)) (old new : List ℕ) : Type 0 where

@@ -6,6 +6,7 @@ use crate::moment::Scene;
 use gs_sentences::Cause;
 
 /// Returns the entry at a place, with the line that added it.
+#[inline(always)]
 pub(crate) fn cause_at<'a>(scene: &Scene<'a>, place: Option<usize>) -> Option<Cause<'a>>
     ensures { causes_given result ≡ cause_at (moment_of scene.now) place }
 {

@@ -51,24 +51,14 @@ fn explain_event<P: Counted + Copy>(
     ensures noted { OnOk result ((known_of lines.new index.new last.new).noted ≡ noted_after line reply.now (planning P.chosen machine.now) (known_of lines.old index.old last.old).noted) }
     ensures knows { OnOk result (Knows (known_of lines.new index.new last.new) (planning P.chosen machine.now)) }
 {
-    let kernel = machine.kernel();
-    let journal = kernel.journal();
     let transactions = machine.transactions();
     let first = lines.entries.len();
     let stamped = lines.stamped.len();
     mark_last(last, transactions, stamped)?;
-    lines.note(line, reply, journal.len(), transactions.len())?;
+    let entries = machine.kernel().journal().len();
+    lines.note(line, reply, entries, transactions.len())?;
     let bare = event.with_policy(());
-    let region = machine.region();
-    let scene = Scene {
-        noted: lines,
-        event: &bare,
-        kernel,
-        region,
-        journal,
-        transactions,
-        last,
-    };
+    let scene = Scene::new(machine, lines, last, &bare);
     let mut page = Page::new(alloc);
     write_shown(&mut page, &scene, index, first, reply)?;
     Ok(page.into_text())

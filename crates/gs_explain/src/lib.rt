@@ -1,11 +1,9 @@
 //! A script explained: each event with its reply, and why it came out so.
 #![tactic(auto)]
 
-mod again;
 mod cause;
 mod content;
 mod explainer;
-mod gone;
 mod hearing;
 mod kept;
 mod landed;
@@ -16,14 +14,16 @@ mod moment;
 mod objects;
 mod overflow;
 mod page;
+mod piece;
+mod pieces;
 mod refused;
 mod row;
 mod rows;
 mod run;
 mod same;
+mod tail;
 mod teller;
 mod telling;
-mod to_tell;
 mod whys;
 
 pub use explainer::Explainer;

@@ -16,13 +16,12 @@ ghost use Rattle.gs_script.specs.Unread.{said_line};
 use crate::moment::Scene;
 use crate::teller::Teller;
 use crate::whys::whys;
-use gs_core::Reply;
-use gs_journal::Entry;
-use gs_kernel::Executed;
+use gs_core::{Items, Reply};
 use gs_layout::Refusal;
 use gs_lines::{Text, write_reply};
 use gs_reasons::Index;
 use gs_script::SaidLine;
+use gs_trace::Came;
 use serde_json::{Value, json};
 use std::alloc::{AllocError, Global};
 use std::marker::Model;
@@ -157,40 +156,41 @@ impl Objects {
     }
 }
 
-impl Teller for Objects {
+impl<'a> Teller<'a> for Objects {
     ghost bytes = { λ objects. objects };
 
     ghost show = { object_row };
 
     fn row(
         &mut self,
-        said: &SaidLine<'_>,
+        said: &SaidLine<'a>,
         scene: &Scene<'_>,
         index: &mut Index,
         first: usize,
-        reply: &Reply,
+        came: Came<'_>,
     ) -> Result<(), AllocError> {
-        write_object(self, said, scene, index, first, reply)
+        let reply = match came {
+            Came::Executed(Ok(executed), last) => Reply::executed(executed, last),
+            Came::Executed(Err(refusal), _) | Came::Refused(refusal) => Reply::Refused(refusal),
+            Came::Drained(drained) => Reply::Drained(drained),
+            Came::Stamped { number, .. } => Reply::Stamped { number },
+            Came::Landed(landings, torn) => {
+                let landings = Items::new(landings.to_vec(self.alloc)?);
+                Reply::Landed { landings, torn }
+            }
+            Came::Replied(reply) => return write_object(self, said, scene, index, first, reply),
+        };
+        write_object(self, said, scene, index, first, &reply)
     }
 
-    fn command_row(
+    fn refused_row(
         &mut self,
-        said: &SaidLine<'_>,
+        said: &SaidLine<'a>,
         scene: &Scene<'_>,
         index: &mut Index,
         first: usize,
-        came: Result<Executed, Refusal>,
-        last: &Entry,
+        refusal: Refusal,
     ) -> Result<(), AllocError> {
-        match came {
-            Ok(executed) => {
-                let reply = Reply::executed(executed, last);
-                write_object(self, said, scene, index, first, &reply)
-            }
-            Err(refusal) => {
-                let reply = Reply::Refused(refusal);
-                write_object(self, said, scene, index, first, &reply)
-            }
-        }
+        write_object(self, said, scene, index, first, &Reply::Refused(refusal))
     }
 }

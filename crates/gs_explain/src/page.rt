@@ -3,22 +3,25 @@
 ghost use Rattle.std.specs.Prelude.{◌≡◌, ◌++◌, Some, OnOk, [], true};
 ghost use Rattle.gs_lines.specs.Lines.{landing_text, late_text, line, reply_lines, torn_line};
 ghost use Rattle.gs_replies.specs.Replies.{reply_of};
+ghost use Rattle.gs_replies.specs.declared.reply.Reply.TheVariants as replies;
 ghost use Rattle.gs_script.specs.Words.{is_text};
 ghost use Rattle.gs_sentences.specs.Given.{landed_given, reason_given, refused_given};
 ghost use Rattle.gs_sentences.specs.Reason as reasons;
 ghost use Rattle.gs_explain.specs.Landings.{because};
-ghost use Rattle.gs_explain.specs.Gone.{torn_since};
 ghost use Rattle.gs_explain.specs.Rows.{added, heading, none_shown};
 ghost use Rattle.gs_script.specs.Unread.{said_line};
 
-use crate::gone::GoneLine;
+use gs_agent::Drained;
 use gs_core::Reply;
 use gs_journal::Entry;
 use gs_kernel::{Executed, Landing};
 use gs_layout::Refusal;
-use gs_lines::{Text, write_executed, write_landing, write_late, write_reply, write_torn};
+use gs_lines::{
+    Text, write_drained, write_executed, write_landing, write_late, write_refused, write_reply,
+    write_stamped, write_torn,
+};
 use gs_script::SaidLine;
-use gs_sentences::{Cause, Landed, Reason, Refused, Sentence, put_landed, put_reason, put_refused};
+use gs_sentences::{Landed, Reason, Refused, Sentence, put_landed, put_reason, put_refused};
 use std::alloc::{AllocError, Global};
 use std::marker::Model;
 
@@ -28,7 +31,6 @@ use std::marker::Model;
 pub(crate) struct Page {
     text: Text,
     sentence: Sentence,
-    gone: GoneLine,
 }
 
 impl Model for Page {
@@ -47,7 +49,6 @@ impl Page {
         Page {
             text: Text::new(alloc),
             sentence: Sentence::new(),
-            gone: GoneLine::new(),
         }
     }
 
@@ -63,15 +64,12 @@ impl Page {
     pub(crate) fn into_text(self) -> Text
         ensures { result ≡ self }
     {
-        let Page {
-            text,
-            sentence: _,
-            gone: _,
-        } = self;
+        let Page { text, sentence: _ } = self;
         text
     }
 
     /// Adds a script's line, with its number.
+    #[inline(always)]
     #[tactic(auto, using(gs_script::proofs::Texts::text_is_utf8))]
     pub(crate) fn heading(&mut self, said: &SaidLine<'_>) -> Result<(), AllocError>
         requires { is_text said.now.bytes.now ≡ true }
@@ -98,6 +96,27 @@ impl Page {
         ensures { OnOk result (self.new ≡ self.old ++ reply_lines (reply_of came last.now)) }
     {
         write_executed(&mut self.text, came, last)
+    }
+
+    /// Adds the line of a refusal.
+    pub(crate) fn refusal(&mut self, refusal: Refusal) -> Result<(), AllocError>
+        ensures { OnOk result (self.new ≡ self.old ++ reply_lines (replies.Refused refusal)) }
+    {
+        write_refused(&mut self.text, refusal)
+    }
+
+    /// Adds the line of a drain.
+    pub(crate) fn drained(&mut self, drained: &Drained) -> Result<(), AllocError>
+        ensures { OnOk result (self.new ≡ self.old ++ reply_lines (replies.Drained drained.now)) }
+    {
+        write_drained(&mut self.text, drained)
+    }
+
+    /// Adds the line of a transaction that was stamped.
+    pub(crate) fn stamped(&mut self, number: u32) -> Result<(), AllocError>
+        ensures { OnOk result (self.new ≡ self.old ++ reply_lines (replies.Stamped number)) }
+    {
+        write_stamped(&mut self.text, number)
     }
 
     /// Adds the line of a landing.
@@ -168,15 +187,6 @@ impl Page {
         put_refused(&mut self.sentence, refused);
         self.sentence.put("  ");
         self.text.append(self.sentence.as_bytes())
-    }
-
-    /// Adds that something went with the enclave, in a line of its own, by the entry that tore it down.
-    #[inline(always)]
-    pub(crate) fn gone(&mut self, cause: &Cause<'_>) -> Result<(), AllocError>
-        ensures { OnOk result (self.new ≡ self.old ++ torn_since cause.now.line cause.now.place) }
-    {
-        self.gone.tell(cause);
-        self.text.append(self.gone.as_bytes())
     }
 
     /// Adds a reason in a line of its own.

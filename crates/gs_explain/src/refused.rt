@@ -4,9 +4,10 @@ ghost use Rattle.std.specs.Prelude.{◌≡◌, ◌<◌, IfSome, length};
 ghost use Rattle.gs_reasons.specs.Cause.{place_of};
 ghost use Rattle.gs_reasons.specs.Kept.{HasHeard};
 ghost use Rattle.gs_sentences.specs.Given.{causes_given, refused_given};
-ghost use Rattle.gs_explain.specs.Moment.{moment_of};
+ghost use Rattle.gs_explain.specs.Moment.{cause_at, moment_of};
 ghost use Rattle.gs_explain.specs.Marked.{IsMarked};
-ghost use Rattle.gs_explain.specs.Refusals.{least_stamped, no_thread_sign, numbers, refusal_sign, refused_by, spent_sign, waiting, waiting_by, waits, waits_on, why_refused};
+ghost use Rattle.gs_explain.specs.Refusals.{least_stamped, no_thread_sign, numbers, refusal_sign, spent_sign, waiting, waiting_by, waits, waits_on, why_refused};
+ghost use Rattle.gs_sentences.specs.Subject.{cpu_of, tid_of};
 ghost use Rattle.gs_slots.specs.Reading.{states_in};
 ghost use Rattle.gs_slots.specs.State.{has_stamp};
 
@@ -21,41 +22,48 @@ use gs_sentences::{Cause, Numbers, Refused, Waiting, cpu_of, tid_of};
 use gs_slots::{Malformed, Region, SlotState};
 
 /// Returns what the reason is a sign of why there is no such thread.
-fn no_thread_sign(event: &Event<()>) -> Option<Sign>
+#[inline(always)]
+fn no_thread_sign(event: &Event<()>, tid: u32) -> Option<Sign>
+    requires { tid ≡ tid_of event.now }
     ensures { result ≡ no_thread_sign event.now }
 {
     match event {
         Event::Stamp { .. } => None,
-        _ => Some(Sign::Death { tid: tid_of(event) }),
+        _ => Some(Sign::Death { tid }),
     }
 }
 
 /// Returns what the reason is a sign of why sequence numbers are spent.
-fn spent_sign(event: &Event<()>) -> Sign
+#[inline(always)]
+fn spent_sign(event: &Event<()>, tid: u32, cpu: u16) -> Sign
+    requires tid { tid ≡ tid_of event.now }
+    requires cpu { cpu ≡ cpu_of event.now }
     ensures { result ≡ spent_sign event.now }
 {
     match event {
         Event::Kernel {
-            command: Command::Thread { tid, .. },
-        } => Sign::About { tid: *tid },
-        _ => Sign::Seat { cpu: cpu_of(event) },
+            command: Command::Thread { .. },
+        } => Sign::About { tid },
+        _ => Sign::Seat { cpu },
     }
 }
 
-/// Returns what the reason of a refusal is a sign of, or `None` if no one entry is the reason.
-fn refusal_sign(event: &Event<()>, refusal: Refusal) -> Option<Sign>
+/// Returns what the reason of a refusal is a sign of, by the thread and the CPU that the event names, or `None` if no one entry is the
+/// reason.
+#[inline(always)]
+pub(crate) fn sign_by(event: &Event<()>, tid: u32, cpu: u16, refusal: Refusal) -> Option<Sign>
+    requires tid { tid ≡ tid_of event.now }
+    requires cpu { cpu ≡ cpu_of event.now }
     ensures { result ≡ refusal_sign event.now refusal }
 {
-    let tid = tid_of(event);
-    let cpu = cpu_of(event);
     match refusal {
-        Refusal::NoThread => no_thread_sign(event),
+        Refusal::NoThread => no_thread_sign(event, tid),
         Refusal::NotRunning => Some(Sign::Off { tid }),
         Refusal::NotBlocked => Some(Sign::Runs { tid }),
         Refusal::AgentThere | Refusal::NotActive | Refusal::StillAttached | Refusal::NotAttaching =>
             Some(Sign::Agent),
         Refusal::CpuTaken | Refusal::NotTaken => Some(Sign::Held { cpu }),
-        Refusal::SeqSpent => Some(spent_sign(event)),
+        Refusal::SeqSpent => Some(spent_sign(event, tid, cpu)),
         Refusal::GenSpent => Some(Sign::Generation),
         Refusal::TidsSpent => Some(Sign::Created),
         Refusal::Gone => Some(Sign::TornDown),
@@ -78,6 +86,19 @@ fn place_of(index: &Index, scene: &Scene<'_>, sign: Option<Sign>) -> Option<usiz
         Some(sign) => index.last(&sign),
         None => None,
     }
+}
+
+/// Returns the last entry that says something of this, if it is asked for and there is one.
+#[inline(always)]
+pub(crate) fn cause_of<'a>(
+    scene: &Scene<'a>,
+    index: &Index,
+    sign: Option<Sign>,
+) -> Option<Cause<'a>>
+    requires { HasHeard index.now scene.now.journal.now.entries }
+    ensures { causes_given result ≡ cause_at (moment_of scene.now) (place_of sign scene.now.journal.now.entries) }
+{
+    cause_at(scene, place_of(index, scene, sign))
 }
 
 /// Returns the transaction that waits in the slot of a CPU, by its place.
@@ -174,36 +195,6 @@ fn numbers(scene: &Scene<'_>, refusal: Refusal) -> Numbers
     }
 }
 
-/// Returns the last entry that made a refusal so, if one did.
-#[inline(always)]
-pub(crate) fn cause_of<'a>(scene: &Scene<'a>, index: &Index, refusal: Refusal) -> Option<Cause<'a>>
-    requires { HasHeard index.now scene.now.journal.now.entries }
-    ensures { causes_given result ≡ (why_refused (moment_of scene.now) refusal).cause }
-{
-    cause_at(
-        scene,
-        place_of(index, scene, refusal_sign(scene.event, refusal)),
-    )
-}
-
-/// Returns why an event was refused, by the entry that is the reason.
-#[inline(always)]
-pub(crate) fn refused_by<'a>(
-    scene: &Scene<'a>,
-    refusal: Refusal,
-    cause: Option<Cause<'a>>,
-) -> Refused<'a>
-    requires { IsMarked scene.now.last.now.places.items scene.now.transactions.now }
-    ensures { refused_given result ≡ refused_by (moment_of scene.now) refusal (causes_given cause.entry) }
-{
-    Refused {
-        refusal,
-        event: scene.event,
-        cause,
-        numbers: numbers(scene, refusal),
-    }
-}
-
 /// Returns why an event was refused.
 #[inline(always)]
 pub(crate) fn why_refused<'a>(scene: &Scene<'a>, index: &Index, refusal: Refusal) -> Refused<'a>
@@ -211,5 +202,12 @@ pub(crate) fn why_refused<'a>(scene: &Scene<'a>, index: &Index, refusal: Refusal
     requires marked { IsMarked scene.now.last.now.places.items scene.now.transactions.now }
     ensures { refused_given result ≡ why_refused (moment_of scene.now) refusal }
 {
-    refused_by(scene, refusal, cause_of(scene, index, refusal))
+    let event = scene.event;
+    let sign = sign_by(event, tid_of(event), cpu_of(event), refusal);
+    Refused {
+        refusal,
+        event,
+        cause: cause_of(scene, index, sign),
+        numbers: numbers(scene, refusal),
+    }
 }

@@ -1,39 +1,41 @@
 //! The rows of all events of a script.
 
-ghost use Rattle.std.specs.Prelude.{◌≡◌, ◌≤◌, ◌++◌, ◌<◌, ◌∷◌, [], ℕ, List, true, false, IfOk, IsOk, IfSome, OnOk, OnErr, length, take};
+ghost use Rattle.std.specs.Prelude.{◌≡◌, ◌≤◌, ◌++◌, ◌∷◌, [], None, true, false, IfOk, IsOk, IfSome, Ok, OnOk, OnErr, length, take};
 ghost use Rattle.std.specs.Io.KnownBytes.{Appends};
-ghost use Rattle.gs_layout.specs.declared.refusal.Refusal.TheVariants as refusals;
 ghost use Rattle.gs_reasons.specs.Kept.{HasHeard};
 ghost use Rattle.gs_replies.specs.Replies.{reply_of};
 ghost use Rattle.gs_replies.specs.declared.reply.Reply.TheVariants as replies;
 ghost use Rattle.gs_script.specs.Words.{is_text};
 ghost use Rattle.gs_script.specs.Unread.{said_line};
-ghost use Rattle.gs_sentences.specs.Given.{causes_given};
+ghost use Rattle.gs_sentences.specs.Given.{landed_given};
+ghost use Rattle.gs_sentences.specs.Refused.{refused_text};
 ghost use Rattle.gs_explain.specs.Marked.{IsMarked};
 ghost use Rattle.gs_explain.specs.Moment.{moment_of};
-ghost use Rattle.gs_explain.specs.Refusals.{refused_by};
+ghost use Rattle.gs_explain.specs.Refusals.{why_refused};
 ghost use Rattle.gs_explain.specs.Retold.{IsBegun, retold};
 ghost use Rattle.gs_explain.specs.Rows.{heading, row};
-ghost use Rattle.gs_explain.specs.ToldAgain.{AreHeld, CanBeTold, is_kept_out, kept_put, refused_told, told_of, told_text};
-ghost use Rattle.gs_explain.specs.declared.content.Told.TheVariants as tolds;
+ghost use Rattle.gs_sentences.specs.Tails.{IsTail};
+ghost use Rattle.gs_trace.specs.Came.{reply_in};
+ghost use Rattle.gs_explain.specs.ToldAgain.{AreHeld, is_kept_out, kept_put, late_told, told_text};
 
-use crate::again::{Again, write_retold};
-use crate::kept::{Kept, gone_again, late_again, refused_again, tell_anew};
+use crate::kept::{Kept, late_again, tell_late};
 use crate::landed::landed;
 use crate::moment::Scene;
 use crate::page::Page;
-use crate::refused::cause_of;
-use crate::row::{write_command_row, write_refused_row, write_row};
+use crate::piece::{MOST_LINE_LEN, Piece};
+use crate::pieces::write_retold;
+use crate::row::write_row;
+use crate::tail::tail_of;
 use crate::teller::Teller;
-use crate::to_tell::ToTell;
 use gs_core::Reply;
 use gs_journal::Entry;
 use gs_kernel::{Executed, Landing};
 use gs_layout::{Outcome, Refusal};
 use gs_reasons::Index;
 use gs_script::SaidLine;
-use gs_sentences::Cause;
+use gs_sentences::Landed;
 use gs_text::WriteFailed;
+use gs_trace::Came;
 use std::alloc::{AllocError, Global};
 use std::io::Write;
 use std::marker::Model;
@@ -51,8 +53,7 @@ const MULTIPLIER: u64 = 0x1F6F_7241_70EA_FD67;
 /// What is noted of the lines of a slot.
 #[derive(Clone, Copy)]
 struct Slot {
-    /// The mark of the line that came last, or its complement if it came twice. What is told of a refused event is kept from the third
-    /// time on that its line comes, and of a late landing from the second, since most lines come once or twice.
+    /// The mark of the line that came last.
     mark: u32,
     /// Which of those that are kept is kept for these lines, counted from 1, or 0 if none is.
     place: u32,
@@ -88,23 +89,18 @@ fn make_slots(slots: &mut Vec<Slot>) -> Result<(), AllocError> {
     Ok(())
 }
 
-/// Notes a mark in its slot, and returns how often it came before with no other between: 0, 1, or 2 if it was more often.
+/// Notes a mark in its slot, and returns whether it came before with no other between.
 #[inline(always)]
-fn note_mark(slots: &mut [Slot], mark: u32) -> u32 {
+fn note_mark(slots: &mut [Slot], mark: u32) -> bool {
     let at = slot_of(mark);
     if slots.len() <= at {
-        return 0;
+        return false;
     }
-    let before = slots[at].mark;
-    if before == !mark {
-        return 2;
-    }
-    if before == mark {
-        slots[at].mark = !mark;
-        return 1;
+    if slots[at].mark == mark {
+        return true;
     }
     slots[at].mark = mark;
-    0
+    false
 }
 
 /// Returns what is kept for the lines that have a mark, by its place, counted from 1, or 0 if nothing is.
@@ -125,28 +121,28 @@ fn set_place(slots: &mut [Slot], mark: u32, place: usize) {
     }
 }
 
-/// The rows so far. A row that says what an earlier one says may be kept as the place of that. Clauses see the bytes that are
-/// told. What adds a row fails only if out of memory.
+/// The rows so far. Those of events that were refused are told at the end, by the numbers that they tell of. A late landing of which an earlier
+/// row says the same may be kept as the place of that. Clauses see the bytes that are told. What adds a row fails only if out of memory.
 #[derive(Drop)]
-pub(crate) struct Rows {
+pub(crate) struct Rows<'a> {
     page: Page,
-    agains: Vec<Again>,
-    /// What was kept of events that may be told again.
+    pieces: Vec<Piece<'a>>,
+    /// What was kept of late landings that may be told again.
     kepts: Vec<Kept>,
-    /// The slots of lines: none, before the first event that was refused or landed late.
+    /// The slots of lines: none, before the first late landing.
     slots: Vec<Slot>,
 }
 
-impl Model for Rows {
+impl<'a> Model for Rows<'a> {
     ghost use Rattle.std.specs.Prelude.{List, ℕ};
     ghost use Rattle.gs_explain.specs.Retold.{retold};
     ghost use Rattle.gs_explain.specs.ToldAgain.{AreHeld};
 
     ghost Value = { List ℕ };
 
-    ghost view = { λ r. retold 0 r.agains.items r.page };
+    ghost view = { λ r. retold 0 r.pieces.items r.page };
 
-    ghost invariant = { λ r. AreHeld r.page r.agains.items r.kepts.items };
+    ghost invariant = { λ r. AreHeld r.page r.pieces.items r.kepts.items };
 }
 
 /// Returns what landed late, and under which number, if that was not placed and tore nothing down.
@@ -173,14 +169,14 @@ fn is_kept_out(outcome: Outcome) -> bool
     !matches!(outcome, Outcome::Placed | Outcome::Gone)
 }
 
-/// Takes away what is told again, and what is kept: for when memory ran out, and what the text has is not known.
+/// Takes away what is told at the end, and what is kept: for when memory ran out, and what the text has is not known.
 #[cold]
 #[inline(never)]
-fn forget(agains: &mut Vec<Again>, kepts: &mut Vec<Kept>)
-    ensures agains { agains.new.items ≡ [] }
+fn forget(pieces: &mut Vec<Piece<'_>>, kepts: &mut Vec<Kept>)
+    ensures pieces { pieces.new.items ≡ [] }
     ensures kepts { kepts.new.items ≡ [] }
 {
-    agains.clear();
+    pieces.clear();
     kepts.clear();
 }
 
@@ -199,7 +195,7 @@ fn put_kept(kepts: &mut Vec<Kept>, kept: &Kept) -> Result<usize, AllocError>
 /// Keeps what was told now, for the lines that have a mark. If that failed, nothing is kept.
 #[inline(always)]
 fn settle(
-    agains: &mut Vec<Again>,
+    pieces: &mut Vec<Piece<'_>>,
     kepts: &mut Vec<Kept>,
     slots: &mut [Slot],
     mark: u32,
@@ -207,8 +203,8 @@ fn settle(
 ) -> Result<(), AllocError>
     ensures told { OnOk result (IsOk kept) }
     ensures put { OnOk result (IfOk kept (λ kept. kepts.new.items ≡ kept_put kept kepts.old.items)) }
-    ensures same { OnOk result (agains.new.items ≡ agains.old.items) }
-    ensures none { OnErr result ((agains.new.items ≡ []) × (kepts.new.items ≡ [])) }
+    ensures same { OnOk result (pieces.new.items ≡ pieces.old.items) }
+    ensures none { OnErr result ((pieces.new.items ≡ []) × (kepts.new.items ≡ [])) }
 {
     let put = match kept {
         Ok(kept) => put_kept(kepts, &kept),
@@ -220,27 +216,47 @@ fn settle(
             Ok(())
         }
         Err(error) => {
-            forget(agains, kepts);
+            forget(pieces, kepts);
             Err(error)
         }
     }
 }
 
-impl Rows {
+/// Returns how an event that was refused is told at the end behind this script's line and the first bytes of a text, so many, or `None` if it does
+/// not fit. An index has heard all entries.
+#[inline(always)]
+fn piece_of<'a>(
+    len: usize,
+    said: &SaidLine<'a>,
+    scene: &Scene<'_>,
+    index: &Index,
+    refusal: Refusal,
+) -> Option<Piece<'a>>
+    requires heard { HasHeard index.now scene.now.journal.now.entries }
+    requires marked { IsMarked scene.now.last.now.places.items scene.now.transactions.now }
+    ensures at { IfSome result (λ p. p.at ≡ len) }
+    ensures said { IfSome result (λ p. (p.number, p.line.now) ≡ said_line said.now) }
+    ensures tail { IfSome result (λ p. IsTail p.tail refusal (refused_text (why_refused (moment_of scene.now) refusal))) }
+    ensures short { IfSome result (λ p. length p.line.now ≤ MOST_LINE_LEN) }
+{
+    Piece::new(len, said, tail_of(scene, index, refusal)?)
+}
+
+impl<'a> Rows<'a> {
     /// Makes those of no event.
-    pub(crate) fn new(alloc: Global) -> Rows
+    pub(crate) fn new(alloc: Global) -> Rows<'a>
         ensures { result ≡ [] }
     {
         Rows {
             page: Page::new(alloc),
-            agains: Vec::new(alloc),
+            pieces: Vec::new(alloc),
             kepts: Vec::new(alloc),
             slots: Vec::new(alloc),
         }
     }
 
     /// Adds a row as text. An index has heard the entries before the event, so many, and hears those of the event.
-    #[inline(always)]
+    #[inline(never)]
     #[tactic(auto, using(crate::proofs::Retelling::retold_more, crate::proofs::Keeping::held_more))]
     fn add_text(
         &mut self,
@@ -248,26 +264,26 @@ impl Rows {
         scene: &Scene<'_>,
         index: &mut Index,
         first: usize,
-        reply: &Reply,
+        came: Came<'_>,
     ) -> Result<(), AllocError>
         requires text { is_text said.now.bytes.now ≡ true }
         requires within { first ≤ length scene.now.journal.now.entries }
         requires heard { HasHeard index.old (take first scene.now.journal.now.entries) }
         requires marked { IsMarked scene.now.last.now.places.items scene.now.transactions.now }
-        ensures shown { OnOk result (self.new ≡ self.old ++ row (said_line said.now) (moment_of scene.now) first reply.now) }
+        ensures shown { OnOk result (self.new ≡ self.old ++ row (said_line said.now) (moment_of scene.now) first (reply_in came.entry)) }
         ensures heard { OnOk result (HasHeard index.new scene.now.journal.now.entries) }
     {
-        match write_row(&mut self.page, said, scene, index, first, reply) {
+        match write_row(&mut self.page, said, scene, index, first, came) {
             Ok(()) => Ok(()),
             Err(error) => {
-                forget(&mut self.agains, &mut self.kepts);
+                forget(&mut self.pieces, &mut self.kepts);
                 Err(error)
             }
         }
     }
 
-    /// Adds the row of a command as text, as [`Rows::add_text`] adds it with the reply.
-    #[inline(always)]
+    /// Adds the row of a command that was done or tore the enclave down as text, as [`Rows::add_text`] does.
+    #[inline(never)]
     #[tactic(auto, using(crate::proofs::Retelling::retold_more, crate::proofs::Keeping::held_more))]
     fn add_command_text(
         &mut self,
@@ -275,40 +291,42 @@ impl Rows {
         scene: &Scene<'_>,
         index: &mut Index,
         first: usize,
-        came: Result<Executed, Refusal>,
+        executed: Executed,
         last: &Entry,
     ) -> Result<(), AllocError>
         requires text { is_text said.now.bytes.now ≡ true }
         requires within { first ≤ length scene.now.journal.now.entries }
         requires heard { HasHeard index.old (take first scene.now.journal.now.entries) }
         requires marked { IsMarked scene.now.last.now.places.items scene.now.transactions.now }
-        ensures shown { OnOk result (self.new ≡ self.old ++ row (said_line said.now) (moment_of scene.now) first (reply_of came last.now)) }
+        ensures shown { OnOk result (self.new ≡ self.old ++ row (said_line said.now) (moment_of scene.now) first (reply_of (Ok executed) last.now)) }
         ensures heard { OnOk result (HasHeard index.new scene.now.journal.now.entries) }
     {
-        match write_command_row(&mut self.page, said, scene, index, first, came, last) {
+        let came = Came::Executed(Ok(executed), last);
+        match write_row(&mut self.page, said, scene, index, first, came) {
             Ok(()) => Ok(()),
             Err(error) => {
-                forget(&mut self.agains, &mut self.kepts);
+                forget(&mut self.pieces, &mut self.kepts);
                 Err(error)
             }
         }
     }
 
-    /// Adds an event that added no entry, as text, and keeps it for the lines of its slot.
+    /// Adds a late landing as text, and keeps it for the lines of its slot.
     #[inline(never)]
     fn add_anew(
         &mut self,
         said: &SaidLine<'_>,
         mark: u32,
-        to_tell: &ToTell<'_>,
+        number: u32,
+        landed: &Landed<'_>,
     ) -> Result<(), AllocError>
         requires text { is_text said.now.bytes.now ≡ true }
-        requires can { CanBeTold to_tell.now }
-        ensures { OnOk result (self.new ≡ self.old ++ (heading (said_line said.now) ++ told_text (told_of to_tell.now))) }
+        requires alone { (landed.now.overflow ≡ None) × (landed.now.fault.now ≡ None) }
+        ensures { OnOk result (self.new ≡ self.old ++ (heading (said_line said.now) ++ told_text (late_told number (landed_given landed.now)))) }
     {
-        let kept = tell_anew(&mut self.page, said, to_tell);
+        let kept = tell_late(&mut self.page, said, number, landed);
         settle(
-            &mut self.agains,
+            &mut self.pieces,
             &mut self.kepts,
             &mut self.slots,
             mark,
@@ -320,9 +338,10 @@ impl Rows {
     /// Adds the row of a late landing that was not placed and tore nothing down, before which there were as many entries as
     /// behind it. An index has heard them.
     #[inline(never)]
+    #[tactic(auto, using(crate::proofs::Keeping::late_row, crate::proofs::Keeping::none_overflowed))]
     fn add_late_row(
         &mut self,
-        said: &SaidLine<'_>,
+        said: &SaidLine<'a>,
         scene: &Scene<'_>,
         index: &Index,
         mark: u32,
@@ -339,7 +358,7 @@ impl Rows {
         let landed = landed(scene, index, &None, true, count, landing);
         let place = place_of(&self.slots, mark);
         if late_again(
-            &mut self.agains,
+            &mut self.pieces,
             &self.page,
             &self.kepts,
             place,
@@ -349,172 +368,61 @@ impl Rows {
         )? {
             return Ok(());
         }
-        self.add_anew(
-            said,
-            mark,
-            &ToTell::Late {
-                number,
-                landed: &landed,
-            },
-        )
+        self.add_anew(said, mark, number, &landed)
     }
 
-    /// Adds an event that was refused since the enclave was torn down by this entry. It is told again, if that is kept for the lines of
-    /// its slot.
+    /// Adds the row of an event that was refused, to be told at the end, and returns whether that could be. An index has heard all entries, and
+    /// the event added none.
     #[inline(always)]
-    fn add_gone(
+    #[tactic(auto, using(crate::proofs::Retelling::retold_one, crate::proofs::Keeping::refused_row))]
+    fn add_refused(
         &mut self,
-        said: &SaidLine<'_>,
-        mark: u32,
-        cause: &Cause<'_>,
-    ) -> Result<(), AllocError>
+        said: &SaidLine<'a>,
+        scene: &Scene<'_>,
+        index: &Index,
+        refusal: Refusal,
+    ) -> Result<bool, AllocError>
         requires text { is_text said.now.bytes.now ≡ true }
-        ensures { OnOk result (self.new ≡ self.old ++ (heading (said_line said.now) ++ told_text (tolds.Gone cause.now.line cause.now.place))) }
+        requires heard { HasHeard index.now scene.now.journal.now.entries }
+        requires marked { IsMarked scene.now.last.now.places.items scene.now.transactions.now }
+        ensures told { IfOk result (λ b. b ≡ true → self.new ≡ self.old ++ row (said_line said.now) (moment_of scene.now) (length scene.now.journal.now.entries) (replies.Refused refusal)) }
+        ensures same { IfOk result (λ b. b ≡ false → self.new ≡ self.old) }
     {
-        let place = place_of(&self.slots, mark);
-        match gone_again(
-            &mut self.agains,
-            &mut self.page,
-            &self.kepts,
-            place,
-            said,
-            cause,
-        ) {
-            Ok(true) => Ok(()),
-            Ok(false) => self.add_anew(said, mark, &ToTell::Gone { cause: *cause }),
-            Err(error) => {
-                forget(&mut self.agains, &mut self.kepts);
-                Err(error)
+        match piece_of(self.page.as_bytes().len(), said, scene, index, refusal) {
+            Some(piece) => {
+                self.pieces.push(piece)?;
+                Ok(true)
             }
+            None => Ok(false),
         }
     }
 
-    /// Adds the row of an event that was refused since the enclave was torn down. An index has heard all entries.
+    /// Adds the row of a reply, if it may say what an earlier row says, and returns whether that is so. The event added no entry.
+    /// An index has heard all.
     #[inline(never)]
-    fn add_gone_row(
+    fn add_again(
         &mut self,
-        said: &SaidLine<'_>,
+        said: &SaidLine<'a>,
         scene: &Scene<'_>,
         index: &Index,
-        mark: u32,
-    ) -> Result<(), AllocError>
+        reply: &Reply,
+    ) -> Result<bool, AllocError>
         requires text { is_text said.now.bytes.now ≡ true }
         requires heard { HasHeard index.now scene.now.journal.now.entries }
         requires marked { IsMarked scene.now.last.now.places.items scene.now.transactions.now }
-        ensures { OnOk result (self.new ≡ self.old ++ row (said_line said.now) (moment_of scene.now) (length scene.now.journal.now.entries) (replies.Refused refusals.Gone)) }
+        ensures told { IfOk result (λ b. b ≡ true → self.new ≡ self.old ++ row (said_line said.now) (moment_of scene.now) (length scene.now.journal.now.entries) reply.now) }
+        ensures same { IfOk result (λ b. b ≡ false → self.new ≡ self.old) }
     {
-        match cause_of(scene, index, Refusal::Gone) {
-            Some(cause) => self.add_gone(said, mark, &cause),
-            None => self.add_once(said, scene, index, Refusal::Gone),
-        }
-    }
-
-    /// Adds the row of an event that was refused, of a line whose mark came twice before, with no other in its slot between. It is told
-    /// again, if the same is kept of that line.
-    #[inline(never)]
-    #[tactic(auto, using(crate::proofs::RefusedTold::refused_row))]
-    fn add_twice(
-        &mut self,
-        said: &SaidLine<'_>,
-        scene: &Scene<'_>,
-        index: &Index,
-        mark: u32,
-        refusal: Refusal,
-    ) -> Result<(), AllocError>
-        requires text { is_text said.now.bytes.now ≡ true }
-        requires heard { HasHeard index.now scene.now.journal.now.entries }
-        requires marked { IsMarked scene.now.last.now.places.items scene.now.transactions.now }
-        ensures { OnOk result (self.new ≡ self.old ++ row (said_line said.now) (moment_of scene.now) (length scene.now.journal.now.entries) (replies.Refused refusal)) }
-    {
-        let cause = cause_of(scene, index, refusal);
-        let place = place_of(&self.slots, mark);
-        if refused_again(
-            &mut self.agains,
-            &self.page,
-            &self.kepts,
-            place,
-            said,
-            scene,
-            refusal,
-            &cause,
-        )? {
-            return Ok(());
-        }
-        self.add_refused_anew(said, scene, mark, refusal, &cause)
-    }
-
-    /// Adds an event that was refused, as text, and keeps it for the lines of its slot.
-    #[inline(never)]
-    fn add_refused_anew(
-        &mut self,
-        said: &SaidLine<'_>,
-        scene: &Scene<'_>,
-        mark: u32,
-        refusal: Refusal,
-        cause: &Option<Cause<'_>>,
-    ) -> Result<(), AllocError>
-        requires text { is_text said.now.bytes.now ≡ true }
-        requires marked { IsMarked scene.now.last.now.places.items scene.now.transactions.now }
-        ensures { OnOk result (self.new ≡ self.old ++ (heading (said_line said.now) ++ told_text (refused_told (refused_by (moment_of scene.now) refusal (causes_given cause.now))))) }
-    {
-        self.add_anew(
-            said,
-            mark,
-            &ToTell::Refused {
-                scene,
-                refusal,
-                cause: *cause,
-            },
-        )
-    }
-
-    /// Adds the row of an event that was refused, as text.
-    #[inline(never)]
-    #[tactic(auto, using(crate::proofs::Retelling::retold_more, crate::proofs::Keeping::held_more))]
-    fn add_once(
-        &mut self,
-        said: &SaidLine<'_>,
-        scene: &Scene<'_>,
-        index: &Index,
-        refusal: Refusal,
-    ) -> Result<(), AllocError>
-        requires text { is_text said.now.bytes.now ≡ true }
-        requires heard { HasHeard index.now scene.now.journal.now.entries }
-        requires marked { IsMarked scene.now.last.now.places.items scene.now.transactions.now }
-        ensures { OnOk result (self.new ≡ self.old ++ row (said_line said.now) (moment_of scene.now) (length scene.now.journal.now.entries) (replies.Refused refusal)) }
-    {
-        match write_refused_row(&mut self.page, said, scene, index, refusal) {
-            Ok(()) => Ok(()),
-            Err(error) => {
-                forget(&mut self.agains, &mut self.kepts);
-                Err(error)
-            }
-        }
-    }
-
-    /// Adds the row of an event that was refused. An index has heard all entries, and the event added none.
-    #[inline(always)]
-    fn add_refused_row(
-        &mut self,
-        said: &SaidLine<'_>,
-        scene: &Scene<'_>,
-        index: &Index,
-        refusal: Refusal,
-    ) -> Result<(), AllocError>
-        requires text { is_text said.now.bytes.now ≡ true }
-        requires heard { HasHeard index.now scene.now.journal.now.entries }
-        requires marked { IsMarked scene.now.last.now.places.items scene.now.transactions.now }
-        ensures { OnOk result (self.new ≡ self.old ++ row (said_line said.now) (moment_of scene.now) (length scene.now.journal.now.entries) (replies.Refused refusal)) }
-    {
+        let Some((number, landing)) = late_of(reply) else {
+            return Ok(false);
+        };
         make_slots(&mut self.slots)?;
         let mark = mark_of(said.bytes);
-        if matches!(refusal, Refusal::Gone) {
-            self.add_gone_row(said, scene, index, mark)
-        } else if note_mark(&mut self.slots, mark) == 2 {
-            self.add_twice(said, scene, index, mark, refusal)
-        } else {
-            self.add_once(said, scene, index, refusal)
+        if !note_mark(&mut self.slots, mark) {
+            return Ok(false);
         }
+        self.add_late_row(said, scene, index, mark, number, landing)?;
+        Ok(true)
     }
 
     /// Writes all rows, in blocks, for which an empty one is given.
@@ -527,51 +435,55 @@ impl Rows {
         ensures sent { OnOk result (Appends (W.contents writer.old) (W.contents writer.new) self.now) }
         ensures begun { OnErr result (IsBegun (W.contents writer.old) (W.contents writer.new) self.now) }
     {
-        write_retold(self.page.as_bytes(), self.agains.as_slice(), block, writer)
+        write_retold(self.page.as_bytes(), self.pieces.as_slice(), block, writer)
     }
 }
 
-impl Teller for Rows {
+impl<'a> Teller<'a> for Rows<'a> {
     ghost bytes = { λ rows. rows };
 
     ghost show = { row };
 
+    #[inline(always)]
     fn row(
         &mut self,
-        said: &SaidLine<'_>,
+        said: &SaidLine<'a>,
         scene: &Scene<'_>,
         index: &mut Index,
         first: usize,
-        reply: &Reply,
+        came: Came<'_>,
     ) -> Result<(), AllocError> {
-        if scene.journal.len() == first {
-            if let Some((number, landing)) = late_of(reply) {
-                make_slots(&mut self.slots)?;
-                let mark = mark_of(said.bytes);
-                if note_mark(&mut self.slots, mark) != 0 {
-                    return self.add_late_row(said, scene, index, mark, number, landing);
-                }
-            } else if let Reply::Refused(refusal) = reply {
-                return self.add_refused_row(said, scene, index, *refusal);
+        match came {
+            Came::Executed(Ok(executed), last) => {
+                return self.add_command_text(said, scene, index, first, executed, last);
             }
+            Came::Replied(reply) => {
+                if scene.journal.len() == first && self.add_again(said, scene, index, reply)? {
+                    return Ok(());
+                }
+            }
+            _ => {}
         }
-        self.add_text(said, scene, index, first, reply)
+        self.add_text(said, scene, index, first, came)
     }
 
-    fn command_row(
+    #[inline(always)]
+    fn refused_row(
         &mut self,
-        said: &SaidLine<'_>,
+        said: &SaidLine<'a>,
         scene: &Scene<'_>,
         index: &mut Index,
         first: usize,
-        came: Result<Executed, Refusal>,
-        last: &Entry,
+        refusal: Refusal,
     ) -> Result<(), AllocError> {
-        if let Err(refusal) = came {
-            if scene.journal.len() == first {
-                return self.add_refused_row(said, scene, index, refusal);
-            }
+        if scene.journal.len() == first && self.add_refused(said, scene, index, refusal)? {
+            return Ok(());
         }
-        self.add_command_text(said, scene, index, first, came, last)
+        let event = *scene.event;
+        let scene = Scene {
+            event: &event,
+            ..*scene
+        };
+        self.add_text(said, &scene, index, first, Came::Refused(refusal))
     }
 }

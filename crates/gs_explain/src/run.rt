@@ -8,8 +8,8 @@ ghost use Rattle.gs_script.specs.Held.{Faults};
 ghost use Rattle.gs_script.specs.Said.{said_in};
 ghost use Rattle.gs_script.specs.Script.{script_of};
 
-use crate::again::new_block;
 use crate::objects::Objects;
+use crate::pieces::new_block;
 use crate::rows::Rows;
 use crate::teller::Teller;
 use crate::telling::explain_all;
@@ -31,7 +31,11 @@ pub enum Explanation {
 }
 
 /// Has what explains the script told that an input says. It fails with the script's first fault, or out of memory.
-fn told<P: NamedPolicy, T: Teller>(alloc: Global, input: &[u8], teller: T) -> Result<T, ScriptError>
+fn told<'a, P: NamedPolicy, T: Teller<'a>>(
+    alloc: Global,
+    input: &'a [u8],
+    teller: T,
+) -> Result<T, ScriptError>
     requires { T.bytes teller ≡ [] }
     ensures told { IfOk result (λ told. IsAnswerOf (TellsOf P.chosen T.show (said_in input.now)) (script_of P.naming input.now) Ran (T.bytes told)) }
     ensures fault { IfErr result (λ e. Faults e (script_of P.naming input.now)) }

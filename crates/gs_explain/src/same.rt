@@ -1,11 +1,9 @@
 //! When entries and landings are the same, field by field.
 
-ghost use Rattle.std.specs.Prelude.{◌≡◌, ◌↔◌, IsTrue, true};
-ghost use Rattle.gs_explain.specs.ToldAgain.{event_told};
+ghost use Rattle.std.specs.Prelude.{◌≡◌, ◌↔◌, IsTrue};
 
-use gs_core::Event;
 use gs_journal::Entry;
-use gs_kernel::{Command, Landing};
+use gs_kernel::Landing;
 use gs_layout::{Change, Facts, Message};
 
 /// Returns whether these are the same facts of a thread.
@@ -80,56 +78,4 @@ pub(crate) fn same_landing(one: &Landing, other: &Landing) -> bool
         && one.outcome == other.outcome
         && one.seen == other.seen
         && one.at == other.at
-}
-
-/// Returns whether these are the same commands, neither of which creates a thread.
-#[inline(always)]
-fn same_command(one: &Command, other: &Command) -> bool
-    ensures { result ≡ true → Event.Kernel one.now ≡ event_told (Event.Kernel other.now) }
-{
-    match (one, other) {
-        (Command::Thread { tid, event }, Command::Thread { tid: t, event: e }) => tid == t
-            && event == e,
-        (Command::Take { cpu }, Command::Take { cpu: c }) => cpu == c,
-        (Command::Give { cpu }, Command::Give { cpu: c }) => cpu == c,
-        (Command::Tick { cpu }, Command::Tick { cpu: c }) => cpu == c,
-        (Command::HandOff { cpu }, Command::HandOff { cpu: c }) => cpu == c,
-        (Command::Activate { cpu }, Command::Activate { cpu: c }) => cpu == c,
-        (Command::Leave, Command::Leave) => true,
-        (Command::Begin, Command::Begin) => true,
-        _ => false,
-    }
-}
-
-/// Returns whether the first event is what is told of the second: of a creation that is a commit with its mask.
-#[inline(always)]
-pub(crate) fn is_event_told(one: &Event<()>, other: &Event<()>) -> bool
-    ensures { result ≡ true → one.now ≡ event_told other.now }
-{
-    match (one, other) {
-        (Event::Kernel { command }, Event::Kernel { command: c }) => same_command(command, c),
-        (
-            Event::Commit { mask },
-            Event::Kernel {
-                command: Command::Create { facts },
-            },
-        ) => mask.bits() == facts.mask.bits(),
-        (
-            Event::Stamp { cpu, tid, flags },
-            Event::Stamp {
-                cpu: c,
-                tid: t,
-                flags: f,
-            },
-        ) => { cpu == c && tid == t && flags == f }
-        (Event::Page { max }, Event::Page { max: m }) => max == m,
-        (Event::Drain { max }, Event::Drain { max: m }) => max == m,
-        (Event::Commit { mask }, Event::Commit { mask: m }) => mask.bits() == m.bits(),
-        (Event::Late { number }, Event::Late { number: n }) => number == n,
-        (Event::Begin { policy: () }, Event::Begin { policy: () }) => true,
-        (Event::Crash, Event::Crash) => true,
-        (Event::Decide, Event::Decide) => true,
-        (Event::View, Event::View) => true,
-        _ => false,
-    }
 }

@@ -1,60 +1,58 @@
 ghost use Rattle.std.specs.Prelude.{◌≡◌, ◌≤◌, ◌++◌, List, ℕ, OnOk, length, take, true};
 ghost use Rattle.gs_reasons.specs.Kept.{HasHeard};
-ghost use Rattle.gs_replies.specs.Replies.{reply_of};
+ghost use Rattle.gs_replies.specs.declared.reply.Reply.TheVariants as replies;
 ghost use Rattle.gs_script.specs.Words.{is_text};
 ghost use Rattle.gs_explain.specs.Explained.{Show};
 ghost use Rattle.gs_explain.specs.Marked.{IsMarked};
 ghost use Rattle.gs_explain.specs.Moment.{moment_of};
 ghost use Rattle.gs_script.specs.Unread.{said_line};
+ghost use Rattle.gs_trace.specs.Came.{reply_in};
 
 use crate::moment::Scene;
-use gs_core::Reply;
-use gs_journal::Entry;
-use gs_kernel::Executed;
 use gs_layout::Refusal;
 use gs_reasons::Index;
 use gs_script::SaidLine;
+use gs_trace::Came;
 use std::alloc::AllocError;
 
 /// What writes what explains a script, event by event.
-pub(crate) trait Teller: Drop {
+pub(crate) trait Teller<'a>: Drop {
     /// The bytes that are written.
     ghost bytes: { Self → List ℕ };
 
     /// What it writes of an event.
     ghost show: { Show };
 
-    /// Adds an event with its reply. An index has heard the entries before the event, so many, and hears those of the event.
-    /// It fails only if out of memory.
+    /// Adds an event with what came of it. An index has heard the entries before the event, so many, and hears those of the
+    /// event. It fails only if out of memory.
     fn row(
         &mut self,
-        said: &SaidLine<'_>,
+        said: &SaidLine<'a>,
         scene: &Scene<'_>,
         index: &mut Index,
         first: usize,
-        reply: &Reply,
+        came: Came<'_>,
     ) -> Result<(), AllocError>
         requires text { is_text said.now.bytes.now ≡ true }
         requires within { first ≤ length scene.now.journal.now.entries }
         requires heard { HasHeard index.old (take first scene.now.journal.now.entries) }
         requires marked { IsMarked scene.now.last.now.places.items scene.now.transactions.now }
-        ensures shown { OnOk result (bytes self.new ≡ bytes self.old ++ show (said_line said.now) (moment_of scene.now) first reply.now) }
+        ensures shown { OnOk result (bytes self.new ≡ bytes self.old ++ show (said_line said.now) (moment_of scene.now) first (reply_in came.entry)) }
         ensures heard { OnOk result (HasHeard index.new scene.now.journal.now.entries) };
 
-    /// Adds a command by what came of it and the kernel's last entry, as [`Teller::row`] adds it with the reply.
-    fn command_row(
+    /// Adds an event that was refused, as [`Teller::row`] does.
+    fn refused_row(
         &mut self,
-        said: &SaidLine<'_>,
+        said: &SaidLine<'a>,
         scene: &Scene<'_>,
         index: &mut Index,
         first: usize,
-        came: Result<Executed, Refusal>,
-        last: &Entry,
+        refusal: Refusal,
     ) -> Result<(), AllocError>
         requires text { is_text said.now.bytes.now ≡ true }
         requires within { first ≤ length scene.now.journal.now.entries }
         requires heard { HasHeard index.old (take first scene.now.journal.now.entries) }
         requires marked { IsMarked scene.now.last.now.places.items scene.now.transactions.now }
-        ensures shown { OnOk result (bytes self.new ≡ bytes self.old ++ show (said_line said.now) (moment_of scene.now) first (reply_of came last.now)) }
+        ensures shown { OnOk result (bytes self.new ≡ bytes self.old ++ show (said_line said.now) (moment_of scene.now) first (replies.Refused refusal)) }
         ensures heard { OnOk result (HasHeard index.new scene.now.journal.now.entries) };
 }

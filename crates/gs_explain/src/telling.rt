@@ -1,28 +1,32 @@
 //! A run of events, each of which is explained as it happens.
 
-ghost use Rattle.std.specs.Prelude.{◌≡◌, IfOk, IfErr, OnOk, [], true};
+ghost use Rattle.std.specs.Prelude.{◌≡◌, ◌≤◌, IfOk, IfErr, OnOk, [], length, take, true};
 ghost use Rattle.gs_core.specs.Machine.{planned, planning};
 ghost use Rattle.gs_reasons.specs.Kept.{HasHeard};
 ghost use Rattle.gs_script.specs.Held.{Faults};
 ghost use Rattle.gs_script.specs.Unread.{events_unread, said_line, said_unread};
 ghost use Rattle.gs_script.specs.Words.{is_text};
 ghost use Rattle.gs_explain.specs.Marked.{IsMarked};
-ghost use Rattle.gs_trace.specs.Noted.{noted_first};
+ghost use Rattle.gs_replies.specs.declared.reply.Reply.TheVariants as replies;
+ghost use Rattle.gs_trace.specs.Came.{reply_in};
+ghost use Rattle.gs_trace.specs.Noted.{noted_after, noted_first};
 ghost use Rattle.gs_trace.specs.NotedLines.{noted_of};
-ghost use Rattle.gs_explain.specs.Telling.{ExplainsOne, IsToldAll};
+ghost use Rattle.gs_explain.specs.Telling.{ExplainsOne, IsToldAll, Stood, TellsOne};
 
 use crate::hearing::hear_all;
 use crate::marking::mark_last;
 use crate::moment::Scene;
 use crate::teller::Teller;
-use gs_core::{Event, Machine, is_short, is_short_command};
-use gs_kernel::Command;
+use gs_core::{Event, Machine, Reply};
+use gs_kernel::{Command, Landing};
+use gs_layout::Refusal;
 use gs_policy::Counted;
 use gs_reasons::{Index, Marks};
 use gs_script::{NamedPolicy, Reading, SaidLine, ScriptError};
-use gs_trace::Lines;
+use gs_slots::Flags;
+use gs_status::Mask;
+use gs_trace::{Came, Lines};
 use std::alloc::{AllocError, Global};
-use std::slice;
 
 /// Returns a command as an event that names no policy.
 #[inline(always)]
@@ -32,57 +36,252 @@ fn bare_command(command: &Command) -> Event<()>
     Event::Kernel { command: *command }
 }
 
-/// Lets a command be executed, and adds what explains it, as [`explain_one`] does. It is given as the event, too.
-fn explain_command<P: Counted + Copy, T: Teller>(
+/// Notes and marks what came of an event of a line, by the machine that it left and how many transactions there were before it.
+#[inline(always)]
+fn note_came<P: Counted + Copy>(
+    machine: &Machine<P>,
+    lines: &mut Lines,
+    last: &mut Marks,
+    line: usize,
+    stamped: usize,
+    came: Came<'_>,
+) -> Result<(), AllocError>
+    requires within { stamped ≤ length machine.now.transactions }
+    requires marked { IsMarked last.old.places.items (take stamped machine.now.transactions) }
+    ensures lines { OnOk result (noted_of lines.new ≡ noted_after line (reply_in came.entry) (planning P.chosen machine.now) (noted_of lines.old)) }
+    ensures marked { OnOk result (IsMarked last.new.places.items machine.now.transactions) }
+{
+    let transactions = machine.transactions();
+    mark_last(last, transactions, stamped)?;
+    let entries = machine.kernel().journal().len();
+    lines.note_came(line, came, entries, transactions.len())
+}
+
+/// Adds what explains what came of an event that was not refused, by the machine that it left, and by how many entries and transactions
+/// there were before it. It fails only if out of memory, or if that tells of it.
+#[inline(always)]
+fn explain_came<'a, P: Counted + Copy, T: Teller<'a>>(
+    machine: &Machine<P>,
+    lines: &mut Lines,
+    index: &mut Index,
+    last: &mut Marks,
+    out: &mut T,
+    said: &SaidLine<'a>,
+    event: &Event<()>,
+    first: usize,
+    stamped: usize,
+    came: Came<'_>,
+) -> Result<(), AllocError>
+    requires text { is_text said.now.bytes.now ≡ true }
+    requires before { Stood first stamped index.old last.old.places.items (planning P.chosen machine.now) }
+    ensures { OnOk result (TellsOne T.show (noted_of lines.old) first (said_line said.now) event.now (reply_in came.entry) (planning P.chosen machine.now) (noted_of lines.new) index.new last.new.places.items (T.bytes out.old) (T.bytes out.new)) }
+{
+    if came.is_short() {
+        return Err(AllocError);
+    }
+    note_came(machine, lines, last, said.number, stamped, came)?;
+    let scene = Scene::new(machine, lines, last, event);
+    out.row(said, &scene, index, first, came)
+}
+
+/// Adds why an event was refused, as [`explain_came`] does.
+#[inline(always)]
+fn explain_refusal<'a, P: Counted + Copy, T: Teller<'a>>(
+    machine: &Machine<P>,
+    lines: &mut Lines,
+    index: &mut Index,
+    last: &mut Marks,
+    out: &mut T,
+    said: &SaidLine<'a>,
+    event: &Event<()>,
+    first: usize,
+    stamped: usize,
+    refusal: Refusal,
+) -> Result<(), AllocError>
+    requires text { is_text said.now.bytes.now ≡ true }
+    requires before { Stood first stamped index.old last.old.places.items (planning P.chosen machine.now) }
+    ensures { OnOk result (TellsOne T.show (noted_of lines.old) first (said_line said.now) event.now (replies.Refused refusal) (planning P.chosen machine.now) (noted_of lines.new) index.new last.new.places.items (T.bytes out.old) (T.bytes out.new)) }
+{
+    let came = Came::Refused(refusal);
+    if came.is_short() {
+        return Err(AllocError);
+    }
+    note_came(machine, lines, last, said.number, stamped, came)?;
+    let scene = Scene::new(machine, lines, last, event);
+    out.refused_row(said, &scene, index, first, refusal)
+}
+
+/// Adds why an event that is no command was refused.
+#[inline(never)]
+fn explain_other_refusal<'a, P: Counted + Copy, T: Teller<'a>>(
+    machine: &Machine<P>,
+    lines: &mut Lines,
+    index: &mut Index,
+    last: &mut Marks,
+    out: &mut T,
+    said: &SaidLine<'a>,
+    event: &Event<()>,
+    first: usize,
+    stamped: usize,
+    refusal: Refusal,
+) -> Result<(), AllocError>
+    requires text { is_text said.now.bytes.now ≡ true }
+    requires before { Stood first stamped index.old last.old.places.items (planning P.chosen machine.now) }
+    ensures { OnOk result (TellsOne T.show (noted_of lines.old) first (said_line said.now) event.now (replies.Refused refusal) (planning P.chosen machine.now) (noted_of lines.new) index.new last.new.places.items (T.bytes out.old) (T.bytes out.new)) }
+{
+    explain_refusal(
+        machine, lines, index, last, out, said, event, first, stamped, refusal,
+    )
+}
+
+/// Lets a command be executed, and adds what explains it, as [`explain_one`] does. So do the others below.
+#[inline(always)]
+fn explain_command<'a, P: Counted + Copy, T: Teller<'a>>(
     machine: &mut Machine<P>,
     lines: &mut Lines,
     index: &mut Index,
     last: &mut Marks,
     out: &mut T,
-    said: &SaidLine<'_>,
-    event: &Event<P>,
+    said: &SaidLine<'a>,
     command: &Command,
 ) -> Result<(), AllocError>
-    requires given { event.now ≡ Event.Kernel command.now }
     requires text { is_text said.now.bytes.now ≡ true }
     requires heard { HasHeard index.old machine.old.history }
     requires marked { IsMarked last.old.places.items machine.old.transactions }
-    ensures { OnOk result (ExplainsOne P.chosen T.show (noted_of lines.old) (planning P.chosen machine.old) (said_line said.now) event.now (planning P.chosen machine.new) (noted_of lines.new) index.new last.new.places.items (T.bytes out.old) (T.bytes out.new)) }
+    ensures { OnOk result (ExplainsOne P.chosen T.show (noted_of lines.old) (planning P.chosen machine.old) (said_line said.now) (Event.Kernel command.now) (planning P.chosen machine.new) (noted_of lines.new) index.new last.new.places.items (T.bytes out.old) (T.bytes out.new)) }
 {
     let first = machine.kernel().journal().len();
     let stamped = machine.transactions().len();
-    let came = machine.command(command);
-    if is_short_command(came) {
-        return Err(AllocError);
+    match machine.command(command) {
+        Ok(executed) => {
+            let came = Came::Executed(Ok(executed), machine.kernel().last());
+            let event = bare_command(command);
+            explain_came(
+                machine, lines, index, last, out, said, &event, first, stamped, came,
+            )
+        }
+        Err(refusal) => {
+            let event = bare_command(command);
+            explain_refusal(
+                machine, lines, index, last, out, said, &event, first, stamped, refusal,
+            )
+        }
     }
-    let kernel = machine.kernel();
-    let journal = kernel.journal();
-    let transactions = machine.transactions();
-    mark_last(last, transactions, stamped)?;
-    let latest = kernel.last();
-    lines.note_command(said.number, came, latest, journal.len(), transactions.len())?;
-    let bare = bare_command(command);
-    let region = machine.region();
-    let scene = Scene {
-        noted: lines,
-        event: &bare,
-        kernel,
-        region,
-        journal,
-        transactions,
-        last,
-    };
-    out.command_row(said, &scene, index, first, came, latest)
 }
 
-/// Lets an event happen that is no command, and adds what explains it, as [`explain_one`] does.
-fn explain_other<P: Counted + Copy, T: Teller>(
+/// Lets messages be drained.
+#[inline(never)]
+fn explain_drain<'a, P: Counted + Copy, T: Teller<'a>>(
     machine: &mut Machine<P>,
     lines: &mut Lines,
     index: &mut Index,
     last: &mut Marks,
     out: &mut T,
-    said: &SaidLine<'_>,
+    said: &SaidLine<'a>,
+    max: u32,
+) -> Result<(), AllocError>
+    requires text { is_text said.now.bytes.now ≡ true }
+    requires heard { HasHeard index.old machine.old.history }
+    requires marked { IsMarked last.old.places.items machine.old.transactions }
+    ensures { OnOk result (ExplainsOne P.chosen T.show (noted_of lines.old) (planning P.chosen machine.old) (said_line said.now) (Event.Drain max) (planning P.chosen machine.new) (noted_of lines.new) index.new last.new.places.items (T.bytes out.old) (T.bytes out.new)) }
+{
+    let first = machine.kernel().journal().len();
+    let stamped = machine.transactions().len();
+    let event = Event::Drain { max };
+    match machine.drain(max) {
+        Ok(drained) => {
+            let came = Came::Drained(drained);
+            explain_came(
+                machine, lines, index, last, out, said, &event, first, stamped, came,
+            )
+        }
+        Err(refusal) => explain_other_refusal(
+            machine, lines, index, last, out, said, &event, first, stamped, refusal,
+        ),
+    }
+}
+
+/// Lets a thread be stamped.
+#[inline(never)]
+fn explain_stamp<'a, P: Counted + Copy, T: Teller<'a>>(
+    machine: &mut Machine<P>,
+    lines: &mut Lines,
+    index: &mut Index,
+    last: &mut Marks,
+    out: &mut T,
+    said: &SaidLine<'a>,
+    cpu: u16,
+    tid: u32,
+    flags: Flags,
+) -> Result<(), AllocError>
+    requires text { is_text said.now.bytes.now ≡ true }
+    requires heard { HasHeard index.old machine.old.history }
+    requires marked { IsMarked last.old.places.items machine.old.transactions }
+    ensures { OnOk result (ExplainsOne P.chosen T.show (noted_of lines.old) (planning P.chosen machine.old) (said_line said.now) (Event.Stamp cpu tid flags) (planning P.chosen machine.new) (noted_of lines.new) index.new last.new.places.items (T.bytes out.old) (T.bytes out.new)) }
+{
+    let first = machine.kernel().journal().len();
+    let stamped = machine.transactions().len();
+    let event = Event::Stamp { cpu, tid, flags };
+    match machine.stamp(cpu, tid, flags) {
+        Ok(number) => {
+            let came = Came::Stamped {
+                cpu,
+                tid,
+                flags,
+                number,
+            };
+            explain_came(
+                machine, lines, index, last, out, said, &event, first, stamped, came,
+            )
+        }
+        Err(refusal) => explain_other_refusal(
+            machine, lines, index, last, out, said, &event, first, stamped, refusal,
+        ),
+    }
+}
+
+/// Lets slots be committed. What became of each is put in the place of what a list has.
+#[inline(never)]
+fn explain_commit<'a, P: Counted + Copy, T: Teller<'a>>(
+    machine: &mut Machine<P>,
+    lines: &mut Lines,
+    index: &mut Index,
+    last: &mut Marks,
+    out: &mut T,
+    said: &SaidLine<'a>,
+    mask: Mask,
+    landings: &mut Vec<Landing>,
+) -> Result<(), AllocError>
+    requires text { is_text said.now.bytes.now ≡ true }
+    requires heard { HasHeard index.old machine.old.history }
+    requires marked { IsMarked last.old.places.items machine.old.transactions }
+    ensures { OnOk result (ExplainsOne P.chosen T.show (noted_of lines.old) (planning P.chosen machine.old) (said_line said.now) (Event.Commit mask) (planning P.chosen machine.new) (noted_of lines.new) index.new last.new.places.items (T.bytes out.old) (T.bytes out.new)) }
+{
+    let first = machine.kernel().journal().len();
+    let stamped = machine.transactions().len();
+    let event = Event::Commit { mask };
+    match machine.commit(mask, landings) {
+        Ok(torn) => {
+            let came = Came::Landed(landings.as_slice(), torn);
+            explain_came(
+                machine, lines, index, last, out, said, &event, first, stamped, came,
+            )
+        }
+        Err(refusal) => explain_other_refusal(
+            machine, lines, index, last, out, said, &event, first, stamped, refusal,
+        ),
+    }
+}
+
+/// Lets any event happen.
+#[inline(never)]
+fn explain_step<'a, P: Counted + Copy, T: Teller<'a>>(
+    machine: &mut Machine<P>,
+    lines: &mut Lines,
+    index: &mut Index,
+    last: &mut Marks,
+    out: &mut T,
+    said: &SaidLine<'a>,
     event: &Event<P>,
 ) -> Result<(), AllocError>
     requires text { is_text said.now.bytes.now ≡ true }
@@ -93,37 +292,32 @@ fn explain_other<P: Counted + Copy, T: Teller>(
     let first = machine.kernel().journal().len();
     let stamped = machine.transactions().len();
     let reply = machine.step(event);
-    if is_short(slice::from_ref(&reply)) {
-        return Err(AllocError);
+    let event = event.with_policy(());
+    match &reply {
+        Reply::Refused(refusal) => explain_other_refusal(
+            machine, lines, index, last, out, said, &event, first, stamped, *refusal,
+        ),
+        reply => {
+            let came = Came::Replied(reply);
+            explain_came(
+                machine, lines, index, last, out, said, &event, first, stamped, came,
+            )
+        }
     }
-    let kernel = machine.kernel();
-    let journal = kernel.journal();
-    let transactions = machine.transactions();
-    mark_last(last, transactions, stamped)?;
-    lines.note(said.number, &reply, journal.len(), transactions.len())?;
-    let bare = event.with_policy(());
-    let region = machine.region();
-    let scene = Scene {
-        noted: lines,
-        event: &bare,
-        kernel,
-        region,
-        journal,
-        transactions,
-        last,
-    };
-    out.row(said, &scene, index, first, &reply)
 }
 
-/// Lets an event happen, and adds what explains it. It fails only if out of memory, or if the reply tells of that.
-fn explain_one<P: Counted + Copy, T: Teller>(
+/// Lets an event happen, and adds what explains it. It fails only if out of memory, or if what came of it tells of that. A list serves
+/// each commit.
+#[inline(always)]
+fn explain_one<'a, P: Counted + Copy, T: Teller<'a>>(
     machine: &mut Machine<P>,
     lines: &mut Lines,
     index: &mut Index,
     last: &mut Marks,
     out: &mut T,
-    said: &SaidLine<'_>,
+    said: &SaidLine<'a>,
     event: &Event<P>,
+    landings: &mut Vec<Landing>,
 ) -> Result<(), AllocError>
     requires text { is_text said.now.bytes.now ≡ true }
     requires heard { HasHeard index.old machine.old.history }
@@ -132,19 +326,26 @@ fn explain_one<P: Counted + Copy, T: Teller>(
 {
     match event {
         Event::Kernel { command } => {
-            explain_command(machine, lines, index, last, out, said, event, command)
+            explain_command(machine, lines, index, last, out, said, command)
         }
-        _ => explain_other(machine, lines, index, last, out, said, event),
+        Event::Drain { max } => explain_drain(machine, lines, index, last, out, said, *max),
+        Event::Stamp { cpu, tid, flags } => {
+            explain_stamp(machine, lines, index, last, out, said, *cpu, *tid, *flags)
+        }
+        Event::Commit { mask } => {
+            explain_commit(machine, lines, index, last, out, said, *mask, landings)
+        }
+        _ => explain_step(machine, lines, index, last, out, said, event),
     }
 }
 
 /// Lets the events of a script happen as they are read, each before the next is read, and has what explains them told.
 /// The header's line is given. It fails with the first fault of their lines, or out of memory, also if a reply tells of that.
-pub(crate) fn explain_all<P: NamedPolicy, T: Teller>(
+pub(crate) fn explain_all<'a, P: NamedPolicy, T: Teller<'a>>(
     alloc: Global,
     machine: &mut Machine<P>,
     header: usize,
-    script: Reading<'_, P>,
+    script: Reading<'a, P>,
     teller: T,
 ) -> Result<T, ScriptError>
     requires { T.bytes teller ≡ [] }
@@ -159,9 +360,17 @@ pub(crate) fn explain_all<P: NamedPolicy, T: Teller>(
     mark_last(&mut last, machine.transactions(), 0)?;
     let mut script = script;
     let mut event = Vec::new(alloc);
+    let mut landings = Vec::new(alloc);
     'events: while let Some(said) = script.next(&mut event)? {
         explain_one(
-            machine, &mut lines, &mut index, &mut last, &mut out, &said, &event[0],
+            machine,
+            &mut lines,
+            &mut index,
+            &mut last,
+            &mut out,
+            &said,
+            &event[0],
+            &mut landings,
         )?;
         event.clear();
     }

@@ -7,3 +7,5 @@ pub mod Subject
 pub mod Landed
 pub mod Refused
 pub mod Reasons
+pub mod Parts
+pub mod Tails

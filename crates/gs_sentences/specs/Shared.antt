@@ -10,8 +10,11 @@ use Rattle.gs_sentences.specs.declared.words.Words.TheVariants as words
 use Rattle.gs_sentences.specs.Words.{said}
 
 -- the script's line that added an entry, and the entry's place in the journal
+abbrev pub at_text : ℕ → ℕ → List ℕ
+at_text line place = decimal line ++ said words.Entry ++ decimal place ++ said words.Close
+
 abbrev pub place_text : Cause → List ℕ
-place_text c = decimal c.line ++ said words.Entry ++ decimal c.place ++ said words.Close
+place_text c = at_text c.line c.place
 
 -- since when something is so, if an entry made it so
 abbrev pub since_text : Option Cause → List ℕ

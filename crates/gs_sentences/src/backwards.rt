@@ -18,6 +18,18 @@ fn put_bytes(array: &mut [u8], end: usize, bytes: &[u8]) -> usize
     start
 }
 
+/// Writes bytes that are UTF-8 so that they end here, and returns where they begin.
+#[inline(always)]
+pub(crate) fn put_text(array: &mut [u8], end: usize, bytes: &[u8]) -> usize
+    requires { (length bytes.now ≤ end) × (end ≤ length array.old) }
+    ensures start { result + length bytes.now ≡ end }
+    ensures written { drop result array.new ≡ bytes.now ++ drop end array.old }
+    ensures utf8 { IsUtf8 bytes.now → IsUtf8 (drop end array.old) → IsUtf8 (drop result array.new) }
+    ensures size { length array.new ≡ length array.old }
+{
+    put_bytes(array, end, bytes)
+}
+
 /// Writes a word so that it ends here, and returns where it begins.
 #[inline(always)]
 pub(crate) fn put(array: &mut [u8], end: usize, word: &str) -> usize

@@ -1,6 +1,6 @@
 ghost use Rattle.std.specs.Prelude.{◌≡◌, ◌≤◌, ◌+◌, ◌++◌, length};
-ghost use Rattle.gs_sentences.specs.Given.{cause_given, causes_given, entry_in};
-ghost use Rattle.gs_sentences.specs.Shared.{on_text, place_text, since_text};
+ghost use Rattle.gs_sentences.specs.Given.{causes_given, entry_in};
+ghost use Rattle.gs_sentences.specs.Shared.{at_text, on_text, since_text};
 ghost use Rattle.gs_sentences.specs.Words.{said};
 
 use crate::sentence::{SENTENCE_LEN, Sentence};
@@ -33,26 +33,26 @@ impl<'a> Cause<'a> {
     }
 }
 
-/// Puts the line and the place.
+/// Puts a script's line, and the place of the entry that it added.
 #[inline(always)]
-pub(crate) fn put_line(to: &mut Sentence, cause: &Cause<'_>)
+pub(crate) fn put_line(to: &mut Sentence, line: usize, place: usize)
     requires { length to.old + 168 ≤ SENTENCE_LEN }
-    ensures value { to.new ≡ place_text (cause_given cause.now) ++ to.old }
+    ensures value { to.new ≡ at_text line place ++ to.old }
     ensures short { length to.new ≤ length to.old + 168 }
 {
     put_words(to, Words::Close);
-    put_numbered(to, Words::Entry, cause.place as u64);
-    to.put_number(cause.line as u64);
+    put_numbered(to, Words::Entry, place as u64);
+    to.put_number(line as u64);
 }
 
 /// Puts words, and behind them the line and the place.
 #[inline(always)]
-pub(crate) fn put_place(to: &mut Sentence, words: Words, cause: &Cause<'_>)
+pub(crate) fn put_place(to: &mut Sentence, words: Words, line: usize, place: usize)
     requires { length to.old + 232 ≤ SENTENCE_LEN }
-    ensures value { to.new ≡ said words ++ place_text (cause_given cause.now) ++ to.old }
+    ensures value { to.new ≡ said words ++ at_text line place ++ to.old }
     ensures short { length to.new ≤ length to.old + 232 }
 {
-    put_line(to, cause);
+    put_line(to, line, place);
     put_words(to, words);
 }
 
@@ -63,7 +63,7 @@ pub(crate) fn put_since(to: &mut Sentence, cause: &Option<Cause<'_>>)
     ensures short { length to.new ≤ length to.old + 232 }
 {
     match cause {
-        Some(cause) => put_place(to, Words::SinceLine, cause),
+        Some(cause) => put_place(to, Words::SinceLine, cause.line, cause.place),
         None => {}
     }
 }
@@ -75,7 +75,7 @@ pub(crate) fn put_on(to: &mut Sentence, cause: &Option<Cause<'_>>)
     ensures short { length to.new ≤ length to.old + 232 }
 {
     match cause {
-        Some(cause) => put_place(to, Words::OnLine, cause),
+        Some(cause) => put_place(to, Words::OnLine, cause.line, cause.place),
         None => {}
     }
 }

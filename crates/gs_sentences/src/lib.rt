@@ -11,6 +11,8 @@ mod refused;
 mod sentence;
 mod shared;
 mod subject;
+mod tail;
+mod told;
 mod words;
 
 pub use cause::Cause;
@@ -19,5 +21,6 @@ pub use numbers::{Numbers, Waiting};
 pub use reason::{Reason, put_reason};
 pub use refused::{Refused, put_refused};
 pub use sentence::{MOST_REASON_LEN, SENTENCE_LEN, Sentence};
-pub use shared::put_torn_down;
 pub use subject::{cpu_of, mask_of, tid_of};
+pub use tail::Tail;
+pub use told::{TAIL_LEN, put_tail};

@@ -1,7 +1,9 @@
-ghost use Rattle.std.specs.Prelude.{◌≡◌, ◌≤◌, ◌+◌, ◌++◌, length};
+ghost use Rattle.std.specs.Prelude.{◌≡◌, ◌≤◌, ◌+◌, ◌++◌, decimal, length};
 ghost use Rattle.gs_sentences.specs.Given.{causes_given, refused_given};
 ghost use Rattle.gs_sentences.specs.Refused.{attaching_text, bad_cpu_text, bad_mask_text, full_by, given_text, last_text, no_thread_text, off_text, page_text, refused_text, runs_text, spent_text, stamps, transactions_text, waiting_text};
+ghost use Rattle.gs_sentences.specs.Shared.{at_text};
 ghost use Rattle.gs_sentences.specs.Words.{said};
+ghost use Rattle.gs_sentences.specs.declared.words.Words.TheVariants as texts;
 
 use crate::cause::{Cause, put_place, put_since};
 use crate::landed::put_full;
@@ -27,6 +29,15 @@ pub struct Refused<'a> {
     pub numbers: Numbers,
 }
 
+/// Puts that the agent knows of no such thread.
+pub(crate) fn put_unknown(to: &mut Sentence, tid: u32)
+    requires { length to.old + 84 ≤ SENTENCE_LEN }
+    ensures value { to.new ≡ said texts.TheAgentKnowsOfNoThread ++ decimal tid ++ to.old }
+    ensures short { length to.new ≤ length to.old + 84 }
+{
+    put_numbered(to, Words::TheAgentKnowsOfNoThread, tid as u64);
+}
+
 /// Puts that there is no such thread.
 fn put_no_thread(to: &mut Sentence, event: &Event<()>, cause: &Option<Cause<'_>>)
     requires { length to.old + 400 ≤ SENTENCE_LEN }
@@ -34,9 +45,29 @@ fn put_no_thread(to: &mut Sentence, event: &Event<()>, cause: &Option<Cause<'_>>
     ensures short { length to.new ≤ length to.old + 400 }
 {
     match event {
-        Event::Stamp { tid, .. } => put_numbered(to, Words::TheAgentKnowsOfNoThread, *tid as u64),
+        Event::Stamp { tid, .. } => put_unknown(to, *tid),
         _ => put_dead(to, tid_of(event), cause),
     }
+}
+
+/// Puts that a thread is on no CPU, and since which entry.
+pub(crate) fn put_off_since(to: &mut Sentence, tid: u32, line: usize, place: usize)
+    requires { length to.old + 316 ≤ SENTENCE_LEN }
+    ensures value { to.new ≡ said texts.Thread ++ decimal tid ++ said texts.IsOnNoCpuSinceLine ++ at_text line place ++ to.old }
+    ensures short { length to.new ≤ length to.old + 316 }
+{
+    put_place(to, Words::IsOnNoCpuSinceLine, line, place);
+    put_numbered(to, Words::Thread, tid as u64);
+}
+
+/// Puts that a thread was never placed.
+pub(crate) fn put_never_placed(to: &mut Sentence, tid: u32)
+    requires { length to.old + 148 ≤ SENTENCE_LEN }
+    ensures value { to.new ≡ said texts.Thread ++ decimal tid ++ said texts.WasNeverPlaced ++ to.old }
+    ensures short { length to.new ≤ length to.old + 148 }
+{
+    put_words(to, Words::WasNeverPlaced);
+    put_numbered(to, Words::Thread, tid as u64);
 }
 
 /// Puts that a thread is on no CPU.
@@ -46,14 +77,13 @@ fn put_off(to: &mut Sentence, tid: u32, cause: &Option<Cause<'_>>)
     ensures short { length to.new ≤ length to.old + 316 }
 {
     match cause {
-        Some(cause) => put_place(to, Words::IsOnNoCpuSinceLine, cause),
-        None => put_words(to, Words::WasNeverPlaced),
+        Some(cause) => put_off_since(to, tid, cause.line, cause.place),
+        None => put_never_placed(to, tid),
     }
-    put_numbered(to, Words::Thread, tid as u64);
 }
 
 /// Puts what is wrong with a mask.
-fn put_bad_mask(to: &mut Sentence, mask: Mask, cpus: u16)
+pub(crate) fn put_bad_mask(to: &mut Sentence, mask: Mask, cpus: u16)
     requires { length to.old + 187 ≤ SENTENCE_LEN }
     ensures value { to.new ≡ bad_mask_text mask cpus ++ to.old }
     ensures short { length to.new ≤ length to.old + 187 }
@@ -73,13 +103,32 @@ fn put_bad_mask(to: &mut Sentence, mask: Mask, cpus: u16)
 }
 
 /// Puts that there is no such CPU.
-fn put_bad_cpu(to: &mut Sentence, cpu: u16, cpus: u16)
+pub(crate) fn put_bad_cpu(to: &mut Sentence, cpu: u16, cpus: u16)
     requires { length to.old + 168 ≤ SENTENCE_LEN }
     ensures value { to.new ≡ bad_cpu_text cpu cpus ++ to.old }
     ensures short { length to.new ≤ length to.old + 168 }
 {
     put_numbered(to, Words::TheLastIs, cpus.saturating_sub(1) as u64);
     put_numbered(to, Words::ThereIsNoCpu, cpu as u64);
+}
+
+/// Puts that the other class gave a CPU back, and when.
+pub(crate) fn put_given_on(to: &mut Sentence, cpu: u16, line: usize, place: usize)
+    requires { length to.old + 316 ≤ SENTENCE_LEN }
+    ensures value { to.new ≡ said texts.TheOtherClassGaveCpu ++ decimal cpu ++ said texts.BackOnLine ++ at_text line place ++ to.old }
+    ensures short { length to.new ≤ length to.old + 316 }
+{
+    put_place(to, Words::BackOnLine, line, place);
+    put_numbered(to, Words::TheOtherClassGaveCpu, cpu as u64);
+}
+
+/// Puts that the other class never took a CPU.
+pub(crate) fn put_never_taken(to: &mut Sentence, cpu: u16)
+    requires { length to.old + 84 ≤ SENTENCE_LEN }
+    ensures value { to.new ≡ said texts.TheOtherClassNeverTookCpu ++ decimal cpu ++ to.old }
+    ensures short { length to.new ≤ length to.old + 84 }
+{
+    put_numbered(to, Words::TheOtherClassNeverTookCpu, cpu as u64);
 }
 
 /// Puts that the other class does not hold a CPU.
@@ -89,16 +138,13 @@ fn put_given(to: &mut Sentence, cpu: u16, cause: &Option<Cause<'_>>)
     ensures short { length to.new ≤ length to.old + 316 }
 {
     match cause {
-        Some(cause) => {
-            put_place(to, Words::BackOnLine, cause);
-            put_numbered(to, Words::TheOtherClassGaveCpu, cpu as u64);
-        }
-        None => put_numbered(to, Words::TheOtherClassNeverTookCpu, cpu as u64),
+        Some(cause) => put_given_on(to, cpu, cause.line, cause.place),
+        None => put_never_taken(to, cpu),
     }
 }
 
 /// Puts whether the agent that attaches was given its last page.
-fn put_page(to: &mut Sentence, generation: u32, page: Option<usize>)
+pub(crate) fn put_page(to: &mut Sentence, generation: u32, page: Option<usize>)
     requires { length to.old + 168 ≤ SENTENCE_LEN }
     ensures value { to.new ≡ page_text generation page ++ to.old }
     ensures short { length to.new ≤ length to.old + 168 }
@@ -125,6 +171,17 @@ fn put_attaching(to: &mut Sentence, cause: &Option<Cause<'_>>, page: Option<usiz
     }
 }
 
+/// Puts that a thread has its last sequence number, and since which entry.
+pub(crate) fn put_spent_since(to: &mut Sentence, tid: u32, line: usize, place: usize)
+    requires { length to.old + 380 ≤ SENTENCE_LEN }
+    ensures value { to.new ≡ said texts.Thread ++ decimal tid ++ said texts.HasItsLastSequenceNumber ++ said texts.SinceLine ++ at_text line place ++ to.old }
+    ensures short { length to.new ≤ length to.old + 380 }
+{
+    put_place(to, Words::SinceLine, line, place);
+    put_words(to, Words::HasItsLastSequenceNumber);
+    put_numbered(to, Words::Thread, tid as u64);
+}
+
 /// Puts whose sequence numbers are spent.
 fn put_spent(to: &mut Sentence, event: &Event<()>, cause: &Option<Cause<'_>>)
     requires { length to.old + 464 ≤ SENTENCE_LEN }
@@ -146,6 +203,16 @@ fn put_spent(to: &mut Sentence, event: &Event<()>, cause: &Option<Cause<'_>>)
     }
 }
 
+/// Puts what has come to its last number, by the entry that has it.
+pub(crate) fn put_last_of(to: &mut Sentence, words: Words, line: usize, place: usize)
+    requires { length to.old + 296 ≤ SENTENCE_LEN }
+    ensures value { to.new ≡ said words ++ said texts.OfLine ++ at_text line place ++ to.old }
+    ensures short { length to.new ≤ length to.old + 296 }
+{
+    put_place(to, Words::OfLine, line, place);
+    put_words(to, words);
+}
+
 /// Puts what has come to its last number.
 fn put_last(to: &mut Sentence, words: Words, cause: &Option<Cause<'_>>)
     requires { length to.old + 296 ≤ SENTENCE_LEN }
@@ -153,10 +220,9 @@ fn put_last(to: &mut Sentence, words: Words, cause: &Option<Cause<'_>>)
     ensures short { length to.new ≤ length to.old + 296 }
 {
     match cause {
-        Some(cause) => put_place(to, Words::OfLine, cause),
-        None => {}
+        Some(cause) => put_last_of(to, words, cause.line, cause.place),
+        None => put_words(to, words),
     }
-    put_words(to, words);
 }
 
 /// Returns whether an event stamps.
@@ -164,6 +230,17 @@ fn stamps(event: &Event<()>) -> bool
     ensures { result ≡ stamps event.now }
 {
     matches!(event, Event::Stamp { .. } | Event::Decide)
+}
+
+/// Puts that too few transactions are left.
+pub(crate) fn put_stamped(to: &mut Sentence, transactions: usize, limit: u32)
+    requires { length to.old + 232 ≤ SENTENCE_LEN }
+    ensures value { to.new ≡ said texts.ThereAre ++ decimal transactions ++ said texts.OfAtMost ++ decimal limit ++ said texts.TransactionsAndTooFewAreLeft ++ to.old }
+    ensures short { length to.new ≤ length to.old + 232 }
+{
+    put_words(to, Words::TransactionsAndTooFewAreLeft);
+    put_numbered(to, Words::OfAtMost, limit as u64);
+    put_numbered(to, Words::ThereAre, transactions as u64);
 }
 
 /// Puts which list is full.
@@ -174,12 +251,21 @@ fn put_full_list(to: &mut Sentence, stamps: bool, numbers: &Numbers)
     ensures short { length to.new ≤ length to.old + 232 }
 {
     if stamps {
-        put_words(to, Words::TransactionsAndTooFewAreLeft);
-        put_numbered(to, Words::OfAtMost, numbers.limit as u64);
-        put_numbered(to, Words::ThereAre, numbers.transactions as u64);
+        put_stamped(to, numbers.transactions, numbers.limit);
     } else {
         put_full(to, numbers.entries, numbers.limit);
     }
+}
+
+/// Puts that a transaction waits in a slot.
+pub(crate) fn put_waits(to: &mut Sentence, cpu: u16, number: usize, line: usize)
+    requires { length to.old + 252 ≤ SENTENCE_LEN }
+    ensures value { to.new ≡ said texts.Transaction ++ decimal number ++ said texts.OfLine ++ decimal line ++ said texts.WaitsInTheSlotOfCpu ++ decimal cpu ++ to.old }
+    ensures short { length to.new ≤ length to.old + 252 }
+{
+    put_numbered(to, Words::WaitsInTheSlotOfCpu, cpu as u64);
+    put_numbered(to, Words::OfLine, line as u64);
+    put_numbered(to, Words::Transaction, number as u64);
 }
 
 /// Puts what waits in a slot.
@@ -190,17 +276,13 @@ fn put_waiting(to: &mut Sentence, waiting: &Option<Waiting>)
     ensures short { length to.new ≤ length to.old + 252 }
 {
     match waiting {
-        Some(waiting) => {
-            put_numbered(to, Words::WaitsInTheSlotOfCpu, waiting.cpu as u64);
-            put_numbered(to, Words::OfLine, waiting.line as u64);
-            put_numbered(to, Words::Transaction, waiting.number as u64);
-        }
+        Some(waiting) => put_waits(to, waiting.cpu, waiting.number, waiting.line),
         None => put_words(to, Words::ASlotIsNotIdle),
     }
 }
 
 /// Puts which transactions there are.
-fn put_transactions(to: &mut Sentence, transactions: usize)
+pub(crate) fn put_transactions(to: &mut Sentence, transactions: usize)
     requires { length to.old + 84 ≤ SENTENCE_LEN }
     ensures value { to.new ≡ transactions_text transactions ++ to.old }
     ensures short { length to.new ≤ length to.old + 84 }
@@ -210,6 +292,17 @@ fn put_transactions(to: &mut Sentence, transactions: usize)
     } else {
         put_numbered(to, Words::TheLastTransactionHasNumber, transactions as u64);
     }
+}
+
+/// Puts that a thread may run, and since which entry.
+pub(crate) fn put_runs_since(to: &mut Sentence, tid: u32, line: usize, place: usize)
+    requires { length to.old + 380 ≤ SENTENCE_LEN }
+    ensures value { to.new ≡ said texts.Thread ++ decimal tid ++ said texts.MayRun ++ said texts.SinceLine ++ at_text line place ++ to.old }
+    ensures short { length to.new ≤ length to.old + 380 }
+{
+    put_place(to, Words::SinceLine, line, place);
+    put_words(to, Words::MayRun);
+    put_numbered(to, Words::Thread, tid as u64);
 }
 
 /// Puts that a thread may run, and since when.

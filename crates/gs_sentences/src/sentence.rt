@@ -1,9 +1,9 @@
 //! A text that is put together from its end.
 
-ghost use Rattle.std.specs.Prelude.{◌≡◌, ◌+◌, ◌≤◌, ◌++◌, [], decimal, drop, length};
+ghost use Rattle.std.specs.Prelude.{◌≡◌, ◌+◌, ◌-◌, ◌≤◌, ◌++◌, [], decimal, drop, length};
 ghost use Rattle.std.specs.Str.{IsUtf8};
 
-use crate::backwards::{put, put_mask, put_number};
+use crate::backwards::{put, put_mask, put_number, put_text};
 use std::marker::Model;
 
 /// The most bytes of a [`Sentence`].
@@ -99,6 +99,25 @@ impl Sentence {
         self.start = SENTENCE_LEN;
     }
 
+    /// Keeps only its last bytes, so many.
+    #[inline(always)]
+    pub fn keep_last(&mut self, len: usize)
+        requires within { len ≤ length self.old }
+        requires utf8 { IsUtf8 (drop (length self.old - len) self.old) }
+        ensures { self.new ≡ drop (length self.old - len) self.old }
+    {
+        self.start = SENTENCE_LEN.saturating_sub(len);
+    }
+
+    /// Returns how many bytes it has.
+    #[inline(always)]
+    pub fn len(&self) -> usize
+        ensures value { result ≡ length self.now }
+        ensures utf8 { IsUtf8 self.now }
+    {
+        SENTENCE_LEN - self.start
+    }
+
     /// Lends its bytes.
     #[inline(always)]
     pub fn as_bytes(&self) -> &[u8]
@@ -122,6 +141,16 @@ impl Sentence {
         ensures { self.new ≡ word.now ++ self.old }
     {
         self.start = put(&mut self.bytes, self.start, word);
+    }
+
+    /// Puts bytes in front that are UTF-8.
+    #[inline(always)]
+    pub fn put_bytes(&mut self, bytes: &[u8])
+        requires room { length bytes.now + length self.old ≤ SENTENCE_LEN }
+        requires utf8 { IsUtf8 bytes.now }
+        ensures { self.new ≡ bytes.now ++ self.old }
+    {
+        self.start = put_text(&mut self.bytes, self.start, bytes);
     }
 
     /// Puts a number in front.

@@ -1,9 +1,10 @@
 //! What sentences about landings and about refusals share.
 
-ghost use Rattle.std.specs.Prelude.{◌≡◌, ◌≤◌, ◌+◌, ◌++◌, length};
+ghost use Rattle.std.specs.Prelude.{◌≡◌, ◌≤◌, ◌+◌, ◌++◌, decimal, length};
 ghost use Rattle.gs_sentences.specs.Given.{causes_given};
-ghost use Rattle.gs_sentences.specs.Shared.{agent_by, agent_text, change_text, dead_text, held_text, mask_by, mask_of_change, mask_text, seat_text, thread_by, told_by, told_text, torn_text};
+ghost use Rattle.gs_sentences.specs.Shared.{agent_by, agent_text, at_text, change_text, dead_text, held_text, mask_by, mask_of_change, mask_text, seat_text, thread_by, told_by, told_text, torn_text};
 ghost use Rattle.gs_sentences.specs.Words.{said};
+ghost use Rattle.gs_sentences.specs.declared.words.Words.TheVariants as texts;
 
 use crate::cause::{Cause, put_line, put_on, put_place, put_since};
 use crate::sentence::{SENTENCE_LEN, Sentence};
@@ -32,6 +33,16 @@ fn put_agent_by(to: &mut Sentence, entry: &Entry)
     }
 }
 
+/// Puts which agent there is, by the entry that says so, and since when.
+pub(crate) fn put_agent_since(to: &mut Sentence, entry: &Entry, line: usize, place: usize)
+    requires { length to.old + 400 ≤ SENTENCE_LEN }
+    ensures value { to.new ≡ agent_by entry.now ++ said texts.SinceLine ++ at_text line place ++ to.old }
+    ensures short { length to.new ≤ length to.old + 400 }
+{
+    put_place(to, Words::SinceLine, line, place);
+    put_agent_by(to, entry);
+}
+
 /// Puts which agent there is, and since when.
 pub(crate) fn put_agent(to: &mut Sentence, cause: &Option<Cause<'_>>)
     requires { length to.old + 400 ≤ SENTENCE_LEN }
@@ -39,12 +50,29 @@ pub(crate) fn put_agent(to: &mut Sentence, cause: &Option<Cause<'_>>)
     ensures short { length to.new ≤ length to.old + 400 }
 {
     match cause {
-        Some(cause) => {
-            put_place(to, Words::SinceLine, cause);
-            put_agent_by(to, &cause.entry());
-        }
+        Some(cause) => put_agent_since(to, &cause.entry(), cause.line, cause.place),
         None => put_words(to, Words::ThereNeverWasAnAgent),
     }
+}
+
+/// Puts that a thread died, and when.
+pub(crate) fn put_died(to: &mut Sentence, tid: u32, line: usize, place: usize)
+    requires { length to.old + 400 ≤ SENTENCE_LEN }
+    ensures value { to.new ≡ said texts.Thread ++ decimal tid ++ said texts.Died ++ said texts.OnLine ++ at_text line place ++ to.old }
+    ensures short { length to.new ≤ length to.old + 400 }
+{
+    put_place(to, Words::OnLine, line, place);
+    put_words(to, Words::Died);
+    put_numbered(to, Words::Thread, tid as u64);
+}
+
+/// Puts that there never was a thread.
+pub(crate) fn put_never(to: &mut Sentence, tid: u32)
+    requires { length to.old + 84 ≤ SENTENCE_LEN }
+    ensures value { to.new ≡ said texts.ThereNeverWasAThread ++ decimal tid ++ to.old }
+    ensures short { length to.new ≤ length to.old + 84 }
+{
+    put_numbered(to, Words::ThereNeverWasAThread, tid as u64);
 }
 
 /// Puts that a thread is no more, or never was.
@@ -54,12 +82,8 @@ pub(crate) fn put_dead(to: &mut Sentence, tid: u32, cause: &Option<Cause<'_>>)
     ensures short { length to.new ≤ length to.old + 400 }
 {
     match cause {
-        Some(cause) => {
-            put_place(to, Words::OnLine, cause);
-            put_words(to, Words::Died);
-            put_numbered(to, Words::Thread, tid as u64);
-        }
-        None => put_numbered(to, Words::ThereNeverWasAThread, tid as u64),
+        Some(cause) => put_died(to, tid, cause.line, cause.place),
+        None => put_never(to, tid),
     }
 }
 
@@ -83,12 +107,22 @@ pub(crate) fn put_seat(to: &mut Sentence, cpu: u16, cause: &Option<Cause<'_>>)
 {
     match cause {
         Some(cause) => {
-            put_place(to, Words::SinceLine, cause);
+            put_place(to, Words::SinceLine, cause.line, cause.place);
             put_numbered(to, Words::IsOnCpu, cpu as u64);
             put_thread_by(to, &cause.entry());
         }
         None => put_numbered(to, Words::AThreadIsOnCpu, cpu as u64),
     }
+}
+
+/// Puts that the other class holds a CPU, and since which entry.
+pub(crate) fn put_held_since(to: &mut Sentence, cpu: u16, line: usize, place: usize)
+    requires { length to.old + 316 ≤ SENTENCE_LEN }
+    ensures value { to.new ≡ said texts.TheOtherClassHoldsCpu ++ decimal cpu ++ said texts.SinceLine ++ at_text line place ++ to.old }
+    ensures short { length to.new ≤ length to.old + 316 }
+{
+    put_place(to, Words::SinceLine, line, place);
+    put_numbered(to, Words::TheOtherClassHoldsCpu, cpu as u64);
 }
 
 /// Puts that the other class holds a CPU, and since when.
@@ -101,8 +135,18 @@ pub(crate) fn put_held(to: &mut Sentence, cpu: u16, cause: &Option<Cause<'_>>)
     put_numbered(to, Words::TheOtherClassHoldsCpu, cpu as u64);
 }
 
+/// Puts that the enclave was torn down, and on which line.
+pub(crate) fn put_torn_on(to: &mut Sentence, line: usize, place: usize)
+    requires { length to.old + 296 ≤ SENTENCE_LEN }
+    ensures value { to.new ≡ said texts.TheEnclaveWasTornDown ++ said texts.OnLine ++ at_text line place ++ to.old }
+    ensures short { length to.new ≤ length to.old + 296 }
+{
+    put_place(to, Words::OnLine, line, place);
+    put_words(to, Words::TheEnclaveWasTornDown);
+}
+
 /// Puts that the enclave was torn down, and when.
-pub fn put_torn_down(to: &mut Sentence, cause: &Option<Cause<'_>>)
+pub(crate) fn put_torn_down(to: &mut Sentence, cause: &Option<Cause<'_>>)
     requires { length to.old + 296 ≤ SENTENCE_LEN }
     ensures value { to.new ≡ torn_text (causes_given cause.now) ++ to.old }
     ensures short { length to.new ≤ length to.old + 296 }
@@ -152,7 +196,7 @@ pub(crate) fn put_told(to: &mut Sentence, cause: &Option<Cause<'_>>)
 {
     match cause {
         Some(cause) => {
-            put_line(to, cause);
+            put_line(to, cause.line, cause.place);
             put_told_by(to, &cause.entry());
         }
         None => {}
@@ -200,7 +244,7 @@ pub(crate) fn put_mask(to: &mut Sentence, cause: &Option<Cause<'_>>)
 {
     match cause {
         Some(cause) => {
-            put_place(to, Words::SinceLine, cause);
+            put_place(to, Words::SinceLine, cause.line, cause.place);
             put_mask_by(to, &cause.entry());
         }
         None => {}

@@ -8,6 +8,7 @@ use gs_kernel::{Command, ThreadEvent};
 use gs_status::Mask;
 
 /// Returns the thread that an event names, 0 if it names none.
+#[inline(always)]
 pub fn tid_of(event: &Event<()>) -> u32
     ensures { result ≡ tid_of event.now }
 {
@@ -35,6 +36,7 @@ fn cpu_of_command(command: &Command) -> u16
 }
 
 /// Returns the CPU that an event names, 0 if it names none.
+#[inline(always)]
 pub fn cpu_of(event: &Event<()>) -> u16
     ensures { result ≡ cpu_of event.now }
 {
@@ -60,6 +62,7 @@ fn mask_of_command(command: &Command) -> Mask
 }
 
 /// Returns the mask that an event names, the empty one if it names none.
+#[inline(always)]
 pub fn mask_of(event: &Event<()>) -> Mask
     ensures { result ≡ mask_of event.now }
 {

@@ -1,7 +1,9 @@
 mod Noting
 mod Rowing
+mod Telling
 mod Tabled
 mod Whole
 mod Listing
 mod IdleRows
+mod Tickless
 mod Objects

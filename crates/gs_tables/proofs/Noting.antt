@@ -1,12 +1,19 @@
 -- Events noted one after another.
-use Rattle.std.proofs.Common.{◌≡◌, refl, sym, subst, ◌∙◌, ap, false, Result, Ok, List, [], ◌∷◌, ◌++◌, append-nil, append_assoc}
+use Rattle.std.proofs.Common.{◌≡◌, refl, sym, subst, ◌∙◌, ap, false, Result, Ok, Err, OnOk, ℕ, List, [], ◌∷◌, ◌++◌, append-nil, append_assoc}
 use Rattle.std.specs.List.{list_any}
 use Rattle.std.proofs.lemmas.Grind.{flat_map-append}
 use Rattle.std.proofs.lemmas.List.Folds.{list_any-append}
+use Rattle.std.proofs.lemmas.Result.{on_ok_weaker}
+use Rattle.gs_journal.specs.declared.entry.Entry.{Entry}
+use Rattle.gs_kernel.specs.declared.executed.Executed.{Executed}
+use Rattle.gs_kernel.specs.declared.executed.Executed.TheVariants.{Torn, Done}
+use Rattle.gs_layout.specs.declared.refusal.Refusal.{Refusal}
 use Rattle.gs_kernel.specs.declared.landing.Landing.{Landing}
 use Rattle.gs_core.specs.declared.event.Event.{Event}
 use Rattle.gs_replies.specs.declared.reply.Reply.{Reply}
-use Rattle.gs_core.specs.Machine.{Plan, State}
+use Rattle.gs_replies.specs.Replies.{reply_of}
+use Rattle.gs_core.specs.Machine.{Plan, State, Step, planned}
+use Rattle.gs_core.specs.Safe.{Safe, IsFaithful}
 use Rattle.gs_core.specs.Short.{wants_memory}
 use Rattle.gs_script.specs.declared.fault.ScriptFault.{ScriptFault}
 use Rattle.gs_script.specs.Script.{with_event}
@@ -14,7 +21,19 @@ use Rattle.gs_script.proofs.Lines.{with_front_nil}
 use Rattle.gs_script.proofs.Unread.{front_more, front_none}
 use Rattle.gs_trace.specs.Noted.{Noted, noted_after}
 use Rattle.gs_report.specs.Counts.{landings_of}
-use Rattle.gs_tables.specs.Notes.{IsNoted, Line, NotedSoFar, NotedUpTo, Notes, NotesOne, landings_in}
+use Rattle.gs_tables.specs.Notes.{IsNoted, Line, NotedSoFar, NotedUpTo, Notes, NotesCame, NotesOne, landings_in}
+
+-- a command lands nothing
+pub lands_nothing : (came : Result Executed Refusal) (e : Entry) → landings_of (reply_of came e) ≡ []
+lands_nothing (Ok Torn) e = refl
+lands_nothing (Ok Done) e = refl
+lands_nothing (Err f) e = refl
+
+-- an event is noted by what came of it
+pub notes_one : {A U E : Type 0} (plans : A → Plan) (n : Noted) (ls : List Landing) (m : State) (x : ℕ) (e : Event A) (r : Reply) (next : State) (noted : Noted) (landings : List Landing) (done : Result U E)
+    → Step m (planned plans e) r next → Safe next → IsFaithful next → OnOk done (NotesCame n ls x r next noted landings) → OnOk done (NotesOne plans n ls m x e next noted landings)
+notes_one plans n ls m x e r next noted landings done step safe faithful came =
+    on_ok_weaker done (λ t. record { reply = r; step = step; safe = safe; faithful = faithful; sufficed = t.sufficed; lines = t.lines; landed = t.landed }) came
 
 pub none_noted : {A : Type 0} (plans : A → Plan) (n : Noted) (m : State) (script : Result (List (Event A)) ScriptFault) (says : List Line) → NotedUpTo plans n m script script says says n [] m
 none_noted plans n m script says = record { events = []; lines = []; is = sym (with_front_nil script); says = refl; so_far = record { replies = []; leads = λ left others more end last t. t; sufficed = refl; landed = refl } }

@@ -1,5 +1,5 @@
 -- Tables of how long threads waited and ran, of what became of slots, and of what CPUs were used for.
-use Rattle.std.specs.Prelude.{Bool, ℕ, ◌+◌, ◌==◌, ◌&&◌, is_none, Option, None, Some, List, [], ◌∷◌, ◌++◌, codes, decimal, get_or, if◌then◌else◌}
+use Rattle.std.specs.Prelude.{◌≡◌, Bool, ℕ, ◌+◌, ◌==◌, ◌&&◌, is_none, Option, None, Some, List, [], ◌∷◌, ◌++◌, codes, decimal, get_or, if◌then◌else◌}
 use Rattle.std.specs.List.{flat_map}
 use Rattle.serde_json.specs.Data.{Data, member, no_members, null, object, string}
 use Rattle.serde_json.specs.Written.{compact_text}
@@ -61,6 +61,12 @@ waits_heading =
     line (
     column 5 (codes "class") ++ column 6 (codes "tid") ++ column 7 (codes "stays") ++ column 9 (codes "preempted") ++ column 8 (codes "migrated") ++ column 7 (codes "in")
     ++ column 9 (codes "ran") ++ column 9 (codes "waited") ++ column 8 (codes "p50") ++ column 8 (codes "p90") ++ column 8 (codes "p99") ++ column 8 (codes "most"))
+
+-- no tick came while the threads of an account ran and waited
+pub record IsTickless (a : Account) : Type 0 where
+  pub ran : a.tally.sums.ran.ticks ≡ 0
+  pub waited : a.tally.sums.waited.ticks ≡ 0
+  pub waits : a.tally.waits_in_ticks ≡ Some (record { half = 0; ninety = 0; ninety_nine = 0; all = 0 })
 
 abbrev pub waits_row : Unit → Account → List ℕ
 waits_row u a = line (who a ++ stays_words a.tally.sums ++ times_words u a.tally.sums ++ spread_words (waits_in u a))

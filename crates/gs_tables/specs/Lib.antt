@@ -5,3 +5,4 @@ pub mod Latency
 pub mod Idle
 pub mod Pieces
 pub mod Tables
+pub mod Rows

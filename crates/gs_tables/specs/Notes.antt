@@ -29,6 +29,12 @@ Notes plans n m [] (r ∷ rs) xs end last = ⊥
 abbrev pub landings_in : List Reply → List Landing
 landings_in rs = flat_map landings_of rs
 
+-- what came of an event of a line was noted: it does not tell that memory ran out
+pub record NotesCame (n : Noted) (ls : List Landing) (x : ℕ) (reply : Reply) (next : State) (noted : Noted) (landings : List Landing) : Type 0 where
+  pub sufficed : list_any wants_memory (reply ∷ []) ≡ false
+  pub lines : noted ≡ noted_after x reply next n
+  pub landed : landings ≡ ls ++ landings_of reply
+
 -- one event of a line happened: the reply does not tell that memory ran out, and it was noted
 pub record NotesOne {A : Type 0} (plans : A → Plan) (n : Noted) (ls : List Landing) (m : State) (x : ℕ) (e : Event A) (next : State) (noted : Noted) (landings : List Landing) : Type 0 where
   pub reply : Reply

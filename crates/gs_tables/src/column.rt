@@ -34,11 +34,20 @@ pub(crate) fn digits(number: usize) -> usize
     }
 }
 
-/// Adds a column with a number.
+/// Adds a column with a number. Its arms differ in how many blanks they copy: that is known to the compiler then.
 #[inline(always)]
 pub(crate) fn push_count(out: &mut Text, width: usize, count: usize) -> Result<(), AllocError>
     requires { width ≤ MOST_WIDTH }
     ensures { OnOk result (out.new ≡ out.old ++ column width (decimal count)) }
 {
-    out.push_number(blanks(width, digits(count)), count as u64)
+    let number = count as u64;
+    match digits(count) {
+        1 => out.push_number(blanks(width, 1), number),
+        2 => out.push_number(blanks(width, 2), number),
+        3 => out.push_number(blanks(width, 3), number),
+        4 => out.push_number(blanks(width, 4), number),
+        5 => out.push_number(blanks(width, 5), number),
+        6 => out.push_number(blanks(width, 6), number),
+        more => out.push_number(blanks(width, more), number),
+    }
 }

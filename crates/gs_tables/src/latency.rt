@@ -1,19 +1,23 @@
 //! Tables of how long threads waited and ran, of what became of slots, and of what CPUs were used for.
 
-ghost use Rattle.std.specs.Prelude.{◌≡◌, ◌++◌, IfOk, OnOk};
+ghost use Rattle.std.specs.Prelude.{◌≡◌, ◌++◌, List, IfOk, OnOk, Some, length, true};
 ghost use Rattle.std.specs.List.{flat_map};
-ghost use Rattle.gs_lines.specs.Columns.{column};
-ghost use Rattle.gs_tables.specs.Latency.{account_row, account_shown, count_at, headed, is_nobody, landing_row, landing_shown, landings_heading, landings_shown, landings_table, latency_of, spread_words, stays_words, tid_word, time_in, times_words, unit_text, usage_shown, uses_heading, uses_row, uses_table, waits_heading, waits_in, waits_row, waits_table, who};
+ghost use Rattle.gs_journal.specs.History.{History};
+ghost use Rattle.gs_lines.specs.Columns.{class_word, column};
+ghost use Rattle.gs_tallies.specs.declared.account.Account.{Account};
+ghost use Rattle.gs_turns.specs.Knowing.{AreKnown};
+ghost use Rattle.gs_tables.specs.Tables.{AreAccounts};
+ghost use Rattle.gs_tables.specs.Latency.{IsTickless, account_row, account_shown, count_at, headed, is_nobody, landing_row, landing_shown, landings_heading, landings_shown, landings_table, latency_of, spread_words, stays_words, tid_word, time_in, times_words, unit_text, usage_shown, uses_heading, uses_row, uses_table, waits_heading, waits_in, waits_row, waits_table, who};
 
-use crate::accounts::Accounts;
 use crate::column::push_count;
-use crate::idle::push_idle;
 use crate::latency_json::{push_account, push_landing, push_usage};
-use gs_layout::{OUTCOMES, Outcome};
-use gs_lines::{Text, class_word, outcome_name, push_column};
-use gs_tallies::{Account, Held, Spread, Sums, ThreadAccount};
+use crate::rows::{Rows, push_listed};
+use gs_kernel::Landing;
+use gs_layout::{Class, OUTCOMES, Outcome};
+use gs_lines::{Text, outcome_name, push_column};
+use gs_tallies::{Account, Spread, Sums, class_accounts};
 use gs_trace::Notation;
-use gs_turns::Time;
+use gs_turns::{Time, Told};
 use gs_usage::Usage;
 use std::alloc::{AllocError, Global};
 
@@ -30,6 +34,9 @@ enum Unit {
 const WAITS_HEADING: &str =
     " class    tid   stays preempted migrated      in       ran    waited      p50      p90      p99     most\n";
 
+/// A line in ticks, behind what tells of stays, where no tick came.
+const NO_TICKS: &str = "   ticks         0         0        0        0        0        0\n";
+
 /// The names of the columns that tell what became of slots.
 const LANDINGS_HEADING: &str = " class    tid landings  outcome\n";
 
@@ -37,16 +44,6 @@ const LANDINGS_HEADING: &str = " class    tid landings  outcome\n";
 const USES_HEADING: &str = "   cpu      in      busy     agent     other    wanted      idle\n";
 
 impl Unit {
-    /// Returns the name of a unit.
-    fn name(self) -> &'static str
-        ensures { result.now ≡ unit_text self }
-    {
-        match self {
-            Unit::Entries => "entries",
-            Unit::Ticks => "ticks",
-        }
-    }
-
     /// Returns how long a time is.
     fn of(self, time: Time) -> usize
         ensures { result ≡ time_in self time }
@@ -78,11 +75,22 @@ fn push_tid(out: &mut Text, tid: Option<usize>) -> Result<(), AllocError>
     }
 }
 
+/// Adds a column with a class.
+fn push_class(out: &mut Text, class: Option<Class>) -> Result<(), AllocError>
+    ensures { OnOk result (out.new ≡ out.old ++ column 5 (class_word class)) }
+{
+    match class {
+        Some(Class::Zero) => out.push_str("     0"),
+        Some(Class::One) => out.push_str("     1"),
+        None => out.push_str("     -"),
+    }
+}
+
 /// Adds whose line it is: the class and the thread.
 fn push_who(out: &mut Text, account: &Account) -> Result<(), AllocError>
     ensures { OnOk result (out.new ≡ out.old ++ who account.now) }
 {
-    push_column(out, 5, class_word(account.class))?;
+    push_class(out, account.class)?;
     push_tid(out, account.tid)
 }
 
@@ -111,11 +119,21 @@ fn push_stays(out: &mut Text, sums: &Sums) -> Result<(), AllocError>
     push_count(out, 8, sums.migrated)
 }
 
+/// Adds a column with the name of a unit.
+fn push_unit(out: &mut Text, unit: Unit) -> Result<(), AllocError>
+    ensures { OnOk result (out.new ≡ out.old ++ column 7 (unit_text unit)) }
+{
+    match unit {
+        Unit::Entries => out.push_str(" entries"),
+        Unit::Ticks => out.push_str("   ticks"),
+    }
+}
+
 /// Adds the columns that tell how long threads ran and waited, in a unit.
 fn push_times(out: &mut Text, unit: Unit, sums: &Sums) -> Result<(), AllocError>
     ensures { OnOk result (out.new ≡ out.old ++ times_words unit sums.now) }
 {
-    push_column(out, 7, unit.name())?;
+    push_unit(out, unit)?;
     push_count(out, 9, unit.of(sums.ran))?;
     push_count(out, 9, unit.of(sums.waited))
 }
@@ -131,6 +149,36 @@ fn push_waits_row(out: &mut Text, unit: Unit, account: &Account) -> Result<(), A
     out.end_line()
 }
 
+/// Returns whether waits are spread of which none took anything.
+fn is_nothing(spread: Option<Spread>) -> bool
+    ensures { result ≡ true → spread ≡ Some (record { half = 0; ninety = 0; ninety_nine = 0; all = 0 }) }
+{
+    let Some(spread) = spread else {
+        return false;
+    };
+    spread.half == 0 && spread.ninety == 0 && spread.ninety_nine == 0 && spread.all == 0
+}
+
+/// Returns whether no tick came while the threads of an account ran and waited.
+fn is_tickless(account: &Account) -> bool
+    ensures { result ≡ true → IsTickless account.now }
+{
+    let sums = &account.tally.sums;
+    sums.ran.ticks == 0 && sums.waited.ticks == 0 && is_nothing(account.tally.waits_in_ticks)
+}
+
+/// Adds the line that tells of the waits of an account in ticks. Where no tick came its end is always the same.
+fn push_ticks_row(out: &mut Text, account: &Account) -> Result<(), AllocError>
+    ensures { OnOk result (out.new ≡ out.old ++ waits_row Unit.Ticks account.now) }
+{
+    if !is_tickless(account) {
+        return push_waits_row(out, Unit::Ticks, account);
+    }
+    push_who(out, account)?;
+    push_stays(out, &account.tally.sums)?;
+    out.push_str(NO_TICKS)
+}
+
 /// Adds what tells of the waits of an account, line by line or as an object.
 fn push_account_row(notation: Notation, out: &mut Text, account: &Account) -> Result<(), AllocError>
     ensures { OnOk result (out.new ≡ out.old ++ account_row notation account.now) }
@@ -138,7 +186,7 @@ fn push_account_row(notation: Notation, out: &mut Text, account: &Account) -> Re
     match notation {
         Notation::Lines => {
             push_waits_row(out, Unit::Entries, account)?;
-            push_waits_row(out, Unit::Ticks, account)
+            push_ticks_row(out, account)
         }
         Notation::Json => push_account(out, account),
     }
@@ -152,7 +200,7 @@ fn is_nobody(account: &Account) -> bool
 }
 
 /// Adds what tells of the waits of an account, unless it tells of nobody.
-fn push_account_shown(
+pub(crate) fn push_account_shown(
     notation: Notation,
     out: &mut Text,
     account: &Account,
@@ -163,20 +211,6 @@ fn push_account_shown(
         return Ok(());
     }
     push_account_row(notation, out, account)
-}
-
-/// Adds what tells of the waits of a thread.
-fn push_thread_shown(
-    notation: Notation,
-    out: &mut Text,
-    account: &ThreadAccount,
-) -> Result<(), AllocError>
-    ensures { OnOk result (out.new ≡ out.old ++ account_shown notation account.now) }
-{
-    match account.held() {
-        Held::Idle { class, tid } => push_idle(notation, out, class, tid),
-        Held::Whole(account) => push_account_shown(notation, out, account),
-    }
 }
 
 /// Returns how many slots of an account came to an outcome.
@@ -259,7 +293,7 @@ fn push_outcomes(
 
 /// Adds what tells of the slots of an account.
 #[tactic(auto, unfolding(crate::specs::Latency::landings_shown))]
-fn push_landings_shown(
+pub(crate) fn push_landings_shown(
     notation: Notation,
     out: &mut Text,
     account: &Account,
@@ -269,26 +303,12 @@ fn push_landings_shown(
     push_outcomes(notation, out, account, &ALL_OUTCOMES)
 }
 
-/// Adds what tells of the slots of a thread.
-fn push_thread_landings_shown(
-    notation: Notation,
-    out: &mut Text,
-    account: &ThreadAccount,
-) -> Result<(), AllocError>
-    ensures { OnOk result (out.new ≡ out.old ++ landings_shown notation account.now) }
-{
-    match account.held() {
-        Held::Idle { .. } => Ok(()),
-        Held::Whole(account) => push_landings_shown(notation, out, account),
-    }
-}
-
 /// Adds the line that tells what a CPU was used for, in a unit.
 fn push_uses_row(out: &mut Text, unit: Unit, cpu: usize, usage: &Usage) -> Result<(), AllocError>
     ensures { OnOk result (out.new ≡ out.old ++ uses_row unit cpu usage.now) }
 {
     push_count(out, 5, cpu)?;
-    push_column(out, 7, unit.name())?;
+    push_unit(out, unit)?;
     push_count(out, 9, unit.of(usage.busy))?;
     push_count(out, 9, unit.of(usage.agent))?;
     push_count(out, 9, unit.of(usage.other))?;
@@ -339,30 +359,6 @@ fn push_class_waits(
     Ok(())
 }
 
-/// Adds what tells of the waits of threads.
-fn push_thread_waits(
-    notation: Notation,
-    out: &mut Text,
-    accounts: &[ThreadAccount],
-) -> Result<(), AllocError>
-    ensures { OnOk result (out.new ≡ out.old ++ flat_map (account_shown notation) accounts.now) }
-{
-    for account in accounts {
-        push_thread_shown(notation, out, account)?;
-    }
-    Ok(())
-}
-
-/// Adds the table that tells of waits.
-#[tactic(auto, unfolding(crate::specs::Latency::waits_heading))]
-fn push_waits(notation: Notation, out: &mut Text, accounts: &Accounts) -> Result<(), AllocError>
-    ensures { OnOk result (out.new ≡ out.old ++ waits_table notation (accounts.now.by_class.items ++ accounts.now.by_thread.items)) }
-{
-    push_heading(notation, out, WAITS_HEADING)?;
-    push_class_waits(notation, out, &accounts.by_class)?;
-    push_thread_waits(notation, out, &accounts.by_thread)
-}
-
 /// Adds what tells of the slots of classes.
 fn push_class_landings(
     notation: Notation,
@@ -377,30 +373,6 @@ fn push_class_landings(
     Ok(())
 }
 
-/// Adds what tells of the slots of threads.
-fn push_thread_landings(
-    notation: Notation,
-    out: &mut Text,
-    accounts: &[ThreadAccount],
-) -> Result<(), AllocError>
-    ensures { OnOk result (out.new ≡ out.old ++ flat_map (landings_shown notation) accounts.now) }
-{
-    for account in accounts {
-        push_thread_landings_shown(notation, out, account)?;
-    }
-    Ok(())
-}
-
-/// Adds the table that tells what became of slots.
-#[tactic(auto, unfolding(crate::specs::Latency::landings_heading))]
-fn push_landings(notation: Notation, out: &mut Text, accounts: &Accounts) -> Result<(), AllocError>
-    ensures { OnOk result (out.new ≡ out.old ++ landings_table notation (accounts.now.by_class.items ++ accounts.now.by_thread.items)) }
-{
-    push_heading(notation, out, LANDINGS_HEADING)?;
-    push_class_landings(notation, out, &accounts.by_class)?;
-    push_thread_landings(notation, out, &accounts.by_thread)
-}
-
 /// Adds the table that tells what CPUs were used for. The usages are those of the CPUs from 0 on.
 #[tactic(auto, unfolding(crate::specs::Latency::uses_heading))]
 fn push_uses(notation: Notation, out: &mut Text, usages: &[Usage]) -> Result<(), AllocError>
@@ -413,18 +385,52 @@ fn push_uses(notation: Notation, out: &mut Text, usages: &[Usage]) -> Result<(),
     Ok(())
 }
 
-/// Returns the tables of what threads and CPUs did, one below another. The usages are those of the CPUs from 0 on.
+/// Returns the rows of classes, each kind below the names of its columns.
+#[tactic(auto, unfolding(crate::specs::Latency::waits_heading, crate::specs::Latency::landings_heading))]
+fn class_rows(alloc: Global, notation: Notation, accounts: &[Account]) -> Result<Rows, AllocError>
+    ensures waits { IfOk result (λ rows. rows.waits ≡ waits_table notation accounts.now) }
+    ensures slots { IfOk result (λ rows. rows.slots ≡ landings_table notation accounts.now) }
+{
+    let mut rows = Rows {
+        waits: Text::new(alloc),
+        slots: Text::new(alloc),
+    };
+    push_heading(notation, &mut rows.waits, WAITS_HEADING)?;
+    push_class_waits(notation, &mut rows.waits, accounts)?;
+    push_heading(notation, &mut rows.slots, LANDINGS_HEADING)?;
+    push_class_landings(notation, &mut rows.slots, accounts)?;
+    Ok(rows)
+}
+
+/// Returns the tables of rows, and behind them what CPUs were used for.
+fn joined(notation: Notation, rows: Rows, usages: &[Usage]) -> Result<Vec<u8>, AllocError>
+    ensures { IfOk result (λ bytes. bytes.items ≡ rows.waits ++ rows.slots ++ uses_table notation usages.now) }
+{
+    let Rows { waits, slots } = rows;
+    let mut out = waits;
+    out.push_str(slots.as_str())?;
+    push_uses(notation, &mut out, usages)?;
+    Ok(out.into_bytes())
+}
+
+/// Returns the tables of what threads and CPUs did, one below another, with the threads, if they are listed. The usages are
+/// those of the CPUs from 0 on.
+///
+/// # Errors
+///
+/// `AllocError` if out of memory.
 pub(crate) fn latency(
     alloc: Global,
     notation: Notation,
-    accounts: &Accounts,
+    listed: bool,
+    told: &Told,
+    landings: &[Landing],
     usages: &[Usage],
 ) -> Result<Vec<u8>, AllocError>
-    ensures { IfOk result (λ bytes. bytes.items ≡ latency_of notation (accounts.now.by_class.items ++ accounts.now.by_thread.items) usages.now) }
+    ensures { IfOk result (λ bytes. (h : History) → AreKnown h (length h) told.now.threads.items → (accounts : List Account) × AreAccounts listed h told.now.turns.items landings.now accounts × (bytes.items ≡ latency_of notation accounts usages.now)) }
 {
-    let mut out = Text::new(alloc);
-    push_waits(notation, &mut out, accounts)?;
-    push_landings(notation, &mut out, accounts)?;
-    push_uses(notation, &mut out, usages)?;
-    Ok(out.into_bytes())
+    let accounts = class_accounts(alloc, &told.threads, &told.turns, landings)?;
+    let mut rows = class_rows(alloc, notation, &accounts)?;
+    push_listed(alloc, notation, listed, told, landings, &mut rows)?;
+    joined(notation, rows, usages)
 }

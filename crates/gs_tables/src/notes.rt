@@ -5,18 +5,20 @@ ghost use Rattle.gs_report.specs.Counts.{landings_of};
 ghost use Rattle.gs_core.specs.Machine.{planned, planning};
 ghost use Rattle.gs_script.specs.Held.{Faults};
 ghost use Rattle.gs_script.specs.Unread.{events_unread, said_unread};
+ghost use Rattle.gs_trace.specs.Came.{reply_in};
 ghost use Rattle.gs_trace.specs.Noted.{noted_first};
 ghost use Rattle.gs_trace.specs.NotedLines.{noted_of};
-ghost use Rattle.gs_tables.specs.Notes.{IsNoted, NotesOne};
+ghost use Rattle.gs_tables.specs.Notes.{IsNoted, NotesCame, NotesOne};
 
-use gs_core::{Event, Machine, Reply, is_short, is_short_command};
+use gs_core::{Event, Machine, Reply};
 use gs_kernel::{Command, Landing};
 use gs_policy::Counted;
 use gs_report::landings_of;
 use gs_script::{NamedPolicy, Reading, ScriptError};
-use gs_trace::Lines;
+use gs_slots::Flags;
+use gs_status::Mask;
+use gs_trace::{Came, Lines};
 use std::alloc::{AllocError, Global};
-use std::slice;
 
 /// What is noted of a script's events.
 #[derive(Drop)]
@@ -34,32 +36,126 @@ fn add_landings(all: &mut Vec<Landing>, reply: &Reply) -> Result<(), AllocError>
     all.extend_from_slice(landings_of(reply))
 }
 
-/// Lets a command of a line be executed, and notes it. It is given as the event, too. It fails only if out of memory, or
-/// if what came of it tells of that.
-fn note_command<P: Counted + Copy>(
-    machine: &mut Machine<P>,
+/// Adds what became of slots, by what came of an event.
+#[inline(always)]
+#[tactic(auto, using(crate::proofs::Noting::lands_nothing))]
+fn add_landed(all: &mut Vec<Landing>, came: Came<'_>) -> Result<(), AllocError>
+    ensures { OnOk result (all.new.items ≡ all.old.items ++ landings_of (reply_in came.entry)) }
+{
+    match came {
+        Came::Landed(landings, _) => all.extend_from_slice(landings),
+        Came::Replied(reply) => add_landings(all, reply),
+        Came::Executed(..) | Came::Refused(_) | Came::Drained(_) | Came::Stamped { .. } => Ok(()),
+    }
+}
+
+/// Notes what came of an event of a line, by the machine that it left. It fails only if out of memory, or if that tells of it.
+#[inline(always)]
+fn note_came<P: Counted + Copy>(
+    machine: &Machine<P>,
     notes: &mut Notes,
     line: usize,
-    event: &Event<P>,
-    command: &Command,
+    came: Came<'_>,
 ) -> Result<(), AllocError>
-    requires given { event.now ≡ Event.Kernel command.now }
-    ensures { OnOk result (NotesOne P.chosen (noted_of notes.old.lines) notes.old.landings.items (planning P.chosen machine.old) line event.now (planning P.chosen machine.new) (noted_of notes.new.lines) notes.new.landings.items) }
+    ensures { OnOk result (NotesCame (noted_of notes.old.lines) notes.old.landings.items line (reply_in came.entry) (planning P.chosen machine.now) (noted_of notes.new.lines) notes.new.landings.items) }
 {
-    let came = machine.command(command);
-    if is_short_command(came) {
+    if came.is_short() {
         return Err(AllocError);
     }
     let journal = machine.kernel().journal();
     let transactions = machine.transactions();
-    let latest = machine.kernel().last();
     notes
         .lines
-        .note_command(line, came, latest, journal.len(), transactions.len())
+        .note_came(line, came, journal.len(), transactions.len())?;
+    add_landed(&mut notes.landings, came)
 }
 
-/// Lets an event of a line happen that is no command, and notes it, as [`note_command`] does.
-fn note_other<P: Counted + Copy>(
+/// Lets a command of a line be executed, and notes it, as [`note_one`] does. So do the others below.
+#[inline(always)]
+fn note_command<P: Counted + Copy>(
+    machine: &mut Machine<P>,
+    notes: &mut Notes,
+    line: usize,
+    command: &Command,
+) -> Result<(), AllocError>
+    ensures { OnOk result (NotesOne P.chosen (noted_of notes.old.lines) notes.old.landings.items (planning P.chosen machine.old) line (Event.Kernel command.now) (planning P.chosen machine.new) (noted_of notes.new.lines) notes.new.landings.items) }
+{
+    let came = machine.command(command);
+    note_came(
+        machine,
+        notes,
+        line,
+        Came::Executed(came, machine.kernel().last()),
+    )
+}
+
+/// Lets messages be drained.
+#[inline(never)]
+fn note_drain<P: Counted + Copy>(
+    machine: &mut Machine<P>,
+    notes: &mut Notes,
+    line: usize,
+    max: u32,
+) -> Result<(), AllocError>
+    ensures { OnOk result (NotesOne P.chosen (noted_of notes.old.lines) notes.old.landings.items (planning P.chosen machine.old) line (Event.Drain max) (planning P.chosen machine.new) (noted_of notes.new.lines) notes.new.landings.items) }
+{
+    match machine.drain(max) {
+        Ok(drained) => note_came(machine, notes, line, Came::Drained(drained)),
+        Err(refusal) => note_came(machine, notes, line, Came::Refused(refusal)),
+    }
+}
+
+/// Lets a thread be stamped.
+#[inline(never)]
+fn note_stamp<P: Counted + Copy>(
+    machine: &mut Machine<P>,
+    notes: &mut Notes,
+    line: usize,
+    cpu: u16,
+    tid: u32,
+    flags: Flags,
+) -> Result<(), AllocError>
+    ensures { OnOk result (NotesOne P.chosen (noted_of notes.old.lines) notes.old.landings.items (planning P.chosen machine.old) line (Event.Stamp cpu tid flags) (planning P.chosen machine.new) (noted_of notes.new.lines) notes.new.landings.items) }
+{
+    match machine.stamp(cpu, tid, flags) {
+        Ok(number) => {
+            let came = Came::Stamped {
+                cpu,
+                tid,
+                flags,
+                number,
+            };
+            note_came(machine, notes, line, came)
+        }
+        Err(refusal) => note_came(machine, notes, line, Came::Refused(refusal)),
+    }
+}
+
+/// Lets slots be committed. What became of each is put in the place of what a list has.
+#[inline(never)]
+fn note_commit<P: Counted + Copy>(
+    machine: &mut Machine<P>,
+    notes: &mut Notes,
+    line: usize,
+    mask: Mask,
+    landings: &mut Vec<Landing>,
+) -> Result<(), AllocError>
+    ensures { OnOk result (NotesOne P.chosen (noted_of notes.old.lines) notes.old.landings.items (planning P.chosen machine.old) line (Event.Commit mask) (planning P.chosen machine.new) (noted_of notes.new.lines) notes.new.landings.items) }
+{
+    match machine.commit(mask, landings) {
+        Ok(torn) => note_came(
+            machine,
+            notes,
+            line,
+            Came::Landed(landings.as_slice(), torn),
+        ),
+        Err(refusal) => note_came(machine, notes, line, Came::Refused(refusal)),
+    }
+}
+
+/// Lets any event happen.
+#[inline(never)]
+fn note_step<P: Counted + Copy>(
     machine: &mut Machine<P>,
     notes: &mut Notes,
     line: usize,
@@ -68,29 +164,27 @@ fn note_other<P: Counted + Copy>(
     ensures { OnOk result (NotesOne P.chosen (noted_of notes.old.lines) notes.old.landings.items (planning P.chosen machine.old) line event.now (planning P.chosen machine.new) (noted_of notes.new.lines) notes.new.landings.items) }
 {
     let reply = machine.step(event);
-    if is_short(slice::from_ref(&reply)) {
-        return Err(AllocError);
-    }
-    let journal = machine.kernel().journal();
-    let transactions = machine.transactions();
-    notes
-        .lines
-        .note(line, &reply, journal.len(), transactions.len())?;
-    add_landings(&mut notes.landings, &reply)
+    note_came(machine, notes, line, Came::Replied(&reply))
 }
 
-/// Lets an event of a line happen, and notes it. It fails only if out of memory, or if the reply tells of that.
+/// Lets an event of a line happen, and notes it. It fails only if out of memory, or if what came of it tells of that. A list serves each
+/// commit.
+#[inline(always)]
 fn note_one<P: Counted + Copy>(
     machine: &mut Machine<P>,
     notes: &mut Notes,
     line: usize,
     event: &Event<P>,
+    landings: &mut Vec<Landing>,
 ) -> Result<(), AllocError>
     ensures { OnOk result (NotesOne P.chosen (noted_of notes.old.lines) notes.old.landings.items (planning P.chosen machine.old) line event.now (planning P.chosen machine.new) (noted_of notes.new.lines) notes.new.landings.items) }
 {
     match event {
-        Event::Kernel { command } => note_command(machine, notes, line, event, command),
-        _ => note_other(machine, notes, line, event),
+        Event::Kernel { command } => note_command(machine, notes, line, command),
+        Event::Drain { max } => note_drain(machine, notes, line, *max),
+        Event::Stamp { cpu, tid, flags } => note_stamp(machine, notes, line, *cpu, *tid, *flags),
+        Event::Commit { mask } => note_commit(machine, notes, line, *mask, landings),
+        _ => note_step(machine, notes, line, event),
     }
 }
 
@@ -112,8 +206,9 @@ pub(crate) fn note_all<P: NamedPolicy>(
     };
     let mut script = script;
     let mut event = Vec::new(alloc);
+    let mut landings = Vec::new(alloc);
     'events: while let Some(said) = script.next(&mut event)? {
-        note_one(machine, &mut notes, said.number, &event[0])?;
+        note_one(machine, &mut notes, said.number, &event[0], &mut landings)?;
         event.clear();
     }
     Ok(notes)

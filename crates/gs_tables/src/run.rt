@@ -9,7 +9,6 @@ ghost use Rattle.gs_core.specs.Machine.{planning};
 ghost use Rattle.gs_trace.specs.Noted.{noted_first};
 ghost use Rattle.gs_tables.specs.Tables.{IsTable, Shows, ShowsRun, Tabulated};
 
-use crate::accounts::Accounts;
 use crate::latency::latency;
 use crate::notes::{Notes, note_all};
 use crate::timehist::timehist;
@@ -52,9 +51,8 @@ fn shown<P: Counted + Copy>(
     match table {
         Table::Timehist(notation) => timehist(alloc, notation, &notes.lines.entries, &told.turns),
         Table::Latency { notation, threads } => {
-            let accounts = Accounts::new(alloc, threads, &told, &notes.landings)?;
             let usages = usages(alloc, journal, cpus)?;
-            latency(alloc, notation, &accounts, &usages)
+            latency(alloc, notation, threads, &told, &notes.landings, &usages)
         }
     }
 }

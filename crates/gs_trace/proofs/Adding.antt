@@ -1,5 +1,5 @@
 -- The replies of a run, added one by one.
-use Rattle.std.proofs.Common.{◌≡◌, refl, sym, subst, ◌∙◌, ap, ℕ, false, List, [], ◌∷◌, ◌++◌, append-nil, append_assoc, map, Result, Ok}
+use Rattle.std.proofs.Common.{◌≡◌, refl, sym, subst, ◌∙◌, ap, ℕ, false, List, [], ◌∷◌, ◌++◌, append-nil, append_assoc, map, Bool, ◌||◌, Result, Ok, Err, OnOk}
 use Rattle.std.proofs.lemmas.List.{map-append}
 use Rattle.std.specs.List.{list_any}
 use Rattle.std.proofs.lemmas.List.Folds.{list_any-append}
@@ -39,6 +39,12 @@ one_added Has m es now next e r old new so_far step safe faithful fine grows =
       sufficed = suffices so_far.replies r so_far.sufficed fine;
       has = grows so_far.replies so_far.has;
     }
+
+-- an event was run, by what came of it and whether its reply was added
+pub adds_one : {T E : Type 0} (Has : T → List Reply → Type 0) (m : State) (e : Event Plan) (r : Reply) (next : State) (old new : T) (done : Result (Unit {0}) E) → Step m e r next → Safe next → IsFaithful next → OnOk done (wants_memory r ≡ false)
+    → OnOk done ((rs : List Reply) → Has old rs → Has new (rs ++ r ∷ [])) → OnOk done (AddsOne Has m e next old new)
+adds_one Has m e r next old new (Ok k) step safe faithful fine grows = record { reply = r; step = step; safe = safe; faithful = faithful; sufficed = ap (λ (b : Bool). b || false) fine; grows = grows }
+adds_one Has m e r next old new (Err f) step safe faithful fine grows = tt
 
 -- one more event was read and run
 pub added_more : {A T : Type 0} (plans : A → Plan) (Has : T → List Reply → Type 0) (m : State) (script left rest : Result (List (Event A)) ScriptFault) (now next : State) (e : Event A) (old new : T)

@@ -1,12 +1,7 @@
 -- What marks tell of, one mark and one reply more.
-use Rattle.std.proofs.Common.{◌≡◌, ◌∙◌, ap, sym, subst, refl, List, [], ◌∷◌, ◌++◌, append-nil, Result, Ok, Err}
+use Rattle.std.proofs.Common.{◌≡◌, ◌∙◌, ap, sym, subst, refl, List, [], ◌∷◌, ◌++◌, append-nil}
 use Rattle.std.proofs.lemmas.Grind.{flat_map-append}
-use Rattle.gs_journal.specs.declared.entry.Entry.{Entry}
-use Rattle.gs_kernel.specs.declared.executed.Executed.{Executed}
-use Rattle.gs_kernel.specs.declared.executed.Executed.TheVariants.{Done, Torn}
-use Rattle.gs_layout.specs.declared.refusal.Refusal.{Refusal}
 use Rattle.gs_replies.specs.declared.reply.Reply.{Reply}
-use Rattle.gs_replies.specs.Replies.{reply_of}
 use Rattle.gs_timeline.specs.declared.notes.Mark.{Mark}
 use Rattle.gs_trace.specs.Watched.{Told, told_by, told_in, told_in_all, told_of}
 
@@ -24,14 +19,3 @@ told_push ms m = flat_map-append told_of ms (m ∷ []) ∙ ap (λ (xs : List Tol
 pub told_more : (old new : List Mark) (r : Reply) → told_by new ≡ told_by old ++ told_in r → (rs : List Reply) → told_by old ≡ told_in_all rs → told_by new ≡ told_in_all (rs ++ r ∷ [])
 unfolding told_in_all
 told_more old new r e rs h = e ∙ ap (λ (xs : List Told). xs ++ told_in r) h ∙ sym (flat_map-append told_in rs (r ∷ []) ∙ ap (λ (xs : List Told). told_in_all rs ++ xs) (append-nil (told_in r)))
-
--- the reply to a command tells of no landing
-pub told_command : (came : Result Executed Refusal) (last : Entry) → told_in (reply_of came last) ≡ []
-told_command (Ok Done) last = refl
-told_command (Ok Torn) last = refl
-told_command (Err f) last = refl
-
--- so no mark more is needed
-pub told_no_more : (ms new : List Mark) (came : Result Executed Refusal) (last : Entry) → new ≡ ms → (rs : List Reply) → told_by ms ≡ told_in_all rs → told_by new ≡ told_in_all (rs ++ reply_of came last ∷ [])
-told_no_more ms new came last same rs h =
-    told_more ms new (reply_of came last) (ap told_by same ∙ (sym (append-nil (told_by ms)) ∙ ap (λ (xs : List Told). told_by ms ++ xs) (sym (told_command came last)))) rs h

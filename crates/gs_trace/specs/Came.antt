@@ -1,9 +1,14 @@
 -- What came of an event, as the reply that it is.
 use Rattle.gs_replies.specs.declared.reply.Reply.{Reply}
+use Rattle.gs_replies.specs.declared.reply.Reply.TheVariants as replies
 use Rattle.gs_replies.specs.Replies.{reply_of}
-use Rattle.gs_trace.specs.declared.running.Came.{Came}
-use Rattle.gs_trace.specs.declared.running.Came.TheVariants.{Executed, Replied}
+use Rattle.gs_trace.specs.declared.came.Came.{Came}
+use Rattle.gs_trace.specs.declared.came.Came.TheVariants as came
 
 abbrev pub reply_in : Came → Reply
-reply_in (Executed came last) = reply_of came last.now
-reply_in (Replied reply) = reply.now
+reply_in (came.Executed what last) = reply_of what last.now
+reply_in (came.Refused refusal) = replies.Refused refusal
+reply_in (came.Drained drained) = replies.Drained drained
+reply_in (came.Stamped cpu tid flags number) = replies.Stamped number
+reply_in (came.Landed landings torn) = replies.Landed landings.now torn
+reply_in (came.Replied reply) = reply.now

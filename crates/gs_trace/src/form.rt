@@ -6,8 +6,8 @@ ghost use Rattle.gs_trace.specs.Adding.{ShowsRun};
 ghost use Rattle.gs_trace.specs.Streams.{Leaves, Writes};
 
 use crate::answering::Unanswered;
+use crate::noting::Noting;
 use crate::running::{Nothing, run_into};
-use crate::watching::run_watched;
 use gs_core::Machine;
 use gs_history::{journal_text, json_text};
 use gs_journal::Journal;
@@ -129,7 +129,7 @@ fn show_picture<P: NamedPolicy, W: Write>(
     ensures shown { OnOk result (Writes (ShowsRun P.chosen (shown_as (Form.Timeline from to listed)) (planning P.chosen machine.old) (events_unread P.naming script.entry) (planning P.chosen machine.new)) (W.contents writer.old) (W.contents writer.new)) }
     ensures left { IfErr result (Leaves (events_unread P.naming script.entry) (ShowsRun P.chosen (shown_as (Form.Timeline from to listed)) (planning P.chosen machine.old) (events_unread P.naming script.entry) (planning P.chosen machine.new)) (W.contents writer.old) (W.contents writer.new)) }
 {
-    let noting = run_watched(alloc, machine, header, script)?;
+    let noting = run_into(alloc, machine, script, Noting::new(alloc, header)?)?;
     let kernel = machine.kernel();
     let cpus = kernel.settings().cpus;
     let notes = noting.notes(kernel.poster().capacity());
@@ -149,7 +149,7 @@ fn show_trace<P: NamedPolicy, W: Write>(
     ensures shown { OnOk result (Writes (ShowsRun P.chosen (shown_as Form.Trace) (planning P.chosen machine.old) (events_unread P.naming script.entry) (planning P.chosen machine.new)) (W.contents writer.old) (W.contents writer.new)) }
     ensures left { IfErr result (Leaves (events_unread P.naming script.entry) (ShowsRun P.chosen (shown_as Form.Trace) (planning P.chosen machine.old) (events_unread P.naming script.entry) (planning P.chosen machine.new)) (W.contents writer.old) (W.contents writer.new)) }
 {
-    let noting = run_watched(alloc, machine, header, script)?;
+    let noting = run_into(alloc, machine, script, Noting::new(alloc, header)?)?;
     let kernel = machine.kernel();
     let cpus = kernel.settings().cpus;
     let notes = noting.notes(kernel.poster().capacity());

@@ -2,6 +2,7 @@
 #![tactic(auto)]
 
 mod answering;
+mod came;
 mod form;
 mod law;
 mod noted;
@@ -9,9 +10,9 @@ mod noting;
 mod pipe;
 mod run;
 mod running;
-mod watching;
 
 pub use answering::{Answering, Unanswered, answer_script};
+pub use came::Came;
 pub use form::{Form, Notation};
 pub use gs_text::{WriteFailed, write_out};
 pub use gs_timeline::Listed;

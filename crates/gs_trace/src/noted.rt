@@ -1,11 +1,11 @@
-ghost use Rattle.std.specs.Prelude.{◌≡◌, ◌∷◌, ℕ, [], None, OnOk, IfOk};
-ghost use Rattle.gs_replies.specs.Replies.{reply_of};
+ghost use Rattle.std.specs.Prelude.{◌≡◌, ◌∷◌, [], None, OnOk, IfOk};
+ghost use Rattle.gs_trace.specs.Came.{reply_in};
 ghost use Rattle.gs_trace.specs.Noted.{filled, page_after};
 
+use crate::came::Came;
 use gs_core::Reply;
 use gs_journal::Entry;
 use gs_kernel::Executed;
-use gs_layout::Refusal;
 use std::alloc::{AllocError, Global};
 
 /// What is noted of the lines of a script as its events happen.
@@ -41,16 +41,14 @@ fn page_after(line: usize, reply: &Reply, page: Option<usize>) -> Option<usize>
     }
 }
 
-/// Returns the line of the last page, by what came of a command, and the kernel's last entry.
-fn page_after_command(
-    came: Result<Executed, Refusal>,
-    last: &Entry,
-    page: Option<usize>,
-) -> Option<usize>
-    ensures { (line : ℕ) → result ≡ page_after line (reply_of came last.now) page }
+/// Returns the line of the last page, by what came of an event of this line.
+#[inline(always)]
+fn page_after_came(line: usize, came: Came<'_>, page: Option<usize>) -> Option<usize>
+    ensures { result ≡ page_after line (reply_in came.entry) page }
 {
-    match (came, last) {
-        (Ok(Executed::Done), Entry::Begin { .. }) => None,
+    match came {
+        Came::Executed(Ok(Executed::Done), Entry::Begin { .. }) => None,
+        Came::Replied(reply) => page_after(line, reply, page),
         _ => page,
     }
 }
@@ -69,6 +67,16 @@ impl Lines {
             stamped: Vec::new(alloc),
             page: None,
         })
+    }
+
+    /// Notes the line of the entries that an event added, by how many there are behind it.
+    #[inline(always)]
+    pub fn note_entries(&mut self, line: usize, count: usize) -> Result<(), AllocError>
+        ensures entries { OnOk result (self.new.entries.items ≡ filled count line self.old.entries.items) }
+        ensures stamped { self.new.stamped ≡ self.old.stamped }
+        ensures page { self.new.page ≡ self.old.page }
+    {
+        fill(&mut self.entries, count, line)
     }
 
     /// Notes an event of a line: by its reply, and by how many entries and transactions there are behind it.
@@ -90,23 +98,22 @@ impl Lines {
         Ok(())
     }
 
-    /// Notes a command of a line, as [`Lines::note`] notes the reply to it.
+    /// Notes an event of a line by what came of it, as [`Lines::note`] notes the reply to it.
     #[inline(always)]
-    pub fn note_command(
+    pub fn note_came(
         &mut self,
         line: usize,
-        came: Result<Executed, Refusal>,
-        last: &Entry,
+        came: Came<'_>,
         entries: usize,
         transactions: usize,
     ) -> Result<(), AllocError>
         ensures entries { OnOk result (self.new.entries.items ≡ filled entries line self.old.entries.items) }
         ensures stamped { OnOk result (self.new.stamped.items ≡ filled transactions line self.old.stamped.items) }
-        ensures page { OnOk result (self.new.page ≡ page_after line (reply_of came last.now) self.old.page) }
+        ensures page { OnOk result (self.new.page ≡ page_after line (reply_in came.entry) self.old.page) }
     {
         fill(&mut self.entries, entries, line)?;
         fill(&mut self.stamped, transactions, line)?;
-        self.page = page_after_command(came, last, self.page);
+        self.page = page_after_came(line, came, self.page);
         Ok(())
     }
 }

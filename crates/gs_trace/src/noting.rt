@@ -1,25 +1,18 @@
 //! What a picture tells beside the journal, noted event by event.
 
-ghost use Rattle.std.specs.Prelude.{◌≡◌, ◌++◌, [], IfOk, OnOk, map};
-ghost use Rattle.gs_trace.specs.Watched.{landed, told_by, told_if, told_in};
+ghost use Rattle.std.specs.Prelude.{◌≡◌, ◌++◌, ◌∷◌, [], IfOk, OnOk, map};
+ghost use Rattle.gs_trace.specs.Came.{reply_in};
+ghost use Rattle.gs_trace.specs.Watched.{Watches, landed, told_by, told_if, told_in};
 
+use crate::came::Came;
 use crate::noted::Lines;
-use gs_core::{Event, Machine, Reply};
-use gs_kernel::{Executed, Landing};
-use gs_layout::Refusal;
-use gs_policy::{Choice, Counted};
+use crate::running::{Sink, When};
+use gs_core::Reply;
+use gs_kernel::{Kernel, Landing};
+use gs_policy::Choice;
+use gs_ring::ByteRing;
 use gs_timeline::{AgentEvent, AgentMark, Fill, Mark, Notes, What};
 use std::alloc::{AllocError, Global};
-
-/// The lines of so many stampings are noted: a mark has its own.
-const NONE_STAMPED: usize = 0;
-
-/// When an event happens: the line that says it, and how many entries the journal had before it.
-#[derive(Clone, Copy)]
-pub(crate) struct When {
-    pub(crate) line: usize,
-    pub(crate) entries: usize,
-}
 
 /// Returns a number of lines or of entries in four bytes. There are never more than fit: neither a script nor a history has
 /// as many.
@@ -118,61 +111,72 @@ impl Noting {
         Ok(())
     }
 
+    /// Notes what became of a transaction under an older generation.
+    fn add_late(&mut self, when: When, number: u32, landing: &Landing) -> Result<(), AllocError>
+        ensures { OnOk result (told_by self.new.marks.items ≡ told_by self.old.marks.items ++ (landing.now.cpu, landing.now.tid, What.Late number landing.now.outcome) ∷ []) }
+    {
+        let what = What::Late {
+            number,
+            outcome: landing.outcome,
+        };
+        self.add(when, landing.cpu, landing.tid, what)
+    }
+
     /// Notes an event by its reply.
-    pub(crate) fn hear<P>(
-        &mut self,
-        when: When,
-        event: &Event<P>,
-        reply: &Reply,
-    ) -> Result<(), AllocError>
+    #[inline(never)]
+    fn hear_reply(&mut self, when: When, reply: &Reply) -> Result<(), AllocError>
         ensures { OnOk result (told_by self.new.marks.items ≡ told_by self.old.marks.items ++ told_in reply.now) }
     {
-        match (reply, event) {
-            (Reply::Stamped { .. }, Event::Stamp { cpu, tid, flags }) => {
-                let what = What::Stamped {
-                    preempt: flags.preempt,
-                    group: flags.group,
-                };
-                self.add(when, *cpu, *tid, what)
-            }
-            (Reply::Decided { choices, .. }, _) => self.add_choices(when, choices.as_slice()),
-            (Reply::Landed { landings, .. }, _) => self.add_landings(when, landings.as_slice()),
-            (
-                Reply::Late {
-                    number,
-                    landing,
-                    ..
-                },
-                _,
-            ) => {
-                let what = What::Late {
-                    number: *number,
-                    outcome: landing.outcome,
-                };
-                self.add(when, landing.cpu, landing.tid, what)
-            }
-            (Reply::Page { count, next, .. }, _) => self.add_agent(
+        match reply {
+            Reply::Decided { choices, .. } => self.add_choices(when, choices.as_slice()),
+            Reply::Landed { landings, .. } => self.add_landings(when, landings.as_slice()),
+            Reply::Late {
+                number,
+                landing,
+                ..
+            } => self.add_late(when, *number, landing),
+            Reply::Page { count, next, .. } => self.add_agent(
                 when,
                 AgentEvent::Page {
                     count: *count,
                     next: *next,
                 },
             ),
-            (Reply::Crashed, _) => self.add_agent(when, AgentEvent::Crashed),
+            Reply::Crashed => self.add_agent(when, AgentEvent::Crashed),
+            _ => Ok(()),
+        }
+    }
+
+    /// Notes an event by what came of it.
+    #[inline(always)]
+    fn hear(&mut self, when: When, came: Came<'_>) -> Result<(), AllocError>
+        ensures { OnOk result (told_by self.new.marks.items ≡ told_by self.old.marks.items ++ told_in (reply_in came.entry)) }
+    {
+        match came {
+            Came::Stamped {
+                cpu,
+                tid,
+                flags,
+                ..
+            } => {
+                let what = What::Stamped {
+                    preempt: flags.preempt,
+                    group: flags.group,
+                };
+                self.add(when, cpu, tid, what)
+            }
+            Came::Landed(landings, _) => self.add_landings(when, landings),
+            Came::Replied(reply) => self.hear_reply(when, reply),
             _ => Ok(()),
         }
     }
 
     /// Notes how full the ring is.
     #[inline(always)]
-    fn look_at_ring<P: Counted + Copy>(
-        &mut self,
-        when: When,
-        machine: &Machine<P>,
-    ) -> Result<(), AllocError>
+    fn look_at_ring(&mut self, when: When, kernel: &Kernel<ByteRing>) -> Result<(), AllocError>
         ensures { OnOk result (self.new.marks.items ≡ self.old.marks.items) }
     {
-        let ring = machine.kernel().poster();
+        let ring = kernel.poster();
         let used = ring.capacity().saturating_sub(ring.free());
         if used != self.used {
             self.used = used;
@@ -183,35 +187,23 @@ impl Noting {
         }
         Ok(())
     }
+}
 
-    /// Notes what an event left: the line of the entries that it added, and how full the ring is.
-    pub(crate) fn look<P: Counted + Copy>(
-        &mut self,
-        when: When,
-        reply: &Reply,
-        machine: &Machine<P>,
-    ) -> Result<(), AllocError>
-        ensures { OnOk result (self.new.marks.items ≡ self.old.marks.items) }
-    {
-        let entries = machine.kernel().journal().len();
-        self.lines.note(when.line, reply, entries, NONE_STAMPED)?;
-        self.look_at_ring(when, machine)
-    }
+/// What a picture tells of the events.
+impl Sink for Noting {
+    ghost has = { Watches };
 
-    /// Notes what a command left, as [`Noting::look`] notes what any event did.
     #[inline(always)]
-    pub(crate) fn look_after<P: Counted + Copy>(
+    #[tactic(auto, using(crate::proofs::Telling::told_more))]
+    fn put(
         &mut self,
+        _alloc: Global,
         when: When,
-        came: Result<Executed, Refusal>,
-        machine: &Machine<P>,
-    ) -> Result<(), AllocError>
-        ensures { OnOk result (self.new.marks.items ≡ self.old.marks.items) }
-    {
-        let last = machine.kernel().last();
-        let entries = machine.kernel().journal().len();
-        self.lines
-            .note_command(when.line, came, last, entries, NONE_STAMPED)?;
-        self.look_at_ring(when, machine)
+        came: Came<'_>,
+        kernel: &Kernel<ByteRing>,
+    ) -> Result<(), AllocError> {
+        self.hear(when, came)?;
+        self.lines.note_entries(when.line, kernel.journal().len())?;
+        self.look_at_ring(when, kernel)
     }
 }

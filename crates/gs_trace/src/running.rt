@@ -11,37 +11,25 @@ ghost use Rattle.gs_script.specs.Unread.{events_unread};
 ghost use Rattle.gs_trace.specs.Adding.{AddedUpTo, AddsOne};
 ghost use Rattle.gs_trace.specs.Came.{reply_in};
 
-use gs_core::{Event, Machine, Reply, is_short, is_short_command};
-use gs_journal::Entry;
-use gs_kernel::Executed;
-use gs_layout::Refusal;
-use gs_lines::{Text, write_executed, write_reply};
+use crate::came::Came;
+use gs_core::{Event, Items, Machine, Reply};
+use gs_kernel::{Command, Kernel, Landing};
+use gs_lines::{
+    Text, write_committed, write_drained, write_executed, write_refused, write_reply, write_stamped,
+};
 use gs_policy::Counted;
 use gs_report::Report;
+use gs_ring::ByteRing;
 use gs_script::{NamedPolicy, Reading, ScriptError};
+use gs_slots::Flags;
+use gs_status::Mask;
 use std::alloc::{AllocError, Global};
-use std::slice;
 
-/// What came of an event, where it lies.
+/// When an event happens: the line that says it, and how many entries the journal had before it.
 #[derive(Clone, Copy)]
-pub(crate) enum Came<'a> {
-    /// What became of a command, or its refusal, and the kernel's last entry.
-    Executed(Result<Executed, Refusal>, &'a Entry),
-    /// The reply to any other event.
-    Replied(&'a Reply),
-}
-
-impl<'a> Came<'a> {
-    /// Tells whether it says that memory ran out.
-    #[inline(always)]
-    fn is_short(&self) -> bool
-        ensures { result ≡ wants_memory (reply_in self.now) }
-    {
-        match self {
-            Came::Executed(came, _) => is_short_command(*came),
-            Came::Replied(reply) => is_short(slice::from_ref(*reply)),
-        }
-    }
+pub(crate) struct When {
+    pub(crate) line: usize,
+    pub(crate) entries: usize,
 }
 
 /// What the replies of a run are added to, one after another.
@@ -49,8 +37,14 @@ pub(crate) trait Sink: Drop {
     /// These replies were added to it, and no others.
     ghost has: { Self → List replies.Reply → Type 0 };
 
-    /// Puts one more reply: what came of an event. It fails only if out of memory.
-    fn put(&mut self, came: Came<'_>) -> Result<(), AllocError>
+    /// Puts one more reply: what came of an event, which left a kernel so. It fails only if out of memory.
+    fn put(
+        &mut self,
+        alloc: Global,
+        when: When,
+        came: Came<'_>,
+        kernel: &Kernel<ByteRing>,
+    ) -> Result<(), AllocError>
         ensures { OnOk result ((rs : List replies.Reply) → has self.old rs → has self.new (rs ++ reply_in came.entry ∷ [])) };
 }
 
@@ -60,9 +54,19 @@ impl Sink for Text {
 
     #[inline(always)]
     #[tactic(auto, using(crate::proofs::Adding::text_more))]
-    fn put(&mut self, came: Came<'_>) -> Result<(), AllocError> {
+    fn put(
+        &mut self,
+        _alloc: Global,
+        _when: When,
+        came: Came<'_>,
+        _kernel: &Kernel<ByteRing>,
+    ) -> Result<(), AllocError> {
         match came {
             Came::Executed(came, last) => write_executed(self, came, last),
+            Came::Refused(refusal) => write_refused(self, refusal),
+            Came::Drained(drained) => write_drained(self, &drained),
+            Came::Stamped { number, .. } => write_stamped(self, number),
+            Came::Landed(landings, torn) => write_committed(self, landings, torn),
             Came::Replied(reply) => write_reply(self, reply),
         }
     }
@@ -71,13 +75,27 @@ impl Sink for Text {
 impl Sink for Report {
     ghost has = { ReportsOn };
 
-    fn put(&mut self, came: Came<'_>) -> Result<(), AllocError> {
+    fn put(
+        &mut self,
+        alloc: Global,
+        _when: When,
+        came: Came<'_>,
+        _kernel: &Kernel<ByteRing>,
+    ) -> Result<(), AllocError> {
         match came {
             Came::Executed(Ok(executed), last) => Report::add(
                 self,
                 &Reply::executed(executed, last),
             ),
-            Came::Executed(Err(refusal), _) => self.add(&Reply::Refused(refusal)),
+            Came::Executed(Err(refusal), _) | Came::Refused(refusal) => {
+                self.add(&Reply::Refused(refusal))
+            }
+            Came::Drained(drained) => self.add(&Reply::Drained(drained)),
+            Came::Stamped { number, .. } => self.add(&Reply::Stamped { number }),
+            Came::Landed(landings, torn) => {
+                let landings = Items::new(landings.to_vec(alloc)?);
+                self.add(&Reply::Landed { landings, torn })
+            }
             Came::Replied(reply) => self.add(reply),
         }
     }
@@ -90,37 +108,159 @@ pub(crate) struct Nothing;
 impl Sink for Nothing {
     ghost has = { λ _ _. Unit {0} };
 
-    fn put(&mut self, _came: Came<'_>) -> Result<(), AllocError> {
+    fn put(
+        &mut self,
+        _alloc: Global,
+        _when: When,
+        _came: Came<'_>,
+        _kernel: &Kernel<ByteRing>,
+    ) -> Result<(), AllocError> {
         Ok(())
     }
 }
 
 /// Adds what came of an event to a sink. It fails only if out of memory, or if that tells of it.
 #[inline(always)]
-fn add_to<S: Sink>(sink: &mut S, came: Came<'_>) -> Result<(), AllocError>
+fn add_to<S: Sink>(
+    alloc: Global,
+    sink: &mut S,
+    when: When,
+    came: Came<'_>,
+    kernel: &Kernel<ByteRing>,
+) -> Result<(), AllocError>
     ensures sufficed { OnOk result (wants_memory (reply_in came.entry) ≡ false) }
     ensures grows { OnOk result ((rs : List replies.Reply) → S.has sink.old rs → S.has sink.new (rs ++ reply_in came.entry ∷ [])) }
 {
     if came.is_short() {
         return Err(AllocError);
     }
-    sink.put(came)
+    sink.put(alloc, when, came, kernel)
 }
 
-/// Runs an event, and adds its reply to a sink. It fails only if out of memory, or if the reply tells of that.
-fn run_one<P: Counted + Copy, S: Sink>(
+/// Executes a command, and adds its reply to a sink. It fails only if out of memory, or if the reply tells of that. So do
+/// the others below.
+#[inline(always)]
+fn execute_one<P: Counted + Copy, S: Sink>(
+    alloc: Global,
     machine: &mut Machine<P>,
+    when: When,
+    command: &Command,
+    sink: &mut S,
+) -> Result<(), AllocError>
+    ensures { OnOk result (AddsOne S.has (planning P.chosen machine.old) (Event.Kernel command.now) (planning P.chosen machine.new) sink.old sink.new) }
+{
+    let came = machine.command(command);
+    let kernel = machine.kernel();
+    let came = Came::Executed(came, kernel.last());
+    add_to(alloc, sink, when, came, kernel)
+}
+
+/// Drains messages.
+#[inline(never)]
+fn drain_one<P: Counted + Copy, S: Sink>(
+    alloc: Global,
+    machine: &mut Machine<P>,
+    when: When,
+    max: u32,
+    sink: &mut S,
+) -> Result<(), AllocError>
+    ensures { OnOk result (AddsOne S.has (planning P.chosen machine.old) (Event.Drain max) (planning P.chosen machine.new) sink.old sink.new) }
+{
+    match machine.drain(max) {
+        Ok(drained) => add_to(alloc, sink, when, Came::Drained(drained), machine.kernel()),
+        Err(refusal) => add_to(alloc, sink, when, Came::Refused(refusal), machine.kernel()),
+    }
+}
+
+/// Stamps a thread.
+#[inline(always)]
+fn stamp_one<P: Counted + Copy, S: Sink>(
+    alloc: Global,
+    machine: &mut Machine<P>,
+    when: When,
+    cpu: u16,
+    tid: u32,
+    flags: Flags,
+    sink: &mut S,
+) -> Result<(), AllocError>
+    ensures { OnOk result (AddsOne S.has (planning P.chosen machine.old) (Event.Stamp cpu tid flags) (planning P.chosen machine.new) sink.old sink.new) }
+{
+    match machine.stamp(cpu, tid, flags) {
+        Ok(number) => {
+            let came = Came::Stamped {
+                cpu,
+                tid,
+                flags,
+                number,
+            };
+            add_to(alloc, sink, when, came, machine.kernel())
+        }
+        Err(refusal) => add_to(alloc, sink, when, Came::Refused(refusal), machine.kernel()),
+    }
+}
+
+/// Commits slots. What became of each is put in the place of what a list has.
+#[inline(never)]
+fn commit_one<P: Counted + Copy, S: Sink>(
+    alloc: Global,
+    machine: &mut Machine<P>,
+    when: When,
+    mask: Mask,
+    landings: &mut Vec<Landing>,
+    sink: &mut S,
+) -> Result<(), AllocError>
+    ensures { OnOk result (AddsOne S.has (planning P.chosen machine.old) (Event.Commit mask) (planning P.chosen machine.new) sink.old sink.new) }
+{
+    match machine.commit(mask, landings) {
+        Ok(torn) => {
+            let came = Came::Landed(landings.as_slice(), torn);
+            add_to(alloc, sink, when, came, machine.kernel())
+        }
+        Err(refusal) => add_to(alloc, sink, when, Came::Refused(refusal), machine.kernel()),
+    }
+}
+
+/// Steps any event.
+#[inline(always)]
+fn step_one<P: Counted + Copy, S: Sink>(
+    alloc: Global,
+    machine: &mut Machine<P>,
+    when: When,
     event: &Event<P>,
     sink: &mut S,
 ) -> Result<(), AllocError>
     ensures { OnOk result (AddsOne S.has (planning P.chosen machine.old) (planned P.chosen event.now) (planning P.chosen machine.new) sink.old sink.new) }
 {
-    if let Event::Kernel { command } = event {
-        let came = machine.command(command);
-        return add_to(sink, Came::Executed(came, machine.kernel().last()));
-    }
     let reply = machine.step(event);
-    add_to(sink, Came::Replied(&reply))
+    add_to(alloc, sink, when, Came::Replied(&reply), machine.kernel())
+}
+
+/// Runs an event of a line, and adds its reply to a sink. It fails only if out of memory, or if the reply tells of that. An event that
+/// is frequent has a call of its own, in which no reply is made. A list serves each commit.
+#[inline(always)]
+fn run_one<P: Counted + Copy, S: Sink>(
+    alloc: Global,
+    machine: &mut Machine<P>,
+    line: usize,
+    event: &Event<P>,
+    landings: &mut Vec<Landing>,
+    sink: &mut S,
+) -> Result<(), AllocError>
+    ensures { OnOk result (AddsOne S.has (planning P.chosen machine.old) (planned P.chosen event.now) (planning P.chosen machine.new) sink.old sink.new) }
+{
+    let when = When {
+        line,
+        entries: machine.kernel().journal().len(),
+    };
+    match event {
+        Event::Kernel { command } => execute_one(alloc, machine, when, command, sink),
+        Event::Drain { max } => drain_one(alloc, machine, when, *max, sink),
+        Event::Stamp { cpu, tid, flags } => {
+            stamp_one(alloc, machine, when, *cpu, *tid, *flags, sink)
+        }
+        Event::Commit { mask } => commit_one(alloc, machine, when, *mask, landings, sink),
+        _ => step_one(alloc, machine, when, event, sink),
+    }
 }
 
 /// Runs the events of a script as they are read, each before the next is read, and adds each reply to a sink. It
@@ -137,9 +277,17 @@ pub(crate) fn run_into<P: NamedPolicy, S: Sink>(
 {
     let mut script = script;
     let mut sink = sink;
+    let mut landings = Vec::new(alloc);
     let mut event = Vec::new(alloc);
-    'events: while let Some(_) = script.next(&mut event)? {
-        run_one(machine, &event[0], &mut sink)?;
+    'events: while let Some(said) = script.next(&mut event)? {
+        run_one(
+            alloc,
+            machine,
+            said.number,
+            &event[0],
+            &mut landings,
+            &mut sink,
+        )?;
         event.clear();
     }
     Ok(sink)

@@ -1,4 +1,4 @@
-use Rattle.std.proofs.Common.{◌≡◌, ◌∙◌, ap, ap₂, sym, subst, ℕ, List, ◌++◌, map}
+use Rattle.std.proofs.Common.{◌≡◌, ◌∙◌, ap, ap₂, sym, subst, ℕ, List, map}
 use Rattle.std.proofs.lemmas.Result.{IfOk-weaker}
 use Rattle.std.specs.List.{range_with_len}
 use Rattle.gs_journal.specs.History.{History}
@@ -21,25 +21,24 @@ returns g c =
     let notation = c.in-Latency.notation in
     let threads = c.in-Latency.threads in
     let told = c.in_ok-told.told in
-    let accounts : List Account = c.in_ok-accounts-in-Latency.accounts.by_class.items ++ c.in_ok-accounts-in-Latency.accounts.by_thread.items in
     let heard : c.journal-journal.result.now.entries ≡ h = c.journal-journal.ensures.entries ∙ c.kernel.ensures.history in
     let counted : c.settings-cpus.result.cpus ≡ cpus = ap (λ (s : Settings). s.cpus) (c.settings-cpus.ensures.value ∙ c.kernel-2.ensures.settings) in
     let are : IsTurns cpus h told.turns.items =
     subst (λ (k : ℕ). IsTurns k h told.turns.items) counted (subst (λ (g : History). IsTurns c.settings-cpus.result.cpus g told.turns.items) heard c.in_ok-told.ensures.turns) in
-    let tell : AreAccounts threads h told.turns.items landings accounts =
-    subst (λ (g : History). AreAccounts threads g told.turns.items landings accounts) heard
-    (subst (λ (ls : List Landing). AreAccounts threads c.journal-journal.result.now.entries told.turns.items ls accounts) c.deref-in-Latency.ensures.value
-    (c.in_ok-accounts-in-Latency.ensures c.journal-journal.result.now.entries c.in_ok-told.ensures.known)) in
     let uses : c.in_ok-usages-in-Latency.usages.items ≡ map (usage_of h) (range_with_len 0 cpus) =
     c.in_ok-usages-in-Latency.ensures ∙ ap₂ (λ (g : History) (k : ℕ). map (usage_of g) (range_with_len 0 k)) heard counted in
-    IfOk-weaker c.latency.result (λ bytes. bytes.items ≡ latency_of notation accounts c.deref-in-Latency-2.result.now)
-    (λ bytes. Shows c.args.table landings c.args.notes.now.lines.entries.items cpus h bytes.items)
-    (λ bytes is.
+    IfOk-weaker c.latency.result _ (λ bytes. Shows c.args.table landings c.args.notes.now.lines.entries.items cpus h bytes.items)
+    (λ bytes got.
+    let all = got c.journal-journal.result.now.entries c.in_ok-told.ensures.known in
+    let accounts : List Account = all.0 in
+    let tell : AreAccounts threads h told.turns.items landings accounts =
+    subst (λ (g : History). AreAccounts threads g told.turns.items landings accounts) heard
+    (subst (λ (ls : List Landing). AreAccounts threads c.journal-journal.result.now.entries told.turns.items ls accounts) c.deref-in-Latency.ensures.value all.1) in
     subst (λ (t : Table). Shows t landings c.args.notes.now.lines.entries.items cpus h bytes.items) (sym c.in-Latency.is) record {
       turns = told.turns.items;
       are = are;
       accounts = accounts;
       tell = tell;
-      is = is ∙ ap (λ (us : List Usage). latency_of notation accounts us) (c.deref-in-Latency-2.ensures.value ∙ uses);
+      is = all.2 ∙ ap (λ (us : List Usage). latency_of notation accounts us) (c.deref-in-Latency-2.ensures.value ∙ uses);
     })
     c.latency.ensures

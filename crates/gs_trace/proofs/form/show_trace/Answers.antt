@@ -9,7 +9,11 @@ use Rattle.gs_trace.specs.Output.{IsTrace, shown_as}
 use Rattle.gs_trace.specs.Streams.{Leaves}
 use Rattle.gs_trace.proofs.Adding.{all_added}
 use Rattle.gs_trace.proofs.Writing.{begins_trace, begins_weaker, if_error_is}
+use Rattle.gs_trace.proofs.Telling.{told_none}
 use Rattle.gs_trace.proofs.form.show_trace.Goals as goal
+
+pub run_into-requires : goal.run_into-requires
+run_into-requires g c = told_none c.in_ok-new.field-0.marks.items c.in_ok-new.ensures
 
 -- a trace of the machine's history
 same_trace : (cpus end : ℕ) (h last : History) (out : List ℕ) → cpus ≡ end → h ≡ last → IsTrace cpus h out → IsTrace end last out
@@ -17,7 +21,7 @@ same_trace cpus end h last out e f t = subst (λ (n : ℕ). IsTrace n last out) 
 
 pub returns-in_err-write-clause-left : goal.returns-in_err-write-clause-left
 returns-in_err-write-clause-left g c =
-    let end = planning g.P.Policy.chosen c.run_watched.new.machine in
+    let end = planning g.P.Policy.chosen c.run_into.new.machine in
     let history : c.journal.result.now.entries ≡ end.history = c.journal.ensures.entries ∙ c.kernel-kernel.ensures.history in
     let cpus : c.settings-cpus.result.cpus ≡ end.settings.cpus = ap (λ (s : Settings). s.cpus) (c.settings-cpus.ensures.value ∙ c.kernel-kernel.ensures.settings) in
     if_error_is _ WriteFailed (Leaves (events_unread g.P.NamedPolicy.naming c.args.script) _ _ _) c.from_residual-in_err-write.ensures.1
@@ -27,7 +31,7 @@ returns-in_err-write-clause-left g c =
 
 pub returns-clause-shown : goal.returns-clause-shown
 returns-clause-shown g c =
-    let end = planning g.P.Policy.chosen c.run_watched.new.machine in
+    let end = planning g.P.Policy.chosen c.run_into.new.machine in
     let history : c.journal.result.now.entries ≡ end.history = c.journal.ensures.entries ∙ c.kernel-kernel.ensures.history in
     let cpus : c.settings-cpus.result.cpus ≡ end.settings.cpus = ap (λ (s : Settings). s.cpus) (c.settings-cpus.ensures.value ∙ c.kernel-kernel.ensures.settings) in
     let (out, written, has) = c.in_ok-write.ensures.written in

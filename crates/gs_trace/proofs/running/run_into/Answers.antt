@@ -11,7 +11,7 @@ pub events-preserved : goal.events-preserved
 events-preserved g c =
     let now = planning g.P.Policy.chosen c.events.machine in
     let next = planning g.P.Policy.chosen c.run_one.new.machine in
-    let read = MatchOption-at_some _ (ReadsNext g.P.NamedPolicy.naming c.events.script c.next.new.self c.events.event.items c.next.new.events.items) c.in-Some.field-0 c.in-Some.is c.in_ok-next.ensures.read in
+    let read = MatchOption-at_some _ (ReadsNext g.P.NamedPolicy.naming c.events.script c.next.new.self c.events.event.items c.next.new.events.items) c.in-Some.said c.in-Some.is c.in_ok-said.ensures.read in
     let only : c.next.new.events.items ≡ read.event ∷ [] = read.added ∙ ap (λ es. es ++ read.event ∷ []) c.events.invariant.one in
     let is : c.index.result.now ≡ read.event = search rules in
     let one = subst (λ (e : Event _). AddsOne g.S.Sink.has now (planned g.P.Policy.chosen e) next c.events.sink c.run_one.new.sink) is c.in_ok-run_one.ensures in

@@ -1,0 +1,46 @@
+use Rattle.std.proofs.Common.{◌≡◌, ◌∙◌, ap, refl, subst, length}
+use Rattle.gs_core.specs.Machine.{Step, planned, planning}
+use Rattle.gs_replies.specs.declared.reply.Reply.{Reply}
+use Rattle.gs_replies.specs.declared.reply.Reply.TheVariants as replies
+use Rattle.gs_script.specs.Unread.{said_line}
+use Rattle.gs_trace.specs.NotedLines.{noted_of}
+use Rattle.gs_explain.proofs.Happened.{explains_one, stood}
+use Rattle.gs_explain.proofs.telling.explain_step.Goals as goal
+
+pub explain_other_refusal-requires : goal.explain_other_refusal-requires
+explain_other_refusal-requires g c = λ κs.
+    let m = planning g.P.Policy.chosen c.args.machine.now in
+    let next = planning g.P.Policy.chosen c.step-reply.new.self in
+    let first : c.len-first.result ≡ length m.history = c.len-first.ensures.value ∙ ap length (c.journal.ensures.entries ∙ c.kernel.ensures.history) in
+    let stamped : length c.transactions-stamped.result.now ≡ length m.transactions = ap length c.transactions-stamped.ensures in
+    let step : Step m (planned g.P.Policy.chosen c.args.event.now) (replies.Refused c.in-Refused.refusal) next = subst (λ (r : Reply). Step m (planned g.P.Policy.chosen c.args.event.now) r next) c.in-Refused.is c.step-reply.ensures.step in
+    ((refl, tt), (c.requires.text, stood m (planned g.P.Policy.chosen c.args.event.now) (replies.Refused c.in-Refused.refusal) next c.len-first.result (length c.transactions-stamped.result.now) c.args.index.now c.args.last.now.places.items step first stamped c.requires.heard c.requires.marked))
+
+pub returns-in-Refused : goal.returns-in-Refused
+returns-in-Refused g c =
+    let m = planning g.P.Policy.chosen c.args.machine.now in
+    let next = planning g.P.Policy.chosen c.step-reply.new.self in
+    let first : c.len-first.result ≡ length m.history = c.len-first.ensures.value ∙ ap length (c.journal.ensures.entries ∙ c.kernel.ensures.history) in
+    let stamped : length c.transactions-stamped.result.now ≡ length m.transactions = ap length c.transactions-stamped.ensures in
+    let step : Step m (planned g.P.Policy.chosen c.args.event.now) (replies.Refused c.in-Refused.refusal) next = subst (λ (r : Reply). Step m (planned g.P.Policy.chosen c.args.event.now) r next) c.in-Refused.is c.step-reply.ensures.step in
+    explains_one g.P.Policy.chosen g.T.Teller.show (noted_of c.args.lines.now) m (said_line c.args.said.now) c.args.event.now c.with_policy-event.result (replies.Refused c.in-Refused.refusal) next c.len-first.result (noted_of c.explain_other_refusal.new.lines) c.explain_other_refusal.new.index c.explain_other_refusal.new.last.places.items (g.T.Teller.bytes c.args.out.now) (g.T.Teller.bytes c.explain_other_refusal.new.out) c.explain_other_refusal.result
+    step c.step-reply.ensures.safe c.step-reply.ensures.faithful c.with_policy-event.ensures first c.explain_other_refusal.ensures
+
+pub explain_came-requires : goal.explain_came-requires
+explain_came-requires g c = λ κs.
+    let m = planning g.P.Policy.chosen c.args.machine.now in
+    let next = planning g.P.Policy.chosen c.step-reply.new.self in
+    let first : c.len-first.result ≡ length m.history = c.len-first.ensures.value ∙ ap length (c.journal.ensures.entries ∙ c.kernel.ensures.history) in
+    let stamped : length c.transactions-stamped.result.now ≡ length m.transactions = ap length c.transactions-stamped.ensures in
+    let step : Step m (planned g.P.Policy.chosen c.args.event.now) c.step-reply.result next = c.step-reply.ensures.step in
+    ((refl, tt), (c.requires.text, stood m (planned g.P.Policy.chosen c.args.event.now) c.step-reply.result next c.len-first.result (length c.transactions-stamped.result.now) c.args.index.now c.args.last.now.places.items step first stamped c.requires.heard c.requires.marked))
+
+pub returns : goal.returns
+returns g c =
+    let m = planning g.P.Policy.chosen c.args.machine.now in
+    let next = planning g.P.Policy.chosen c.step-reply.new.self in
+    let first : c.len-first.result ≡ length m.history = c.len-first.ensures.value ∙ ap length (c.journal.ensures.entries ∙ c.kernel.ensures.history) in
+    let stamped : length c.transactions-stamped.result.now ≡ length m.transactions = ap length c.transactions-stamped.ensures in
+    let step : Step m (planned g.P.Policy.chosen c.args.event.now) c.step-reply.result next = c.step-reply.ensures.step in
+    explains_one g.P.Policy.chosen g.T.Teller.show (noted_of c.args.lines.now) m (said_line c.args.said.now) c.args.event.now c.with_policy-event.result c.step-reply.result next c.len-first.result (noted_of c.explain_came.new.lines) c.explain_came.new.index c.explain_came.new.last.places.items (g.T.Teller.bytes c.args.out.now) (g.T.Teller.bytes c.explain_came.new.out) c.explain_came.result
+    step c.step-reply.ensures.safe c.step-reply.ensures.faithful c.with_policy-event.ensures first c.explain_came.ensures

@@ -1,7 +1,0 @@
-use Rattle.std.proofs.Common.{◌≡◌, ◌++◌, take}
-use Rattle.std.specs.List.{flat_map}
-use Rattle.gs_tables.specs.Latency.{account_shown}
-use Rattle.gs_tables.proofs.latency.push_thread_waits.Given as goal
-
-abbrev pub invariant-loop-account : goal.invariant-loop-account
-invariant-loop-account l = l.out ≡ l.fn.out ++ flat_map (account_shown l.notation) (take l.account-index l.accounts)

@@ -1,0 +1,22 @@
+use Rattle.std.proofs.Common.{subst}
+use Rattle.gs_core.specs.declared.event.Event.TheVariants as events
+use Rattle.gs_core.specs.Machine.{Step, planning}
+use Rattle.gs_replies.specs.declared.reply.Reply.TheVariants as replies
+use Rattle.gs_replies.specs.Replies.{replied_as}
+use Rattle.gs_trace.specs.NotedLines.{noted_of}
+use Rattle.gs_tables.proofs.Noting.{notes_one}
+use Rattle.gs_tables.proofs.notes.note_stamp.Goals as goal
+
+pub returns-in-Ok : goal.returns-in-Ok
+returns-in-Ok g c =
+    let m = planning g.P.Policy.chosen c.args.machine.now in
+    let next = planning g.P.Policy.chosen c.stamp.new.self in
+    notes_one g.P.Policy.chosen (noted_of c.args.notes.now.lines) c.args.notes.now.landings.items m c.args.line (events.Stamp c.args.cpu c.args.tid c.args.flags) (replies.Stamped c.in-Ok.number) next (noted_of c.note_came.new.notes.lines) c.note_came.new.notes.landings.items c.note_came.result
+    (subst (λ (r : _). Step m (events.Stamp c.args.cpu c.args.tid c.args.flags) (replied_as replies.Stamped r) next) c.in-Ok.is c.stamp.ensures.step) c.stamp.ensures.safe c.stamp.ensures.faithful c.note_came.ensures
+
+pub returns-in-Err : goal.returns-in-Err
+returns-in-Err g c =
+    let m = planning g.P.Policy.chosen c.args.machine.now in
+    let next = planning g.P.Policy.chosen c.stamp.new.self in
+    notes_one g.P.Policy.chosen (noted_of c.args.notes.now.lines) c.args.notes.now.landings.items m c.args.line (events.Stamp c.args.cpu c.args.tid c.args.flags) (replies.Refused c.in-Err.refusal) next (noted_of c.note_came-in-Err.new.notes.lines) c.note_came-in-Err.new.notes.landings.items c.note_came-in-Err.result
+    (subst (λ (r : _). Step m (events.Stamp c.args.cpu c.args.tid c.args.flags) (replied_as replies.Stamped r) next) c.in-Err.is c.stamp.ensures.step) c.stamp.ensures.safe c.stamp.ensures.faithful c.note_came-in-Err.ensures
