@@ -1,6 +1,6 @@
 //! What a line of a script says.
 
-ghost use Rattle.std.specs.Prelude.{◌≡◌, ◌<◌, IfOk, IfErr, IfSome, MatchOption, OnOk, None, Some, Ok, if◌then◌else◌, vec_capacity, vec_len};
+ghost use Rattle.std.specs.Prelude.{◌≡◌, ◌<◌, IfOk, IfErr, IfSome, OnOk, None, Some, Ok, if◌then◌else◌, vec_capacity, vec_len};
 ghost use Rattle.std.specs.Result.{result_map_both};
 ghost use Rattle.gs_replies.specs.Config.{config_fault};
 ghost use Rattle.gs_script.specs.Rows.{event_of, shown};
@@ -13,7 +13,7 @@ use crate::event_line::event;
 use crate::fault::{Reason, ScriptFault};
 use crate::header::header;
 use crate::named_policy::NamedPolicy;
-use crate::plain_line::add_plain;
+use crate::plain_line::pass_plain;
 use crate::script::ScriptError;
 use crate::word::{split, text};
 use gs_core::{Config, Event};
@@ -99,44 +99,47 @@ pub(crate) fn header_line<P: NamedPolicy>(
     }
 }
 
-/// Returns an event, if there is one, with what is left behind its line.
-fn with_left<'a, P>(
-    event: Option<Event<P>>,
-    left: Option<&'a [u8]>,
-) -> Option<(Event<P>, Option<&'a [u8]>)>
-    ensures { MatchOption result (event ≡ None) (λ p. (event ≡ Some p.0) × (p.1 ≡ left.entry)) }
+/// Adds the event that the first line of a text says by its words, if it says one. Then it puts what is left behind the
+/// line into a place.
+#[inline(never)]
+fn add_by_words<'a, P: NamedPolicy>(
+    text: &'a [u8],
+    left: &mut Option<&'a [u8]>,
+    words: &mut Vec<&'a str>,
+    events: &mut Vec<Event<P>>,
+) -> Result<(), LineError>
+    ensures ok { OnOk result (Adds P.naming text.now left.new events.old.items events.new.items) }
+    ensures err { IfErr result (λ e. Fails P.naming text.now e) }
+    ensures kept { IfErr result (λ e. left.new ≡ left.old) }
 {
-    match event {
-        Some(event) => Some((event, left)),
-        None => None,
+    let (line, behind) = first_line(text);
+    if let Some(event) = event_line(line, words)? {
+        if events.push(event).is_err() {
+            return Err(LineError::OutOfMemory);
+        }
     }
+    *left = behind;
+    Ok(())
 }
 
-/// Adds the event that the first line of a text says, if it says one, and returns what is left behind the
-/// line. A plain line is read in one pass, and any other by its words.
+/// Adds the event that the first line of a text says, if it says one, and puts what is left behind the line into a
+/// place. A plain line is read in one pass, and any other by its words.
 #[inline(always)]
 pub(crate) fn add_event<'a, P: NamedPolicy>(
     text: &'a [u8],
+    left: &mut Option<&'a [u8]>,
     words: &mut Vec<&'a str>,
     events: &mut Vec<Event<P>>,
-) -> Result<Option<&'a [u8]>, LineError>
+) -> Result<(), LineError>
     requires { vec_len events.old < vec_capacity events.old }
-    ensures ok { IfOk result (λ left. Adds P.naming text.now left events.old.items events.new.items) }
+    ensures ok { OnOk result (Adds P.naming text.now left.new events.old.items events.new.items) }
     ensures err { IfErr result (λ e. Fails P.naming text.now e) }
+    ensures kept { IfErr result (λ e. left.new ≡ left.old) }
 {
-    match add_plain(text, events) {
-        Some(left) => Ok(left),
-        None => {
-            let (line, left) = first_line(text);
-            match with_left(event_line(line, words)?, left) {
-                None => Ok(left),
-                Some((event, left)) => match events.push(event) {
-                    Ok(()) => Ok(left),
-                    Err(_) => Err(LineError::OutOfMemory),
-                },
-            }
-        }
+    if pass_plain(text, left, events) {
+        return Ok(());
     }
+    add_by_words(text, left, words, events)
 }
 
 /// Returns what a line in the header's place says, or `None` if it says nothing. Its configuration is one that an
@@ -176,8 +179,6 @@ pub fn read_event<P: NamedPolicy>(
         return Err(LineError::OutOfMemory);
     }
     let mut words = Vec::new(alloc);
-    match add_event(line, &mut words, events) {
-        Ok(_) => Ok(()),
-        Err(error) => Err(error),
-    }
+    let mut left = None;
+    add_event(line, &mut left, &mut words, events)
 }

@@ -1,11 +1,11 @@
 //! Lines in their plainest form, read in one pass over their bytes: a word, and one space before each word behind it.
 
-ghost use Rattle.std.specs.Prelude.{◌≡◌, ◌<◌, ◌∷◌, [], codes, IfSome, if◌then◌else◌, vec_capacity, vec_len};
+ghost use Rattle.std.specs.Prelude.{◌≡◌, ◌<◌, ◌++◌, ◌∷◌, [], codes, false, true, IfSome, if◌then◌else◌, vec_capacity, vec_len};
 ghost use Rattle.gs_script.specs.Rows as rows;
 ghost use Rattle.gs_script.specs.Rows.{reads};
-ghost use Rattle.gs_script.specs.Plain.{FirstLine, IsRead, StartsWith};
+ghost use Rattle.gs_script.specs.Plain.{StartsWith};
 ghost use Rattle.gs_core.specs.declared.event.Event.TheVariants as kinds;
-ghost use Rattle.gs_script.specs.Held.{AddsIf, AddsReadIf};
+ghost use Rattle.gs_script.specs.Held.{Adds, AddsIf, AddsReadIf};
 
 use crate::cursor::{
     behind, flags_first, line_end, mask_last, mask_spaced, number_first, number_last,
@@ -42,9 +42,11 @@ fn runnable_spaced(text: &[u8]) -> Option<(bool, &[u8])>
     }
 }
 
-/// A creation, and what is left behind its line.
-fn create<P: Copy>(text: &[u8]) -> Option<(Event<P>, Option<&[u8]>)>
-    ensures { IfSome result (λ p. FirstLine (IsRead (reads rows.create) p.0) text.now p.1) }
+/// A creation, out of line.
+#[inline(never)]
+fn create<'a, P: Copy>(text: &'a [u8], events: &mut Events<P>) -> Left<'a>
+    requires { vec_len events.old < vec_capacity events.old }
+    ensures { AddsReadIf (reads rows.create) text.now events.old.items events.new.items result }
 {
     let (mask, rest) = mask_spaced(text)?;
     let (class, rest) = number_spaced(rest, 1)?;
@@ -59,7 +61,17 @@ fn create<P: Copy>(text: &[u8]) -> Option<(Event<P>, Option<&[u8]>)>
         class: Class::numbered(class as u8),
         name,
     };
-    Some((of_kernel(Command::Create { facts }), left))
+    events.push_reserved(of_kernel(Command::Create { facts }));
+    Some(left)
+}
+
+/// A creation. The place for what `create` returns is cleared here, and so for no other line.
+#[inline(always)]
+fn creation<'a, P: Copy>(text: &'a [u8], events: &mut Events<P>) -> Left<'a>
+    requires { vec_len events.old < vec_capacity events.old }
+    ensures { AddsReadIf (reads rows.create) text.now events.old.items events.new.items result }
+{
+    create(text, events)
 }
 
 /// What happens to the thread of a number.
@@ -73,6 +85,15 @@ fn to_thread<'a, P: Copy>(text: &'a [u8], event: ThreadEvent, events: &mut Event
     Some(left)
 }
 
+/// What stands behind the first word of an affinity. The compiler folds a comparison of eight bytes at most.
+#[inline(always)]
+fn behind_affinity(text: &[u8]) -> Option<&[u8]>
+    ensures { IfSome result (λ rest. text.now ≡ codes "affinity " ++ rest.now) }
+{
+    behind(behind(text, b"affinit")?, b"y ")
+}
+
+/// An affinity.
 #[inline(always)]
 fn affinity<'a, P: Copy>(text: &'a [u8], events: &mut Events<P>) -> Left<'a>
     requires { vec_len events.old < vec_capacity events.old }
@@ -88,10 +109,11 @@ fn affinity<'a, P: Copy>(text: &'a [u8], events: &mut Events<P>) -> Left<'a>
     Some(left)
 }
 
-/// A stamp, and what is left behind its line.
+/// A stamp.
 #[inline(always)]
-fn stamp<P: Copy>(text: &[u8]) -> Option<(Event<P>, Option<&[u8]>)>
-    ensures { IfSome result (λ p. FirstLine (IsRead (reads rows.stamp) p.0) text.now p.1) }
+fn stamp<'a, P: Copy>(text: &'a [u8], events: &mut Events<P>) -> Left<'a>
+    requires { vec_len events.old < vec_capacity events.old }
+    ensures { AddsReadIf (reads rows.stamp) text.now events.old.items events.new.items result }
 {
     let (cpu, rest) = number_spaced(text, u16::MAX as u64)?;
     let (tid, rest) = number_first(rest, u32::MAX as u64)?;
@@ -99,17 +121,19 @@ fn stamp<P: Copy>(text: &[u8]) -> Option<(Event<P>, Option<&[u8]>)>
     let left = line_end(rest)?;
     let cpu = cpu as u16;
     let tid = tid as u32;
-    Some((Event::Stamp { cpu, tid, flags }, left))
+    events.push_reserved(Event::Stamp { cpu, tid, flags });
+    Some(left)
 }
 
 /// Adds the event of a text's first line, if that is a frequent one in its plainest form, and returns what is left
 /// behind the line. `None` says nothing of the line, and nothing is added then.
-pub(crate) fn add_plain<'a, P: NamedPolicy>(text: &'a [u8], events: &mut Events<P>) -> Left<'a>
+#[inline(always)]
+fn add_plain<'a, P: NamedPolicy>(text: &'a [u8], events: &mut Events<P>) -> Left<'a>
     requires { vec_len events.old < vec_capacity events.old }
     ensures { AddsIf P.naming text.now events.old.items events.new.items result }
 {
     match text.first()? {
-        b'a' => affinity(behind(text, b"affinity ")?, events),
+        b'a' => affinity(behind_affinity(text)?, events),
         b'b' => to_thread(behind(text, b"block ")?, ThreadEvent::Block, events),
         b'c' => match behind(text, b"commit ") {
             Some(rest) => {
@@ -118,13 +142,7 @@ pub(crate) fn add_plain<'a, P: NamedPolicy>(text: &'a [u8], events: &mut Events<
                 events.push_reserved(Event::Commit { mask });
                 Some(left)
             }
-            None => {
-                let Some((event, left)) = create(behind(text, b"create ")?) else {
-                    return None;
-                };
-                events.push_reserved(event);
-                Some(left)
-            }
+            None => creation(behind(text, b"create ")?, events),
         },
         b'd' => match behind(text, b"drain ") {
             Some(rest) => {
@@ -162,13 +180,7 @@ pub(crate) fn add_plain<'a, P: NamedPolicy>(text: &'a [u8], events: &mut Events<
             Some(left)
         }
         b's' => match behind(text, b"stamp ") {
-            Some(rest) => {
-                let Some((event, left)) = stamp(rest) else {
-                    return None;
-                };
-                events.push_reserved(event);
-                Some(left)
-            }
+            Some(rest) => stamp(rest, events),
             None => {
                 let left = line_end(behind(text, b"state")?)?;
                 events.push_reserved(Event::State);
@@ -200,5 +212,27 @@ pub(crate) fn add_plain<'a, P: NamedPolicy>(text: &'a [u8], events: &mut Events<
         b'w' => to_thread(behind(text, b"wake ")?, ThreadEvent::Wake, events),
         b'y' => to_thread(behind(text, b"yield ")?, ThreadEvent::Yield, events),
         _ => None,
+    }
+}
+
+/// Adds the event of a text's first line, if that is a frequent one in its plainest form, puts what is left behind the
+/// line into a place, and returns true. Or it changes nothing, and says nothing of the line.
+#[inline(never)]
+pub(crate) fn pass_plain<'a, P: NamedPolicy>(
+    text: &'a [u8],
+    left: &mut Option<&'a [u8]>,
+    events: &mut Events<P>,
+) -> bool
+    requires { vec_len events.old < vec_capacity events.old }
+    ensures read { result ≡ true → Adds P.naming text.now left.new events.old.items events.new.items }
+    ensures unread { result ≡ false → events.new.items ≡ events.old.items }
+    ensures kept { result ≡ false → left.new ≡ left.old }
+{
+    match add_plain(text, events) {
+        Some(rest) => {
+            *left = rest;
+            true
+        }
+        None => false,
     }
 }

@@ -1,6 +1,6 @@
 //! A script, read line by line: its header, and then its events, one after another.
 
-ghost use Rattle.std.specs.Prelude.{◌≡◌, ◌+◌, ◌<◌, ◌≤◌, ◌∷◌, ◌^◌, [], IfOk, IfErr, IfSome, MatchOption, Ok, None, length};
+ghost use Rattle.std.specs.Prelude.{◌≡◌, ◌+◌, ◌<◌, ◌≤◌, ◌∷◌, ◌^◌, [], IfOk, IfErr, MatchOption, Ok, None, length};
 ghost use Rattle.gs_replies.specs.Config.{config_fault};
 ghost use Rattle.gs_script.specs.Words.{lines_of};
 ghost use Rattle.gs_script.specs.Plain.{FirstLine, lines_left};
@@ -71,35 +71,33 @@ fn line_before<'a>(text: &'a [u8], left: Option<&[u8]>) -> &'a [u8]
     }
 }
 
-/// Reads on up to the next event, and adds it. Returns the line that says it with what is left behind that, or `None`
-/// if no event is left. The first line has this number.
+/// Reads on up to the next event, and adds it. Returns the line that says it, or `None` if no event is left. The places
+/// have what was not read yet and the number of its first line, also where a line has a fault.
 #[inline(always)]
 fn add_next<'a, P: NamedPolicy>(
-    first: usize,
-    text: Option<&'a [u8]>,
+    next: &mut usize,
+    text: &mut Option<&'a [u8]>,
     words: &mut Vec<&'a str>,
     events: &mut Vec<Event<P>>,
-) -> Result<Option<(SaidLine<'a>, Option<&'a [u8]>)>, ScriptError>
-    requires { first + length (lines_left text) < 2 ^ 62 }
-    ensures read { IfOk result (λ o. MatchOption o (ReadsNone P.naming (record { number = first; lines = lines_left text.entry }) events.old.items events.new.items) (λ p. ReadsNext P.naming (record { number = first; lines = lines_left text.entry }) (record { number = p.0.number + 1; lines = lines_left p.1 }) events.old.items events.new.items p.0)) }
-    ensures few { IfOk result (λ o. IfSome o (λ p. p.0.number + 1 + length (lines_left p.1) ≤ first + length (lines_left text.entry))) }
-    ensures fault { IfErr result (λ e. Faults e (events_unread P.naming (record { number = first; lines = lines_left text.entry }))) }
+) -> Result<Option<SaidLine<'a>>, ScriptError>
+    requires { next.old + length (lines_left text.old) < 2 ^ 62 }
+    ensures read { IfOk result (λ o. MatchOption o (ReadsNone P.naming (record { number = next.old; lines = lines_left text.old }) events.old.items events.new.items) (ReadsNext P.naming (record { number = next.old; lines = lines_left text.old }) (record { number = next.new; lines = lines_left text.new }) events.old.items events.new.items)) }
+    ensures few { next.new + length (lines_left text.new) ≤ next.old + length (lines_left text.old) }
+    ensures fault { IfErr result (λ e. Faults e (events_unread P.naming (record { number = next.old; lines = lines_left text.old }))) }
 {
-    let mut rest = text;
-    let mut number = first;
     let count = events.len();
-    'lines: while let Some(text) = rest {
+    'lines: while let Some(line) = *text {
         events.reserve(1)?;
-        let left = match add_event(text, words, events) {
-            Ok(left) => left,
+        let number = *next;
+        match add_event(line, text, words, events) {
+            Ok(()) => {}
             Err(error) => return Err(at(number, error)),
-        };
-        if count < events.len() {
-            let bytes = line_before(text, left);
-            return Ok(Some((SaidLine { number, bytes }, left)));
         }
-        rest = left;
-        number += 1;
+        *next = number + 1;
+        if count < events.len() {
+            let bytes = line_before(line, *text);
+            return Ok(Some(SaidLine { number, bytes }));
+        }
     }
     Ok(None)
 }
@@ -118,8 +116,15 @@ impl<'a, P: NamedPolicy> Reading<'a, P> {
     ///
     /// ```
     /// let mut event = Vec::new(alloc);
-    /// 'events: while let Some(_) = script.next(&mut event)? {
-    ///     run_one(machine, &event[0], &mut sink)?;
+    /// 'events: while let Some(said) = script.next(&mut event)? {
+    ///     run_one(
+    ///         alloc,
+    ///         machine,
+    ///         said.number,
+    ///         &event[0],
+    ///         &mut landings,
+    ///         &mut sink,
+    ///     )?;
     ///     event.clear();
     /// }
     /// ```
@@ -128,14 +133,7 @@ impl<'a, P: NamedPolicy> Reading<'a, P> {
         ensures read { IfOk result (λ o. MatchOption o (ReadsNone P.naming self.old events.old.items events.new.items) (ReadsNext P.naming self.old self.new events.old.items events.new.items)) }
         ensures fault { IfErr result (λ e. Faults e (events_unread P.naming self.old)) }
     {
-        match add_next(self.number, self.text, &mut self.words, events)? {
-            None => Ok(None),
-            Some((said, left)) => {
-                self.number = said.number + 1;
-                self.text = left;
-                Ok(Some(said))
-            }
-        }
+        add_next(&mut self.number, &mut self.text, &mut self.words, events)
     }
 
     /// Reads all events that were not read yet.

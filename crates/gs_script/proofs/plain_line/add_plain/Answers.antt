@@ -6,8 +6,8 @@ use Rattle.gs_script.specs.Rows.{reads}
 use Rattle.gs_script.proofs.PlainLines.{alone_added, number_read, spoken_added, spoken_read}
 use Rattle.gs_script.proofs.plain_line.add_plain.Goals as goal
 
-pub returns-in_ok-behind-in-97 : goal.returns-in_ok-behind-in-97
-returns-in_ok-behind-in-97 g c = spoken_added g.P.NamedPolicy.naming (codes "affinity") (reads rows.affinity) _ _ _ _ _ refl refl refl (λ words. refl) c.in_ok-behind-in-97.ensures c.affinity.ensures
+pub returns-in_ok-behind_affinity-in-97 : goal.returns-in_ok-behind_affinity-in-97
+returns-in_ok-behind_affinity-in-97 g c = spoken_added g.P.NamedPolicy.naming (codes "affinity") (reads rows.affinity) _ _ _ _ _ refl refl refl (λ words. refl) c.in_ok-behind_affinity-in-97.ensures c.affinity.ensures
 
 pub returns-in_ok-behind-in-98 : goal.returns-in_ok-behind-in-98
 returns-in_ok-behind-in-98 g c = spoken_added g.P.NamedPolicy.naming (codes "block") (reads rows.block) _ _ _ _ _ refl refl refl (λ words. refl) c.in_ok-behind-in-98.ensures c.to_thread.ensures
@@ -15,8 +15,8 @@ returns-in_ok-behind-in-98 g c = spoken_added g.P.NamedPolicy.naming (codes "blo
 pub returns-in_ok-mask-in-Some : goal.returns-in_ok-mask-in-Some
 returns-in_ok-mask-in-Some g c = spoken_read g.P.NamedPolicy.naming (codes "commit") (reads rows.commit) (events.Commit c.new-mask.result) c.args.text.now c.in-Some.rest.now c.in_ok-mask-in-Some.left _ _ refl refl refl (λ words. refl) c.in-Some.ensures (rw c.new-mask.ensures (number_read events.Commit 340282366920938463463374607431768211455 c.in_ok-mask-in-Some.mask _ _ c.in_ok-mask-in-Some.ensures.number)) c.push_reserved.ensures.items
 
-pub returns-in-Some-create : goal.returns-in-Some-create
-returns-in-Some-create g c = spoken_read g.P.NamedPolicy.naming (codes "create") (reads rows.create) c.in-Some-create.event c.args.text.now c.in_ok-behind-in-None.field-0.now c.in-Some-create.left _ _ refl refl refl (λ words. refl) c.in_ok-behind-in-None.ensures (c.in-Some-create.ensures) c.push_reserved-in-None.ensures.items
+pub returns-in_ok-behind-in-None : goal.returns-in_ok-behind-in-None
+returns-in_ok-behind-in-None g c = spoken_added g.P.NamedPolicy.naming (codes "create") (reads rows.create) _ _ _ _ _ refl refl refl (λ words. refl) c.in_ok-behind-in-None.ensures c.creation.ensures
 
 pub returns-in_ok-max-in-Some-behind : goal.returns-in_ok-max-in-Some-behind
 returns-in_ok-max-in-Some-behind g c = spoken_read g.P.NamedPolicy.naming (codes "drain") (reads rows.drain) (events.Drain c.in_ok-max-in-Some-behind.max) c.args.text.now c.in-Some-behind.rest.now c.in_ok-max-in-Some-behind.left _ _ refl refl refl (λ words. refl) c.in-Some-behind.ensures (number_read events.Drain 4294967295 c.in_ok-max-in-Some-behind.max _ _ c.in_ok-max-in-Some-behind.ensures) c.push_reserved-in-Some-behind.ensures.items
@@ -39,8 +39,8 @@ returns-in_ok-number-in-108 g c = spoken_read g.P.NamedPolicy.naming (codes "lat
 pub returns-in_ok-max-in-112 : goal.returns-in_ok-max-in-112
 returns-in_ok-max-in-112 g c = spoken_read g.P.NamedPolicy.naming (codes "page") (reads rows.page) (events.Page c.in_ok-max-in-112.max) c.args.text.now c.in_ok-behind-in-112.field-0.now c.in_ok-max-in-112.left _ _ refl refl refl (λ words. refl) c.in_ok-behind-in-112.ensures (number_read events.Page 65535 c.in_ok-max-in-112.max _ _ c.in_ok-max-in-112.ensures) c.push_reserved-in-112.ensures.items
 
-pub returns-in-Some-stamp : goal.returns-in-Some-stamp
-returns-in-Some-stamp g c = spoken_read g.P.NamedPolicy.naming (codes "stamp") (reads rows.stamp) c.in-Some-stamp.event c.args.text.now c.in-Some-behind-3.rest.now c.in-Some-stamp.left _ _ refl refl refl (λ words. refl) c.in-Some-behind-3.ensures (c.in-Some-stamp.ensures) c.push_reserved-in-Some-behind-3.ensures.items
+pub returns-in-Some-behind-3 : goal.returns-in-Some-behind-3
+returns-in-Some-behind-3 g c = spoken_added g.P.NamedPolicy.naming (codes "stamp") (reads rows.stamp) _ _ _ _ _ refl refl refl (λ words. refl) c.in-Some-behind-3.ensures c.stamp.ensures
 
 pub returns-in_ok-left-in-None-behind-3 : goal.returns-in_ok-left-in-None-behind-3
 returns-in_ok-left-in-None-behind-3 g c = alone_added g.P.NamedPolicy.naming (codes "state") events.State _ _ _ _ _ refl refl refl refl c.in_ok-behind-in-None-behind-3.ensures c.in_ok-left-in-None-behind-3.ensures c.push_reserved-in-None-behind-3.ensures.items

@@ -7,12 +7,12 @@ use Rattle.gs_script.proofs.reading.add_next.Given as goal
 abbrev pub invariant-lines : goal.invariant-lines
 invariant-lines g l =
     record {
-      events : events_of g.P.NamedPolicy.naming l.number (lines_left l.rest) ≡ events_of g.P.NamedPolicy.naming l.fn.first (lines_left l.fn.text);
-      says : said l.number (lines_left l.rest) ≡ said l.fn.first (lines_left l.fn.text);
-      few : l.number + length (lines_left l.rest) ≤ l.fn.first + length (lines_left l.fn.text);
-      fewer : length (lines_left l.rest) ≤ length (lines_left l.fn.text);
+      events : events_of g.P.NamedPolicy.naming l.next (lines_left l.text) ≡ events_of g.P.NamedPolicy.naming l.fn.next (lines_left l.fn.text);
+      says : said l.next (lines_left l.text) ≡ said l.fn.next (lines_left l.fn.text);
+      few : l.next + length (lines_left l.text) ≤ l.fn.next + length (lines_left l.fn.text);
+      fewer : length (lines_left l.text) ≤ length (lines_left l.fn.text);
       same : l.events.items ≡ l.fn.events.items;
     }
 
 abbrev pub decreases-lines : goal.decreases-lines
-decreases-lines g l = length (lines_left l.rest)
+decreases-lines g l = length (lines_left l.text)
