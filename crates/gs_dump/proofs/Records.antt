@@ -12,7 +12,7 @@ use Rattle.gs_status.specs.declared.mask.TheConstants.{MOST_CPUS}
 use Rattle.gs_status.specs.Masks.{has}
 use Rattle.gs_layout.specs.declared.cpu.TheConstants.{NO_CPU}
 use Rattle.gs_layout.specs.declared.name.TheConstants.{MOST_NAME_LEN}
-use Rattle.gs_layout.specs.Name.{is_name}
+use Rattle.gs_layout.specs.Name.{is_name, name_field}
 use Rattle.gs_layout.specs.Reading.{are_zeros, cpu_numbered}
 use Rattle.gs_layout.specs.Spelling.{IsCpuOrNone, IsMask, are_numbers, cpu_number}
 use Rattle.gs_layout.proofs.Laws.{IsBytes, IsBytes-drop, at_place, class_again, class_back, class_passes, cpu_again, cpu_back, cpu_below, flag_again, flag_back, flag_passes, mask_passes, name_short, numbers_from, numbers_pass, reads, zeros_are, zeros_pass}
@@ -21,7 +21,7 @@ use Rattle.gs_dump.specs.declared.version.Version.{Version}
 use Rattle.gs_dump.specs.declared.version.Version.TheVariants as versions
 use Rattle.gs_dump.specs.declared.wire.TheConstants.{CLASS_AT, CPU_AT, FLAGS_AT, MASK_AT, NAME_LEN_AT, TID_AT, TSEQ_AT, VERSION_AT}
 use Rattle.gs_dump.specs.Version.{mask_len, name_at, record_len, version_number}
-use Rattle.gs_dump.specs.Record.{FitsIn, IsLive, name_field, record_spelling}
+use Rattle.gs_dump.specs.Record.{FitsIn, IsLive, record_spelling}
 use Rattle.gs_dump.specs.Reading.{cpu_fits, cpu_number_in, facts_fit, flags_in, is_bad, is_other_version, mask_in, name_fits, name_in, name_len_in, numbers_fit, record_fits, record_in, tid_in, tseq_in, version_in}
 
 -- the bytes of a mask are as many as the version gives it
@@ -166,6 +166,10 @@ name_behind p t size short zeros =
     let rest : drop (p + n) t ≡ drop n (drop p t) = sym (drop-drop n p t) in
     let padded : replicate (MOST_NAME_LEN - n) 0 ≡ drop n (drop p t) = sym (zeros_are (drop (p + n) t) zeros ∙ ap (λ (k : ℕ). replicate k 0) count) ∙ rest in
     (len, ap (λ (k : ℕ). name ++ replicate (MOST_NAME_LEN - k) 0) len ∙ ap (λ (ys : List ℕ). name ++ ys) padded ∙ take-append-drop n (drop p t))
+
+-- so the name has its zeros
+pub padded_from : (v : Version) (t : List ℕ) → length t ≡ record_len v → Fits v t → name_field (name_in v t) ≡ drop (name_at v) t
+padded_from v t size f = (name_behind (name_at v) t size f.len f.zeros).1
 
 spelled : (v : Version) (t : List ℕ) → IsBytes t → length t ≡ record_len v → version_in t ≡ version_number v → Fits v t → record_spelling v (record_in v t) ≡ t
 spelled v t fits size version f =

@@ -4,16 +4,16 @@ use Rattle.std.specs.Prelude.{slice_index, true}
 use Rattle.std.proofs.Math.Nat.{mul-div_cancel_left}
 use Rattle.std.proofs.lemmas.List.{drop-append-le, drop_at, flat_map_more, length-drop, nil_from_length, take_at}
 use Rattle.gs_layout.specs.declared.name.TheConstants.{MOST_NAME_LEN}
-use Rattle.gs_layout.specs.Name.{is_name}
+use Rattle.gs_layout.specs.Name.{is_name, name_field}
 use Rattle.gs_dump.specs.declared.record.DumpRecord.{DumpRecord}
 use Rattle.gs_dump.specs.declared.version.Version.TheVariants.{Two}
 use Rattle.gs_dump.specs.declared.wire.TheConstants.{HEADER_LEN, NAME_LEN_AT}
-use Rattle.gs_dump.specs.Version.{record_len}
+use Rattle.gs_dump.specs.Version.{name_at, record_len}
 use Rattle.gs_dump.specs.Record.{IsLive, record_spelling}
 use Rattle.gs_dump.specs.Page.{Contents, IsPage, header_of, page_spelling}
 use Rattle.gs_dump.specs.Reading.{count_in, name_in, record_in, texts}
 use Rattle.gs_dump.specs.Written.{AreSpelled, IsBegun, IsWritten, contents_in, last_from, records_in, records_spelling}
-use Rattle.gs_dump.proofs.Records.{fits_from, length-record_spelling, record_again, record_back}
+use Rattle.gs_dump.proofs.Records.{fits_from, length-record_spelling, padded_from, record_again, record_back}
 use Rattle.gs_dump.proofs.Pages.{AreLive, Fit, count_back, length-records, next_back, records_back, texts_spelled}
 
 -- the second version can spell each record
@@ -44,6 +44,7 @@ pub record Firsts (bytes : List ℕ) : Type 0 where
   pub text : length (take (record_len Two) bytes) ≡ record_len Two
   pub len : slice_index (take (record_len Two) bytes) NAME_LEN_AT ≤ MOST_NAME_LEN
   pub name : is_name (name_in Two (take (record_len Two) bytes)) ≡ true
+  pub zeros : name_field (name_in Two (take (record_len Two) bytes)) ≡ drop (name_at Two) (take (record_len Two) bytes)
   pub first : records_in bytes ≡ record_in Two (take (record_len Two) bytes) ∷ records_in (drop (record_len Two) bytes)
   pub rest : AreSpelled (drop (record_len Two) bytes)
 
@@ -65,6 +66,7 @@ firsts_of (r ∷ rs) bytes h e some =
       text = ap length taken ∙ size;
       len = subst (λ (t : List ℕ). slice_index t NAME_LEN_AT ≤ MOST_NAME_LEN) (sym taken) f.len;
       name = ap (λ (t : List ℕ). is_name (name_in Two t)) taken ∙ f.name;
+      zeros = subst (λ (t : List ℕ). name_field (name_in Two t) ≡ drop (name_at Two) t) (sym taken) (padded_from Two (record_spelling Two r) size f);
       first = ap records_in e ∙ (spelled_back (r ∷ rs) h ∙ (λ i. sym (ap (record_in Two) taken ∙ record_back Two r h.0 h.0.mask.1) i ∷ sym (ap records_in left ∙ spelled_back rs h.1) i));
       rest = are_spelled rs (drop (record_len Two) bytes) h.1 left;
     }

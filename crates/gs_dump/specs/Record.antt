@@ -1,10 +1,9 @@
 -- What the kernel knows of a live thread, and the bytes that tell it. All numbers are little-endian, and every byte that no field names is zero.
-use Rattle.std.specs.Prelude.{◌≡◌, true, ℕ, ◌-◌, ◌^◌, ◌<◌, List, [], ◌∷◌, ◌++◌, length, replicate, IfSome, if◌then◌else◌}
+use Rattle.std.specs.Prelude.{◌≡◌, true, ℕ, ◌^◌, ◌<◌, List, [], ◌∷◌, ◌++◌, length, IfSome, if◌then◌else◌}
 use Rattle.byteorder.specs.Endian.{little_bytes}
-use Rattle.gs_layout.specs.declared.name.TheConstants.{MOST_NAME_LEN}
 use Rattle.gs_status.specs.Masks.{has}
 use Rattle.gs_layout.specs.Class.{class_number}
-use Rattle.gs_layout.specs.Name.{is_name}
+use Rattle.gs_layout.specs.Name.{is_name, name_field}
 use Rattle.gs_layout.specs.Spelling.{AreNumbers, IsCpuOrNone, IsMask, cpu_number}
 use Rattle.gs_dump.specs.declared.record.DumpRecord.{DumpRecord}
 use Rattle.gs_dump.specs.declared.version.Version.{Version}
@@ -26,10 +25,6 @@ front_bytes v r =
 -- whether a version can spell a record: its mask has no more bytes than the version gives it
 abbrev pub FitsIn : Version → DumpRecord → Type 0
 FitsIn v r = r.known.facts.mask < 256 ^ mask_len v
-
--- a name in 16 bytes: behind it are zeros
-abbrev pub name_field : List ℕ → List ℕ
-name_field name = name ++ replicate (MOST_NAME_LEN - length name) 0
 
 -- the bytes of a record in a version
 abbrev pub record_spelling : Version → DumpRecord → List ℕ

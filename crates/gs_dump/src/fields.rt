@@ -1,8 +1,8 @@
 //! The ranges of a record's fields, and the record that they name.
 
-ghost use Rattle.std.specs.Prelude.{◌≡◌, ◌==◌, ◌≤◌, ◌&&◌, length, slice_index, true};
-ghost use Rattle.gs_layout.specs.Name.{is_name};
-ghost use Rattle.gs_dump.specs.Version.{record_len};
+ghost use Rattle.std.specs.Prelude.{◌≡◌, ◌==◌, ◌≤◌, ◌&&◌, drop, length, slice_index, true};
+ghost use Rattle.gs_layout.specs.Name.{is_name, name_field};
+ghost use Rattle.gs_dump.specs.Version.{name_at, record_len};
 ghost use Rattle.gs_dump.specs.Reading.{cpu_fits, end_fits, facts_fit, mask_in, name_fits, name_in, next_in, numbers_fit, record_fits, record_in, record_read};
 
 use crate::fault::PageFault;
@@ -87,13 +87,16 @@ fn facts_at(version: Version, text: &[u8]) -> Facts
     requires size { length text.now ≡ record_len version }
     requires len { slice_index text.now NAME_LEN_AT ≤ MOST_NAME_LEN }
     requires name { is_name (name_in version text.now) ≡ true }
+    requires zeros { name_field (name_in version text.now) ≡ drop (name_at version) text.now }
     ensures { result ≡ (record_in version text.now).known.facts }
 {
+    let mut name = [0; MOST_NAME_LEN];
+    name.copy_from_slice(&text[version.name_at()..]);
     Facts {
         runnable: u16_at(text, FLAGS_AT) == 1,
         mask: mask_at(version, text),
         class: Class::numbered(text[CLASS_AT]),
-        name: Name::new(name_at(version, text)).unwrap(),
+        name: Name::from_padded(name, text[NAME_LEN_AT]),
     }
 }
 
@@ -103,6 +106,7 @@ pub(crate) fn record_at(version: Version, text: &[u8]) -> DumpRecord
     requires size { length text.now ≡ record_len version }
     requires len { slice_index text.now NAME_LEN_AT ≤ MOST_NAME_LEN }
     requires name { is_name (name_in version text.now) ≡ true }
+    requires zeros { name_field (name_in version text.now) ≡ drop (name_at version) text.now }
     ensures { result ≡ record_in version text.now }
 {
     DumpRecord {

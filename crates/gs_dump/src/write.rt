@@ -1,8 +1,8 @@
 //! A page as bytes.
 
-ghost use Rattle.std.specs.Prelude.{◌≡◌, ◌+◌, ◌≤◌, ◌++◌, IfOk, drop, length, replicate, take};
+ghost use Rattle.std.specs.Prelude.{◌≡◌, ◌+◌, ◌≤◌, ◌++◌, IfOk, drop, length, take};
 ghost use Rattle.gs_dump.specs.Page.{header_bytes, header_of, page_spelling};
-ghost use Rattle.gs_dump.specs.Record.{front_bytes, name_field, record_spelling};
+ghost use Rattle.gs_dump.specs.Record.{front_bytes, record_spelling};
 
 use crate::page::Page;
 use crate::record::DumpRecord;
@@ -37,25 +37,17 @@ fn write_front(thread: &DumpRecord, out: &mut [u8])
     LittleEndian::write_u16(&mut out[FLAGS_AT..], u16::from(thread.known.facts.runnable));
 }
 
-/// Writes a name over [`MOST_NAME_LEN`] zeros.
-#[inline(always)]
-fn write_name(name: &[u8], out: &mut [u8])
-    requires short { length name.now ≤ MOST_NAME_LEN }
-    requires zeros { out.old ≡ replicate MOST_NAME_LEN 0 }
-    ensures { out.new ≡ name_field name.now }
-{
-    out[..name.len()].copy_from_slice(name);
-}
-
-/// Writes a record over zeros, as many as it has bytes.
+/// Writes a record over as many bytes as it has.
 #[inline(always)]
 pub(crate) fn write_record(thread: &DumpRecord, out: &mut [u8])
-    requires { out.old ≡ replicate RECORD_LEN 0 }
+    requires { length out.old ≡ RECORD_LEN }
     ensures { out.new ≡ record_spelling Version.Two thread.now }
 {
-    write_name(thread.known.facts.name.as_bytes(), &mut out[NAME_AT..]);
-    LittleEndian::write_u128(&mut out[MASK_AT..], thread.known.facts.mask.bits());
-    write_front(thread, out);
+    let (numbers, name) = out.split_at_mut(NAME_AT);
+    let (front, mask) = numbers.split_at_mut(MASK_AT);
+    write_front(thread, front);
+    LittleEndian::write_u128(mask, thread.known.facts.mask.bits());
+    name.copy_from_slice(thread.known.facts.name.as_padded());
 }
 
 fn record_bytes(thread: &DumpRecord) -> [u8; RECORD_LEN]

@@ -1,7 +1,7 @@
 -- How a name is kept: its bytes, then zeros.
 use Rattle.std.specs.Prelude.{◌≡◌, true, ℕ, ◌-◌, List, ◌++◌, length, take, replicate}
 use Rattle.std.proofs.Common.{ap, ◌∙◌}
-use Rattle.gs_layout.specs.Name.{is_name}
+use Rattle.gs_layout.specs.Name.{is_name, name_field}
 use Rattle.gs_layout.specs.declared.name.Name.TheInside.{Inside}
 use Rattle.gs_layout.specs.declared.name.TheConstants.{MOST_NAME_LEN}
 
@@ -12,7 +12,7 @@ pub record IsHeld (n : Inside) : Type 0 where
 
 -- the fields of a name of these bytes
 abbrev pub held_of : List ℕ → Inside
-held_of text = record { bytes = text ++ replicate (MOST_NAME_LEN - length text) 0; len = length text }
+held_of text = record { bytes = name_field text; len = length text }
 
 pub held_of-text : (n : Inside) → IsHeld n → held_of (take n.len n.bytes) ≡ n
 held_of-text n h = λ i. record { bytes = whole i; len = h.size i }

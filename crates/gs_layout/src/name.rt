@@ -1,6 +1,6 @@
-ghost use Rattle.std.specs.Prelude.{◌≡◌, ◌↔◌, ◌≤◌, IsSome, IfSome, true};
+ghost use Rattle.std.specs.Prelude.{◌≡◌, ◌↔◌, ◌≤◌, IsSome, IfSome, take, true};
 ghost use Rattle.std.specs.List.{list_all};
-ghost use Rattle.gs_layout.specs.Name.{is_name, is_name_byte};
+ghost use Rattle.gs_layout.specs.Name.{is_name, is_name_byte, name_field};
 
 use std::marker::Model;
 
@@ -60,6 +60,26 @@ impl Name {
             bytes,
             len: text.len() as u8,
         })
+    }
+
+    /// Returns the name that these bytes begin with, of so many bytes. It is known to be one, and to have zeros behind it, so no
+    /// byte is tested.
+    #[inline(always)]
+    pub fn from_padded(bytes: [u8; MOST_NAME_LEN], len: u8) -> Name
+        requires short { len ≤ MOST_NAME_LEN }
+        requires name { is_name (take len bytes) ≡ true }
+        requires zeros { name_field (take len bytes) ≡ bytes }
+        ensures { result ≡ take len bytes }
+    {
+        Name { bytes, len }
+    }
+
+    /// Lends the bytes of the name, and the zeros behind it, [`MOST_NAME_LEN`] in all.
+    #[inline(always)]
+    pub fn as_padded(&self) -> &[u8; MOST_NAME_LEN]
+        ensures { result.now ≡ name_field self.now }
+    {
+        &self.bytes
     }
 
     /// Lends the bytes of the name.

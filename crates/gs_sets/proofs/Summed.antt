@@ -1,7 +1,7 @@
 -- The places of the words that are not empty, beside the words.
-use Rattle.std.proofs.Common.{◌≡◌, ap, sym, ◌∙◌, ℕ, ◌+◌, ◌*◌, ◌/◌, ◌^◌, ◌<◌, ◌≤◌, ◌⊎◌, inl, inr, true, false, List, [], length, get_or, arith}
-use Rattle.std.specs.Prelude.{not}
-use Rattle.std.proofs.lemmas.Bool.{cases_lt, not-false}
+use Rattle.std.proofs.Common.{◌≡◌, refl, ap, sym, ◌∙◌, ℕ, ◌+◌, ◌*◌, ◌/◌, ◌^◌, ◌<◌, ◌≤◌, ◌⊎◌, inl, inr, true, false, List, [], length, get_or, arith}
+use Rattle.std.specs.Prelude.{Bool, ◌≢◌, not}
+use Rattle.std.proofs.lemmas.Bool.{cases_eq, cases_lt, false≢true, not-false}
 use Rattle.std.proofs.lemmas.List.{get_or_past}
 use Rattle.gs_sets.specs.declared.bits.TheConstants.{WORD}
 use Rattle.gs_status.specs.Masks.{has_none}
@@ -44,6 +44,14 @@ word_has words sums w summed there none =
     let out : not (has_none (get_or words w 0)) ≡ false = ap not empty in
     absurd cc
 
+-- the word of a number that is in is not empty
+some_of : (words : List ℕ) (n : ℕ) → is_in words n ≡ true → not (has_none (get_or words (n / WORD) 0)) ≡ true
+some_of words n there = by_test (has_none (get_or words (n / WORD) 0)) refl
+  where
+    by_test : (b : Bool) → has_none (get_or words (n / WORD) 0) ≡ b → not b ≡ true
+    by_test false e = refl
+    by_test true e = absurd (false≢true (sym (empty_word words n e) ∙ there))
+
 -- no words, and none of them
 pub summed_none : IsSummed [] []
 summed_none = record {
@@ -85,3 +93,22 @@ summed_within words sums w summed there = by_place (cases_lt w (length words))
         let empty : not (has_none (get_or words w 0)) ≡ false = ap (λ m. not (has_none m)) (get_or_past words w 0 past) in
         let e = full in
         absurd cc
+
+-- a number was put in or taken out, and its word has some number or none
+pub summed_set : (words words' sums sums' : List ℕ) (n : ℕ) (holds some : Bool) → IsSummed words sums
+    → is_in words' n ≡ holds → ((w : ℕ) → w ≢ n / WORD → get_or words' w 0 ≡ get_or words w 0) → length words' ≡ length words
+    → is_in sums' (n / WORD) ≡ some → ((w : ℕ) → w ≢ n / WORD → is_in sums' w ≡ is_in sums w) → length sums' ≡ length sums
+    → ((holds ≡ true) × (some ≡ true)) ⊎ (some ≡ not (has_none (get_or words' (n / WORD) 0))) → IsSummed words' sums'
+summed_set words words' sums sums' n holds some summed here others size there elsewhere room by =
+    record {
+      same = λ w. by_word w (cases_eq w (n / WORD));
+      room = omega (arith, summed.room, size, room);
+      within = omega (arith, summed.within, size);
+    }
+  where
+    is_some : not (has_none (get_or words' (n / WORD) 0)) ≡ some
+    is_some = elim by [ inl both ↦ some_of words' n (here ∙ both.0) ∙ sym both.1 | inr e ↦ sym e ]
+
+    by_word : (w : ℕ) → (w ≡ n / WORD) ⊎ (w ≢ n / WORD) → is_in sums' w ≡ not (has_none (get_or words' w 0))
+    by_word w (inl e) = ap (is_in sums') e ∙ (there ∙ (sym is_some ∙ ap (λ (k : ℕ). not (has_none (get_or words' k 0))) (sym e)))
+    by_word w (inr ne) = elsewhere w ne ∙ (summed.same w ∙ ap (λ (x : ℕ). not (has_none x)) (sym (others w ne)))

@@ -74,12 +74,10 @@ impl NumberSet {
         ensures others { (n : ℕ) → n ≢ number → is_in self.new n ≡ is_in self.old n }
         ensures room { length self.new ≡ length self.old }
     {
-        if self.numbers.has(number) == holds {
-            return;
-        }
         let word = number / WORD;
         self.numbers.set(number, holds);
-        self.words.set(word, self.numbers.has_some(word));
+        let has_some = holds || self.numbers.has_some(word);
+        self.words.set(word, has_some);
     }
 
     /// Returns the first number of the set that is not below `from`. There is room for it.

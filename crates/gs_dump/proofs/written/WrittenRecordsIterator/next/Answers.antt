@@ -1,11 +1,12 @@
-use Rattle.std.proofs.Common.{◌≡◌, ◌<◌, ◌≤◌, ◌∷◌, List, ℕ, length, ap, sym, subst, ◌∙◌, arith, rules}
+use Rattle.std.proofs.Common.{◌≡◌, ◌<◌, ◌≤◌, ◌∷◌, List, ℕ, drop, length, ap, sym, subst, ◌∙◌, arith, rules}
 use Rattle.std.specs.Prelude.{slice_index}
 use Rattle.std.proofs.lemmas.Bool.Decides.{nat_tests}
 use Rattle.gs_layout.specs.declared.name.TheConstants.{MOST_NAME_LEN}
-use Rattle.gs_layout.specs.Name.{is_name}
+use Rattle.gs_layout.specs.Name.{is_name, name_field}
 use Rattle.gs_dump.specs.declared.version.Version.TheVariants.{Two}
 use Rattle.gs_dump.specs.declared.wire.TheConstants.{NAME_LEN_AT}
 use Rattle.gs_dump.specs.Reading.{name_in, record_in}
+use Rattle.gs_dump.specs.Version.{name_at}
 use Rattle.gs_dump.specs.Written.{AreSpelled, records_in}
 use Rattle.gs_dump.proofs.Spelled.{first_in, none_left}
 use Rattle.gs_dump.proofs.written.WrittenRecordsIterator.next.Goals as goal
@@ -30,6 +31,11 @@ pub record_at-requires-clause-name : goal.record_at-requires-clause-name
 record_at-requires-clause-name c =
     let some : 0 < length c.self.inside.rest.now = grind (arith, nat_tests) in
     ap (λ (t : List ℕ). is_name (name_in Two t)) c.split_at.ensures.front ∙ (first_in c.self.inside.rest.now c.self.invariant some).name
+
+pub record_at-requires-clause-zeros : goal.record_at-requires-clause-zeros
+record_at-requires-clause-zeros c =
+    let some : 0 < length c.self.inside.rest.now = grind (arith, nat_tests) in
+    subst (λ (t : List ℕ). name_field (name_in Two t) ≡ drop (name_at Two) t) (sym c.split_at.ensures.front) (first_in c.self.inside.rest.now c.self.invariant some).zeros
 
 pub invariant_of-self : goal.invariant_of-self
 invariant_of-self c =
