@@ -35,7 +35,8 @@ pub fn name_str(name: &Name) -> &str
 }
 
 /// Adds a name, or `-` for the empty one.
-#[tactic(auto, using(crate::proofs::Names::name_text_some, crate::proofs::Names::name_is_utf8))]
+#[tactic(auto, using(crate::proofs::Names::name_text_some, crate::proofs::Names::name_is_utf8, crate::proofs::Names::name_taken))]
+#[inline(always)]
 fn write_name(out: &mut Text, name: &Name) -> Result<(), AllocError>
     ensures { OnOk result (out.new ≡ out.old ++ name_text name.now) }
 {
@@ -43,11 +44,12 @@ fn write_name(out: &mut Text, name: &Name) -> Result<(), AllocError>
     if bytes.is_empty() {
         return out.push_str("-");
     }
-    out.append(bytes)
+    out.append_first(name.as_padded(), bytes.len())
 }
 
 /// Adds a thread's facts: whether it may run, its mask, its class and its name. It fails only if out of
 /// memory.
+#[inline(always)]
 pub fn write_facts(out: &mut Text, facts: &Facts) -> Result<(), AllocError>
     ensures { OnOk result (out.new ≡ out.old ++ facts_text facts.now) }
 {
@@ -60,6 +62,7 @@ pub fn write_facts(out: &mut Text, facts: &Facts) -> Result<(), AllocError>
 }
 
 /// Adds a word and what is known of a thread.
+#[inline(always)]
 fn write_known(out: &mut Text, word: &str, tid: u32, known: &Known) -> Result<(), AllocError>
     ensures { OnOk result (out.new ≡ out.old ++ word.now ++ codes " " ++ known_text tid known.now) }
 {

@@ -35,6 +35,16 @@ digits_eight n l h = omega (arith, length_four n (omega arith) (omega arith), di
 pub digits_most : (n : ℕ) → n < 2 ^ 64 → length (decimal n) ≤ 20
 digits_most n h = length-decimal-le 20 n (omega arith) (omega arith) h
 
+-- the first of the bytes that were written behind others
+pub first_put : (at count end : ℕ) (old new more : List ℕ) → at + length more ≤ length old → count ≤ length more → end ≡ at + length more → take end new ≡ take at old ++ more
+    → take (at + count) new ≡ take at old ++ take count more
+first_put at count end old new more room few is written =
+    let size : length (take at old) ≡ at = length-take-le at old (omega (arith, room)) in
+    sym (take-take (at + count) end new (omega (arith, few, is)))
+    ∙ ap (take (at + count)) written
+    ∙ ap (λ (n : ℕ). take (n + count) (take at old ++ more)) (sym size)
+    ∙ take-append-add (take at old) more count
+
 -- a number whose digits were written between the first bytes and the others
 pub number_put : (n at start end : ℕ) (old new : List ℕ) → start + length (decimal n) ≡ end → end ≡ at + length (decimal n) → end ≤ length old → drop start new ≡ decimal n ++ drop end old → take start new ≡ take start old → take end new ≡ take at old ++ decimal n
 number_put n at start end old new e f h w b =

@@ -28,6 +28,19 @@ pub(crate) fn put(bytes: &mut [u8], at: usize, more: &[u8]) -> usize
     end
 }
 
+/// Writes more bytes, of which the first count, so many, and returns the place behind these.
+#[inline(always)]
+pub(crate) fn put_first(bytes: &mut [u8], at: usize, more: &[u8], count: usize) -> usize
+    requires room { at + length more.now ≤ length bytes.old }
+    requires few { count ≤ length more.now }
+    ensures end { result ≡ at + count }
+    ensures written { take result bytes.new ≡ take at bytes.old ++ take count more.now }
+    ensures utf8 { IsUtf8 (take count more.now) → IsUtf8 (take at bytes.old) → IsUtf8 (take result bytes.new) }
+{
+    put(bytes, at, more);
+    at + count
+}
+
 /// Returns how many digits a number has that is below 10,000.
 #[inline(always)]
 fn short_count(number: u64) -> usize

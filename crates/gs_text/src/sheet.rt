@@ -3,8 +3,8 @@ ghost use Rattle.std.specs.Str.{IsUtf8};
 
 use crate::digits::Digits;
 use crate::forwards::{
-    DIGITS, MASK_DIGITS, put, put_behind, put_between, put_digits, put_mask_between, put_number,
-    put_number_digits, put_two, put_word_two,
+    DIGITS, MASK_DIGITS, put, put_behind, put_between, put_digits, put_first, put_mask_between,
+    put_number, put_number_digits, put_two, put_word_two,
 };
 use std::alloc::{AllocError, Global};
 use std::marker::Model;
@@ -136,6 +136,23 @@ impl Sheet {
     {
         make_room(&mut self.bytes, self.len, bytes.len())?;
         self.len = put(&mut self.bytes, self.len, bytes);
+        Ok(())
+    }
+
+    /// Adds the first of these bytes, so many, which are UTF-8. It copies all of them: their number is known where it is compiled.
+    #[inline(always)]
+    pub fn append_first<const N: usize>(
+        &mut self,
+        bytes: &[u8; N],
+        count: usize,
+    ) -> Result<(), AllocError>
+        requires few { count ≤ N }
+        requires utf8 { IsUtf8 (take count bytes.now) }
+        ensures added { OnOk result (self.new ≡ self.old ++ take count bytes.now) }
+        ensures kept { OnErr result (self.new ≡ self.old) }
+    {
+        make_room(&mut self.bytes, self.len, N)?;
+        self.len = put_first(&mut self.bytes, self.len, bytes, count);
         Ok(())
     }
 
