@@ -3,7 +3,10 @@ mod Grown
 mod Happened
 mod Told
 mod Overflows
-mod Values
+pub mod Composing
+pub mod Quoting
+pub mod Outlining
+pub mod Regrounding
 mod Moments
 mod Meeting
 mod Runs

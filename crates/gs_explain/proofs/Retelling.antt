@@ -118,6 +118,10 @@ leads_stuck a b c whole block bytes rest leads begun = leads_begun a b c whole (
 pub leads_wrote : (a b c : Option (List ℕ)) (whole bytes rest : List ℕ) → Leads a whole b (bytes ++ rest) → Appends b c bytes → Leads a whole c rest
 leads_wrote a b c whole bytes rest (sent, w, e) v = (sent ++ bytes, Appends-trans a b c sent bytes w v, e ∙ sym (append_assoc sent bytes rest))
 
+-- all that is left was written
+pub leads_all : (a b c : Option (List ℕ)) (whole block : List ℕ) → Leads a whole b (block ++ []) → Appends b c block → Appends a c whole
+leads_all a b c whole block (sent, w, e) v = subst (λ t. Appends a c t) (sym (e ∙ ap (λ t. sent ++ t) (append-nil block))) (Appends-trans a b c sent block w v)
+
 -- what holds holds if there is an error
 pub on_err : {T E Q : Type 0} (r : Result T E) → Q → OnErr r Q
 on_err (Ok x) q = tt

@@ -7,6 +7,9 @@ pub mod ToldAgain
 pub mod Commands
 pub mod Rows
 pub mod Objects
+pub mod Composed
+pub mod Outlined
+pub mod Grounds
 pub mod Explained
 pub mod Telling
 pub mod Met

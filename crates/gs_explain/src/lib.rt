@@ -3,7 +3,9 @@
 
 mod cause;
 mod content;
+mod draft;
 mod explainer;
+mod ground;
 mod hearing;
 mod kept;
 mod landed;
@@ -11,11 +13,14 @@ mod landings;
 mod law;
 mod marking;
 mod moment;
+mod object;
 mod objects;
+mod outline;
 mod overflow;
 mod page;
 mod piece;
 mod pieces;
+mod quoted;
 mod refused;
 mod row;
 mod rows;

@@ -1,166 +1,335 @@
 //! What explains a script, as a JSON object for each event.
 
-ghost use Rattle.std.specs.Prelude.{◌≡◌, ◌≤◌, ◌++◌, ◌∷◌, [], IfOk, OnOk, false, length, map, string_bytes, take, true};
-ghost use Rattle.std.specs.Str.Lines.{lines as lines_in};
-ghost use Rattle.serde_json.specs.Data.{string};
-ghost use Rattle.serde_json.specs.View.{items_of, view};
-ghost use Rattle.serde_json.specs.Written.{compact_text, items_have_float};
-ghost use Rattle.gs_lines.specs.Lines.{line, reply_lines};
+ghost use Rattle.std.specs.Prelude.{◌≡◌, ◌≤◌, ◌++◌, [], IfOk, IfSome, Ok, OnErr, OnOk, length, take, true};
+ghost use Rattle.std.specs.Io.KnownBytes.{Appends};
+ghost use Rattle.std.specs.List.{All};
 ghost use Rattle.gs_reasons.specs.Kept.{HasHeard};
+ghost use Rattle.gs_replies.specs.Replies.{reply_of};
+ghost use Rattle.gs_replies.specs.declared.reply.Reply.TheVariants as replies;
+ghost use Rattle.gs_script.specs.Unread.{said_line};
 ghost use Rattle.gs_script.specs.Words.{is_text};
+ghost use Rattle.gs_trace.specs.Came.{reply_in};
+ghost use Rattle.gs_explain.specs.Grounds.{IsGround};
 ghost use Rattle.gs_explain.specs.Marked.{IsMarked};
 ghost use Rattle.gs_explain.specs.Moment.{moment_of};
-ghost use Rattle.gs_explain.specs.Objects.{object_row, row_data, whys};
-ghost use Rattle.gs_script.specs.Unread.{said_line};
+ghost use Rattle.gs_explain.specs.Objects.{object_row};
+ghost use Rattle.gs_explain.specs.Outlined.{IsOutlined, outline_text, outlines_text};
+ghost use Rattle.gs_explain.specs.Retold.{IsBegun, Moves};
 
+use crate::draft::Draft;
+use crate::ground::{Again, Ground, again_by, ground_of, told_again};
 use crate::moment::Scene;
+use crate::object::push_object;
+use crate::outline::{Outline, outlined};
 use crate::teller::Teller;
-use crate::whys::whys;
-use gs_core::{Items, Reply};
+use gs_journal::Entry;
+use gs_kernel::Executed;
 use gs_layout::Refusal;
-use gs_lines::{Text, write_reply};
+use gs_lines::Text;
 use gs_reasons::Index;
 use gs_script::SaidLine;
+use gs_text::{WriteFailed, write_out};
 use gs_trace::Came;
-use serde_json::{Value, json};
 use std::alloc::{AllocError, Global};
+use std::io::Write;
 use std::marker::Model;
 
-/// The objects so far, one a line. Clauses see the bytes that are written.
-#[derive(Drop)]
-pub(crate) struct Objects {
+/// Objects that are put together are written whenever there are more bytes of them than so many.
+const BLOCK_LEN: usize = 61_440;
+
+/// Most objects have fewer bytes than so many.
+const OBJECT_LEN: usize = 4_096;
+
+/// Adds the object of an event, of which a text has the lines of the reply and the reasons.
+#[inline(always)]
+fn push_outline(
     alloc: Global,
-    text: Text,
+    out: &mut Text,
+    text: &[u8],
+    outline: &Outline<'_>,
+) -> Result<(), AllocError>
+    requires { IsOutlined text.now outline.now }
+    ensures { OnOk result (out.new ≡ out.old ++ outline_text text.now outline.now) }
+{
+    let Outline {
+        line,
+        number,
+        first,
+        count,
+        from,
+        mid,
+        to,
+    } = *outline;
+    let lines = &text[from..mid];
+    let whys = &text[mid..to];
+    push_object(alloc, out, number, line, first, count, lines, whys)
 }
 
-impl Model for Objects {
+/// Makes an empty block, with room for all that it mostly has before it is written.
+pub(crate) fn new_block(alloc: Global) -> Result<Text, AllocError>
+    ensures { IfOk result (λ block. block ≡ []) }
+{
+    Text::with_room(alloc, BLOCK_LEN + OBJECT_LEN)
+}
+
+/// Writes a block, and takes its bytes away.
+#[inline(never)]
+fn send<W: Write>(block: &mut Text, writer: &mut W) -> Result<(), WriteFailed>
+    ensures empty { OnOk result (block.new ≡ []) }
+    ensures sent { OnOk result (Appends (W.contents writer.old) (W.contents writer.new) block.old) }
+    ensures begun { OnErr result (IsBegun (W.contents writer.old) (W.contents writer.new) block.old) }
+{
+    write_out(writer, block.as_bytes())?;
+    block.clear();
+    Ok(())
+}
+
+/// Adds the object of an event to a block, and writes that if it is full then.
+#[inline(always)]
+fn add_object<W: Write>(
+    alloc: Global,
+    block: &mut Text,
+    writer: &mut W,
+    text: &[u8],
+    outline: &Outline<'_>,
+) -> Result<(), WriteFailed>
+    requires { IsOutlined text.now outline.now }
+    ensures moved { OnOk result (Moves (W.contents writer.old) block.old (outline_text text.now outline.now) (W.contents writer.new) block.new) }
+    ensures begun { OnErr result (IsBegun (W.contents writer.old) (W.contents writer.new) (block.old ++ outline_text text.now outline.now)) }
+{
+    push_outline(alloc, block, text, outline)?;
+    if BLOCK_LEN < block.len() {
+        send(block, writer)?;
+    }
+    Ok(())
+}
+
+/// Writes the objects of events, in blocks, for which an empty one is given.
+fn write_objects<W: Write>(
+    alloc: Global,
+    text: &[u8],
+    outlines: &[Outline<'_>],
+    block: Text,
+    writer: &mut W,
+) -> Result<(), WriteFailed>
+    requires outlined { All (IsOutlined text.now) outlines.now }
+    requires empty { block ≡ [] }
+    ensures sent { OnOk result (Appends (W.contents writer.old) (W.contents writer.new) (outlines_text text.now outlines.now)) }
+    ensures begun { OnErr result (IsBegun (W.contents writer.old) (W.contents writer.new) (outlines_text text.now outlines.now)) }
+{
+    let mut block = block;
+    for outline in outlines {
+        add_object(alloc, &mut block, writer, text, outline)?;
+    }
+    send(&mut block, writer)
+}
+
+/// The events so far, of which the objects are put together at the end. Clauses see the bytes that are written.
+#[derive(Drop)]
+pub(crate) struct Objects<'a> {
+    alloc: Global,
+    draft: Draft,
+    outlines: Vec<Outline<'a>>,
+    /// The last event that was refused, which is told again if the next one is refused on the same ground.
+    again: Option<Again<'a>>,
+}
+
+impl<'a> Model for Objects<'a> {
+    ghost use Rattle.std.specs.List.{All};
     ghost use Rattle.std.specs.Prelude.{List, ℕ};
+    ghost use Rattle.gs_explain.specs.Grounds.{IsAgainIf};
+    ghost use Rattle.gs_explain.specs.Outlined.{IsOutlined, outlines_text};
 
     ghost Value = { List ℕ };
 
-    ghost view = { λ o. o.text };
+    ghost view = { λ o. outlines_text o.draft o.outlines.items };
+
+    ghost invariant = { λ o. record {
+      outlined : All (IsOutlined o.draft) o.outlines.items;
+      again : IsAgainIf o.draft o.again;
+    } };
 }
 
-/// Returns the lines of a text, without their newlines, as JSON strings.
-fn strings(alloc: Global, text: &str) -> Result<Vec<Value>, AllocError>
-    ensures { IfOk result (λ values. map view values.items ≡ map string (lines_in text.now)) }
-{
-    let mut values = Vec::new(alloc);
-    for line in text.lines() {
-        values.push(Value::try_from_str(alloc, line)?)?;
-    }
-    Ok(values)
-}
-
-/// Returns the lines of a reply as JSON strings.
-fn reply_strings(alloc: Global, reply: &Reply) -> Result<Vec<Value>, AllocError>
-    ensures { IfOk result (λ values. map view values.items ≡ map string (lines_in (reply_lines reply.now))) }
-{
-    let mut text = Text::new(alloc);
-    write_reply(&mut text, reply)?;
-    strings(alloc, text.as_str())
-}
-
-/// Lends a line as text.
-#[tactic(auto, using(gs_script::proofs::Texts::text_is_utf8))]
-fn line_text<'a>(said: &SaidLine<'a>) -> &'a str
-    requires { is_text said.now.bytes.now ≡ true }
-    ensures { result.now ≡ said.now.bytes.now }
-{
-    str::from_utf8(said.bytes).unwrap()
-}
-
-/// Returns an event as a JSON value.
-fn row_value(
-    alloc: Global,
-    said: &SaidLine<'_>,
-    first: usize,
-    end: usize,
-    reply: &Reply,
-    why: Vec<Value>,
-) -> Result<Value, AllocError>
-    requires { is_text said.now.bytes.now ≡ true }
-    ensures { IfOk result (λ value. view value ≡ row_data (said_line said.now) first end (lines_in (reply_lines reply.now)) (map view why.items)) }
-{
-    let replies = reply_strings(alloc, reply)?;
-    let count = end.saturating_sub(first);
-    let number = said.number;
-    let text = line_text(said);
-    json!(in alloc; {
-        "entries": {"count": count, "first": first},
-        "line": number,
-        "replies": replies,
-        "text": text,
-        "why": why,
-    })
-}
-
-/// Returns an event as the text of an object.
-fn object_text(
-    alloc: Global,
-    said: &SaidLine<'_>,
-    first: usize,
-    end: usize,
-    reply: &Reply,
-    why: Vec<Value>,
-) -> Result<String, AllocError>
-    requires text { is_text said.now.bytes.now ≡ true }
-    requires plain { items_have_float (items_of (map view why.items)) ≡ false }
-    ensures { IfOk result (λ text. string_bytes text ≡ compact_text (row_data (said_line said.now) first end (lines_in (reply_lines reply.now)) (map view why.items))) }
-{
-    let value = row_value(alloc, said, first, end, reply, why)?;
-    value.to_string(alloc)
-}
-
-/// Adds an event as a line.
-#[tactic(auto, using(crate::proofs::Values::whys_plain))]
-fn write_object(
-    out: &mut Objects,
-    said: &SaidLine<'_>,
-    scene: &Scene<'_>,
-    index: &mut Index,
-    first: usize,
-    reply: &Reply,
-) -> Result<(), AllocError>
-    requires text { is_text said.now.bytes.now ≡ true }
-    requires within { first ≤ length scene.now.journal.now.entries }
-    requires heard { HasHeard index.old (take first scene.now.journal.now.entries) }
-    requires marked { IsMarked scene.now.last.now.places.items scene.now.transactions.now }
-    ensures shown { OnOk result (out.new ≡ out.old ++ object_row (said_line said.now) (moment_of scene.now) first reply.now) }
-    ensures heard { OnOk result (HasHeard index.new scene.now.journal.now.entries) }
-{
-    let why = whys(out.alloc, scene, index, first, reply)?;
-    let end = scene.journal.len();
-    let object = object_text(out.alloc, said, first, end, reply, why)?;
-    out.text.push_str(object.as_str())?;
-    out.text.end_line()
-}
-
-impl Objects {
-    /// Makes one of no event.
-    pub(crate) fn new(alloc: Global) -> Objects
+impl<'a> Objects<'a> {
+    /// Makes those of no event.
+    pub(crate) fn new(alloc: Global) -> Objects<'a>
         ensures { result ≡ [] }
     {
         Objects {
             alloc,
-            text: Text::new(alloc),
+            draft: Draft::new(alloc),
+            outlines: Vec::new(alloc),
+            again: None,
         }
     }
 
-    /// Returns the bytes that are written.
-    pub(crate) fn into_bytes(self) -> Vec<u8>
-        ensures { result.items ≡ self }
+    /// Writes all objects, in blocks, for which an empty one is given.
+    ///
+    /// # Errors
+    ///
+    /// `WriteFailed` if a write fails or takes no byte, or out of memory: a beginning was written, short of the whole.
+    pub(crate) fn write<W: Write>(&self, block: Text, writer: &mut W) -> Result<(), WriteFailed>
+        requires { block ≡ [] }
+        ensures sent { OnOk result (Appends (W.contents writer.old) (W.contents writer.new) self.now) }
+        ensures begun { OnErr result (IsBegun (W.contents writer.old) (W.contents writer.new) self.now) }
     {
-        let Objects { alloc: _, text } = self;
-        text.into_bytes()
+        write_objects(
+            self.alloc,
+            self.draft.as_bytes(),
+            self.outlines.as_slice(),
+            block,
+            writer,
+        )
     }
 }
 
-impl<'a> Teller<'a> for Objects {
+impl<'a> Objects<'a> {
+    /// Adds an event. An index has heard the entries before the event, so many, and hears those of the event.
+    #[inline(always)]
+    fn add(
+        &mut self,
+        said: &SaidLine<'a>,
+        scene: &Scene<'_>,
+        index: &mut Index,
+        first: usize,
+        came: Came<'_>,
+    ) -> Result<(), AllocError>
+        requires text { is_text said.now.bytes.now ≡ true }
+        requires within { first ≤ length scene.now.journal.now.entries }
+        requires heard { HasHeard index.old (take first scene.now.journal.now.entries) }
+        requires marked { IsMarked scene.now.last.now.places.items scene.now.transactions.now }
+        ensures shown { OnOk result (self.new ≡ self.old ++ object_row (said_line said.now) (moment_of scene.now) first (reply_in came.entry)) }
+        ensures heard { OnOk result (HasHeard index.new scene.now.journal.now.entries) }
+    {
+        match outlined(&mut self.draft, said, scene, index, first, came) {
+            Ok(outline) => {
+                self.outlines.push(outline)?;
+                Ok(())
+            }
+            Err(error) => {
+                self.outlines.clear();
+                self.again = None;
+                Err(error)
+            }
+        }
+    }
+
+    /// Adds a command that was done or tore the enclave down, as [`Objects::add`] does.
+    #[inline(never)]
+    fn add_command(
+        &mut self,
+        said: &SaidLine<'a>,
+        scene: &Scene<'_>,
+        index: &mut Index,
+        first: usize,
+        executed: Executed,
+        last: &Entry,
+    ) -> Result<(), AllocError>
+        requires text { is_text said.now.bytes.now ≡ true }
+        requires within { first ≤ length scene.now.journal.now.entries }
+        requires heard { HasHeard index.old (take first scene.now.journal.now.entries) }
+        requires marked { IsMarked scene.now.last.now.places.items scene.now.transactions.now }
+        ensures shown { OnOk result (self.new ≡ self.old ++ object_row (said_line said.now) (moment_of scene.now) first (reply_of (Ok executed) last.now)) }
+        ensures heard { OnOk result (HasHeard index.new scene.now.journal.now.entries) }
+    {
+        let came = Came::Executed(Ok(executed), last);
+        self.add(said, scene, index, first, came)
+    }
+
+    /// Adds any other event.
+    #[inline(never)]
+    fn add_other(
+        &mut self,
+        said: &SaidLine<'a>,
+        scene: &Scene<'_>,
+        index: &mut Index,
+        first: usize,
+        came: Came<'_>,
+    ) -> Result<(), AllocError>
+        requires text { is_text said.now.bytes.now ≡ true }
+        requires within { first ≤ length scene.now.journal.now.entries }
+        requires heard { HasHeard index.old (take first scene.now.journal.now.entries) }
+        requires marked { IsMarked scene.now.last.now.places.items scene.now.transactions.now }
+        ensures shown { OnOk result (self.new ≡ self.old ++ object_row (said_line said.now) (moment_of scene.now) first (reply_in came.entry)) }
+        ensures heard { OnOk result (HasHeard index.new scene.now.journal.now.entries) }
+    {
+        self.add(said, scene, index, first, came)
+    }
+
+    /// Adds an event that was refused, and keeps it, so that the next one can be told again. It added no entry, and so many stand
+    /// before it.
+    #[inline(never)]
+    fn add_anew(
+        &mut self,
+        said: &SaidLine<'a>,
+        scene: &Scene<'_>,
+        index: &mut Index,
+        first: usize,
+        refusal: Refusal,
+        ground: Option<Ground>,
+    ) -> Result<(), AllocError>
+        requires text { is_text said.now.bytes.now ≡ true }
+        requires within { first ≤ length scene.now.journal.now.entries }
+        requires heard { HasHeard index.old (take first scene.now.journal.now.entries) }
+        requires marked { IsMarked scene.now.last.now.places.items scene.now.transactions.now }
+        requires ground { IfSome ground (IsGround (moment_of scene.now) refusal) }
+        ensures shown { OnOk result (self.new ≡ self.old ++ object_row (said_line said.now) (moment_of scene.now) first (replies.Refused refusal)) }
+        ensures heard { OnOk result (HasHeard index.new scene.now.journal.now.entries) }
+    {
+        match outlined(
+            &mut self.draft,
+            said,
+            scene,
+            index,
+            first,
+            Came::Refused(refusal),
+        ) {
+            Ok(outline) => {
+                self.again = again_by(ground, outline);
+                self.outlines.push(outline)?;
+                Ok(())
+            }
+            Err(error) => {
+                self.outlines.clear();
+                self.again = None;
+                Err(error)
+            }
+        }
+    }
+
+    /// Adds an event that was refused and added no entry. An index has heard all.
+    #[inline(never)]
+    fn add_refused(
+        &mut self,
+        said: &SaidLine<'a>,
+        scene: &Scene<'_>,
+        index: &mut Index,
+        refusal: Refusal,
+    ) -> Result<(), AllocError>
+        requires text { is_text said.now.bytes.now ≡ true }
+        requires heard { HasHeard index.old scene.now.journal.now.entries }
+        requires marked { IsMarked scene.now.last.now.places.items scene.now.transactions.now }
+        ensures shown { OnOk result (self.new ≡ self.old ++ object_row (said_line said.now) (moment_of scene.now) (length scene.now.journal.now.entries) (replies.Refused refusal)) }
+        ensures heard { OnOk result (HasHeard index.new scene.now.journal.now.entries) }
+    {
+        let first = scene.journal.len();
+        let ground = ground_of(scene, index, refusal);
+        match told_again(&self.again, &ground, said, first)? {
+            Some(outline) => {
+                self.outlines.push(outline)?;
+                Ok(())
+            }
+            None => self.add_anew(said, scene, index, first, refusal, ground),
+        }
+    }
+}
+
+impl<'a> Teller<'a> for Objects<'a> {
     ghost bytes = { λ objects. objects };
 
     ghost show = { object_row };
 
+    #[inline(always)]
     fn row(
         &mut self,
         said: &SaidLine<'a>,
@@ -169,20 +338,15 @@ impl<'a> Teller<'a> for Objects {
         first: usize,
         came: Came<'_>,
     ) -> Result<(), AllocError> {
-        let reply = match came {
-            Came::Executed(Ok(executed), last) => Reply::executed(executed, last),
-            Came::Executed(Err(refusal), _) | Came::Refused(refusal) => Reply::Refused(refusal),
-            Came::Drained(drained) => Reply::Drained(drained),
-            Came::Stamped { number, .. } => Reply::Stamped { number },
-            Came::Landed(landings, torn) => {
-                let landings = Items::new(landings.to_vec(self.alloc)?);
-                Reply::Landed { landings, torn }
+        match came {
+            Came::Executed(Ok(executed), last) => {
+                self.add_command(said, scene, index, first, executed, last)
             }
-            Came::Replied(reply) => return write_object(self, said, scene, index, first, reply),
-        };
-        write_object(self, said, scene, index, first, &reply)
+            _ => self.add_other(said, scene, index, first, came),
+        }
     }
 
+    #[inline(always)]
     fn refused_row(
         &mut self,
         said: &SaidLine<'a>,
@@ -191,6 +355,9 @@ impl<'a> Teller<'a> for Objects {
         first: usize,
         refusal: Refusal,
     ) -> Result<(), AllocError> {
-        write_object(self, said, scene, index, first, &Reply::Refused(refusal))
+        if scene.journal.len() == first {
+            return self.add_refused(said, scene, index, refusal);
+        }
+        self.add_other(said, scene, index, first, Came::Refused(refusal))
     }
 }

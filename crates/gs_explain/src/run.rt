@@ -8,16 +8,14 @@ ghost use Rattle.gs_script.specs.Held.{Faults};
 ghost use Rattle.gs_script.specs.Said.{said_in};
 ghost use Rattle.gs_script.specs.Script.{script_of};
 
-use crate::objects::Objects;
+use crate::objects::{self, Objects};
 use crate::pieces::new_block;
 use crate::rows::Rows;
 use crate::teller::Teller;
 use crate::telling::explain_all;
 use gs_core::Machine;
 use gs_script::{NamedPolicy, Opened, ScriptError, open_script};
-use gs_trace::{
-    Answering, Kept, MOST_READ_BYTES, TraceFault, Unanswered, answer_script, write_out,
-};
+use gs_trace::{Answering, Kept, MOST_READ_BYTES, TraceFault, Unanswered, answer_script};
 use std::alloc::Global;
 use std::io::{Read, Write};
 
@@ -71,7 +69,8 @@ impl<P: NamedPolicy> Answering<P> for Explanation {
             }
             Explanation::Json => {
                 let objects = told::<P, _>(alloc, input, Objects::new(alloc))?;
-                write_out(writer, objects.into_bytes().as_slice())?;
+                let block = objects::new_block(alloc)?;
+                objects.write(block, writer)?;
                 Ok(())
             }
         }

@@ -103,6 +103,16 @@ impl Sheet {
         &self.bytes[..self.len]
     }
 
+    /// Lends the bytes of the text, as [`Sheet::as_bytes`] does, and says that they are UTF-8.
+    #[inline(always)]
+    pub fn utf8_bytes(&self) -> &[u8]
+        ensures value { result.now ≡ self.now }
+        ensures utf8 { IsUtf8 self.now }
+    {
+        let len = self.len;
+        &self.bytes[..len]
+    }
+
     /// Lends the text. Each call reads it all, to see that it is UTF-8.
     pub fn as_str(&self) -> &str
         ensures { result.now ≡ self.now }

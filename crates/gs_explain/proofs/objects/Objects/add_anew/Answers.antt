@@ -1,0 +1,44 @@
+use Rattle.std.proofs.Common.{rules, ◌≡◌, ◌∙◌, ◌++◌, ◌∷◌, [], Option, List, ap, subst, sym}
+use Rattle.std.specs.List.{All}
+use Rattle.gs_explain.specs.declared.outline.Outline.{Outline}
+use Rattle.gs_explain.specs.declared.ground.Again.{Again}
+use Rattle.gs_explain.specs.Grounds.{IsAgainIf}
+use Rattle.gs_explain.specs.Moment.{moment_of}
+use Rattle.gs_explain.specs.Outlined.{IsOutlined, outlines_text}
+use Rattle.gs_explain.proofs.Outlining.{outlined_grown, outlined_more, outlines_more}
+use Rattle.gs_explain.proofs.Regrounding.{again_new}
+use Rattle.gs_explain.proofs.objects.Objects.add_anew.Goals as goal
+
+pub invariant_of-self : goal.invariant_of-self
+invariant_of-self c =
+    let old = c.self.inside.draft in
+    let new = c.outlined.new.draft in
+    let os : List Outline = c.self.inside.outlines.items in
+    let o = c.in-Ok.outline in
+    let same : c.push.new.self.items ≡ os = search rules in
+    record {
+      outlined = subst (λ (xs : List Outline). All (IsOutlined new) xs) (sym same) (outlined_grown os old new c.in-Ok.ensures.grown c.self.invariant.outlined);
+      again = subst (λ (a : Option Again). IsAgainIf new a) (sym c.again_by-self-inside.ensures) (again_new new c.args.ground o (moment_of c.args.scene.now) c.args.refusal c.requires.ground c.in-Ok.ensures.parts c.in-Ok.ensures.stands);
+    }
+
+pub invariant_of-self-in-Ok : goal.invariant_of-self-in-Ok
+invariant_of-self-in-Ok c =
+    let old = c.self.inside.draft in
+    let new = c.outlined.new.draft in
+    let os : List Outline = c.self.inside.outlines.items in
+    let o = c.in-Ok.outline in
+    let after : c.push.new.self.items ≡ os ++ o ∷ [] = search rules in
+    record {
+      outlined = subst (λ (xs : List Outline). All (IsOutlined new) xs) (sym after) (outlined_more os o old new c.in-Ok.ensures.grown c.self.invariant.outlined c.in-Ok.ensures.stands);
+      again = subst (λ (a : Option Again). IsAgainIf new a) (sym c.again_by-self-inside.ensures) (again_new new c.args.ground o (moment_of c.args.scene.now) c.args.refusal c.requires.ground c.in-Ok.ensures.parts c.in-Ok.ensures.stands);
+    }
+
+pub returns-in_ok-push-in-Ok-clause-shown : goal.returns-in_ok-push-in-Ok-clause-shown
+returns-in_ok-push-in-Ok-clause-shown c =
+    let old = c.self.inside.draft in
+    let new = c.outlined.new.draft in
+    let os : List Outline = c.self.inside.outlines.items in
+    let o = c.in-Ok.outline in
+    let after : c.push.new.self.items ≡ os ++ o ∷ [] = search rules in
+    let told = c.in-Ok.ensures.told in
+    ap (outlines_text new) after ∙ (outlines_more os o old new c.in-Ok.ensures.grown c.self.invariant.outlined ∙ (λ i. c.self.view_is i ++ told i))

@@ -1,0 +1,131 @@
+//! An event whose object is put together at the end.
+
+ghost use Rattle.std.specs.Prelude.{◌≡◌, ◌≤◌, ◌++◌, ◌-◌, IfOk, OnOk, length, take, true};
+ghost use Rattle.std.specs.Str.{IsUtf8};
+ghost use Rattle.gs_lines.specs.Lines.{reply_lines};
+ghost use Rattle.gs_reasons.specs.Kept.{HasHeard};
+ghost use Rattle.gs_script.specs.Unread.{said_line};
+ghost use Rattle.gs_script.specs.Words.{is_text};
+ghost use Rattle.gs_trace.specs.Came.{reply_in};
+ghost use Rattle.gs_explain.specs.Composed.{behind_commas};
+ghost use Rattle.gs_explain.specs.Marked.{IsMarked};
+ghost use Rattle.gs_explain.specs.Moment.{moment_of};
+ghost use Rattle.gs_explain.specs.Objects.{object_row, whys};
+ghost use Rattle.gs_explain.specs.Outlined.{Grows, HasParts, IsOutlined, Notes, outline_text};
+
+use crate::draft::Draft;
+use crate::moment::Scene;
+use crate::whys::push_whys;
+use gs_reasons::Index;
+use gs_script::SaidLine;
+use gs_trace::Came;
+use std::alloc::AllocError;
+
+/// An event whose object is put together at the end: its line and that line's number, the entries that it added, and where a
+/// text has the lines of its reply, and behind them its reasons.
+#[derive(Clone, Copy)]
+pub(crate) struct Outline<'a> {
+    pub(crate) line: &'a [u8],
+    pub(crate) number: u32,
+    /// The place of the first entry that it added.
+    pub(crate) first: u32,
+    /// How many it added.
+    pub(crate) count: u32,
+    /// Where the lines of its reply begin.
+    pub(crate) from: usize,
+    /// Where they end, and its reasons begin.
+    pub(crate) mid: usize,
+    /// Where those end.
+    pub(crate) to: usize,
+}
+
+/// Returns a number in 32 bits. One that does not fit counts as out of memory.
+#[inline(always)]
+fn short(number: usize) -> Result<u32, AllocError>
+    ensures { IfOk result (λ n. n ≡ number) }
+{
+    match u32::try_from(number) {
+        Ok(number) => Ok(number),
+        Err(_) => Err(AllocError),
+    }
+}
+
+impl<'a> Outline<'a> {
+    /// Makes one. A line's number or an entry's place that does not fit into 32 bits counts as out of memory.
+    #[inline(always)]
+    fn new(
+        said: &SaidLine<'a>,
+        first: usize,
+        end: usize,
+        from: usize,
+        mid: usize,
+        to: usize,
+    ) -> Result<Outline<'a>, AllocError>
+        requires entries { first ≤ end }
+        requires begins { from ≤ mid }
+        requires ends { mid ≤ to }
+        ensures { IfOk result (Notes (said_line said.now) first (end - first) from mid to) }
+    {
+        let number = short(said.number)?;
+        let end = short(end)?;
+        let first = first as u32;
+        Ok(Outline {
+            line: said.bytes,
+            number,
+            first,
+            count: end - first,
+            from,
+            mid,
+            to,
+        })
+    }
+
+    /// Returns an event of another line that is told the same and added no entry. So many stand before it.
+    #[inline(always)]
+    pub(crate) fn again<'b>(
+        &self,
+        said: &SaidLine<'b>,
+        first: usize,
+    ) -> Result<Outline<'b>, AllocError>
+        ensures { IfOk result (Notes (said_line said.now) first 0 self.now.from self.now.mid self.now.to) }
+    {
+        Ok(Outline {
+            line: said.bytes,
+            number: short(said.number)?,
+            first: short(first)?,
+            count: 0,
+            from: self.from,
+            mid: self.mid,
+            to: self.to,
+        })
+    }
+}
+
+/// Adds what the object of an event is put together of, and returns the event. An index has heard the entries before the
+/// event, so many, and hears those of the event. It fails only if out of memory.
+#[inline(always)]
+pub(crate) fn outlined<'a>(
+    draft: &mut Draft,
+    said: &SaidLine<'a>,
+    scene: &Scene<'_>,
+    index: &mut Index,
+    first: usize,
+    came: Came<'_>,
+) -> Result<Outline<'a>, AllocError>
+    requires text { is_text said.now.bytes.now ≡ true }
+    requires within { first ≤ length scene.now.journal.now.entries }
+    requires heard { HasHeard index.old (take first scene.now.journal.now.entries) }
+    requires marked { IsMarked scene.now.last.now.places.items scene.now.transactions.now }
+    ensures grown { OnOk result (Grows draft.old draft.new) }
+    ensures told { IfOk result (λ o. outline_text draft.new o ≡ object_row (said_line said.now) (moment_of scene.now) first (reply_in came.entry)) }
+    ensures stands { IfOk result (λ o. IsOutlined draft.new o) }
+    ensures parts { IfOk result (λ o. HasParts draft.new o (reply_lines (reply_in came.entry)) (behind_commas (whys (moment_of scene.now) first (reply_in came.entry)))) }
+    ensures heard { OnOk result (HasHeard index.new scene.now.journal.now.entries) }
+{
+    let from = draft.len();
+    draft.reply(came)?;
+    let mid = draft.len();
+    push_whys(draft, scene, index, first, came)?;
+    let to = draft.len();
+    Outline::new(said, first, scene.journal.len(), from, mid, to)
+}
