@@ -17,6 +17,11 @@ mod_past c p j past most pos =
     let e : p + j ≡ (p / c + 1) * c + (p % c + j - c) = omega (arith, div-add-mod' p c, past) in
     ap (λ k. k % c) e ∙ mod-mul-add (p / c + 1) c (p % c + j - c) (omega (arith, past, most, pos))
 
+-- so a place lies no further on in the block than as many bytes behind where the earlier one lies
+pub mod_no_further : (c p j : ℕ) → 0 < c → p % c + j ≤ c → (p + j) % c ≤ p % c + j
+mod_no_further c p j pos fits =
+    ⊎_elim (λ (lt : p % c + j < c). omega (arith, mod_further c p j lt)) (λ (past : c ≤ p % c + j). omega (arith, mod_past c p j past (omega arith) pos)) (cases_lt (p % c + j) c)
+
 -- behind the end of the block lies its start
 pub mod_round : (c p : ℕ) → 0 < c → (p + (c - p % c)) % c ≡ 0
 mod_round c p pos =

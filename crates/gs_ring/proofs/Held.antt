@@ -1,15 +1,17 @@
 -- How a ring's parts go on agreeing.
 use Rattle.std.proofs.Common.{◌≡◌, true, ℕ, zero, suc, ◌+◌, ◌-◌, ◌*◌, ◌%◌, ◌<◌, ◌≤◌, List, [], ◌∷◌, ◌++◌, length, drop, refl, ap, sym, subst, ◌∙◌, append_assoc, arith, length-append}
-use Rattle.std.specs.Prelude.{All}
+use Rattle.std.specs.Prelude.{All, min}
 use Rattle.std.proofs.lemmas.List.{append-nil, drop_at}
 use Rattle.std.proofs.lemmas.List.Elements.{All-head, All-nil, All-push, All-tail}
 use Rattle.gs_ring.specs.declared.ends.TheConstants.{MOST_POSTS}
 use Rattle.gs_layout.specs.declared.wire.TheConstants.{ALIGNMENT, MOST_MESSAGE_LEN, MOST_PAD_LEN}
 use Rattle.gs_layout.specs.declared.message.Message.{Message}
 use Rattle.gs_layout.specs.Spelling.{IsSpellable, spelling}
+use Rattle.gs_ring.specs.declared.memory.TheConstants.{STEP}
 use Rattle.gs_ring.specs.declared.place.Place.{Place}
 use Rattle.gs_ring.specs.Block.{IsHeld, IsRing, block_with, messages_in, put_at, ring_of, seen}
 use Rattle.gs_ring.specs.Ends.{place_behind-grows}
+use Rattle.gs_ring.specs.Memory.{MemoryState}
 use Rattle.gs_ring.specs.Places.{bytes, is_capacity, need, pad_bytes, pad_len, place_behind, record_len}
 use Rattle.gs_ring.specs.RingState.{RingState, end, free, posts}
 use Rattle.gs_ring.proofs.Pads.{IsWide, length-pad_bytes, need_is, pad_fits, record_fits, wide}
@@ -67,19 +69,25 @@ place_whole c w (m ∷ ms) wide even fits =
     place_whole c (w + need c w (record_len m)) ms wide (sizes_of c w m wide even (All-head IsSpellable m ms fits)).next (All-tail IsSpellable m ms fits)
 
 -- the parts agree still if the ring goes on to be read at a later place
-pub read_later : (b : List ℕ) (r w q : Place) (t p n span : ℕ) → n ≡ length b → IsRing b (r.count + span) w.count t p → q.count ≡ r.count + span → q.index ≡ (r.count + span) % n → w.index ≡ w.count % length b → IsHeld b q w t p
-read_later b r w q t p n span size ring count at written = record {
-  ring = subst (λ k. IsRing b k w.count t p) (sym count) ring;
+pub read_later : (b : MemoryState) (r w q : Place) (t p n span : ℕ) → n ≡ length b.items → IsRing b.items (r.count + span) w.count t p → q.count ≡ r.count + span → q.index ≡ (r.count + span) % n
+    → w.index ≡ w.count % length b.items → min w.count (length b.items) ≤ b.touched → b.touched ≤ w.count + STEP → IsHeld b q w t p
+read_later b r w q t p n span size ring count at written done few = record {
+  ring = subst (λ k. IsRing b.items k w.count t p) (sym count) ring;
   read_at = at ∙ ap (λ k. k % n) (sym count) ∙ ap (λ k. q.count % k) size;
   written_at = written;
+  touched = done;
+  few = few;
 }
 
 -- and if it goes on to be written there
-pub written_later : (b : List ℕ) (r w q : Place) (t p n span : ℕ) → n ≡ length b → IsRing b r.count (w.count + span) t p → q.count ≡ w.count + span → q.index ≡ (w.count + span) % n → r.index ≡ r.count % length b → IsHeld b r q t p
-written_later b r w q t p n span size ring count at read = record {
-  ring = subst (λ k. IsRing b r.count k t p) (sym count) ring;
+pub written_later : (b : MemoryState) (r w q : Place) (t p n span : ℕ) → n ≡ length b.items → IsRing b.items r.count (w.count + span) t p → q.count ≡ w.count + span → q.index ≡ (w.count + span) % n
+    → r.index ≡ r.count % length b.items → min (w.count + span) (length b.items) ≤ b.touched → b.touched ≤ w.count + span + STEP → IsHeld b r q t p
+written_later b r w q t p n span size ring count at read done few = record {
+  ring = subst (λ k. IsRing b.items r.count k t p) (sym count) ring;
   read_at = read;
   written_at = at ∙ ap (λ k. k % n) (sym count) ∙ ap (λ k. q.count % k) size;
+  touched = subst (λ k. min k (length b.items) ≤ b.touched) (sym count) done;
+  few = subst (λ k. b.touched ≤ k + STEP) (sym count) few;
 }
 
 -- a new ring

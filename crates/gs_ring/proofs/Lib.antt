@@ -1,6 +1,7 @@
 pub mod Around
 pub mod Pads
 pub mod Written
+pub mod Touched
 pub mod ReadAgain
 pub mod Rows
 pub mod Held

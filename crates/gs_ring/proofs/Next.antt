@@ -11,12 +11,14 @@ use Rattle.gs_layout.specs.Reading.{number_at}
 use Rattle.gs_layout.specs.Spelling.{IsSpellable, spelling}
 use Rattle.gs_ring.specs.Block.{IsRing, Lies, record_index, ring_of, seen}
 use Rattle.gs_ring.specs.Ends.{Ahead, Passed, Passed-join, Passed-none, place_behind-append, place_behind-grows}
+use Rattle.gs_ring.specs.Memory.{MemoryState}
 use Rattle.gs_ring.specs.Places.{bytes, need, pad_bytes, pad_len, place_behind, record_len, rest}
 use Rattle.gs_ring.specs.RingState.{RingState, end}
 use Rattle.gs_ring.proofs.Around.{mod_round, mod_whole}
 use Rattle.gs_ring.proofs.Held.{Shows, length-messages_in, length-seen, ring_from, shown, shows_rest, waiting, waiting_is}
-use Rattle.gs_ring.proofs.Pads.{IsWide, need_is, pad_bytes_none, pad_bytes_some, pad_cases, wide}
+use Rattle.gs_ring.proofs.Pads.{IsWide, need_is, pad_bytes_none, pad_bytes_some, pad_cases, record_size, wide}
 use Rattle.gs_ring.proofs.ReadAgain.{length_named, message_kind, pad_kind, sizes_of}
+use Rattle.gs_ring.proofs.Touched.{all_reached, number_touched, reached, row_touched}
 use Rattle.gs_ring.proofs.Written.{seen-row, seen-split}
 
 -- what is seen, in two parts
@@ -38,12 +40,14 @@ row_begins b p x e fits =
     let row : take (length x) (drop i b) ≡ x = sym (seen-row b p (length x) fits) ∙ e in
     sym (take-append-drop (length x) (drop i b)) ∙ ap (λ t. t ++ drop (length x) (drop i b)) row
 
-by_kind : (b : List ℕ) (r : ℕ) (x : Bool) → (number_at KIND_AT 2 (drop (r % length b) b) == PAD) ≡ x → record_index b r ≡ cond x 0 (r % length b)
+pub by_kind : (b : List ℕ) (r : ℕ) (x : Bool) → (number_at KIND_AT 2 (drop (r % length b) b) == PAD) ≡ x → record_index b r ≡ cond x 0 (r % length b)
 unfolding record_index
 by_kind b r x e = ap (λ (y : Bool). cond y 0 (r % length b)) e
 
-pub first_lies : (b : List ℕ) (r w : ℕ) (m : Message) (ms : List Message) → IsWide (length b) → Shows b r w (m ∷ ms) → Lies b r m
-first_lies b r w m ms wide_ s =
+pub first_lies : (block : MemoryState) (r w : ℕ) (m : Message) (ms : List Message) → IsWide (length block.items) → Shows block.items r w (m ∷ ms)
+    → min w (length block.items) ≤ block.touched → Lies block r m
+first_lies block r w m ms wide_ s done =
+    let b = block.items in
     let c = length b in
     let i = r % c in
     let fits = All-head IsSpellable m ms s.spellable in
@@ -54,6 +58,7 @@ first_lies b r w m ms wide_ s =
     let room : i + FRONT_LEN ≤ c = omega (arith, within, even, wide_.whole) in
     let len = record_len m in
     let k = pad_len c r len in
+    let low : r + (k + len) ≤ w = omega (arith, s.behind, z.both, place_behind-grows c (r + need c r len) ms) in
     let tail = bytes c (r + need c r len) ms in
     ⊎_elim
     (λ (h : (k ≡ 0) × (len ≤ rest c r)).
@@ -64,7 +69,14 @@ first_lies b r w m ms wide_ s =
     let front : drop i b ≡ spelling m ++ drop len (drop i b) = row in
     let kind : (number_at KIND_AT 2 (drop i b) == PAD) ≡ false = ap (λ (t : List ℕ). number_at KIND_AT 2 t == PAD) front ∙ message_kind m (drop len (drop i b)) in
     let at : record_index b r ≡ i = by_kind b r false kind in
-    let l : Lies b r m = record { spellable = fits; room = room; more = drop len (drop i b); front = ap (λ n. drop n b) at ∙ front; fits = omega (arith, at, end_) } in
+    let there : i + len ≤ block.touched = reached c r w block.touched len (omega (arith, low)) end_ done in
+    let l : Lies block r m = record {
+      spellable = fits;
+      room = omega (arith, there, z.record_.least);
+      more = drop len (drop i b);
+      front = ap (λ n. drop n b) at ∙ front;
+      fits = omega (arith, at, there);
+    } in
     l)
     (λ (h : (k ≡ rest c r) × (rest c r < len)).
     let some : 0 < k = omega (arith, h.0, within) in
@@ -78,26 +90,59 @@ first_lies b r w m ms wide_ s =
     let at : record_index b r ≡ 0 = by_kind b r true kind in
     let next : (r + length (pad_bytes k)) % c ≡ 0 = ap (λ n. (r + n) % c) (size ∙ h.0) ∙ mod_round c r pos in
     let two = (seen_parts b (r + length (pad_bytes k)) (w - r - length (pad_bytes k)) (spelling m) tail parts.1).0 in
-    let low : len ≤ c = omega (arith, z.record_.most, wide_.least) in
-    let row2 = row_begins b (r + length (pad_bytes k)) (spelling m) two (omega (arith, next, low)) in
+    let short : len ≤ c = omega (arith, z.record_.most, wide_.least) in
+    let row2 = row_begins b (r + length (pad_bytes k)) (spelling m) two (omega (arith, next, short)) in
     let begins : b ≡ spelling m ++ drop len b =
     sym (ap (λ n. drop n b) next) ∙ row2 ∙ ap (λ n. spelling m ++ drop len (drop n b)) next in
-    let l : Lies b r m = record { spellable = fits; room = room; more = drop len b; front = ap (λ n. drop n b) at ∙ begins; fits = omega (arith, at, low) } in
+    let all : c ≤ block.touched = all_reached c r w block.touched pos (omega (arith, low, h.0)) done in
+    let l : Lies block r m = record {
+      spellable = fits;
+      room = omega (arith, all, room);
+      more = drop len b;
+      front = ap (λ n. drop n b) at ∙ begins;
+      fits = omega (arith, at, short, all);
+    } in
     l)
     (pad_cases c r len)
 
 -- the length that it names is its own
-pub names_length : (b : List ℕ) (r : ℕ) (m : Message) → Lies b r m → number_at (record_index b r) 2 b ≡ record_len m
+pub names_length : (b : MemoryState) (r : ℕ) (m : Message) → Lies b r m → number_at (record_index b.items r) 2 b.items ≡ record_len m
 names_length b r m h = ap (λ (t : List ℕ). number_at LEN_AT 2 t) h.front ∙ length_named m h.more h.spellable
 
--- the first message of a ring, and the ring after it is consumed
-pub record First (b : List ℕ) (r w t p : ℕ) (v : RingState) (m : Message) : Type 0 where
-  pub lies : Lies b r m
-  pub ring : IsRing b (r + need (length b) r (record_len m)) w (t + 1) p
-  pub passed : Passed v (m ∷ []) (ring_of b (r + need (length b) r (record_len m)) w (t + 1) p)
+-- so it is where it stands in the bytes that were touched
+pub names_touched : (b : MemoryState) (r : ℕ) (m : Message) (text : List ℕ) (start len : ℕ) → Lies b r m → text ≡ take b.touched b.items → length text ≡ b.touched
+    → start ≡ record_index b.items r → len ≡ number_at start 2 text → len ≡ record_len m
+names_touched b r m text start len h is count at named =
+    let size : length (take b.touched b.items) ≡ b.touched = sym (ap length is) ∙ count in
+    named
+    ∙ ap (λ (t : List ℕ). number_at start 2 t) is
+    ∙ number_touched b.touched b.items start (omega (arith, size, at, h.fits, (record_size m h.spellable).least))
+    ∙ ap (λ k. number_at k 2 b.items) at
+    ∙ names_length b r m h
 
-pub first_in : (b : List ℕ) (r w t p : ℕ) (v : RingState) (m : Message) → IsRing b r w t p → ring_of b r w t p ≡ v → Ahead v (m ∷ []) → First b r w t p v m
-first_in b r w t p v m h view ahead =
+-- and so are its bytes
+pub spelled_touched : (b : MemoryState) (r : ℕ) (m : Message) (text : List ℕ) (start len : ℕ) → Lies b r m → text ≡ take b.touched b.items → length text ≡ b.touched
+    → start ≡ record_index b.items r → len ≡ record_len m → take (start + len - start) (drop start text) ≡ spelling m
+spelled_touched b r m text start len h is count at size =
+    let all : length (take b.touched b.items) ≡ b.touched = sym (ap length is) ∙ count in
+    let n : start + len - start ≡ record_len m = omega (arith, size) in
+    ap (λ k. take k (drop start text)) n
+    ∙ ap (λ (t : List ℕ). take (record_len m) (drop start t)) is
+    ∙ row_touched b.touched b.items start (record_len m) (omega (arith, all, at, h.fits))
+    ∙ ap (λ k. take (record_len m) (drop k b.items)) at
+    ∙ ap (λ t. take (record_len m) t) h.front
+    ∙ take_at (spelling m) h.more (record_len m) refl
+
+-- the first message of a ring, and the ring after it is consumed
+pub record First (block : MemoryState) (r w t p : ℕ) (v : RingState) (m : Message) : Type 0 where
+  pub lies : Lies block r m
+  pub ring : IsRing block.items (r + need (length block.items) r (record_len m)) w (t + 1) p
+  pub passed : Passed v (m ∷ []) (ring_of block.items (r + need (length block.items) r (record_len m)) w (t + 1) p)
+
+pub first_in : (block : MemoryState) (r w t p : ℕ) (v : RingState) (m : Message) → IsRing block.items r w t p → min w (length block.items) ≤ block.touched → ring_of block.items r w t p ≡ v
+    → Ahead v (m ∷ []) → First block r w t p v m
+first_in block r w t p v m h done view ahead =
+    let b = block.items in
     let c = length b in
     let ms = ahead.0 in
     let e : waiting b r w (p - t) ≡ m ∷ ms = ap (λ (x : RingState). x.unread) view ∙ ahead.1 in
@@ -110,7 +155,7 @@ first_in b r w t p v m h view ahead =
     let rest_is : waiting b n w (p - (t + 1)) ≡ ms = waiting_is b n w (p - (t + 1)) ms wide_ after left in
     let cap : c ≡ v.capacity = ap (λ (x : RingState). x.capacity) view in
     record {
-      lies = first_lies b r w m ms wide_ s;
+      lies = first_lies block r w m ms wide_ s done;
       ring = ring_from b n w (t + 1) p ms h.size (omega (arith, count, h.order)) h.few h.low after left;
       passed = record {
         capacity = cap;
@@ -148,6 +193,22 @@ rows_of b r u i f pos fits is_i is_f =
     ∙ ap (λ t. seen b r f ++ t) two
     ∙ sym (seen-split b r f (u - f))
     ∙ ap (λ k. seen b r k) count
+
+-- and both are touched
+pub record InTouched (block : MemoryState) (i f u : ℕ) : Type 0 where
+  pub first : i + f ≤ block.touched
+  pub second : u - f ≤ block.touched
+
+pub in_touched : (block : MemoryState) (r w i f : ℕ) → 0 < length block.items → r ≤ w → w ≤ r + length block.items → min w (length block.items) ≤ block.touched → i ≡ r % length block.items
+    → f ≡ min (w - r) (length block.items - i) → InTouched block i f (w - r)
+in_touched block r w i f pos order room done is_i is_f =
+    let c = length block.items in
+    let within : r % c < c = omega (arith, pos) in
+    let first_ : i + f ≤ block.touched = omega (arith, is_i, reached c r w block.touched f (omega (arith, is_f, order)) (omega (arith, is_f, is_i, within)) done) in
+    ⊎_elim
+    (λ (lt : w < c). record { first = first_; second = omega (arith, done, lt) })
+    (λ (le : c ≤ w). record { first = first_; second = omega (arith, done, le, room, order) })
+    (cases_lt w c)
 
 pub front_bytes : (b : List ℕ) (r w t p : ℕ) (v : RingState) → IsRing b r w t p → ring_of b r w t p ≡ v → seen b r (w - r) ≡ bytes v.capacity v.read v.unread
 front_bytes b r w t p v h view = h.holds ∙ ap (λ (x : RingState). bytes x.capacity x.read x.unread) view

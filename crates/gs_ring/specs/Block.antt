@@ -1,11 +1,13 @@
 -- How a ring's block holds its messages.
-use Rattle.std.specs.Prelude.{◌≡◌, ◌==◌, true, ℕ, zero, suc, ◌+◌, ◌-◌, ◌*◌, ◌%◌, ◌≤◌, List, [], ◌∷◌, ◌++◌, length, take, drop, slice_index, All, if◌then◌else◌}
+use Rattle.std.specs.Prelude.{◌≡◌, ◌==◌, true, ℕ, zero, suc, ◌+◌, ◌-◌, ◌*◌, ◌%◌, ◌≤◌, List, [], ◌∷◌, ◌++◌, length, min, take, drop, slice_index, All, if◌then◌else◌}
 use Rattle.gs_layout.specs.declared.message.Message.{Message}
 use Rattle.gs_layout.specs.Reading.{message_in, number_at}
 use Rattle.gs_layout.specs.Spelling.{IsSpellable, spelling}
 use Rattle.gs_layout.specs.declared.wire.TheConstants.{ALIGNMENT, FRONT_LEN, KIND_AT, LEN_AT, MOST_MESSAGE_LEN, MOST_PAD_LEN, PAD}
 use Rattle.gs_ring.specs.declared.ends.TheConstants.{MOST_POSTS}
+use Rattle.gs_ring.specs.declared.memory.TheConstants.{STEP}
 use Rattle.gs_ring.specs.declared.place.Place.{Place}
+use Rattle.gs_ring.specs.Memory.{MemoryState}
 use Rattle.gs_ring.specs.Places.{bytes, is_capacity, pad_bytes, place_behind, record_len}
 use Rattle.gs_ring.specs.RingState.{RingState}
 
@@ -43,13 +45,13 @@ block_with block place pad m = put_at ((place + pad) % length block) (spelling m
 unfoldable pub record_index : List ℕ → ℕ → ℕ
 record_index block place = if number_at KIND_AT 2 (drop (place % length block) block) == PAD then 0 else place % length block
 
--- the record of this message lies whole in the block, and is read at this place
-pub record Lies (block : List ℕ) (place : ℕ) (m : Message) : Type 0 where
+-- the record of this message lies whole in the bytes of a block that were touched, and is read at this place
+pub record Lies (block : MemoryState) (place : ℕ) (m : Message) : Type 0 where
   pub spellable : IsSpellable m
-  pub room : place % length block + FRONT_LEN ≤ length block
+  pub room : place % length block.items + FRONT_LEN ≤ block.touched
   pub more : List ℕ
-  pub front : drop (record_index block place) block ≡ spelling m ++ more
-  pub fits : record_index block place + record_len m ≤ length block
+  pub front : drop (record_index block.items place) block.items ≡ spelling m ++ more
+  pub fits : record_index block.items place + record_len m ≤ block.touched
 
 -- the parts of a ring agree: each message that waits lies at its place
 pub record IsRing (block : List ℕ) (read written consumed posts : ℕ) : Type 0 where
@@ -64,11 +66,13 @@ pub record IsRing (block : List ℕ) (read written consumed posts : ℕ) : Type 
   pub behind : place_behind (length block) read (messages_in (posts - consumed) (seen block read (written - read))) ≡ written
   pub holds : seen block read (written - read) ≡ bytes (length block) read (messages_in (posts - consumed) (seen block read (written - read)))
 
--- and where its places lie in the block is kept beside them
-pub record IsHeld (block : List ℕ) (read written : Place) (consumed posts : ℕ) : Type 0 where
-  pub ring : IsRing block read.count written.count consumed posts
-  pub read_at : read.index ≡ read.count % length block
-  pub written_at : written.index ≡ written.count % length block
+-- and where its places lie in the block is kept beside them. Of the block is touched what was written, which is all of it after the first lap, and little more
+pub record IsHeld (block : MemoryState) (read written : Place) (consumed posts : ℕ) : Type 0 where
+  pub ring : IsRing block.items read.count written.count consumed posts
+  pub read_at : read.index ≡ read.count % length block.items
+  pub written_at : written.index ≡ written.count % length block.items
+  pub touched : min written.count (length block.items) ≤ block.touched
+  pub few : block.touched ≤ written.count + STEP
 
 -- what a ring of these parts is to its callers
 abbrev pub ring_of : List ℕ → ℕ → ℕ → ℕ → ℕ → RingState

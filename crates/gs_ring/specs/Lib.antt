@@ -1,5 +1,6 @@
 pub mod Places
 pub mod RingState
+pub mod Memory
 pub mod Block
 pub mod Segments
 pub mod Splits

@@ -4,10 +4,11 @@ ghost use Rattle.std.specs.Prelude.{◌≡◌, ◌+◌, ◌-◌, ◌%◌, ◌<�
 ghost use Rattle.gs_layout.specs.declared.message.Message.{Message};
 ghost use Rattle.gs_layout.specs.Pad.{pad};
 ghost use Rattle.gs_layout.specs.Spelling.{spelling};
-ghost use Rattle.gs_ring.specs.Block.{Lies, block_with, put_at, record_index};
+ghost use Rattle.gs_ring.specs.Block.{Lies, put_at, record_index};
 ghost use Rattle.gs_ring.specs.Peek.{message_of};
 ghost use Rattle.gs_ring.specs.Places.{is_capacity, need, pad_bytes, pad_len, record_len};
 
+use crate::memory::Memory;
 use crate::peeked::Peeked;
 use crate::place::Place;
 use byteorder::{ByteOrder, LittleEndian};
@@ -72,33 +73,26 @@ fn write_record(block: &mut [u8], at: usize, message: &Message)
     gs_layout::encode_message(message, &mut block[at..]);
 }
 
-/// Writes a message at a place, behind a PAD of so many bytes.
+/// Writes a PAD of so many bytes at an index of the block, if it is to have any, and then a message at another.
 #[inline(always)]
-pub(crate) fn write(block: &mut [u8], place: Place, pad: usize, message: &Message)
-    requires size { 0 < length block.old }
-    requires small { length block.old ≤ MOST_CAPACITY }
-    requires at { place.index ≡ place.count % length block.old }
-    requires fits { place.count % length block.old + pad ≤ length block.old }
+pub(crate) fn write(block: &mut [u8], at: usize, pad: usize, start: usize, message: &Message)
+    requires fits { at + pad ≤ length block.old }
     requires whole { pad % ALIGNMENT ≡ 0 }
     requires most { pad ≤ u16.MAX }
-    requires place { place.count + pad ≤ u64.MAX }
-    requires behind { (place.count + pad) % length block.old + record_len message.now ≤ length block.old }
-    ensures { block.new ≡ block_with block.old place.count pad message.now }
+    requires behind { start + record_len message.now ≤ length block.old }
+    ensures { block.new ≡ put_at start (spelling message.now) (put_at at (pad_bytes pad) block.old) }
 {
-    let start = place.further(pad, block.len());
-    write_pad(block, place.index, pad);
-    write_record(block, start.index, message);
+    write_pad(block, at, pad);
+    write_record(block, start, message);
 }
 
 /// Returns where the record begins in the block that is read at a place: behind its PAD, if it has one.
-#[tactic(auto, unfolding(crate::specs::Block::record_index))]
-fn record_index(block: &[u8], place: Place) -> usize
-    requires at { place.index ≡ place.count % length block.now }
-    requires room { place.count % length block.now + FRONT_LEN ≤ length block.now }
-    ensures value { result ≡ record_index block.now place.count }
-    ensures within { result < length block.now }
+fn record_index(block: &Memory, place: Place) -> usize
+    requires at { place.index ≡ place.count % length block.now.items }
+    requires room { place.count % length block.now.items + FRONT_LEN ≤ block.now.touched }
+    ensures { result ≡ record_index block.now.items place.count }
 {
-    if u16_at(&block[place.index..], KIND_AT) == PAD {
+    if u16_at(&block.touched()[place.index..], KIND_AT) == PAD {
         0
     } else {
         place.index
@@ -106,25 +100,27 @@ fn record_index(block: &[u8], place: Place) -> usize
 }
 
 /// Lends the message that is read at a place, where it lies in the block.
-pub(crate) fn message_at(block: &[u8], place: Place) -> Peeked<'_>
-    requires at { place.index ≡ place.count % length block.now }
+pub(crate) fn message_at(block: &Memory, place: Place) -> Peeked<'_>
+    requires at { place.index ≡ place.count % length block.now.items }
     requires lies { (m : Message) × Lies block.now place.count m }
     ensures { (m : Message) → Lies block.now place.count m → message_of result ≡ m }
 {
     let start = record_index(block, place);
-    let len = u16_at(block, start) as usize;
-    Peeked::new(&block[start..start + len])
+    let bytes = block.touched();
+    let len = u16_at(bytes, start) as usize;
+    Peeked::new(&bytes[start..start + len])
 }
 
 /// Returns how many bytes the message takes up that is read at a place, with its PAD.
-pub(crate) fn span_at(block: &[u8], place: Place) -> usize
-    requires size { 0 < length block.now }
-    requires at { place.index ≡ place.count % length block.now }
+pub(crate) fn span_at(block: &Memory, place: Place) -> usize
+    requires size { 0 < length block.now.items }
+    requires small { length block.now.items ≤ MOST_CAPACITY }
+    requires at { place.index ≡ place.count % length block.now.items }
     requires lies { (m : Message) × Lies block.now place.count m }
-    ensures { (m : Message) → Lies block.now place.count m → result ≡ need (length block.now) place.count (record_len m) }
+    ensures { (m : Message) → Lies block.now place.count m → result ≡ need (length block.now.items) place.count (record_len m) }
 {
-    let len = u16_at(block, record_index(block, place)) as usize;
-    pad_len(place, block.len(), len) + len
+    let len = u16_at(block.touched(), record_index(block, place)) as usize;
+    pad_len(place, block.size(), len) + len
 }
 
 /// Returns whether a ring may have so many bytes.

@@ -6,6 +6,7 @@ mod batch;
 mod block;
 mod ends;
 mod fault;
+mod memory;
 mod peeked;
 mod place;
 mod ring;

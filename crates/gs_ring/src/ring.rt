@@ -13,6 +13,7 @@ use crate::batch::Batch;
 use crate::block;
 use crate::ends::{MOST_POSTS, Poster, Ring, Taker};
 use crate::fault::{Full, RingFault};
+use crate::memory::Memory;
 use crate::peeked::Peeked;
 use crate::place::Place;
 use crate::waiting::Waiting;
@@ -27,7 +28,7 @@ use std::marker::Model;
 /// wrap. Nothing but `new` allocates.
 #[derive(Drop)]
 pub struct ByteRing {
-    block: Vec<u8>,
+    block: Memory,
     /// The place of the first byte that was not consumed.
     read: Place,
     /// The place behind the last byte that was written.
@@ -45,7 +46,7 @@ impl Model for ByteRing {
 
     ghost view = { λ r. ring_of r.block.items r.read.count r.written.count r.consumed r.posts };
 
-    ghost invariant = { λ r. IsHeld r.block.items r.read r.written r.consumed r.posts };
+    ghost invariant = { λ r. IsHeld r.block r.read r.written r.consumed r.posts };
 }
 
 impl ByteRing {
@@ -74,7 +75,7 @@ impl ByteRing {
             return Err(RingFault::BadCapacity);
         }
         Ok(ByteRing {
-            block: vec![in alloc; 0; capacity]?,
+            block: Memory::new(alloc, capacity)?,
             read: Place { count: 0, index: 0 },
             written: Place { count: 0, index: 0 },
             consumed: 0,
@@ -95,7 +96,7 @@ impl ByteRing {
         ensures value { result ≡ self.now.capacity }
         ensures range { is_capacity result ≡ true }
     {
-        self.block.len()
+        self.block.size()
     }
 
     /// Returns how many bytes are free.
@@ -111,7 +112,7 @@ impl ByteRing {
         requires { len ≤ u16.MAX }
         ensures { result ≡ need self.now.capacity (end self.now) len }
     {
-        block::pad_len(self.written, self.block.len(), len) + len
+        block::pad_len(self.written, self.block.size(), len) + len
     }
 
     /// Appends a message.
@@ -128,12 +129,12 @@ impl ByteRing {
         ensures full { OnErr result (self.new ≡ self.old) }
     {
         let len = block::record_len(message);
-        let capacity = self.block.len();
+        let capacity = self.block.size();
         let pad = block::pad_len(self.written, capacity, len);
         if pad + len > self.free() {
             return Err(Full);
         }
-        block::write(self.block.as_mut_slice(), self.written, pad, message);
+        self.block.write(self.written, pad, message, len);
         self.written = self.written.further(pad + len, capacity);
         self.posts += 1;
         Ok(())
@@ -146,7 +147,7 @@ impl ByteRing {
         if self.consumed == self.posts {
             return None;
         }
-        Some(block::message_at(self.block.as_slice(), self.read))
+        Some(block::message_at(&self.block, self.read))
     }
 
     /// Lends the messages that wait, in order, each where it lies in the block. None is consumed.
@@ -163,8 +164,8 @@ impl ByteRing {
         requires { 0 < length self.old.unread }
         ensures { (m : Message) → Ahead self.old (m ∷ []) → Passed self.old (m ∷ []) self.new }
     {
-        let span = block::span_at(self.block.as_slice(), self.read);
-        self.read = self.read.further(span, self.block.len());
+        let span = block::span_at(&self.block, self.read);
+        self.read = self.read.further(span, self.block.size());
         self.consumed += 1;
     }
 
@@ -174,10 +175,10 @@ impl ByteRing {
         ensures all { end self.now ≡ self.now.read + (length result.0.now + length result.1.now) }
         ensures first { length result.0.now ≡ min (end self.now - self.now.read) (rest self.now.capacity self.now.read) }
     {
-        let block = self.block.as_slice();
+        let block = self.block.touched();
         let start = self.read.index;
         let used = (self.written.count - self.read.count) as usize;
-        let first = used.min(block.len() - start);
+        let first = used.min(self.block.size() - start);
         (&block[start..start + first], &block[..used - first])
     }
 

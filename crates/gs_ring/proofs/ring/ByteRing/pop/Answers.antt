@@ -1,7 +1,7 @@
-use Rattle.std.proofs.Common.{◌≡◌, ℕ, ◌+◌, ◌^◌, ◌<◌, ◌≤◌, List, [], ◌∷◌, length, ap, sym, subst, ◌∙◌, arith}
+use Rattle.std.proofs.Common.{◌≡◌, ℕ, ◌+◌, ◌^◌, ◌<◌, ◌≤◌, [], ◌∷◌, length, ap, sym, subst, arith}
 use Rattle.gs_layout.specs.declared.message.Message.{Message}
 use Rattle.gs_ring.specs.declared.ring.ByteRing.TheInside.{Inside}
-use Rattle.gs_ring.specs.Block.{IsRing, Lies, ring_of}
+use Rattle.gs_ring.specs.Block.{IsRing, ring_of}
 use Rattle.gs_ring.specs.Ends.{Ahead, Passed}
 use Rattle.gs_ring.specs.Places.{need, record_len}
 use Rattle.gs_ring.specs.RingState.{RingState}
@@ -21,10 +21,8 @@ taken : (c : After-span_at-span) (m : Message) → Ahead c.args.self.now (m ∷ 
 taken c m ahead =
     let i = c.self.inside in
     let r = i.read.count in
-    let f = first_in i.block.items r i.written.count i.consumed i.posts c.args.self.now m c.self.invariant.ring c.self.view_is ahead in
-    let lies = subst (λ (x : List ℕ). Lies x r m) (sym c.as_slice.ensures.value) f.lies in
-    let e : r + need (length i.block.items) r (record_len m) ≡ r + c.span_at-span.result =
-    ap (λ k. r + k) (ap (λ (x : List ℕ). need (length x) r (record_len m)) (sym c.as_slice.ensures.value) ∙ sym (c.span_at-span.ensures m lies)) in
+    let f = first_in i.block r i.written.count i.consumed i.posts c.args.self.now m c.self.invariant.ring c.self.invariant.touched c.self.view_is ahead in
+    let e : r + need (length i.block.items) r (record_len m) ≡ r + c.span_at-span.result = ap (λ k. r + k) (sym (c.span_at-span.ensures m f.lies)) in
     let q = subst (λ (x : ℕ). IsRing i.block.items x i.written.count (i.consumed + 1) i.posts) e f.ring in
     record {
       ring = q;
@@ -37,14 +35,13 @@ pub span_at-span-requires-clause-lies : goal.span_at-span-requires-clause-lies
 span_at-span-requires-clause-lies c =
     let i = c.self.inside in
     let m = head_in c.args.self.now c.requires in
-    let f = first_in i.block.items i.read.count i.written.count i.consumed i.posts c.args.self.now m.0 c.self.invariant.ring c.self.view_is m.1 in
-    (m.0, subst (λ (x : List ℕ). Lies x i.read.count m.0) (sym c.as_slice.ensures.value) f.lies)
+    (m.0, (first_in i.block i.read.count i.written.count i.consumed i.posts c.args.self.now m.0 c.self.invariant.ring c.self.invariant.touched c.self.view_is m.1).lies)
 
 pub further-self-inside-requires-clause-most : goal.further-self-inside-requires-clause-most
 further-self-inside-requires-clause-most c =
     let m = head_in c.args.self.now c.requires in
     let at = (goal.at.further-self-inside-requires-clause-most c).After-span_at-span in
-    omega (arith, (taken at m.0 m.1).most, c.len.ensures, c.self.inside.block.ok.0)
+    omega (arith, (taken at m.0 m.1).most, c.size.ensures)
 
 pub further-self-inside-requires-clause-low : goal.further-self-inside-requires-clause-low
 further-self-inside-requires-clause-low c =
@@ -58,7 +55,8 @@ invariant_of-self c =
     let m = head_in c.args.self.now c.requires in
     let at = (goal.at.invariant_of-self c).After-span_at-span in
     let t = taken at m.0 m.1 in
-    read_later i.block.items i.read i.written c.further-self-inside.result (i.consumed + 1) i.posts c.len.result c.span_at-span.result (c.len.ensures ∙ i.block.ok.0) t.ring c.further-self-inside.ensures.count c.further-self-inside.ensures.at c.self.invariant.written_at
+    read_later i.block i.read i.written c.further-self-inside.result (i.consumed + 1) i.posts c.size.result c.span_at-span.result c.size.ensures t.ring c.further-self-inside.ensures.count c.further-self-inside.ensures.at c.self.invariant.written_at
+    c.self.invariant.touched c.self.invariant.few
 
 pub returns : goal.returns
 returns c = λ m ahead.
