@@ -1,7 +1,8 @@
 -- What a text is to which bytes were added.
-use Rattle.std.proofs.Common.{◌≡◌, ◌≤◌, ◌<◌, ◌^◌, ℕ, ◌+◌, ◌/◌, true, List, ◌++◌, drop, take, length, decimal, ap, sym, subst, ◌∙◌, arith}
+use Rattle.std.proofs.Common.{◌≡◌, ◌≤◌, ◌<◌, ◌^◌, ℕ, zero, suc, ◌+◌, ◌-◌, ◌/◌, ◌%◌, true, List, [], ◌∷◌, ◌++◌, drop, take, length, length-append, decimal, slice_set, ap, sym, subst, ◌∙◌, arith, inl, inr, eq-zero-or-pos}
+use Rattle.std.proofs.lemmas.Grind.{take-set_at}
 use Rattle.std.proofs.Math.Seq.{take-append_seam, take-append-add}
-use Rattle.std.proofs.lemmas.Fmt.{IsAscii-decimal, length-decimal-le}
+use Rattle.std.proofs.lemmas.Fmt.{IsAscii-decimal, length-decimal-le, decimal_nonempty, decimal_step, decimal_digit}
 use Rattle.std.proofs.lemmas.List.{length-take-le, take-append-drop, take-take}
 use Rattle.std.proofs.lemmas.Str.{IsUtf8-append, IsUtf8-from_ascii, is_utf8-from_IsUtf8}
 use Rattle.std.specs.Str.{IsUtf8, is_utf8}
@@ -81,3 +82,28 @@ part_put at len most old more new part h k e p =
     ∙ (ap (λ (m : ℕ). take m (take at old ++ more)) there
     ∙ (take-append-add (take at old) more len
     ∙ ap (λ (xs : List ℕ). take at old ++ xs) p)))
+
+-- digits that are kept are some
+pub has_digit : (n len : ℕ) (bytes : List ℕ) → n < 2 ^ 64 → take len bytes ≡ decimal n → 1 ≤ len
+has_digit n zero bytes h e = absurd (omega (arith, decimal_nonempty n h, ap length e))
+has_digit n (suc len) bytes h e = omega arith
+
+-- the digits of a number and of the next one, whose last digit is not 0, differ in the last alone
+same_front : (n next : ℕ) → next ≡ n + 1 → next < 2 ^ 64 → n % 10 < 9 → (front : List ℕ) × (decimal n ≡ front ++ (48 + n % 10) ∷ []) × (decimal next ≡ front ++ (48 + next % 10) ∷ [])
+same_front n next e h d =
+    elim (eq-zero-or-pos (10 - n)) [
+      | inl z ↦ (decimal (n / 10), decimal_step n (omega arith) (omega (arith, e, h)), decimal_step next (omega (arith, e)) h ∙ ap (λ (m : ℕ). decimal m ++ (48 + next % 10) ∷ []) (omega (arith, e, d)))
+      | inr g ↦ ([], decimal_digit n (omega arith) ∙ ap (λ (m : ℕ). (48 + m) ∷ []) (omega arith), decimal_digit next (omega (arith, e, d)) ∙ ap (λ (m : ℕ). (48 + m) ∷ []) (omega (arith, e, d)))
+    ]
+
+-- the digits of a number that are kept, with another last one
+pub raised : (n next len : ℕ) (bytes : List ℕ) → next ≡ n + 1 → next < 2 ^ 64 → n % 10 < 9 → len ≤ length bytes → take len bytes ≡ decimal n
+    → take len (slice_set bytes (len - 1) (48 + next % 10)) ≡ decimal next
+raised n next len bytes e h d within kept =
+    let f = same_front n next e h d in
+    let size : len ≡ length f.0 + 1 = omega (arith, ap length (kept ∙ f.1), length-take-le len bytes within, length-append f.0 ((48 + n % 10) ∷ [])) in
+    let last : len - 1 ≡ length f.0 = omega (arith, size) in
+    ap (λ (i : ℕ). take len (slice_set bytes i (48 + next % 10))) last
+    ∙ (take-set_at bytes (length f.0) len (48 + next % 10) size (omega (arith, size, within))
+    ∙ (ap (λ (xs : List ℕ). xs ++ (48 + next % 10) ∷ []) (sym (take-take (length f.0) len bytes (omega (arith, size))) ∙ (ap (take (length f.0)) (kept ∙ f.1) ∙ take-append_seam f.0 ((48 + n % 10) ∷ [])))
+    ∙ sym f.2))

@@ -1,4 +1,4 @@
-ghost use Rattle.std.specs.Prelude.{◌≡◌, ◌+◌, ◌≤◌, ◌++◌, decimal, length, take};
+ghost use Rattle.std.specs.Prelude.{◌≡◌, ◌+◌, ◌<◌, ◌≤◌, ◌++◌, ◌%◌, decimal, length, take};
 ghost use Rattle.std.specs.Str.{IsUtf8};
 
 use crate::forwards::{DIGITS, put, put_number};
@@ -38,15 +38,32 @@ impl Digits {
         Digits { number, bytes, len }
     }
 
-    /// Is this number from now on.
+    /// Is this number from now on. Of one that rises by 1 mostly the last digit alone is written.
     #[inline(always)]
     pub fn set(&mut self, number: u64)
         ensures { self.new ≡ number }
     {
-        if number != self.number {
+        if number == self.number {
+            return;
+        }
+        if number % 10 != 0 && number - 1 == self.number {
+            self.raise(number);
+        } else {
             self.len = put_number(&mut self.bytes, 0, number);
             self.number = number;
         }
+    }
+
+    /// Is the next number, whose last digit is not 0.
+    #[inline(always)]
+    #[tactic(auto, using(crate::proofs::Grown::raised, crate::proofs::Grown::has_digit))]
+    fn raise(&mut self, next: u64)
+        requires next { next ≡ self.old + 1 }
+        requires digit { self.old % 10 < 9 }
+        ensures { self.new ≡ next }
+    {
+        self.bytes[self.len - 1] = b'0' + (next % 10) as u8;
+        self.number = next;
     }
 
     /// Writes the digits, for which there is room however many they are, and returns the place behind them. All that is kept is

@@ -228,6 +228,25 @@ pub(crate) fn put_digits(bytes: &mut [u8], at: usize, words: &str, digits: &Digi
     digits.put(bytes, behind)
 }
 
+/// Writes words, a number whose digits are kept, and words, for which there is room whatever it is, and returns the place behind
+/// them.
+#[inline(always)]
+pub(crate) fn put_digits_between(
+    bytes: &mut [u8],
+    at: usize,
+    words: &str,
+    digits: &Digits,
+    behind: &str,
+) -> usize
+    requires { at + length words.now + DIGITS + length behind.now ≤ length bytes.old }
+    ensures end { result ≤ at + length words.now + DIGITS + length behind.now }
+    ensures written { take result bytes.new ≡ take at bytes.old ++ words.now ++ decimal digits.now ++ behind.now }
+    ensures utf8 { IsUtf8 (take at bytes.old) → IsUtf8 (take result bytes.new) }
+{
+    let end = put_digits(bytes, at, words, digits);
+    put(bytes, end, behind.as_bytes())
+}
+
 /// Writes words, a number, words and a number whose digits are kept, for which there is room whatever they are, and returns the
 /// place behind them.
 #[inline(always)]

@@ -3,8 +3,8 @@ ghost use Rattle.std.specs.Str.{IsUtf8};
 
 use crate::digits::Digits;
 use crate::forwards::{
-    DIGITS, MASK_DIGITS, put, put_behind, put_between, put_digits, put_first, put_mask_between,
-    put_number, put_number_digits, put_two, put_word_two,
+    DIGITS, MASK_DIGITS, put, put_behind, put_between, put_digits, put_digits_between, put_first,
+    put_mask_between, put_number, put_number_digits, put_two, put_word_two,
 };
 use std::alloc::{AllocError, Global};
 use std::marker::Model;
@@ -299,6 +299,25 @@ impl Sheet {
     {
         make_room(&mut self.bytes, self.len, words.len() + DIGITS)?;
         self.len = put_digits(&mut self.bytes, self.len, words, digits);
+        Ok(())
+    }
+
+    /// Adds a number whose digits are kept between words.
+    #[inline(always)]
+    pub fn push_digits_between(
+        &mut self,
+        words: &str,
+        digits: &Digits,
+        behind: &str,
+    ) -> Result<(), AllocError>
+        ensures added { OnOk result (self.new ≡ self.old ++ words.now ++ decimal digits.now ++ behind.now) }
+        ensures kept { OnErr result (self.new ≡ self.old) }
+    {
+        let Some(wanted) = (words.len() + DIGITS).checked_add(behind.len()) else {
+            return Err(AllocError);
+        };
+        make_room(&mut self.bytes, self.len, wanted)?;
+        self.len = put_digits_between(&mut self.bytes, self.len, words, digits, behind);
         Ok(())
     }
 
