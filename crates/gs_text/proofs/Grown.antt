@@ -1,9 +1,9 @@
 -- What a text is to which bytes were added.
-use Rattle.std.proofs.Common.{◌≡◌, ◌≤◌, ◌<◌, ◌^◌, ℕ, zero, suc, ◌+◌, ◌-◌, ◌/◌, ◌%◌, true, List, [], ◌∷◌, ◌++◌, drop, take, length, length-append, decimal, slice_set, ap, sym, subst, ◌∙◌, arith, inl, inr, eq-zero-or-pos}
+use Rattle.std.proofs.Common.{◌≡◌, ◌≤◌, ◌<◌, ◌^◌, ℕ, zero, suc, ◌+◌, ◌-◌, ◌/◌, ◌%◌, true, List, [], ◌∷◌, ◌++◌, drop, take, length, length-append, append_assoc, decimal, slice_index_or, slice_set, refl, ap, sym, subst, ◌∙◌, arith, inl, inr, eq-zero-or-pos}
 use Rattle.std.proofs.lemmas.Grind.{take-set_at}
-use Rattle.std.proofs.Math.Seq.{take-append_seam, take-append-add}
+use Rattle.std.proofs.Math.Seq.{get_or-append_seam, take-append_seam, take-append-add}
 use Rattle.std.proofs.lemmas.Fmt.{IsAscii-decimal, length-decimal-le, decimal_nonempty, decimal_step, decimal_digit}
-use Rattle.std.proofs.lemmas.List.{length-take-le, take-append-drop, take-take}
+use Rattle.std.proofs.lemmas.List.{get_or-take, length-take-le, take-append-drop, take-take, take_rest}
 use Rattle.std.proofs.lemmas.Str.{IsUtf8-append, IsUtf8-from_ascii, is_utf8-from_IsUtf8}
 use Rattle.std.specs.Str.{IsUtf8, is_utf8}
 use Rattle.itoa.proofs.Decimal.{length_four, length_one, length_pair, length_two}
@@ -96,14 +96,56 @@ same_front n next e h d =
       | inr g ↦ ([], decimal_digit n (omega arith) ∙ ap (λ (m : ℕ). (48 + m) ∷ []) (omega arith), decimal_digit next (omega (arith, e, d)) ∙ ap (λ (m : ℕ). (48 + m) ∷ []) (omega (arith, e, d)))
     ]
 
--- the digits of a number that are kept, with another last one
-pub raised : (n next len : ℕ) (bytes : List ℕ) → next ≡ n + 1 → next < 2 ^ 64 → n % 10 < 9 → len ≤ length bytes → take len bytes ≡ decimal n
-    → take len (slice_set bytes (len - 1) (48 + next % 10)) ≡ decimal next
-raised n next len bytes e h d within kept =
-    let f = same_front n next e h d in
+-- the last digit of a number
+with_last : (n : ℕ) → n < 2 ^ 64 → (front : List ℕ) × (decimal n ≡ front ++ (48 + n % 10) ∷ [])
+with_last n h =
+    elim (eq-zero-or-pos (10 - n)) [
+      | inl z ↦ (decimal (n / 10), decimal_step n (omega arith) h)
+      | inr g ↦ ([], decimal_digit n (omega arith) ∙ ap (λ (m : ℕ). (48 + m) ∷ []) (omega arith))
+    ]
+
+-- the last of the digits that are kept
+pub last_digit : (n len d : ℕ) (bytes : List ℕ) → n < 2 ^ 64 → len ≤ length bytes → take len bytes ≡ decimal n → slice_index_or bytes (len - 1) d ≡ 48 + n % 10
+last_digit n len d bytes h within kept =
+    let f = with_last n h in
     let size : len ≡ length f.0 + 1 = omega (arith, ap length (kept ∙ f.1), length-take-le len bytes within, length-append f.0 ((48 + n % 10) ∷ [])) in
     let last : len - 1 ≡ length f.0 = omega (arith, size) in
-    ap (λ (i : ℕ). take len (slice_set bytes i (48 + next % 10))) last
-    ∙ (take-set_at bytes (length f.0) len (48 + next % 10) size (omega (arith, size, within))
-    ∙ (ap (λ (xs : List ℕ). xs ++ (48 + next % 10) ∷ []) (sym (take-take (length f.0) len bytes (omega (arith, size))) ∙ (ap (take (length f.0)) (kept ∙ f.1) ∙ take-append_seam f.0 ((48 + n % 10) ∷ [])))
-    ∙ sym f.2))
+    sym (get_or-take len bytes (len - 1) d (omega (arith, size)))
+    ∙ (ap (λ (xs : List ℕ). slice_index_or xs (len - 1) d) (kept ∙ f.1)
+    ∙ (ap (λ (i : ℕ). slice_index_or (f.0 ++ (48 + n % 10) ∷ []) i d) last
+    ∙ get_or-append_seam f.0 (48 + n % 10) [] d))
+
+-- the digits of a number that are kept, with the next one as the last
+pub raised : (n len b : ℕ) (bytes : List ℕ) → n + 1 < 2 ^ 64 → b ≡ 48 + n % 10 → b < 57 → len ≤ length bytes → take len bytes ≡ decimal n
+    → take len (slice_set bytes (len - 1) (b + 1)) ≡ decimal (n + 1)
+raised n len b bytes h is few within kept =
+    let d : n % 10 < 9 = omega (arith, is, few) in
+    let f = same_front n (n + 1) refl h d in
+    let size : len ≡ length f.0 + 1 = omega (arith, ap length (kept ∙ f.1), length-take-le len bytes within, length-append f.0 ((48 + n % 10) ∷ [])) in
+    let last : len - 1 ≡ length f.0 = omega (arith, size) in
+    let digit : b + 1 ≡ 48 + (n + 1) % 10 = omega (arith, d, is) in
+    ap (λ (x : ℕ). take len (slice_set bytes (len - 1) x)) digit
+    ∙ (ap (λ (i : ℕ). take len (slice_set bytes i (48 + (n + 1) % 10))) last
+    ∙ (take-set_at bytes (length f.0) len (48 + (n + 1) % 10) size (omega (arith, size, within))
+    ∙ (ap (λ (xs : List ℕ). xs ++ (48 + (n + 1) % 10) ∷ []) (sym (take-take (length f.0) len bytes (omega (arith, size))) ∙ (ap (take (length f.0)) (kept ∙ f.1) ∙ take-append_seam f.0 ((48 + n % 10) ∷ [])))
+    ∙ sym f.2)))
+
+-- bytes that were written as their first and their last ones, which may overlap
+pub ends_put : (at n end : ℕ) (old mid new more : List ℕ) → at + length more ≤ length old → n ≤ length more → length more ≤ n + n → end ≡ at + length more
+    → take (at + n) mid ≡ take at old ++ take n more
+    → take end new ≡ take (at + (length more - n)) mid ++ take (length more - (length more - n)) (drop (length more - n) more)
+    → take end new ≡ take at old ++ more
+ends_put at n end old mid new more room many few is first second =
+    let size : length (take at old) ≡ at = length-take-le at old (omega (arith, room)) in
+    let there : at + (length more - n) ≡ length (take at old) + (length more - n) = omega (arith, size) in
+    let front : take (at + (length more - n)) mid ≡ take at old ++ take (length more - n) more =
+    sym (take-take (at + (length more - n)) (at + n) mid (omega (arith, few)))
+    ∙ (ap (take (at + (length more - n))) first
+    ∙ (ap (λ (m : ℕ). take m (take at old ++ take n more)) there
+    ∙ (take-append-add (take at old) (take n more) (length more - n)
+    ∙ ap (λ (xs : List ℕ). take at old ++ xs) (take-take (length more - n) n more (omega (arith, few)))))) in
+    second
+    ∙ (ap (λ (xs : List ℕ). take (at + (length more - n)) mid ++ xs) (take_rest more (length more - n))
+    ∙ (ap (λ (xs : List ℕ). xs ++ drop (length more - n) more) front
+    ∙ (append_assoc (take at old) (take (length more - n) more) (drop (length more - n) more)
+    ∙ ap (λ (xs : List ℕ). take at old ++ xs) (take-append-drop (length more - n) more))))

@@ -1,4 +1,4 @@
-ghost use Rattle.std.specs.Prelude.{◌≡◌, ◌+◌, ◌<◌, ◌≤◌, ◌++◌, ◌%◌, decimal, length, take};
+ghost use Rattle.std.specs.Prelude.{◌≡◌, ◌+◌, ◌^◌, ◌<◌, ◌≤◌, ◌++◌, ◌%◌, decimal, length, take};
 ghost use Rattle.std.specs.Str.{IsUtf8};
 
 use crate::forwards::{DIGITS, put, put_number};
@@ -38,6 +38,15 @@ impl Digits {
         Digits { number, bytes, len }
     }
 
+    /// Returns the last digit, as its byte.
+    #[inline(always)]
+    #[tactic(auto, using(crate::proofs::Grown::last_digit, crate::proofs::Grown::has_digit))]
+    fn last_digit(&self) -> u8
+        ensures { result ≡ 48 + self.now % 10 }
+    {
+        self.bytes[self.len - 1]
+    }
+
     /// Is this number from now on. Of one that rises by 1 mostly the last digit alone is written.
     #[inline(always)]
     pub fn set(&mut self, number: u64)
@@ -46,24 +55,26 @@ impl Digits {
         if number == self.number {
             return;
         }
-        if number % 10 != 0 && number - 1 == self.number {
-            self.raise(number);
+        let last = self.last_digit();
+        if self.number < number && number - self.number == 1 && last < b'9' {
+            self.raise(last);
         } else {
             self.len = put_number(&mut self.bytes, 0, number);
             self.number = number;
         }
     }
 
-    /// Is the next number, whose last digit is not 0.
+    /// Is the next number. The last digit is given, and is not 9.
     #[inline(always)]
     #[tactic(auto, using(crate::proofs::Grown::raised, crate::proofs::Grown::has_digit))]
-    fn raise(&mut self, next: u64)
-        requires next { next ≡ self.old + 1 }
-        requires digit { self.old % 10 < 9 }
-        ensures { self.new ≡ next }
+    fn raise(&mut self, last: u8)
+        requires fits { self.old + 1 < 2 ^ 64 }
+        requires last { last ≡ 48 + self.old % 10 }
+        requires digit { last < 57 }
+        ensures { self.new ≡ self.old + 1 }
     {
-        self.bytes[self.len - 1] = b'0' + (next % 10) as u8;
-        self.number = next;
+        self.bytes[self.len - 1] = last + 1;
+        self.number += 1;
     }
 
     /// Writes the digits, for which there is room however many they are, and returns the place behind them. All that is kept is

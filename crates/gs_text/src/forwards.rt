@@ -41,6 +41,37 @@ pub(crate) fn put_first(bytes: &mut [u8], at: usize, more: &[u8], count: usize) 
     at + count
 }
 
+/// Writes a few bytes, and returns the place behind them. Four to sixteen are copied as two pieces of a known length, which takes no call.
+#[inline(always)]
+pub(crate) fn put_few(bytes: &mut [u8], at: usize, more: &[u8]) -> usize
+    requires { at + length more.now ≤ length bytes.old }
+    ensures end { result ≡ at + length more.now }
+    ensures written { take result bytes.new ≡ take at bytes.old ++ more.now }
+    ensures utf8 { IsUtf8 more.now → IsUtf8 (take at bytes.old) → IsUtf8 (take result bytes.new) }
+{
+    match more.len() {
+        8..=16 => put_ends::<8>(bytes, at, more),
+        4..8 => put_ends::<4>(bytes, at, more),
+        _ => put(bytes, at, more),
+    }
+}
+
+/// Writes bytes, at most twice as many as are known, as their first and their last ones, and returns the place behind them.
+#[inline(always)]
+#[tactic(auto, using(crate::proofs::Grown::ends_put))]
+fn put_ends<const N: usize>(bytes: &mut [u8], at: usize, more: &[u8]) -> usize
+    requires room { at + length more.now ≤ length bytes.old }
+    requires many { N ≤ length more.now }
+    requires few { length more.now ≤ N + N }
+    ensures end { result ≡ at + length more.now }
+    ensures written { take result bytes.new ≡ take at bytes.old ++ more.now }
+    ensures utf8 { IsUtf8 more.now → IsUtf8 (take at bytes.old) → IsUtf8 (take result bytes.new) }
+{
+    let last = more.len() - N;
+    put(bytes, at, &more[..N]);
+    put(bytes, at + last, &more[last..])
+}
+
 /// Returns how many digits a number has that is below 10,000.
 #[inline(always)]
 fn short_count(number: u64) -> usize
@@ -244,6 +275,28 @@ pub(crate) fn put_digits_between(
     ensures utf8 { IsUtf8 (take at bytes.old) → IsUtf8 (take result bytes.new) }
 {
     let end = put_digits(bytes, at, words, digits);
+    put(bytes, end, behind.as_bytes())
+}
+
+/// Writes words, a number whose digits are kept, words, a few bytes and words, for which there is room whatever they are, and returns
+/// the place behind them.
+#[inline(always)]
+pub(crate) fn put_line(
+    bytes: &mut [u8],
+    at: usize,
+    words: &str,
+    digits: &Digits,
+    between: &str,
+    line: &[u8],
+    behind: &str,
+) -> usize
+    requires { at + length words.now + DIGITS + length between.now + length line.now + length behind.now ≤ length bytes.old }
+    ensures end { result ≤ at + length words.now + DIGITS + length between.now + length line.now + length behind.now }
+    ensures written { take result bytes.new ≡ take at bytes.old ++ words.now ++ decimal digits.now ++ between.now ++ line.now ++ behind.now }
+    ensures utf8 { IsUtf8 line.now → IsUtf8 (take at bytes.old) → IsUtf8 (take result bytes.new) }
+{
+    let from = put_digits_between(bytes, at, words, digits, between);
+    let end = put_few(bytes, from, line);
     put(bytes, end, behind.as_bytes())
 }
 

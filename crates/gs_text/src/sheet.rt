@@ -4,7 +4,7 @@ ghost use Rattle.std.specs.Str.{IsUtf8};
 use crate::digits::Digits;
 use crate::forwards::{
     DIGITS, MASK_DIGITS, put, put_behind, put_between, put_digits, put_digits_between, put_first,
-    put_mask_between, put_number, put_number_digits, put_two, put_word_two,
+    put_line, put_mask_between, put_number, put_number_digits, put_two, put_word_two,
 };
 use std::alloc::{AllocError, Global};
 use std::marker::Model;
@@ -318,6 +318,42 @@ impl Sheet {
         };
         make_room(&mut self.bytes, self.len, wanted)?;
         self.len = put_digits_between(&mut self.bytes, self.len, words, digits, behind);
+        Ok(())
+    }
+
+    /// Adds words, a number whose digits are kept, words, a few bytes that are UTF-8, and words.
+    #[inline(always)]
+    pub fn push_line(
+        &mut self,
+        words: &str,
+        digits: &Digits,
+        between: &str,
+        line: &[u8],
+        behind: &str,
+    ) -> Result<(), AllocError>
+        requires { IsUtf8 line.now }
+        ensures added { OnOk result (self.new ≡ self.old ++ words.now ++ decimal digits.now ++ between.now ++ line.now ++ behind.now) }
+        ensures kept { OnErr result (self.new ≡ self.old) }
+    {
+        let Some(front) = (words.len() + DIGITS).checked_add(between.len()) else {
+            return Err(AllocError);
+        };
+        let Some(back) = line.len().checked_add(behind.len()) else {
+            return Err(AllocError);
+        };
+        let Some(wanted) = front.checked_add(back) else {
+            return Err(AllocError);
+        };
+        make_room(&mut self.bytes, self.len, wanted)?;
+        self.len = put_line(
+            &mut self.bytes,
+            self.len,
+            words,
+            digits,
+            between,
+            line,
+            behind,
+        );
         Ok(())
     }
 
