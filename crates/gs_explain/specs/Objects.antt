@@ -8,6 +8,7 @@ use Rattle.gs_layout.specs.declared.refusal.Refusal.{Refusal}
 use Rattle.gs_layout.specs.declared.refusal.Refusal.TheVariants as refusals
 use Rattle.gs_agent.specs.declared.drained.Drained.{Drained}
 use Rattle.gs_agent.specs.declared.drained.Stop.TheVariants as stops
+use Rattle.gs_journal.specs.declared.entry.Entry.{Entry}
 use Rattle.gs_kernel.specs.declared.landing.Landing.{Landing}
 use Rattle.gs_replies.specs.declared.reply.Reply.{Reply}
 use Rattle.gs_replies.specs.declared.reply.Reply.TheVariants as replies
@@ -138,3 +139,7 @@ row_data said first end texts why =
 -- the object in a line of its own
 abbrev pub object_row : ℕ × List ℕ → Moment → ℕ → Reply → List ℕ
 object_row said x first r = line (compact_text (row_data said first (length x.history) (lines_in (reply_lines r)) (whys x first r)))
+
+-- the object of a command that was done, by the last entry and by how many there are then
+abbrev pub done_object : ℕ × List ℕ → ℕ → ℕ → Entry → List ℕ
+done_object said first end e = line (compact_text (row_data said first end (lines_in (reply_lines (replies.Done e))) []))

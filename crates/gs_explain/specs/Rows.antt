@@ -2,6 +2,7 @@
 use Rattle.std.specs.Prelude.{true, ℕ, ◌+◌, ◌-◌, ◌==◌, nat_le, Option, None, Some, List, [], ◌∷◌, ◌++◌, codes, decimal, length, if◌then◌else◌}
 use Rattle.gs_agent.specs.declared.drained.Drained.{Drained}
 use Rattle.gs_agent.specs.declared.drained.Stop.{Stop}
+use Rattle.gs_journal.specs.declared.entry.Entry.{Entry}
 use Rattle.gs_kernel.specs.declared.landing.Landing.{Landing}
 use Rattle.gs_replies.specs.declared.reply.Reply.{Reply}
 use Rattle.gs_replies.specs.declared.reply.Reply.TheVariants as replies
@@ -58,3 +59,7 @@ heading said = line (codes "line " ++ decimal said.0 ++ codes ": " ++ said.1)
 -- the script's line, the reply with its reasons, and the entries that were added
 abbrev pub row : ℕ × List ℕ → Moment → ℕ → Reply → List ℕ
 row said x first r = heading said ++ reply_shown x first r ++ added first (length x.history)
+
+-- the row of a command that was done, by the last entry and by how many there are then
+abbrev pub done_row : ℕ × List ℕ → ℕ → ℕ → Entry → List ℕ
+done_row said first end e = heading said ++ reply_lines (replies.Done e) ++ added first end

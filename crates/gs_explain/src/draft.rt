@@ -3,6 +3,7 @@
 ghost use Rattle.std.specs.Prelude.{◌≡◌, ◌++◌, ◌∷◌, [], None, OnOk, codes, length};
 ghost use Rattle.std.specs.Str.{IsUtf8};
 ghost use Rattle.gs_lines.specs.Lines.{reply_lines};
+ghost use Rattle.gs_replies.specs.declared.reply.Reply.TheVariants as replies;
 ghost use Rattle.gs_sentences.specs.Given.{causes_given, reason_given};
 ghost use Rattle.gs_sentences.specs.Reasons.{reason_text};
 ghost use Rattle.gs_trace.specs.Came.{reply_in};
@@ -11,6 +12,8 @@ ghost use Rattle.gs_explain.specs.Objects.{line_of_cause, place_of_cause, reason
 
 use crate::quoted::push_quoted;
 use gs_agent::Stop;
+use gs_journal::Entry;
+use gs_kernel::Executed;
 use gs_layout::Refusal;
 use gs_lines::{
     Text, outcome_name, write_committed, write_drained, write_executed, write_refused, write_reply,
@@ -189,6 +192,14 @@ impl Draft {
             Came::Landed(landings, torn) => write_committed(&mut self.text, landings, torn),
             Came::Replied(reply) => write_reply(&mut self.text, reply),
         }
+    }
+
+    /// Adds the line of a command that was done, by the last entry.
+    #[inline(always)]
+    pub(crate) fn done(&mut self, last: &Entry) -> Result<(), AllocError>
+        ensures { OnOk result (self.new ≡ self.old ++ reply_lines (replies.Done last.now)) }
+    {
+        write_executed(&mut self.text, Ok(Executed::Done), last)
     }
 
     /// Adds a reason as an object behind a comma.

@@ -4,7 +4,6 @@ ghost use Rattle.std.specs.Prelude.{◌≡◌, ◌≤◌, ◌++◌, [], IfOk, If
 ghost use Rattle.std.specs.Io.KnownBytes.{Appends};
 ghost use Rattle.std.specs.List.{All};
 ghost use Rattle.gs_reasons.specs.Kept.{HasHeard};
-ghost use Rattle.gs_replies.specs.Replies.{reply_of};
 ghost use Rattle.gs_replies.specs.declared.reply.Reply.TheVariants as replies;
 ghost use Rattle.gs_script.specs.Unread.{said_line};
 ghost use Rattle.gs_script.specs.Words.{is_text};
@@ -12,7 +11,7 @@ ghost use Rattle.gs_trace.specs.Came.{reply_in};
 ghost use Rattle.gs_explain.specs.Grounds.{IsGround};
 ghost use Rattle.gs_explain.specs.Marked.{IsMarked};
 ghost use Rattle.gs_explain.specs.Moment.{moment_of};
-ghost use Rattle.gs_explain.specs.Objects.{object_row};
+ghost use Rattle.gs_explain.specs.Objects.{done_object, object_row};
 ghost use Rattle.gs_explain.specs.Outlined.{IsOutlined, outline_text, outlines_text};
 ghost use Rattle.gs_explain.specs.Retold.{IsBegun, Moves};
 
@@ -20,10 +19,9 @@ use crate::draft::Draft;
 use crate::ground::{Again, Ground, again_by, ground_of, told_again};
 use crate::moment::Scene;
 use crate::object::push_object;
-use crate::outline::{Outline, outlined};
+use crate::outline::{Outline, outlined, outlined_done};
 use crate::teller::Teller;
-use gs_journal::Entry;
-use gs_kernel::Executed;
+use gs_journal::{Entry, Journal};
 use gs_layout::Refusal;
 use gs_lines::Text;
 use gs_reasons::Index;
@@ -214,26 +212,33 @@ impl<'a> Objects<'a> {
         }
     }
 
-    /// Adds a command that was done or tore the enclave down, as [`Objects::add`] does.
+    /// Adds a command that was done, by the kernel's journal and the last entry, as [`Objects::add`] does.
     #[inline(never)]
-    fn add_command(
+    fn add_done(
         &mut self,
         said: &SaidLine<'a>,
-        scene: &Scene<'_>,
+        journal: &Journal,
         index: &mut Index,
         first: usize,
-        executed: Executed,
         last: &Entry,
     ) -> Result<(), AllocError>
         requires text { is_text said.now.bytes.now ≡ true }
-        requires within { first ≤ length scene.now.journal.now.entries }
-        requires heard { HasHeard index.old (take first scene.now.journal.now.entries) }
-        requires marked { IsMarked scene.now.last.now.places.items scene.now.transactions.now }
-        ensures shown { OnOk result (self.new ≡ self.old ++ object_row (said_line said.now) (moment_of scene.now) first (reply_of (Ok executed) last.now)) }
-        ensures heard { OnOk result (HasHeard index.new scene.now.journal.now.entries) }
+        requires within { first ≤ length journal.now.entries }
+        requires heard { HasHeard index.old (take first journal.now.entries) }
+        ensures shown { OnOk result (self.new ≡ self.old ++ done_object (said_line said.now) first (length journal.now.entries) last.now) }
+        ensures heard { OnOk result (HasHeard index.new journal.now.entries) }
     {
-        let came = Came::Executed(Ok(executed), last);
-        self.add(said, scene, index, first, came)
+        match outlined_done(&mut self.draft, said, journal, index, first, last) {
+            Ok(outline) => {
+                self.outlines.push(outline)?;
+                Ok(())
+            }
+            Err(error) => {
+                self.outlines.clear();
+                self.again = None;
+                Err(error)
+            }
+        }
     }
 
     /// Adds any other event.
@@ -338,12 +343,19 @@ impl<'a> Teller<'a> for Objects<'a> {
         first: usize,
         came: Came<'_>,
     ) -> Result<(), AllocError> {
-        match came {
-            Came::Executed(Ok(executed), last) => {
-                self.add_command(said, scene, index, first, executed, last)
-            }
-            _ => self.add_other(said, scene, index, first, came),
-        }
+        self.add_other(said, scene, index, first, came)
+    }
+
+    #[inline(always)]
+    fn done_row(
+        &mut self,
+        said: &SaidLine<'a>,
+        journal: &Journal,
+        index: &mut Index,
+        first: usize,
+        last: &Entry,
+    ) -> Result<(), AllocError> {
+        self.add_done(said, journal, index, first, last)
     }
 
     #[inline(always)]

@@ -4,18 +4,21 @@ ghost use Rattle.std.specs.Prelude.{◌≡◌, ◌≤◌, ◌++◌, ◌-◌, IfO
 ghost use Rattle.std.specs.Str.{IsUtf8};
 ghost use Rattle.gs_lines.specs.Lines.{reply_lines};
 ghost use Rattle.gs_reasons.specs.Kept.{HasHeard};
+ghost use Rattle.gs_replies.specs.declared.reply.Reply.TheVariants as replies;
 ghost use Rattle.gs_script.specs.Unread.{said_line};
 ghost use Rattle.gs_script.specs.Words.{is_text};
 ghost use Rattle.gs_trace.specs.Came.{reply_in};
 ghost use Rattle.gs_explain.specs.Composed.{behind_commas};
 ghost use Rattle.gs_explain.specs.Marked.{IsMarked};
 ghost use Rattle.gs_explain.specs.Moment.{moment_of};
-ghost use Rattle.gs_explain.specs.Objects.{object_row, whys};
+ghost use Rattle.gs_explain.specs.Objects.{done_object, object_row, whys};
 ghost use Rattle.gs_explain.specs.Outlined.{Grows, HasParts, IsOutlined, Notes, outline_text};
 
 use crate::draft::Draft;
+use crate::hearing::hear_all;
 use crate::moment::Scene;
 use crate::whys::push_whys;
+use gs_journal::{Entry, Journal};
 use gs_reasons::Index;
 use gs_script::SaidLine;
 use gs_trace::Came;
@@ -128,4 +131,30 @@ pub(crate) fn outlined<'a>(
     push_whys(draft, scene, index, first, came)?;
     let to = draft.len();
     Outline::new(said, first, scene.journal.len(), from, mid, to)
+}
+
+/// Adds what the object of a command that was done is put together of, by the kernel's journal and the last entry, and returns
+/// it, as [`outlined`] does.
+#[inline(always)]
+pub(crate) fn outlined_done<'a>(
+    draft: &mut Draft,
+    said: &SaidLine<'a>,
+    journal: &Journal,
+    index: &mut Index,
+    first: usize,
+    last: &Entry,
+) -> Result<Outline<'a>, AllocError>
+    requires text { is_text said.now.bytes.now ≡ true }
+    requires within { first ≤ length journal.now.entries }
+    requires heard { HasHeard index.old (take first journal.now.entries) }
+    ensures grown { OnOk result (Grows draft.old draft.new) }
+    ensures told { IfOk result (λ o. outline_text draft.new o ≡ done_object (said_line said.now) first (length journal.now.entries) last.now) }
+    ensures stands { IfOk result (λ o. IsOutlined draft.new o) }
+    ensures heard { OnOk result (HasHeard index.new journal.now.entries) }
+{
+    let from = draft.len();
+    draft.done(last)?;
+    let to = draft.len();
+    hear_all(index, journal, first)?;
+    Outline::new(said, first, journal.len(), from, to, to)
 }

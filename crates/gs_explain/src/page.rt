@@ -22,15 +22,20 @@ use gs_lines::{
 };
 use gs_script::SaidLine;
 use gs_sentences::{Landed, Reason, Refused, Sentence, put_landed, put_reason, put_refused};
+use gs_text::Digits;
 use std::alloc::{AllocError, Global};
 use std::marker::Model;
 
-/// What is written so far, and room for a sentence. Clauses see the bytes that are written. What adds to it fails only if
-/// out of memory.
+/// What is written so far, room for a sentence, and the digits of numbers that rise from row to row. Clauses see the bytes that are written.
+/// What adds to it fails only if out of memory.
 #[derive(Drop)]
 pub(crate) struct Page {
     text: Text,
     sentence: Sentence,
+    /// The number of the last script's line.
+    line: Digits,
+    /// The place of the last entry that an event added alone.
+    entry: Digits,
 }
 
 impl Model for Page {
@@ -49,6 +54,8 @@ impl Page {
         Page {
             text: Text::new(alloc),
             sentence: Sentence::new(),
+            line: Digits::new(0),
+            entry: Digits::new(0),
         }
     }
 
@@ -64,7 +71,7 @@ impl Page {
     pub(crate) fn into_text(self) -> Text
         ensures { result ≡ self }
     {
-        let Page { text, sentence: _ } = self;
+        let Page { text, .. } = self;
         text
     }
 
@@ -75,9 +82,9 @@ impl Page {
         requires { is_text said.now.bytes.now ≡ true }
         ensures { OnOk result (self.new ≡ self.old ++ heading (said_line said.now)) }
     {
-        self.text.push_between("line ", said.number as u64, ": ")?;
-        self.text.append(said.bytes)?;
-        self.text.end_line()
+        self.line.set(said.number as u64);
+        self.text
+            .push_line("line ", &self.line, ": ", said.bytes, "\n")
     }
 
     /// Adds the lines of a reply.
@@ -160,7 +167,8 @@ impl Page {
             return Ok(());
         }
         if end == first + 1 {
-            return self.text.push_between("  entry ", first as u64, "\n");
+            self.entry.set(first as u64);
+            return self.text.push_digits_between("  entry ", &self.entry, "\n");
         }
         self.text.push_number("  entries ", first as u64)?;
         self.text.push_between(" to ", (end - 1) as u64, "\n")

@@ -11,7 +11,7 @@ ghost use Rattle.gs_explain.specs.Marked.{IsMarked};
 ghost use Rattle.gs_explain.specs.Moment.{moment_of};
 ghost use Rattle.gs_explain.specs.Landings.{because};
 ghost use Rattle.gs_explain.specs.Refusals.{why_refused};
-ghost use Rattle.gs_explain.specs.Rows.{drained_shown, plain_shown, reply_shown, row};
+ghost use Rattle.gs_explain.specs.Rows.{done_row, drained_shown, plain_shown, reply_shown, row};
 ghost use Rattle.gs_sentences.specs.Reason as reasons;
 
 use crate::hearing::hear_all;
@@ -23,7 +23,7 @@ use crate::page::Page;
 use crate::refused::why_refused;
 use gs_agent::Drained;
 use gs_core::Reply;
-use gs_journal::Entry;
+use gs_journal::{Entry, Journal};
 use gs_kernel::{Executed, Landing};
 use gs_layout::Refusal;
 use gs_reasons::Index;
@@ -234,4 +234,26 @@ pub(crate) fn write_row(
     out.heading(said)?;
     write_came(out, scene, index, first, came)?;
     out.added(first, scene.journal.len())
+}
+
+/// Adds the line of a command that was done, its reply, and the entries that it added, as [`write_row`] does.
+#[inline(always)]
+pub(crate) fn write_done(
+    out: &mut Page,
+    said: &SaidLine<'_>,
+    journal: &Journal,
+    index: &mut Index,
+    first: usize,
+    last: &Entry,
+) -> Result<(), AllocError>
+    requires text { is_text said.now.bytes.now ≡ true }
+    requires within { first ≤ length journal.now.entries }
+    requires heard { HasHeard index.old (take first journal.now.entries) }
+    ensures shown { OnOk result (out.new ≡ out.old ++ done_row (said_line said.now) first (length journal.now.entries) last.now) }
+    ensures heard { OnOk result (HasHeard index.new journal.now.entries) }
+{
+    out.heading(said)?;
+    hear_all(index, journal, first)?;
+    out.executed(Ok(Executed::Done), last)?;
+    out.added(first, journal.len())
 }

@@ -3,7 +3,6 @@
 ghost use Rattle.std.specs.Prelude.{◌≡◌, ◌≤◌, ◌++◌, ◌∷◌, [], None, true, false, IfOk, IsOk, IfSome, Ok, OnOk, OnErr, length, take};
 ghost use Rattle.std.specs.Io.KnownBytes.{Appends};
 ghost use Rattle.gs_reasons.specs.Kept.{HasHeard};
-ghost use Rattle.gs_replies.specs.Replies.{reply_of};
 ghost use Rattle.gs_replies.specs.declared.reply.Reply.TheVariants as replies;
 ghost use Rattle.gs_script.specs.Words.{is_text};
 ghost use Rattle.gs_script.specs.Unread.{said_line};
@@ -13,7 +12,7 @@ ghost use Rattle.gs_explain.specs.Marked.{IsMarked};
 ghost use Rattle.gs_explain.specs.Moment.{moment_of};
 ghost use Rattle.gs_explain.specs.Refusals.{why_refused};
 ghost use Rattle.gs_explain.specs.Retold.{IsBegun, retold};
-ghost use Rattle.gs_explain.specs.Rows.{heading, row};
+ghost use Rattle.gs_explain.specs.Rows.{done_row, heading, row};
 ghost use Rattle.gs_sentences.specs.Tails.{IsTail};
 ghost use Rattle.gs_trace.specs.Came.{reply_in};
 ghost use Rattle.gs_explain.specs.ToldAgain.{AreHeld, is_kept_out, kept_put, late_told, told_text};
@@ -24,12 +23,12 @@ use crate::moment::Scene;
 use crate::page::Page;
 use crate::piece::{MOST_LINE_LEN, Piece};
 use crate::pieces::write_retold;
-use crate::row::write_row;
+use crate::row::{write_done, write_row};
 use crate::tail::tail_of;
 use crate::teller::Teller;
 use gs_core::Reply;
-use gs_journal::Entry;
-use gs_kernel::{Executed, Landing};
+use gs_journal::{Entry, Journal};
+use gs_kernel::Landing;
 use gs_layout::{Outcome, Refusal};
 use gs_reasons::Index;
 use gs_script::SaidLine;
@@ -282,27 +281,24 @@ impl<'a> Rows<'a> {
         }
     }
 
-    /// Adds the row of a command that was done or tore the enclave down as text, as [`Rows::add_text`] does.
+    /// Adds the row of a command that was done as text, by the kernel's journal and the last entry, as [`Rows::add_text`] does.
     #[inline(never)]
     #[tactic(auto, using(crate::proofs::Retelling::retold_more, crate::proofs::Keeping::held_more))]
-    fn add_command_text(
+    fn add_done(
         &mut self,
         said: &SaidLine<'_>,
-        scene: &Scene<'_>,
+        journal: &Journal,
         index: &mut Index,
         first: usize,
-        executed: Executed,
         last: &Entry,
     ) -> Result<(), AllocError>
         requires text { is_text said.now.bytes.now ≡ true }
-        requires within { first ≤ length scene.now.journal.now.entries }
-        requires heard { HasHeard index.old (take first scene.now.journal.now.entries) }
-        requires marked { IsMarked scene.now.last.now.places.items scene.now.transactions.now }
-        ensures shown { OnOk result (self.new ≡ self.old ++ row (said_line said.now) (moment_of scene.now) first (reply_of (Ok executed) last.now)) }
-        ensures heard { OnOk result (HasHeard index.new scene.now.journal.now.entries) }
+        requires within { first ≤ length journal.now.entries }
+        requires heard { HasHeard index.old (take first journal.now.entries) }
+        ensures shown { OnOk result (self.new ≡ self.old ++ done_row (said_line said.now) first (length journal.now.entries) last.now) }
+        ensures heard { OnOk result (HasHeard index.new journal.now.entries) }
     {
-        let came = Came::Executed(Ok(executed), last);
-        match write_row(&mut self.page, said, scene, index, first, came) {
+        match write_done(&mut self.page, said, journal, index, first, last) {
             Ok(()) => Ok(()),
             Err(error) => {
                 forget(&mut self.pieces, &mut self.kepts);
@@ -453,18 +449,24 @@ impl<'a> Teller<'a> for Rows<'a> {
         first: usize,
         came: Came<'_>,
     ) -> Result<(), AllocError> {
-        match came {
-            Came::Executed(Ok(executed), last) => {
-                return self.add_command_text(said, scene, index, first, executed, last);
+        if let Came::Replied(reply) = came {
+            if scene.journal.len() == first && self.add_again(said, scene, index, reply)? {
+                return Ok(());
             }
-            Came::Replied(reply) => {
-                if scene.journal.len() == first && self.add_again(said, scene, index, reply)? {
-                    return Ok(());
-                }
-            }
-            _ => {}
         }
         self.add_text(said, scene, index, first, came)
+    }
+
+    #[inline(always)]
+    fn done_row(
+        &mut self,
+        said: &SaidLine<'a>,
+        journal: &Journal,
+        index: &mut Index,
+        first: usize,
+        last: &Entry,
+    ) -> Result<(), AllocError> {
+        self.add_done(said, journal, index, first, last)
     }
 
     #[inline(always)]

@@ -4,11 +4,12 @@ ghost use Rattle.gs_replies.specs.declared.reply.Reply.TheVariants as replies;
 ghost use Rattle.gs_script.specs.Words.{is_text};
 ghost use Rattle.gs_explain.specs.Explained.{Show};
 ghost use Rattle.gs_explain.specs.Marked.{IsMarked};
-ghost use Rattle.gs_explain.specs.Moment.{moment_of};
+ghost use Rattle.gs_explain.specs.Moment.{Moment, moment_of};
 ghost use Rattle.gs_script.specs.Unread.{said_line};
 ghost use Rattle.gs_trace.specs.Came.{reply_in};
 
 use crate::moment::Scene;
+use gs_journal::{Entry, Journal};
 use gs_layout::Refusal;
 use gs_reasons::Index;
 use gs_script::SaidLine;
@@ -39,6 +40,21 @@ pub(crate) trait Teller<'a>: Drop {
         requires marked { IsMarked scene.now.last.now.places.items scene.now.transactions.now }
         ensures shown { OnOk result (bytes self.new ≡ bytes self.old ++ show (said_line said.now) (moment_of scene.now) first (reply_in came.entry)) }
         ensures heard { OnOk result (HasHeard index.new scene.now.journal.now.entries) };
+
+    /// Adds a command that was done, by the kernel's journal and the last entry, as [`Teller::row`] does.
+    fn done_row(
+        &mut self,
+        said: &SaidLine<'a>,
+        journal: &Journal,
+        index: &mut Index,
+        first: usize,
+        last: &Entry,
+    ) -> Result<(), AllocError>
+        requires text { is_text said.now.bytes.now ≡ true }
+        requires within { first ≤ length journal.now.entries }
+        requires heard { HasHeard index.old (take first journal.now.entries) }
+        ensures shown { (x : Moment) → x.history ≡ journal.now.entries → OnOk result (bytes self.new ≡ bytes self.old ++ show (said_line said.now) x first (replies.Done last.now)) }
+        ensures heard { OnOk result (HasHeard index.new journal.now.entries) };
 
     /// Adds an event that was refused, as [`Teller::row`] does.
     fn refused_row(

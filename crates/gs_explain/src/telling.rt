@@ -18,7 +18,8 @@ use crate::marking::mark_last;
 use crate::moment::Scene;
 use crate::teller::Teller;
 use gs_core::{Event, Machine, Reply};
-use gs_kernel::{Command, Landing};
+use gs_journal::Entry;
+use gs_kernel::{Command, Executed, Landing};
 use gs_layout::Refusal;
 use gs_policy::Counted;
 use gs_reasons::{Index, Marks};
@@ -84,6 +85,28 @@ fn explain_came<'a, P: Counted + Copy, T: Teller<'a>>(
     out.row(said, &scene, index, first, came)
 }
 
+/// Adds what explains a command that was done, by the last entry, as [`explain_came`] does.
+#[inline(always)]
+fn explain_done<'a, P: Counted + Copy, T: Teller<'a>>(
+    machine: &Machine<P>,
+    lines: &mut Lines,
+    index: &mut Index,
+    last: &mut Marks,
+    out: &mut T,
+    said: &SaidLine<'a>,
+    first: usize,
+    stamped: usize,
+    entry: &Entry,
+) -> Result<(), AllocError>
+    requires text { is_text said.now.bytes.now ≡ true }
+    requires before { Stood first stamped index.old last.old.places.items (planning P.chosen machine.now) }
+    ensures { (event : Event (Unit {0})) → OnOk result (TellsOne T.show (noted_of lines.old) first (said_line said.now) event (replies.Done entry.now) (planning P.chosen machine.now) (noted_of lines.new) index.new last.new.places.items (T.bytes out.old) (T.bytes out.new)) }
+{
+    let came = Came::Executed(Ok(Executed::Done), entry);
+    note_came(machine, lines, last, said.number, stamped, came)?;
+    out.done_row(said, machine.kernel().journal(), index, first, entry)
+}
+
 /// Adds why an event was refused, as [`explain_came`] does.
 #[inline(always)]
 fn explain_refusal<'a, P: Counted + Copy, T: Teller<'a>>(
@@ -134,6 +157,31 @@ fn explain_other_refusal<'a, P: Counted + Copy, T: Teller<'a>>(
     )
 }
 
+/// Adds what explains a command that tore the enclave down, as [`explain_came`] does.
+#[cold]
+#[inline(never)]
+fn explain_torn<'a, P: Counted + Copy, T: Teller<'a>>(
+    machine: &Machine<P>,
+    lines: &mut Lines,
+    index: &mut Index,
+    last: &mut Marks,
+    out: &mut T,
+    said: &SaidLine<'a>,
+    command: &Command,
+    first: usize,
+    stamped: usize,
+) -> Result<(), AllocError>
+    requires text { is_text said.now.bytes.now ≡ true }
+    requires before { Stood first stamped index.old last.old.places.items (planning P.chosen machine.now) }
+    ensures { OnOk result (TellsOne T.show (noted_of lines.old) first (said_line said.now) (Event.Kernel command.now) replies.Torn (planning P.chosen machine.now) (noted_of lines.new) index.new last.new.places.items (T.bytes out.old) (T.bytes out.new)) }
+{
+    let event = bare_command(command);
+    let came = Came::Executed(Ok(Executed::Torn), machine.kernel().last());
+    explain_came(
+        machine, lines, index, last, out, said, &event, first, stamped, came,
+    )
+}
+
 /// Lets a command be executed, and adds what explains it, as [`explain_one`] does. So do the others below.
 #[inline(always)]
 fn explain_command<'a, P: Counted + Copy, T: Teller<'a>>(
@@ -153,13 +201,15 @@ fn explain_command<'a, P: Counted + Copy, T: Teller<'a>>(
     let first = machine.kernel().journal().len();
     let stamped = machine.transactions().len();
     match machine.command(command) {
-        Ok(executed) => {
-            let came = Came::Executed(Ok(executed), machine.kernel().last());
-            let event = bare_command(command);
-            explain_came(
-                machine, lines, index, last, out, said, &event, first, stamped, came,
+        Ok(Executed::Done) => {
+            let entry = machine.kernel().last();
+            explain_done(
+                machine, lines, index, last, out, said, first, stamped, entry,
             )
         }
+        Ok(Executed::Torn) => explain_torn(
+            machine, lines, index, last, out, said, command, first, stamped,
+        ),
         Err(refusal) => {
             let event = bare_command(command);
             explain_refusal(
