@@ -215,8 +215,31 @@ impl Sheet {
         let Some(wanted) = (words.len() + DIGITS).checked_add(behind.len()) else {
             return Err(AllocError);
         };
-        make_room(&mut self.bytes, self.len, wanted)?;
+        if wanted > self.bytes.len() - self.len {
+            return self.push_between_in_more(words, number, behind);
+        }
         self.len = put_between(&mut self.bytes, self.len, words, number, behind);
+        Ok(())
+    }
+
+    /// Adds a number between words, and makes room for them before.
+    #[cold]
+    #[inline(never)]
+    fn push_between_in_more(
+        &mut self,
+        words: &str,
+        number: u64,
+        behind: &str,
+    ) -> Result<(), AllocError>
+        ensures added { OnOk result (self.new ≡ self.old ++ words.now ++ decimal number ++ behind.now) }
+        ensures kept { OnErr result (self.new ≡ self.old) }
+    {
+        let Some(wanted) = (words.len() + DIGITS).checked_add(behind.len()) else {
+            return Err(AllocError);
+        };
+        make_room(&mut self.bytes, self.len, wanted)?;
+        let end = put_between(&mut self.bytes, self.len, words, number, behind);
+        self.len = end;
         Ok(())
     }
 
