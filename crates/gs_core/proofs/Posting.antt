@@ -31,7 +31,7 @@ use Rattle.gs_replies.specs.declared.reply.Reply.{Reply}
 use Rattle.gs_replies.specs.declared.reply.Reply.TheVariants as replies
 use Rattle.gs_kernel.proofs.Laws.{Entails, last_added, last_told, tells_map}
 use Rattle.gs_agent.specs.Role.{RoleOf}
-use Rattle.gs_core.specs.Follows.{follows, on_cpu}
+use Rattle.gs_core.specs.Follows.{follows, leads_nobody, on_cpu}
 use Rattle.gs_replies.specs.Replies.{replied_as, reply_of}
 use Rattle.gs_core.specs.Machine.{Carries, Plan, State, StateOf, IsFit, fits_into, freed_by, is_given_all, kernel_refusal, led, planned_by, planning, promoted, refusal, standing_refusal, stays_with, told_refusal, Does, IsShort, Serves, Step}
 use Rattle.gs_core.specs.Held.{agent_of}
@@ -178,6 +178,34 @@ last_stays room s h h' c Done there t = subst (λ (e : Entry). is_staying e ≡ 
     by_command commands.Leave there = absurd (false≢true there)
     by_command commands.Begin there = absurd (false≢true there)
 last_stays room s h h' c executed.Torn there t = subst (λ (e : Entry). is_staying e ≡ true) (sym (ap last_entry t.1 ∙ last_added h Torn)) refl
+
+-- a command by which no agent becomes active, either, is one with which the agent stays
+pub leads_stays : (c : Command) → leads_nobody c ≡ true → stays_with c ≡ true
+leads_stays (commands.Create f) there = refl
+leads_stays (commands.Thread t x) there = refl
+leads_stays (commands.Take d) there = refl
+leads_stays (commands.Give d) there = refl
+leads_stays (commands.Tick d) there = refl
+leads_stays (commands.HandOff d) there = absurd (false≢true there)
+leads_stays (commands.Activate d) there = absurd (false≢true there)
+leads_stays commands.Leave there = absurd (false≢true there)
+leads_stays commands.Begin there = absurd (false≢true there)
+
+-- the role is then the one before
+pub follows_nothing : {P : Type 0} (room : Room) (s : Settings) (h h' : List Entry) (c : Command) (x : Executed) (o : Option (RoleOf P)) → leads_nobody c ≡ true → Tells room h (effect s h c) (is_done x) h' → o ≡ follows (last_entry h') o
+follows_nothing room s h h' c Done o there t = by_command c there ∙ ap (λ (e : Entry). follows e o) (sym (ap last_entry t.1 ∙ last_told h (effect s h c)))
+  where
+    by_command : (c : Command) → leads_nobody c ≡ true → o ≡ follows (last_in (effect s h c)) o
+    by_command (commands.Create f) there = refl
+    by_command (commands.Thread t x) there = refl
+    by_command (commands.Take d) there = refl
+    by_command (commands.Give d) there = refl
+    by_command (commands.Tick d) there = refl
+    by_command (commands.HandOff d) there = absurd (false≢true there)
+    by_command (commands.Activate d) there = absurd (false≢true there)
+    by_command commands.Leave there = absurd (false≢true there)
+    by_command commands.Begin there = absurd (false≢true there)
+follows_nothing room s h h' c executed.Torn o there t = ap (λ (e : Entry). follows e o) (sym (ap last_entry t.1 ∙ last_added h Torn))
 
 -- then agent and slots follow it as the role does
 led_as : {P : Type 0} (g d : ℕ) (o : Option (RoleOf P)) → option_map (promoted d) (option_map agent_of o) ≡ option_map agent_of (option_map (on_cpu g d) o)

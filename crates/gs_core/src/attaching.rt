@@ -12,6 +12,7 @@ ghost use Rattle.gs_replies.specs.Replies.{replied, reply_of};
 ghost use Rattle.gs_core.specs.declared.event.Event.{Event};
 ghost use Rattle.gs_replies.specs.declared.reply.Reply.{Reply};
 ghost use Rattle.gs_core.specs.Machine.{Attaches, Carries, Step, crashed, kernel_refusal, next_dump, planned_by, planning, standing_refusal, stays_with};
+ghost use Rattle.gs_core.specs.Follows.{leads_nobody};
 ghost use Rattle.gs_core.specs.Policies.{policy_after};
 
 use crate::follow::follow;
@@ -55,13 +56,42 @@ impl<P: Counted + Copy> Machine<P> {
         ensures policy { self.new.policy ≡ self.old.policy }
     {
         match command {
+            Command::Create { .. }
+            | Command::Thread { .. }
+            | Command::Take { .. }
+            | Command::Give { .. }
+            | Command::Tick { .. } => self.tell_event(command),
+            _ => self.change_agent(command),
+        }
+    }
+
+    /// Tells the kernel a command by which no agent goes, begins or becomes active. Its role follows nothing.
+    #[inline(always)]
+    fn tell_event(&mut self, command: &Command) -> Result<Executed, Refusal>
+        requires stands { torn self.old.history ≡ false }
+        requires stays { leads_nobody command.now ≡ true }
+        ensures step { Step (planning P.chosen self.old) (Event.Kernel command.now) (reply_of result (last_entry self.new.history)) (planning P.chosen self.new) }
+        ensures policy { self.new.policy ≡ self.old.policy }
+    {
+        let done = self.kernel.execute(command)?;
+        Ok(done)
+    }
+
+    /// Tells the kernel a command by which an agent goes, begins or becomes active. Such commands are seldom.
+    #[inline(never)]
+    fn change_agent(&mut self, command: &Command) -> Result<Executed, Refusal>
+        requires { torn self.old.history ≡ false }
+        ensures step { Step (planning P.chosen self.old) (Event.Kernel command.now) (reply_of result (last_entry self.new.history)) (planning P.chosen self.new) }
+        ensures policy { self.new.policy ≡ self.old.policy }
+    {
+        match command {
             Command::Leave => self.leave(),
             Command::Begin => self.begin(self.policy),
             _ => self.tell(command),
         }
     }
 
-    /// Tells the kernel a command by which no agent goes and none begins.
+    /// Tells the kernel a command by which no agent goes and none begins. The role follows.
     fn tell(&mut self, command: &Command) -> Result<Executed, Refusal>
         requires stands { torn self.old.history ≡ false }
         requires stays { stays_with command.now ≡ true }

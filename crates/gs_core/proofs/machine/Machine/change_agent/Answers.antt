@@ -8,7 +8,7 @@ use Rattle.gs_replies.specs.declared.reply.Reply.{Reply}
 use Rattle.gs_replies.specs.Replies.{reply_of}
 use Rattle.gs_core.specs.Machine.{Plan, Serves, State, Step, StateOf, planning, refusal}
 use Rattle.gs_core.proofs.Posting.{begun_step, same_planning}
-use Rattle.gs_core.proofs.machine.Machine.execute_command.Goals as goal
+use Rattle.gs_core.proofs.machine.Machine.change_agent.Goals as goal
 
 -- an agent that begins by the policy that is there
 served_as : (o : Option Refusal) (m : State) (r : Reply) (m' : State) → Serves o m (events.Begin m.policy) r m' → Serves o m (events.Kernel Begin) r m'
