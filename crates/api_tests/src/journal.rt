@@ -217,7 +217,7 @@ fn gives_back(alloc: Global) -> Option<bool> {
     let entries = each_kind(facts(b"web")?, facts(b"db")?);
     let mut journal = Journal::new(alloc, 0, 20);
     add_all(&mut journal, &entries).ok()?;
-    let is_last = matches!(journal.last(), Some(Entry::Given { cpu: 11 }));
+    let is_last = matches!(journal.last()?.entry(), Entry::Given { cpu: 11 });
     Some(is_last && first_other(&journal, &entries).is_none())
 }
 

@@ -271,7 +271,7 @@ fn posted(message: &Message) -> Came {
 
 fn came_of(kernel: &Kernel<ByteRing>, came: Result<Executed, Refusal>) -> Came {
     match came {
-        Ok(Executed::Done) => entry_of(kernel.last()),
+        Ok(Executed::Done) => entry_of(&kernel.last().entry()),
         Ok(Executed::Torn) => Torn,
         Err(refusal) => Refused(refusal),
     }

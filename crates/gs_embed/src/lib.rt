@@ -11,7 +11,7 @@ pub use gs_agent::{Drained, Role, Stop};
 pub use gs_beliefs::{CpuBeliefs, Running};
 pub use gs_core::{Event, Items, Machine, Reply, Transaction, is_short};
 pub use gs_dump::DumpRecord;
-pub use gs_journal::{Entry, Journal};
+pub use gs_journal::{Entry, Journal, LastEntry};
 pub use gs_kernel::{Command, Executed, Kernel, Landing, ThreadEvent};
 pub use gs_layout::{Change, Class, Facts, Known, Message, Name, Outcome, Refusal};
 pub use gs_lines::{Text, write_reply};

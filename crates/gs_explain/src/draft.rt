@@ -2,6 +2,7 @@
 
 ghost use Rattle.std.specs.Prelude.{◌≡◌, ◌++◌, ◌∷◌, [], None, OnOk, codes, length};
 ghost use Rattle.std.specs.Str.{IsUtf8};
+ghost use Rattle.gs_journal.specs.Last.{entry_lent};
 ghost use Rattle.gs_lines.specs.Lines.{reply_lines};
 ghost use Rattle.gs_replies.specs.declared.reply.Reply.TheVariants as replies;
 ghost use Rattle.gs_sentences.specs.Given.{causes_given, reason_given};
@@ -12,7 +13,7 @@ ghost use Rattle.gs_explain.specs.Objects.{line_of_cause, place_of_cause, reason
 
 use crate::quoted::push_quoted;
 use gs_agent::Stop;
-use gs_journal::Entry;
+use gs_journal::LastEntry;
 use gs_kernel::Executed;
 use gs_layout::Refusal;
 use gs_lines::{
@@ -196,8 +197,8 @@ impl Draft {
 
     /// Adds the line of a command that was done, by the last entry.
     #[inline(always)]
-    pub(crate) fn done(&mut self, last: &Entry) -> Result<(), AllocError>
-        ensures { OnOk result (self.new ≡ self.old ++ reply_lines (replies.Done last.now)) }
+    pub(crate) fn done(&mut self, last: LastEntry<'_>) -> Result<(), AllocError>
+        ensures { OnOk result (self.new ≡ self.old ++ reply_lines (replies.Done (entry_lent last.entry))) }
     {
         write_executed(&mut self.text, Ok(Executed::Done), last)
     }

@@ -3,6 +3,7 @@
 ghost use Rattle.std.specs.Prelude.{◌≡◌, ◌≤◌, ◌++◌, [], IfOk, IfSome, Ok, OnErr, OnOk, length, take, true};
 ghost use Rattle.std.specs.Io.KnownBytes.{Appends};
 ghost use Rattle.std.specs.List.{All};
+ghost use Rattle.gs_journal.specs.Last.{entry_lent};
 ghost use Rattle.gs_reasons.specs.Kept.{HasHeard};
 ghost use Rattle.gs_replies.specs.declared.reply.Reply.TheVariants as replies;
 ghost use Rattle.gs_script.specs.Unread.{said_line};
@@ -21,7 +22,7 @@ use crate::moment::Scene;
 use crate::object::push_object;
 use crate::outline::{Outline, outlined, outlined_done};
 use crate::teller::Teller;
-use gs_journal::{Entry, Journal};
+use gs_journal::{Journal, LastEntry};
 use gs_layout::Refusal;
 use gs_lines::Text;
 use gs_reasons::Index;
@@ -220,12 +221,12 @@ impl<'a> Objects<'a> {
         journal: &Journal,
         index: &mut Index,
         first: usize,
-        last: &Entry,
+        last: LastEntry<'_>,
     ) -> Result<(), AllocError>
         requires text { is_text said.now.bytes.now ≡ true }
         requires within { first ≤ length journal.now.entries }
         requires heard { HasHeard index.old (take first journal.now.entries) }
-        ensures shown { OnOk result (self.new ≡ self.old ++ done_object (said_line said.now) first (length journal.now.entries) last.now) }
+        ensures shown { OnOk result (self.new ≡ self.old ++ done_object (said_line said.now) first (length journal.now.entries) (entry_lent last.entry)) }
         ensures heard { OnOk result (HasHeard index.new journal.now.entries) }
     {
         match outlined_done(&mut self.draft, said, journal, index, first, last) {
@@ -353,7 +354,7 @@ impl<'a> Teller<'a> for Objects<'a> {
         journal: &Journal,
         index: &mut Index,
         first: usize,
-        last: &Entry,
+        last: LastEntry<'_>,
     ) -> Result<(), AllocError> {
         self.add_done(said, journal, index, first, last)
     }

@@ -3,6 +3,7 @@
 ghost use Rattle.std.specs.Prelude.{◌≡◌, ◌≤◌, ◌++◌, ◌-◌, IfOk, OnOk, length, take, true};
 ghost use Rattle.std.specs.Str.{IsUtf8};
 ghost use Rattle.gs_lines.specs.Lines.{reply_lines};
+ghost use Rattle.gs_journal.specs.Last.{entry_lent};
 ghost use Rattle.gs_reasons.specs.Kept.{HasHeard};
 ghost use Rattle.gs_replies.specs.declared.reply.Reply.TheVariants as replies;
 ghost use Rattle.gs_script.specs.Unread.{said_line};
@@ -18,7 +19,7 @@ use crate::draft::Draft;
 use crate::hearing::hear_all;
 use crate::moment::Scene;
 use crate::whys::push_whys;
-use gs_journal::{Entry, Journal};
+use gs_journal::{Journal, LastEntry};
 use gs_reasons::Index;
 use gs_script::SaidLine;
 use gs_trace::Came;
@@ -142,13 +143,13 @@ pub(crate) fn outlined_done<'a>(
     journal: &Journal,
     index: &mut Index,
     first: usize,
-    last: &Entry,
+    last: LastEntry<'_>,
 ) -> Result<Outline<'a>, AllocError>
     requires text { is_text said.now.bytes.now ≡ true }
     requires within { first ≤ length journal.now.entries }
     requires heard { HasHeard index.old (take first journal.now.entries) }
     ensures grown { OnOk result (Grows draft.old draft.new) }
-    ensures told { IfOk result (λ o. outline_text draft.new o ≡ done_object (said_line said.now) first (length journal.now.entries) last.now) }
+    ensures told { IfOk result (λ o. outline_text draft.new o ≡ done_object (said_line said.now) first (length journal.now.entries) (entry_lent last.entry)) }
     ensures stands { IfOk result (λ o. IsOutlined draft.new o) }
     ensures heard { OnOk result (HasHeard index.new journal.now.entries) }
 {

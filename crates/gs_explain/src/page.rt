@@ -2,6 +2,7 @@
 
 ghost use Rattle.std.specs.Prelude.{◌≡◌, ◌++◌, Some, OnOk, [], true};
 ghost use Rattle.gs_lines.specs.Lines.{landing_text, late_text, line, reply_lines, torn_line};
+ghost use Rattle.gs_journal.specs.Last.{entry_lent};
 ghost use Rattle.gs_replies.specs.Replies.{reply_of};
 ghost use Rattle.gs_replies.specs.declared.reply.Reply.TheVariants as replies;
 ghost use Rattle.gs_script.specs.Words.{is_text};
@@ -13,7 +14,7 @@ ghost use Rattle.gs_script.specs.Unread.{said_line};
 
 use gs_agent::Drained;
 use gs_core::Reply;
-use gs_journal::Entry;
+use gs_journal::LastEntry;
 use gs_kernel::{Executed, Landing};
 use gs_layout::Refusal;
 use gs_lines::{
@@ -98,9 +99,9 @@ impl Page {
     pub(crate) fn executed(
         &mut self,
         came: Result<Executed, Refusal>,
-        last: &Entry,
+        last: LastEntry<'_>,
     ) -> Result<(), AllocError>
-        ensures { OnOk result (self.new ≡ self.old ++ reply_lines (reply_of came last.now)) }
+        ensures { OnOk result (self.new ≡ self.old ++ reply_lines (reply_of came (entry_lent last.entry))) }
     {
         write_executed(&mut self.text, came, last)
     }

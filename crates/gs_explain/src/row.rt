@@ -4,6 +4,7 @@ ghost use Rattle.std.specs.Prelude.{◌≡◌, ◌≤◌, ◌++◌, Some, OnOk, 
 ghost use Rattle.gs_reasons.specs.Kept.{HasHeard};
 ghost use Rattle.gs_script.specs.Words.{is_text};
 ghost use Rattle.gs_script.specs.Unread.{said_line};
+ghost use Rattle.gs_journal.specs.Last.{entry_lent};
 ghost use Rattle.gs_replies.specs.Replies.{reply_of};
 ghost use Rattle.gs_replies.specs.declared.reply.Reply.TheVariants as replies;
 ghost use Rattle.gs_trace.specs.Came.{reply_in};
@@ -23,7 +24,7 @@ use crate::page::Page;
 use crate::refused::why_refused;
 use gs_agent::Drained;
 use gs_core::Reply;
-use gs_journal::{Entry, Journal};
+use gs_journal::{Journal, LastEntry};
 use gs_kernel::{Executed, Landing};
 use gs_layout::Refusal;
 use gs_reasons::Index;
@@ -157,11 +158,11 @@ fn write_executed(
     scene: &Scene<'_>,
     index: &Index,
     came: Result<Executed, Refusal>,
-    last: &Entry,
+    last: LastEntry<'_>,
 ) -> Result<(), AllocError>
     requires heard { HasHeard index.now scene.now.journal.now.entries }
     requires marked { IsMarked scene.now.last.now.places.items scene.now.transactions.now }
-    ensures { OnOk result (out.new ≡ out.old ++ plain_shown (moment_of scene.now) (reply_of came last.now)) }
+    ensures { OnOk result (out.new ≡ out.old ++ plain_shown (moment_of scene.now) (reply_of came (entry_lent last.entry))) }
 {
     out.executed(came, last)?;
     match came {
@@ -244,12 +245,12 @@ pub(crate) fn write_done(
     journal: &Journal,
     index: &mut Index,
     first: usize,
-    last: &Entry,
+    last: LastEntry<'_>,
 ) -> Result<(), AllocError>
     requires text { is_text said.now.bytes.now ≡ true }
     requires within { first ≤ length journal.now.entries }
     requires heard { HasHeard index.old (take first journal.now.entries) }
-    ensures shown { OnOk result (out.new ≡ out.old ++ done_row (said_line said.now) first (length journal.now.entries) last.now) }
+    ensures shown { OnOk result (out.new ≡ out.old ++ done_row (said_line said.now) first (length journal.now.entries) (entry_lent last.entry)) }
     ensures heard { OnOk result (HasHeard index.new journal.now.entries) }
 {
     out.heading(said)?;

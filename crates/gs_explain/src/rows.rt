@@ -2,6 +2,7 @@
 
 ghost use Rattle.std.specs.Prelude.{◌≡◌, ◌≤◌, ◌++◌, ◌∷◌, [], None, true, false, IfOk, IsOk, IfSome, Ok, OnOk, OnErr, length, take};
 ghost use Rattle.std.specs.Io.KnownBytes.{Appends};
+ghost use Rattle.gs_journal.specs.Last.{entry_lent};
 ghost use Rattle.gs_reasons.specs.Kept.{HasHeard};
 ghost use Rattle.gs_replies.specs.declared.reply.Reply.TheVariants as replies;
 ghost use Rattle.gs_script.specs.Words.{is_text};
@@ -27,7 +28,7 @@ use crate::row::{write_done, write_row};
 use crate::tail::tail_of;
 use crate::teller::Teller;
 use gs_core::Reply;
-use gs_journal::{Entry, Journal};
+use gs_journal::{Journal, LastEntry};
 use gs_kernel::Landing;
 use gs_layout::{Outcome, Refusal};
 use gs_reasons::Index;
@@ -290,12 +291,12 @@ impl<'a> Rows<'a> {
         journal: &Journal,
         index: &mut Index,
         first: usize,
-        last: &Entry,
+        last: LastEntry<'_>,
     ) -> Result<(), AllocError>
         requires text { is_text said.now.bytes.now ≡ true }
         requires within { first ≤ length journal.now.entries }
         requires heard { HasHeard index.old (take first journal.now.entries) }
-        ensures shown { OnOk result (self.new ≡ self.old ++ done_row (said_line said.now) first (length journal.now.entries) last.now) }
+        ensures shown { OnOk result (self.new ≡ self.old ++ done_row (said_line said.now) first (length journal.now.entries) (entry_lent last.entry)) }
         ensures heard { OnOk result (HasHeard index.new journal.now.entries) }
     {
         match write_done(&mut self.page, said, journal, index, first, last) {
@@ -464,7 +465,7 @@ impl<'a> Teller<'a> for Rows<'a> {
         journal: &Journal,
         index: &mut Index,
         first: usize,
-        last: &Entry,
+        last: LastEntry<'_>,
     ) -> Result<(), AllocError> {
         self.add_done(said, journal, index, first, last)
     }

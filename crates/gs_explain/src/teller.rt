@@ -1,4 +1,5 @@
 ghost use Rattle.std.specs.Prelude.{◌≡◌, ◌≤◌, ◌++◌, List, ℕ, OnOk, length, take, true};
+ghost use Rattle.gs_journal.specs.Last.{entry_lent};
 ghost use Rattle.gs_reasons.specs.Kept.{HasHeard};
 ghost use Rattle.gs_replies.specs.declared.reply.Reply.TheVariants as replies;
 ghost use Rattle.gs_script.specs.Words.{is_text};
@@ -9,7 +10,7 @@ ghost use Rattle.gs_script.specs.Unread.{said_line};
 ghost use Rattle.gs_trace.specs.Came.{reply_in};
 
 use crate::moment::Scene;
-use gs_journal::{Entry, Journal};
+use gs_journal::{Journal, LastEntry};
 use gs_layout::Refusal;
 use gs_reasons::Index;
 use gs_script::SaidLine;
@@ -48,12 +49,12 @@ pub(crate) trait Teller<'a>: Drop {
         journal: &Journal,
         index: &mut Index,
         first: usize,
-        last: &Entry,
+        last: LastEntry<'_>,
     ) -> Result<(), AllocError>
         requires text { is_text said.now.bytes.now ≡ true }
         requires within { first ≤ length journal.now.entries }
         requires heard { HasHeard index.old (take first journal.now.entries) }
-        ensures shown { (x : Moment) → x.history ≡ journal.now.entries → OnOk result (bytes self.new ≡ bytes self.old ++ show (said_line said.now) x first (replies.Done last.now)) }
+        ensures shown { (x : Moment) → x.history ≡ journal.now.entries → OnOk result (bytes self.new ≡ bytes self.old ++ show (said_line said.now) x first (replies.Done (entry_lent last.entry))) }
         ensures heard { OnOk result (HasHeard index.new journal.now.entries) };
 
     /// Adds an event that was refused, as [`Teller::row`] does.

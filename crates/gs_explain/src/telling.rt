@@ -2,6 +2,7 @@
 
 ghost use Rattle.std.specs.Prelude.{◌≡◌, ◌≤◌, IfOk, IfErr, OnOk, [], length, take, true};
 ghost use Rattle.gs_core.specs.Machine.{planned, planning};
+ghost use Rattle.gs_journal.specs.Last.{entry_lent};
 ghost use Rattle.gs_reasons.specs.Kept.{HasHeard};
 ghost use Rattle.gs_script.specs.Held.{Faults};
 ghost use Rattle.gs_script.specs.Unread.{events_unread, said_line, said_unread};
@@ -18,7 +19,7 @@ use crate::marking::mark_last;
 use crate::moment::Scene;
 use crate::teller::Teller;
 use gs_core::{Event, Machine, Reply};
-use gs_journal::Entry;
+use gs_journal::LastEntry;
 use gs_kernel::{Command, Executed, Landing};
 use gs_layout::Refusal;
 use gs_policy::Counted;
@@ -96,11 +97,11 @@ fn explain_done<'a, P: Counted + Copy, T: Teller<'a>>(
     said: &SaidLine<'a>,
     first: usize,
     stamped: usize,
-    entry: &Entry,
+    entry: LastEntry<'_>,
 ) -> Result<(), AllocError>
     requires text { is_text said.now.bytes.now ≡ true }
     requires before { Stood first stamped index.old last.old.places.items (planning P.chosen machine.now) }
-    ensures { (event : Event (Unit {0})) → OnOk result (TellsOne T.show (noted_of lines.old) first (said_line said.now) event (replies.Done entry.now) (planning P.chosen machine.now) (noted_of lines.new) index.new last.new.places.items (T.bytes out.old) (T.bytes out.new)) }
+    ensures { (event : Event (Unit {0})) → OnOk result (TellsOne T.show (noted_of lines.old) first (said_line said.now) event (replies.Done (entry_lent entry.entry)) (planning P.chosen machine.now) (noted_of lines.new) index.new last.new.places.items (T.bytes out.old) (T.bytes out.new)) }
 {
     let came = Came::Executed(Ok(Executed::Done), entry);
     note_came(machine, lines, last, said.number, stamped, came)?;

@@ -2,6 +2,7 @@
 
 ghost use Rattle.std.specs.Prelude.{◌≡◌, ◌≤◌, ◌++◌, Some, IfOk, OnOk, length, take, true};
 ghost use Rattle.gs_reasons.specs.Kept.{HasHeard};
+ghost use Rattle.gs_journal.specs.Last.{entry_lent};
 ghost use Rattle.gs_replies.specs.Replies.{reply_of};
 ghost use Rattle.gs_sentences.specs.Reason as reasons;
 ghost use Rattle.gs_trace.specs.Came.{reply_in};
@@ -21,7 +22,7 @@ use crate::overflow::overflow_of;
 use crate::refused::why_refused;
 use gs_agent::{Drained, Stop};
 use gs_core::Reply;
-use gs_journal::Entry;
+use gs_journal::LastEntry;
 use gs_kernel::{Executed, Landing};
 use gs_layout::{Outcome, Refusal};
 use gs_reasons::{GroupFault, Index};
@@ -231,11 +232,11 @@ fn push_executed(
     scene: &Scene<'_>,
     index: &Index,
     came: Result<Executed, Refusal>,
-    last: &Entry,
+    last: LastEntry<'_>,
 ) -> Result<(), AllocError>
     requires heard { HasHeard index.now scene.now.journal.now.entries }
     requires marked { IsMarked scene.now.last.now.places.items scene.now.transactions.now }
-    ensures { OnOk result (out.new ≡ out.old ++ behind_commas (plain_whys (moment_of scene.now) (reply_of came last.now))) }
+    ensures { OnOk result (out.new ≡ out.old ++ behind_commas (plain_whys (moment_of scene.now) (reply_of came (entry_lent last.entry)))) }
 {
     match came {
         Ok(Executed::Done) => Ok(()),

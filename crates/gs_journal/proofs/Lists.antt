@@ -1,5 +1,5 @@
 -- What one more entry makes of the two lists.
-use Rattle.std.proofs.Common.{◌≡◌, refl, ap, sym, subst, ◌∙◌, ℕ, zero, suc, ◌+◌, ◌-◌, ◌<◌, ◌≤◌, List, [], ◌∷◌, ◌++◌, length, map, get_or, arith, slice_get, length-append, Some}
+use Rattle.std.proofs.Common.{◌≡◌, refl, ap, ◌∙◌, ℕ, zero, suc, ◌+◌, ◌<◌, ◌≤◌, List, [], ◌∷◌, ◌++◌, length, map, get_or, arith, slice_get, length-append, Some}
 use Rattle.std.proofs.lemmas.List.{length-map, map-append}
 use Rattle.std.proofs.lemmas.Option.{get_or_from_slice_get}
 use Rattle.gs_layout.specs.declared.message.Change.{Change}
@@ -9,7 +9,7 @@ use Rattle.gs_journal.specs.declared.entry.Entry.{Entry}
 use Rattle.gs_journal.specs.declared.entry.Entry.TheVariants.{Posted, Placed, Role, Begin, Left, Taken, Given, Torn}
 use Rattle.gs_journal.specs.declared.narrow.Narrow.{Narrow}
 use Rattle.gs_journal.specs.declared.narrow.Narrow.TheVariants as narrow
-use Rattle.gs_journal.specs.Narrow.{AllWithin, IsLatest, IsWithin, change_at, entries_of, packed, unpacked, wide_of}
+use Rattle.gs_journal.specs.Narrow.{AllWithin, IsWithin, change_at, entries_of, packed, unpacked, wide_of}
 
 at_end : (wide : List Change) (c : Change) → change_at (wide ++ c ∷ []) (length wide) ≡ c
 at_end [] c = refl
@@ -133,17 +133,3 @@ entry_at wide (x ∷ xs) (suc i) d lt = entry_at wide xs i d (omega (arith, lt))
 
 pub entry_is : (wide : List Change) (ns : List Narrow) (i : ℕ) (d : Narrow) (e : Entry) → i < length ns → get_or (entries_of wide ns) i e ≡ unpacked wide (get_or ns i d)
 entry_is wide ns i d e lt = get_or_from_slice_get (entries_of wide ns) i (unpacked wide (get_or ns i d)) e (entry_at wide ns i d lt)
-
--- the last entry
-at_latest : (es : List Entry) (e : Entry) → slice_get (es ++ e ∷ []) (length es) ≡ Some e
-at_latest [] e = refl
-at_latest (x ∷ es) e = at_latest es e
-
-pub latest_none : (wide : List Change) (e : Entry) → IsLatest e (entries_of wide [])
-latest_none wide e lt = absurd (omega (arith, lt, ap length (entries_none wide)))
-
-pub latest_more : (wide : List Change) (ns : List Narrow) (e : Entry) → AllWithin (length wide) ns → IsLatest e (entries_of (wide ++ wide_of e) (ns ++ packed (length wide) e ∷ []))
-latest_more wide ns e w =
-    let all : List Entry = entries_of wide ns in
-    subst (IsLatest e) (sym (entries_more wide ns e w))
-    (λ lt. let n : length (all ++ e ∷ []) - 1 ≡ length all = omega (arith, length-append all (e ∷ [])) in ap (slice_get (all ++ e ∷ [])) n ∙ at_latest all e)

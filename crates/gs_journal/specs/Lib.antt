@@ -5,3 +5,4 @@ pub mod State
 pub mod Narrow
 pub mod JournalState
 pub mod Walk
+pub mod Last

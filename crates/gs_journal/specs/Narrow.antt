@@ -1,6 +1,6 @@
 -- How two lists say the entries of a journal. What is wide of an entry is the change of a creation or of a new mask. It stands in a list of its own, at the
 -- place that the narrow entry holds.
-use Rattle.std.specs.Prelude.{ℕ, ◌≡◌, ◌<◌, ◌-◌, Some, List, [], ◌∷◌, length, map, slice_get, unwrap_or}
+use Rattle.std.specs.Prelude.{ℕ, ◌<◌, List, [], ◌∷◌, map, slice_get, unwrap_or}
 use Rattle.gs_layout.specs.declared.message.Change.{Change}
 use Rattle.gs_layout.specs.declared.message.Change.TheVariants.{Created, Blocked, Wakeup, Preempted, Yield, Dead, Affinity}
 use Rattle.gs_layout.specs.declared.message.Message.{Message}
@@ -82,7 +82,3 @@ IsWithin n _ = Unit {0}
 abbrev pub AllWithin : ℕ → List Narrow → Type 0
 AllWithin n [] = Unit {0}
 AllWithin n (x ∷ xs) = IsWithin n x × AllWithin n xs
-
--- an entry is the last one, if there is any
-abbrev pub IsLatest : Entry → List Entry → Type 0
-IsLatest e es = 0 < length es → slice_get es (length es - 1) ≡ Some e

@@ -1,7 +1,9 @@
-ghost use Rattle.std.specs.Prelude.{◌≡◌, ◌↔◌, ◌⊎◌, ◌+◌, ◌-◌, ◌<◌, ◌≤◌, ◌==◌, [], ◌∷◌, ◌++◌, Some, get_or, length, option_copied, slice_get, take, OnOk, OnErr, IfErr, IsErrOf, IsOk};
+ghost use Rattle.std.specs.Prelude.{◌≡◌, ◌↔◌, ◌⊎◌, ◌+◌, ◌-◌, ◌<◌, ◌≤◌, ◌==◌, [], ◌∷◌, ◌++◌, Some, get_or, length, option_map, slice_get, take, OnOk, OnErr, IfErr, IsErrOf, IsOk};
+ghost use Rattle.gs_journal.specs.Last.{entry_lent};
 ghost use Rattle.gs_journal.specs.History.{active, at, on, record_in, seq, taken, torn};
 
 use crate::entry::Entry;
+use crate::last::LastEntry;
 use crate::narrow::Narrow;
 use crate::query;
 use crate::room::{grow, more_room};
@@ -21,8 +23,6 @@ pub struct Journal {
     narrow: Vec<Narrow>,
     /// What is wide of the entries, in order. It has room for each entry that the other list has room for.
     wide: Vec<Change>,
-    /// The last entry, whole: it is asked for after each event.
-    last: Entry,
     limit: u32,
     first_tseq: u32,
 }
@@ -30,7 +30,7 @@ pub struct Journal {
 impl Model for Journal {
     ghost use Rattle.std.specs.Prelude.{◌-◌, ◌≤◌, length, min, vec_len, vec_capacity};
     ghost use Rattle.gs_journal.specs.JournalState.{JournalState};
-    ghost use Rattle.gs_journal.specs.Narrow.{AllWithin, IsLatest, entries_of};
+    ghost use Rattle.gs_journal.specs.Narrow.{AllWithin, entries_of};
 
     ghost Value = { JournalState };
 
@@ -46,14 +46,13 @@ impl Model for Journal {
       fewer : vec_len j.wide ≤ vec_len j.narrow;
       placed : AllWithin (length j.wide.items) j.narrow.items;
       beside : vec_capacity j.narrow - vec_len j.narrow ≤ vec_capacity j.wide - vec_len j.wide;
-      latest : IsLatest j.last (entries_of j.wide.items j.narrow.items);
     } };
 }
 
 impl Journal {
     /// Makes a journal in which nothing has happened, of at most `limit` entries. A thread's sequence numbers
     /// begin above `first_tseq`. It does not allocate.
-    #[tactic(auto, using(crate::proofs::Lists::entries_none, crate::proofs::Lists::latest_none))]
+    #[tactic(auto, using(crate::proofs::Lists::entries_none))]
     pub fn new(alloc: Global, first_tseq: u32, limit: u32) -> Journal
         ensures entries { result.entries ≡ [] }
         ensures limit { result.limit ≡ limit }
@@ -63,7 +62,6 @@ impl Journal {
         Journal {
             narrow: Vec::new(alloc),
             wide: Vec::new(alloc),
-            last: Entry::Left,
             limit,
             first_tseq,
         }
@@ -99,7 +97,7 @@ impl Journal {
 
     /// Appends an entry, for which room was made before.
     #[inline(always)]
-    #[tactic(auto, using(crate::proofs::Lists::length_entries, crate::proofs::Lists::entries_more, crate::proofs::Lists::all_within_more, crate::proofs::Lists::latest_more))]
+    #[tactic(auto, using(crate::proofs::Lists::length_entries, crate::proofs::Lists::entries_more, crate::proofs::Lists::all_within_more))]
     pub fn append(&mut self, entry: Entry)
         requires { 0 < self.old.room }
         ensures entries { self.new.entries ≡ self.old.entries ++ entry ∷ [] }
@@ -110,7 +108,6 @@ impl Journal {
         let narrow = Narrow::of(self.wide.len() as u32, &entry);
         push_wide(&mut self.wide, &entry);
         push_copy(&mut self.narrow, &narrow);
-        self.last = entry;
     }
 
     /// Returns the entry at a place, counted from 0.
@@ -148,12 +145,12 @@ impl Journal {
 
     /// Lends the last entry, or returns `None` if nothing has happened.
     #[inline(always)]
-    pub fn last(&self) -> Option<&Entry>
-        ensures { option_copied result ≡ slice_get self.now.entries (length self.now.entries - 1) }
+    pub fn last(&self) -> Option<LastEntry<'_>>
+        ensures { option_map entry_lent result ≡ slice_get self.now.entries (length self.now.entries - 1) }
     {
         match self.len() {
             0 => None,
-            _ => Some(&self.last),
+            _ => Some(LastEntry::of(self)),
         }
     }
 

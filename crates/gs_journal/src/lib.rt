@@ -5,6 +5,7 @@
 
 mod entry;
 mod journal;
+mod last;
 mod law;
 mod narrow;
 mod query;
@@ -13,5 +14,6 @@ mod wide;
 
 pub use entry::Entry;
 pub use journal::Journal;
+pub use last::LastEntry;
 pub use law::{at_is_least, record_is_fold};
 pub use query::thread_then;

@@ -3,7 +3,7 @@ use Rattle.std.proofs.Common.{◌≡◌, ◌++◌, ◌∷◌, [], ◌-◌, ℕ, 
 use Rattle.std.proofs.lemmas.List.{append_assoc, length-append}
 use Rattle.std.proofs.lemmas.Option.{none-some, slice_get-get_or, unwrap_or-slice_get}
 use Rattle.std.proofs.Math.Seq.{get_or-append_seam}
-use Rattle.std.specs.Prelude.{slice_get, unwrap_or}
+use Rattle.std.specs.Prelude.{Option, IsSome, option_map, slice_get, unwrap_or}
 use Rattle.gs_journal.specs.declared.entry.Entry.{Entry}
 use Rattle.gs_journal.specs.declared.entry.Entry.TheVariants.{Posted, Torn}
 use Rattle.gs_journal.specs.Standing.{last_of, latest, standing}
@@ -32,3 +32,8 @@ none_given = refl
 pub nonempty : (h : History) (g : ℕ) → generation h ≡ Some g → slice_get h (length h - 1) ≡ None → ⊥
 nonempty [] g is none = none-some g (sym none_given ∙ is)
 nonempty (e ∷ es) g is none = none-some _ (sym none ∙ slice_get-get_or (e ∷ es) (length (e ∷ es) - 1) e (omega arith))
+
+-- the last entry is lent
+pub some_lent : {A : Type 0} (f : A → Entry) (o : Option A) (h : History) (g : ℕ) → generation h ≡ Some g → option_map f o ≡ slice_get h (length h - 1) → IsSome o
+some_lent f None h g is lent = absurd (nonempty h g is (sym lent))
+some_lent f (Some x) h g is lent = refl

@@ -1,12 +1,13 @@
 ghost use Rattle.std.specs.Prelude.{◌≡◌, ℕ, ◌-◌, ◌≤◌, ◌∷◌, [], IfOk, OnOk, OnErr, false, length, min};
 ghost use Rattle.gs_journal.specs.History.{posted, active, attaching, taken, torn};
+ghost use Rattle.gs_journal.specs.Last.{entry_lent};
 ghost use Rattle.gs_status.specs.Masks.{has};
 ghost use Rattle.gs_kernel.specs.Settings.{IsInRange};
 ghost use Rattle.gs_kernel.specs.Kernel.{has_agent, is_bad_mask, is_full, last_entry};
 
 use crate::agents::Agents;
 use crate::settings::Settings;
-use gs_journal::{Entry, Journal};
+use gs_journal::{Entry, Journal, LastEntry};
 use gs_ring::Poster;
 use gs_status::Mask;
 use gs_threads::ThreadTable;
@@ -120,13 +121,10 @@ impl<P: Poster> Kernel<P> {
 
     /// Lends the last thing that happened.
     #[inline(always)]
-    pub fn last(&self) -> &Entry
-        ensures { result.now ≡ last_entry self.now.history }
+    pub fn last(&self) -> LastEntry<'_>
+        ensures { entry_lent result ≡ last_entry self.now.history }
     {
-        match self.journal.last() {
-            Some(entry) => entry,
-            None => unreachable!(),
-        }
+        self.journal.last().unwrap()
     }
 
     /// Lends the end of the ring that the kernel posts to.

@@ -1,8 +1,9 @@
-ghost use Rattle.std.specs.Prelude.{◌≡◌, ◌≤◌, ◌++◌, OnOk, length};
+ghost use Rattle.std.specs.Prelude.{◌≡◌, ◌≤◌, ◌++◌, OnOk, codes, decimal, length};
+ghost use Rattle.gs_journal.specs.Last.{entry_lent};
 ghost use Rattle.gs_lines.specs.Lines.{begin_text, change_text, cpu_text, entry_text, kind_text, line, message_lines, message_text, off_text, posted_text, role_text};
 
 use crate::thread::{push_thread, push_thread_line};
-use gs_journal::Entry;
+use gs_journal::{Entry, LastEntry};
 use gs_layout::{Change, Kind, Message};
 use gs_text::Sheet as Text;
 use std::alloc::AllocError;
@@ -73,16 +74,18 @@ pub fn change_name(change: &Change) -> &'static str
 }
 
 /// Adds the line of what a message says that an event posted.
+#[inline(always)]
 fn write_posted(out: &mut Text, message: &Message) -> Result<(), AllocError>
     ensures { OnOk result (out.new ≡ out.old ++ line (posted_text message.now)) }
 {
     match message {
         Message::Thread { tid, tseq, change } => write_change(out, *tid, *tseq, change),
-        Message::TimerTick { cpu } => out.push_between("tick ", *cpu as u64, "\n"),
+        Message::TimerTick { cpu } => write_tick(out, *cpu),
     }
 }
 
 /// Adds the line of what happened to a thread, and the CPU that a new mask took it off.
+#[inline(always)]
 fn write_change(out: &mut Text, tid: u32, tseq: u32, change: &Change) -> Result<(), AllocError>
     ensures { OnOk result (out.new ≡ out.old ++ line (posted_text (Message.Thread tid tseq change.now))) }
 {
@@ -91,12 +94,26 @@ fn write_change(out: &mut Text, tid: u32, tseq: u32, change: &Change) -> Result<
             cpu: Some(cpu),
             off: true,
             ..
-        } => {
-            push_thread(out, change_name(change), tid, tseq)?;
-            out.push_between(" off ", *cpu as u64, "\n")
-        }
-        _ => push_thread_line(out, change_name(change), tid, tseq),
+        } => write_off(out, tid, tseq, *cpu),
+        _ => write_changed(out, change_name(change), tid, tseq),
     }
+}
+
+/// Adds the line of a thread with a word for what happened to it.
+#[inline(never)]
+fn write_changed(out: &mut Text, name: &str, tid: u32, tseq: u32) -> Result<(), AllocError>
+    ensures { OnOk result (out.new ≡ out.old ++ line (name.now ++ codes " " ++ decimal tid ++ codes " seq " ++ decimal tseq)) }
+{
+    push_thread_line(out, name, tid, tseq)
+}
+
+/// Adds the line of a new mask that took a thread off a CPU.
+#[inline(never)]
+fn write_off(out: &mut Text, tid: u32, tseq: u32, cpu: u16) -> Result<(), AllocError>
+    ensures { OnOk result (out.new ≡ out.old ++ line (codes "affinity" ++ codes " " ++ decimal tid ++ codes " seq " ++ decimal tseq ++ codes " off " ++ decimal cpu)) }
+{
+    push_thread(out, "affinity", tid, tseq)?;
+    out.push_between(" off ", cpu as u64, "\n")
 }
 
 /// Adds a placing.
@@ -116,6 +133,7 @@ pub fn write_placed(
 }
 
 /// Adds the line of a placing.
+#[inline(never)]
 fn write_placed_line(
     out: &mut Text,
     tid: u32,
@@ -144,7 +162,50 @@ fn write_begin(out: &mut Text, generation: u32) -> Result<(), AllocError>
     out.push_number("begun generation ", generation as u64)
 }
 
+/// Adds the line of a tick.
+#[inline(never)]
+fn write_tick(out: &mut Text, cpu: u16) -> Result<(), AllocError>
+    ensures { OnOk result (out.new ≡ out.old ++ line (posted_text (Message.TimerTick cpu))) }
+{
+    out.push_between("tick ", cpu as u64, "\n")
+}
+
+/// Adds the line of a CPU that the other class took.
+#[inline(never)]
+fn write_taken(out: &mut Text, cpu: u16) -> Result<(), AllocError>
+    ensures { OnOk result (out.new ≡ out.old ++ line (entry_text (Entry.Taken cpu))) }
+{
+    out.push_between("taken ", cpu as u64, "\n")
+}
+
+/// Adds the line of a CPU that the other class gave back.
+#[inline(never)]
+fn write_given(out: &mut Text, cpu: u16) -> Result<(), AllocError>
+    ensures { OnOk result (out.new ≡ out.old ++ line (entry_text (Entry.Given cpu))) }
+{
+    out.push_between("given ", cpu as u64, "\n")
+}
+
+/// Adds the line of an agent that became active.
+#[inline(never)]
+fn write_role_line(out: &mut Text, generation: u32, cpu: u16) -> Result<(), AllocError>
+    ensures { OnOk result (out.new ≡ out.old ++ line (role_text generation cpu)) }
+{
+    write_role(out, generation, cpu)?;
+    out.end_line()
+}
+
+/// Adds the line of an agent that began to attach.
+#[inline(never)]
+fn write_begin_line(out: &mut Text, generation: u32) -> Result<(), AllocError>
+    ensures { OnOk result (out.new ≡ out.old ++ line (begin_text generation)) }
+{
+    write_begin(out, generation)?;
+    out.end_line()
+}
+
 /// Adds the line of an entry of the journal.
+#[inline(always)]
 pub(crate) fn write_entry(out: &mut Text, entry: &Entry) -> Result<(), AllocError>
     ensures { OnOk result (out.new ≡ out.old ++ line (entry_text entry.now)) }
 {
@@ -156,17 +217,19 @@ pub(crate) fn write_entry(out: &mut Text, entry: &Entry) -> Result<(), AllocErro
             cpu,
             generation,
         } => write_placed_line(out, *tid, *tseq, *cpu, *generation),
-        Entry::Role { generation, cpu } => {
-            write_role(out, *generation, *cpu)?;
-            out.end_line()
-        }
-        Entry::Begin { generation } => {
-            write_begin(out, *generation)?;
-            out.end_line()
-        }
+        Entry::Role { generation, cpu } => write_role_line(out, *generation, *cpu),
+        Entry::Begin { generation } => write_begin_line(out, *generation),
         Entry::Left => out.push_str("left\n"),
-        Entry::Taken { cpu } => out.push_between("taken ", *cpu as u64, "\n"),
-        Entry::Given { cpu } => out.push_between("given ", *cpu as u64, "\n"),
+        Entry::Taken { cpu } => write_taken(out, *cpu),
+        Entry::Given { cpu } => write_given(out, *cpu),
         Entry::Torn => out.push_str("torn\n"),
     }
+}
+
+/// Adds the line of the last entry of a journal, which is matched as it is unpacked.
+#[inline(always)]
+pub(crate) fn write_last(out: &mut Text, last: LastEntry<'_>) -> Result<(), AllocError>
+    ensures { OnOk result (out.new ≡ out.old ++ line (entry_text (entry_lent last.entry))) }
+{
+    write_entry(out, &last.entry())
 }

@@ -1,14 +1,15 @@
 ghost use Rattle.std.specs.Prelude.{◌≡◌, ◌≤◌, ◌++◌, IfOk, OnOk, codes, decimal, length};
+ghost use Rattle.gs_journal.specs.Last.{entry_lent};
 ghost use Rattle.gs_replies.specs.Replies.{reply_of};
 ghost use Rattle.gs_lines.specs.Lines.{refusal_text, outcome_text, drained_text, unless_zero, stop_text, line, landed_text, landing_text, landing_lines, late_text, next_text, page_text, torn_line, reply_lines, lines};
 
 use crate::choice_line::write_decided;
-use crate::message_line::{write_entry, write_messages};
+use crate::message_line::{write_entry, write_last, write_messages};
 use crate::thread::push_thread_line;
 use crate::thread_line::{write_threads, write_view};
 use gs_agent::{Drained, Stop};
 use gs_core::Reply;
-use gs_journal::Entry;
+use gs_journal::LastEntry;
 use gs_kernel::{Executed, Landing};
 use gs_layout::{Outcome, Refusal};
 use gs_text::Sheet as Text;
@@ -227,15 +228,16 @@ pub fn write_reply(out: &mut Text, reply: &Reply) -> Result<(), AllocError>
 }
 
 /// Adds the line of the reply to a command by what came of it and the kernel's last entry. It fails only if out of memory.
+#[inline(always)]
 pub fn write_executed(
     out: &mut Text,
     came: Result<Executed, Refusal>,
-    last: &Entry,
+    last: LastEntry<'_>,
 ) -> Result<(), AllocError>
-    ensures { OnOk result (out.new ≡ out.old ++ reply_lines (reply_of came last.now)) }
+    ensures { OnOk result (out.new ≡ out.old ++ reply_lines (reply_of came (entry_lent last.entry))) }
 {
     match came {
-        Ok(Executed::Done) => write_entry(out, last),
+        Ok(Executed::Done) => write_last(out, last),
         Ok(Executed::Torn) => out.push_str("torn\n"),
         Err(refusal) => write_refused(out, refusal),
     }

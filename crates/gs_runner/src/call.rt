@@ -1,11 +1,12 @@
 //! What a caller asks for, and what it gets.
 
 ghost use Rattle.std.specs.Prelude.{◌≡◌, Ok};
+ghost use Rattle.gs_journal.specs.Last.{entry_lent};
 ghost use Rattle.gs_replies.specs.declared.reply.Reply.{Reply};
 ghost use Rattle.gs_replies.specs.Replies.{reply_of};
 
 use crate::command::Command;
-use gs_journal::Entry;
+use gs_journal::LastEntry;
 use gs_kernel::Executed;
 use gs_layout::Refusal;
 use gs_replies::{Items, Reply};
@@ -54,15 +55,20 @@ impl Receipt {
 
     /// Makes the receipt of a command that was not refused, by what became of it and the kernel's last entry.
     #[inline(always)]
-    pub(crate) fn executed(at: u32, entries: u32, executed: Executed, last: &Entry) -> Receipt
-        ensures { result ≡ record { at = at; entries = entries; reply = reply_of (Ok executed) last.now } }
+    pub(crate) fn executed(
+        at: u32,
+        entries: u32,
+        executed: Executed,
+        last: LastEntry<'_>,
+    ) -> Receipt
+        ensures { result ≡ record { at = at; entries = entries; reply = reply_of (Ok executed) (entry_lent last.entry) } }
     {
         // It is returned where it is made: the entry is copied once less.
         if let Executed::Done = executed {
             return Receipt {
                 at,
                 entries,
-                reply: Reply::Done(*last),
+                reply: Reply::Done(last.entry()),
             };
         }
         Receipt {

@@ -2,13 +2,14 @@
 
 ghost use Rattle.std.specs.Prelude.{◌≡◌, ◌≤◌, ◌<◌, ◌++◌, ℕ, [], ◌∷◌, OnOk, length, true, vec_len, vec_capacity};
 ghost use Rattle.gs_journal.specs.History.{History};
+ghost use Rattle.gs_journal.specs.Last.{entry_lent};
 ghost use Rattle.gs_kernel.specs.declared.executed.Executed.{Executed};
 ghost use Rattle.gs_kernel.specs.Kernel.{last_entry};
 ghost use Rattle.gs_runner.specs.Kept.{AllWithin, calls_kept, command_by, command_by_change, command_by_message, is_told_by_entry, told_call};
 
 use crate::call::{Call, Called};
 use crate::command::Command;
-use gs_journal::Entry;
+use gs_journal::{Entry, LastEntry};
 use gs_kernel::{Command as Told, Executed, ThreadEvent};
 use gs_layout::{Change, Message};
 use gs_replies::Reply;
@@ -68,15 +69,15 @@ impl CallList {
         &mut self,
         command: &Told,
         executed: Executed,
-        last: &Entry,
+        last: LastEntry<'_>,
         at: u32,
         end: u32,
     )
         requires kept { vec_len self.old.kept < vec_capacity self.old.kept }
         requires others { vec_len self.old.others < vec_capacity self.old.others }
         requires order { at ≤ end }
-        requires follows { executed ≡ Executed.Done → is_told_by_entry command.now ≡ true → command_by last.now ≡ command.now }
-        ensures calls { (h : History) → end ≡ length h → last.now ≡ last_entry h → AllWithin end (length self.old.others.items) self.old.kept.items → calls_kept h self.new.others.items self.new.kept.items ≡ calls_kept h self.old.others.items self.old.kept.items ++ told_call command.now executed last.now at end ∷ [] }
+        requires follows { executed ≡ Executed.Done → is_told_by_entry command.now ≡ true → command_by (entry_lent last) ≡ command.now }
+        ensures calls { (h : History) → end ≡ length h → entry_lent last.entry ≡ last_entry h → AllWithin end (length self.old.others.items) self.old.kept.items → calls_kept h self.new.others.items self.new.kept.items ≡ calls_kept h self.old.others.items self.old.kept.items ++ told_call command.now executed (entry_lent last.entry) at end ∷ [] }
         ensures within { AllWithin end (length self.old.others.items) self.old.kept.items → AllWithin end (length self.new.others.items) self.new.kept.items }
     {
         if let Executed::Done = executed {
@@ -91,11 +92,18 @@ impl CallList {
     /// Appends the same with copies of the command and of the reply. It stands apart, since it is seldom called.
     #[cold]
     #[inline(never)]
-    fn push_copied(&mut self, command: &Told, executed: Executed, last: &Entry, at: u32, end: u32)
+    fn push_copied(
+        &mut self,
+        command: &Told,
+        executed: Executed,
+        last: LastEntry<'_>,
+        at: u32,
+        end: u32,
+    )
         requires kept { vec_len self.old.kept < vec_capacity self.old.kept }
         requires others { vec_len self.old.others < vec_capacity self.old.others }
         requires order { at ≤ end }
-        ensures calls { (h : History) (n : ℕ) → AllWithin n (length self.old.others.items) self.old.kept.items → calls_kept h self.new.others.items self.new.kept.items ≡ calls_kept h self.old.others.items self.old.kept.items ++ told_call command.now executed last.now at end ∷ [] }
+        ensures calls { (h : History) (n : ℕ) → AllWithin n (length self.old.others.items) self.old.kept.items → calls_kept h self.new.others.items self.new.kept.items ≡ calls_kept h self.old.others.items self.old.kept.items ++ told_call command.now executed (entry_lent last.entry) at end ∷ [] }
         ensures within { (n : ℕ) → AllWithin n (length self.old.others.items) self.old.kept.items → AllWithin n (length self.new.others.items) self.new.kept.items }
     {
         self.push_other(Call {

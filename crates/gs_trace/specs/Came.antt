@@ -1,4 +1,5 @@
 -- What came of an event, as the reply that it is.
+use Rattle.gs_journal.specs.Last.{entry_lent}
 use Rattle.gs_replies.specs.declared.reply.Reply.{Reply}
 use Rattle.gs_replies.specs.declared.reply.Reply.TheVariants as replies
 use Rattle.gs_replies.specs.Replies.{reply_of}
@@ -6,7 +7,7 @@ use Rattle.gs_trace.specs.declared.came.Came.{Came}
 use Rattle.gs_trace.specs.declared.came.Came.TheVariants as came
 
 abbrev pub reply_in : Came → Reply
-reply_in (came.Executed what last) = reply_of what last.now
+reply_in (came.Executed what last) = reply_of what (entry_lent last)
 reply_in (came.Refused refusal) = replies.Refused refusal
 reply_in (came.Drained drained) = replies.Drained drained
 reply_in (came.Stamped cpu tid flags number) = replies.Stamped number

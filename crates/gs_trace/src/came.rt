@@ -6,7 +6,7 @@ ghost use Rattle.gs_trace.specs.Came.{reply_in};
 
 use gs_agent::{Drained, Stop};
 use gs_core::{Reply, is_short, is_short_command};
-use gs_journal::Entry;
+use gs_journal::LastEntry;
 use gs_kernel::{Executed, Landing};
 use gs_layout::Refusal;
 use gs_slots::Flags;
@@ -16,7 +16,7 @@ use std::slice;
 #[derive(Clone, Copy)]
 pub enum Came<'a> {
     /// What became of a command, or its refusal, and the kernel's last entry.
-    Executed(Result<Executed, Refusal>, &'a Entry),
+    Executed(Result<Executed, Refusal>, LastEntry<'a>),
     /// The refusal of any other event.
     Refused(Refusal),
     /// What the agent followed.

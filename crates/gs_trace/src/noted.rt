@@ -47,7 +47,10 @@ fn page_after_came(line: usize, came: Came<'_>, page: Option<usize>) -> Option<u
     ensures { result ≡ page_after line (reply_in came.entry) page }
 {
     match came {
-        Came::Executed(Ok(Executed::Done), Entry::Begin { .. }) => None,
+        Came::Executed(Ok(Executed::Done), last) => match last.entry() {
+            Entry::Begin { .. } => None,
+            _ => page,
+        },
         Came::Replied(reply) => page_after(line, reply, page),
         _ => page,
     }

@@ -61,7 +61,7 @@ fn said<P: Poster>(
 ) -> Result<Option<(u32, u32)>, Refusal> {
     match came? {
         Executed::Torn => Ok(None),
-        Executed::Done => Ok(numbers(kernel.last())),
+        Executed::Done => Ok(numbers(&kernel.last().entry())),
     }
 }
 

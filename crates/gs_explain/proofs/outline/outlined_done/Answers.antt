@@ -2,6 +2,7 @@ use Rattle.std.proofs.Common.{◌≡◌, ◌∙◌, ◌++◌, ◌-◌, [], ap, a
 use Rattle.std.proofs.lemmas.Result.{IfOk-weaker}
 use Rattle.gs_lines.specs.Lines.{reply_lines}
 use Rattle.gs_replies.specs.declared.reply.Reply.TheVariants as replies
+use Rattle.gs_journal.specs.Last.{entry_lent}
 use Rattle.gs_script.specs.Unread.{said_line}
 use Rattle.gs_script.specs.Words.{is_text}
 use Rattle.gs_explain.proofs.Outlining.{are_outlined, told_outline}
@@ -9,7 +10,7 @@ use Rattle.gs_explain.proofs.outline.outlined_done.Goals as goal
 
 pub returns-clause-told : goal.returns-clause-told
 returns-clause-told c =
-    let lines = reply_lines (replies.Done c.args.last.now) in
+    let lines = reply_lines (replies.Done (entry_lent c.args.last)) in
     let new = c.done.new.self in
     IfOk-weaker c.new.result _ _
     (λ o is. told_outline o c.args.draft.now new new lines [] (is.from ∙ c.len-from.ensures.value) (is.mid ∙ c.len-to.ensures.value) (is.to ∙ c.len-to.ensures.value) c.in_ok-done.ensures (sym (append-nil new))
@@ -18,7 +19,7 @@ returns-clause-told c =
 
 pub returns-clause-stands : goal.returns-clause-stands
 returns-clause-stands c =
-    let lines = reply_lines (replies.Done c.args.last.now) in
+    let lines = reply_lines (replies.Done (entry_lent c.args.last)) in
     let new = c.done.new.self in
     IfOk-weaker c.new.result _ _
     (λ o is. are_outlined o c.args.draft.now new new lines [] (is.from ∙ c.len-from.ensures.value) (is.mid ∙ c.len-to.ensures.value) (is.to ∙ c.len-to.ensures.value) c.in_ok-done.ensures (sym (append-nil new))

@@ -1,4 +1,5 @@
 use Rattle.std.proofs.Common.{◌≡◌, ◌∙◌, ap, refl, sym, subst, length, Ok}
+use Rattle.gs_journal.specs.Last.{entry_lent}
 use Rattle.gs_journal.specs.declared.entry.Entry.{Entry}
 use Rattle.gs_kernel.specs.Kernel.{last_entry}
 use Rattle.gs_kernel.specs.declared.executed.Executed.{Executed}
@@ -54,8 +55,8 @@ returns-in-Ok-Done g c =
     let m = planning g.P.Policy.chosen c.args.machine.now in
     let next = planning g.P.Policy.chosen c.command.new.self in
     let first : c.len-first.result ≡ length m.history = c.len-first.ensures.value ∙ ap length (c.journal.ensures.entries ∙ c.kernel.ensures.history) in
-    let last : c.last-entry.result.now ≡ last_entry next.history = c.last-entry.ensures ∙ ap last_entry c.kernel-in-Ok-Done.ensures.history in
+    let last : (entry_lent c.last-entry.result) ≡ last_entry next.history = c.last-entry.ensures ∙ ap last_entry c.kernel-in-Ok-Done.ensures.history in
     let done : Step m (events.Kernel c.args.command.now) (replies.Done (last_entry next.history)) next = subst (λ (e : Executed). Step m (events.Kernel c.args.command.now) (reply_of (Ok e) (last_entry next.history)) next) c.in-Ok-Done.field-0-is c.in-Ok-Done.ensures.step in
-    let step : Step m (events.Kernel c.args.command.now) (replies.Done c.last-entry.result.now) next = subst (λ (y : Entry). Step m (events.Kernel c.args.command.now) (replies.Done y) next) (sym last) done in
-    explains_one g.P.Policy.chosen g.T.Teller.show (noted_of c.args.lines.now) m (said_line c.args.said.now) (events.Kernel c.args.command.now) (events.Kernel c.args.command.now) (replies.Done c.last-entry.result.now) next c.len-first.result (noted_of c.explain_done.new.lines) c.explain_done.new.index c.explain_done.new.last.places.items (g.T.Teller.bytes c.args.out.now) (g.T.Teller.bytes c.explain_done.new.out) c.explain_done.result
+    let step : Step m (events.Kernel c.args.command.now) (replies.Done (entry_lent c.last-entry.result)) next = subst (λ (y : Entry). Step m (events.Kernel c.args.command.now) (replies.Done y) next) (sym last) done in
+    explains_one g.P.Policy.chosen g.T.Teller.show (noted_of c.args.lines.now) m (said_line c.args.said.now) (events.Kernel c.args.command.now) (events.Kernel c.args.command.now) (replies.Done (entry_lent c.last-entry.result)) next c.len-first.result (noted_of c.explain_done.new.lines) c.explain_done.new.index c.explain_done.new.last.places.items (g.T.Teller.bytes c.args.out.now) (g.T.Teller.bytes c.explain_done.new.out) c.explain_done.result
     step c.in-Ok-Done.ensures.safe c.in-Ok-Done.ensures.faithful refl first (c.explain_done.ensures (events.Kernel c.args.command.now))
