@@ -6,7 +6,6 @@ use gs_reasons::Marks;
 use std::alloc::AllocError;
 
 /// Marks for each CPU the last transaction, among those from a place on. Those before it are marked.
-#[inline(always)]
 #[tactic(auto, using(crate::proofs::Lasting::all_marked))]
 pub(crate) fn mark_last(
     last: &mut Marks,

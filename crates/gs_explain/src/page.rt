@@ -149,14 +149,12 @@ impl Page {
         write_torn(&mut self.text, torn)
     }
 
-    /// Adds that no transaction landed, if that is so.
-    pub(crate) fn none(&mut self, landings: &[Landing]) -> Result<(), AllocError>
-        ensures { OnOk result (self.new ≡ self.old ++ none_shown landings.now) }
+    /// Adds that no transaction landed.
+    #[inline(always)]
+    pub(crate) fn nothing(&mut self) -> Result<(), AllocError>
+        ensures { OnOk result (self.new ≡ self.old ++ none_shown []) }
     {
-        if landings.is_empty() {
-            return self.text.push_str("  nothing was stamped\n");
-        }
-        Ok(())
+        self.text.push_str("  nothing was stamped\n")
     }
 
     /// Adds the entries that an event added, by how many there were before it and are behind it.

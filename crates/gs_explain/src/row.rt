@@ -109,7 +109,11 @@ fn write_committed(
     ensures shown { OnOk result (out.new ≡ out.old ++ reply_shown (moment_of scene.now) first (replies.Landed landings.now torn)) }
     ensures heard { OnOk result (HasHeard index.new scene.now.journal.now.entries) }
 {
-    out.none(landings)?;
+    if landings.is_empty() {
+        out.nothing()?;
+        hear_all(index, scene.journal, first)?;
+        return out.torn(torn);
+    }
     let fault = group_fault(scene, landings);
     let heard = write_landings(out, scene, index, &fault, first, landings)?;
     hear_all(index, scene.journal, heard)?;

@@ -246,7 +246,7 @@ fn explain_drain<'a, P: Counted + Copy, T: Teller<'a>>(
                 machine, lines, index, last, out, said, &event, first, stamped, came,
             )
         }
-        Err(refusal) => explain_other_refusal(
+        Err(refusal) => explain_refusal(
             machine, lines, index, last, out, said, &event, first, stamped, refusal,
         ),
     }
@@ -318,7 +318,7 @@ fn explain_commit<'a, P: Counted + Copy, T: Teller<'a>>(
                 machine, lines, index, last, out, said, &event, first, stamped, came,
             )
         }
-        Err(refusal) => explain_other_refusal(
+        Err(refusal) => explain_refusal(
             machine, lines, index, last, out, said, &event, first, stamped, refusal,
         ),
     }
