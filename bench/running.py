@@ -70,8 +70,8 @@ def markdown(heads, rows):
 
 
 def build(folder, names=PLAIN):
-    """Builds the plain programs into a folder: the paths of these."""
-    subprocess.run([HERE / "plain/build", folder], check=True)
+    """Builds these plain programs into a folder: their paths."""
+    subprocess.run([HERE / "plain/build", folder, *names], check=True)
     return [pathlib.Path(folder) / name for name in names]
 
 
