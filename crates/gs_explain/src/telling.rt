@@ -59,6 +59,29 @@ fn note_came<P: Counted + Copy>(
     lines.note_came(line, came, entries, transactions.len())
 }
 
+/// Notes and marks that an event of a line was refused, as [`note_came`] does. No last entry has to be unpacked here: that would take too much code
+/// for the compiler to put into a loop.
+#[inline(always)]
+fn note_refusal<P: Counted + Copy>(
+    machine: &Machine<P>,
+    lines: &mut Lines,
+    last: &mut Marks,
+    line: usize,
+    stamped: usize,
+    refusal: Refusal,
+) -> Result<(), AllocError>
+    requires within { stamped ≤ length machine.now.transactions }
+    requires marked { IsMarked last.old.places.items (take stamped machine.now.transactions) }
+    ensures lines { OnOk result (noted_of lines.new ≡ noted_after line (replies.Refused refusal) (planning P.chosen machine.now) (noted_of lines.old)) }
+    ensures marked { OnOk result (IsMarked last.new.places.items machine.now.transactions) }
+{
+    let transactions = machine.transactions();
+    mark_last(last, transactions, stamped)?;
+    let entries = machine.kernel().journal().len();
+    let reply = Reply::Refused(refusal);
+    lines.note(line, &reply, entries, transactions.len())
+}
+
 /// Adds what explains what came of an event that was not refused, by the machine that it left, and by how many entries and transactions
 /// there were before it. It fails only if out of memory, or if that tells of it.
 #[inline(always)]
@@ -130,7 +153,7 @@ fn explain_refusal<'a, P: Counted + Copy, T: Teller<'a>>(
     if came.is_short() {
         return Err(AllocError);
     }
-    note_came(machine, lines, last, said.number, stamped, came)?;
+    note_refusal(machine, lines, last, said.number, stamped, refusal)?;
     let scene = Scene::new(machine, lines, last, event);
     out.refused_row(said, &scene, index, first, refusal)
 }

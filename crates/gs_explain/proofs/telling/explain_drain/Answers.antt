@@ -27,8 +27,8 @@ returns-in-Ok g c =
     explains_one g.P.Policy.chosen g.T.Teller.show (noted_of c.args.lines.now) m (said_line c.args.said.now) (events.Drain c.args.max) (events.Drain c.args.max) (replies.Drained c.in-Ok.drained) next c.len-first.result (noted_of c.explain_came.new.lines) c.explain_came.new.index c.explain_came.new.last.places.items (g.T.Teller.bytes c.args.out.now) (g.T.Teller.bytes c.explain_came.new.out) c.explain_came.result
     step c.drain.ensures.safe c.drain.ensures.faithful refl first c.explain_came.ensures
 
-pub explain_other_refusal-requires : goal.explain_other_refusal-requires
-explain_other_refusal-requires g c = λ κs.
+pub explain_refusal-requires : goal.explain_refusal-requires
+explain_refusal-requires g c = λ κs.
     let m = planning g.P.Policy.chosen c.args.machine.now in
     let next = planning g.P.Policy.chosen c.drain.new.self in
     let first : c.len-first.result ≡ length m.history = c.len-first.ensures.value ∙ ap length (c.journal.ensures.entries ∙ c.kernel.ensures.history) in
@@ -43,5 +43,5 @@ returns-in-Err g c =
     let first : c.len-first.result ≡ length m.history = c.len-first.ensures.value ∙ ap length (c.journal.ensures.entries ∙ c.kernel.ensures.history) in
     let stamped : length c.transactions-stamped.result.now ≡ length m.transactions = ap length c.transactions-stamped.ensures in
     let step : Step m (events.Drain c.args.max) (replies.Refused c.in-Err.refusal) next = subst (λ (r : _). Step m (events.Drain c.args.max) (replied_as replies.Drained r) next) c.in-Err.is c.drain.ensures.step in
-    explains_one g.P.Policy.chosen g.T.Teller.show (noted_of c.args.lines.now) m (said_line c.args.said.now) (events.Drain c.args.max) (events.Drain c.args.max) (replies.Refused c.in-Err.refusal) next c.len-first.result (noted_of c.explain_other_refusal.new.lines) c.explain_other_refusal.new.index c.explain_other_refusal.new.last.places.items (g.T.Teller.bytes c.args.out.now) (g.T.Teller.bytes c.explain_other_refusal.new.out) c.explain_other_refusal.result
-    step c.drain.ensures.safe c.drain.ensures.faithful refl first c.explain_other_refusal.ensures
+    explains_one g.P.Policy.chosen g.T.Teller.show (noted_of c.args.lines.now) m (said_line c.args.said.now) (events.Drain c.args.max) (events.Drain c.args.max) (replies.Refused c.in-Err.refusal) next c.len-first.result (noted_of c.explain_refusal.new.lines) c.explain_refusal.new.index c.explain_refusal.new.last.places.items (g.T.Teller.bytes c.args.out.now) (g.T.Teller.bytes c.explain_refusal.new.out) c.explain_refusal.result
+    step c.drain.ensures.safe c.drain.ensures.faithful refl first c.explain_refusal.ensures

@@ -22,7 +22,7 @@ refused_row-requires g c =
           omega (arith, ap length entries, c.requires.before.entries),
           (
             subst (λ (h : History). HasHeard c.args.index.now (take c.args.first h)) (sym entries) c.requires.before.heard,
-            subst (λ (xs : List Transaction). IsMarked c.new-scene.result.last.now.places.items xs) (sym c.new-scene.ensures.transactions) (subst (λ (l : _). IsMarked l.places.items c.args.machine.now.transactions) (sym c.new-scene.ensures.last) c.in_ok-note_came.ensures.marked),
+            subst (λ (xs : List Transaction). IsMarked c.new-scene.result.last.now.places.items xs) (sym c.new-scene.ensures.transactions) (subst (λ (l : _). IsMarked l.places.items c.args.machine.now.transactions) (sym c.new-scene.ensures.last) c.in_ok-note_refusal.ensures.marked),
           ),
         ),
       ),
@@ -31,5 +31,5 @@ refused_row-requires g c =
 pub returns : goal.returns
 returns g c =
     let next = planning g.P.Policy.chosen c.args.machine.now in
-    tells_one g.T.Teller.show (noted_of c.args.lines.now) c.args.first (said_line c.args.said.now) c.args.event.now (replies.Refused c.args.refusal) next (noted_of c.note_came.new.lines) c.refused_row.new.index c.note_came.new.last.places.items (g.T.Teller.bytes c.args.out.now) (g.T.Teller.bytes c.refused_row.new.self) (moment_of c.new-scene.result) c.new-scene.result.journal.now.entries c.refused_row.result
-    (ap (λ (b : Bool). b || false) (sym c.is_short.ensures ∙ c.if-is_short.false)) c.in_ok-note_came.ensures.lines c.new-scene.ensures.moment c.new-scene.ensures.journal c.in_ok-note_came.ensures.marked c.refused_row.ensures.shown c.refused_row.ensures.heard
+    tells_one g.T.Teller.show (noted_of c.args.lines.now) c.args.first (said_line c.args.said.now) c.args.event.now (replies.Refused c.args.refusal) next (noted_of c.note_refusal.new.lines) c.refused_row.new.index c.note_refusal.new.last.places.items (g.T.Teller.bytes c.args.out.now) (g.T.Teller.bytes c.refused_row.new.self) (moment_of c.new-scene.result) c.new-scene.result.journal.now.entries c.refused_row.result
+    (ap (λ (b : Bool). b || false) (sym c.is_short.ensures ∙ c.if-is_short.false)) c.in_ok-note_refusal.ensures.lines c.new-scene.ensures.moment c.new-scene.ensures.journal c.in_ok-note_refusal.ensures.marked c.refused_row.ensures.shown c.refused_row.ensures.heard
