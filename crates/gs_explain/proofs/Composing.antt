@@ -149,7 +149,7 @@ regroup_short : (f d q r s t e : List ℕ) → (((((f ++ (d ++ q)) ++ r) ++ (q +
 regroup_short f d q r s t e = simp append_assoc
 
 -- a reply of one line of which no byte is escaped
-only_reply : (reply : List ℕ) → PlainBetween reply 0 (length reply) → replies_pieces (reply ++ 10 ∷ []) ≡ (34 ∷ []) ++ (reply ++ (34 ∷ []))
+pub only_reply : (reply : List ℕ) → PlainBetween reply 0 (length reply) → replies_pieces (reply ++ 10 ∷ []) ≡ (34 ∷ []) ++ (reply ++ (34 ∷ []))
 only_reply reply plain = ap (λ (ls : List (List ℕ)). between_commas (map string ls)) (one_line reply plain) ∙ (append-nil (quoted reply) ∙ plain_quoted reply plain)
 
 pub whole_short : (said : ℕ × List ℕ) (first count : ℕ) (lines reply whys : List ℕ) → PlainBetween said.1 0 (length said.1) → PlainBetween reply 0 (length reply) → lines ≡ reply ++ 10 ∷ [] → short_pieces said first count reply whys ≡ object_pieces said first count lines whys

@@ -1,5 +1,5 @@
 -- Objects of events, one more of them, and a text that grows.
-use Rattle.std.proofs.Common.{◌≡◌, ◌∙◌, refl, true, sym, ap, subst, ◌<◌, ◌≤◌, ◌+◌, ◌-◌, ℕ, zero, suc, Option, List, [], ◌∷◌, ◌++◌, append-nil, arith, drop, get_or, length, add-one, drop-cons}
+use Rattle.std.proofs.Common.{rules, false, ◌≡◌, ◌∙◌, refl, true, sym, ap, subst, ◌<◌, ◌≤◌, ◌+◌, ◌-◌, ℕ, zero, suc, Option, List, [], ◌∷◌, ◌++◌, append-nil, arith, drop, get_or, length, add-one, drop-cons}
 use Rattle.std.specs.List.{All}
 use Rattle.std.specs.Str.{IsUtf8}
 use Rattle.std.proofs.Math.ListN.{drop_of_length-le}
@@ -12,38 +12,71 @@ use Rattle.gs_sentences.specs.Parts.{part}
 use Rattle.gs_explain.specs.declared.outline.Outline.{Outline}
 use Rattle.gs_explain.specs.Composed.{behind_commas, object_pieces}
 use Rattle.gs_explain.specs.Retold.{Leads}
-use Rattle.gs_explain.specs.Outlined.{Grows, HasParts, IsOutlined, outline_text, outlines_text}
+use Rattle.gs_explain.specs.Outlined.{Grows, HasParts, IsKept, IsOutlined, Notes, NotesRefusal, outline_text, outlines_text, told_object}
+use Rattle.gs_explain.specs.declared.outline.Told.{Told}
+use Rattle.gs_explain.specs.declared.outline.Told.TheVariants as tolds
+use Rattle.gs_layout.specs.declared.refusal.Refusal.{Refusal}
+use Rattle.gs_replies.specs.declared.reply.Reply.TheVariants as replies
+use Rattle.gs_sentences.specs.Refused.{refused_text}
+use Rattle.gs_sentences.specs.Tails.{IsTail, is_part}
+use Rattle.gs_sentences.specs.declared.tail.Tail.{Tail}
+use Rattle.gs_explain.specs.Moment.{Moment}
+use Rattle.gs_explain.specs.Refusals.{why_refused}
+use Rattle.gs_explain.specs.Tailed.{at_of, tail_refusal}
+use Rattle.gs_explain.proofs.Tailing.{not_part, refused_row}
 use Rattle.std.specs.Str.Lines.{lines as lines_in}
 use Rattle.serde_json.specs.Written.{compact_text}
 use Rattle.gs_lines.specs.Lines.{line}
 use Rattle.gs_script.specs.Words.{is_text}
-use Rattle.gs_explain.specs.Objects.{row_data}
+use Rattle.gs_explain.specs.Objects.{object_row, row_data}
 use Rattle.gs_explain.proofs.Composing.{whole_object}
 use Rattle.gs_explain.proofs.Retelling.{part_more}
 use Rattle.gs_explain.proofs.RowsAgain.{part_behind}
 
--- what was told stands in a text that grows, too
-pub parts_grown : (o : Outline) (text more : List ℕ) → IsOutlined text o → HasParts (text ++ more) o (part o.from o.mid text) (part o.mid o.to text)
-parts_grown o text more is =
-    (part_more o.from o.mid text more (omega (arith, is.begins, is.ends, is.within)) (omega (arith, is.ends, is.within)), part_more o.mid o.to text more (omega (arith, is.ends, is.within)) is.within)
+-- what a text has stands in one that grows, too
+part_grown : (from mid to : ℕ) (text more : List ℕ) → from ≤ mid → mid ≤ to → to ≤ length text → (part from mid (text ++ more) ≡ part from mid text) × (part mid to (text ++ more) ≡ part mid to text)
+part_grown from mid to text more begins ends within = (part_more from mid text more (omega arith) (omega arith), part_more mid to text more (omega arith) within)
+
+parts_grown : (count from lines whys : ℕ) (text more : List ℕ) → IsKept text (tolds.Parts count from lines whys) → (part from (from + lines) (text ++ more) ≡ part from (from + lines) text) × (part (from + lines) (from + lines + whys) (text ++ more) ≡ part (from + lines) (from + lines + whys) text)
+parts_grown count from lines whys text more is = part_grown from (from + lines) (from + lines + whys) text more (omega arith) (omega arith) is.within
+
+-- what is told of an event is that
+pub has_parts : (text : List ℕ) (t : Told) (count from lines whys : ℕ) → IsKept text t → t ≡ tolds.Parts count from lines whys → HasParts text from (from + lines) (from + lines + whys)
+has_parts text t count from lines whys is e = subst (IsKept text) e is
+
+pub is_refused : (text : List ℕ) (t : Told) (where_at : Option (ℕ × ℕ)) (tail : Tail) → IsKept text t → t ≡ tolds.Refused where_at tail → is_part tail ≡ false
+is_refused text t where_at tail is e = subst (IsKept text) e is
+
+-- an object has some bytes
+some_told : (t : Told) (said : ℕ × List ℕ) (first : ℕ) (text : List ℕ) → 0 < length (told_object said first text t)
+some_told (tolds.Parts count from lines whys) said first text = search rules
+some_told (tolds.Refused where_at t) said first text = search rules
+
+pub some_object : (text : List ℕ) (o : Outline) → 0 < length (outline_text text o)
+some_object text o = some_told o.told (o.number, o.line.now) o.first text
 
 -- an object that is put together of such a text is the same
-one_more : (o : Outline) (text more : List ℕ) → IsOutlined text o → outline_text (text ++ more) o ≡ outline_text text o
-one_more o text more is =
-    let same = parts_grown o text more is in
-    λ i. object_pieces (o.number, o.line.now) o.first o.count (same.0 i) (same.1 i)
+same_told : (t : Told) (said : ℕ × List ℕ) (first : ℕ) (text more : List ℕ) → IsKept text t → told_object said first (text ++ more) t ≡ told_object said first text t
+same_told (tolds.Parts count from lines whys) said first text more is =
+    let same = parts_grown count from lines whys text more is in
+    λ i. object_pieces said first count (same.0 i) (same.1 i)
+same_told (tolds.Refused where_at t) said first text more is = refl
 
-pub still : (o : Outline) (text more : List ℕ) → IsOutlined text o → IsOutlined (text ++ more) o
-still o text more is =
-    let same = parts_grown o text more is in
+one_more : (o : Outline) (text more : List ℕ) → IsOutlined text o → outline_text (text ++ more) o ≡ outline_text text o
+one_more o text more is = same_told o.told (o.number, o.line.now) o.first text more is.told
+
+still_kept : (t : Told) (text more : List ℕ) → IsKept text t → IsKept (text ++ more) t
+still_kept (tolds.Parts count from lines whys) text more is =
+    let same = parts_grown count from lines whys text more is in
     record {
-      begins = is.begins;
-      ends = is.ends;
       within = omega (arith, is.within, length-append text more);
-      line = is.line;
       lines = subst IsUtf8 (sym same.0) is.lines;
       whys = subst (λ (t : List ℕ). IsUtf8 (drop 1 t)) (sym same.1) is.whys;
     }
+still_kept (tolds.Refused where_at t) text more is = is
+
+still : (o : Outline) (text more : List ℕ) → IsOutlined text o → IsOutlined (text ++ more) o
+still o text more is = record { line = is.line; told = still_kept o.told text more is.told }
 
 all_same : (os : List Outline) (text more : List ℕ) → All (IsOutlined text) os → outlines_text (text ++ more) os ≡ outlines_text text os
 all_same [] text more all = refl
@@ -69,7 +102,7 @@ outlined_grown os old new (more, e) all = λ k d lt. subst (λ (t : List ℕ). I
 
 -- an event, for where none is
 abbrev pub nothing : Outline
-nothing = record { line = record { ref_ptr = (0, 0); now = [] }; number = 0; first = 0; count = 0; from = 0; mid = 0; to = 0 }
+nothing = record { line = record { ref_ptr = (0, 0); now = [] }; number = 0; first = 0; told = tolds.Parts 0 0 0 0 }
 
 -- the object that is put together next, and the rest
 pub leads_object : (a b : Option (List ℕ)) (whole block text : List ℕ) (os : List Outline) (i : ℕ) (d : Outline) → i < length os → Leads a whole b (block ++ outlines_text text (drop i os))
@@ -102,36 +135,55 @@ parts old lines whys =
     (part_more (length old) (length (old ++ lines)) (old ++ lines) whys (omega arith) (omega arith) ∙ part_behind old lines (length old) (length (old ++ lines)) refl size, part_behind (old ++ lines) whys (length (old ++ lines)) (length ((old ++ lines) ++ whys)) refl more)
 
 -- what two parts are of that were added to a text
-module _ (o : Outline) (old mid new lines : List ℕ) (why : List Data) (from : o.from ≡ length old) (middle : o.mid ≡ length mid) (to : o.to ≡ length new) (first_part : mid ≡ old ++ lines) (last_part : new ≡ mid ++ behind_commas why) where
+module _ (o : Outline) (old mid new lines : List ℕ) (why : List Data) (said : ℕ × List ℕ) (first end begin middle to : ℕ) (noted : Notes said first (end - first) begin middle to o) (from_at : begin ≡ length old) (at : middle ≡ length mid) (to_end : to ≡ length new) (first_part : mid ≡ old ++ lines) (last_part : new ≡ mid ++ behind_commas why) where
   both_parts : new ≡ (old ++ lines) ++ behind_commas why
   both_parts = last_part ∙ ap (λ (t : List ℕ). t ++ behind_commas why) first_part
 
-  mid_at : o.mid ≡ length (old ++ lines)
-  mid_at = middle ∙ ap length first_part
+  mid_at : middle ≡ length (old ++ lines)
+  mid_at = at ∙ ap length first_part
 
-  to_at : o.to ≡ length ((old ++ lines) ++ behind_commas why)
-  to_at = to ∙ ap length both_parts
+  to_at : to ≡ length ((old ++ lines) ++ behind_commas why)
+  to_at = to_end ∙ ap length both_parts
 
-  lines_part : part o.from o.mid new ≡ lines
-  lines_part = (λ i. part (from i) (mid_at i) (both_parts i)) ∙ (parts old lines (behind_commas why)).0
+  begins : begin + (middle - begin) ≡ middle
+  begins = omega (arith, from_at, mid_at, length-append old lines)
 
-  whys_part : part o.mid o.to new ≡ behind_commas why
-  whys_part = (λ i. part (mid_at i) (to_at i) (both_parts i)) ∙ (parts old lines (behind_commas why)).1
+  ends : begin + (middle - begin) + (to - middle) ≡ to
+  ends = omega (arith, from_at, mid_at, to_at, length-append old lines, length-append (old ++ lines) (behind_commas why))
 
-  pub has_parts : HasParts new o lines (behind_commas why)
-  has_parts = (lines_part, whys_part)
+  lines_part : part begin (begin + (middle - begin)) new ≡ lines
+  lines_part = (λ i. part (from_at i) ((begins ∙ mid_at) i) (both_parts i)) ∙ (parts old lines (behind_commas why)).0
 
-  pub are_outlined : is_text o.line.now ≡ true → IsUtf8 old → IsUtf8 mid → IsUtf8 new → IsOutlined new o
-  are_outlined line u v w =
+  whys_part : part (begin + (middle - begin)) (begin + (middle - begin) + (to - middle)) new ≡ behind_commas why
+  whys_part = (λ i. part ((begins ∙ mid_at) i) ((ends ∙ to_at) i) (both_parts i)) ∙ (parts old lines (behind_commas why)).1
+
+  are_kept : IsUtf8 old → IsUtf8 mid → IsUtf8 new → IsKept new (tolds.Parts (end - first) begin (middle - begin) (to - middle))
+  are_kept u v w =
       record {
-        begins = omega (arith, from, mid_at, length-append old lines);
-        ends = omega (arith, mid_at, to_at, length-append (old ++ lines) (behind_commas why));
-        within = omega (arith, to);
-        line = line;
+        within = omega (arith, ends, to_end);
         lines = subst IsUtf8 (sym lines_part) (utf8_behind old lines u (subst IsUtf8 first_part v));
         whys = subst (λ (t : List ℕ). IsUtf8 (drop 1 t)) (sym whys_part) (utf8_commas why (utf8_behind mid (behind_commas why) v (subst IsUtf8 last_part w)));
       }
 
-  pub told_outline : (said : ℕ × List ℕ) (first end : ℕ) → (o.number, o.line.now) ≡ said → o.first ≡ first → o.count ≡ end - first → outline_text new o ≡ line (compact_text (row_data said first end (lines_in lines) why))
-  told_outline said first end is at counted =
-      (λ i. object_pieces (is i) (at i) (counted i) (lines_part i) (whys_part i)) ∙ whole_object said first end lines why
+  pub are_outlined : is_text said.1 ≡ true → IsUtf8 old → IsUtf8 mid → IsUtf8 new → IsOutlined new o
+  are_outlined line u v w =
+      record {
+        line = subst (λ (p : ℕ × List ℕ). is_text p.1 ≡ true) (sym noted.said) line;
+        told = subst (IsKept new) (sym noted.told) (are_kept u v w);
+      }
+
+  pub told_outline : outline_text new o ≡ line (compact_text (row_data said first end (lines_in lines) why))
+  told_outline =
+      (λ i. told_object (noted.said i) (noted.first i) new (noted.told i)) ∙ ((λ i. object_pieces said first (end - first) (lines_part i) (whys_part i)) ∙ whole_object said first end lines why)
+
+-- an event that was refused is outlined by its numbers, whatever text there is
+pub refused_outlined : (o : Outline) (said : ℕ × List ℕ) (where_at : Option (ℕ × ℕ)) (t : Tail) (x : Moment) (f : Refusal) → NotesRefusal said (length x.history) where_at t o → tail_refusal t ≡ f → IsTail t f (refused_text (why_refused x f)) → where_at ≡ at_of (why_refused x f).cause
+    → (text : List ℕ) → outline_text text o ≡ object_row said x (length x.history) (replies.Refused f)
+refused_outlined o said where_at t x f noted same tail at text = (λ i. told_object (noted.said i) (noted.first i) text (noted.told i)) ∙ refused_row t where_at x f said same tail at
+
+pub refused_stands : (o : Outline) (said : ℕ × List ℕ) (first : ℕ) (where_at : Option (ℕ × ℕ)) (t : Tail) (f : Refusal) (why : List ℕ) → NotesRefusal said first where_at t o → IsTail t f why → is_text said.1 ≡ true → (text : List ℕ) → IsOutlined text o
+refused_stands o said first where_at t f why noted tail line text =
+    record {
+      line = subst (λ (p : ℕ × List ℕ). is_text p.1 ≡ true) (sym noted.said) line;
+      told = subst (IsKept text) (sym noted.told) (not_part t f why tail);
+    }

@@ -8,8 +8,9 @@ pub mod Commands
 pub mod Rows
 pub mod Objects
 pub mod Composed
+pub mod Tailed
+pub mod Stenciled
 pub mod Outlined
-pub mod Grounds
 pub mod Explained
 pub mod Telling
 pub mod Met

@@ -1,15 +1,24 @@
 -- Objects that are put together at the end.
-use Rattle.std.specs.Prelude.{◌≡◌, ◌≤◌, true, ℕ, List, ◌++◌, drop, length}
+use Rattle.std.specs.Prelude.{◌≡◌, ◌≤◌, ◌+◌, ◌-◌, true, false, ℕ, Option, List, ◌++◌, drop, length}
 use Rattle.std.specs.List.{flat_map}
 use Rattle.std.specs.Str.{IsUtf8}
 use Rattle.gs_script.specs.Words.{is_text}
 use Rattle.gs_sentences.specs.Parts.{part}
+use Rattle.gs_sentences.specs.Tails.{is_part}
+use Rattle.gs_sentences.specs.declared.tail.Tail.{Tail}
 use Rattle.gs_explain.specs.Composed.{object_pieces}
+use Rattle.gs_explain.specs.Tailed.{refused_object}
 use Rattle.gs_explain.specs.declared.outline.Outline.{Outline}
+use Rattle.gs_explain.specs.declared.outline.Told.{Told}
+use Rattle.gs_explain.specs.declared.outline.Told.TheVariants as tolds
 
--- the object of an event, of which a text has the lines of the reply and the reasons
+-- the object of an event, of which a text has the lines of the reply and the reasons, unless it was refused and is told by numbers
+abbrev pub told_object : ℕ × List ℕ → ℕ → List ℕ → Told → List ℕ
+told_object said first text (tolds.Parts count from lines whys) = object_pieces said first count (part from (from + lines) text) (part (from + lines) (from + lines + whys) text)
+told_object said first text (tolds.Refused where_at t) = refused_object said first where_at t
+
 abbrev pub outline_text : List ℕ → Outline → List ℕ
-outline_text text o = object_pieces (o.number, o.line.now) o.first o.count (part o.from o.mid text) (part o.mid o.to text)
+outline_text text o = told_object (o.number, o.line.now) o.first text o.told
 
 -- the objects of events
 abbrev pub outlines_text : List ℕ → List Outline → List ℕ
@@ -19,23 +28,29 @@ outlines_text text os = flat_map (outline_text text) os
 pub record Notes (line : ℕ × List ℕ) (place added begin middle end : ℕ) (o : Outline) : Type 0 where
   pub said : (o.number, o.line.now) ≡ line
   pub first : o.first ≡ place
-  pub count : o.count ≡ added
-  pub from : o.from ≡ begin
-  pub mid : o.mid ≡ middle
-  pub to : o.to ≡ end
+  pub told : o.told ≡ tolds.Parts added begin (middle - begin) (end - middle)
 
--- a text has what was told of an event: the lines of its reply, and its reasons
-abbrev pub HasParts : List ℕ → Outline → List ℕ → List ℕ → Type 0
-HasParts text o lines whys = (part o.from o.mid text ≡ lines) × (part o.mid o.to text ≡ whys)
+-- an event that was refused is noted so
+pub record NotesRefusal (line : ℕ × List ℕ) (place : ℕ) (where_at : Option (ℕ × ℕ)) (t : Tail) (o : Outline) : Type 0 where
+  pub said : (o.number, o.line.now) ≡ line
+  pub first : o.first ≡ place
+  pub told : o.told ≡ tolds.Refused where_at t
+
+-- a text has the lines of a reply from a place on, and reasons behind them
+pub record HasParts (text : List ℕ) (from mid to : ℕ) : Type 0 where
+  pub within : to ≤ length text
+  pub lines : IsUtf8 (part from mid text)
+  pub whys : IsUtf8 (drop 1 (part mid to text))
+
+-- a text has what is told of an event there, or numbers tell it
+abbrev pub IsKept : List ℕ → Told → Type 0
+IsKept text (tolds.Parts count from lines whys) = HasParts text from (from + lines) (from + lines + whys)
+IsKept text (tolds.Refused where_at t) = is_part t ≡ false
 
 -- what an object is put together of is text
 pub record IsOutlined (text : List ℕ) (o : Outline) : Type 0 where
-  pub begins : o.from ≤ o.mid
-  pub ends : o.mid ≤ o.to
-  pub within : o.to ≤ length text
   pub line : is_text o.line.now ≡ true
-  pub lines : IsUtf8 (part o.from o.mid text)
-  pub whys : IsUtf8 (drop 1 (part o.mid o.to text))
+  pub told : IsKept text o.told
 
 -- a text has the same beginning, and more
 abbrev pub Grows : List ℕ → List ℕ → Type 0

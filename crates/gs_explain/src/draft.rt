@@ -27,7 +27,7 @@ use std::marker::Model;
 
 /// The name of a refusal.
 #[tactic(auto, unfolding(crate::specs::Objects::refusal_word))]
-fn refusal_word(refusal: Refusal) -> &'static str
+pub(crate) fn refusal_word(refusal: Refusal) -> &'static str
     ensures { result.now ≡ refusal_word refusal }
 {
     match refusal {
@@ -80,7 +80,7 @@ fn reason_cause<'a>(reason: &Reason<'a>) -> Option<Cause<'a>>
 }
 
 /// Returns the place of an entry that is a reason.
-pub(crate) fn place_of_cause(cause: &Option<Cause<'_>>) -> Option<usize>
+fn place_of_cause(cause: &Option<Cause<'_>>) -> Option<usize>
     ensures { result ≡ place_of_cause (causes_given cause.now) }
 {
     match cause {
@@ -90,7 +90,7 @@ pub(crate) fn place_of_cause(cause: &Option<Cause<'_>>) -> Option<usize>
 }
 
 /// Returns the line that added an entry that is a reason.
-pub(crate) fn line_of_cause(cause: &Option<Cause<'_>>) -> Option<usize>
+fn line_of_cause(cause: &Option<Cause<'_>>) -> Option<usize>
     ensures { result ≡ line_of_cause (causes_given cause.now) }
 {
     match cause {

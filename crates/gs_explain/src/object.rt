@@ -153,7 +153,7 @@ fn push_short(
 
 /// Adds the object of an event in a line of its own: by its line, its entries, the lines of its reply, and its reasons, which
 /// stand behind commas. It fails only if out of memory.
-#[inline(always)]
+#[inline(never)]
 pub(crate) fn push_object(
     alloc: Global,
     out: &mut Text,

@@ -1,6 +1,6 @@
 //! What explains a script, as a JSON object for each event.
 
-ghost use Rattle.std.specs.Prelude.{◌≡◌, ◌≤◌, ◌++◌, [], IfOk, IfSome, Ok, OnErr, OnOk, length, take, true};
+ghost use Rattle.std.specs.Prelude.{◌≡◌, ◌≤◌, ◌++◌, [], ℕ, false, IfOk, IfSome, List, Ok, OnErr, OnOk, length, take, true};
 ghost use Rattle.std.specs.Io.KnownBytes.{Appends};
 ghost use Rattle.std.specs.List.{All};
 ghost use Rattle.gs_journal.specs.Last.{entry_lent};
@@ -9,18 +9,19 @@ ghost use Rattle.gs_replies.specs.declared.reply.Reply.TheVariants as replies;
 ghost use Rattle.gs_script.specs.Unread.{said_line};
 ghost use Rattle.gs_script.specs.Words.{is_text};
 ghost use Rattle.gs_trace.specs.Came.{reply_in};
-ghost use Rattle.gs_explain.specs.Grounds.{IsGround};
 ghost use Rattle.gs_explain.specs.Marked.{IsMarked};
 ghost use Rattle.gs_explain.specs.Moment.{moment_of};
 ghost use Rattle.gs_explain.specs.Objects.{done_object, object_row};
 ghost use Rattle.gs_explain.specs.Outlined.{IsOutlined, outline_text, outlines_text};
 ghost use Rattle.gs_explain.specs.Retold.{IsBegun, Moves};
+ghost use Rattle.gs_explain.specs.Stenciled.{IsStencil};
 
 use crate::draft::Draft;
-use crate::ground::{Again, Ground, again_by, ground_of, told_again};
 use crate::moment::Scene;
 use crate::object::push_object;
-use crate::outline::{Outline, outlined, outlined_done};
+use crate::outline::{Outline, Told, outlined, outlined_done};
+use crate::stencil::Stencil;
+use crate::tail::tail_of;
 use crate::teller::Teller;
 use gs_journal::{Journal, LastEntry};
 use gs_layout::Refusal;
@@ -39,29 +40,42 @@ const BLOCK_LEN: usize = 61_440;
 /// Most objects have fewer bytes than so many.
 const OBJECT_LEN: usize = 4_096;
 
-/// Adds the object of an event, of which a text has the lines of the reply and the reasons.
+/// Adds the object of an event, of which a text has the lines of the reply and the reasons, or which was refused.
 #[inline(always)]
+#[tactic(auto, using(crate::proofs::Outlining::has_parts, crate::proofs::Outlining::is_refused))]
 fn push_outline(
     alloc: Global,
     out: &mut Text,
+    stencil: &mut Stencil,
     text: &[u8],
     outline: &Outline<'_>,
 ) -> Result<(), AllocError>
-    requires { IsOutlined text.now outline.now }
-    ensures { OnOk result (out.new ≡ out.old ++ outline_text text.now outline.now) }
+    requires outlined { IsOutlined text.now outline.now }
+    requires stencil { IsStencil stencil.old }
+    ensures shown { OnOk result (out.new ≡ out.old ++ outline_text text.now outline.now) }
+    ensures kept { OnOk result (IsStencil stencil.new) }
 {
     let Outline {
         line,
         number,
         first,
-        count,
-        from,
-        mid,
-        to,
+        told,
     } = *outline;
-    let lines = &text[from..mid];
-    let whys = &text[mid..to];
-    push_object(alloc, out, number, line, first, count, lines, whys)
+    match told {
+        Told::Parts {
+            count,
+            from,
+            lines,
+            whys,
+        } => {
+            let mid = from + lines as usize;
+            let to = mid + whys as usize;
+            let lines = &text[from..mid];
+            let whys = &text[mid..to];
+            push_object(alloc, out, number, line, first, count, lines, whys)
+        }
+        Told::Refused { at, tail } => stencil.push(alloc, out, number, line, first, at, &tail),
+    }
 }
 
 /// Makes an empty block, with room for all that it mostly has before it is written.
@@ -85,18 +99,22 @@ fn send<W: Write>(block: &mut Text, writer: &mut W) -> Result<(), WriteFailed>
 
 /// Adds the object of an event to a block, and writes that if it is full then.
 #[inline(always)]
+#[tactic(auto, using(crate::proofs::Outlining::some_object))]
 fn add_object<W: Write>(
     alloc: Global,
     block: &mut Text,
     writer: &mut W,
+    stencil: &mut Stencil,
     text: &[u8],
     outline: &Outline<'_>,
 ) -> Result<(), WriteFailed>
-    requires { IsOutlined text.now outline.now }
+    requires outlined { IsOutlined text.now outline.now }
+    requires stencil { IsStencil stencil.old }
+    ensures kept { OnOk result (IsStencil stencil.new) }
     ensures moved { OnOk result (Moves (W.contents writer.old) block.old (outline_text text.now outline.now) (W.contents writer.new) block.new) }
     ensures begun { OnErr result (IsBegun (W.contents writer.old) (W.contents writer.new) (block.old ++ outline_text text.now outline.now)) }
 {
-    push_outline(alloc, block, text, outline)?;
+    push_outline(alloc, block, stencil, text, outline)?;
     if BLOCK_LEN < block.len() {
         send(block, writer)?;
     }
@@ -117,8 +135,9 @@ fn write_objects<W: Write>(
     ensures begun { OnErr result (IsBegun (W.contents writer.old) (W.contents writer.new) (outlines_text text.now outlines.now)) }
 {
     let mut block = block;
+    let mut stencil = Stencil::new(alloc);
     for outline in outlines {
-        add_object(alloc, &mut block, writer, text, outline)?;
+        add_object(alloc, &mut block, writer, &mut stencil, text, outline)?;
     }
     send(&mut block, writer)
 }
@@ -129,24 +148,37 @@ pub(crate) struct Objects<'a> {
     alloc: Global,
     draft: Draft,
     outlines: Vec<Outline<'a>>,
-    /// The last event that was refused, which is told again if the next one is refused on the same ground.
-    again: Option<Again<'a>>,
 }
 
 impl<'a> Model for Objects<'a> {
     ghost use Rattle.std.specs.List.{All};
     ghost use Rattle.std.specs.Prelude.{List, ℕ};
-    ghost use Rattle.gs_explain.specs.Grounds.{IsAgainIf};
     ghost use Rattle.gs_explain.specs.Outlined.{IsOutlined, outlines_text};
 
     ghost Value = { List ℕ };
 
     ghost view = { λ o. outlines_text o.draft o.outlines.items };
 
-    ghost invariant = { λ o. record {
-      outlined : All (IsOutlined o.draft) o.outlines.items;
-      again : IsAgainIf o.draft o.again;
-    } };
+    ghost invariant = { λ o. All (IsOutlined o.draft) o.outlines.items };
+}
+
+/// Returns an event that was refused, to be told at the end by numbers, or `None` if it does not fit. An index has heard all entries,
+/// and the event added none.
+#[inline(always)]
+fn refused_outline<'a>(
+    said: &SaidLine<'a>,
+    scene: &Scene<'_>,
+    index: &Index,
+    refusal: Refusal,
+) -> Option<Outline<'a>>
+    requires text { is_text said.now.bytes.now ≡ true }
+    requires heard { HasHeard index.now scene.now.journal.now.entries }
+    requires marked { IsMarked scene.now.last.now.places.items scene.now.transactions.now }
+    ensures told { IfSome result (λ o. (text : List ℕ) → outline_text text o ≡ object_row (said_line said.now) (moment_of scene.now) (length scene.now.journal.now.entries) (replies.Refused refusal)) }
+    ensures stands { IfSome result (λ o. (text : List ℕ) → IsOutlined text o) }
+{
+    let (tail, at) = tail_of(scene, index, refusal)?;
+    Outline::refused(said, scene.journal.len(), at, tail)
 }
 
 impl<'a> Objects<'a> {
@@ -158,7 +190,6 @@ impl<'a> Objects<'a> {
             alloc,
             draft: Draft::new(alloc),
             outlines: Vec::new(alloc),
-            again: None,
         }
     }
 
@@ -207,7 +238,6 @@ impl<'a> Objects<'a> {
             }
             Err(error) => {
                 self.outlines.clear();
-                self.again = None;
                 Err(error)
             }
         }
@@ -236,7 +266,6 @@ impl<'a> Objects<'a> {
             }
             Err(error) => {
                 self.outlines.clear();
-                self.again = None;
                 Err(error)
             }
         }
@@ -262,70 +291,28 @@ impl<'a> Objects<'a> {
         self.add(said, scene, index, first, came)
     }
 
-    /// Adds an event that was refused, and keeps it, so that the next one can be told again. It added no entry, and so many stand
-    /// before it.
-    #[inline(never)]
-    fn add_anew(
-        &mut self,
-        said: &SaidLine<'a>,
-        scene: &Scene<'_>,
-        index: &mut Index,
-        first: usize,
-        refusal: Refusal,
-        ground: Option<Ground>,
-    ) -> Result<(), AllocError>
-        requires text { is_text said.now.bytes.now ≡ true }
-        requires within { first ≤ length scene.now.journal.now.entries }
-        requires heard { HasHeard index.old (take first scene.now.journal.now.entries) }
-        requires marked { IsMarked scene.now.last.now.places.items scene.now.transactions.now }
-        requires ground { IfSome ground (IsGround (moment_of scene.now) refusal) }
-        ensures shown { OnOk result (self.new ≡ self.old ++ object_row (said_line said.now) (moment_of scene.now) first (replies.Refused refusal)) }
-        ensures heard { OnOk result (HasHeard index.new scene.now.journal.now.entries) }
-    {
-        match outlined(
-            &mut self.draft,
-            said,
-            scene,
-            index,
-            first,
-            Came::Refused(refusal),
-        ) {
-            Ok(outline) => {
-                self.again = again_by(ground, outline);
-                self.outlines.push(outline)?;
-                Ok(())
-            }
-            Err(error) => {
-                self.outlines.clear();
-                self.again = None;
-                Err(error)
-            }
-        }
-    }
-
-    /// Adds an event that was refused and added no entry. An index has heard all.
-    #[inline(never)]
+    /// Adds an event that was refused, to be told at the end by numbers, and returns whether that could be. An index has heard all
+    /// entries, and the event added none.
+    #[inline(always)]
     fn add_refused(
         &mut self,
         said: &SaidLine<'a>,
         scene: &Scene<'_>,
-        index: &mut Index,
+        index: &Index,
         refusal: Refusal,
-    ) -> Result<(), AllocError>
+    ) -> Result<bool, AllocError>
         requires text { is_text said.now.bytes.now ≡ true }
-        requires heard { HasHeard index.old scene.now.journal.now.entries }
+        requires heard { HasHeard index.now scene.now.journal.now.entries }
         requires marked { IsMarked scene.now.last.now.places.items scene.now.transactions.now }
-        ensures shown { OnOk result (self.new ≡ self.old ++ object_row (said_line said.now) (moment_of scene.now) (length scene.now.journal.now.entries) (replies.Refused refusal)) }
-        ensures heard { OnOk result (HasHeard index.new scene.now.journal.now.entries) }
+        ensures told { IfOk result (λ b. b ≡ true → self.new ≡ self.old ++ object_row (said_line said.now) (moment_of scene.now) (length scene.now.journal.now.entries) (replies.Refused refusal)) }
+        ensures same { IfOk result (λ b. b ≡ false → self.new ≡ self.old) }
     {
-        let first = scene.journal.len();
-        let ground = ground_of(scene, index, refusal);
-        match told_again(&self.again, &ground, said, first)? {
+        match refused_outline(said, scene, index, refusal) {
             Some(outline) => {
                 self.outlines.push(outline)?;
-                Ok(())
+                Ok(true)
             }
-            None => self.add_anew(said, scene, index, first, refusal, ground),
+            None => Ok(false),
         }
     }
 }
@@ -368,9 +355,14 @@ impl<'a> Teller<'a> for Objects<'a> {
         first: usize,
         refusal: Refusal,
     ) -> Result<(), AllocError> {
-        if scene.journal.len() == first {
-            return self.add_refused(said, scene, index, refusal);
+        if scene.journal.len() == first && self.add_refused(said, scene, index, refusal)? {
+            return Ok(());
         }
-        self.add_other(said, scene, index, first, Came::Refused(refusal))
+        let event = *scene.event;
+        let scene = Scene {
+            event: &event,
+            ..*scene
+        };
+        self.add_other(said, &scene, index, first, Came::Refused(refusal))
     }
 }

@@ -1,19 +1,15 @@
 //! An event whose object is put together at the end.
 
-ghost use Rattle.std.specs.Prelude.{◌≡◌, ◌≤◌, ◌++◌, ◌-◌, IfOk, OnOk, length, take, true};
-ghost use Rattle.std.specs.Str.{IsUtf8};
-ghost use Rattle.gs_lines.specs.Lines.{reply_lines};
+ghost use Rattle.std.specs.Prelude.{◌≡◌, ◌≤◌, ◌++◌, ◌-◌, IfOk, IfSome, OnOk, length, take, true};
 ghost use Rattle.gs_journal.specs.Last.{entry_lent};
 ghost use Rattle.gs_reasons.specs.Kept.{HasHeard};
-ghost use Rattle.gs_replies.specs.declared.reply.Reply.TheVariants as replies;
 ghost use Rattle.gs_script.specs.Unread.{said_line};
 ghost use Rattle.gs_script.specs.Words.{is_text};
 ghost use Rattle.gs_trace.specs.Came.{reply_in};
-ghost use Rattle.gs_explain.specs.Composed.{behind_commas};
 ghost use Rattle.gs_explain.specs.Marked.{IsMarked};
 ghost use Rattle.gs_explain.specs.Moment.{moment_of};
-ghost use Rattle.gs_explain.specs.Objects.{done_object, object_row, whys};
-ghost use Rattle.gs_explain.specs.Outlined.{Grows, HasParts, IsOutlined, Notes, outline_text};
+ghost use Rattle.gs_explain.specs.Objects.{done_object, object_row};
+ghost use Rattle.gs_explain.specs.Outlined.{Grows, IsOutlined, Notes, NotesRefusal, outline_text};
 
 use crate::draft::Draft;
 use crate::hearing::hear_all;
@@ -22,26 +18,44 @@ use crate::whys::push_whys;
 use gs_journal::{Journal, LastEntry};
 use gs_reasons::Index;
 use gs_script::SaidLine;
+use gs_sentences::Tail;
 use gs_trace::Came;
 use std::alloc::AllocError;
 
-/// An event whose object is put together at the end: its line and that line's number, the entries that it added, and where a
-/// text has the lines of its reply, and behind them its reasons.
+/// What is told of an event.
+#[derive(Clone, Copy)]
+pub(crate) enum Told {
+    /// A text has the lines of its reply, and behind them its reasons.
+    Parts {
+        /// How many entries the event added.
+        count: u32,
+        /// Where the lines begin.
+        from: usize,
+        /// How many bytes they have.
+        lines: u32,
+        /// How many bytes the reasons have.
+        whys: u32,
+    },
+    /// It was refused and added no entry.
+    Refused {
+        /// The line and the place of the entry that is the reason, if one is.
+        at: Option<(u32, u32)>,
+        /// The numbers that its sentence tells of.
+        tail: Tail,
+    },
+}
+
+/// An event whose object is put together at the end: its line with that line's number, the place of the first entry that it added,
+/// and what is told of it.
 #[derive(Clone, Copy)]
 pub(crate) struct Outline<'a> {
     pub(crate) line: &'a [u8],
     pub(crate) number: u32,
-    /// The place of the first entry that it added.
     pub(crate) first: u32,
-    /// How many it added.
-    pub(crate) count: u32,
-    /// Where the lines of its reply begin.
-    pub(crate) from: usize,
-    /// Where they end, and its reasons begin.
-    pub(crate) mid: usize,
-    /// Where those end.
-    pub(crate) to: usize,
+    pub(crate) told: Told,
 }
+
+const _: () = prove!(size_of::<Outline<'static>>() == 56);
 
 /// Returns a number in 32 bits. One that does not fit counts as out of memory.
 #[inline(always)]
@@ -55,7 +69,7 @@ fn short(number: usize) -> Result<u32, AllocError>
 }
 
 impl<'a> Outline<'a> {
-    /// Makes one. A line's number or an entry's place that does not fit into 32 bits counts as out of memory.
+    /// Makes one. A number that does not fit into 32 bits counts as out of memory.
     #[inline(always)]
     fn new(
         said: &SaidLine<'a>,
@@ -73,34 +87,37 @@ impl<'a> Outline<'a> {
         let number = short(said.number)?;
         let end = short(end)?;
         let first = first as u32;
+        let lines = short(mid - from)?;
+        let whys = short(to - mid)?;
         Ok(Outline {
             line: said.bytes,
             number,
             first,
-            count: end - first,
-            from,
-            mid,
-            to,
+            told: Told::Parts {
+                count: end - first,
+                from,
+                lines,
+                whys,
+            },
         })
     }
 
-    /// Returns an event of another line that is told the same and added no entry. So many stand before it.
+    /// Makes one of an event that was refused and added no entry, and before which so many entries stand. It is told by numbers, and by
+    /// the line and the place of the entry that is the reason. Returns `None` if a number is too large.
     #[inline(always)]
-    pub(crate) fn again<'b>(
-        &self,
-        said: &SaidLine<'b>,
+    pub(crate) fn refused(
+        said: &SaidLine<'a>,
         first: usize,
-    ) -> Result<Outline<'b>, AllocError>
-        ensures { IfOk result (Notes (said_line said.now) first 0 self.now.from self.now.mid self.now.to) }
+        at: Option<(u32, u32)>,
+        tail: Tail,
+    ) -> Option<Outline<'a>>
+        ensures { IfSome result (NotesRefusal (said_line said.now) first at tail) }
     {
-        Ok(Outline {
+        Some(Outline {
             line: said.bytes,
-            number: short(said.number)?,
-            first: short(first)?,
-            count: 0,
-            from: self.from,
-            mid: self.mid,
-            to: self.to,
+            number: u32::try_from(said.number).ok()?,
+            first: u32::try_from(first).ok()?,
+            told: Told::Refused { at, tail },
         })
     }
 }
@@ -123,7 +140,6 @@ pub(crate) fn outlined<'a>(
     ensures grown { OnOk result (Grows draft.old draft.new) }
     ensures told { IfOk result (λ o. outline_text draft.new o ≡ object_row (said_line said.now) (moment_of scene.now) first (reply_in came.entry)) }
     ensures stands { IfOk result (λ o. IsOutlined draft.new o) }
-    ensures parts { IfOk result (λ o. HasParts draft.new o (reply_lines (reply_in came.entry)) (behind_commas (whys (moment_of scene.now) first (reply_in came.entry)))) }
     ensures heard { OnOk result (HasHeard index.new scene.now.journal.now.entries) }
 {
     let from = draft.len();

@@ -239,7 +239,8 @@ fn piece_of<'a>(
     ensures tail { IfSome result (λ p. IsTail p.tail refusal (refused_text (why_refused (moment_of scene.now) refusal))) }
     ensures short { IfSome result (λ p. length p.line.now ≤ MOST_LINE_LEN) }
 {
-    Piece::new(len, said, tail_of(scene, index, refusal)?)
+    let (tail, _) = tail_of(scene, index, refusal)?;
+    Piece::new(len, said, tail)
 }
 
 impl<'a> Rows<'a> {

@@ -1,6 +1,6 @@
 //! What is told of an event that was refused, in few bytes.
 
-ghost use Rattle.std.specs.Prelude.{◌≡◌, IfSome};
+ghost use Rattle.std.specs.Prelude.{◌≡◌, IfSome, None};
 ghost use Rattle.gs_layout.specs.declared.refusal.Refusal.TheVariants as refusals;
 ghost use Rattle.gs_reasons.specs.Kept.{HasHeard};
 ghost use Rattle.gs_sentences.specs.Given.{causes_given};
@@ -11,6 +11,7 @@ ghost use Rattle.gs_explain.specs.Moment.{moment_of};
 ghost use Rattle.gs_explain.specs.Refusals.{numbers, waiting, why_refused};
 ghost use Rattle.gs_sentences.specs.Subject.{cpu_of, tid_of};
 ghost use Rattle.gs_sentences.specs.Tails.{IsTail, at, left_at};
+ghost use Rattle.gs_explain.specs.Tailed.{at_of, tail_refusal};
 
 use crate::moment::Scene;
 use crate::refused::{cause_of, sign_by, waiting};
@@ -38,7 +39,8 @@ fn where_of(cause: &Cause<'_>) -> Option<(u32, u32)>
 #[inline(always)]
 fn no_thread(event: &Event<()>, tid: u32, at: Option<(u32, u32)>) -> Tail
     requires { tid ≡ tid_of event.now }
-    ensures { IsTail result refusals.NoThread (no_thread_text event.now (left_at at)) }
+    ensures told { IsTail result refusals.NoThread (no_thread_text event.now (left_at at)) }
+    ensures refusal { tail_refusal result ≡ refusals.NoThread }
 {
     if matches!(event, Event::Stamp { .. }) {
         return Tail::Unknown { tid };
@@ -52,7 +54,8 @@ fn no_thread(event: &Event<()>, tid: u32, at: Option<(u32, u32)>) -> Tail
 /// Returns what is told of a thread that is on no CPU.
 #[inline(always)]
 fn off(tid: u32, at: Option<(u32, u32)>) -> Tail
-    ensures { IsTail result refusals.NotRunning (off_text tid (left_at at)) }
+    ensures told { IsTail result refusals.NotRunning (off_text tid (left_at at)) }
+    ensures refusal { tail_refusal result ≡ refusals.NotRunning }
 {
     match at {
         Some((line, place)) => Tail::Off { tid, line, place },
@@ -63,7 +66,8 @@ fn off(tid: u32, at: Option<(u32, u32)>) -> Tail
 /// Returns what is told of a wrong mask.
 #[inline(always)]
 fn bad_mask(mask: Mask, cpus: u16) -> Option<Tail>
-    ensures { IfSome result (λ t. IsTail t refusals.EmptyMask (bad_mask_text mask cpus)) }
+    ensures told { IfSome result (λ t. IsTail t refusals.EmptyMask (bad_mask_text mask cpus)) }
+    ensures refusal { IfSome result (λ t. tail_refusal t ≡ refusals.EmptyMask) }
 {
     let mask = u64::try_from(mask.bits()).ok()?;
     Some(Tail::BadMask { cpus, mask })
@@ -72,7 +76,8 @@ fn bad_mask(mask: Mask, cpus: u16) -> Option<Tail>
 /// Returns what is told of the agent that there is, by an entry that says so.
 #[inline(always)]
 fn agent_by(refusal: Refusal, entry: &Entry, line: u32, place: u32) -> Option<Tail>
-    ensures { IfSome result (λ t. IsTail t refusal (agent_text (at line place entry.now))) }
+    ensures told { IfSome result (λ t. IsTail t refusal (agent_text (at line place entry.now))) }
+    ensures refusal { IfSome result (λ t. tail_refusal t ≡ refusal) }
 {
     match entry {
         Entry::Role { generation, cpu } => Some(Tail::Active {
@@ -100,7 +105,8 @@ fn agent_by(refusal: Refusal, entry: &Entry, line: u32, place: u32) -> Option<Ta
 /// Returns what is told of the agent that there is.
 #[inline(never)]
 fn agent(refusal: Refusal, cause: Option<Cause<'_>>) -> Option<Tail>
-    ensures { IfSome result (λ t. IsTail t refusal (agent_text (causes_given cause.entry))) }
+    ensures told { IfSome result (λ t. IsTail t refusal (agent_text (causes_given cause.entry))) }
+    ensures refusal { IfSome result (λ t. tail_refusal t ≡ refusal) }
 {
     let cause = cause?;
     let (line, place) = where_of(&cause)?;
@@ -110,7 +116,8 @@ fn agent(refusal: Refusal, cause: Option<Cause<'_>>) -> Option<Tail>
 /// Returns what is told of the last page of an agent that attaches.
 #[inline(always)]
 fn last_page(generation: u32, page: Option<usize>) -> Option<Tail>
-    ensures { IfSome result (λ t. IsTail t refusals.NotAttaching (page_text generation page)) }
+    ensures told { IfSome result (λ t. IsTail t refusals.NotAttaching (page_text generation page)) }
+    ensures refusal { IfSome result (λ t. tail_refusal t ≡ refusals.NotAttaching) }
 {
     match page {
         Some(line) => Some(Tail::Page {
@@ -124,7 +131,8 @@ fn last_page(generation: u32, page: Option<usize>) -> Option<Tail>
 /// Returns what is told if no agent attaches at this point.
 #[inline(never)]
 fn attaching(cause: Option<Cause<'_>>, page: Option<usize>) -> Option<Tail>
-    ensures { IfSome result (λ t. IsTail t refusals.NotAttaching (attaching_text (causes_given cause.entry) page)) }
+    ensures told { IfSome result (λ t. IsTail t refusals.NotAttaching (attaching_text (causes_given cause.entry) page)) }
+    ensures refusal { IfSome result (λ t. tail_refusal t ≡ refusals.NotAttaching) }
 {
     let cause = cause?;
     let (line, place) = where_of(&cause)?;
@@ -137,7 +145,8 @@ fn attaching(cause: Option<Cause<'_>>, page: Option<usize>) -> Option<Tail>
 /// Returns what is told of a CPU that the other class does not hold.
 #[inline(always)]
 fn given(cpu: u16, at: Option<(u32, u32)>) -> Tail
-    ensures { IsTail result refusals.NotTaken (given_text cpu (left_at at)) }
+    ensures told { IsTail result refusals.NotTaken (given_text cpu (left_at at)) }
+    ensures refusal { tail_refusal result ≡ refusals.NotTaken }
 {
     match at {
         Some((line, place)) => Tail::Given { cpu, line, place },
@@ -156,7 +165,8 @@ fn by_entry(
 ) -> Option<Tail>
     requires tid { tid ≡ tid_of scene.now.event.now }
     requires cpu { cpu ≡ cpu_of scene.now.event.now }
-    ensures { IfSome result (λ t. IsTail t refusal (refused_text (record { refusal = refusal; event = scene.now.event.now; cause = causes_given cause.now; numbers = numbers (moment_of scene.now) refusal }))) }
+    ensures told { IfSome result (λ t. IsTail t refusal (refused_text (record { refusal = refusal; event = scene.now.event.now; cause = causes_given cause.now; numbers = numbers (moment_of scene.now) refusal }))) }
+    ensures refusal { IfSome result (λ t. tail_refusal t ≡ refusal) }
 {
     let Some(cause) = cause else {
         return None;
@@ -189,7 +199,8 @@ fn stamps(event: &Event<()>) -> bool
 /// Returns what is told of a list that is full, of entries or of transactions.
 #[inline(always)]
 fn full(scene: &Scene<'_>) -> Option<Tail>
-    ensures { IfSome result (λ t. IsTail t refusals.HistoryFull (full_by (stamps scene.now.event.now) (numbers (moment_of scene.now) refusals.HistoryFull))) }
+    ensures told { IfSome result (λ t. IsTail t refusals.HistoryFull (full_by (stamps scene.now.event.now) (numbers (moment_of scene.now) refusals.HistoryFull))) }
+    ensures refusal { IfSome result (λ t. tail_refusal t ≡ refusals.HistoryFull) }
 {
     let limit = scene.kernel.settings().history;
     if stamps(scene.event) {
@@ -204,7 +215,8 @@ fn full(scene: &Scene<'_>) -> Option<Tail>
 /// Returns what is told of a transaction that there is not, by how many there are.
 #[inline(always)]
 fn numbered(transactions: usize) -> Option<Tail>
-    ensures { IfSome result (λ t. IsTail t refusals.NoSuchTransaction (transactions_text transactions)) }
+    ensures told { IfSome result (λ t. IsTail t refusals.NoSuchTransaction (transactions_text transactions)) }
+    ensures refusal { IfSome result (λ t. tail_refusal t ≡ refusals.NoSuchTransaction) }
 {
     Some(Tail::Numbered {
         count: u32::try_from(transactions).ok()?,
@@ -214,7 +226,8 @@ fn numbered(transactions: usize) -> Option<Tail>
 /// Returns what is told of a slot that is not idle.
 #[inline(always)]
 fn waits(waiting: &Option<Waiting>) -> Option<Tail>
-    ensures { IfSome result (λ t. IsTail t refusals.SlotOpen (waiting_text waiting.now)) }
+    ensures told { IfSome result (λ t. IsTail t refusals.SlotOpen (waiting_text waiting.now)) }
+    ensures refusal { IfSome result (λ t. tail_refusal t ≡ refusals.SlotOpen) }
 {
     let Some(waiting) = waiting else {
         return None;
@@ -230,17 +243,40 @@ fn waits(waiting: &Option<Waiting>) -> Option<Tail>
 #[inline(never)]
 fn slot_open(scene: &Scene<'_>) -> Option<Tail>
     requires { IsMarked scene.now.last.now.places.items scene.now.transactions.now }
-    ensures { IfSome result (λ t. IsTail t refusals.SlotOpen (waiting_text (waiting (moment_of scene.now) refusals.SlotOpen))) }
+    ensures told { IfSome result (λ t. IsTail t refusals.SlotOpen (waiting_text (waiting (moment_of scene.now) refusals.SlotOpen))) }
+    ensures refusal { IfSome result (λ t. tail_refusal t ≡ refusals.SlotOpen) }
 {
     waits(&waiting(scene, Refusal::SlotOpen))
 }
 
-/// Returns what is told of an event that was refused, or `None` if it does not fit. An index has heard all entries.
+/// Returns what is told of an event that was refused for a number: of entries or transactions, or that of a transaction that waits.
+#[inline(never)]
+fn by_numbers(scene: &Scene<'_>, refusal: Refusal) -> Option<Tail>
+    requires { IsMarked scene.now.last.now.places.items scene.now.transactions.now }
+    ensures told { IfSome result (λ t. IsTail t refusal (refused_text (record { refusal = refusal; event = scene.now.event.now; cause = None; numbers = numbers (moment_of scene.now) refusal }))) }
+    ensures refusal { IfSome result (λ t. tail_refusal t ≡ refusal) }
+{
+    match refusal {
+        Refusal::HistoryFull => full(scene),
+        Refusal::SlotOpen => slot_open(scene),
+        Refusal::NoSuchTransaction => numbered(scene.transactions.len()),
+        _ => None,
+    }
+}
+
+/// Returns what is told of an event that was refused, and the line and the place of the entry that is the reason, if one is. It is
+/// `None` if that does not fit. An index has heard all entries.
 #[inline(always)]
-pub(crate) fn tail_of(scene: &Scene<'_>, index: &Index, refusal: Refusal) -> Option<Tail>
+pub(crate) fn tail_of(
+    scene: &Scene<'_>,
+    index: &Index,
+    refusal: Refusal,
+) -> Option<(Tail, Option<(u32, u32)>)>
     requires heard { HasHeard index.now scene.now.journal.now.entries }
     requires marked { IsMarked scene.now.last.now.places.items scene.now.transactions.now }
-    ensures { IfSome result (λ t. IsTail t refusal (refused_text (why_refused (moment_of scene.now) refusal))) }
+    ensures told { IfSome result (λ p. IsTail p.0 refusal (refused_text (why_refused (moment_of scene.now) refusal))) }
+    ensures refusal { IfSome result (λ p. tail_refusal p.0 ≡ refusal) }
+    ensures at { IfSome result (λ p. p.1 ≡ at_of (why_refused (moment_of scene.now) refusal).cause) }
 {
     let event = scene.event;
     let tid = tid_of(event);
@@ -251,26 +287,57 @@ pub(crate) fn tail_of(scene: &Scene<'_>, index: &Index, refusal: Refusal) -> Opt
         None => None,
     };
     match refusal {
-        Refusal::NoThread => Some(no_thread(event, tid, at)),
-        Refusal::NotRunning => Some(off(tid, at)),
-        Refusal::EmptyMask => bad_mask(mask_of(event), scene.kernel.settings().cpus),
-        Refusal::BadCpu => Some(Tail::BadCpu {
-            cpu,
-            cpus: scene.kernel.settings().cpus,
-        }),
-        Refusal::AgentThere | Refusal::NotActive | Refusal::StillAttached => agent(refusal, cause),
-        Refusal::NotTaken => Some(given(cpu, at)),
-        Refusal::NotAttaching => attaching(cause, scene.noted.page),
-        Refusal::HistoryFull => full(scene),
-        Refusal::SlotOpen => {
+        Refusal::NoThread => Some((no_thread(event, tid, at), at)),
+        Refusal::NotRunning => Some((off(tid, at), at)),
+        Refusal::EmptyMask => {
+            let cpus = scene.kernel.settings().cpus;
+            Some((bad_mask(mask_of(event), cpus)?, at))
+        }
+        Refusal::BadCpu => {
+            let cpus = scene.kernel.settings().cpus;
+            Some((Tail::BadCpu { cpu, cpus }, at))
+        }
+        Refusal::AgentThere | Refusal::NotActive | Refusal::StillAttached => {
+            Some((agent(refusal, cause)?, at))
+        }
+        Refusal::NotTaken => Some((given(cpu, at), at)),
+        Refusal::NotAttaching => Some((attaching(cause, scene.noted.page)?, at)),
+        Refusal::HistoryFull | Refusal::SlotOpen | Refusal::NoSuchTransaction => {
             let event = *scene.event;
-            slot_open(&Scene {
+            let copy = Scene {
                 event: &event,
                 ..*scene
-            })
+            };
+            Some((by_numbers(&copy, refusal)?, at))
         }
-        Refusal::NoSuchTransaction => numbered(scene.transactions.len()),
         Refusal::OutOfMemory => None,
-        _ => by_entry(scene, tid, cpu, refusal, &cause),
+        _ => Some((by_entry(scene, tid, cpu, refusal, &cause)?, at)),
+    }
+}
+
+/// Returns which refusal is told.
+pub(crate) fn refusal_in(tail: &Tail) -> Refusal
+    ensures { result ≡ tail_refusal tail.now }
+{
+    match tail {
+        Tail::Part { .. } => Refusal::OutOfMemory,
+        Tail::NoThread { .. } | Tail::Dead { .. } | Tail::Unknown { .. } => Refusal::NoThread,
+        Tail::NeverPlaced { .. } | Tail::Off { .. } => Refusal::NotRunning,
+        Tail::Runs { .. } => Refusal::NotBlocked,
+        Tail::BadMask { .. } => Refusal::EmptyMask,
+        Tail::BadCpu { .. } => Refusal::BadCpu,
+        Tail::Active { refusal, .. }
+        | Tail::Attaches { refusal, .. }
+        | Tail::Left { refusal, .. } => *refusal,
+        Tail::NoPage { .. } | Tail::Page { .. } => Refusal::NotAttaching,
+        Tail::Held { .. } => Refusal::CpuTaken,
+        Tail::NeverTaken { .. } | Tail::Given { .. } => Refusal::NotTaken,
+        Tail::Spent { .. } => Refusal::SeqSpent,
+        Tail::Generations { .. } => Refusal::GenSpent,
+        Tail::Tids { .. } => Refusal::TidsSpent,
+        Tail::Entries { .. } | Tail::Transactions { .. } => Refusal::HistoryFull,
+        Tail::Waits { .. } => Refusal::SlotOpen,
+        Tail::Numbered { .. } => Refusal::NoSuchTransaction,
+        Tail::Gone { .. } => Refusal::Gone,
     }
 }

@@ -18,8 +18,8 @@ loop-outline-preserved g c =
     let d = g.W.Write.contents c.add_object.new.writer in
     let here = outline_text text (get_or os i none) in
     let rest = outlines_text text (drop (i + 1) os) in
-    let leads = leads_object a b whole c.loop-outline.block text os i none c.loop-outline-test.true c.loop-outline.invariant in
-    leads_moves a b d whole c.loop-outline.block here rest c.add_object.new.block leads c.in_ok-add_object.ensures.moved
+    let leads = leads_object a b whole c.loop-outline.block text os i none c.loop-outline-test.true c.loop-outline.invariant.leads in
+    record { leads = leads_moves a b d whole c.loop-outline.block here rest c.add_object.new.block leads c.in_ok-add_object.ensures.moved; stencil = c.in_ok-add_object.ensures.kept }
 
 pub returns-in_err-add_object-clause-begun : goal.returns-in_err-add_object-clause-begun
 returns-in_err-add_object-clause-begun g c =
@@ -33,7 +33,7 @@ returns-in_err-add_object-clause-begun g c =
     let d = g.W.Write.contents c.add_object.new.writer in
     let here = outline_text text (get_or os i none) in
     let rest = outlines_text text (drop (i + 1) os) in
-    let leads = leads_object a b whole c.loop-outline.block text os i none c.loop-outline-test.true c.loop-outline.invariant in
+    let leads = leads_object a b whole c.loop-outline.block text os i none c.loop-outline-test.true c.loop-outline.invariant.leads in
     on_err c.from_residual.result (leads_stuck a b d whole c.loop-outline.block here rest leads c.in_err-add_object.ensures.begun)
 
 pub returns-clause-sent : goal.returns-clause-sent
@@ -43,7 +43,7 @@ returns-clause-sent g c =
     let a = g.W.Write.contents c.args.writer.now in
     let b = g.W.Write.contents c.loop-outline.writer in
     let d = g.W.Write.contents c.send.new.writer in
-    let leads = leads_end a b (outlines_text text os) c.loop-outline.block text os c.loop-outline.outline-index c.loop-outline-test.false c.loop-outline.invariant in
+    let leads = leads_end a b (outlines_text text os) c.loop-outline.block text os c.loop-outline.outline-index c.loop-outline-test.false c.loop-outline.invariant.leads in
     on_ok_weaker c.send.result (λ w. leads_all a b d (outlines_text text os) c.loop-outline.block leads w) c.send.ensures.sent
 
 pub returns-clause-begun : goal.returns-clause-begun
@@ -53,5 +53,5 @@ returns-clause-begun g c =
     let a = g.W.Write.contents c.args.writer.now in
     let b = g.W.Write.contents c.loop-outline.writer in
     let d = g.W.Write.contents c.send.new.writer in
-    let leads = leads_end a b (outlines_text text os) c.loop-outline.block text os c.loop-outline.outline-index c.loop-outline-test.false c.loop-outline.invariant in
+    let leads = leads_end a b (outlines_text text os) c.loop-outline.block text os c.loop-outline.outline-index c.loop-outline-test.false c.loop-outline.invariant.leads in
     on_err_weaker c.send.result (λ w. leads_begun a b d (outlines_text text os) c.loop-outline.block [] leads w) c.send.ensures.begun

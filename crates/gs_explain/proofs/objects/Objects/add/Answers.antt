@@ -3,7 +3,6 @@ use Rattle.std.specs.List.{All}
 use Rattle.gs_explain.specs.declared.outline.Outline.{Outline}
 use Rattle.gs_explain.specs.Outlined.{IsOutlined, outlines_text}
 use Rattle.gs_explain.proofs.Outlining.{outlined_grown, outlined_more, outlines_more}
-use Rattle.gs_explain.proofs.Regrounding.{again_grown}
 use Rattle.gs_explain.proofs.objects.Objects.add.Goals as goal
 
 pub invariant_of-self : goal.invariant_of-self
@@ -12,10 +11,7 @@ invariant_of-self c =
     let new = c.outlined.new.draft in
     let os : List Outline = c.self.inside.outlines.items in
     let same : c.push.new.self.items ≡ os = search rules in
-    record {
-      outlined = subst (λ (xs : List Outline). All (IsOutlined new) xs) (sym same) (outlined_grown os old new c.in-Ok.ensures.grown c.self.invariant.outlined);
-      again = again_grown c.self.inside.again old new c.in-Ok.ensures.grown c.self.invariant.again;
-    }
+    subst (λ (xs : List Outline). All (IsOutlined new) xs) (sym same) (outlined_grown os old new c.in-Ok.ensures.grown c.self.invariant)
 
 pub invariant_of-self-in-Ok : goal.invariant_of-self-in-Ok
 invariant_of-self-in-Ok c =
@@ -24,10 +20,7 @@ invariant_of-self-in-Ok c =
     let os : List Outline = c.self.inside.outlines.items in
     let o = c.in-Ok.outline in
     let after : c.push.new.self.items ≡ os ++ o ∷ [] = search rules in
-    record {
-      outlined = subst (λ (xs : List Outline). All (IsOutlined new) xs) (sym after) (outlined_more os o old new c.in-Ok.ensures.grown c.self.invariant.outlined c.in-Ok.ensures.stands);
-      again = again_grown c.self.inside.again old new c.in-Ok.ensures.grown c.self.invariant.again;
-    }
+    subst (λ (xs : List Outline). All (IsOutlined new) xs) (sym after) (outlined_more os o old new c.in-Ok.ensures.grown c.self.invariant c.in-Ok.ensures.stands)
 
 pub returns-in_ok-push-in-Ok-clause-shown : goal.returns-in_ok-push-in-Ok-clause-shown
 returns-in_ok-push-in-Ok-clause-shown c =
@@ -37,4 +30,4 @@ returns-in_ok-push-in-Ok-clause-shown c =
     let o = c.in-Ok.outline in
     let after : c.push.new.self.items ≡ os ++ o ∷ [] = search rules in
     let told = c.in-Ok.ensures.told in
-    ap (outlines_text new) after ∙ (outlines_more os o old new c.in-Ok.ensures.grown c.self.invariant.outlined ∙ (λ i. c.self.view_is i ++ told i))
+    ap (outlines_text new) after ∙ (outlines_more os o old new c.in-Ok.ensures.grown c.self.invariant ∙ (λ i. c.self.view_is i ++ told i))

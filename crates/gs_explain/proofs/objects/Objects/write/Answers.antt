@@ -6,4 +6,4 @@ use Rattle.gs_explain.proofs.objects.Objects.write.Goals as goal
 
 pub write_objects-requires-clause-outlined : goal.write_objects-requires-clause-outlined
 write_objects-requires-clause-outlined g c =
-    subst (λ (text : List ℕ). All (IsOutlined text) c.as_slice.result.now) (sym c.as_bytes.ensures.value) (subst (λ (os : List Outline). All (IsOutlined c.self.inside.draft) os) (sym c.as_slice.ensures.value) c.self.invariant.outlined)
+    subst (λ (text : List ℕ). All (IsOutlined text) c.as_slice.result.now) (sym c.as_bytes.ensures.value) (subst (λ (os : List Outline). All (IsOutlined c.self.inside.draft) os) (sym c.as_slice.ensures.value) c.self.invariant)
