@@ -130,6 +130,12 @@ raised n len b bytes h is few within kept =
     ∙ (ap (λ (xs : List ℕ). xs ++ (48 + (n + 1) % 10) ∷ []) (sym (take-take (length f.0) len bytes (omega (arith, size))) ∙ (ap (take (length f.0)) (kept ∙ f.1) ∙ take-append_seam f.0 ((48 + n % 10) ∷ [])))
     ∙ sym f.2)))
 
+-- the last bytes are as many as were written of them
+pub last_put : (n : ℕ) (more : List ℕ) → n ≤ length more → take n (take (length more - (length more - n)) (drop (length more - n) more)) ≡ take (length more - (length more - n)) (drop (length more - n) more)
+last_put n more many =
+    let same : length more - (length more - n) ≡ n = omega (arith, many) in
+    take-take n (length more - (length more - n)) (drop (length more - n) more) (omega (arith, same)) ∙ ap (λ (m : ℕ). take m (drop (length more - n) more)) (sym same)
+
 -- bytes that were written as their first and their last ones, which may overlap
 pub ends_put : (at n end : ℕ) (old mid new more : List ℕ) → at + length more ≤ length old → n ≤ length more → length more ≤ n + n → end ≡ at + length more
     → take (at + n) mid ≡ take at old ++ take n more

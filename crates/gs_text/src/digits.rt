@@ -1,7 +1,7 @@
 ghost use Rattle.std.specs.Prelude.{◌≡◌, ◌+◌, ◌^◌, ◌<◌, ◌≤◌, ◌++◌, ◌%◌, decimal, length, take};
 ghost use Rattle.std.specs.Str.{IsUtf8};
 
-use crate::forwards::{DIGITS, put, put_number};
+use crate::forwards::{DIGITS, put_ends, put_number};
 use std::marker::Model;
 
 /// A number with its digits, which are kept until it is another number: for one that is written several times.
@@ -86,7 +86,7 @@ impl Digits {
         ensures written { take result bytes.new ≡ take at bytes.old ++ decimal self.now }
         ensures utf8 { IsUtf8 (take at bytes.old) → IsUtf8 (take result bytes.new) }
     {
-        put(bytes, at, &self.bytes);
+        put_ends::<16>(bytes, at, &self.bytes);
         at + self.len
     }
 }

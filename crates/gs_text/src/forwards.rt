@@ -5,6 +5,7 @@ ghost use Rattle.std.specs.Str.{IsUtf8};
 
 use crate::digits::Digits;
 use itoa::{Buffer, write_digits};
+use std::simd::Simd;
 
 /// The most digits that a number of 64 bits has.
 pub(crate) const DIGITS: usize = 20;
@@ -41,6 +42,34 @@ pub(crate) fn put_first(bytes: &mut [u8], at: usize, more: &[u8], count: usize) 
     at + count
 }
 
+/// Writes the first of some bytes, as many as are known where it is compiled: by one load and one store. Returns the place behind them.
+#[inline(always)]
+fn put_front<const N: usize>(bytes: &mut [u8], at: usize, more: &[u8]) -> usize
+    requires many { N ≤ length more.now }
+    requires room { at + N ≤ length bytes.old }
+    ensures end { result ≡ at + N }
+    ensures written { take result bytes.new ≡ take at bytes.old ++ take N more.now }
+{
+    Simd::<u8, N>::from_slice(more).copy_to_slice(&mut bytes[at..]);
+    at + N
+}
+
+/// Writes bytes, at most twice as many as are known, as their first and their last ones, and returns the place behind them.
+#[inline(always)]
+#[tactic(auto, using(crate::proofs::Grown::ends_put))]
+pub(crate) fn put_ends<const N: usize>(bytes: &mut [u8], at: usize, more: &[u8]) -> usize
+    requires room { at + length more.now ≤ length bytes.old }
+    requires many { N ≤ length more.now }
+    requires few { length more.now ≤ N + N }
+    ensures end { result ≡ at + length more.now }
+    ensures written { take result bytes.new ≡ take at bytes.old ++ more.now }
+    ensures utf8 { IsUtf8 more.now → IsUtf8 (take at bytes.old) → IsUtf8 (take result bytes.new) }
+{
+    let last = more.len() - N;
+    put_front::<N>(bytes, at, more);
+    put_front::<N>(bytes, at + last, &more[last..])
+}
+
 /// Writes a few bytes, and returns the place behind them. Four to sixteen are copied as two pieces of a known length, which takes no call.
 #[inline(always)]
 pub(crate) fn put_few(bytes: &mut [u8], at: usize, more: &[u8]) -> usize
@@ -56,20 +85,22 @@ pub(crate) fn put_few(bytes: &mut [u8], at: usize, more: &[u8]) -> usize
     }
 }
 
-/// Writes bytes, at most twice as many as are known, as their first and their last ones, and returns the place behind them.
+/// Writes words that are known where it is compiled, and returns the place behind them. Byte by byte it takes no look whether the words
+/// overlap with what is written, and the compiler puts the bytes together.
 #[inline(always)]
-#[tactic(auto, using(crate::proofs::Grown::ends_put))]
-fn put_ends<const N: usize>(bytes: &mut [u8], at: usize, more: &[u8]) -> usize
-    requires room { at + length more.now ≤ length bytes.old }
-    requires many { N ≤ length more.now }
-    requires few { length more.now ≤ N + N }
-    ensures end { result ≡ at + length more.now }
-    ensures written { take result bytes.new ≡ take at bytes.old ++ more.now }
-    ensures utf8 { IsUtf8 more.now → IsUtf8 (take at bytes.old) → IsUtf8 (take result bytes.new) }
+pub(crate) fn put_words(bytes: &mut [u8], at: usize, words: &str) -> usize
+    requires { at + length words.now ≤ length bytes.old }
+    ensures end { result ≡ at + length words.now }
+    ensures written { take result bytes.new ≡ take at bytes.old ++ words.now }
+    ensures utf8 { IsUtf8 (take at bytes.old) → IsUtf8 (take result bytes.new) }
 {
-    let last = more.len() - N;
-    put(bytes, at, &more[..N]);
-    put(bytes, at + last, &more[last..])
+    let more = words.as_bytes();
+    let mut n = 0;
+    while n < more.len() {
+        bytes[at + n] = more[n];
+        n += 1;
+    }
+    at + n
 }
 
 /// Returns how many digits a number has that is below 10,000.
@@ -138,7 +169,7 @@ pub(crate) fn put_behind(bytes: &mut [u8], at: usize, words: &str, number: u64) 
     ensures written { take result bytes.new ≡ take at bytes.old ++ words.now ++ decimal number }
     ensures utf8 { IsUtf8 (take at bytes.old) → IsUtf8 (take result bytes.new) }
 {
-    let behind = put(bytes, at, words.as_bytes());
+    let behind = put_words(bytes, at, words);
     put_number(bytes, behind, number)
 }
 
@@ -157,7 +188,7 @@ pub(crate) fn put_between(
     ensures utf8 { IsUtf8 (take at bytes.old) → IsUtf8 (take result bytes.new) }
 {
     let end = put_behind(bytes, at, words, number);
-    put(bytes, end, behind.as_bytes())
+    put_words(bytes, end, behind)
 }
 
 /// Writes words, a number, words and a number, for which there is room whatever they are, and returns the place behind them.
@@ -219,9 +250,9 @@ pub(crate) fn put_mask_between(
     ensures written { take result bytes.new ≡ take at bytes.old ++ words.now ++ decimal mask ++ behind.now }
     ensures utf8 { IsUtf8 (take at bytes.old) → IsUtf8 (take result bytes.new) }
 {
-    let from = put(bytes, at, words.as_bytes());
+    let from = put_words(bytes, at, words);
     let end = put_mask(bytes, from, mask);
-    put(bytes, end, behind.as_bytes())
+    put_words(bytes, end, behind)
 }
 
 /// Writes a word, words, a number, words, a number and words, for which there is room whatever they are, and returns the place
@@ -242,9 +273,9 @@ pub(crate) fn put_word_two(
     ensures written { take result bytes.new ≡ take at bytes.old ++ word.now ++ words.now ++ decimal first ++ between.now ++ decimal second ++ behind.now }
     ensures utf8 { IsUtf8 (take at bytes.old) → IsUtf8 (take result bytes.new) }
 {
-    let from = put(bytes, at, word.as_bytes());
+    let from = put_few(bytes, at, word.as_bytes());
     let end = put_two(bytes, from, words, first, between, second);
-    put(bytes, end, behind.as_bytes())
+    put_words(bytes, end, behind)
 }
 
 /// Writes words and a number whose digits are kept, for which there is room whatever it is, and returns the place behind them.
@@ -255,7 +286,7 @@ pub(crate) fn put_digits(bytes: &mut [u8], at: usize, words: &str, digits: &Digi
     ensures written { take result bytes.new ≡ take at bytes.old ++ words.now ++ decimal digits.now }
     ensures utf8 { IsUtf8 (take at bytes.old) → IsUtf8 (take result bytes.new) }
 {
-    let behind = put(bytes, at, words.as_bytes());
+    let behind = put_words(bytes, at, words);
     digits.put(bytes, behind)
 }
 
@@ -275,7 +306,7 @@ pub(crate) fn put_digits_between(
     ensures utf8 { IsUtf8 (take at bytes.old) → IsUtf8 (take result bytes.new) }
 {
     let end = put_digits(bytes, at, words, digits);
-    put(bytes, end, behind.as_bytes())
+    put_words(bytes, end, behind)
 }
 
 /// Writes words, a number whose digits are kept, words, a few bytes and words, for which there is room whatever they are, and returns
@@ -297,7 +328,19 @@ pub(crate) fn put_line(
 {
     let from = put_digits_between(bytes, at, words, digits, between);
     let end = put_few(bytes, from, line);
-    put(bytes, end, behind.as_bytes())
+    put_words(bytes, end, behind)
+}
+
+/// Writes a few bytes and words, and returns the place behind them.
+#[inline(always)]
+pub(crate) fn put_few_before(bytes: &mut [u8], at: usize, few: &[u8], behind: &str) -> usize
+    requires { at + length few.now + length behind.now ≤ length bytes.old }
+    ensures end { result ≤ at + length few.now + length behind.now }
+    ensures written { take result bytes.new ≡ take at bytes.old ++ few.now ++ behind.now }
+    ensures utf8 { IsUtf8 few.now → IsUtf8 (take at bytes.old) → IsUtf8 (take result bytes.new) }
+{
+    let end = put_few(bytes, at, few);
+    put_words(bytes, end, behind)
 }
 
 /// Writes words, a number, words and a number whose digits are kept, for which there is room whatever they are, and returns the

@@ -3,8 +3,9 @@ ghost use Rattle.std.specs.Str.{IsUtf8};
 
 use crate::digits::Digits;
 use crate::forwards::{
-    DIGITS, MASK_DIGITS, put, put_behind, put_between, put_digits, put_digits_between, put_first,
-    put_line, put_mask_between, put_number, put_number_digits, put_two, put_word_two,
+    DIGITS, MASK_DIGITS, put, put_behind, put_between, put_digits, put_digits_between,
+    put_few_before, put_first, put_line, put_mask_between, put_number, put_number_digits, put_two,
+    put_word_two, put_words,
 };
 use std::alloc::{AllocError, Global};
 use std::marker::Model;
@@ -13,6 +14,10 @@ use std::marker::Model;
 const LEAST_BLOCK_LEN: usize = 32;
 
 const BLOCK_LEN: usize = 1024;
+
+/// Memory is taken for so many times as many bytes as are wanted, so that a long text is seldom copied. It is touched only as far as it is
+/// written.
+const GROWTH: usize = 4;
 
 /// A text that grows at its end: words, and numbers behind words. What adds to it fails only if out of memory. Clauses see
 /// its bytes, which are UTF-8.
@@ -54,6 +59,9 @@ fn add_block(bytes: &mut Vec<u8>, len: usize, wanted: usize) -> Result<(), Alloc
     let Some(whole) = end.max(bytes.len()).checked_add(more) else {
         return Err(AllocError);
     };
+    if bytes.capacity() < whole {
+        bytes.reserve_exact(whole.saturating_mul(GROWTH) - bytes.len())?;
+    }
     bytes.resize(whole, 0)
 }
 
@@ -181,7 +189,9 @@ impl Sheet {
         ensures added { OnOk result (self.new ≡ self.old ++ 10 ∷ []) }
         ensures kept { OnErr result (self.new ≡ self.old) }
     {
-        self.append(b"\n")
+        make_room(&mut self.bytes, self.len, 1)?;
+        self.len = put_words(&mut self.bytes, self.len, "\n");
+        Ok(())
     }
 
     /// Adds a number.
@@ -377,6 +387,21 @@ impl Sheet {
             line,
             behind,
         );
+        Ok(())
+    }
+
+    /// Adds a few bytes that are UTF-8, and words.
+    #[inline(always)]
+    pub fn push_few(&mut self, few: &[u8], behind: &str) -> Result<(), AllocError>
+        requires { IsUtf8 few.now }
+        ensures added { OnOk result (self.new ≡ self.old ++ few.now ++ behind.now) }
+        ensures kept { OnErr result (self.new ≡ self.old) }
+    {
+        let Some(wanted) = few.len().checked_add(behind.len()) else {
+            return Err(AllocError);
+        };
+        make_room(&mut self.bytes, self.len, wanted)?;
+        self.len = put_few_before(&mut self.bytes, self.len, few, behind);
         Ok(())
     }
 
