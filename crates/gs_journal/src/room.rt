@@ -9,14 +9,20 @@ use std::alloc::AllocError;
 /// The fewest entries that room is made for, if the limit leaves as many.
 const LEAST_ROOM: usize = 16;
 
-/// Returns for how many more entries to make room if so many are asked for and so many are there: for as many again, so
-/// that a list grows seldom. It is never more than the limit leaves.
+/// The lists grow to so many times their length.
+const GROWTH: usize = 4;
+
+/// Returns for how many more entries to make room if so many are asked for and so many are there: for [`GROWTH`] times as many
+/// in all, so that a list is seldom copied. It is never more than the limit leaves.
 pub(crate) fn more_room(additional: usize, len: usize, left: usize) -> usize
     requires { additional ≤ left }
     ensures enough { additional ≤ result }
     ensures within { result ≤ left }
 {
-    additional.max(len).max(LEAST_ROOM).min(left)
+    additional
+        .max(len.saturating_mul(GROWTH - 1))
+        .max(LEAST_ROOM)
+        .min(left)
 }
 
 /// Makes room for so many more entries, more than there is room for. Each of them may be wide.

@@ -10,7 +10,7 @@ use std::alloc::{AllocError, Global};
 use std::marker::Model;
 
 /// How many bytes are touched at a time, or more, so that it is rare.
-const STEP: usize = 4096;
+const STEP: usize = 1024;
 
 /// A block of bytes of a fixed size, zeros at first. Its memory is touched only as far as it was written.
 #[derive(Drop)]
