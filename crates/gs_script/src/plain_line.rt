@@ -144,20 +144,18 @@ fn add_plain<'a, P: NamedPolicy>(text: &'a [u8], events: &mut Events<P>) -> Left
             }
             None => creation(behind(text, b"create ")?, events),
         },
-        b'd' => match behind(text, b"drain ") {
-            Some(rest) => {
-                let (max, left) = u32_last(rest)?;
+        b'd' => match text.get(1)? {
+            b'r' => {
+                let (max, left) = u32_last(behind(text, b"drain ")?)?;
                 events.push_reserved(Event::Drain { max });
                 Some(left)
             }
-            None => match behind(text, b"decide") {
-                Some(rest) => {
-                    let left = line_end(rest)?;
-                    events.push_reserved(Event::Decide);
-                    Some(left)
-                }
-                None => to_thread(behind(text, b"die ")?, ThreadEvent::Die, events),
-            },
+            b'e' => {
+                let left = line_end(behind(text, b"decide")?)?;
+                events.push_reserved(Event::Decide);
+                Some(left)
+            }
+            _ => to_thread(behind(text, b"die ")?, ThreadEvent::Die, events),
         },
         b'g' => {
             let (cpu, left) = u16_last(behind(text, b"give ")?)?;
