@@ -35,6 +35,17 @@ pub fn write_cpu(out: &mut Text, cpu: Option<u16>) -> Result<(), AllocError>
     }
 }
 
+/// Ends a line with a CPU, or with `-` for none.
+#[inline(always)]
+pub(crate) fn end_with_cpu(out: &mut Text, cpu: Option<u16>) -> Result<(), AllocError>
+    ensures { OnOk result (out.new ≡ out.old ++ line (codes " cpu " ++ cpu_text cpu)) }
+{
+    match cpu {
+        Some(cpu) => out.push_between(" cpu ", cpu as u64, "\n"),
+        None => out.push_str(" cpu -\n"),
+    }
+}
+
 /// Adds the line of a message that waits.
 fn write_message(out: &mut Text, message: &Message) -> Result<(), AllocError>
     ensures { OnOk result (out.new ≡ out.old ++ line (message_text message.now)) }
@@ -42,9 +53,7 @@ fn write_message(out: &mut Text, message: &Message) -> Result<(), AllocError>
     let kind = kind_name(message.kind());
     out.push_str("unread ")?;
     push_thread(out, kind, message.tid(), message.tseq())?;
-    out.push_str(" cpu ")?;
-    write_cpu(out, message.cpu())?;
-    out.end_line()
+    end_with_cpu(out, message.cpu())
 }
 
 /// Adds the lines of messages that wait, in order.

@@ -1,7 +1,7 @@
 ghost use Rattle.std.specs.Prelude.{◌≡◌, ◌≤◌, ◌++◌, OnOk, codes, length};
 ghost use Rattle.gs_lines.specs.Lines.{class_text, facts_text, known_text, line, live_lines, live_text, name_text, runnable_text, view_lines, view_text};
 
-use crate::message_line::write_cpu;
+use crate::message_line::end_with_cpu;
 use gs_dump::DumpRecord;
 use gs_layout::{Class, Facts, Known, Name};
 use gs_text::Sheet as Text;
@@ -94,9 +94,7 @@ fn write_live(out: &mut Text, thread: &DumpRecord) -> Result<(), AllocError>
     ensures { OnOk result (out.new ≡ out.old ++ line (live_text thread.now)) }
 {
     write_known(out, "state", thread.tid, &thread.known)?;
-    out.push_str(" cpu ")?;
-    write_cpu(out, thread.cpu)?;
-    out.end_line()
+    end_with_cpu(out, thread.cpu)
 }
 
 /// Adds the lines of threads that live, in increasing order of tid.
