@@ -14,6 +14,7 @@ pub enum Record {
 
 impl Record {
     /// Returns the record after one more message about the thread. A timer tick leaves it.
+    #[inline(always)]
     pub fn after(self, message: &Message) -> Record
         ensures { result ≡ after self message.now }
     {
@@ -29,6 +30,7 @@ impl Record {
 }
 
 /// Returns what a change makes of a live thread.
+#[inline(always)]
 fn changed(mut facts: Facts, change: &Change) -> Record
     ensures { result ≡ changed facts change.now }
 {

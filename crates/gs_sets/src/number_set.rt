@@ -47,6 +47,7 @@ impl NumberSet {
     ///
     /// `AllocError` if out of memory. Nothing changes then.
     #[tactic(auto, using(crate::proofs::BitWords::same_words, crate::proofs::Summed::summed_sums))]
+    #[inline(always)]
     pub fn reserve(&mut self, number: usize) -> Result<(), AllocError>
         requires { number < 2 ^ 32 }
         ensures room { OnOk result (number / WORD < length self.new) }
@@ -68,6 +69,7 @@ impl NumberSet {
     }
 
     /// Puts a number in, or takes it out. There has to be room for it.
+    #[inline(always)]
     pub fn set(&mut self, number: usize, holds: bool)
         requires { number / WORD < length self.old }
         ensures here { is_in self.new number ≡ holds }
@@ -82,6 +84,7 @@ impl NumberSet {
 
     /// Returns the first number of the set that is not below `from`. There is room for it.
     #[tactic(auto, using(crate::proofs::Summed::none_beyond, crate::proofs::Summed::first_beyond, crate::proofs::Summed::word_has))]
+    #[inline(always)]
     pub fn next_from(&self, from: usize) -> Option<usize>
         ensures first { MatchOption result (IsNone (is_in self.now) from) (IsFirst (is_in self.now) from) }
         ensures within { IfSome result (λ n. (n < WORD * length self.now) × (n < 2 ^ 32)) }

@@ -92,6 +92,7 @@ impl ThreadTable {
 
     /// Appends the row of the next thread, for which room was made before.
     #[tactic(auto, using(crate::proofs::Living::created))]
+    #[inline(always)]
     pub fn create(&mut self, facts: &Facts)
         requires { 0 < self.old.room }
         ensures rows { self.new.rows ≡ self.old.rows ++ new_row self.old.first_tseq facts.now ∷ [] }

@@ -83,6 +83,7 @@ impl Records {
 
     /// Returns the first tid, not below `from`, of a thread of which something is known.
     #[tactic(auto, using(gs_sets::proofs::Laws::first_alike, crate::proofs::Showing::known_key))]
+    #[inline(always)]
     pub(crate) fn next_from(&self, from: usize) -> Option<usize>
         ensures first { MatchOption result (IsNone (is_known self.now) from) (IsFirst (is_known self.now) from) }
         ensures within { IfSome result (λ t. (t < self.now.tids) × (t < 2 ^ 32)) }
@@ -96,6 +97,7 @@ impl Records {
     ///
     /// `AllocError` if out of memory. Either way the records stay as they are.
     #[tactic(auto, using(crate::proofs::Agreed::agree_grown, crate::proofs::Agreed::entries_grown))]
+    #[inline(always)]
     pub(crate) fn reserve(&mut self, tid: u32, records: usize) -> Result<(), AllocError>
         ensures place { OnOk result (tid < self.new.tids) }
         ensures room { OnOk result (records ≤ self.new.room) }

@@ -41,6 +41,7 @@ impl<'a> Iterator for ViewWalk<'a> {
 
     ghost remaining = { item_count (λ walk. walk) };
 
+    #[inline(always)]
     fn next(&mut self) -> Option<(u32, &'a Facts, u32)> {
         let tid = self.records.next_from(self.from)?;
         self.from = tid + 1;
