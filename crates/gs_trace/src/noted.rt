@@ -24,7 +24,12 @@ pub struct Lines {
 fn fill(lines: &mut Vec<usize>, count: usize, line: usize) -> Result<(), AllocError>
     ensures { OnOk result (lines.new.items ≡ filled count line lines.old.items) }
 {
-    if lines.len() < count {
+    if lines.len() >= count {
+        return Ok(());
+    }
+    if count - lines.len() == 1 {
+        lines.push(line)?;
+    } else {
         lines.resize(count, line)?;
     }
     Ok(())

@@ -4,6 +4,7 @@ ghost use Rattle.std.specs.Prelude.{◌≡◌, List, [], ◌∷◌, ◌++◌, If
 ghost use Rattle.gs_core.specs.Machine.{planned, planning};
 ghost use Rattle.gs_core.specs.Short.{wants_memory};
 ghost use Rattle.gs_replies.specs.declared.reply.Reply as replies;
+ghost use Rattle.gs_replies.specs.declared.reply.Reply.TheVariants.{Refused};
 ghost use Rattle.gs_lines.specs.Lines.{lines};
 ghost use Rattle.gs_report.specs.Report.{ReportsOn};
 ghost use Rattle.gs_script.specs.Held.{Faults};
@@ -14,6 +15,7 @@ ghost use Rattle.gs_trace.specs.Came.{reply_in};
 use crate::came::Came;
 use gs_core::{Event, Items, Machine, Reply};
 use gs_kernel::{Command, Kernel, Landing};
+use gs_layout::Refusal;
 use gs_lines::{
     Text, write_committed, write_drained, write_executed, write_refused, write_reply, write_stamped,
 };
@@ -137,6 +139,21 @@ fn add_to<S: Sink>(
     sink.put(alloc, when, came, kernel)
 }
 
+/// Adds a refusal to a sink, as [`add_to`] does.
+#[inline(never)]
+fn add_refusal<S: Sink>(
+    alloc: Global,
+    sink: &mut S,
+    when: When,
+    refusal: Refusal,
+    kernel: &Kernel<ByteRing>,
+) -> Result<(), AllocError>
+    ensures sufficed { OnOk result (wants_memory (Refused refusal) ≡ false) }
+    ensures grows { OnOk result ((rs : List replies.Reply) → S.has sink.old rs → S.has sink.new (rs ++ Refused refusal ∷ [])) }
+{
+    add_to(alloc, sink, when, Came::Refused(refusal), kernel)
+}
+
 /// Executes a command, and adds its reply to a sink. It fails only if out of memory, or if the reply tells of that. So do
 /// the others below.
 #[inline(always)]
@@ -149,10 +166,14 @@ fn execute_one<P: Counted + Copy, S: Sink>(
 ) -> Result<(), AllocError>
     ensures { OnOk result (AddsOne S.has (planning P.chosen machine.old) (Event.Kernel command.now) (planning P.chosen machine.new) sink.old sink.new) }
 {
-    let came = machine.command(command);
-    let kernel = machine.kernel();
-    let came = Came::Executed(came, kernel.last());
-    add_to(alloc, sink, when, came, kernel)
+    match machine.command(command) {
+        Ok(executed) => {
+            let kernel = machine.kernel();
+            let came = Came::Executed(Ok(executed), kernel.last());
+            add_to(alloc, sink, when, came, kernel)
+        }
+        Err(refusal) => add_refusal(alloc, sink, when, refusal, machine.kernel()),
+    }
 }
 
 /// Drains messages.
@@ -168,7 +189,7 @@ fn drain_one<P: Counted + Copy, S: Sink>(
 {
     match machine.drain(max) {
         Ok(drained) => add_to(alloc, sink, when, Came::Drained(drained), machine.kernel()),
-        Err(refusal) => add_to(alloc, sink, when, Came::Refused(refusal), machine.kernel()),
+        Err(refusal) => add_refusal(alloc, sink, when, refusal, machine.kernel()),
     }
 }
 
@@ -195,7 +216,7 @@ fn stamp_one<P: Counted + Copy, S: Sink>(
             };
             add_to(alloc, sink, when, came, machine.kernel())
         }
-        Err(refusal) => add_to(alloc, sink, when, Came::Refused(refusal), machine.kernel()),
+        Err(refusal) => add_refusal(alloc, sink, when, refusal, machine.kernel()),
     }
 }
 
@@ -216,7 +237,7 @@ fn commit_one<P: Counted + Copy, S: Sink>(
             let came = Came::Landed(landings.as_slice(), torn);
             add_to(alloc, sink, when, came, machine.kernel())
         }
-        Err(refusal) => add_to(alloc, sink, when, Came::Refused(refusal), machine.kernel()),
+        Err(refusal) => add_refusal(alloc, sink, when, refusal, machine.kernel()),
     }
 }
 

@@ -17,5 +17,5 @@ pub returns-in-Err : goal.returns-in-Err
 returns-in-Err g c =
     let m = planning g.P.Policy.chosen c.args.machine.now in
     let next = planning g.P.Policy.chosen c.stamp.new.self in
-    adds_one g.S.Sink.has m (events.Stamp c.args.cpu c.args.tid c.args.flags) (replies.Refused c.in-Err.refusal) next c.args.sink.now c.add_to-in-Err.new.sink c.add_to-in-Err.result
-    (subst (λ r. Step m (events.Stamp c.args.cpu c.args.tid c.args.flags) (replied_as replies.Stamped r) next) c.in-Err.is c.stamp.ensures.step) c.stamp.ensures.safe c.stamp.ensures.faithful c.add_to-in-Err.ensures.sufficed c.add_to-in-Err.ensures.grows
+    adds_one g.S.Sink.has m (events.Stamp c.args.cpu c.args.tid c.args.flags) (replies.Refused c.in-Err.refusal) next c.args.sink.now c.add_refusal.new.sink c.add_refusal.result
+    (subst (λ r. Step m (events.Stamp c.args.cpu c.args.tid c.args.flags) (replied_as replies.Stamped r) next) c.in-Err.is c.stamp.ensures.step) c.stamp.ensures.safe c.stamp.ensures.faithful c.add_refusal.ensures.sufficed c.add_refusal.ensures.grows
