@@ -6,6 +6,7 @@ mod Overflows
 pub mod Composing
 pub mod Quoting
 pub mod Outlining
+pub mod Merging
 pub mod Tailing
 mod Moments
 mod Meeting

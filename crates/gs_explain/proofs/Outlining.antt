@@ -1,18 +1,21 @@
 -- Objects of events, one more of them, and a text that grows.
-use Rattle.std.proofs.Common.{rules, false, ◌≡◌, ◌∙◌, refl, true, sym, ap, subst, ◌<◌, ◌≤◌, ◌+◌, ◌-◌, ℕ, zero, suc, Option, List, [], ◌∷◌, ◌++◌, append-nil, arith, drop, get_or, length, add-one, drop-cons}
+use Rattle.std.proofs.Common.{rules, false, ◌≡◌, ◌∙◌, refl, true, sym, ap, subst, ◌<◌, ◌≤◌, ◌+◌, ◌-◌, ℕ, zero, suc, Option, None, Some, Result, Ok, Err, OnOk, OnErr, IfOk, List, [], ◌∷◌, ◌++◌, append-nil, arith, drop, get_or, length, add-one, drop-cons}
 use Rattle.std.specs.List.{All}
+use Rattle.std.specs.Option.{IfSome}
+use Rattle.std.specs.Result.{IsOk}
 use Rattle.std.specs.Str.{IsUtf8}
 use Rattle.std.proofs.Math.ListN.{drop_of_length-le}
 use Rattle.std.proofs.Math.Seq.{drop-append_seam, take-append_seam}
 use Rattle.std.proofs.lemmas.Str.{IsCharBoundary-after_ascii, IsCharBoundary-from_take, IsUtf8-drop}
 use Rattle.serde_json.specs.Data.{Data}
 use Rattle.std.proofs.lemmas.List.{length-append}
+use Rattle.std.proofs.lemmas.List.Elements.{All-nil}
 use Rattle.std.proofs.lemmas.Grind.{flat_map-append}
 use Rattle.gs_sentences.specs.Parts.{part}
 use Rattle.gs_explain.specs.declared.outline.Outline.{Outline}
 use Rattle.gs_explain.specs.Composed.{behind_commas, object_pieces}
 use Rattle.gs_explain.specs.Retold.{Leads}
-use Rattle.gs_explain.specs.Outlined.{Grows, HasParts, IsKept, IsOutlined, Notes, NotesRefusal, outline_text, outlines_text, told_object}
+use Rattle.gs_explain.specs.Outlined.{AreOutlined, Grows, HasParts, IsKept, IsOutlined, Notes, NotesTold, TellsNothing, nothing_object, outline_text, outlines_text, told_object}
 use Rattle.gs_explain.specs.declared.outline.Told.{Told}
 use Rattle.gs_explain.specs.declared.outline.Told.TheVariants as tolds
 use Rattle.gs_layout.specs.declared.refusal.Refusal.{Refusal}
@@ -26,9 +29,10 @@ use Rattle.gs_explain.specs.Tailed.{at_of, tail_refusal}
 use Rattle.gs_explain.proofs.Tailing.{not_part, refused_row}
 use Rattle.std.specs.Str.Lines.{lines as lines_in}
 use Rattle.serde_json.specs.Written.{compact_text}
+use Rattle.gs_kernel.specs.declared.landing.Landing.{Landing}
 use Rattle.gs_lines.specs.Lines.{line}
 use Rattle.gs_script.specs.Words.{is_text}
-use Rattle.gs_explain.specs.Objects.{object_row, row_data}
+use Rattle.gs_explain.specs.Objects.{none_why, object_row, row_data, whys}
 use Rattle.gs_explain.proofs.Composing.{whole_object}
 use Rattle.gs_explain.proofs.Retelling.{part_more}
 use Rattle.gs_explain.proofs.RowsAgain.{part_behind}
@@ -85,11 +89,14 @@ all_same (o ∷ os) text more all =
     let rest = all_same os text more (λ k d lt. all (suc k) d (omega arith)) in
     λ i. here i ++ rest i
 
+pub outlines_grown : (os : List Outline) (old new : List ℕ) → Grows old new → All (IsOutlined old) os → outlines_text new os ≡ outlines_text old os
+outlines_grown os old new (more, e) all = ap (λ (t : List ℕ). outlines_text t os) e ∙ all_same os old more all
+
 -- one more, of a text that grew
 pub outlines_more : (os : List Outline) (o : Outline) (old new : List ℕ) → Grows old new → All (IsOutlined old) os → outlines_text new (os ++ o ∷ []) ≡ outlines_text old os ++ outline_text new o
-outlines_more os o old new (more, e) all =
+outlines_more os o old new grows all =
     flat_map-append (outline_text new) os (o ∷ [])
-    ∙ (ap (λ (t : List ℕ). outlines_text new os ++ t) (append-nil (outline_text new o)) ∙ ap (λ (t : List ℕ). t ++ outline_text new o) (ap (λ (t : List ℕ). outlines_text t os) e ∙ all_same os old more all))
+    ∙ (ap (λ (t : List ℕ). outlines_text new os ++ t) (append-nil (outline_text new o)) ∙ ap (λ (t : List ℕ). t ++ outline_text new o) (outlines_grown os old new grows all))
 
 pub outlined_more : (os : List Outline) (o : Outline) (old new : List ℕ) → Grows old new → All (IsOutlined old) os → IsOutlined new o → All (IsOutlined new) (os ++ o ∷ [])
 outlined_more [] o old new grows all is zero d lt = is
@@ -97,8 +104,40 @@ outlined_more [] o old new grows all is (suc k) d lt = absurd (omega arith)
 outlined_more (p ∷ os) o old new (more, e) all is zero d lt = subst (λ (t : List ℕ). IsOutlined t p) (sym e) (still p old more (all 0 p (omega arith)))
 outlined_more (p ∷ os) o old new (more, e) all is (suc k) d lt = outlined_more os o old new (more, e) (λ j x le. all (suc j) x (omega arith)) is k d (omega arith)
 
-pub outlined_grown : (os : List Outline) (old new : List ℕ) → Grows old new → All (IsOutlined old) os → All (IsOutlined new) os
-outlined_grown os old new (more, e) all = λ k d lt. subst (λ (t : List ℕ). IsOutlined t (get_or os k d)) (sym e) (still (get_or os k d) old more (all k d lt))
+-- if an event that was outlined is kept, what holds then of what was outlined holds
+pub kept_ok : {T E U F : Type 0} (Q : Type 0) (r : Result T E) (o : Result U F) → OnOk r (IsOk o) → OnOk o Q → OnOk r Q
+kept_ok Q (Ok x) (Ok o) is q = q
+kept_ok Q (Ok x) (Err e) is q = absurd cc
+kept_ok Q (Err e) o is q = tt
+
+pub kept_told : {T E F : Type 0} (r : Result T E) (o : Result Outline F) (os all : List Outline) (old new before row : List ℕ) → OnOk r (IsOk o) → OnOk r (IfOk o (λ x. all ≡ os ++ x ∷ [])) → OnOk o (Grows old new) → IfOk o (λ x. outline_text new x ≡ row)
+    → All (IsOutlined old) os → outlines_text old os ≡ before → OnOk r (outlines_text new all ≡ before ++ row)
+kept_told (Ok x) (Ok o) os all old new before row is added grows told stand view = ap (outlines_text new) added ∙ (outlines_more os o old new grows stand ∙ (λ i. view i ++ told i))
+kept_told (Ok x) (Err e) os all old new before row is added grows told stand view = absurd cc
+kept_told (Err e) o os all old new before row is added grows told stand view = tt
+
+-- and all are outlined, whether it was kept or not
+nothing_grown : (nothing : Option Told) (old new : List ℕ) → Grows old new → IfSome nothing (TellsNothing old) → IfSome nothing (TellsNothing new)
+nothing_grown None old new grows is = tt
+nothing_grown (Some t) old new (more, e) is =
+    subst (λ (text : List ℕ). TellsNothing text t) (sym e) (record { kept = still_kept t old more is.kept; told = λ said first. same_told t said first old more is.kept ∙ is.told said first })
+
+pub none_outlined : (all : List Outline) (nothing : Option Told) (text : List ℕ) → all ≡ [] → nothing ≡ None → AreOutlined text all nothing
+none_outlined all nothing text none forgot =
+    record {
+      events = subst (All (IsOutlined text)) (sym none) (All-nil (IsOutlined text));
+      nothing = subst (λ (t : Option Told). IfSome t (TellsNothing text)) (sym forgot) tt;
+    }
+
+pub kept_outlined : {T E F : Type 0} (r : Result T E) (o : Result Outline F) (os all : List Outline) (nothing now : Option Told) (old new : List ℕ) → OnOk r (IsOk o) → OnOk r (IfOk o (λ x. all ≡ os ++ x ∷ [])) → OnOk r (now ≡ nothing) → OnErr r ((all ≡ []) × (now ≡ None))
+    → OnOk o (Grows old new) → IfOk o (IsOutlined new) → AreOutlined old os nothing → AreOutlined new all now
+kept_outlined (Ok x) (Ok o) os all nothing now old new is added same none grows stands are =
+    record {
+      events = subst (All (IsOutlined new)) (sym added) (outlined_more os o old new grows are.events stands);
+      nothing = subst (λ (t : Option Told). IfSome t (TellsNothing new)) (sym same) (nothing_grown nothing old new grows are.nothing);
+    }
+kept_outlined (Ok x) (Err e) os all nothing now old new is added same none grows stands are = absurd cc
+kept_outlined (Err e) o os all nothing now old new is added same none grows stands are = none_outlined all now new none.0 none.1
 
 -- an event, for where none is
 abbrev pub nothing : Outline
@@ -177,13 +216,53 @@ module _ (o : Outline) (old mid new lines : List ℕ) (why : List Data) (said : 
       (λ i. told_object (noted.said i) (noted.first i) new (noted.told i)) ∙ ((λ i. object_pieces said first (end - first) (lines_part i) (whys_part i)) ∙ whole_object said first end lines why)
 
 -- an event that was refused is outlined by its numbers, whatever text there is
-pub refused_outlined : (o : Outline) (said : ℕ × List ℕ) (where_at : Option (ℕ × ℕ)) (t : Tail) (x : Moment) (f : Refusal) → NotesRefusal said (length x.history) where_at t o → tail_refusal t ≡ f → IsTail t f (refused_text (why_refused x f)) → where_at ≡ at_of (why_refused x f).cause
+pub refused_outlined : (o : Outline) (said : ℕ × List ℕ) (where_at : Option (ℕ × ℕ)) (t : Tail) (x : Moment) (f : Refusal) → NotesTold said (length x.history) (tolds.Refused where_at t) o → tail_refusal t ≡ f → IsTail t f (refused_text (why_refused x f)) → where_at ≡ at_of (why_refused x f).cause
     → (text : List ℕ) → outline_text text o ≡ object_row said x (length x.history) (replies.Refused f)
 refused_outlined o said where_at t x f noted same tail at text = (λ i. told_object (noted.said i) (noted.first i) text (noted.told i)) ∙ refused_row t where_at x f said same tail at
 
-pub refused_stands : (o : Outline) (said : ℕ × List ℕ) (first : ℕ) (where_at : Option (ℕ × ℕ)) (t : Tail) (f : Refusal) (why : List ℕ) → NotesRefusal said first where_at t o → IsTail t f why → is_text said.1 ≡ true → (text : List ℕ) → IsOutlined text o
+pub refused_stands : (o : Outline) (said : ℕ × List ℕ) (first : ℕ) (where_at : Option (ℕ × ℕ)) (t : Tail) (f : Refusal) (why : List ℕ) → NotesTold said first (tolds.Refused where_at t) o → IsTail t f why → is_text said.1 ≡ true → (text : List ℕ) → IsOutlined text o
 refused_stands o said first where_at t f why noted tail line text =
     record {
       line = subst (λ (p : ℕ × List ℕ). is_text p.1 ≡ true) (sym noted.said) line;
       told = subst (IsKept text) (sym noted.told) (not_part t f why tail);
     }
+
+-- an event of no entry, of which nothing but reasons is told
+abbrev silent : ℕ × List ℕ → ℕ → ℕ → ℕ → Outline
+silent said first from to = record { line = record { ref_ptr = (0, 0); now = said.1 }; number = said.0; first = first; told = tolds.Parts (first - first) from (from - from) (to - from) }
+
+silent_noted : (said : ℕ × List ℕ) (first from to : ℕ) → Notes said first (first - first) from from to (silent said first from to)
+silent_noted said first from to = record { said = refl; first = refl; told = refl }
+
+same_parts : (from a b c n : ℕ) → a ≡ 0 → b ≡ 0 → c ≡ n → tolds.Parts a from b c ≡ tolds.Parts 0 from 0 n
+same_parts from a b c n e f g = λ i. tolds.Parts (e i) from (f i) (g i)
+
+silent_parts : (first from to n : ℕ) → from + n ≡ to → tolds.Parts (first - first) from (from - from) (to - from) ≡ tolds.Parts 0 from 0 n
+silent_parts first from to n size = same_parts from (first - first) (from - from) (to - from) n (omega arith) (omega arith) (omega arith)
+
+-- what is told of a commit that stamped nothing, once its reason was added to a text
+pub nothing_told : (old new : List ℕ) (from n : ℕ) → from ≡ length old → from + n ≡ length new → new ≡ old ++ behind_commas (none_why []) → IsUtf8 old → IsUtf8 new → TellsNothing new (tolds.Parts 0 from 0 n)
+nothing_told old new from n at size is u v =
+    let why : List Data = none_why [] in
+    let to : ℕ = length new in
+    let same : old ≡ old ++ [] = sym (append-nil old) in
+    record {
+      kept = subst (IsKept new) (silent_parts 0 from to n size) (are_kept (silent (0, []) 0 from to) old old new [] why (0, []) 0 0 from from to (silent_noted (0, []) 0 from to) at at refl same is u u v);
+      told = λ said first. ap (told_object said first new) (sym (silent_parts first from to n size)) ∙ told_outline (silent said first from to) old old new [] why said first first from from to (silent_noted said first from to) at at refl same is;
+    }
+
+-- the object of such a commit
+pub nothing_row : (said : ℕ × List ℕ) (x : Moment) (landings : List Landing) (first : ℕ) → length landings ≡ 0 → length x.history ≡ first → object_row said x first (replies.Landed landings false) ≡ nothing_object said first
+nothing_row said x [] first none all = λ i. line (compact_text (row_data said first (all i) [] (none_why [])))
+nothing_row said x (l ∷ ls) first none all = absurd (omega arith)
+
+-- one more of them
+pub nothing_outlined : (o : Outline) (t : Told) (said : ℕ × List ℕ) (first : ℕ) (text : List ℕ) → NotesTold said first t o → TellsNothing text t → is_text said.1 ≡ true → IsOutlined text o
+nothing_outlined o t said first text noted tells text_line =
+    record {
+      line = subst (λ (p : ℕ × List ℕ). is_text p.1 ≡ true) (sym noted.said) text_line;
+      told = subst (IsKept text) (sym noted.told) tells.kept;
+    }
+
+pub nothing_shown : (o : Outline) (t : Told) (said : ℕ × List ℕ) (first : ℕ) (text : List ℕ) → NotesTold said first t o → TellsNothing text t → outline_text text o ≡ nothing_object said first
+nothing_shown o t said first text noted tells = (λ i. told_object (noted.said i) (noted.first i) text (noted.told i)) ∙ tells.told said first

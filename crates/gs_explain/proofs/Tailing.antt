@@ -1,7 +1,6 @@
 -- What an object has of a refusal that is told by numbers.
 use Rattle.std.proofs.Common.{◌≡◌, ◌∙◌, refl, sym, ap, subst, true, false, ℕ, zero, suc, ◌+◌, ◌-◌, ◌≤◌, Option, None, Some, List, [], ◌∷◌, ◌++◌, append_assoc, append-nil, arith, codes, drop, get_or, length, take}
 use Rattle.std.specs.Prelude.{decimal}
-use Rattle.std.specs.Fmt.{digits}
 use Rattle.std.specs.List.{list_all}
 use Rattle.std.proofs.lemmas.Bool.{and_parts, false≢true}
 use Rattle.std.proofs.lemmas.List.{length-append, length-drop, length-take}
@@ -28,7 +27,7 @@ use Rattle.gs_explain.specs.Objects.{line_of_cause, object_row, place_of_cause, 
 use Rattle.gs_explain.specs.Refusals.{why_refused}
 use Rattle.gs_explain.specs.Tailed.{at_of, end_of, front_of, line_in, middle_of, place_in, quoted_reply, refused_object, sentence_in, tail_reason, tail_refusal}
 use Rattle.gs_explain.proofs.Quoting.{utf8_front}
-use Rattle.gs_explain.proofs.Composing.{only_reply, whole_object, whole_reason}
+use Rattle.gs_explain.proofs.Composing.{no_entry, only_reply, whole_object, whole_reason}
 
 -- what is told of a refusal is its reply and a sentence
 pub tail_parts : (text : List ℕ) (t : Tail) → is_part t ≡ false → (r : List ℕ) × (tail_text text t ≡ told (tail_refusal t) r)
@@ -209,10 +208,6 @@ reason_is_text t bytes told_so is u =
     subst IsUtf8 same (utf8_front (r ++ 10 ∷ []) r refl ended)
 
 -- the pieces of an object of an event that was refused
-no_entry : (codes "{\"entries\":{\"count\":" ++ decimal 0) ++ codes ",\"first\":" ≡ codes "{\"entries\":{\"count\":0,\"first\":"
-unfolding digits
-no_entry = refl
-
 regroup : (z c d n a r b q e : List ℕ) → ((((z ++ c) ++ d) ++ n) ++ ((a ++ r) ++ b) ++ q) ++ e ≡ (((((((z ++ c) ++ d) ++ n) ++ a) ++ r) ++ b) ++ q) ++ e
 regroup z c d n a r b q e = simp append_assoc
 
@@ -220,4 +215,4 @@ pub stenciled : (said : ℕ × List ℕ) (first : ℕ) (where_at : Option (ℕ �
 stenciled said first where_at t =
     let replies_in : List ℕ = replies_pieces (reply_lines (replies.Refused (tail_refusal t))) in
     regroup (codes "{\"entries\":{\"count\":0,\"first\":") (decimal first) (codes "},\"line\":") (decimal said.0) (codes ",\"replies\":[") replies_in (codes "],\"text\":") (quoted said.1) (end_of where_at t)
-    ∙ ap (λ (z : List ℕ). (((((((z ++ decimal first) ++ codes "},\"line\":") ++ decimal said.0) ++ codes ",\"replies\":[") ++ replies_in) ++ codes "],\"text\":") ++ quoted said.1) ++ end_of where_at t) (sym no_entry)
+    ∙ ap (λ (z : List ℕ). ((((((z ++ codes "},\"line\":") ++ decimal said.0) ++ codes ",\"replies\":[") ++ replies_in) ++ codes "],\"text\":") ++ quoted said.1) ++ end_of where_at t) (no_entry first)

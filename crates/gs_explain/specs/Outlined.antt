@@ -1,16 +1,21 @@
 -- Objects that are put together at the end.
-use Rattle.std.specs.Prelude.{◌≡◌, ◌≤◌, ◌+◌, ◌-◌, true, false, ℕ, Option, List, ◌++◌, drop, length}
-use Rattle.std.specs.List.{flat_map}
+use Rattle.std.specs.Prelude.{◌≡◌, ◌≤◌, ◌+◌, ◌-◌, true, false, ℕ, Option, List, [], ◌∷◌, ◌++◌, drop, length, map, take}
+use Rattle.std.specs.List.{All, flat_map}
+use Rattle.std.specs.Option.{IfSome}
 use Rattle.std.specs.Str.{IsUtf8}
+use Rattle.serde_json.specs.Written.{compact_text}
+use Rattle.gs_lines.specs.Lines.{line}
 use Rattle.gs_script.specs.Words.{is_text}
 use Rattle.gs_sentences.specs.Parts.{part}
 use Rattle.gs_sentences.specs.Tails.{is_part}
-use Rattle.gs_sentences.specs.declared.tail.Tail.{Tail}
 use Rattle.gs_explain.specs.Composed.{object_pieces}
+use Rattle.gs_explain.specs.Objects.{none_why, row_data}
 use Rattle.gs_explain.specs.Tailed.{refused_object}
 use Rattle.gs_explain.specs.declared.outline.Outline.{Outline}
 use Rattle.gs_explain.specs.declared.outline.Told.{Told}
 use Rattle.gs_explain.specs.declared.outline.Told.TheVariants as tolds
+use Rattle.gs_explain.specs.declared.outlines.Other.{Other}
+use Rattle.gs_explain.specs.declared.outlines.Short.{Short}
 
 -- the object of an event, of which a text has the lines of the reply and the reasons, unless it was refused and is told by numbers
 abbrev pub told_object : ℕ × List ℕ → ℕ → List ℕ → Told → List ℕ
@@ -30,11 +35,11 @@ pub record Notes (line : ℕ × List ℕ) (place added begin middle end : ℕ) (
   pub first : o.first ≡ place
   pub told : o.told ≡ tolds.Parts added begin (middle - begin) (end - middle)
 
--- an event that was refused is noted so
-pub record NotesRefusal (line : ℕ × List ℕ) (place : ℕ) (where_at : Option (ℕ × ℕ)) (t : Tail) (o : Outline) : Type 0 where
+-- an event that added no entry is noted so
+pub record NotesTold (line : ℕ × List ℕ) (place : ℕ) (t : Told) (o : Outline) : Type 0 where
   pub said : (o.number, o.line.now) ≡ line
   pub first : o.first ≡ place
-  pub told : o.told ≡ tolds.Refused where_at t
+  pub told : o.told ≡ t
 
 -- a text has the lines of a reply from a place on, and reasons behind them
 pub record HasParts (text : List ℕ) (from mid to : ℕ) : Type 0 where
@@ -52,6 +57,38 @@ pub record IsOutlined (text : List ℕ) (o : Outline) : Type 0 where
   pub line : is_text o.line.now ≡ true
   pub told : IsKept text o.told
 
+-- the object of a commit that stamped nothing and added no entry
+abbrev pub nothing_object : ℕ × List ℕ → ℕ → List ℕ
+nothing_object said first = line (compact_text (row_data said first first [] (none_why [])))
+
+-- a text has what is told of each such commit
+pub record TellsNothing (text : List ℕ) (t : Told) : Type 0 where
+  pub kept : IsKept text t
+  pub told : (said : ℕ × List ℕ) (first : ℕ) → told_object said first text t ≡ nothing_object said first
+
+-- a text has what is told of events, and of a commit that stamped nothing, if there was one
+pub record AreOutlined (text : List ℕ) (os : List Outline) (once : Option Told) : Type 0 where
+  pub events : All (IsOutlined text) os
+  pub nothing : IfSome once (TellsNothing text)
+
 -- a text has the same beginning, and more
 abbrev pub Grows : List ℕ → List ℕ → Type 0
 Grows old new = (more : List ℕ) × (new ≡ old ++ more)
+
+-- an event in few bytes, as any is kept
+abbrev pub widened : Short → Outline
+widened s = record { line = s.line; number = s.number; first = s.first; told = tolds.Parts s.count s.from s.lines s.whys }
+
+-- those in few bytes from one place to another
+abbrev pub widened_run : ℕ → ℕ → List Short → List Outline
+widened_run from to shorts = map widened (take (to - from) (drop from shorts))
+
+-- events in order: those in few bytes from a place on, with the others among them
+abbrev pub merged : ℕ → List Short → List Other → List Outline
+merged from shorts [] = map widened (drop from shorts)
+merged from shorts (o ∷ rest) = widened_run from o.before shorts ++ o.outline ∷ merged o.before shorts rest
+
+-- each of the others comes behind those before it, and there are so many in few bytes
+abbrev pub InOrder : ℕ → ℕ → List Other → Type 0
+InOrder from len [] = from ≤ len
+InOrder from len (o ∷ rest) = (from ≤ o.before) × InOrder o.before len rest

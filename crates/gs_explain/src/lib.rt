@@ -15,6 +15,7 @@ mod moment;
 mod object;
 mod objects;
 mod outline;
+mod outlines;
 mod overflow;
 mod page;
 mod piece;

@@ -6,10 +6,11 @@ ghost use Rattle.json.specs.Print.{quoted};
 ghost use Rattle.json.specs.Written.{PlainBetween};
 ghost use Rattle.serde_json.specs.Written.{comma_if};
 ghost use Rattle.gs_script.specs.Words.{is_text};
-ghost use Rattle.gs_explain.specs.Composed.{front_pieces, object_pieces, reasons_pieces, replies_pieces, short_pieces};
+ghost use Rattle.gs_explain.specs.Composed.{end_pieces, entries_pieces, middle_pieces, object_pieces, short_pieces, replies_pieces, silent_pieces};
 
 use crate::quoted::{as_text, is_plain, push_quoted};
 use gs_lines::Text;
+use gs_text::Digits;
 use std::alloc::{AllocError, Global};
 
 /// Returns the line that bytes are, without its newline, if no byte of it has to be escaped.
@@ -47,132 +48,151 @@ fn push_lines(alloc: Global, out: &mut Text, lines: &str) -> Result<(), AllocErr
     Ok(())
 }
 
-/// Begins the object of an event: with how many entries it added, the place of the first, the line's number, and words.
-#[inline(always)]
-fn push_front(
-    out: &mut Text,
-    number: u32,
-    first: u32,
-    count: u32,
-    words: &str,
-) -> Result<(), AllocError>
-    ensures { OnOk result (out.new ≡ out.old ++ front_pieces number first count ++ words.now) }
-{
-    out.push_two(
-        "{\"entries\":{\"count\":",
-        count as u64,
-        ",\"first\":",
-        first as u64,
-    )?;
-    out.push_between("},\"line\":", number as u64, words)
-}
-
-/// Adds reasons as they stand in an array, and ends the object.
-#[inline(always)]
-fn push_reasons(out: &mut Text, reasons: &[u8]) -> Result<(), AllocError>
-    requires { IsUtf8 reasons.now }
-    ensures { OnOk result (out.new ≡ out.old ++ reasons_pieces reasons.now) }
-{
-    out.push_str(",\"why\":[")?;
-    out.append(reasons)?;
-    out.push_str("]}\n")
-}
-
-/// Returns what bytes have behind the first one.
-#[inline(always)]
-fn behind_first(bytes: &[u8]) -> &[u8]
-    ensures { result.now ≡ drop 1 bytes.now }
-{
-    match bytes.split_first() {
-        Some((_, behind)) => behind,
-        None => bytes,
-    }
-}
-
-/// Ends the object of an event, with its reasons, which stand behind commas.
+/// Adds reasons, which stand behind commas, as they stand in an array, and ends the object.
 #[inline(always)]
 fn push_end(out: &mut Text, whys: &[u8]) -> Result<(), AllocError>
     requires { IsUtf8 (drop 1 whys.now) }
-    ensures { OnOk result (out.new ≡ out.old ++ reasons_pieces (drop 1 whys.now)) }
+    ensures { OnOk result (out.new ≡ out.old ++ end_pieces whys.now) }
 {
-    if whys.is_empty() {
-        return out.push_str(",\"why\":[]}\n");
+    if let Some((_, behind)) = whys.split_first() {
+        out.append(behind)?;
     }
-    push_reasons(out, behind_first(whys))
+    out.push_str("]}\n")
 }
 
-/// Adds any object.
+/// Adds what any object has between its entries and its reasons.
 #[inline(never)]
 #[tactic(auto, using(gs_script::proofs::Texts::text_is_utf8))]
 fn push_any(
     alloc: Global,
     out: &mut Text,
-    number: u32,
+    number: &Digits,
     line: &[u8],
-    first: u32,
-    count: u32,
     lines: &[u8],
-    whys: &[u8],
 ) -> Result<(), AllocError>
     requires text { is_text line.now ≡ true }
     requires lines { IsUtf8 lines.now }
-    requires whys { IsUtf8 (drop 1 whys.now) }
-    ensures { OnOk result (out.new ≡ out.old ++ object_pieces (number, line.now) first count lines.now whys.now) }
+    ensures { OnOk result (out.new ≡ out.old ++ middle_pieces (number.now, line.now) lines.now) }
 {
-    push_front(out, number, first, count, ",\"replies\":[")?;
+    out.push_digits_between("},\"line\":", number, ",\"replies\":[")?;
     push_lines(alloc, out, as_text(lines))?;
     out.push_str("],\"text\":")?;
     push_quoted(alloc, out, line)?;
-    push_end(out, whys)
+    out.push_str(",\"why\":[")
 }
 
-/// Adds an object that has one line of a reply. No byte of that or of the script's line has to be escaped.
+/// Adds the same, if no byte of a script's line and of the only line of its reply has to be escaped.
 #[inline(always)]
 #[tactic(auto, using(gs_script::proofs::Texts::text_is_utf8))]
-fn push_short(
-    out: &mut Text,
-    number: u32,
-    line: &[u8],
-    first: u32,
-    count: u32,
-    reply: &[u8],
-    whys: &[u8],
-) -> Result<(), AllocError>
+fn push_short(out: &mut Text, number: &Digits, line: &[u8], reply: &[u8]) -> Result<(), AllocError>
     requires text { is_text line.now ≡ true }
     requires reply { IsUtf8 reply.now }
-    requires whys { IsUtf8 (drop 1 whys.now) }
-    ensures { OnOk result (out.new ≡ out.old ++ short_pieces (number, line.now) first count reply.now whys.now) }
+    ensures { OnOk result (out.new ≡ out.old ++ short_pieces (number.now, line.now) reply.now) }
 {
-    push_front(out, number, first, count, ",\"replies\":[\"")?;
-    out.append(reply)?;
-    out.push_str("\"],\"text\":\"")?;
-    out.append(line)?;
-    out.push_str("\"")?;
-    push_end(out, whys)
+    out.push_line(
+        "},\"line\":",
+        number,
+        ",\"replies\":[\"",
+        reply,
+        "\"],\"text\":\"",
+    )?;
+    out.push_few(line, "\",\"why\":[")
 }
 
-/// Adds the object of an event in a line of its own: by its line, its entries, the lines of its reply, and its reasons, which
-/// stand behind commas. It fails only if out of memory.
-#[inline(never)]
-pub(crate) fn push_object(
-    alloc: Global,
-    out: &mut Text,
-    number: u32,
-    line: &[u8],
-    first: u32,
-    count: u32,
-    lines: &[u8],
-    whys: &[u8],
-) -> Result<(), AllocError>
+/// Adds the same, if the reply has no line.
+#[inline(always)]
+#[tactic(auto, using(gs_script::proofs::Texts::text_is_utf8))]
+fn push_silent(out: &mut Text, number: &Digits, line: &[u8]) -> Result<(), AllocError>
     requires text { is_text line.now ≡ true }
-    requires lines { IsUtf8 lines.now }
-    requires whys { IsUtf8 (drop 1 whys.now) }
-    ensures { OnOk result (out.new ≡ out.old ++ object_pieces (number, line.now) first count lines.now whys.now) }
+    ensures { OnOk result (out.new ≡ out.old ++ silent_pieces (number.now, line.now)) }
 {
-    match only_line(lines) {
-        Some(reply) if is_plain(line) => {
-            push_short(out, number, line, first, count, reply, whys)
+    out.push_line(
+        "},\"line\":",
+        number,
+        ",\"replies\":[],\"text\":\"",
+        line,
+        "\",\"why\":[",
+    )
+}
+
+/// Puts objects together. It keeps the digits of two numbers, which are mostly those of the object before, or little more.
+#[derive(Drop)]
+pub(crate) struct Pen {
+    first: Digits,
+    number: Digits,
+}
+
+impl Pen {
+    /// Makes one by which no object was put together.
+    pub(crate) fn new() -> Pen {
+        Pen {
+            first: Digits::new(0),
+            number: Digits::new(0),
         }
-        _ => push_any(alloc, out, number, line, first, count, lines, whys),
+    }
+
+    /// Begins the object of an event: with how many entries it added, and the place of the first.
+    #[inline(always)]
+    fn push_front(&mut self, out: &mut Text, first: u32, count: u32) -> Result<(), AllocError>
+        ensures { OnOk result (out.new ≡ out.old ++ entries_pieces first count) }
+    {
+        self.first.set(first as u64);
+        match count {
+            0 => out.push_digits("{\"entries\":{\"count\":0,\"first\":", &self.first),
+            1 => out.push_digits("{\"entries\":{\"count\":1,\"first\":", &self.first),
+            _ => out.push_number_digits(
+                "{\"entries\":{\"count\":",
+                count as u64,
+                ",\"first\":",
+                &self.first,
+            ),
+        }
+    }
+
+    /// Adds what an object has between its entries and its reasons: the number of its line, the lines of its reply, and the line.
+    #[inline(always)]
+    fn push_middle(
+        &mut self,
+        alloc: Global,
+        out: &mut Text,
+        number: u32,
+        line: &[u8],
+        lines: &[u8],
+    ) -> Result<(), AllocError>
+        requires text { is_text line.now ≡ true }
+        requires lines { IsUtf8 lines.now }
+        ensures { OnOk result (out.new ≡ out.old ++ middle_pieces (number, line.now) lines.now) }
+    {
+        self.number.set(number as u64);
+        let plain = is_plain(line);
+        match only_line(lines) {
+            Some(reply) if plain => push_short(out, &self.number, line, reply),
+            None if plain && lines.is_empty() => push_silent(out, &self.number, line),
+            _ => push_any(alloc, out, &self.number, line, lines),
+        }
+    }
+
+    /// Adds the object of an event in a line of its own: by its line, its entries, the lines of its reply, and its reasons, which
+    /// stand behind commas. It fails only if out of memory.
+    #[inline(always)]
+    pub(crate) fn push(
+        &mut self,
+        alloc: Global,
+        out: &mut Text,
+        number: u32,
+        line: &[u8],
+        first: u32,
+        count: u32,
+        lines: &[u8],
+        whys: &[u8],
+    ) -> Result<(), AllocError>
+        requires text { is_text line.now ≡ true }
+        requires lines { IsUtf8 lines.now }
+        requires whys { IsUtf8 (drop 1 whys.now) }
+        ensures { OnOk result (out.new ≡ out.old ++ object_pieces (number, line.now) first count lines.now whys.now) }
+    {
+        self.push_front(out, first, count)?;
+        self.push_middle(alloc, out, number, line, lines)?;
+        push_end(out, whys)
     }
 }

@@ -1,6 +1,6 @@
 //! What explains a script, as a JSON object for each event.
 
-ghost use Rattle.std.specs.Prelude.{◌≡◌, ◌≤◌, ◌++◌, [], ℕ, false, IfOk, IfSome, List, Ok, OnErr, OnOk, length, take, true};
+ghost use Rattle.std.specs.Prelude.{◌≡◌, ◌≤◌, ◌++◌, ◌∷◌, [], ℕ, false, IfOk, IfSome, IsOk, List, None, Ok, OnErr, OnOk, length, map, take, true};
 ghost use Rattle.std.specs.Io.KnownBytes.{Appends};
 ghost use Rattle.std.specs.List.{All};
 ghost use Rattle.gs_journal.specs.Last.{entry_lent};
@@ -12,14 +12,15 @@ ghost use Rattle.gs_trace.specs.Came.{reply_in};
 ghost use Rattle.gs_explain.specs.Marked.{IsMarked};
 ghost use Rattle.gs_explain.specs.Moment.{moment_of};
 ghost use Rattle.gs_explain.specs.Objects.{done_object, object_row};
-ghost use Rattle.gs_explain.specs.Outlined.{IsOutlined, outline_text, outlines_text};
+ghost use Rattle.gs_explain.specs.Outlined.{AreOutlined, InOrder, IsOutlined, TellsNothing, merged, nothing_object, outline_text, outlines_text, widened};
 ghost use Rattle.gs_explain.specs.Retold.{IsBegun, Moves};
 ghost use Rattle.gs_explain.specs.Stenciled.{IsStencil};
 
 use crate::draft::Draft;
 use crate::moment::Scene;
-use crate::object::push_object;
-use crate::outline::{Outline, Told, outlined, outlined_done};
+use crate::object::Pen;
+use crate::outline::{Outline, Told, outlined, outlined_done, told_nothing};
+use crate::outlines::{Other, Outlines, Short};
 use crate::stencil::Stencil;
 use crate::tail::tail_of;
 use crate::teller::Teller;
@@ -46,6 +47,7 @@ const OBJECT_LEN: usize = 4_096;
 fn push_outline(
     alloc: Global,
     out: &mut Text,
+    pen: &mut Pen,
     stencil: &mut Stencil,
     text: &[u8],
     outline: &Outline<'_>,
@@ -72,7 +74,7 @@ fn push_outline(
             let to = mid + whys as usize;
             let lines = &text[from..mid];
             let whys = &text[mid..to];
-            push_object(alloc, out, number, line, first, count, lines, whys)
+            pen.push(alloc, out, number, line, first, count, lines, whys)
         }
         Told::Refused { at, tail } => stencil.push(alloc, out, number, line, first, at, &tail),
     }
@@ -104,6 +106,7 @@ fn add_object<W: Write>(
     alloc: Global,
     block: &mut Text,
     writer: &mut W,
+    pen: &mut Pen,
     stencil: &mut Stencil,
     text: &[u8],
     outline: &Outline<'_>,
@@ -114,31 +117,79 @@ fn add_object<W: Write>(
     ensures moved { OnOk result (Moves (W.contents writer.old) block.old (outline_text text.now outline.now) (W.contents writer.new) block.new) }
     ensures begun { OnErr result (IsBegun (W.contents writer.old) (W.contents writer.new) (block.old ++ outline_text text.now outline.now)) }
 {
-    push_outline(alloc, block, stencil, text, outline)?;
+    push_outline(alloc, block, pen, stencil, text, outline)?;
     if BLOCK_LEN < block.len() {
         send(block, writer)?;
     }
     Ok(())
 }
 
-/// Writes the objects of events, in blocks, for which an empty one is given.
+/// Adds the objects of events that were kept in few bytes to a block, and writes that whenever it is full.
+#[inline(never)]
+fn add_shorts<W: Write>(
+    alloc: Global,
+    block: &mut Text,
+    writer: &mut W,
+    pen: &mut Pen,
+    stencil: &mut Stencil,
+    text: &[u8],
+    shorts: &[Short<'_>],
+) -> Result<(), WriteFailed>
+    requires outlined { All (λ short. IsOutlined text.now (widened short)) shorts.now }
+    requires stencil { IsStencil stencil.old }
+    ensures kept { OnOk result (IsStencil stencil.new) }
+    ensures moved { OnOk result (Moves (W.contents writer.old) block.old (outlines_text text.now (map widened shorts.now)) (W.contents writer.new) block.new) }
+    ensures begun { OnErr result (IsBegun (W.contents writer.old) (W.contents writer.new) (block.old ++ outlines_text text.now (map widened shorts.now))) }
+{
+    for short in shorts {
+        add_object(alloc, block, writer, pen, stencil, text, &short.widened())?;
+    }
+    Ok(())
+}
+
+/// Writes the objects of events, in blocks, for which an empty one is given. Of the events in few bytes, some come before each other one.
 fn write_objects<W: Write>(
     alloc: Global,
     text: &[u8],
-    outlines: &[Outline<'_>],
+    shorts: &[Short<'_>],
+    others: &[Other<'_>],
     block: Text,
     writer: &mut W,
 ) -> Result<(), WriteFailed>
-    requires outlined { All (IsOutlined text.now) outlines.now }
+    requires outlined { All (IsOutlined text.now) (merged 0 shorts.now others.now) }
+    requires order { InOrder 0 (length shorts.now) others.now }
     requires empty { block ≡ [] }
-    ensures sent { OnOk result (Appends (W.contents writer.old) (W.contents writer.new) (outlines_text text.now outlines.now)) }
-    ensures begun { OnErr result (IsBegun (W.contents writer.old) (W.contents writer.new) (outlines_text text.now outlines.now)) }
+    ensures sent { OnOk result (Appends (W.contents writer.old) (W.contents writer.new) (outlines_text text.now (merged 0 shorts.now others.now))) }
+    ensures begun { OnErr result (IsBegun (W.contents writer.old) (W.contents writer.new) (outlines_text text.now (merged 0 shorts.now others.now))) }
 {
     let mut block = block;
+    let mut pen = Pen::new();
     let mut stencil = Stencil::new(alloc);
-    for outline in outlines {
-        add_object(alloc, &mut block, writer, &mut stencil, text, outline)?;
+    let mut done = 0;
+    for other in others {
+        let run = &shorts[done..other.before];
+        add_shorts(alloc, &mut block, writer, &mut pen, &mut stencil, text, run)?;
+        add_object(
+            alloc,
+            &mut block,
+            writer,
+            &mut pen,
+            &mut stencil,
+            text,
+            &other.outline,
+        )?;
+        done = other.before;
     }
+    let rest = &shorts[done..];
+    add_shorts(
+        alloc,
+        &mut block,
+        writer,
+        &mut pen,
+        &mut stencil,
+        text,
+        rest,
+    )?;
     send(&mut block, writer)
 }
 
@@ -147,19 +198,71 @@ fn write_objects<W: Write>(
 pub(crate) struct Objects<'a> {
     alloc: Global,
     draft: Draft,
-    outlines: Vec<Outline<'a>>,
+    outlines: Outlines<'a>,
+    /// What is told of a commit that stamped nothing, if there was one.
+    nothing: Option<Told>,
 }
 
 impl<'a> Model for Objects<'a> {
-    ghost use Rattle.std.specs.List.{All};
     ghost use Rattle.std.specs.Prelude.{List, ℕ};
-    ghost use Rattle.gs_explain.specs.Outlined.{IsOutlined, outlines_text};
+    ghost use Rattle.gs_explain.specs.Outlined.{AreOutlined, outlines_text};
 
     ghost Value = { List ℕ };
 
-    ghost view = { λ o. outlines_text o.draft o.outlines.items };
+    ghost view = { λ o. outlines_text o.draft o.outlines };
 
-    ghost invariant = { λ o. All (IsOutlined o.draft) o.outlines.items };
+    ghost invariant = { λ o. AreOutlined o.draft o.outlines o.nothing };
+}
+
+/// Adds an event that was outlined. If that failed, what the text has is not known, and nothing is kept.
+#[inline(always)]
+fn keep<'a>(
+    outlines: &mut Outlines<'a>,
+    nothing: &mut Option<Told>,
+    outlined: Result<Outline<'a>, AllocError>,
+) -> Result<(), AllocError>
+    ensures told { OnOk result (IsOk outlined.entry) }
+    ensures added { OnOk result (IfOk outlined.entry (λ outline. outlines.new ≡ outlines.old ++ outline ∷ [])) }
+    ensures same { OnOk result (nothing.new ≡ nothing.old) }
+    ensures none { OnErr result ((outlines.new ≡ []) × (nothing.new ≡ None)) }
+{
+    let kept = match outlined {
+        Ok(outline) => outlines.push(outline),
+        Err(error) => Err(error),
+    };
+    if kept.is_err() {
+        outlines.clear();
+        *nothing = None;
+    }
+    kept
+}
+
+/// Returns what is told of a commit that stamped nothing, and adds that first if there was none before. If that failed, what the text
+/// has is not known, and nothing is kept.
+#[inline(always)]
+fn tell_nothing(
+    draft: &mut Draft,
+    outlines: &mut Outlines<'_>,
+    nothing: &mut Option<Told>,
+) -> Result<Told, AllocError>
+    requires outlined { AreOutlined draft.old outlines.old nothing.old }
+    ensures same { OnOk result (outlines_text draft.new outlines.new ≡ outlines_text draft.old outlines.old) }
+    ensures told { IfOk result (λ told. TellsNothing draft.new told) }
+    ensures outlined { AreOutlined draft.new outlines.new nothing.new }
+{
+    if let Some(told) = *nothing {
+        return Ok(told);
+    }
+    match told_nothing(draft) {
+        Ok(told) => {
+            *nothing = Some(told);
+            Ok(told)
+        }
+        Err(error) => {
+            outlines.clear();
+            Err(error)
+        }
+    }
 }
 
 /// Returns an event that was refused, to be told at the end by numbers, or `None` if it does not fit. An index has heard all entries,
@@ -178,7 +281,7 @@ fn refused_outline<'a>(
     ensures stands { IfSome result (λ o. (text : List ℕ) → IsOutlined text o) }
 {
     let (tail, at) = tail_of(scene, index, refusal)?;
-    Outline::refused(said, scene.journal.len(), at, tail)
+    Outline::quiet(said, scene.journal.len(), Told::Refused { at, tail })
 }
 
 impl<'a> Objects<'a> {
@@ -189,7 +292,8 @@ impl<'a> Objects<'a> {
         Objects {
             alloc,
             draft: Draft::new(alloc),
-            outlines: Vec::new(alloc),
+            outlines: Outlines::new(alloc),
+            nothing: None,
         }
     }
 
@@ -203,10 +307,12 @@ impl<'a> Objects<'a> {
         ensures sent { OnOk result (Appends (W.contents writer.old) (W.contents writer.new) self.now) }
         ensures begun { OnErr result (IsBegun (W.contents writer.old) (W.contents writer.new) self.now) }
     {
+        let (shorts, others) = self.outlines.as_slices();
         write_objects(
             self.alloc,
             self.draft.as_bytes(),
-            self.outlines.as_slice(),
+            shorts,
+            others,
             block,
             writer,
         )
@@ -215,7 +321,7 @@ impl<'a> Objects<'a> {
 
 impl<'a> Objects<'a> {
     /// Adds an event. An index has heard the entries before the event, so many, and hears those of the event.
-    #[inline(always)]
+    #[inline(never)]
     fn add(
         &mut self,
         said: &SaidLine<'a>,
@@ -231,16 +337,8 @@ impl<'a> Objects<'a> {
         ensures shown { OnOk result (self.new ≡ self.old ++ object_row (said_line said.now) (moment_of scene.now) first (reply_in came.entry)) }
         ensures heard { OnOk result (HasHeard index.new scene.now.journal.now.entries) }
     {
-        match outlined(&mut self.draft, said, scene, index, first, came) {
-            Ok(outline) => {
-                self.outlines.push(outline)?;
-                Ok(())
-            }
-            Err(error) => {
-                self.outlines.clear();
-                Err(error)
-            }
-        }
+        let outlined = outlined(&mut self.draft, said, scene, index, first, came);
+        keep(&mut self.outlines, &mut self.nothing, outlined)
     }
 
     /// Adds a command that was done, by the kernel's journal and the last entry, as [`Objects::add`] does.
@@ -259,36 +357,24 @@ impl<'a> Objects<'a> {
         ensures shown { OnOk result (self.new ≡ self.old ++ done_object (said_line said.now) first (length journal.now.entries) (entry_lent last.entry)) }
         ensures heard { OnOk result (HasHeard index.new journal.now.entries) }
     {
-        match outlined_done(&mut self.draft, said, journal, index, first, last) {
-            Ok(outline) => {
+        let outlined = outlined_done(&mut self.draft, said, journal, index, first, last);
+        keep(&mut self.outlines, &mut self.nothing, outlined)
+    }
+
+    /// Adds a commit that stamped nothing and added no entry, and before which so many entries stand.
+    #[inline(never)]
+    fn add_nothing(&mut self, said: &SaidLine<'a>, first: usize) -> Result<(), AllocError>
+        requires text { is_text said.now.bytes.now ≡ true }
+        ensures { OnOk result (self.new ≡ self.old ++ nothing_object (said_line said.now) first) }
+    {
+        let told = tell_nothing(&mut self.draft, &mut self.outlines, &mut self.nothing)?;
+        match Outline::quiet(said, first, told) {
+            Some(outline) => {
                 self.outlines.push(outline)?;
                 Ok(())
             }
-            Err(error) => {
-                self.outlines.clear();
-                Err(error)
-            }
+            None => Err(AllocError),
         }
-    }
-
-    /// Adds any other event.
-    #[inline(never)]
-    fn add_other(
-        &mut self,
-        said: &SaidLine<'a>,
-        scene: &Scene<'_>,
-        index: &mut Index,
-        first: usize,
-        came: Came<'_>,
-    ) -> Result<(), AllocError>
-        requires text { is_text said.now.bytes.now ≡ true }
-        requires within { first ≤ length scene.now.journal.now.entries }
-        requires heard { HasHeard index.old (take first scene.now.journal.now.entries) }
-        requires marked { IsMarked scene.now.last.now.places.items scene.now.transactions.now }
-        ensures shown { OnOk result (self.new ≡ self.old ++ object_row (said_line said.now) (moment_of scene.now) first (reply_in came.entry)) }
-        ensures heard { OnOk result (HasHeard index.new scene.now.journal.now.entries) }
-    {
-        self.add(said, scene, index, first, came)
     }
 
     /// Adds an event that was refused, to be told at the end by numbers, and returns whether that could be. An index has heard all
@@ -331,7 +417,12 @@ impl<'a> Teller<'a> for Objects<'a> {
         first: usize,
         came: Came<'_>,
     ) -> Result<(), AllocError> {
-        self.add_other(said, scene, index, first, came)
+        if let Came::Landed([], false) = came {
+            if scene.journal.len() == first {
+                return self.add_nothing(said, first);
+            }
+        }
+        self.add(said, scene, index, first, came)
     }
 
     #[inline(always)]
@@ -363,6 +454,6 @@ impl<'a> Teller<'a> for Objects<'a> {
             event: &event,
             ..*scene
         };
-        self.add_other(said, &scene, index, first, Came::Refused(refusal))
+        self.add(said, &scene, index, first, Came::Refused(refusal))
     }
 }

@@ -9,7 +9,7 @@ ghost use Rattle.gs_trace.specs.Came.{reply_in};
 ghost use Rattle.gs_explain.specs.Marked.{IsMarked};
 ghost use Rattle.gs_explain.specs.Moment.{moment_of};
 ghost use Rattle.gs_explain.specs.Objects.{done_object, object_row};
-ghost use Rattle.gs_explain.specs.Outlined.{Grows, IsOutlined, Notes, NotesRefusal, outline_text};
+ghost use Rattle.gs_explain.specs.Outlined.{Grows, IsOutlined, Notes, NotesTold, TellsNothing, outline_text};
 
 use crate::draft::Draft;
 use crate::hearing::hear_all;
@@ -102,24 +102,36 @@ impl<'a> Outline<'a> {
         })
     }
 
-    /// Makes one of an event that was refused and added no entry, and before which so many entries stand. It is told by numbers, and by
-    /// the line and the place of the entry that is the reason. Returns `None` if a number is too large.
+    /// Makes one of an event that added no entry, and before which so many entries stand, by what is told of it. Returns `None` if a
+    /// number is too large.
     #[inline(always)]
-    pub(crate) fn refused(
-        said: &SaidLine<'a>,
-        first: usize,
-        at: Option<(u32, u32)>,
-        tail: Tail,
-    ) -> Option<Outline<'a>>
-        ensures { IfSome result (NotesRefusal (said_line said.now) first at tail) }
+    pub(crate) fn quiet(said: &SaidLine<'a>, first: usize, told: Told) -> Option<Outline<'a>>
+        ensures { IfSome result (NotesTold (said_line said.now) first told) }
     {
         Some(Outline {
             line: said.bytes,
             number: u32::try_from(said.number).ok()?,
             first: u32::try_from(first).ok()?,
-            told: Told::Refused { at, tail },
+            told,
         })
     }
+}
+
+/// Adds the reason of a commit that stamped nothing, and returns what is told of each such commit. It fails only if out of memory.
+#[inline(never)]
+pub(crate) fn told_nothing(draft: &mut Draft) -> Result<Told, AllocError>
+    ensures grown { OnOk result (Grows draft.old draft.new) }
+    ensures told { IfOk result (λ told. TellsNothing draft.new told) }
+{
+    let from = draft.len();
+    draft.nothing()?;
+    let whys = short(draft.len() - from)?;
+    Ok(Told::Parts {
+        count: 0,
+        from,
+        lines: 0,
+        whys,
+    })
 }
 
 /// Adds what the object of an event is put together of, and returns the event. An index has heard the entries before the

@@ -1,33 +1,13 @@
-use Rattle.std.proofs.Common.{rules, ◌≡◌, ◌∙◌, ◌++◌, ◌∷◌, [], List, ap, subst, sym}
-use Rattle.std.specs.List.{All}
-use Rattle.gs_explain.specs.declared.outline.Outline.{Outline}
-use Rattle.gs_explain.specs.Outlined.{IsOutlined, outlines_text}
-use Rattle.gs_explain.proofs.Outlining.{outlined_grown, outlined_more, outlines_more}
+use Rattle.gs_explain.proofs.Outlining.{kept_ok, kept_outlined, kept_told}
 use Rattle.gs_explain.proofs.objects.Objects.add.Goals as goal
 
 pub invariant_of-self : goal.invariant_of-self
 invariant_of-self c =
-    let old = c.self.inside.draft in
-    let new = c.outlined.new.draft in
-    let os : List Outline = c.self.inside.outlines.items in
-    let same : c.push.new.self.items ≡ os = search rules in
-    subst (λ (xs : List Outline). All (IsOutlined new) xs) (sym same) (outlined_grown os old new c.in-Ok.ensures.grown c.self.invariant)
+    kept_outlined c.keep.result c.outlined-outlined.result c.self.inside.outlines c.keep.new.outlines c.self.inside.nothing c.keep.new.nothing c.self.inside.draft c.outlined-outlined.new.draft c.keep.ensures.told c.keep.ensures.added c.keep.ensures.same c.keep.ensures.none
+    c.outlined-outlined.ensures.grown c.outlined-outlined.ensures.stands c.self.invariant
 
-pub invariant_of-self-in-Ok : goal.invariant_of-self-in-Ok
-invariant_of-self-in-Ok c =
-    let old = c.self.inside.draft in
-    let new = c.outlined.new.draft in
-    let os : List Outline = c.self.inside.outlines.items in
-    let o = c.in-Ok.outline in
-    let after : c.push.new.self.items ≡ os ++ o ∷ [] = search rules in
-    subst (λ (xs : List Outline). All (IsOutlined new) xs) (sym after) (outlined_more os o old new c.in-Ok.ensures.grown c.self.invariant c.in-Ok.ensures.stands)
+pub returns-clause-shown : goal.returns-clause-shown
+returns-clause-shown c = kept_told c.keep.result c.outlined-outlined.result c.self.inside.outlines c.keep.new.outlines c.self.inside.draft c.outlined-outlined.new.draft _ _ c.keep.ensures.told c.keep.ensures.added c.outlined-outlined.ensures.grown c.outlined-outlined.ensures.told c.self.invariant.events c.self.view_is
 
-pub returns-in_ok-push-in-Ok-clause-shown : goal.returns-in_ok-push-in-Ok-clause-shown
-returns-in_ok-push-in-Ok-clause-shown c =
-    let old = c.self.inside.draft in
-    let new = c.outlined.new.draft in
-    let os : List Outline = c.self.inside.outlines.items in
-    let o = c.in-Ok.outline in
-    let after : c.push.new.self.items ≡ os ++ o ∷ [] = search rules in
-    let told = c.in-Ok.ensures.told in
-    ap (outlines_text new) after ∙ (outlines_more os o old new c.in-Ok.ensures.grown c.self.invariant ∙ (λ i. c.self.view_is i ++ told i))
+pub returns-clause-heard : goal.returns-clause-heard
+returns-clause-heard c = kept_ok _ c.keep.result c.outlined-outlined.result c.keep.ensures.told c.outlined-outlined.ensures.heard

@@ -8,18 +8,18 @@ use Rattle.gs_explain.proofs.objects.Objects.add_refused.Goals as goal
 pub invariant_of-self-in-Some : goal.invariant_of-self-in-Some
 invariant_of-self-in-Some c =
     let text = c.self.inside.draft in
-    let os : List Outline = c.self.inside.outlines.items in
+    let os : List Outline = c.self.inside.outlines in
     let o = c.in-Some.outline in
-    let after : c.push.new.self.items ≡ os ++ o ∷ [] = search rules in
+    let after : c.push.new.self ≡ os ++ o ∷ [] = search rules in
     let same : Grows text text = ([], sym (append-nil text)) in
-    subst (λ (xs : List Outline). All (IsOutlined text) xs) (sym after) (outlined_more os o text text same c.self.invariant (c.in-Some.ensures.stands text))
+    record { nothing = c.self.invariant.nothing; events = subst (λ (xs : List Outline). All (IsOutlined text) xs) (sym after) (outlined_more os o text text same c.self.invariant.events (c.in-Some.ensures.stands text)) }
 
 pub returns-in_ok-push-in-Some-clause-told : goal.returns-in_ok-push-in-Some-clause-told
 returns-in_ok-push-in-Some-clause-told c = λ yes.
     let text = c.self.inside.draft in
-    let os : List Outline = c.self.inside.outlines.items in
+    let os : List Outline = c.self.inside.outlines in
     let o = c.in-Some.outline in
-    let after : c.push.new.self.items ≡ os ++ o ∷ [] = search rules in
+    let after : c.push.new.self ≡ os ++ o ∷ [] = search rules in
     let same : Grows text text = ([], sym (append-nil text)) in
     let told = c.in-Some.ensures.told text in
-    ap (outlines_text text) after ∙ (outlines_more os o text text same c.self.invariant ∙ (λ i. c.self.view_is i ++ told i))
+    ap (outlines_text text) after ∙ (outlines_more os o text text same c.self.invariant.events ∙ (λ i. c.self.view_is i ++ told i))
