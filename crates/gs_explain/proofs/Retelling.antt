@@ -89,6 +89,10 @@ begun_then a b c sent bytes w (n, lt, v) = (
 pub moves_all : (a b c : Option (List ℕ)) (block bytes left : List ℕ) → Appends a b block → Appends b c bytes → left ≡ [] → Moves a block bytes c left
 moves_all a b c block bytes left w v e = (block ++ bytes, Appends-trans a b c block bytes w v, sym (append-nil (block ++ bytes)) ∙ ap (λ t. (block ++ bytes) ++ t) (sym e))
 
+-- what was added before is written or left
+pub moved_then : (a b : Option (List ℕ)) (block bytes all left : List ℕ) → all ≡ block ++ bytes → Moves a all [] b left → Moves a block bytes b left
+moved_then a b block bytes all left is (sent, w, e) = (sent, w, sym is ∙ (sym (append-nil all) ∙ e))
+
 -- nothing was added
 pub moves_none : (a : Option (List ℕ)) (block bytes : List ℕ) → bytes ≡ [] → Moves a block bytes a block
 moves_none a block bytes e = ([], Appends-nil a, ap (λ t. block ++ t) e ∙ append-nil block)

@@ -74,7 +74,7 @@ fn push_outline(
             let to = mid + whys as usize;
             let lines = &text[from..mid];
             let whys = &text[mid..to];
-            pen.push(alloc, out, number, line, first, count, lines, whys)
+            pen.push_seldom(alloc, out, number, line, first, count, lines, whys)
         }
         Told::Refused { at, tail } => stencil.push(alloc, out, number, line, first, at, &tail),
     }
@@ -99,9 +99,21 @@ fn send<W: Write>(block: &mut Text, writer: &mut W) -> Result<(), WriteFailed>
     Ok(())
 }
 
+/// Writes a block if it is full, and takes its bytes away then.
+#[inline(always)]
+fn send_full<W: Write>(block: &mut Text, writer: &mut W) -> Result<(), WriteFailed>
+    ensures moved { OnOk result (Moves (W.contents writer.old) block.old [] (W.contents writer.new) block.new) }
+    ensures begun { OnErr result (IsBegun (W.contents writer.old) (W.contents writer.new) block.old) }
+{
+    if BLOCK_LEN < block.len() {
+        send(block, writer)?;
+    }
+    Ok(())
+}
+
 /// Adds the object of an event to a block, and writes that if it is full then.
 #[inline(always)]
-#[tactic(auto, using(crate::proofs::Outlining::some_object))]
+#[tactic(auto, using(crate::proofs::Outlining::some_object, crate::proofs::Retelling::moved_then))]
 fn add_object<W: Write>(
     alloc: Global,
     block: &mut Text,
@@ -118,10 +130,52 @@ fn add_object<W: Write>(
     ensures begun { OnErr result (IsBegun (W.contents writer.old) (W.contents writer.new) (block.old ++ outline_text text.now outline.now)) }
 {
     push_outline(alloc, block, pen, stencil, text, outline)?;
-    if BLOCK_LEN < block.len() {
-        send(block, writer)?;
-    }
-    Ok(())
+    send_full(block, writer)
+}
+
+/// Adds the object of an event that was kept in few bytes.
+#[inline(always)]
+fn push_short(
+    alloc: Global,
+    out: &mut Text,
+    pen: &mut Pen,
+    text: &[u8],
+    short: &Short<'_>,
+) -> Result<(), AllocError>
+    requires { IsOutlined text.now (widened short.now) }
+    ensures { OnOk result (out.new ≡ out.old ++ outline_text text.now (widened short.now)) }
+{
+    let (lines, whys) = short.told_in(text);
+    let count = short.count as u32;
+    pen.push(
+        alloc,
+        out,
+        short.number,
+        short.line,
+        short.first,
+        count,
+        lines,
+        whys,
+    )
+}
+
+/// Adds the object of an event that was kept in few bytes to a block, as [`add_object`] does. It is called at one place, where the compiler folds
+/// it.
+#[tactic(auto, using(crate::proofs::Outlining::some_object, crate::proofs::Retelling::moved_then))]
+fn add_short<W: Write>(
+    alloc: Global,
+    block: &mut Text,
+    writer: &mut W,
+    pen: &mut Pen,
+    text: &[u8],
+    short: &Short<'_>,
+) -> Result<(), WriteFailed>
+    requires { IsOutlined text.now (widened short.now) }
+    ensures moved { OnOk result (Moves (W.contents writer.old) block.old (outline_text text.now (widened short.now)) (W.contents writer.new) block.new) }
+    ensures begun { OnErr result (IsBegun (W.contents writer.old) (W.contents writer.new) (block.old ++ outline_text text.now (widened short.now))) }
+{
+    push_short(alloc, block, pen, text, short)?;
+    send_full(block, writer)
 }
 
 /// Adds the objects of events that were kept in few bytes to a block, and writes that whenever it is full.
@@ -131,18 +185,15 @@ fn add_shorts<W: Write>(
     block: &mut Text,
     writer: &mut W,
     pen: &mut Pen,
-    stencil: &mut Stencil,
     text: &[u8],
     shorts: &[Short<'_>],
 ) -> Result<(), WriteFailed>
-    requires outlined { All (λ short. IsOutlined text.now (widened short)) shorts.now }
-    requires stencil { IsStencil stencil.old }
-    ensures kept { OnOk result (IsStencil stencil.new) }
+    requires { All (λ short. IsOutlined text.now (widened short)) shorts.now }
     ensures moved { OnOk result (Moves (W.contents writer.old) block.old (outlines_text text.now (map widened shorts.now)) (W.contents writer.new) block.new) }
     ensures begun { OnErr result (IsBegun (W.contents writer.old) (W.contents writer.new) (block.old ++ outlines_text text.now (map widened shorts.now))) }
 {
     for short in shorts {
-        add_object(alloc, block, writer, pen, stencil, text, &short.widened())?;
+        add_short(alloc, block, writer, pen, text, short)?;
     }
     Ok(())
 }
@@ -168,7 +219,7 @@ fn write_objects<W: Write>(
     let mut done = 0;
     for other in others {
         let run = &shorts[done..other.before];
-        add_shorts(alloc, &mut block, writer, &mut pen, &mut stencil, text, run)?;
+        add_shorts(alloc, &mut block, writer, &mut pen, text, run)?;
         add_object(
             alloc,
             &mut block,
@@ -181,15 +232,7 @@ fn write_objects<W: Write>(
         done = other.before;
     }
     let rest = &shorts[done..];
-    add_shorts(
-        alloc,
-        &mut block,
-        writer,
-        &mut pen,
-        &mut stencil,
-        text,
-        rest,
-    )?;
+    add_shorts(alloc, &mut block, writer, &mut pen, text, rest)?;
     send(&mut block, writer)
 }
 
@@ -395,7 +438,7 @@ impl<'a> Objects<'a> {
     {
         match refused_outline(said, scene, index, refusal) {
             Some(outline) => {
-                self.outlines.push(outline)?;
+                self.outlines.push_other(outline)?;
                 Ok(true)
             }
             None => Ok(false),

@@ -1,7 +1,8 @@
 //! The events whose objects are put together at the end, most of them in few bytes.
 
-ghost use Rattle.std.specs.Prelude.{◌≡◌, ◌++◌, ◌∷◌, [], IfSome, OnErr, OnOk, length};
-ghost use Rattle.gs_explain.specs.Outlined.{InOrder, merged, widened};
+ghost use Rattle.std.specs.Prelude.{◌≡◌, ◌+◌, ◌++◌, ◌∷◌, [], IfSome, OnErr, OnOk, length};
+ghost use Rattle.gs_sentences.specs.Parts.{part};
+ghost use Rattle.gs_explain.specs.Outlined.{InOrder, IsOutlined, merged, widened};
 
 use crate::outline::{Outline, Told};
 use std::alloc::{AllocError, Global};
@@ -11,13 +12,13 @@ use std::marker::Model;
 /// [`Told::Parts`].
 #[derive(Clone, Copy)]
 pub(crate) struct Short<'a> {
-    line: &'a [u8],
-    number: u32,
-    first: u32,
+    pub(crate) line: &'a [u8],
+    pub(crate) number: u32,
+    pub(crate) first: u32,
     from: u32,
     whys: u16,
     lines: u8,
-    count: u8,
+    pub(crate) count: u8,
 }
 
 const _: () = prove!(size_of::<Short<'static>>() == 32);
@@ -48,22 +49,17 @@ impl<'a> Short<'a> {
         })
     }
 
-    /// Returns the event as any is kept.
+    /// Returns the lines of its reply and its reasons, which a text has.
     #[inline(always)]
-    pub(crate) fn widened(&self) -> Outline<'a>
-        ensures { result ≡ widened self.now }
+    pub(crate) fn told_in<'t>(&self, text: &'t [u8]) -> (&'t [u8], &'t [u8])
+        requires { IsOutlined text.now (widened self.now) }
+        ensures lines { result.0.now ≡ part self.now.from (self.now.from + self.now.lines) text.now }
+        ensures whys { result.1.now ≡ part (self.now.from + self.now.lines) (self.now.from + self.now.lines + self.now.whys) text.now }
     {
-        Outline {
-            line: self.line,
-            number: self.number,
-            first: self.first,
-            told: Told::Parts {
-                count: self.count as u32,
-                from: self.from as usize,
-                lines: self.lines as u32,
-                whys: self.whys as u32,
-            },
-        }
+        let from = self.from as usize;
+        let mid = from + self.lines as usize;
+        let to = mid + self.whys as usize;
+        (&text[from..mid], &text[mid..to])
     }
 }
 
@@ -105,7 +101,18 @@ impl<'a> Outlines<'a> {
         }
     }
 
-    /// Adds an event. It fails only if out of memory.
+    /// Adds an event that does not fit into few bytes. It fails only if out of memory.
+    #[inline(always)]
+    pub(crate) fn push_other(&mut self, outline: Outline<'a>) -> Result<(), AllocError>
+        ensures added { OnOk result (self.new ≡ self.old ++ outline.entry ∷ []) }
+        ensures kept { OnErr result (self.new ≡ self.old) }
+    {
+        let before = self.shorts.len();
+        self.others.push(Other { outline, before })?;
+        Ok(())
+    }
+
+    /// Adds any event. It fails only if out of memory.
     #[inline(always)]
     pub(crate) fn push(&mut self, outline: Outline<'a>) -> Result<(), AllocError>
         ensures added { OnOk result (self.new ≡ self.old ++ outline.entry ∷ []) }
@@ -116,11 +123,7 @@ impl<'a> Outlines<'a> {
                 self.shorts.push(short)?;
                 Ok(())
             }
-            None => {
-                let before = self.shorts.len();
-                self.others.push(Other { outline, before })?;
-                Ok(())
-            }
+            None => self.push_other(outline),
         }
     }
 

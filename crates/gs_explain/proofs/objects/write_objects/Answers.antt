@@ -25,8 +25,8 @@ slice_bounds-run-end g c =
     let within = within_next c.args.text.now c.loop-other.done c.args.shorts.now c.args.others.now c.loop-other.other-index no_other c.loop-other-test.true c.loop-other.invariant.order in
     search rules
 
-pub add_shorts-requires-clause-outlined : goal.add_shorts-requires-clause-outlined
-add_shorts-requires-clause-outlined g c = run_next c.args.text.now c.loop-other.done c.args.shorts.now c.args.others.now c.loop-other.other-index no_other c.loop-other-test.true c.loop-other.invariant.outlined
+pub add_shorts-requires : goal.add_shorts-requires
+add_shorts-requires g c = run_next c.args.text.now c.loop-other.done c.args.shorts.now c.args.others.now c.loop-other.other-index no_other c.loop-other-test.true c.loop-other.invariant.outlined
 
 pub add_object-requires-clause-outlined : goal.add_object-requires-clause-outlined
 add_object-requires-clause-outlined g c = outlined_next c.args.text.now c.loop-other.done c.args.shorts.now c.args.others.now c.loop-other.other-index no_other c.loop-other-test.true c.loop-other.invariant.outlined
@@ -98,8 +98,8 @@ loop-other-preserved g c =
       stencil = c.in_ok-add_object.ensures.kept;
     }
 
-pub add_shorts-requires-2-clause-outlined : goal.add_shorts-requires-2-clause-outlined
-add_shorts-requires-2-clause-outlined g c = all_last c.args.text.now c.loop-other.done c.args.shorts.now c.args.others.now c.loop-other.other-index c.loop-other-test.false c.loop-other.invariant.outlined
+pub add_shorts-requires-2 : goal.add_shorts-requires-2
+add_shorts-requires-2 g c = all_last c.args.text.now c.loop-other.done c.args.shorts.now c.args.others.now c.loop-other.other-index c.loop-other-test.false c.loop-other.invariant.outlined
 
 pub returns-in_err-add_shorts-2-clause-begun : goal.returns-in_err-add_shorts-2-clause-begun
 returns-in_err-add_shorts-2-clause-begun g c =
