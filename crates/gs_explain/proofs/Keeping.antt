@@ -1,7 +1,6 @@
 -- What is told of a late landing behind the script's line, and what of it may be told again.
-use Rattle.std.proofs.Common.{rules, ◌≡◌, ◌≤◌, ◌<◌, ◌+◌, ◌-◌, refl, arith, Bool, true, false, ◌&&◌, length, take, subst, sym, ap, ◌∙◌, ℕ, zero, suc, List, Option, None, Some, Result, Ok, Err, OnOk, IfOk, [], ◌∷◌, ◌++◌, codes, append-nil, append_assoc, if◌then◌else◌, nat_le, get_or}
+use Rattle.std.proofs.Common.{rules, ◌≡◌, ◌≤◌, ◌<◌, ◌+◌, ◌-◌, refl, arith, Bool, true, false, ◌&&◌, length, take, subst, sym, ap, ◌∙◌, ℕ, zero, suc, List, Option, None, Some, [], ◌∷◌, ◌++◌, codes, append-nil, append_assoc, if◌then◌else◌, nat_le, get_or}
 use Rattle.std.specs.List.{All}
-use Rattle.std.specs.Result.{IsOk}
 use Rattle.std.proofs.lemmas.List.{length-append}
 use Rattle.std.proofs.lemmas.List.Elements.{All-append}
 use Rattle.std.proofs.Math.Seq.{drop-nil, take-nil}
@@ -34,12 +33,12 @@ use Rattle.gs_explain.specs.Moment.{Moment}
 use Rattle.gs_explain.specs.Refusals.{why_refused}
 use Rattle.gs_explain.specs.Retold.{IsWithin, piece_text, retold}
 use Rattle.gs_explain.specs.Rows.{added, heading, late_shown, row}
-use Rattle.gs_explain.specs.ToldAgain.{AreHeld, IsKept, cause_from, entries_told, is_kept_out, kept_put, late_told, source_of, told_text}
+use Rattle.gs_explain.specs.ToldAgain.{AreHeld, IsKept, cause_from, entries_told, is_kept_out, kept_put, landed_from, late_told, source_of, told_text}
 use Rattle.gs_explain.proofs.Retelling.{part_more, retold_more}
 use Rattle.gs_explain.proofs.RowsAgain.{part_behind, within_more, within_one}
 
 -- an entry that is kept is told as it was
-same_cause : (c : Option Cause) → cause_from (source_of c) ≡ c
+pub same_cause : (c : Option Cause) → cause_from (source_of c) ≡ c
 same_cause None = refl
 same_cause (Some c) = refl
 
@@ -50,13 +49,14 @@ kept_reason x outcomes.Gone e f = λ i. gone_text x (sym e i)
 kept_reason x outcomes.GroupFailed e f = λ i. group_text (sym f i)
 kept_reason x _ e f = refl
 
+pub told_reason : (n : ℕ) (x : Landed) → x.overflow ≡ None → x.fault ≡ None → outcome_reason (landed_from (late_told n x)) x.landing.outcome ≡ outcome_reason x x.landing.outcome
+told_reason n x e f =
+    let o = x.landing.outcome in
+    (λ i. outcome_reason (record { landing = x.landing; stamped = x.stamped; cause = same_cause x.cause i; overflow = None; fault = None; entries = entries_told o x.entries; limit = x.limit }) o) ∙ kept_reason x o e f
+
 -- what is kept of a late landing says what is told of it
 pub late_told_text : (n : ℕ) (x : Landed) → x.overflow ≡ None → x.fault ≡ None → told_text (late_told n x) ≡ line (late_text n x.landing) ++ because (Some (reasons.Landed x))
-late_told_text n x e f =
-    let o = x.landing.outcome in
-    let reason : outcome_reason (record { landing = x.landing; stamped = x.stamped; cause = cause_from (source_of x.cause); overflow = None; fault = None; entries = entries_told o x.entries; limit = x.limit }) o ≡ outcome_reason x o =
-    (λ i. outcome_reason (record { landing = x.landing; stamped = x.stamped; cause = same_cause x.cause i; overflow = None; fault = None; entries = entries_told o x.entries; limit = x.limit }) o) ∙ kept_reason x o e f in
-    ap (λ t. line (late_text n x.landing) ++ (codes "  " ++ (t ++ 10 ∷ []))) reason
+late_told_text n x e f = ap (λ t. line (late_text n x.landing) ++ (codes "  " ++ (t ++ 10 ∷ []))) (told_reason n x e f)
 
 -- something is told of each
 told_some : (t : Told) → 0 < length (told_text t)
@@ -88,8 +88,11 @@ kept_more text more kept is =
       says = part_more kept.from kept.to text more (omega (arith, is.some, is.within)) is.within ∙ is.says;
     }
 
+all_more : (text more : List ℕ) (kepts : List Kept) → All (IsKept text) kepts → All (IsKept (text ++ more)) kepts
+all_more text more kepts kept = λ k d lt. kept_more text more (get_or kepts k d) (kept k d lt)
+
 pub held_more : (text more : List ℕ) (pieces : List Piece) (kepts : List Kept) → AreHeld text pieces kepts → AreHeld (text ++ more) pieces kepts
-held_more text more pieces kepts held = record { told = within_more pieces text more held.told; kept = λ k d lt. kept_more text more (get_or kepts k d) (held.kept k d lt) }
+held_more text more pieces kepts held = record { told = within_more pieces text more held.told; kept = all_more text more kepts held.kept }
 
 -- nothing was added
 pub none_added : (first end : ℕ) → end ≡ first → added first end ≡ []
@@ -98,7 +101,7 @@ none_added first end e =
     (λ i. added first (e i)) ∙ rw none
 
 -- why a late landing came out so that was not placed, and tore nothing down
-why_out : (x : Moment) (first : ℕ) (l : Landing) (o : Outcome) → is_kept_out o ≡ true
+pub why_out : (x : Moment) (first : ℕ) (l : Landing) (o : Outcome) → is_kept_out o ≡ true
     → (if is_to_place o then None else Some (reasons.Landed (landed x None true (after_landing o x.history first) l))) ≡ Some (reasons.Landed (landed x None true first l))
 why_out x first l outcomes.Placed p = absurd cc
 why_out x first l outcomes.Gone p = absurd cc
@@ -122,11 +125,11 @@ pub same_source : (s : Noted) (line place : ℕ) (e : Entry) → s.line ≡ line
 same_source s line place e f g h = λ i. Some (record { line = f i; place = g i; entry = h i })
 
 -- what is kept, once more is
-pub held_put : (text : List ℕ) (kept : Kept) (kepts : List Kept) → All (IsKept text) kepts → IsKept text kept → All (IsKept text) (kept_put kept kepts)
-held_put text kept kepts held is = by_room (nat_le 4096 (length kepts)) where
-  by_room : (full : Bool) → All (IsKept text) (if full then kept ∷ [] else kepts ++ kept ∷ [])
-  by_room true = alone (IsKept text) kept is
-  by_room false = All-append (IsKept text) kepts (kept ∷ []) held (alone (IsKept text) kept is)
+pub all_put : (P : Kept → Type 0) (kept : Kept) (kepts : List Kept) → All P kepts → P kept → All P (kept_put kept kepts)
+all_put P kept kepts all is = by_room (nat_le 4096 (length kepts)) where
+  by_room : (full : Bool) → All P (if full then kept ∷ [] else kepts ++ kept ∷ [])
+  by_room true = alone P kept is
+  by_room false = All-append P kepts (kept ∷ []) all (alone P kept is)
 
 -- what was added in three steps
 pub added_then : (page a b d one two new : List ℕ) → one ≡ page ++ a → two ≡ one ++ b → new ≡ two ++ d → new ≡ page ++ (a ++ (b ++ d))
@@ -144,19 +147,10 @@ within_then page more one pieces e within = subst (λ t. All (IsWithin (length t
 pub held_then : (page more one : List ℕ) (pieces : List Piece) (kepts : List Kept) → one ≡ page ++ more → AreHeld page pieces kepts → AreHeld one pieces kepts
 held_then page more one pieces kepts e held = subst (λ t. AreHeld t pieces kepts) (sym e) (held_more page more pieces kepts held)
 
-pub held_kept : (page more one : List ℕ) (pieces : List Piece) (kepts after : List Kept) (kept : Kept) → one ≡ page ++ more → AreHeld page pieces kepts → IsKept one kept → after ≡ kept_put kept kepts → AreHeld one pieces after
-held_kept page more one pieces kepts after kept e held is put =
-    let grown = held_then page more one pieces kepts e held in
-    record { told = grown.told; kept = subst (All (IsKept one)) (sym put) (held_put one kept kepts grown.kept is) }
-
-pub kept_after : {E : Type 0} (r : Result Kept E) (page more one : List ℕ) (pieces : List Piece) (kepts after : List Kept) → IsOk r → OnOk r (one ≡ page ++ more) → IfOk r (IsKept one) → IfOk r (λ k. after ≡ kept_put k kepts) → AreHeld page pieces kepts → AreHeld one pieces after
-kept_after (Ok k) page more one pieces kepts after ok e is put held = held_kept page more one pieces kepts after k e held is put
-kept_after (Err x) page more one pieces kepts after ok e is put held = absurd cc
-
--- what holds if all is well
-pub at_ok : {T E Q : Type 0} (r : Result T E) → IsOk r → OnOk r Q → Q
-at_ok (Ok x) ok q = q
-at_ok (Err x) ok q = absurd cc
+pub kept_then : (page more one : List ℕ) (kepts after : List Kept) (kept : Kept) → one ≡ page ++ more → All (IsKept page) kepts → IsKept one kept → after ≡ kept_put kept kepts → All (IsKept one) after
+kept_then page more one kepts after kept e all is put =
+    let grown : All (IsKept one) kepts = subst (λ (t : List ℕ). All (IsKept t) kepts) (sym e) (all_more page more kepts all) in
+    subst (All (IsKept one)) (sym put) (all_put (IsKept one) kept kepts grown is)
 
 -- a refusal and its reason, as a reply is shown with its reason
 told_shown : (f : Refusal) (r : List ℕ) → told f r ≡ reply_lines (replies.Refused f) ++ (codes "  " ++ r ++ 10 ∷ [])

@@ -20,5 +20,6 @@ mod Retelling
 mod Rowing
 mod RowsAgain
 mod Keeping
+mod Repeating
 pub mod Knowing
 pub mod Sentences

@@ -12,10 +12,11 @@ use Rattle.std.proofs.lemmas.List.{length-append}
 use Rattle.std.proofs.lemmas.List.Elements.{All-nil}
 use Rattle.std.proofs.lemmas.Grind.{flat_map-append}
 use Rattle.gs_sentences.specs.Parts.{part}
+use Rattle.gs_explain.specs.declared.kept.Kept.{Kept}
 use Rattle.gs_explain.specs.declared.outline.Outline.{Outline}
 use Rattle.gs_explain.specs.Composed.{behind_commas, object_pieces}
 use Rattle.gs_explain.specs.Retold.{Leads}
-use Rattle.gs_explain.specs.Outlined.{AreOutlined, Grows, HasParts, IsKept, IsOutlined, Notes, NotesTold, TellsNothing, nothing_object, outline_text, outlines_text, told_object}
+use Rattle.gs_explain.specs.Outlined.{AddsTold, AreOutlined, Grows, HasParts, IsKept, IsOutlined, Notes, NotesTold, Tells, TellsLate, TellsNothing, late_object, nothing_object, outline_text, outlines_text, told_object}
 use Rattle.gs_explain.specs.declared.outline.Told.{Told}
 use Rattle.gs_explain.specs.declared.outline.Told.TheVariants as tolds
 use Rattle.gs_layout.specs.declared.refusal.Refusal.{Refusal}
@@ -116,28 +117,43 @@ kept_told (Ok x) (Ok o) os all old new before row is added grows told stand view
 kept_told (Ok x) (Err e) os all old new before row is added grows told stand view = absurd cc
 kept_told (Err e) o os all old new before row is added grows told stand view = tt
 
--- and all are outlined, whether it was kept or not
-nothing_grown : (nothing : Option Told) (old new : List ℕ) → Grows old new → IfSome nothing (TellsNothing old) → IfSome nothing (TellsNothing new)
-nothing_grown None old new grows is = tt
-nothing_grown (Some t) old new (more, e) is =
-    subst (λ (text : List ℕ). TellsNothing text t) (sym e) (record { kept = still_kept t old more is.kept; told = λ said first. same_told t said first old more is.kept ∙ is.told said first })
+-- what a text tells of such events it tells as it grows
+pub tells_grown : (row : ℕ × List ℕ → ℕ → List ℕ) (t : Told) (old new : List ℕ) → Grows old new → Tells old row t → Tells new row t
+tells_grown row t old new (more, e) is =
+    subst (λ (text : List ℕ). Tells text row t) (sym e) (record { kept = still_kept t old more is.kept; told = λ said first. same_told t said first old more is.kept ∙ is.told said first })
 
-pub none_outlined : (all : List Outline) (nothing : Option Told) (text : List ℕ) → all ≡ [] → nothing ≡ None → AreOutlined text all nothing
-none_outlined all nothing text none forgot =
+pub nothing_grown : (nothing : Option Told) (old new : List ℕ) → Grows old new → IfSome nothing (TellsNothing old) → IfSome nothing (TellsNothing new)
+nothing_grown None old new grows is = tt
+nothing_grown (Some t) old new grows is = tells_grown nothing_object t old new grows is
+
+late_grown : (k : Kept) (old new : List ℕ) → Grows old new → TellsLate old k → TellsLate new k
+late_grown k old new grows is = record { begins = is.begins; ends = is.ends; tells = tells_grown (late_object k.told) (tolds.Parts 0 k.from (k.mid - k.from) (k.to - k.mid)) old new grows is.tells }
+
+pub events_grown : (os : List Outline) (old new : List ℕ) → Grows old new → All (IsOutlined old) os → All (IsOutlined new) os
+events_grown os old new (more, e) all = λ i d lt. subst (λ (t : List ℕ). IsOutlined t (get_or os i d)) (sym e) (still (get_or os i d) old more (all i d lt))
+
+pub lates_grown : (kepts : List Kept) (old new : List ℕ) → Grows old new → All (TellsLate old) kepts → All (TellsLate new) kepts
+lates_grown kepts old new grows all = λ i d lt. late_grown (get_or kepts i d) old new grows (all i d lt)
+
+-- and all are outlined, whether it was kept or not
+pub none_outlined : (all : List Outline) (nothing : Option Told) (kepts : List Kept) (text : List ℕ) → all ≡ [] → nothing ≡ None → kepts ≡ [] → AreOutlined text all nothing kepts
+none_outlined all nothing kepts text none forgot gone =
     record {
       events = subst (All (IsOutlined text)) (sym none) (All-nil (IsOutlined text));
       nothing = subst (λ (t : Option Told). IfSome t (TellsNothing text)) (sym forgot) tt;
+      lates = subst (All (TellsLate text)) (sym gone) (All-nil (TellsLate text));
     }
 
-pub kept_outlined : {T E F : Type 0} (r : Result T E) (o : Result Outline F) (os all : List Outline) (nothing now : Option Told) (old new : List ℕ) → OnOk r (IsOk o) → OnOk r (IfOk o (λ x. all ≡ os ++ x ∷ [])) → OnOk r (now ≡ nothing) → OnErr r ((all ≡ []) × (now ≡ None))
-    → OnOk o (Grows old new) → IfOk o (IsOutlined new) → AreOutlined old os nothing → AreOutlined new all now
-kept_outlined (Ok x) (Ok o) os all nothing now old new is added same none grows stands are =
+pub kept_outlined : {T E F : Type 0} (r : Result T E) (o : Result Outline F) (os all : List Outline) (nothing now : Option Told) (kepts left : List Kept) (old new : List ℕ) → OnOk r (IsOk o) → OnOk r (IfOk o (λ x. all ≡ os ++ x ∷ [])) → OnOk r ((now ≡ nothing) × (left ≡ kepts))
+    → OnErr r ((all ≡ []) × (now ≡ None) × (left ≡ [])) → OnOk o (Grows old new) → IfOk o (IsOutlined new) → AreOutlined old os nothing kepts → AreOutlined new all now left
+kept_outlined (Ok x) (Ok o) os all nothing now kepts left old new is added same none grows stands are =
     record {
       events = subst (All (IsOutlined new)) (sym added) (outlined_more os o old new grows are.events stands);
-      nothing = subst (λ (t : Option Told). IfSome t (TellsNothing new)) (sym same) (nothing_grown nothing old new grows are.nothing);
+      nothing = subst (λ (t : Option Told). IfSome t (TellsNothing new)) (sym same.0) (nothing_grown nothing old new grows are.nothing);
+      lates = subst (All (TellsLate new)) (sym same.1) (lates_grown kepts old new grows are.lates);
     }
-kept_outlined (Ok x) (Err e) os all nothing now old new is added same none grows stands are = absurd cc
-kept_outlined (Err e) o os all nothing now old new is added same none grows stands are = none_outlined all now new none.0 none.1
+kept_outlined (Ok x) (Err e) os all nothing now kepts left old new is added same none grows stands are = absurd cc
+kept_outlined (Err e) o os all nothing now kepts left old new is added same none grows stands are = none_outlined all now left new none.0 none.1 none.2
 
 -- an event, for where none is
 abbrev pub nothing : Outline
@@ -227,42 +243,55 @@ refused_stands o said first where_at t f why noted tail line text =
       told = subst (IsKept text) (sym noted.told) (not_part t f why tail);
     }
 
--- an event of no entry, of which nothing but reasons is told
-abbrev silent : ℕ × List ℕ → ℕ → ℕ → ℕ → Outline
-silent said first from to = record { line = record { ref_ptr = (0, 0); now = said.1 }; number = said.0; first = first; told = tolds.Parts (first - first) from (from - from) (to - from) }
+-- an event of no entry, with what is told of it from a place on
+abbrev quiet : ℕ × List ℕ → ℕ → ℕ → ℕ → ℕ → Outline
+quiet said first from mid to = record { line = record { ref_ptr = (0, 0); now = said.1 }; number = said.0; first = first; told = tolds.Parts (first - first) from (mid - from) (to - mid) }
 
-silent_noted : (said : ℕ × List ℕ) (first from to : ℕ) → Notes said first (first - first) from from to (silent said first from to)
-silent_noted said first from to = record { said = refl; first = refl; told = refl }
+quiet_noted : (said : ℕ × List ℕ) (first from mid to : ℕ) → Notes said first (first - first) from mid to (quiet said first from mid to)
+quiet_noted said first from mid to = record { said = refl; first = refl; told = refl }
 
-same_parts : (from a b c n : ℕ) → a ≡ 0 → b ≡ 0 → c ≡ n → tolds.Parts a from b c ≡ tolds.Parts 0 from 0 n
-same_parts from a b c n e f g = λ i. tolds.Parts (e i) from (f i) (g i)
+no_count : (first from a b : ℕ) → tolds.Parts (first - first) from a b ≡ tolds.Parts 0 from a b
+no_count first from a b =
+    let none : first - first ≡ 0 = omega arith in
+    λ i. tolds.Parts (none i) from a b
 
-silent_parts : (first from to n : ℕ) → from + n ≡ to → tolds.Parts (first - first) from (from - from) (to - from) ≡ tolds.Parts 0 from 0 n
-silent_parts first from to n size = same_parts from (first - first) (from - from) (to - from) n (omega arith) (omega arith) (omega arith)
-
--- what is told of a commit that stamped nothing, once its reason was added to a text
-pub nothing_told : (old new : List ℕ) (from n : ℕ) → from ≡ length old → from + n ≡ length new → new ≡ old ++ behind_commas (none_why []) → IsUtf8 old → IsUtf8 new → TellsNothing new (tolds.Parts 0 from 0 n)
-nothing_told old new from n at size is u v =
-    let why : List Data = none_why [] in
-    let to : ℕ = length new in
-    let same : old ≡ old ++ [] = sym (append-nil old) in
+-- what is told of events of no entry, once the lines of the reply and the reasons were added to a text
+pub quiet_told : (old mid new lines : List ℕ) (why : List Data) (begin middle to : ℕ) → begin ≡ length old → middle ≡ length mid → to ≡ length new → mid ≡ old ++ lines → new ≡ mid ++ behind_commas why → IsUtf8 old → IsUtf8 mid → IsUtf8 new
+    → Tells new (λ said first. line (compact_text (row_data said first first (lines_in lines) why))) (tolds.Parts 0 begin (middle - begin) (to - middle))
+quiet_told old mid new lines why begin middle to from_at at to_end first_part last_part u v w =
     record {
-      kept = subst (IsKept new) (silent_parts 0 from to n size) (are_kept (silent (0, []) 0 from to) old old new [] why (0, []) 0 0 from from to (silent_noted (0, []) 0 from to) at at refl same is u u v);
-      told = λ said first. ap (told_object said first new) (sym (silent_parts first from to n size)) ∙ told_outline (silent said first from to) old old new [] why said first first from from to (silent_noted said first from to) at at refl same is;
+      kept = subst (IsKept new) (no_count 0 begin (middle - begin) (to - middle)) (are_kept (quiet (0, []) 0 begin middle to) old mid new lines why (0, []) 0 0 begin middle to (quiet_noted (0, []) 0 begin middle to) from_at at to_end first_part last_part u v w);
+      told = λ said first. ap (told_object said first new) (sym (no_count first begin (middle - begin) (to - middle)))
+          ∙ told_outline (quiet said first begin middle to) old mid new lines why said first first begin middle to (quiet_noted said first begin middle to) from_at at to_end first_part last_part;
     }
+
+pub nothing_told : (old new : List ℕ) (from to : ℕ) → from ≡ length old → to ≡ length new → new ≡ old ++ behind_commas (none_why []) → IsUtf8 old → IsUtf8 new → TellsNothing new (tolds.Parts 0 from (from - from) (to - from))
+nothing_told old new from to at end is u v = quiet_told old old new [] (none_why []) from from to at at end (sym (append-nil old)) is u u v
 
 -- the object of such a commit
 pub nothing_row : (said : ℕ × List ℕ) (x : Moment) (landings : List Landing) (first : ℕ) → length landings ≡ 0 → length x.history ≡ first → object_row said x first (replies.Landed landings false) ≡ nothing_object said first
 nothing_row said x [] first none all = λ i. line (compact_text (row_data said first (all i) [] (none_why [])))
 nothing_row said x (l ∷ ls) first none all = absurd (omega arith)
 
--- one more of them
-pub nothing_outlined : (o : Outline) (t : Told) (said : ℕ × List ℕ) (first : ℕ) (text : List ℕ) → NotesTold said first t o → TellsNothing text t → is_text said.1 ≡ true → IsOutlined text o
-nothing_outlined o t said first text noted tells text_line =
+-- one more event, by what a text tells of such
+told_stands : (o : Outline) (t : Told) (said : ℕ × List ℕ) (first : ℕ) (row : ℕ × List ℕ → ℕ → List ℕ) (text : List ℕ) → NotesTold said first t o → Tells text row t → is_text said.1 ≡ true → IsOutlined text o
+told_stands o t said first row text noted tells text_line =
     record {
       line = subst (λ (p : ℕ × List ℕ). is_text p.1 ≡ true) (sym noted.said) text_line;
       told = subst (IsKept text) (sym noted.told) tells.kept;
     }
 
-pub nothing_shown : (o : Outline) (t : Told) (said : ℕ × List ℕ) (first : ℕ) (text : List ℕ) → NotesTold said first t o → TellsNothing text t → outline_text text o ≡ nothing_object said first
-nothing_shown o t said first text noted tells = (λ i. told_object (noted.said i) (noted.first i) text (noted.told i)) ∙ tells.told said first
+told_shown : (o : Outline) (t : Told) (said : ℕ × List ℕ) (first : ℕ) (row : ℕ × List ℕ → ℕ → List ℕ) (text : List ℕ) → NotesTold said first t o → Tells text row t → outline_text text o ≡ row said first
+told_shown o t said first row text noted tells = (λ i. told_object (noted.said i) (noted.first i) text (noted.told i)) ∙ tells.told said first
+
+pub adds_outlined : (os all : List Outline) (once : Option Told) (kepts : List Kept) (t : Told) (said : ℕ × List ℕ) (first : ℕ) (row : ℕ × List ℕ → ℕ → List ℕ) (text : List ℕ) → AddsTold said first t os all → Tells text row t → is_text said.1 ≡ true → AreOutlined text os once kepts → AreOutlined text all once kepts
+adds_outlined os all once kepts t said first row text (o, (noted, added)) tells text_line are =
+    let same : Grows text text = ([], sym (append-nil text)) in
+    let stands : IsOutlined text o = told_stands o t said first row text noted tells text_line in
+    record { events = subst (All (IsOutlined text)) (sym added) (outlined_more os o text text same are.events stands); nothing = are.nothing; lates = are.lates }
+
+pub adds_shown : (os all : List Outline) (t : Told) (said : ℕ × List ℕ) (first : ℕ) (row : ℕ × List ℕ → ℕ → List ℕ) (text before : List ℕ) → AddsTold said first t os all → Tells text row t → All (IsOutlined text) os → outlines_text text os ≡ before → outlines_text text all ≡ before ++ row said first
+adds_shown os all t said first row text before (o, (noted, added)) tells events view =
+    let same : Grows text text = ([], sym (append-nil text)) in
+    let shown : outline_text text o ≡ row said first = told_shown o t said first row text noted tells in
+    ap (outlines_text text) added ∙ (outlines_more os o text text same events ∙ (λ i. view i ++ shown i))

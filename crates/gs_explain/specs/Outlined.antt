@@ -3,14 +3,19 @@ use Rattle.std.specs.Prelude.{◌≡◌, ◌≤◌, ◌+◌, ◌-◌, true, fals
 use Rattle.std.specs.List.{All, flat_map}
 use Rattle.std.specs.Option.{IfSome}
 use Rattle.std.specs.Str.{IsUtf8}
+use Rattle.std.specs.Str.Lines.{lines as lines_in}
 use Rattle.serde_json.specs.Written.{compact_text}
-use Rattle.gs_lines.specs.Lines.{line}
+use Rattle.gs_lines.specs.Lines.{late_text, line}
 use Rattle.gs_script.specs.Words.{is_text}
 use Rattle.gs_sentences.specs.Parts.{part}
+use Rattle.gs_sentences.specs.Reason as reasons
 use Rattle.gs_sentences.specs.Tails.{is_part}
 use Rattle.gs_explain.specs.Composed.{object_pieces}
-use Rattle.gs_explain.specs.Objects.{none_why, row_data}
+use Rattle.gs_explain.specs.Objects.{none_why, reason_data, row_data}
 use Rattle.gs_explain.specs.Tailed.{refused_object}
+use Rattle.gs_explain.specs.ToldAgain.{landed_from}
+use Rattle.gs_explain.specs.declared.content.Told.{Told as Late}
+use Rattle.gs_explain.specs.declared.kept.Kept.{Kept}
 use Rattle.gs_explain.specs.declared.outline.Outline.{Outline}
 use Rattle.gs_explain.specs.declared.outline.Told.{Told}
 use Rattle.gs_explain.specs.declared.outline.Told.TheVariants as tolds
@@ -41,6 +46,10 @@ pub record NotesTold (line : ℕ × List ℕ) (place : ℕ) (t : Told) (o : Outl
   pub first : o.first ≡ place
   pub told : o.told ≡ t
 
+-- one more such event is added
+abbrev pub AddsTold : ℕ × List ℕ → ℕ → Told → List Outline → List Outline → Type 0
+AddsTold line place t old new = (o : Outline) × (NotesTold line place t o × (new ≡ old ++ o ∷ []))
+
 -- a text has the lines of a reply from a place on, and reasons behind them
 pub record HasParts (text : List ℕ) (from mid to : ℕ) : Type 0 where
   pub within : to ≤ length text
@@ -61,15 +70,30 @@ pub record IsOutlined (text : List ℕ) (o : Outline) : Type 0 where
 abbrev pub nothing_object : ℕ × List ℕ → ℕ → List ℕ
 nothing_object said first = line (compact_text (row_data said first first [] (none_why [])))
 
--- a text has what is told of each such commit
-pub record TellsNothing (text : List ℕ) (t : Told) : Type 0 where
+-- a text has what is told of each event that added no entry and has such an object
+pub record Tells (text : List ℕ) (row : ℕ × List ℕ → ℕ → List ℕ) (t : Told) : Type 0 where
   pub kept : IsKept text t
-  pub told : (said : ℕ × List ℕ) (first : ℕ) → told_object said first text t ≡ nothing_object said first
+  pub told : (said : ℕ × List ℕ) (first : ℕ) → told_object said first text t ≡ row said first
 
--- a text has what is told of events, and of a commit that stamped nothing, if there was one
-pub record AreOutlined (text : List ℕ) (os : List Outline) (once : Option Told) : Type 0 where
+-- a text has what is told of each such commit
+abbrev pub TellsNothing : List ℕ → Told → Type 0
+TellsNothing text t = Tells text nothing_object t
+
+-- the object of a late landing that was not placed, tore nothing down and added no entry, by what is told of it
+abbrev pub late_object : Late → ℕ × List ℕ → ℕ → List ℕ
+late_object t said first = line (compact_text (row_data said first first (lines_in (line (late_text t.number t.landing))) (reason_data (reasons.Landed (landed_from t)) ∷ [])))
+
+-- a text has what is told of each such landing
+pub record TellsLate (text : List ℕ) (k : Kept) : Type 0 where
+  pub begins : k.from ≤ k.mid
+  pub ends : k.mid ≤ k.to
+  pub tells : Tells text (late_object k.told) (tolds.Parts 0 k.from (k.mid - k.from) (k.to - k.mid))
+
+-- a text has what is told of events, of a commit that stamped nothing, if there was one, and of late landings that are kept
+pub record AreOutlined (text : List ℕ) (os : List Outline) (once : Option Told) (kepts : List Kept) : Type 0 where
   pub events : All (IsOutlined text) os
   pub nothing : IfSome once (TellsNothing text)
+  pub lates : All (TellsLate text) kepts
 
 -- a text has the same beginning, and more
 abbrev pub Grows : List ℕ → List ℕ → Type 0

@@ -38,11 +38,13 @@ entries_told _ n = 0
 abbrev pub late_told : ℕ → Landed → Told
 late_told n x = record { number = n; landing = x.landing; stamped = x.stamped; source = source_of x.cause; entries = entries_told x.landing.outcome x.entries; limit = x.limit }
 
+-- the landing that a sentence then tells of
+abbrev pub landed_from : Told → Landed
+landed_from t = record { landing = t.landing; stamped = t.stamped; cause = cause_from t.source; overflow = None; fault = None; entries = t.entries; limit = t.limit }
+
 -- the reply, and its reason in a line of its own
 abbrev pub told_text : Told → List ℕ
-told_text t =
-    line (late_text t.number t.landing)
-    ++ because (Some (reasons.Landed (record { landing = t.landing; stamped = t.stamped; cause = cause_from t.source; overflow = None; fault = None; entries = t.entries; limit = t.limit })))
+told_text t = line (late_text t.number t.landing) ++ because (Some (reasons.Landed (landed_from t)))
 
 -- a text has what was told between two places
 pub record IsKept (text : List ℕ) (kept : Kept) : Type 0 where

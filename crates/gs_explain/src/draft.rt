@@ -3,7 +3,7 @@
 ghost use Rattle.std.specs.Prelude.{◌≡◌, ◌++◌, ◌∷◌, [], None, OnOk, codes, length};
 ghost use Rattle.std.specs.Str.{IsUtf8};
 ghost use Rattle.gs_journal.specs.Last.{entry_lent};
-ghost use Rattle.gs_lines.specs.Lines.{reply_lines};
+ghost use Rattle.gs_lines.specs.Lines.{late_text, line, reply_lines};
 ghost use Rattle.gs_replies.specs.declared.reply.Reply.TheVariants as replies;
 ghost use Rattle.gs_sentences.specs.Given.{causes_given, reason_given};
 ghost use Rattle.gs_sentences.specs.Reasons.{reason_text};
@@ -14,11 +14,11 @@ ghost use Rattle.gs_explain.specs.Objects.{line_of_cause, place_of_cause, reason
 use crate::quoted::push_quoted;
 use gs_agent::Stop;
 use gs_journal::LastEntry;
-use gs_kernel::Executed;
+use gs_kernel::{Executed, Landing};
 use gs_layout::Refusal;
 use gs_lines::{
-    Text, outcome_name, write_committed, write_drained, write_executed, write_refused, write_reply,
-    write_stamped,
+    Text, outcome_name, write_committed, write_drained, write_executed, write_late, write_refused,
+    write_reply, write_stamped,
 };
 use gs_sentences::{Cause, Reason, Sentence, put_reason};
 use gs_trace::Came;
@@ -201,6 +201,13 @@ impl Draft {
         ensures { OnOk result (self.new ≡ self.old ++ reply_lines (replies.Done (entry_lent last.entry))) }
     {
         write_executed(&mut self.text, Ok(Executed::Done), last)
+    }
+
+    /// Adds the line of a late landing, by the number of its transaction.
+    pub(crate) fn late(&mut self, number: u32, landing: &Landing) -> Result<(), AllocError>
+        ensures { OnOk result (self.new ≡ self.old ++ line (late_text number landing.now)) }
+    {
+        write_late(&mut self.text, number, landing)
     }
 
     /// Adds a reason as an object behind a comma.

@@ -12,18 +12,24 @@ ghost use Rattle.gs_trace.specs.Came.{reply_in};
 ghost use Rattle.gs_explain.specs.Marked.{IsMarked};
 ghost use Rattle.gs_explain.specs.Moment.{moment_of};
 ghost use Rattle.gs_explain.specs.Objects.{done_object, object_row};
-ghost use Rattle.gs_explain.specs.Outlined.{AreOutlined, InOrder, IsOutlined, TellsNothing, merged, nothing_object, outline_text, outlines_text, widened};
+ghost use Rattle.gs_explain.specs.Outlined.{AreOutlined, InOrder, IsOutlined, merged, nothing_object, outline_text, outlines_text, widened};
 ghost use Rattle.gs_explain.specs.Retold.{IsBegun, Moves};
 ghost use Rattle.gs_explain.specs.Stenciled.{IsStencil};
+ghost use Rattle.gs_explain.specs.ToldAgain.{is_kept_out};
 
 use crate::draft::Draft;
+use crate::kept::{Kept, Late, marked_late};
+use crate::landed::landed;
 use crate::moment::Scene;
 use crate::object::Pen;
-use crate::outline::{Outline, Told, outlined, outlined_done, told_nothing};
+use crate::once::{forget, tell_again, tell_nothing};
+use crate::outline::{Outline, Told, outlined, outlined_done};
 use crate::outlines::{Other, Outlines, Short};
+use crate::slots::Slot;
 use crate::stencil::Stencil;
 use crate::tail::tail_of;
 use crate::teller::Teller;
+use gs_core::Reply;
 use gs_journal::{Journal, LastEntry};
 use gs_layout::Refusal;
 use gs_lines::Text;
@@ -244,6 +250,10 @@ pub(crate) struct Objects<'a> {
     outlines: Outlines<'a>,
     /// What is told of a commit that stamped nothing, if there was one.
     nothing: Option<Told>,
+    /// What was told of late landings that may be told again.
+    kepts: Vec<Kept>,
+    /// The slots of lines: none, before the first late landing.
+    slots: Vec<Slot>,
 }
 
 impl<'a> Model for Objects<'a> {
@@ -254,7 +264,7 @@ impl<'a> Model for Objects<'a> {
 
     ghost view = { λ o. outlines_text o.draft o.outlines };
 
-    ghost invariant = { λ o. AreOutlined o.draft o.outlines o.nothing };
+    ghost invariant = { λ o. AreOutlined o.draft o.outlines o.nothing o.kepts.items };
 }
 
 /// Adds an event that was outlined. If that failed, what the text has is not known, and nothing is kept.
@@ -262,50 +272,22 @@ impl<'a> Model for Objects<'a> {
 fn keep<'a>(
     outlines: &mut Outlines<'a>,
     nothing: &mut Option<Told>,
+    kepts: &mut Vec<Kept>,
     outlined: Result<Outline<'a>, AllocError>,
 ) -> Result<(), AllocError>
     ensures told { OnOk result (IsOk outlined.entry) }
     ensures added { OnOk result (IfOk outlined.entry (λ outline. outlines.new ≡ outlines.old ++ outline ∷ [])) }
-    ensures same { OnOk result (nothing.new ≡ nothing.old) }
-    ensures none { OnErr result ((outlines.new ≡ []) × (nothing.new ≡ None)) }
+    ensures same { OnOk result ((nothing.new ≡ nothing.old) × (kepts.new.items ≡ kepts.old.items)) }
+    ensures none { OnErr result ((outlines.new ≡ []) × (nothing.new ≡ None) × (kepts.new.items ≡ [])) }
 {
     let kept = match outlined {
         Ok(outline) => outlines.push(outline),
         Err(error) => Err(error),
     };
     if kept.is_err() {
-        outlines.clear();
-        *nothing = None;
+        forget(outlines, nothing, kepts);
     }
     kept
-}
-
-/// Returns what is told of a commit that stamped nothing, and adds that first if there was none before. If that failed, what the text
-/// has is not known, and nothing is kept.
-#[inline(always)]
-fn tell_nothing(
-    draft: &mut Draft,
-    outlines: &mut Outlines<'_>,
-    nothing: &mut Option<Told>,
-) -> Result<Told, AllocError>
-    requires outlined { AreOutlined draft.old outlines.old nothing.old }
-    ensures same { OnOk result (outlines_text draft.new outlines.new ≡ outlines_text draft.old outlines.old) }
-    ensures told { IfOk result (λ told. TellsNothing draft.new told) }
-    ensures outlined { AreOutlined draft.new outlines.new nothing.new }
-{
-    if let Some(told) = *nothing {
-        return Ok(told);
-    }
-    match told_nothing(draft) {
-        Ok(told) => {
-            *nothing = Some(told);
-            Ok(told)
-        }
-        Err(error) => {
-            outlines.clear();
-            Err(error)
-        }
-    }
 }
 
 /// Returns an event that was refused, to be told at the end by numbers, or `None` if it does not fit. An index has heard all entries,
@@ -337,6 +319,8 @@ impl<'a> Objects<'a> {
             draft: Draft::new(alloc),
             outlines: Outlines::new(alloc),
             nothing: None,
+            kepts: Vec::new(alloc),
+            slots: Vec::new(alloc),
         }
     }
 
@@ -381,7 +365,12 @@ impl<'a> Objects<'a> {
         ensures heard { OnOk result (HasHeard index.new scene.now.journal.now.entries) }
     {
         let outlined = outlined(&mut self.draft, said, scene, index, first, came);
-        keep(&mut self.outlines, &mut self.nothing, outlined)
+        keep(
+            &mut self.outlines,
+            &mut self.nothing,
+            &mut self.kepts,
+            outlined,
+        )
     }
 
     /// Adds a command that was done, by the kernel's journal and the last entry, as [`Objects::add`] does.
@@ -401,7 +390,12 @@ impl<'a> Objects<'a> {
         ensures heard { OnOk result (HasHeard index.new journal.now.entries) }
     {
         let outlined = outlined_done(&mut self.draft, said, journal, index, first, last);
-        keep(&mut self.outlines, &mut self.nothing, outlined)
+        keep(
+            &mut self.outlines,
+            &mut self.nothing,
+            &mut self.kepts,
+            outlined,
+        )
     }
 
     /// Adds a commit that stamped nothing and added no entry, and before which so many entries stand.
@@ -410,14 +404,70 @@ impl<'a> Objects<'a> {
         requires text { is_text said.now.bytes.now ≡ true }
         ensures { OnOk result (self.new ≡ self.old ++ nothing_object (said_line said.now) first) }
     {
-        let told = tell_nothing(&mut self.draft, &mut self.outlines, &mut self.nothing)?;
-        match Outline::quiet(said, first, told) {
-            Some(outline) => {
-                self.outlines.push(outline)?;
-                Ok(())
-            }
-            None => Err(AllocError),
-        }
+        let told = tell_nothing(
+            &mut self.draft,
+            &mut self.outlines,
+            &mut self.nothing,
+            &mut self.kepts,
+        )?;
+        self.outlines.push_told(said, first, told)?;
+        Ok(())
+    }
+
+    /// Adds a late landing that was not placed and tore nothing down, of a line that has a mark, before which there were as many entries
+    /// as behind it. An index has heard them.
+    #[inline(never)]
+    #[tactic(auto, using(crate::proofs::Keeping::none_overflowed))]
+    fn add_late(
+        &mut self,
+        said: &SaidLine<'a>,
+        scene: &Scene<'_>,
+        index: &Index,
+        late: &Late<'_>,
+    ) -> Result<(), AllocError>
+        requires text { is_text said.now.bytes.now ≡ true }
+        requires kept { is_kept_out late.now.landing.now.outcome ≡ true }
+        requires heard { HasHeard index.now scene.now.journal.now.entries }
+        requires marked { IsMarked scene.now.last.now.places.items scene.now.transactions.now }
+        ensures { OnOk result (self.new ≡ self.old ++ object_row (said_line said.now) (moment_of scene.now) (length scene.now.journal.now.entries) (replies.Late late.now.number late.now.landing.now false)) }
+    {
+        let count = scene.journal.len();
+        let landed = landed(scene, index, &None, true, count, late.landing);
+        let told = tell_again(
+            &mut self.draft,
+            &mut self.outlines,
+            &mut self.nothing,
+            &mut self.kepts,
+            &mut self.slots,
+            late.mark,
+            late.number,
+            &landed,
+        )?;
+        self.outlines.push_told(said, count, told)?;
+        Ok(())
+    }
+
+    /// Adds the event of a reply, if it may tell what an earlier one tells, and returns whether that is so. The event added no entry. An
+    /// index has heard all.
+    #[inline(never)]
+    fn add_again(
+        &mut self,
+        said: &SaidLine<'a>,
+        scene: &Scene<'_>,
+        index: &Index,
+        reply: &Reply,
+    ) -> Result<bool, AllocError>
+        requires text { is_text said.now.bytes.now ≡ true }
+        requires heard { HasHeard index.now scene.now.journal.now.entries }
+        requires marked { IsMarked scene.now.last.now.places.items scene.now.transactions.now }
+        ensures told { IfOk result (λ b. b ≡ true → self.new ≡ self.old ++ object_row (said_line said.now) (moment_of scene.now) (length scene.now.journal.now.entries) reply.now) }
+        ensures same { IfOk result (λ b. b ≡ false → self.new ≡ self.old) }
+    {
+        let Some(late) = marked_late(&mut self.slots, said, reply)? else {
+            return Ok(false);
+        };
+        self.add_late(said, scene, index, &late)?;
+        Ok(true)
     }
 
     /// Adds an event that was refused, to be told at the end by numbers, and returns whether that could be. An index has heard all
@@ -463,6 +513,11 @@ impl<'a> Teller<'a> for Objects<'a> {
         if let Came::Landed([], false) = came {
             if scene.journal.len() == first {
                 return self.add_nothing(said, first);
+            }
+        }
+        if let Came::Replied(reply) = came {
+            if scene.journal.len() == first && self.add_again(said, scene, index, reply)? {
+                return Ok(());
             }
         }
         self.add(said, scene, index, first, came)

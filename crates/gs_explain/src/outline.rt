@@ -68,6 +68,26 @@ fn short(number: usize) -> Result<u32, AllocError>
     }
 }
 
+impl Told {
+    /// Returns that a text has the lines of a reply between two places, and reasons behind them, of an event that added so many
+    /// entries. A number that does not fit into 32 bits counts as out of memory.
+    #[inline(always)]
+    pub(crate) fn parts(count: u32, from: usize, mid: usize, to: usize) -> Result<Told, AllocError>
+        requires begins { from ≤ mid }
+        requires ends { mid ≤ to }
+        ensures { IfOk result (λ told. told ≡ Told.Parts count from (mid - from) (to - mid)) }
+    {
+        let lines = short(mid - from)?;
+        let whys = short(to - mid)?;
+        Ok(Told::Parts {
+            count,
+            from,
+            lines,
+            whys,
+        })
+    }
+}
+
 impl<'a> Outline<'a> {
     /// Makes one. A number that does not fit into 32 bits counts as out of memory.
     #[inline(always)]
@@ -87,18 +107,12 @@ impl<'a> Outline<'a> {
         let number = short(said.number)?;
         let end = short(end)?;
         let first = first as u32;
-        let lines = short(mid - from)?;
-        let whys = short(to - mid)?;
+        let told = Told::parts(end - first, from, mid, to)?;
         Ok(Outline {
             line: said.bytes,
             number,
             first,
-            told: Told::Parts {
-                count: end - first,
-                from,
-                lines,
-                whys,
-            },
+            told,
         })
     }
 
@@ -125,13 +139,8 @@ pub(crate) fn told_nothing(draft: &mut Draft) -> Result<Told, AllocError>
 {
     let from = draft.len();
     draft.nothing()?;
-    let whys = short(draft.len() - from)?;
-    Ok(Told::Parts {
-        count: 0,
-        from,
-        lines: 0,
-        whys,
-    })
+    let to = draft.len();
+    Told::parts(0, from, from, to)
 }
 
 /// Adds what the object of an event is put together of, and returns the event. An index has heard the entries before the

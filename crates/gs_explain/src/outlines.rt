@@ -1,10 +1,12 @@
 //! The events whose objects are put together at the end, most of them in few bytes.
 
 ghost use Rattle.std.specs.Prelude.{◌≡◌, ◌+◌, ◌++◌, ◌∷◌, [], IfSome, OnErr, OnOk, length};
+ghost use Rattle.gs_script.specs.Unread.{said_line};
 ghost use Rattle.gs_sentences.specs.Parts.{part};
-ghost use Rattle.gs_explain.specs.Outlined.{InOrder, IsOutlined, merged, widened};
+ghost use Rattle.gs_explain.specs.Outlined.{AddsTold, InOrder, IsOutlined, merged, widened};
 
 use crate::outline::{Outline, Told};
+use gs_script::SaidLine;
 use std::alloc::{AllocError, Global};
 use std::marker::Model;
 
@@ -124,6 +126,24 @@ impl<'a> Outlines<'a> {
                 Ok(())
             }
             None => self.push_other(outline),
+        }
+    }
+
+    /// Adds an event that added no entry, and before which so many entries stand, by what is told of it. It fails only if out of memory;
+    /// a number that is too large counts as that.
+    #[inline(always)]
+    pub(crate) fn push_told(
+        &mut self,
+        said: &SaidLine<'a>,
+        first: usize,
+        told: Told,
+    ) -> Result<(), AllocError>
+        ensures added { OnOk result (AddsTold (said_line said.now) first told self.old self.new) }
+        ensures kept { OnErr result (self.new ≡ self.old) }
+    {
+        match Outline::quiet(said, first, told) {
+            Some(outline) => self.push(outline),
+            None => Err(AllocError),
         }
     }
 

@@ -1,6 +1,6 @@
 //! The rows of all events of a script.
 
-ghost use Rattle.std.specs.Prelude.{◌≡◌, ◌≤◌, ◌++◌, ◌∷◌, [], None, true, false, IfOk, IsOk, IfSome, Ok, OnOk, OnErr, length, take};
+ghost use Rattle.std.specs.Prelude.{◌≡◌, ◌≤◌, ◌++◌, [], None, true, false, IfOk, IfSome, Ok, OnOk, OnErr, length, take};
 ghost use Rattle.std.specs.Io.KnownBytes.{Appends};
 ghost use Rattle.gs_journal.specs.Last.{entry_lent};
 ghost use Rattle.gs_reasons.specs.Kept.{HasHeard};
@@ -16,21 +16,22 @@ ghost use Rattle.gs_explain.specs.Retold.{IsBegun, retold};
 ghost use Rattle.gs_explain.specs.Rows.{done_row, heading, row};
 ghost use Rattle.gs_sentences.specs.Tails.{IsTail};
 ghost use Rattle.gs_trace.specs.Came.{reply_in};
-ghost use Rattle.gs_explain.specs.ToldAgain.{AreHeld, is_kept_out, kept_put, late_told, told_text};
+ghost use Rattle.gs_explain.specs.ToldAgain.{AreHeld, is_kept_out, late_told, told_text};
 
-use crate::kept::{Kept, late_again, tell_late};
+use crate::kept::{Kept, late_again, marked_late, tell_late};
 use crate::landed::landed;
 use crate::moment::Scene;
 use crate::page::Page;
 use crate::piece::{MOST_LINE_LEN, Piece};
 use crate::pieces::write_retold;
 use crate::row::{write_done, write_row};
+use crate::slots::Slot;
 use crate::tail::tail_of;
 use crate::teller::Teller;
 use gs_core::Reply;
 use gs_journal::{Journal, LastEntry};
 use gs_kernel::Landing;
-use gs_layout::{Outcome, Refusal};
+use gs_layout::Refusal;
 use gs_reasons::Index;
 use gs_script::SaidLine;
 use gs_sentences::Landed;
@@ -39,87 +40,6 @@ use gs_trace::Came;
 use std::alloc::{AllocError, Global};
 use std::io::Write;
 use std::marker::Model;
-use std::slice;
-
-/// Lines are told apart by so many slots. What is kept for a line is kept for all lines of its slot.
-const SLOTS: usize = 8_192;
-
-/// So many are kept at most.
-const MOST_KEPT: usize = 4_096;
-
-/// By this, almost all of some thousand lines that differ in one number have slots of their own.
-const MULTIPLIER: u64 = 0x1F6F_7241_70EA_FD67;
-
-/// What is noted of the lines of a slot.
-#[derive(Clone, Copy)]
-struct Slot {
-    /// The mark of the line that came last.
-    mark: u32,
-    /// Which of those that are kept is kept for these lines, counted from 1, or 0 if none is.
-    place: u32,
-}
-
-/// Returns a mark of a line, by its last eight bytes, or by its first and last four if it has fewer. Lines that are the same have the
-/// same.
-#[inline(always)]
-fn mark_of(line: &[u8]) -> u32 {
-    let word = match line {
-        [.., a, b, c, d, e, f, g, h] => u64::from_le_bytes([*a, *b, *c, *d, *e, *f, *g, *h]),
-        [a, b, c, d, ..] => {
-            let last = &line[line.len() - 4..];
-            u64::from_le_bytes([*a, *b, *c, *d, last[0], last[1], last[2], last[3]])
-        }
-        _ => 0,
-    };
-    (word.wrapping_mul(MULTIPLIER) >> 32) as u32
-}
-
-/// Returns the slot of the lines that have a mark: its upper thirteen bits, of which there are as many values as slots.
-#[inline(always)]
-fn slot_of(mark: u32) -> usize {
-    (mark >> 19) as usize
-}
-
-/// Makes the slots, if there are none yet. It fails only if out of memory.
-#[inline(always)]
-fn make_slots(slots: &mut Vec<Slot>) -> Result<(), AllocError> {
-    if slots.is_empty() {
-        slots.resize(SLOTS, Slot { mark: 0, place: 0 })?;
-    }
-    Ok(())
-}
-
-/// Notes a mark in its slot, and returns whether it came before with no other between.
-#[inline(always)]
-fn note_mark(slots: &mut [Slot], mark: u32) -> bool {
-    let at = slot_of(mark);
-    if slots.len() <= at {
-        return false;
-    }
-    if slots[at].mark == mark {
-        return true;
-    }
-    slots[at].mark = mark;
-    false
-}
-
-/// Returns what is kept for the lines that have a mark, by its place, counted from 1, or 0 if nothing is.
-#[inline(always)]
-fn place_of(slots: &[Slot], mark: u32) -> usize {
-    match slots.get(slot_of(mark)) {
-        Some(slot) => slot.place as usize,
-        None => 0,
-    }
-}
-
-/// Sets what is kept for the lines that have a mark, by its place.
-#[inline(always)]
-fn set_place(slots: &mut [Slot], mark: u32, place: usize) {
-    let at = slot_of(mark);
-    if at < slots.len() {
-        slots[at].place = u32::try_from(place).unwrap_or(0);
-    }
-}
 
 /// The rows so far. Those of events that were refused are told at the end, by the numbers that they tell of. A late landing of which an earlier
 /// row says the same may be kept as the place of that. Clauses see the bytes that are told. What adds a row fails only if out of memory.
@@ -145,30 +65,6 @@ impl<'a> Model for Rows<'a> {
     ghost invariant = { λ r. AreHeld r.page r.pieces.items r.kepts.items };
 }
 
-/// Returns what landed late, and under which number, if that was not placed and tore nothing down.
-#[inline(always)]
-fn late_of(reply: &Reply) -> Option<(u32, &Landing)>
-    ensures reply { IfSome result (λ p. reply.now ≡ replies.Late p.0 p.1.now false) }
-    ensures kept { IfSome result (λ p. is_kept_out p.1.now.outcome ≡ true) }
-{
-    match reply {
-        Reply::Late {
-            number,
-            landing,
-            torn: false,
-        } if is_kept_out(landing.outcome) => Some((*number, landing)),
-        _ => None,
-    }
-}
-
-/// Returns whether a late landing that came out so was not placed, and tore nothing down.
-#[inline(always)]
-fn is_kept_out(outcome: Outcome) -> bool
-    ensures { result ≡ is_kept_out outcome }
-{
-    !matches!(outcome, Outcome::Placed | Outcome::Gone)
-}
-
 /// Takes away what is told at the end, and what is kept: for when memory ran out, and what the text has is not known.
 #[cold]
 #[inline(never)]
@@ -178,48 +74,6 @@ fn forget(pieces: &mut Vec<Piece<'_>>, kepts: &mut Vec<Kept>)
 {
     pieces.clear();
     kepts.clear();
-}
-
-/// Keeps what was told now, and takes away what was kept before if that was much. Returns its place, counted from 1. It fails only
-/// if out of memory.
-fn put_kept(kepts: &mut Vec<Kept>, kept: &Kept) -> Result<usize, AllocError>
-    ensures { OnOk result (kepts.new.items ≡ kept_put kept.now kepts.old.items) }
-{
-    if MOST_KEPT <= kepts.len() {
-        kepts.clear();
-    }
-    kepts.extend_from_slice(slice::from_ref(kept))?;
-    Ok(kepts.len())
-}
-
-/// Keeps what was told now, for the lines that have a mark. If that failed, nothing is kept.
-#[inline(always)]
-fn settle(
-    pieces: &mut Vec<Piece<'_>>,
-    kepts: &mut Vec<Kept>,
-    slots: &mut [Slot],
-    mark: u32,
-    kept: Result<Kept, AllocError>,
-) -> Result<(), AllocError>
-    ensures told { OnOk result (IsOk kept) }
-    ensures put { OnOk result (IfOk kept (λ kept. kepts.new.items ≡ kept_put kept kepts.old.items)) }
-    ensures same { OnOk result (pieces.new.items ≡ pieces.old.items) }
-    ensures none { OnErr result ((pieces.new.items ≡ []) × (kepts.new.items ≡ [])) }
-{
-    let put = match kept {
-        Ok(kept) => put_kept(kepts, &kept),
-        Err(error) => Err(error),
-    };
-    match put {
-        Ok(put) => {
-            set_place(slots, mark, put);
-            Ok(())
-        }
-        Err(error) => {
-            forget(pieces, kepts);
-            Err(error)
-        }
-    }
 }
 
 /// Returns how an event that was refused is told at the end behind this script's line and the first bytes of a text, so many, or `None` if it does
@@ -322,15 +176,21 @@ impl<'a> Rows<'a> {
         requires alone { (landed.now.overflow ≡ None) × (landed.now.fault.now ≡ None) }
         ensures { OnOk result (self.new ≡ self.old ++ (heading (said_line said.now) ++ told_text (late_told number (landed_given landed.now)))) }
     {
-        let kept = tell_late(&mut self.page, said, number, landed);
-        settle(
-            &mut self.pieces,
+        match tell_late(
+            &mut self.page,
             &mut self.kepts,
             &mut self.slots,
             mark,
-            kept,
-        )?;
-        Ok(())
+            said,
+            number,
+            landed,
+        ) {
+            Ok(()) => Ok(()),
+            Err(error) => {
+                forget(&mut self.pieces, &mut self.kepts);
+                Err(error)
+            }
+        }
     }
 
     /// Adds the row of a late landing that was not placed and tore nothing down, before which there were as many entries as
@@ -354,12 +214,12 @@ impl<'a> Rows<'a> {
     {
         let count = scene.journal.len();
         let landed = landed(scene, index, &None, true, count, landing);
-        let place = place_of(&self.slots, mark);
         if late_again(
             &mut self.pieces,
             &self.page,
             &self.kepts,
-            place,
+            &self.slots,
+            mark,
             said,
             number,
             &landed,
@@ -411,15 +271,10 @@ impl<'a> Rows<'a> {
         ensures told { IfOk result (λ b. b ≡ true → self.new ≡ self.old ++ row (said_line said.now) (moment_of scene.now) (length scene.now.journal.now.entries) reply.now) }
         ensures same { IfOk result (λ b. b ≡ false → self.new ≡ self.old) }
     {
-        let Some((number, landing)) = late_of(reply) else {
+        let Some(late) = marked_late(&mut self.slots, said, reply)? else {
             return Ok(false);
         };
-        make_slots(&mut self.slots)?;
-        let mark = mark_of(said.bytes);
-        if !note_mark(&mut self.slots, mark) {
-            return Ok(false);
-        }
-        self.add_late_row(said, scene, index, mark, number, landing)?;
+        self.add_late_row(said, scene, index, late.mark, late.number, late.landing)?;
         Ok(true)
     }
 

@@ -12,7 +12,7 @@ invariant_of-self-in-Some c =
     let o = c.in-Some.outline in
     let after : c.push_other.new.self ≡ os ++ o ∷ [] = search rules in
     let same : Grows text text = ([], sym (append-nil text)) in
-    record { nothing = c.self.invariant.nothing; events = subst (λ (xs : List Outline). All (IsOutlined text) xs) (sym after) (outlined_more os o text text same c.self.invariant.events (c.in-Some.ensures.stands text)) }
+    record { nothing = c.self.invariant.nothing; lates = c.self.invariant.lates; events = subst (λ (xs : List Outline). All (IsOutlined text) xs) (sym after) (outlined_more os o text text same c.self.invariant.events (c.in-Some.ensures.stands text)) }
 
 pub returns-in_ok-push_other-in-Some-clause-told : goal.returns-in_ok-push_other-in-Some-clause-told
 returns-in_ok-push_other-in-Some-clause-told c = λ yes.

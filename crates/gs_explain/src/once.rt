@@ -1,0 +1,121 @@
+//! What is told once, for all events that tell the same.
+
+ghost use Rattle.std.specs.Prelude.{◌≡◌, [], None, IfOk, OnOk};
+ghost use Rattle.std.specs.List.{All};
+ghost use Rattle.gs_sentences.specs.Given.{landed_given};
+ghost use Rattle.gs_explain.specs.Outlined.{AreOutlined, Grows, Tells, TellsLate, TellsNothing, late_object, outlines_text};
+ghost use Rattle.gs_explain.specs.ToldAgain.{late_told};
+
+use crate::content::late_told;
+use crate::draft::Draft;
+use crate::kept::{Kept, kept_for, settle};
+use crate::outline::{Told, told_nothing};
+use crate::outlines::Outlines;
+use crate::slots::Slot;
+use gs_sentences::{Landed, Reason};
+use std::alloc::AllocError;
+
+/// Takes away the events, and what is kept: for when memory ran out, and what the text has is not known.
+#[cold]
+#[inline(never)]
+pub(crate) fn forget(outlines: &mut Outlines<'_>, nothing: &mut Option<Told>, kepts: &mut Vec<Kept>)
+    ensures outlines { outlines.new ≡ [] }
+    ensures nothing { nothing.new ≡ None }
+    ensures kepts { kepts.new.items ≡ [] }
+{
+    outlines.clear();
+    *nothing = None;
+    kepts.clear();
+}
+
+/// Returns what is told of a commit that stamped nothing, and adds that first if there was none before. If that failed, what the text
+/// has is not known, and nothing is kept.
+#[inline(always)]
+pub(crate) fn tell_nothing(
+    draft: &mut Draft,
+    outlines: &mut Outlines<'_>,
+    nothing: &mut Option<Told>,
+    kepts: &mut Vec<Kept>,
+) -> Result<Told, AllocError>
+    requires outlined { AreOutlined draft.old outlines.old nothing.old kepts.old.items }
+    ensures same { OnOk result (outlines_text draft.new outlines.new ≡ outlines_text draft.old outlines.old) }
+    ensures told { IfOk result (λ told. TellsNothing draft.new told) }
+    ensures outlined { AreOutlined draft.new outlines.new nothing.new kepts.new.items }
+{
+    if let Some(told) = *nothing {
+        return Ok(told);
+    }
+    match told_nothing(draft) {
+        Ok(told) => {
+            *nothing = Some(told);
+            Ok(told)
+        }
+        Err(error) => {
+            forget(outlines, nothing, kepts);
+            Err(error)
+        }
+    }
+}
+
+/// Adds the line and the reason of a late landing, keeps them for the lines that have a mark, and returns what is told. It fails only if
+/// out of memory.
+#[inline(never)]
+fn tell_anew(
+    draft: &mut Draft,
+    kepts: &mut Vec<Kept>,
+    slots: &mut [Slot],
+    mark: u32,
+    number: u32,
+    landed: &Landed<'_>,
+) -> Result<Told, AllocError>
+    requires alone { (landed.now.overflow ≡ None) × (landed.now.fault.now ≡ None) }
+    requires kept { All (TellsLate draft.old) kepts.old.items }
+    ensures grown { OnOk result (Grows draft.old draft.new) }
+    ensures kept { OnOk result (All (TellsLate draft.new) kepts.new.items) }
+    ensures told { IfOk result (λ told. Tells draft.new (late_object (late_told number (landed_given landed.now))) told) }
+{
+    let from = draft.len();
+    draft.late(number, landed.landing)?;
+    let mid = draft.len();
+    draft.reason(&Reason::Landed(*landed))?;
+    let to = draft.len();
+    let kept = Kept {
+        told: late_told(number, landed),
+        from,
+        mid,
+        to,
+    };
+    settle(kepts, slots, mark, &kept)?;
+    Told::parts(0, from, mid, to)
+}
+
+/// Returns what is told of a late landing, of a line that has a mark, and adds that first if the same is not kept. If that failed, what
+/// the text has is not known, and nothing is kept.
+#[inline(always)]
+pub(crate) fn tell_again(
+    draft: &mut Draft,
+    outlines: &mut Outlines<'_>,
+    nothing: &mut Option<Told>,
+    kepts: &mut Vec<Kept>,
+    slots: &mut [Slot],
+    mark: u32,
+    number: u32,
+    landed: &Landed<'_>,
+) -> Result<Told, AllocError>
+    requires alone { (landed.now.overflow ≡ None) × (landed.now.fault.now ≡ None) }
+    requires outlined { AreOutlined draft.old outlines.old nothing.old kepts.old.items }
+    ensures same { OnOk result (outlines_text draft.new outlines.new ≡ outlines_text draft.old outlines.old) }
+    ensures told { IfOk result (λ told. Tells draft.new (late_object (late_told number (landed_given landed.now))) told) }
+    ensures outlined { AreOutlined draft.new outlines.new nothing.new kepts.new.items }
+{
+    if let Some(kept) = kept_for(kepts, slots, mark, number, landed) {
+        return Told::parts(0, kept.from, kept.mid, kept.to);
+    }
+    match tell_anew(draft, kepts, slots, mark, number, landed) {
+        Ok(told) => Ok(told),
+        Err(error) => {
+            forget(outlines, nothing, kepts);
+            Err(error)
+        }
+    }
+}
