@@ -5,7 +5,6 @@ use Rattle.gs_kernel.specs.Kernel.{last_entry}
 use Rattle.gs_kernel.specs.declared.executed.Executed.{Executed}
 use Rattle.gs_core.specs.declared.event.Event.TheVariants as events
 use Rattle.gs_core.specs.Machine.{Step, planning}
-use Rattle.gs_replies.specs.declared.reply.Reply.{Reply}
 use Rattle.gs_replies.specs.declared.reply.Reply.TheVariants as replies
 use Rattle.gs_replies.specs.Replies.{reply_of}
 use Rattle.gs_script.specs.Unread.{said_line}

@@ -1,4 +1,4 @@
-use Rattle.std.proofs.Common.{rules, ap, ◌∙◌, ◌≡◌, ◌+◌, ◌-◌, ◌++◌, List, ℕ, length, length-drop, take, arith}
+use Rattle.std.proofs.Common.{rules, ap, ◌∙◌, ◌≡◌, ◌+◌, ◌-◌, ◌++◌, List, ℕ, length, take, arith}
 use Rattle.gs_text.proofs.Grown.{both_utf8, ends_put, last_put}
 use Rattle.gs_text.proofs.forwards.put_ends.Goals as goal
 

@@ -1,5 +1,5 @@
 use Rattle.std.proofs.Common.{◌≡◌, length, take, arith, length-take-le}
-use Rattle.std.proofs.lemmas.Simd.{take_more_put_chunk, length-put_chunk}
+use Rattle.std.proofs.lemmas.Simd.{take_more_put_chunk}
 use Rattle.gs_text.proofs.forwards.put_front.Goals as goal
 
 pub returns-clause-written : goal.returns-clause-written

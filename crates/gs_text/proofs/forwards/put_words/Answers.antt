@@ -1,4 +1,4 @@
-use Rattle.std.proofs.Common.{◌++◌, ◌∙◌, List, ℕ, ap, arith, length, subst, take, take_all}
+use Rattle.std.proofs.Common.{◌++◌, ◌∙◌, List, ℕ, ap, arith, subst, take, take_all}
 use Rattle.std.specs.Str.{IsUtf8}
 use Rattle.gs_text.proofs.Grown.{both_utf8}
 use Rattle.gs_text.proofs.forwards.put_words.Goals as goal

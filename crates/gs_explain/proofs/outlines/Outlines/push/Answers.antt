@@ -1,9 +1,8 @@
 use Rattle.std.proofs.Common.{rules, ◌≡◌, ◌∙◌, ◌∷◌, [], ◌++◌, List, ap, length, subst, sym}
-use Rattle.gs_explain.specs.declared.outline.Outline.{Outline}
 use Rattle.gs_explain.specs.declared.outlines.Other.{Other}
 use Rattle.gs_explain.specs.declared.outlines.Short.{Short}
 use Rattle.gs_explain.specs.Outlined.{InOrder, merged}
-use Rattle.gs_explain.proofs.Merging.{merged_other, merged_short, order_other, order_short}
+use Rattle.gs_explain.proofs.Merging.{merged_short, order_short}
 use Rattle.gs_explain.proofs.outlines.Outlines.push.Goals as goal
 
 pub invariant_of-self-in-Some : goal.invariant_of-self-in-Some

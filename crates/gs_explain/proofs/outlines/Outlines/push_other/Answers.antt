@@ -3,7 +3,7 @@ use Rattle.gs_explain.specs.declared.outline.Outline.{Outline}
 use Rattle.gs_explain.specs.declared.outlines.Other.{Other}
 use Rattle.gs_explain.specs.declared.outlines.Short.{Short}
 use Rattle.gs_explain.specs.Outlined.{InOrder, merged}
-use Rattle.gs_explain.proofs.Merging.{merged_other, merged_short, order_other, order_short}
+use Rattle.gs_explain.proofs.Merging.{merged_other, order_other}
 use Rattle.gs_explain.proofs.outlines.Outlines.push_other.Goals as goal
 
 pub invariant_of-self-2 : goal.invariant_of-self-2
