@@ -10,7 +10,7 @@ use Rattle.gs_explain.specs.declared.outline.Outline.{Outline}
 use Rattle.gs_explain.specs.declared.outlines.Other.{Other}
 use Rattle.gs_explain.specs.declared.outlines.Short.{Short}
 use Rattle.gs_explain.specs.Outlined.{InOrder, IsOutlined, merged, outline_text, outlines_text, widened, widened_run}
-use Rattle.gs_explain.specs.Retold.{Leads, Moves}
+use Rattle.gs_explain.specs.Retold.{Leads}
 use Rattle.gs_explain.proofs.Outlining.{nothing}
 
 -- three in few bytes, and two others behind the first of them
@@ -80,10 +80,6 @@ short_in shorts i o is = is ∙ sym (get_or-map widened shorts i no_short)
 -- all is left at first
 pub leads_first : (a : Option (List ℕ)) (block whole : List ℕ) → block ≡ [] → Leads a whole a (block ++ whole)
 leads_first a block whole none = ([], Appends-nil a, ap (λ (b : List ℕ). b ++ whole) (sym none))
-
--- all that was to be added was
-pub leads_moved : (a b : Option (List ℕ)) (block bytes left : List ℕ) → Leads a (block ++ bytes) b (left ++ []) → Moves a block bytes b left
-leads_moved a b block bytes left (sent, w, e) = (sent, w, e ∙ ap (λ (t : List ℕ). sent ++ t) (append-nil left))
 
 -- the next of the others, those in few bytes before it, and the rest
 next_other : (others : List Other) (i : ℕ) (d : Other) → i < length others → drop i others ≡ get_or others i d ∷ drop (i + 1) others

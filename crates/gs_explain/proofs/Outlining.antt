@@ -4,7 +4,6 @@ use Rattle.std.specs.List.{All}
 use Rattle.std.specs.Option.{IfSome}
 use Rattle.std.specs.Result.{IsOk}
 use Rattle.std.specs.Str.{IsUtf8}
-use Rattle.std.proofs.Math.ListN.{drop_of_length-le}
 use Rattle.std.proofs.Math.Seq.{drop-append_seam, take-append_seam}
 use Rattle.std.proofs.lemmas.Str.{IsCharBoundary-after_ascii, IsCharBoundary-from_take, IsUtf8-drop}
 use Rattle.serde_json.specs.Data.{Data}
@@ -166,10 +165,6 @@ leads_object a b whole block text os i d lt leads = subst (λ t. Leads a whole b
   where
     next : outlines_text text (drop i os) ≡ outline_text text (get_or os i d) ++ outlines_text text (drop (i + 1) os)
     next = rw (add-one, drop-cons os i d)
-
--- what is left, once all are put together
-pub leads_end : (a b : Option (List ℕ)) (whole block text : List ℕ) (os : List Outline) (i : ℕ) → length os ≤ i → Leads a whole b (block ++ outlines_text text (drop i os)) → Leads a whole b (block ++ [])
-leads_end a b whole block text os i le leads = subst (λ rest. Leads a whole b (block ++ outlines_text text rest)) (drop_of_length-le os le) leads
 
 -- what stands behind text in a text is text
 utf8_behind : (front back : List ℕ) → IsUtf8 front → IsUtf8 (front ++ back) → IsUtf8 back

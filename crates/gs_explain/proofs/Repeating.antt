@@ -48,7 +48,3 @@ late_kept new n x k is begins ends tells =
 
 pub lates_put : (old new : List ℕ) (k : Kept) (kepts after : List Kept) → Grows old new → All (TellsLate old) kepts → TellsLate new k → after ≡ kept_put k kepts → All (TellsLate new) after
 lates_put old new k kepts after grows all is put = subst (All (TellsLate new)) (sym put) (all_put (TellsLate new) k kepts (lates_grown kepts old new grows all) is)
-
--- what is kept of a landing that is the same tells it
-pub kept_tells : (text : List ℕ) (n : ℕ) (x : Landed) (k : Kept) → TellsLate text k → k.told ≡ late_told n x → Tells text (late_object (late_told n x)) (tolds.Parts 0 k.from (k.mid - k.from) (k.to - k.mid))
-kept_tells text n x k is same = subst (λ t. Tells text (late_object t) (tolds.Parts 0 k.from (k.mid - k.from) (k.to - k.mid))) same is.tells
