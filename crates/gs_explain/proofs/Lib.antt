@@ -6,7 +6,7 @@ mod Overflows
 pub mod Composing
 pub mod Quoting
 pub mod Outlining
-pub mod Merging
+pub mod Aside
 pub mod Tailing
 mod Moments
 mod Meeting

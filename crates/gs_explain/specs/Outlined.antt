@@ -1,5 +1,5 @@
 -- Objects that are put together at the end.
-use Rattle.std.specs.Prelude.{◌≡◌, ◌≤◌, ◌+◌, ◌-◌, true, false, ℕ, Option, List, [], ◌∷◌, ◌++◌, drop, length, map, take}
+use Rattle.std.specs.Prelude.{◌≡◌, ◌<◌, ◌≤◌, ◌+◌, ◌-◌, ◌==◌, if◌then◌else◌, true, false, ℕ, Option, List, [], ◌∷◌, ◌++◌, drop, get_or, length}
 use Rattle.std.specs.List.{All, flat_map}
 use Rattle.std.specs.Option.{IfSome}
 use Rattle.std.specs.Str.{IsUtf8}
@@ -19,7 +19,6 @@ use Rattle.gs_explain.specs.declared.kept.Kept.{Kept}
 use Rattle.gs_explain.specs.declared.outline.Outline.{Outline}
 use Rattle.gs_explain.specs.declared.outline.Told.{Told}
 use Rattle.gs_explain.specs.declared.outline.Told.TheVariants as tolds
-use Rattle.gs_explain.specs.declared.outlines.Other.{Other}
 use Rattle.gs_explain.specs.declared.outlines.Short.{Short}
 
 -- the object of an event, of which a text has the lines of the reply and the reasons, unless it was refused and is told by numbers
@@ -95,24 +94,22 @@ pub record AreOutlined (text : List ℕ) (os : List Outline) (once : Option Told
   pub nothing : IfSome once (TellsNothing text)
   pub lates : All (TellsLate text) kepts
 
--- a text has the same beginning, and more
-abbrev pub Grows : List ℕ → List ℕ → Type 0
-Grows old new = (more : List ℕ) × (new ≡ old ++ more)
+-- a list has the same beginning, and more
+abbrev pub Grows : {A : Type 0} → List A → List A → Type 0
+Grows {A} old new = (more : List A) × (new ≡ old ++ more)
 
--- an event in few bytes, as any is kept
-abbrev pub widened : Short → Outline
-widened s = record { line = s.line; number = s.number; first = s.first; told = tolds.Parts s.count s.from s.lines s.whys }
+-- what is told of an event that is not there
+abbrev pub untold : Told
+untold = tolds.Parts 0 0 0 0
 
--- those in few bytes from one place to another
-abbrev pub widened_run : ℕ → ℕ → List Short → List Outline
-widened_run from to shorts = map widened (take (to - from) (drop from shorts))
+-- what is told of an event in few bytes, by what is told aside
+abbrev pub told_of : List Told → Short → Told
+told_of asides s = if s.count == 255 then get_or asides s.at untold else tolds.Parts s.count s.at s.lines s.whys
 
--- events in order: those in few bytes from a place on, with the others among them
-abbrev pub merged : ℕ → List Short → List Other → List Outline
-merged from shorts [] = map widened (drop from shorts)
-merged from shorts (o ∷ rest) = widened_run from o.before shorts ++ o.outline ∷ merged o.before shorts rest
+-- an event in few bytes, as any is told
+abbrev pub widened : List Told → Short → Outline
+widened asides s = record { line = s.line; number = s.number; first = s.first; told = told_of asides s }
 
--- each of the others comes behind those before it, and there are so many in few bytes
-abbrev pub InOrder : ℕ → ℕ → List Other → Type 0
-InOrder from len [] = from ≤ len
-InOrder from len (o ∷ rest) = (from ≤ o.before) × InOrder o.before len rest
+-- so many are told aside that what is told of it is there
+abbrev pub HasTold : ℕ → Short → Type 0
+HasTold len s = s.count ≡ 255 → s.at < len

@@ -12,7 +12,7 @@ ghost use Rattle.gs_trace.specs.Came.{reply_in};
 ghost use Rattle.gs_explain.specs.Marked.{IsMarked};
 ghost use Rattle.gs_explain.specs.Moment.{moment_of};
 ghost use Rattle.gs_explain.specs.Objects.{done_object, object_row};
-ghost use Rattle.gs_explain.specs.Outlined.{AreOutlined, InOrder, IsOutlined, merged, nothing_object, outline_text, outlines_text, widened};
+ghost use Rattle.gs_explain.specs.Outlined.{AreOutlined, HasTold, IsOutlined, nothing_object, outline_text, outlines_text, widened};
 ghost use Rattle.gs_explain.specs.Retold.{IsBegun, Moves};
 ghost use Rattle.gs_explain.specs.Stenciled.{IsStencil};
 ghost use Rattle.gs_explain.specs.ToldAgain.{is_kept_out};
@@ -24,7 +24,7 @@ use crate::moment::Scene;
 use crate::object::Pen;
 use crate::once::{forget, tell_again, tell_nothing};
 use crate::outline::{Outline, Told, outlined, outlined_done};
-use crate::outlines::{Other, Outlines, Short};
+use crate::outlines::{Outlines, Short};
 use crate::slots::Slot;
 use crate::stencil::Stencil;
 use crate::tail::tail_of;
@@ -50,26 +50,28 @@ const OBJECT_LEN: usize = 4_096;
 /// Adds the object of an event, of which a text has the lines of the reply and the reasons, or which was refused.
 #[inline(always)]
 #[tactic(auto, using(crate::proofs::Outlining::has_parts, crate::proofs::Outlining::is_refused))]
-fn push_outline(
+fn push_object(
     alloc: Global,
     out: &mut Text,
     pen: &mut Pen,
     stencil: &mut Stencil,
     text: &[u8],
-    outline: &Outline<'_>,
+    asides: &[Told],
+    short: &Short<'_>,
 ) -> Result<(), AllocError>
-    requires outlined { IsOutlined text.now outline.now }
+    requires aside { HasTold (length asides.now) short.now }
+    requires outlined { IsOutlined text.now (widened asides.now short.now) }
     requires stencil { IsStencil stencil.old }
-    ensures shown { OnOk result (out.new ≡ out.old ++ outline_text text.now outline.now) }
+    ensures shown { OnOk result (out.new ≡ out.old ++ outline_text text.now (widened asides.now short.now)) }
     ensures kept { OnOk result (IsStencil stencil.new) }
 {
-    let Outline {
+    let Short {
         line,
         number,
         first,
-        told,
-    } = *outline;
-    match told {
+        ..
+    } = *short;
+    match short.told(asides) {
         Told::Parts {
             count,
             from,
@@ -80,7 +82,7 @@ fn push_outline(
             let to = mid + whys as usize;
             let lines = &text[from..mid];
             let whys = &text[mid..to];
-            pen.push_seldom(alloc, out, number, line, first, count, lines, whys)
+            pen.push(alloc, out, number, line, first, count, lines, whys)
         }
         Told::Refused { at, tail } => stencil.push(alloc, out, number, line, first, at, &tail),
     }
@@ -117,8 +119,7 @@ fn send_full<W: Write>(block: &mut Text, writer: &mut W) -> Result<(), WriteFail
     Ok(())
 }
 
-/// Adds the object of an event to a block, and writes that if it is full then.
-#[inline(always)]
+/// Adds the object of an event to a block, and writes that if it is full then. It is called at one place, where the compiler folds it.
 #[tactic(auto, using(crate::proofs::Outlining::some_object, crate::proofs::Retelling::moved_then))]
 fn add_object<W: Write>(
     alloc: Global,
@@ -127,105 +128,39 @@ fn add_object<W: Write>(
     pen: &mut Pen,
     stencil: &mut Stencil,
     text: &[u8],
-    outline: &Outline<'_>,
+    asides: &[Told],
+    short: &Short<'_>,
 ) -> Result<(), WriteFailed>
-    requires outlined { IsOutlined text.now outline.now }
+    requires aside { HasTold (length asides.now) short.now }
+    requires outlined { IsOutlined text.now (widened asides.now short.now) }
     requires stencil { IsStencil stencil.old }
     ensures kept { OnOk result (IsStencil stencil.new) }
-    ensures moved { OnOk result (Moves (W.contents writer.old) block.old (outline_text text.now outline.now) (W.contents writer.new) block.new) }
-    ensures begun { OnErr result (IsBegun (W.contents writer.old) (W.contents writer.new) (block.old ++ outline_text text.now outline.now)) }
+    ensures moved { OnOk result (Moves (W.contents writer.old) block.old (outline_text text.now (widened asides.now short.now)) (W.contents writer.new) block.new) }
+    ensures begun { OnErr result (IsBegun (W.contents writer.old) (W.contents writer.new) (block.old ++ outline_text text.now (widened asides.now short.now))) }
 {
-    push_outline(alloc, block, pen, stencil, text, outline)?;
+    push_object(alloc, block, pen, stencil, text, asides, short)?;
     send_full(block, writer)
 }
 
-/// Adds the object of an event that was kept in few bytes.
-#[inline(always)]
-fn push_short(
-    alloc: Global,
-    out: &mut Text,
-    pen: &mut Pen,
-    text: &[u8],
-    short: &Short<'_>,
-) -> Result<(), AllocError>
-    requires { IsOutlined text.now (widened short.now) }
-    ensures { OnOk result (out.new ≡ out.old ++ outline_text text.now (widened short.now)) }
-{
-    let (lines, whys) = short.told_in(text);
-    let count = short.count as u32;
-    pen.push(
-        alloc,
-        out,
-        short.number,
-        short.line,
-        short.first,
-        count,
-        lines,
-        whys,
-    )
-}
-
-/// Adds the object of an event that was kept in few bytes to a block, as [`add_object`] does. It is called at one place, where the compiler folds
-/// it.
-#[tactic(auto, using(crate::proofs::Outlining::some_object, crate::proofs::Retelling::moved_then))]
-fn add_short<W: Write>(
-    alloc: Global,
-    block: &mut Text,
-    writer: &mut W,
-    pen: &mut Pen,
-    text: &[u8],
-    short: &Short<'_>,
-) -> Result<(), WriteFailed>
-    requires { IsOutlined text.now (widened short.now) }
-    ensures moved { OnOk result (Moves (W.contents writer.old) block.old (outline_text text.now (widened short.now)) (W.contents writer.new) block.new) }
-    ensures begun { OnErr result (IsBegun (W.contents writer.old) (W.contents writer.new) (block.old ++ outline_text text.now (widened short.now))) }
-{
-    push_short(alloc, block, pen, text, short)?;
-    send_full(block, writer)
-}
-
-/// Adds the objects of events that were kept in few bytes to a block, and writes that whenever it is full.
-#[inline(never)]
-fn add_shorts<W: Write>(
-    alloc: Global,
-    block: &mut Text,
-    writer: &mut W,
-    pen: &mut Pen,
-    text: &[u8],
-    shorts: &[Short<'_>],
-) -> Result<(), WriteFailed>
-    requires { All (λ short. IsOutlined text.now (widened short)) shorts.now }
-    ensures moved { OnOk result (Moves (W.contents writer.old) block.old (outlines_text text.now (map widened shorts.now)) (W.contents writer.new) block.new) }
-    ensures begun { OnErr result (IsBegun (W.contents writer.old) (W.contents writer.new) (block.old ++ outlines_text text.now (map widened shorts.now))) }
-{
-    for short in shorts {
-        add_short(alloc, block, writer, pen, text, short)?;
-    }
-    Ok(())
-}
-
-/// Writes the objects of events, in blocks, for which an empty one is given. Of the events in few bytes, some come before each other one.
+/// Writes the objects of events, in blocks, for which an empty one is given.
 fn write_objects<W: Write>(
     alloc: Global,
     text: &[u8],
     shorts: &[Short<'_>],
-    others: &[Other<'_>],
+    asides: &[Told],
     block: Text,
     writer: &mut W,
 ) -> Result<(), WriteFailed>
-    requires outlined { All (IsOutlined text.now) (merged 0 shorts.now others.now) }
-    requires order { InOrder 0 (length shorts.now) others.now }
+    requires aside { All (HasTold (length asides.now)) shorts.now }
+    requires outlined { All (IsOutlined text.now) (map (widened asides.now) shorts.now) }
     requires empty { block ≡ [] }
-    ensures sent { OnOk result (Appends (W.contents writer.old) (W.contents writer.new) (outlines_text text.now (merged 0 shorts.now others.now))) }
-    ensures begun { OnErr result (IsBegun (W.contents writer.old) (W.contents writer.new) (outlines_text text.now (merged 0 shorts.now others.now))) }
+    ensures sent { OnOk result (Appends (W.contents writer.old) (W.contents writer.new) (outlines_text text.now (map (widened asides.now) shorts.now))) }
+    ensures begun { OnErr result (IsBegun (W.contents writer.old) (W.contents writer.new) (outlines_text text.now (map (widened asides.now) shorts.now))) }
 {
     let mut block = block;
     let mut pen = Pen::new();
     let mut stencil = Stencil::new(alloc);
-    let mut done = 0;
-    for other in others {
-        let run = &shorts[done..other.before];
-        add_shorts(alloc, &mut block, writer, &mut pen, text, run)?;
+    for short in shorts {
         add_object(
             alloc,
             &mut block,
@@ -233,12 +168,10 @@ fn write_objects<W: Write>(
             &mut pen,
             &mut stencil,
             text,
-            &other.outline,
+            asides,
+            short,
         )?;
-        done = other.before;
     }
-    let rest = &shorts[done..];
-    add_shorts(alloc, &mut block, writer, &mut pen, text, rest)?;
     send(&mut block, writer)
 }
 
@@ -334,12 +267,12 @@ impl<'a> Objects<'a> {
         ensures sent { OnOk result (Appends (W.contents writer.old) (W.contents writer.new) self.now) }
         ensures begun { OnErr result (IsBegun (W.contents writer.old) (W.contents writer.new) self.now) }
     {
-        let (shorts, others) = self.outlines.as_slices();
+        let (shorts, asides) = self.outlines.as_slices();
         write_objects(
             self.alloc,
             self.draft.as_bytes(),
             shorts,
-            others,
+            asides,
             block,
             writer,
         )
@@ -488,7 +421,7 @@ impl<'a> Objects<'a> {
     {
         match refused_outline(said, scene, index, refusal) {
             Some(outline) => {
-                self.outlines.push_other(outline)?;
+                self.outlines.push_aside(&outline)?;
                 Ok(true)
             }
             None => Ok(false),

@@ -59,7 +59,7 @@ const _: () = prove!(size_of::<Outline<'static>>() == 56);
 
 /// Returns a number in 32 bits. One that does not fit counts as out of memory.
 #[inline(always)]
-fn short(number: usize) -> Result<u32, AllocError>
+pub(crate) fn short(number: usize) -> Result<u32, AllocError>
     ensures { IfOk result (λ n. n ≡ number) }
 {
     match u32::try_from(number) {
