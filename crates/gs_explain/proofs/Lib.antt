@@ -21,5 +21,6 @@ mod Rowing
 mod RowsAgain
 mod Keeping
 mod Repeating
+mod Quieting
 pub mod Knowing
 pub mod Sentences

@@ -1,6 +1,7 @@
 pub mod Moment
 pub mod Landings
 pub mod Marked
+pub mod Quiet
 pub mod Refusals
 pub mod Retold
 pub mod ToldAgain

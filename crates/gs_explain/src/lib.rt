@@ -21,6 +21,7 @@ mod overflow;
 mod page;
 mod piece;
 mod pieces;
+mod quiet;
 mod quoted;
 mod refused;
 mod row;

@@ -13,6 +13,7 @@ ghost use Rattle.gs_explain.specs.Marked.{IsMarked};
 ghost use Rattle.gs_explain.specs.Moment.{moment_of};
 ghost use Rattle.gs_explain.specs.Objects.{done_object, object_row};
 ghost use Rattle.gs_explain.specs.Outlined.{AreOutlined, HasTold, IsOutlined, nothing_object, outline_text, outlines_text, widened};
+ghost use Rattle.gs_explain.specs.Quiet.{quiet_object};
 ghost use Rattle.gs_explain.specs.Retold.{IsBegun, Moves};
 ghost use Rattle.gs_explain.specs.Stenciled.{IsStencil};
 ghost use Rattle.gs_explain.specs.ToldAgain.{is_kept_out};
@@ -22,9 +23,10 @@ use crate::kept::{Kept, Late, marked_late};
 use crate::landed::landed;
 use crate::moment::Scene;
 use crate::object::Pen;
-use crate::once::{forget, tell_again, tell_nothing};
+use crate::once::{forget, tell_again, tell_nothing, tell_quiet};
 use crate::outline::{Outline, Told, outlined, outlined_done};
 use crate::outlines::{Outlines, Short};
+use crate::quiet::Quiet;
 use crate::slots::Slot;
 use crate::stencil::Stencil;
 use crate::tail::tail_of;
@@ -347,6 +349,28 @@ impl<'a> Objects<'a> {
         Ok(())
     }
 
+    /// Adds any event that added no entry, and before which so many stand, with what came of it.
+    #[inline(never)]
+    fn add_quiet(
+        &mut self,
+        said: &SaidLine<'a>,
+        first: usize,
+        quiet: &Quiet,
+    ) -> Result<(), AllocError>
+        requires text { is_text said.now.bytes.now ≡ true }
+        ensures { OnOk result (self.new ≡ self.old ++ quiet_object quiet.now (said_line said.now) first) }
+    {
+        let told = tell_quiet(
+            &mut self.draft,
+            &mut self.outlines,
+            &mut self.nothing,
+            &mut self.kepts,
+            quiet,
+        )?;
+        self.outlines.push_told(said, first, told)?;
+        Ok(())
+    }
+
     /// Adds a late landing that was not placed and tore nothing down, of a line that has a mark, before which there were as many entries
     /// as behind it. An index has heard them.
     #[inline(never)]
@@ -443,11 +467,6 @@ impl<'a> Teller<'a> for Objects<'a> {
         first: usize,
         came: Came<'_>,
     ) -> Result<(), AllocError> {
-        if let Came::Landed([], false) = came {
-            if scene.journal.len() == first {
-                return self.add_nothing(said, first);
-            }
-        }
         if let Came::Replied(reply) = came {
             if scene.journal.len() == first && self.add_again(said, scene, index, reply)? {
                 return Ok(());
@@ -466,6 +485,19 @@ impl<'a> Teller<'a> for Objects<'a> {
         last: LastEntry<'_>,
     ) -> Result<(), AllocError> {
         self.add_done(said, journal, index, first, last)
+    }
+
+    #[inline(always)]
+    fn quiet_row(
+        &mut self,
+        said: &SaidLine<'a>,
+        first: usize,
+        quiet: Quiet,
+    ) -> Result<(), AllocError> {
+        match &quiet {
+            Quiet::Nothing => self.add_nothing(said, first),
+            quiet => self.add_quiet(said, first, quiet),
+        }
     }
 
     #[inline(always)]

@@ -4,6 +4,7 @@ ghost use Rattle.std.specs.Prelude.{◌≡◌, [], None, IfOk, OnOk};
 ghost use Rattle.std.specs.List.{All};
 ghost use Rattle.gs_sentences.specs.Given.{landed_given};
 ghost use Rattle.gs_explain.specs.Outlined.{AreOutlined, Grows, Tells, TellsLate, TellsNothing, late_object, outlines_text};
+ghost use Rattle.gs_explain.specs.Quiet.{quiet_object};
 ghost use Rattle.gs_explain.specs.ToldAgain.{late_told};
 
 use crate::content::late_told;
@@ -11,7 +12,9 @@ use crate::draft::Draft;
 use crate::kept::{Kept, kept_for, settle};
 use crate::outline::{Told, told_nothing};
 use crate::outlines::Outlines;
+use crate::quiet::Quiet;
 use crate::slots::Slot;
+use crate::whys::push_quiet;
 use gs_sentences::{Landed, Reason};
 use std::alloc::AllocError;
 
@@ -50,6 +53,44 @@ pub(crate) fn tell_nothing(
             *nothing = Some(told);
             Ok(told)
         }
+        Err(error) => {
+            forget(outlines, nothing, kepts);
+            Err(error)
+        }
+    }
+}
+
+/// Adds the lines and the reasons of what came of an event that added no entry, and returns what is told. It fails only if out of memory.
+#[inline(always)]
+fn told_quiet(draft: &mut Draft, quiet: &Quiet) -> Result<Told, AllocError>
+    ensures grown { OnOk result (Grows draft.old draft.new) }
+    ensures told { IfOk result (λ told. Tells draft.new (quiet_object quiet.now) told) }
+{
+    let from = draft.len();
+    draft.reply(quiet.came())?;
+    let mid = draft.len();
+    push_quiet(draft, quiet)?;
+    let to = draft.len();
+    Told::parts(0, from, mid, to)
+}
+
+/// Adds what came of an event that added no entry, and returns what is told. If that failed, what the text has is not known, and nothing
+/// is kept.
+#[inline(always)]
+pub(crate) fn tell_quiet(
+    draft: &mut Draft,
+    outlines: &mut Outlines<'_>,
+    nothing: &mut Option<Told>,
+    kepts: &mut Vec<Kept>,
+    quiet: &Quiet,
+) -> Result<Told, AllocError>
+    requires outlined { AreOutlined draft.old outlines.old nothing.old kepts.old.items }
+    ensures same { OnOk result (outlines_text draft.new outlines.new ≡ outlines_text draft.old outlines.old) }
+    ensures told { IfOk result (λ told. Tells draft.new (quiet_object quiet.now) told) }
+    ensures outlined { AreOutlined draft.new outlines.new nothing.new kepts.new.items }
+{
+    match told_quiet(draft, quiet) {
+        Ok(told) => Ok(told),
         Err(error) => {
             forget(outlines, nothing, kepts);
             Err(error)

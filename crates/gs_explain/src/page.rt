@@ -1,6 +1,6 @@
 //! What is written of a script, and the sentences that say why.
 
-ghost use Rattle.std.specs.Prelude.{◌≡◌, ◌++◌, Some, OnOk, [], true};
+ghost use Rattle.std.specs.Prelude.{◌≡◌, ◌++◌, Some, OnOk, [], codes, decimal, true};
 ghost use Rattle.gs_lines.specs.Lines.{landing_text, late_text, line, reply_lines, torn_line};
 ghost use Rattle.gs_journal.specs.Last.{entry_lent};
 ghost use Rattle.gs_replies.specs.Replies.{reply_of};
@@ -76,16 +76,34 @@ impl Page {
         text
     }
 
-    /// Adds a script's line, with its number.
+    /// Adds a script's line, with its number, and words behind it.
     #[inline(always)]
     #[tactic(auto, using(gs_script::proofs::Texts::text_is_utf8))]
+    fn script_line(&mut self, said: &SaidLine<'_>, behind: &str) -> Result<(), AllocError>
+        requires { is_text said.now.bytes.now ≡ true }
+        ensures { OnOk result (self.new ≡ self.old ++ codes "line " ++ decimal said.now.number ++ codes ": " ++ said.now.bytes.now ++ behind.now) }
+    {
+        self.line.set(said.number as u64);
+        self.text
+            .push_line("line ", &self.line, ": ", said.bytes, behind)
+    }
+
+    /// Adds a script's line, with its number.
+    #[inline(always)]
     pub(crate) fn heading(&mut self, said: &SaidLine<'_>) -> Result<(), AllocError>
         requires { is_text said.now.bytes.now ≡ true }
         ensures { OnOk result (self.new ≡ self.old ++ heading (said_line said.now)) }
     {
-        self.line.set(said.number as u64);
-        self.text
-            .push_line("line ", &self.line, ": ", said.bytes, "\n")
+        self.script_line(said, "\n")
+    }
+
+    /// Adds the row of a commit that stamped nothing, tore nothing down and added no entry.
+    #[inline(always)]
+    pub(crate) fn nothing_row(&mut self, said: &SaidLine<'_>) -> Result<(), AllocError>
+        requires { is_text said.now.bytes.now ≡ true }
+        ensures { OnOk result (self.new ≡ self.old ++ (heading (said_line said.now) ++ none_shown [])) }
+    {
+        self.script_line(said, "\n  nothing was stamped\n")
     }
 
     /// Adds the lines of a reply.

@@ -11,6 +11,7 @@ ghost use Rattle.gs_trace.specs.Came.{reply_in};
 ghost use Rattle.gs_explain.specs.Marked.{IsMarked};
 ghost use Rattle.gs_explain.specs.Moment.{moment_of};
 ghost use Rattle.gs_explain.specs.Landings.{because};
+ghost use Rattle.gs_explain.specs.Quiet.{quiet_row};
 ghost use Rattle.gs_explain.specs.Refusals.{why_refused};
 ghost use Rattle.gs_explain.specs.Rows.{done_row, drained_shown, plain_shown, reply_shown, row};
 ghost use Rattle.gs_sentences.specs.Reason as reasons;
@@ -21,6 +22,7 @@ use crate::landings::{write_landings, write_late_landing};
 use crate::moment::Scene;
 use crate::overflow::overflow_of;
 use crate::page::Page;
+use crate::quiet::Quiet;
 use crate::refused::why_refused;
 use gs_agent::Drained;
 use gs_core::Reply;
@@ -239,6 +241,27 @@ pub(crate) fn write_row(
     out.heading(said)?;
     write_came(out, scene, index, first, came)?;
     out.added(first, scene.journal.len())
+}
+
+/// Adds the line of an event that added no entry, and what came of it.
+#[inline(always)]
+pub(crate) fn write_quiet(
+    out: &mut Page,
+    said: &SaidLine<'_>,
+    quiet: &Quiet,
+) -> Result<(), AllocError>
+    requires { is_text said.now.bytes.now ≡ true }
+    ensures { OnOk result (out.new ≡ out.old ++ quiet_row (said_line said.now) quiet.now) }
+{
+    out.heading(said)?;
+    match quiet {
+        Quiet::Nothing => out.nothing(),
+        Quiet::Stamped { number, .. } => out.stamped(*number),
+        Quiet::Drained(drained) => {
+            out.drained(drained)?;
+            write_drained(out, drained)
+        }
+    }
 }
 
 /// Adds the line of a command that was done, its reply, and the entries that it added, as [`write_row`] does.

@@ -11,6 +11,7 @@ ghost use Rattle.gs_sentences.specs.Given.{landed_given};
 ghost use Rattle.gs_sentences.specs.Refused.{refused_text};
 ghost use Rattle.gs_explain.specs.Marked.{IsMarked};
 ghost use Rattle.gs_explain.specs.Moment.{moment_of};
+ghost use Rattle.gs_explain.specs.Quiet.{quiet_row};
 ghost use Rattle.gs_explain.specs.Refusals.{why_refused};
 ghost use Rattle.gs_explain.specs.Retold.{IsBegun, retold};
 ghost use Rattle.gs_explain.specs.Rows.{done_row, heading, row};
@@ -24,7 +25,8 @@ use crate::moment::Scene;
 use crate::page::Page;
 use crate::piece::{MOST_LINE_LEN, Piece};
 use crate::pieces::write_retold;
-use crate::row::{write_done, write_row};
+use crate::quiet::Quiet;
+use crate::row::{write_done, write_quiet, write_row};
 use crate::slots::Slot;
 use crate::tail::tail_of;
 use crate::teller::Teller;
@@ -155,6 +157,38 @@ impl<'a> Rows<'a> {
         ensures heard { OnOk result (HasHeard index.new journal.now.entries) }
     {
         match write_done(&mut self.page, said, journal, index, first, last) {
+            Ok(()) => Ok(()),
+            Err(error) => {
+                forget(&mut self.pieces, &mut self.kepts);
+                Err(error)
+            }
+        }
+    }
+
+    /// Adds the row of a commit that stamped nothing, tore nothing down and added no entry.
+    #[inline(always)]
+    #[tactic(auto, using(crate::proofs::Retelling::retold_more, crate::proofs::Keeping::held_more))]
+    fn add_nothing(&mut self, said: &SaidLine<'_>) -> Result<(), AllocError>
+        requires { is_text said.now.bytes.now ≡ true }
+        ensures { OnOk result (self.new ≡ self.old ++ quiet_row (said_line said.now) Quiet.Nothing) }
+    {
+        match self.page.nothing_row(said) {
+            Ok(()) => Ok(()),
+            Err(error) => {
+                forget(&mut self.pieces, &mut self.kepts);
+                Err(error)
+            }
+        }
+    }
+
+    /// Adds the row of any event that added no entry, with what came of it.
+    #[inline(never)]
+    #[tactic(auto, using(crate::proofs::Retelling::retold_more, crate::proofs::Keeping::held_more))]
+    fn add_quiet(&mut self, said: &SaidLine<'_>, quiet: &Quiet) -> Result<(), AllocError>
+        requires { is_text said.now.bytes.now ≡ true }
+        ensures { OnOk result (self.new ≡ self.old ++ quiet_row (said_line said.now) quiet.now) }
+    {
+        match write_quiet(&mut self.page, said, quiet) {
             Ok(()) => Ok(()),
             Err(error) => {
                 forget(&mut self.pieces, &mut self.kepts);
@@ -324,6 +358,19 @@ impl<'a> Teller<'a> for Rows<'a> {
         last: LastEntry<'_>,
     ) -> Result<(), AllocError> {
         self.add_done(said, journal, index, first, last)
+    }
+
+    #[inline(always)]
+    fn quiet_row(
+        &mut self,
+        said: &SaidLine<'a>,
+        _first: usize,
+        quiet: Quiet,
+    ) -> Result<(), AllocError> {
+        match &quiet {
+            Quiet::Nothing => self.add_nothing(said),
+            quiet => self.add_quiet(said, quiet),
+        }
     }
 
     #[inline(always)]

@@ -6,10 +6,12 @@ ghost use Rattle.gs_script.specs.Words.{is_text};
 ghost use Rattle.gs_explain.specs.Explained.{Show};
 ghost use Rattle.gs_explain.specs.Marked.{IsMarked};
 ghost use Rattle.gs_explain.specs.Moment.{Moment, moment_of};
+ghost use Rattle.gs_explain.specs.Quiet.{quiet_reply};
 ghost use Rattle.gs_script.specs.Unread.{said_line};
 ghost use Rattle.gs_trace.specs.Came.{reply_in};
 
 use crate::moment::Scene;
+use crate::quiet::Quiet;
 use gs_journal::{Journal, LastEntry};
 use gs_layout::Refusal;
 use gs_reasons::Index;
@@ -56,6 +58,16 @@ pub(crate) trait Teller<'a>: Drop {
         requires heard { HasHeard index.old (take first journal.now.entries) }
         ensures shown { (x : Moment) → x.history ≡ journal.now.entries → OnOk result (bytes self.new ≡ bytes self.old ++ show (said_line said.now) x first (replies.Done (entry_lent last.entry))) }
         ensures heard { OnOk result (HasHeard index.new journal.now.entries) };
+
+    /// Adds an event that added no entry, and before which so many stand, with what came of it. It fails only if out of memory.
+    fn quiet_row(
+        &mut self,
+        said: &SaidLine<'a>,
+        first: usize,
+        quiet: Quiet,
+    ) -> Result<(), AllocError>
+        requires text { is_text said.now.bytes.now ≡ true }
+        ensures shown { (x : Moment) → length x.history ≡ first → OnOk result (bytes self.new ≡ bytes self.old ++ show (said_line said.now) x first (quiet_reply quiet)) };
 
     /// Adds an event that was refused, as [`Teller::row`] does.
     fn refused_row(

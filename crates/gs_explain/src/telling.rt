@@ -1,6 +1,6 @@
 //! A run of events, each of which is explained as it happens.
 
-ghost use Rattle.std.specs.Prelude.{◌≡◌, ◌≤◌, IfOk, IfErr, OnOk, [], length, take, true};
+ghost use Rattle.std.specs.Prelude.{◌≡◌, ◌≤◌, IfOk, IfErr, OnOk, [], false, length, take, true};
 ghost use Rattle.gs_core.specs.Machine.{planned, planning};
 ghost use Rattle.gs_journal.specs.Last.{entry_lent};
 ghost use Rattle.gs_reasons.specs.Kept.{HasHeard};
@@ -12,11 +12,14 @@ ghost use Rattle.gs_replies.specs.declared.reply.Reply.TheVariants as replies;
 ghost use Rattle.gs_trace.specs.Came.{reply_in};
 ghost use Rattle.gs_trace.specs.Noted.{noted_after, noted_first};
 ghost use Rattle.gs_trace.specs.NotedLines.{noted_of};
+ghost use Rattle.gs_core.specs.Short.{wants_memory};
+ghost use Rattle.gs_explain.specs.Quiet.{quiet_reply};
 ghost use Rattle.gs_explain.specs.Telling.{ExplainsOne, IsToldAll, Stood, TellsOne};
 
 use crate::hearing::hear_all;
 use crate::marking::mark_last;
 use crate::moment::Scene;
+use crate::quiet::Quiet;
 use crate::teller::Teller;
 use gs_core::{Event, Machine, Reply};
 use gs_journal::LastEntry;
@@ -36,6 +39,15 @@ fn bare_command(command: &Command) -> Event<()>
     ensures { result ≡ Event.Kernel command.now }
 {
     Event::Kernel { command: *command }
+}
+
+/// Returns whether a commit stamped nothing and tore nothing down.
+#[inline(always)]
+#[tactic(auto, using(crate::proofs::Quieting::nothing_landed))]
+fn is_nothing(landings: &[Landing], torn: bool) -> bool
+    ensures { result ≡ true → replies.Landed landings.now torn ≡ replies.Landed [] false }
+{
+    landings.is_empty() && !torn
 }
 
 /// Notes and marks what came of an event of a line, by the machine that it left and how many transactions there were before it.
@@ -129,6 +141,30 @@ fn explain_done<'a, P: Counted + Copy, T: Teller<'a>>(
     let came = Came::Executed(Ok(Executed::Done), entry);
     note_came(machine, lines, last, said.number, stamped, came)?;
     out.done_row(said, machine.kernel().journal(), index, first, entry)
+}
+
+/// Adds what explains an event that added no entry, by what came of it, as [`explain_came`] does.
+#[inline(always)]
+fn explain_quiet<'a, P: Counted + Copy, T: Teller<'a>>(
+    machine: &Machine<P>,
+    lines: &mut Lines,
+    index: &Index,
+    last: &mut Marks,
+    out: &mut T,
+    said: &SaidLine<'a>,
+    first: usize,
+    stamped: usize,
+    quiet: Quiet,
+) -> Result<(), AllocError>
+    requires text { is_text said.now.bytes.now ≡ true }
+    requires before { Stood first stamped index.now last.old.places.items (planning P.chosen machine.now) }
+    requires all { length machine.now.history ≡ first }
+    requires enough { wants_memory (quiet_reply quiet) ≡ false }
+    ensures { (event : Event (Unit {0})) → OnOk result (TellsOne T.show (noted_of lines.old) first (said_line said.now) event (quiet_reply quiet) (planning P.chosen machine.now) (noted_of lines.new) index.now last.new.places.items (T.bytes out.old) (T.bytes out.new)) }
+{
+    let _index = index;
+    note_came(machine, lines, last, said.number, stamped, quiet.came())?;
+    out.quiet_row(said, first, quiet)
 }
 
 /// Adds why an event was refused, as [`explain_came`] does.
@@ -261,17 +297,29 @@ fn explain_drain<'a, P: Counted + Copy, T: Teller<'a>>(
 {
     let first = machine.kernel().journal().len();
     let stamped = machine.transactions().len();
-    let event = Event::Drain { max };
     match machine.drain(max) {
         Ok(drained) => {
             let came = Came::Drained(drained);
+            if came.is_short() {
+                return Err(AllocError);
+            }
+            if machine.kernel().journal().len() == first {
+                let quiet = Quiet::Drained(drained);
+                return explain_quiet(
+                    machine, lines, index, last, out, said, first, stamped, quiet,
+                );
+            }
+            let event = Event::Drain { max };
             explain_came(
                 machine, lines, index, last, out, said, &event, first, stamped, came,
             )
         }
-        Err(refusal) => explain_refusal(
-            machine, lines, index, last, out, said, &event, first, stamped, refusal,
-        ),
+        Err(refusal) => {
+            let event = Event::Drain { max };
+            explain_refusal(
+                machine, lines, index, last, out, said, &event, first, stamped, refusal,
+            )
+        }
     }
 }
 
@@ -295,9 +343,20 @@ fn explain_stamp<'a, P: Counted + Copy, T: Teller<'a>>(
 {
     let first = machine.kernel().journal().len();
     let stamped = machine.transactions().len();
-    let event = Event::Stamp { cpu, tid, flags };
     match machine.stamp(cpu, tid, flags) {
         Ok(number) => {
+            if machine.kernel().journal().len() == first {
+                let quiet = Quiet::Stamped {
+                    cpu,
+                    tid,
+                    flags,
+                    number,
+                };
+                return explain_quiet(
+                    machine, lines, index, last, out, said, first, stamped, quiet,
+                );
+            }
+            let event = Event::Stamp { cpu, tid, flags };
             let came = Came::Stamped {
                 cpu,
                 tid,
@@ -308,9 +367,12 @@ fn explain_stamp<'a, P: Counted + Copy, T: Teller<'a>>(
                 machine, lines, index, last, out, said, &event, first, stamped, came,
             )
         }
-        Err(refusal) => explain_other_refusal(
-            machine, lines, index, last, out, said, &event, first, stamped, refusal,
-        ),
+        Err(refusal) => {
+            let event = Event::Stamp { cpu, tid, flags };
+            explain_other_refusal(
+                machine, lines, index, last, out, said, &event, first, stamped, refusal,
+            )
+        }
     }
 }
 
@@ -333,17 +395,27 @@ fn explain_commit<'a, P: Counted + Copy, T: Teller<'a>>(
 {
     let first = machine.kernel().journal().len();
     let stamped = machine.transactions().len();
-    let event = Event::Commit { mask };
     match machine.commit(mask, landings) {
         Ok(torn) => {
-            let came = Came::Landed(landings.as_slice(), torn);
+            let landings = landings.as_slice();
+            if is_nothing(landings, torn) && machine.kernel().journal().len() == first {
+                let quiet = Quiet::Nothing;
+                return explain_quiet(
+                    machine, lines, index, last, out, said, first, stamped, quiet,
+                );
+            }
+            let event = Event::Commit { mask };
+            let came = Came::Landed(landings, torn);
             explain_came(
                 machine, lines, index, last, out, said, &event, first, stamped, came,
             )
         }
-        Err(refusal) => explain_refusal(
-            machine, lines, index, last, out, said, &event, first, stamped, refusal,
-        ),
+        Err(refusal) => {
+            let event = Event::Commit { mask };
+            explain_refusal(
+                machine, lines, index, last, out, said, &event, first, stamped, refusal,
+            )
+        }
     }
 }
 

@@ -11,6 +11,7 @@ ghost use Rattle.gs_explain.specs.Landings.{group_fault, why_landed};
 ghost use Rattle.gs_explain.specs.Marked.{IsMarked};
 ghost use Rattle.gs_explain.specs.Moment.{moment_of};
 ghost use Rattle.gs_explain.specs.Objects.{drained_why, landings_why, listed, none_why, plain_whys, whys};
+ghost use Rattle.gs_explain.specs.Quiet.{quiet_why};
 ghost use Rattle.gs_explain.specs.Refusals.{why_refused};
 ghost use Rattle.gs_explain.specs.Rows.{stopped, unless_none};
 
@@ -19,6 +20,7 @@ use crate::hearing::{hear_all, hear_landing};
 use crate::landed::{group_fault, is_gone, landed};
 use crate::moment::Scene;
 use crate::overflow::overflow_of;
+use crate::quiet::Quiet;
 use crate::refused::why_refused;
 use gs_agent::{Drained, Stop};
 use gs_core::Reply;
@@ -127,6 +129,18 @@ fn push_drained(out: &mut Draft, drained: &Drained) -> Result<(), AllocError>
     push_skipped(out, drained.skipped)?;
     push_orphans(out, drained.orphans)?;
     push_stopped(out, drained.stop)
+}
+
+/// Adds the reasons of an event that added no entry, by what came of it.
+#[inline(always)]
+pub(crate) fn push_quiet(out: &mut Draft, quiet: &Quiet) -> Result<(), AllocError>
+    ensures { OnOk result (out.new ≡ out.old ++ behind_commas (quiet_why quiet.now)) }
+{
+    match quiet {
+        Quiet::Nothing => out.nothing(),
+        Quiet::Stamped { .. } => Ok(()),
+        Quiet::Drained(drained) => push_drained(out, drained),
+    }
 }
 
 /// Adds why an event was refused. An index has heard all entries.

@@ -1,5 +1,6 @@
-use Rattle.std.proofs.Common.{◌≡◌, ◌∙◌, ap, refl, sym, subst, List, length}
+use Rattle.std.proofs.Common.{◌≡◌, ◌∙◌, ap, refl, subst, sym, length, List, [], false}
 use Rattle.gs_kernel.specs.declared.landing.Landing.{Landing}
+use Rattle.gs_replies.specs.declared.reply.Reply.{Reply}
 use Rattle.gs_core.specs.declared.event.Event.TheVariants as events
 use Rattle.gs_core.specs.Machine.{Step, planning}
 use Rattle.gs_replies.specs.declared.reply.Reply.TheVariants as replies
@@ -9,6 +10,30 @@ use Rattle.gs_trace.specs.NotedLines.{noted_of}
 use Rattle.gs_explain.proofs.Happened.{explains_one, stood}
 use Rattle.gs_explain.proofs.telling.explain_commit.Goals as goal
 
+pub explain_quiet-requires : goal.explain_quiet-requires
+explain_quiet-requires g c = λ κs.
+    let m = planning g.P.Policy.chosen c.args.machine.now in
+    let next = planning g.P.Policy.chosen c.commit.new.self in
+    let first : c.len-first.result ≡ length m.history = c.len-first.ensures.value ∙ ap length (c.journal.ensures.entries ∙ c.kernel.ensures.history) in
+    let stamped : length c.transactions-stamped.result.now ≡ length m.transactions = ap length c.transactions-stamped.ensures in
+    let stepped = subst (λ (r : _). Step m (events.Commit c.args.mask) (replied_as (replies.Landed c.commit.new.landings.items) r) next) c.in-Ok.is c.commit.ensures.step in
+    let step : Step m (events.Commit c.args.mask) (replies.Landed c.as_slice-landings.result.now c.in-Ok.torn) next = subst (λ (xs : List Landing). Step m (events.Commit c.args.mask) (replies.Landed xs c.in-Ok.torn) next) (sym c.as_slice-landings.ensures.value) stepped in
+    let nothing : Step m (events.Commit c.args.mask) (replies.Landed [] false) next = subst (λ (r : Reply). Step m (events.Commit c.args.mask) r next) (c.is_nothing.ensures c.if-is_nothing.true) step in
+    let all : length next.history ≡ c.len-first.result = sym (c.len.ensures.value ∙ ap length (c.journal-then-is_nothing.ensures.entries ∙ c.kernel-then-is_nothing.ensures.history)) ∙ c.if-len-first.true in
+    ((refl, tt), (c.requires.text, (stood m (events.Commit c.args.mask) (replies.Landed [] false) next c.len-first.result (length c.transactions-stamped.result.now) c.args.index.now c.args.last.now.places.items nothing first stamped c.requires.heard c.requires.marked, (all, refl))))
+
+pub returns-then-len-first : goal.returns-then-len-first
+returns-then-len-first g c =
+    let m = planning g.P.Policy.chosen c.args.machine.now in
+    let next = planning g.P.Policy.chosen c.commit.new.self in
+    let first : c.len-first.result ≡ length m.history = c.len-first.ensures.value ∙ ap length (c.journal.ensures.entries ∙ c.kernel.ensures.history) in
+    let stamped : length c.transactions-stamped.result.now ≡ length m.transactions = ap length c.transactions-stamped.ensures in
+    let stepped = subst (λ (r : _). Step m (events.Commit c.args.mask) (replied_as (replies.Landed c.commit.new.landings.items) r) next) c.in-Ok.is c.commit.ensures.step in
+    let step : Step m (events.Commit c.args.mask) (replies.Landed c.as_slice-landings.result.now c.in-Ok.torn) next = subst (λ (xs : List Landing). Step m (events.Commit c.args.mask) (replies.Landed xs c.in-Ok.torn) next) (sym c.as_slice-landings.ensures.value) stepped in
+    let nothing : Step m (events.Commit c.args.mask) (replies.Landed [] false) next = subst (λ (r : Reply). Step m (events.Commit c.args.mask) r next) (c.is_nothing.ensures c.if-is_nothing.true) step in
+    explains_one g.P.Policy.chosen g.T.Teller.show (noted_of c.args.lines.now) m (said_line c.args.said.now) (events.Commit c.args.mask) (events.Commit c.args.mask) (replies.Landed [] false) next c.len-first.result (noted_of c.explain_quiet.new.lines) c.args.index.now c.explain_quiet.new.last.places.items (g.T.Teller.bytes c.args.out.now) (g.T.Teller.bytes c.explain_quiet.new.out) c.explain_quiet.result
+    nothing c.commit.ensures.safe c.commit.ensures.faithful refl first (c.explain_quiet.ensures (events.Commit c.args.mask))
+
 pub explain_came-requires : goal.explain_came-requires
 explain_came-requires g c = λ κs.
     let m = planning g.P.Policy.chosen c.args.machine.now in
@@ -16,18 +41,18 @@ explain_came-requires g c = λ κs.
     let first : c.len-first.result ≡ length m.history = c.len-first.ensures.value ∙ ap length (c.journal.ensures.entries ∙ c.kernel.ensures.history) in
     let stamped : length c.transactions-stamped.result.now ≡ length m.transactions = ap length c.transactions-stamped.ensures in
     let stepped = subst (λ (r : _). Step m (events.Commit c.args.mask) (replied_as (replies.Landed c.commit.new.landings.items) r) next) c.in-Ok.is c.commit.ensures.step in
-    let step : Step m (events.Commit c.args.mask) (replies.Landed c.as_slice.result.now c.in-Ok.torn) next = subst (λ (xs : List Landing). Step m (events.Commit c.args.mask) (replies.Landed xs c.in-Ok.torn) next) (sym c.as_slice.ensures.value) stepped in
-    ((refl, tt), (c.requires.text, stood m (events.Commit c.args.mask) (replies.Landed c.as_slice.result.now c.in-Ok.torn) next c.len-first.result (length c.transactions-stamped.result.now) c.args.index.now c.args.last.now.places.items step first stamped c.requires.heard c.requires.marked))
+    let step : Step m (events.Commit c.args.mask) (replies.Landed c.as_slice-landings.result.now c.in-Ok.torn) next = subst (λ (xs : List Landing). Step m (events.Commit c.args.mask) (replies.Landed xs c.in-Ok.torn) next) (sym c.as_slice-landings.ensures.value) stepped in
+    ((refl, tt), (c.requires.text, stood m (events.Commit c.args.mask) (replies.Landed c.as_slice-landings.result.now c.in-Ok.torn) next c.len-first.result (length c.transactions-stamped.result.now) c.args.index.now c.args.last.now.places.items step first stamped c.requires.heard c.requires.marked))
 
-pub returns-in-Ok : goal.returns-in-Ok
-returns-in-Ok g c =
+pub returns-else-is_nothing : goal.returns-else-is_nothing
+returns-else-is_nothing g c =
     let m = planning g.P.Policy.chosen c.args.machine.now in
     let next = planning g.P.Policy.chosen c.commit.new.self in
     let first : c.len-first.result ≡ length m.history = c.len-first.ensures.value ∙ ap length (c.journal.ensures.entries ∙ c.kernel.ensures.history) in
     let stamped : length c.transactions-stamped.result.now ≡ length m.transactions = ap length c.transactions-stamped.ensures in
     let stepped = subst (λ (r : _). Step m (events.Commit c.args.mask) (replied_as (replies.Landed c.commit.new.landings.items) r) next) c.in-Ok.is c.commit.ensures.step in
-    let step : Step m (events.Commit c.args.mask) (replies.Landed c.as_slice.result.now c.in-Ok.torn) next = subst (λ (xs : List Landing). Step m (events.Commit c.args.mask) (replies.Landed xs c.in-Ok.torn) next) (sym c.as_slice.ensures.value) stepped in
-    explains_one g.P.Policy.chosen g.T.Teller.show (noted_of c.args.lines.now) m (said_line c.args.said.now) (events.Commit c.args.mask) (events.Commit c.args.mask) (replies.Landed c.as_slice.result.now c.in-Ok.torn) next c.len-first.result (noted_of c.explain_came.new.lines) c.explain_came.new.index c.explain_came.new.last.places.items (g.T.Teller.bytes c.args.out.now) (g.T.Teller.bytes c.explain_came.new.out) c.explain_came.result
+    let step : Step m (events.Commit c.args.mask) (replies.Landed c.as_slice-landings.result.now c.in-Ok.torn) next = subst (λ (xs : List Landing). Step m (events.Commit c.args.mask) (replies.Landed xs c.in-Ok.torn) next) (sym c.as_slice-landings.ensures.value) stepped in
+    explains_one g.P.Policy.chosen g.T.Teller.show (noted_of c.args.lines.now) m (said_line c.args.said.now) (events.Commit c.args.mask) (events.Commit c.args.mask) (replies.Landed c.as_slice-landings.result.now c.in-Ok.torn) next c.len-first.result (noted_of c.explain_came.new.lines) c.explain_came.new.index c.explain_came.new.last.places.items (g.T.Teller.bytes c.args.out.now) (g.T.Teller.bytes c.explain_came.new.out) c.explain_came.result
     step c.commit.ensures.safe c.commit.ensures.faithful refl first c.explain_came.ensures
 
 pub explain_refusal-requires : goal.explain_refusal-requires

@@ -1,0 +1,7 @@
+use Rattle.gs_script.specs.Unread.{said_line}
+use Rattle.gs_explain.specs.Quiet.{quiet_row}
+use Rattle.gs_explain.proofs.Keeping.{held_then}
+use Rattle.gs_explain.proofs.rows.Rows.add_quiet.Goals as goal
+
+pub invariant_of-self : goal.invariant_of-self
+invariant_of-self c = held_then c.self.inside.page (quiet_row (said_line c.args.said.now) c.args.quiet.now) c.write_quiet.new.out c.self.inside.pieces.items c.self.inside.kepts.items c.in-Ok.ensures c.self.invariant
