@@ -11,29 +11,41 @@ use json::Writer;
 use std::alloc::{AllocError, Global};
 use std::simd::prelude::*;
 
-/// Returns whether none of the four bytes from a place on has to be escaped.
-#[inline(always)]
-fn plain_4(bytes: &[u8], at: usize) -> bool
-    requires { at + 4 ≤ length bytes.now }
-    ensures { OnTrue result (PlainBetween bytes.now at (at + 4)) }
-{
-    let v = u8x4::from_slice(&bytes[at..]);
-    (v.simd_eq(u8x4::splat(b'"'))
-        | v.simd_eq(u8x4::splat(b'\\'))
-        | v.simd_lt(u8x4::splat(0x20))).to_bitmask()
-        == 0
-}
+/// The lanes of two vectors of four, one behind another.
+const BOTH_4: [usize; 8] = [0, 1, 2, 3, 4, 5, 6, 7];
 
-/// Returns whether none of the eight bytes from a place on has to be escaped.
+/// The lanes of two vectors of eight, one behind another.
+const BOTH_8: [usize; 16] = [0, 1, 2, 3, 4, 5, 6, 7, 8, 9, 10, 11, 12, 13, 14, 15];
+
+/// Returns whether no byte has to be escaped, of four to eight: of the first four and the last four at once.
 #[inline(always)]
-fn plain_8(bytes: &[u8], at: usize) -> bool
-    requires { at + 8 ≤ length bytes.now }
-    ensures { OnTrue result (PlainBetween bytes.now at (at + 8)) }
+fn plain_ends_4(bytes: &[u8]) -> bool
+    requires many { 4 ≤ length bytes.now }
+    requires few { length bytes.now ≤ 8 }
+    ensures { OnTrue result (PlainBetween bytes.now 0 (length bytes.now)) }
 {
-    let v = u8x8::from_slice(&bytes[at..]);
+    let first = u8x4::from_slice(bytes);
+    let last = u8x4::from_slice(&bytes[bytes.len() - 4..]);
+    let v = first.shuffle::<8>(last, BOTH_4);
     (v.simd_eq(u8x8::splat(b'"'))
         | v.simd_eq(u8x8::splat(b'\\'))
         | v.simd_lt(u8x8::splat(0x20))).to_bitmask()
+        == 0
+}
+
+/// Returns whether no byte has to be escaped, of eight to sixteen: of the first eight and the last eight at once.
+#[inline(always)]
+fn plain_ends_8(bytes: &[u8]) -> bool
+    requires many { 8 ≤ length bytes.now }
+    requires few { length bytes.now ≤ 16 }
+    ensures { OnTrue result (PlainBetween bytes.now 0 (length bytes.now)) }
+{
+    let first = u8x8::from_slice(bytes);
+    let last = u8x8::from_slice(&bytes[bytes.len() - 8..]);
+    let v = first.shuffle::<16>(last, BOTH_8);
+    (v.simd_eq(u8x16::splat(b'"'))
+        | v.simd_eq(u8x16::splat(b'\\'))
+        | v.simd_lt(u8x16::splat(0x20))).to_bitmask()
         == 0
 }
 
@@ -88,9 +100,9 @@ pub(crate) fn is_plain(bytes: &[u8]) -> bool
     if len >= 16 {
         plain_many(bytes)
     } else if len >= 8 {
-        plain_8(bytes, 0) && plain_8(bytes, len - 8)
+        plain_ends_8(bytes)
     } else if len >= 4 {
-        plain_4(bytes, 0) && plain_4(bytes, len - 4)
+        plain_ends_4(bytes)
     } else {
         plain_few(bytes)
     }
