@@ -17,7 +17,7 @@ use Rattle.gs_lines.specs.Lines.{line, outcome_text}
 use Rattle.gs_sentences.specs.Reason.{Reason}
 use Rattle.gs_sentences.specs.Reason as reasons
 use Rattle.gs_sentences.specs.Reasons.{reason_text}
-use Rattle.gs_explain.specs.Composed.{behind_commas, between_commas, comma_behind, end_pieces, entries_pieces, middle_pieces, object_pieces, option_json, short_pieces, replies_pieces, silent_pieces, why_pieces}
+use Rattle.gs_explain.specs.Composed.{behind_commas, between_commas, comma_behind, front_pieces, object_pieces, option_json, reason_pieces, reasons_pieces, replies_pieces, why_pieces}
 use Rattle.gs_explain.proofs.Quoting.{one_line, plain_quoted}
 use Rattle.gs_explain.specs.Objects.{line_of_cause, place_of_cause, reason_cause, reason_data, reason_word, refusal_word, row_data, why_data}
 
@@ -118,6 +118,22 @@ whole_why entry at word text plain =
 pub whole_reason : (r : Reason) → why_pieces (place_of_cause (reason_cause r)) (line_of_cause (reason_cause r)) (reason_word r) (reason_text r) ≡ behind_commas (reason_data r ∷ [])
 whole_reason r = whole_why (place_of_cause (reason_cause r)) (line_of_cause (reason_cause r)) (reason_word r) (reason_text r) (plain_word r)
 
+-- the word and the text of a reason, and what stands behind them, if no byte of the text is escaped
+regroup_reason : (o c w d q t z : List ℕ) → ((((o ++ c) ++ w) ++ (d ++ q)) ++ t) ++ (q ++ z) ≡ o ++ ((((c ++ w) ++ d) ++ (q ++ (t ++ q))) ++ z)
+regroup_reason o c w d q t z = simp append_assoc
+
+pub plain_reason : (out word text : List ℕ) → PlainBetween text 0 (length text) → ((((out ++ codes ",\"reason\":\"") ++ word) ++ codes "\",\"text\":\"") ++ text) ++ codes "\"}" ≡ out ++ reason_pieces word text
+plain_reason out word text plain =
+    regroup_reason out (codes ",\"reason\":\"") word (codes "\",\"text\":") (34 ∷ []) text (codes "}")
+    ∙ ap (λ (t : List ℕ). out ++ ((((codes ",\"reason\":\"" ++ word) ++ codes "\",\"text\":") ++ t) ++ codes "}")) (sym (plain_quoted text plain))
+
+-- the same at the end of an object
+pub last_reason : (out word text : List ℕ) → PlainBetween text 0 (length text) → ((((out ++ codes ",\"reason\":\"") ++ word) ++ codes "\",\"text\":\"") ++ text) ++ codes "\"}]}\n" ≡ out ++ (reason_pieces word text ++ codes "]}\n")
+last_reason out word text plain =
+    regroup_reason out (codes ",\"reason\":\"") word (codes "\",\"text\":") (34 ∷ []) text (codes "}" ++ codes "]}\n")
+    ∙ (ap (λ (t : List ℕ). out ++ ((((codes ",\"reason\":\"" ++ word) ++ codes "\",\"text\":") ++ t) ++ (codes "}" ++ codes "]}\n"))) (sym (plain_quoted text plain))
+    ∙ ap (λ (t : List ℕ). out ++ t) (sym (append_assoc (((codes ",\"reason\":\"" ++ word) ++ codes "\",\"text\":") ++ quoted text) (codes "}") (codes "]}\n"))))
+
 -- that no transaction landed
 pub whole_nothing : why_pieces None None (codes "nothing") (codes "nothing was stamped") ≡ behind_commas (why_data None None (codes "nothing") (codes "nothing was stamped") ∷ [])
 unfolding escape_byte
@@ -145,45 +161,31 @@ whole_object said first end lines why =
     (codes ",\"text\":") (quoted said.1) (codes ",\"why\":[") (between_commas why) (codes "\n")
     ∙ ((λ i. nested said first end (sym (items_between texts) i) (sym (items_between why) i)) ∙ by_parts said first end (lines_in lines) why)
 
--- how many entries an event added, where their number is a word
-pub no_entry : (first : ℕ) → codes "{\"entries\":{\"count\":0,\"first\":" ++ decimal first ≡ entries_pieces first 0
-unfolding digits
-no_entry first = refl
-
-pub one_entry : (first : ℕ) → codes "{\"entries\":{\"count\":1,\"first\":" ++ decimal first ≡ entries_pieces first 1
-unfolding digits
-one_entry first = refl
-
 -- a reply of one line of which no byte is escaped
 pub only_reply : (reply : List ℕ) → PlainBetween reply 0 (length reply) → replies_pieces (reply ++ 10 ∷ []) ≡ (34 ∷ []) ++ (reply ++ (34 ∷ []))
 only_reply reply plain = ap (λ (ls : List (List ℕ)). between_commas (map string ls)) (one_line reply plain) ∙ (append-nil (quoted reply) ∙ plain_quoted reply plain)
 
-regroup_plain : (l n d q r s t w : List ℕ) → (((((l ++ n) ++ (d ++ q)) ++ r) ++ (q ++ (s ++ q))) ++ t) ++ (q ++ w) ≡ (((((l ++ n) ++ d) ++ (q ++ (r ++ q))) ++ s) ++ (q ++ (t ++ q))) ++ w
-regroup_plain l n d q r s t w = simp append_assoc
+-- an object of which no byte of its line and of the only line of its reply is escaped, in a row
+regroup_short : (f d q r s t w y z : List ℕ) → (((((f ++ (d ++ q)) ++ r) ++ (q ++ (s ++ q))) ++ t) ++ (q ++ w) ++ y) ++ z ≡ ((((f ++ d) ++ (q ++ (r ++ q))) ++ s) ++ (q ++ (t ++ q))) ++ ((w ++ y) ++ z)
+regroup_short f d q r s t w y z = simp append_assoc
 
-pub short_middle : (said : ℕ × List ℕ) (lines reply : List ℕ) → PlainBetween said.1 0 (length said.1) → PlainBetween reply 0 (length reply) → lines ≡ reply ++ 10 ∷ [] → short_pieces said reply ≡ middle_pieces said lines
-short_middle said lines reply plain_line plain_reply is =
-    let front : List ℕ = codes "},\"line\":" ++ decimal said.0 ++ codes ",\"replies\":[" in
-    let replies : (34 ∷ []) ++ (reply ++ (34 ∷ [])) ≡ replies_pieces lines = sym (only_reply reply plain_reply) ∙ ap replies_pieces (sym is) in
+pub short_object : (said : ℕ × List ℕ) (first count : ℕ) (reply whys : List ℕ) → PlainBetween said.1 0 (length said.1) → PlainBetween reply 0 (length reply)
+    → front_pieces said.0 first count ++ codes ",\"replies\":[\"" ++ reply ++ codes "\"],\"text\":\"" ++ said.1 ++ codes "\",\"why\":[" ++ drop 1 whys ++ codes "]}\n" ≡ object_pieces said first count (reply ++ 10 ∷ []) whys
+short_object said first count reply whys plain_line plain_reply =
+    let front : List ℕ = front_pieces said.0 first count ++ codes ",\"replies\":[" in
+    let replies : (34 ∷ []) ++ (reply ++ (34 ∷ [])) ≡ replies_pieces (reply ++ 10 ∷ []) = sym (only_reply reply plain_reply) in
     let text : (34 ∷ []) ++ (said.1 ++ (34 ∷ [])) ≡ quoted said.1 = sym (plain_quoted said.1 plain_line) in
-    regroup_plain (codes "},\"line\":") (decimal said.0) (codes ",\"replies\":[") (34 ∷ []) reply (codes "],\"text\":") said.1 (codes ",\"why\":[")
-    ∙ (λ i. (((front ++ replies i) ++ codes "],\"text\":") ++ text i) ++ codes ",\"why\":[")
+    regroup_short (front_pieces said.0 first count) (codes ",\"replies\":[") (34 ∷ []) reply (codes "],\"text\":") said.1 (codes ",\"why\":[") (drop 1 whys) (codes "]}\n")
+    ∙ (λ i. (((front ++ replies i) ++ codes "],\"text\":") ++ text i) ++ reasons_pieces (drop 1 whys))
 
-regroup_silent : (l n d s q t w : List ℕ) → (((l ++ n) ++ (d ++ (s ++ q))) ++ t) ++ (q ++ w) ≡ (((((l ++ n) ++ d) ++ []) ++ s) ++ (q ++ (t ++ q))) ++ w
-regroup_silent l n d s q t w = simp append_assoc
+-- the same, if the reply has no line
+regroup_silent : (f d s q t w y z : List ℕ) → (((((f ++ d) ++ []) ++ (s ++ q)) ++ t) ++ (q ++ w) ++ y) ++ z ≡ ((((f ++ d) ++ []) ++ s) ++ (q ++ (t ++ q))) ++ ((w ++ y) ++ z)
+regroup_silent f d s q t w y z = simp append_assoc
 
-pub silent_middle : (said : ℕ × List ℕ) (lines : List ℕ) → PlainBetween said.1 0 (length said.1) → length lines ≡ 0 → silent_pieces said ≡ middle_pieces said lines
-silent_middle said [] plain none =
-    let front : List ℕ = codes "},\"line\":" ++ decimal said.0 ++ codes ",\"replies\":[" in
+pub silent_object : (said : ℕ × List ℕ) (first count : ℕ) (whys : List ℕ) → PlainBetween said.1 0 (length said.1)
+    → front_pieces said.0 first count ++ codes ",\"replies\":[" ++ [] ++ codes "],\"text\":\"" ++ said.1 ++ codes "\",\"why\":[" ++ drop 1 whys ++ codes "]}\n" ≡ object_pieces said first count [] whys
+silent_object said first count whys plain =
+    let front : List ℕ = front_pieces said.0 first count ++ codes ",\"replies\":[" in
     let text : (34 ∷ []) ++ (said.1 ++ (34 ∷ [])) ≡ quoted said.1 = sym (plain_quoted said.1 plain) in
-    regroup_silent (codes "},\"line\":") (decimal said.0) (codes ",\"replies\":[") (codes "],\"text\":") (34 ∷ []) said.1 (codes ",\"why\":[")
-    ∙ (λ i. (((front ++ []) ++ codes "],\"text\":") ++ text i) ++ codes ",\"why\":[")
-silent_middle said (b ∷ bytes) plain none = absurd (omega arith)
-
--- the pieces of an object are all of it
-regroup_pieces : (o e l n d r s t w y z : List ℕ) → ((o ++ e) ++ ((((((l ++ n) ++ d) ++ r) ++ s) ++ t) ++ w)) ++ (y ++ z) ≡ o ++ (((((((e ++ l) ++ n) ++ d) ++ r) ++ s) ++ t) ++ ((w ++ y) ++ z))
-regroup_pieces o e l n d r s t w y z = simp append_assoc
-
-pub whole_pieces : (out : List ℕ) (said : ℕ × List ℕ) (first count : ℕ) (lines whys : List ℕ) → ((out ++ entries_pieces first count) ++ middle_pieces said lines) ++ end_pieces whys ≡ out ++ object_pieces said first count lines whys
-whole_pieces out said first count lines whys =
-    regroup_pieces out (entries_pieces first count) (codes "},\"line\":") (decimal said.0) (codes ",\"replies\":[") (replies_pieces lines) (codes "],\"text\":") (quoted said.1) (codes ",\"why\":[") (drop 1 whys) (codes "]}\n")
+    regroup_silent (front_pieces said.0 first count) (codes ",\"replies\":[") (codes "],\"text\":") (34 ∷ []) said.1 (codes ",\"why\":[") (drop 1 whys) (codes "]}\n")
+    ∙ (λ i. (((front ++ []) ++ codes "],\"text\":") ++ text i) ++ reasons_pieces (drop 1 whys))

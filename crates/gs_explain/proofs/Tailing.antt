@@ -1,6 +1,7 @@
 -- What an object has of a refusal that is told by numbers.
 use Rattle.std.proofs.Common.{◌≡◌, ◌∙◌, refl, sym, ap, subst, true, false, ℕ, zero, suc, ◌+◌, ◌-◌, ◌≤◌, Option, None, Some, List, [], ◌∷◌, ◌++◌, append_assoc, append-nil, arith, codes, drop, get_or, length, take}
 use Rattle.std.specs.Prelude.{decimal}
+use Rattle.std.specs.Fmt.{digits}
 use Rattle.std.specs.List.{list_all}
 use Rattle.std.proofs.lemmas.Bool.{and_parts, false≢true}
 use Rattle.std.proofs.lemmas.List.{length-append, length-drop, length-take}
@@ -21,13 +22,13 @@ use Rattle.gs_sentences.specs.Tails.{IsTail, is_part, tail_text, told}
 use Rattle.gs_sentences.specs.Told.{Cause}
 use Rattle.gs_sentences.specs.declared.tail.Tail.{Tail}
 use Rattle.gs_sentences.specs.declared.tail.Tail.TheVariants as tails
-use Rattle.gs_explain.specs.Composed.{object_pieces, replies_pieces, why_pieces}
+use Rattle.gs_explain.specs.Composed.{object_pieces, option_json, reason_pieces, reasons_pieces, replies_pieces, why_pieces}
 use Rattle.gs_explain.specs.Moment.{Moment}
 use Rattle.gs_explain.specs.Objects.{line_of_cause, object_row, place_of_cause, reason_data, refusal_word}
 use Rattle.gs_explain.specs.Refusals.{why_refused}
-use Rattle.gs_explain.specs.Tailed.{at_of, end_of, front_of, line_in, middle_of, place_in, quoted_reply, refused_object, sentence_in, tail_reason, tail_refusal}
-use Rattle.gs_explain.proofs.Quoting.{utf8_front}
-use Rattle.gs_explain.proofs.Composing.{no_entry, only_reply, whole_object, whole_reason}
+use Rattle.gs_explain.specs.Tailed.{at_of, end_of, line_in, place_in, quoted_reply, refused_object, sentence_in, stencil_pieces, tail_reason, tail_refusal}
+use Rattle.gs_explain.proofs.Quoting.{plain_quoted, utf8_front}
+use Rattle.gs_explain.proofs.Composing.{only_reply, whole_object, whole_reason}
 
 -- what is told of a refusal is its reply and a sentence
 pub tail_parts : (text : List ℕ) (t : Tail) → is_part t ≡ false → (r : List ℕ) × (tail_text text t ≡ told (tail_refusal t) r)
@@ -207,12 +208,28 @@ reason_is_text t bytes told_so is u =
     let same : r ≡ tail_reason t = sym ((λ i. sentence_in f (parts i)) ∙ behind_reply line_of r) in
     subst IsUtf8 same (utf8_front (r ++ 10 ∷ []) r refl ended)
 
--- the pieces of an object of an event that was refused
-regroup : (z c d n a r b q e : List ℕ) → ((((z ++ c) ++ d) ++ n) ++ ((a ++ r) ++ b) ++ q) ++ e ≡ (((((((z ++ c) ++ d) ++ n) ++ a) ++ r) ++ b) ++ q) ++ e
-regroup z c d n a r b q e = simp append_assoc
+-- a reason behind where it points, as it ends an object
+regroup_end : (v a e b l c w d t z y : List ℕ) → ((((v ++ a) ++ e) ++ b) ++ l) ++ (((((c ++ w) ++ d) ++ t) ++ z) ++ y) ≡ (v ++ ((((((((a ++ e) ++ b) ++ l) ++ c) ++ w) ++ d) ++ t) ++ z)) ++ y
+regroup_end v a e b l c w d t z y = simp append_assoc
 
-pub stenciled : (said : ℕ × List ℕ) (first : ℕ) (where_at : Option (ℕ × ℕ)) (t : Tail) → (((front_of first ++ decimal said.0) ++ middle_of (tail_refusal t)) ++ quoted said.1) ++ end_of where_at t ≡ refused_object said first where_at t
+pub reason_ends : (place : Option (ℕ × ℕ)) (word text : List ℕ)
+    → (((codes ",\"why\":[{\"entry\":" ++ option_json (place_in place)) ++ codes ",\"line\":") ++ option_json (line_in place)) ++ (reason_pieces word text ++ codes "]}\n") ≡ reasons_pieces (drop 1 (why_pieces (place_in place) (line_in place) word text))
+reason_ends place word text =
+    regroup_end (codes ",\"why\":[") (codes "{\"entry\":") (option_json (place_in place)) (codes ",\"line\":") (option_json (line_in place)) (codes ",\"reason\":\"") word (codes "\",\"text\":") (quoted text) (codes "}") (codes "]}\n")
+
+-- the pieces of an object of an event that was refused
+pub stenciled : (said : ℕ × List ℕ) (first : ℕ) (where_at : Option (ℕ × ℕ)) (t : Tail) → stencil_pieces first said.0 (quoted_reply (tail_refusal t)) said.1 (end_of where_at t) ≡ refused_object said first where_at t
+unfolding digits
 stenciled said first where_at t =
-    let replies_in : List ℕ = replies_pieces (reply_lines (replies.Refused (tail_refusal t))) in
-    regroup (codes "{\"entries\":{\"count\":0,\"first\":") (decimal first) (codes "},\"line\":") (decimal said.0) (codes ",\"replies\":[") replies_in (codes "],\"text\":") (quoted said.1) (end_of where_at t)
-    ∙ ap (λ (z : List ℕ). ((((((z ++ codes "},\"line\":") ++ decimal said.0) ++ codes ",\"replies\":[") ++ replies_in) ++ codes "],\"text\":") ++ quoted said.1) ++ end_of where_at t) (no_entry first)
+    ap (λ (r : List ℕ). ((((((((codes "{\"entries\":{\"count\":0,\"first\":" ++ decimal first) ++ codes "},\"line\":") ++ decimal said.0) ++ codes ",\"replies\":[") ++ r) ++ codes "],\"text\":") ++ quoted said.1) ++ end_of where_at t)) (reply_quoted (tail_refusal t))
+
+-- the same in a row
+regroup_row : (f r s q t e : List ℕ) → (((((f ++ r) ++ (s ++ q)) ++ t) ++ q) ++ e) ++ [] ≡ (((f ++ r) ++ s) ++ (q ++ (t ++ q))) ++ e
+regroup_row f r s q t e = simp (append_assoc, append-nil)
+
+pub row_stenciled : (first number : ℕ) (reply text end : List ℕ) → PlainBetween text 0 (length text)
+    → (((((((((((codes "{\"entries\":{\"count\":" ++ decimal 0) ++ codes ",\"first\":") ++ decimal first) ++ codes "},\"line\":") ++ decimal number) ++ codes ",\"replies\":[") ++ reply) ++ codes "],\"text\":\"") ++ text) ++ codes "\"") ++ end) ++ [] ≡ stencil_pieces first number reply text end
+unfolding digits
+row_stenciled first number reply text end plain =
+    let front : List ℕ = (((codes "{\"entries\":{\"count\":0,\"first\":" ++ decimal first) ++ codes "},\"line\":") ++ decimal number) ++ codes ",\"replies\":[" in
+    regroup_row front reply (codes "],\"text\":") (34 ∷ []) text end ∙ ap (λ (q : List ℕ). (((front ++ reply) ++ codes "],\"text\":") ++ q) ++ end) (sym (plain_quoted text plain))

@@ -1,5 +1,6 @@
 -- What an object has of an event that was refused, by the numbers that its sentence tells of.
 use Rattle.std.specs.Prelude.{◌+◌, ◌-◌, ◌∷◌, ◌++◌, [], ℕ, Option, None, Some, List, codes, decimal, drop, length}
+use Rattle.json.specs.Print.{quoted}
 use Rattle.gs_layout.specs.declared.refusal.Refusal.{Refusal}
 use Rattle.gs_layout.specs.declared.refusal.Refusal.TheVariants as refusals
 use Rattle.gs_lines.specs.Lines.{refusal_text, reply_lines}
@@ -9,7 +10,7 @@ use Rattle.gs_sentences.specs.Tails.{tail_text}
 use Rattle.gs_sentences.specs.Told.{Cause}
 use Rattle.gs_sentences.specs.declared.tail.Tail.{Tail}
 use Rattle.gs_sentences.specs.declared.tail.Tail.TheVariants as tails
-use Rattle.gs_explain.specs.Composed.{object_pieces, reasons_pieces, replies_pieces, why_pieces}
+use Rattle.gs_explain.specs.Composed.{object_pieces, reasons_pieces, why_pieces}
 use Rattle.gs_explain.specs.Objects.{refusal_word}
 
 -- of which refusal it is told
@@ -68,18 +69,14 @@ tail_why where_at t = why_pieces (place_in where_at) (line_in where_at) (refusal
 abbrev pub refused_object : ℕ × List ℕ → ℕ → Option (ℕ × ℕ) → Tail → List ℕ
 refused_object said first where_at t = object_pieces said first 0 (reply_lines (replies.Refused (tail_refusal t))) (tail_why where_at t)
 
--- what such objects have before the line's number, if so many entries stand before
-abbrev pub front_of : ℕ → List ℕ
-front_of first = codes "{\"entries\":{\"count\":0,\"first\":" ++ decimal first ++ codes "},\"line\":"
-
 -- the reply of a refusal, in quotation marks
 abbrev pub quoted_reply : Refusal → List ℕ
 quoted_reply f = (34 ∷ []) ++ ((codes "refused " ++ refusal_text f) ++ (34 ∷ []))
 
--- what they have between that and the script's line
-abbrev pub middle_of : Refusal → List ℕ
-middle_of f = codes ",\"replies\":[" ++ replies_pieces (reply_lines (replies.Refused f)) ++ codes "],\"text\":"
+-- such an object by how many entries stand before, its line's number, its reply, its line, and what it has behind that
+abbrev pub stencil_pieces : ℕ → ℕ → List ℕ → List ℕ → List ℕ → List ℕ
+stencil_pieces first number reply text end = codes "{\"entries\":{\"count\":0,\"first\":" ++ decimal first ++ codes "},\"line\":" ++ decimal number ++ codes ",\"replies\":[" ++ reply ++ codes "],\"text\":" ++ quoted text ++ end
 
--- and what they have behind it
+-- what it has behind its line
 abbrev pub end_of : Option (ℕ × ℕ) → Tail → List ℕ
 end_of where_at t = reasons_pieces (drop 1 (tail_why where_at t))

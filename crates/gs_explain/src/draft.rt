@@ -8,10 +8,10 @@ ghost use Rattle.gs_replies.specs.declared.reply.Reply.TheVariants as replies;
 ghost use Rattle.gs_sentences.specs.Given.{causes_given, reason_given};
 ghost use Rattle.gs_sentences.specs.Reasons.{reason_text};
 ghost use Rattle.gs_trace.specs.Came.{reply_in};
-ghost use Rattle.gs_explain.specs.Composed.{behind_commas, option_json, why_pieces};
+ghost use Rattle.gs_explain.specs.Composed.{behind_commas, option_json, reason_pieces, why_pieces};
 ghost use Rattle.gs_explain.specs.Objects.{line_of_cause, place_of_cause, reason_cause, reason_data, reason_word, refusal_word, why_data};
 
-use crate::quoted::push_quoted;
+use crate::quoted::{is_plain, push_quoted};
 use gs_agent::Stop;
 use gs_journal::LastEntry;
 use gs_kernel::{Executed, Landing};
@@ -99,17 +99,36 @@ fn line_of_cause(cause: &Option<Cause<'_>>) -> Option<usize>
     }
 }
 
-/// Adds words, and behind them a number, or null for none.
-fn push_option(out: &mut Text, words: &str, number: Option<usize>) -> Result<(), AllocError>
-    ensures { OnOk result (out.new ≡ out.old ++ words.now ++ option_json number) }
+/// Adds the entry and the line where a reason points, or null for each.
+#[inline(always)]
+fn push_place(out: &mut Text, entry: Option<usize>, line: Option<usize>) -> Result<(), AllocError>
+    ensures { OnOk result (out.new ≡ out.old ++ (codes ",{\"entry\":" ++ option_json entry ++ codes ",\"line\":" ++ option_json line)) }
 {
-    match number {
-        Some(number) => out.push_number(words, number as u64),
-        None => {
-            out.push_str(words)?;
-            out.push_str("null")
+    match (entry, line) {
+        (Some(entry), Some(line)) => {
+            out.push_two(",{\"entry\":", entry as u64, ",\"line\":", line as u64)
         }
+        (Some(entry), None) => out.push_between(",{\"entry\":", entry as u64, ",\"line\":null"),
+        (None, Some(line)) => out.push_number(",{\"entry\":null,\"line\":", line as u64),
+        (None, None) => out.push_str(",{\"entry\":null,\"line\":null"),
     }
+}
+
+/// Adds the word and the text of a reason, of which some bytes have to be escaped.
+#[cold]
+#[inline(never)]
+pub(crate) fn push_escaped_reason(
+    alloc: Global,
+    out: &mut Text,
+    word: &str,
+    text: &[u8],
+) -> Result<(), AllocError>
+    requires { IsUtf8 text.now }
+    ensures { OnOk result (out.new ≡ out.old ++ reason_pieces word.now text.now) }
+{
+    out.push_texts(",\"reason\":\"", word.as_bytes(), "\",\"text\":", b"", "")?;
+    push_quoted(alloc, out, text)?;
+    out.push_str("}")
 }
 
 /// Adds a reason as an object behind a comma: where it points, its word, and its sentence.
@@ -124,13 +143,17 @@ fn push_why(
     requires { IsUtf8 text.now }
     ensures { OnOk result (out.new ≡ out.old ++ why_pieces entry line word.now text.now) }
 {
-    push_option(out, ",{\"entry\":", entry)?;
-    push_option(out, ",\"line\":", line)?;
-    out.push_str(",\"reason\":\"")?;
-    out.push_str(word)?;
-    out.push_str("\",\"text\":")?;
-    push_quoted(alloc, out, text)?;
-    out.push_str("}")
+    push_place(out, entry, line)?;
+    if !is_plain(text) {
+        return push_escaped_reason(alloc, out, word, text);
+    }
+    out.push_texts(
+        ",\"reason\":\"",
+        word.as_bytes(),
+        "\",\"text\":\"",
+        text,
+        "\"}",
+    )
 }
 
 /// What is told of events so far, and room for a sentence. Clauses see the bytes that are told. What adds to it fails only if

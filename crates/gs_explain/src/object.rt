@@ -1,16 +1,17 @@
 //! The object of an event, put together piece by piece.
 
-ghost use Rattle.std.specs.Prelude.{◌≡◌, ◌++◌, ◌∷◌, [], IfSome, OnOk, drop, length, true};
+ghost use Rattle.std.specs.Prelude.{◌≡◌, ◌<◌, ◌++◌, ◌∷◌, [], IfSome, OnOk, drop, length, true};
+ghost use Rattle.std.specs.Bool.{OnFalse, OnTrue};
 ghost use Rattle.std.specs.Str.{IsUtf8};
 ghost use Rattle.json.specs.Print.{quoted};
 ghost use Rattle.json.specs.Written.{PlainBetween};
 ghost use Rattle.serde_json.specs.Written.{comma_if};
 ghost use Rattle.gs_script.specs.Words.{is_text};
-ghost use Rattle.gs_explain.specs.Composed.{end_pieces, entries_pieces, middle_pieces, object_pieces, short_pieces, replies_pieces, silent_pieces};
+ghost use Rattle.gs_explain.specs.Composed.{object_pieces, replies_pieces};
 
 use crate::quoted::{as_text, is_plain, push_quoted};
 use gs_lines::Text;
-use gs_text::Digits;
+use gs_text::{Digits, Row};
 use std::alloc::{AllocError, Global};
 
 /// Returns the line that bytes are, without its newline, if no byte of it has to be escaped.
@@ -48,71 +49,15 @@ fn push_lines(alloc: Global, out: &mut Text, lines: &str) -> Result<(), AllocErr
     Ok(())
 }
 
-/// Adds reasons, which stand behind commas, as they stand in an array, and ends the object.
+/// Returns reasons, which stand behind commas, as they stand in an array.
 #[inline(always)]
-fn push_end(out: &mut Text, whys: &[u8]) -> Result<(), AllocError>
-    requires { IsUtf8 (drop 1 whys.now) }
-    ensures { OnOk result (out.new ≡ out.old ++ end_pieces whys.now) }
+fn in_array(whys: &[u8]) -> &[u8]
+    ensures { result.now ≡ drop 1 whys.now }
 {
-    if let Some((_, behind)) = whys.split_first() {
-        out.append(behind)?;
+    match whys.split_first() {
+        Some((_, behind)) => behind,
+        None => whys,
     }
-    out.push_str("]}\n")
-}
-
-/// Adds what any object has between its entries and its reasons.
-#[inline(never)]
-#[tactic(auto, using(gs_script::proofs::Texts::text_is_utf8))]
-fn push_any(
-    alloc: Global,
-    out: &mut Text,
-    number: &Digits,
-    line: &[u8],
-    lines: &[u8],
-) -> Result<(), AllocError>
-    requires text { is_text line.now ≡ true }
-    requires lines { IsUtf8 lines.now }
-    ensures { OnOk result (out.new ≡ out.old ++ middle_pieces (number.now, line.now) lines.now) }
-{
-    out.push_digits_between("},\"line\":", number, ",\"replies\":[")?;
-    push_lines(alloc, out, as_text(lines))?;
-    out.push_str("],\"text\":")?;
-    push_quoted(alloc, out, line)?;
-    out.push_str(",\"why\":[")
-}
-
-/// Adds the same, if no byte of a script's line and of the only line of its reply has to be escaped.
-#[inline(always)]
-#[tactic(auto, using(gs_script::proofs::Texts::text_is_utf8))]
-fn push_short(out: &mut Text, number: &Digits, line: &[u8], reply: &[u8]) -> Result<(), AllocError>
-    requires text { is_text line.now ≡ true }
-    requires reply { IsUtf8 reply.now }
-    ensures { OnOk result (out.new ≡ out.old ++ short_pieces (number.now, line.now) reply.now) }
-{
-    out.push_line(
-        "},\"line\":",
-        number,
-        ",\"replies\":[\"",
-        reply,
-        "\"],\"text\":\"",
-    )?;
-    out.push_few(line, "\",\"why\":[")
-}
-
-/// Adds the same, if the reply has no line.
-#[inline(always)]
-#[tactic(auto, using(gs_script::proofs::Texts::text_is_utf8))]
-fn push_silent(out: &mut Text, number: &Digits, line: &[u8]) -> Result<(), AllocError>
-    requires text { is_text line.now ≡ true }
-    ensures { OnOk result (out.new ≡ out.old ++ silent_pieces (number.now, line.now)) }
-{
-    out.push_line(
-        "},\"line\":",
-        number,
-        ",\"replies\":[],\"text\":\"",
-        line,
-        "\",\"why\":[",
-    )
 }
 
 /// Puts objects together. It keeps the digits of two numbers, which are mostly those of the object before, or little more.
@@ -131,45 +76,117 @@ impl Pen {
         }
     }
 
-    /// Begins the object of an event: with how many entries it added, and the place of the first.
+    /// Takes the place of the first entry of an event, and the number of its line.
     #[inline(always)]
-    fn push_front(&mut self, out: &mut Text, first: u32, count: u32) -> Result<(), AllocError>
-        ensures { OnOk result (out.new ≡ out.old ++ entries_pieces first count) }
+    fn set(&mut self, first: u32, number: u32)
+        ensures first { self.new.first ≡ first }
+        ensures number { self.new.number ≡ number }
     {
         self.first.set(first as u64);
-        match count {
-            0 => out.push_digits("{\"entries\":{\"count\":0,\"first\":", &self.first),
-            1 => out.push_digits("{\"entries\":{\"count\":1,\"first\":", &self.first),
-            _ => out.push_number_digits(
-                "{\"entries\":{\"count\":",
-                count as u64,
-                ",\"first\":",
-                &self.first,
-            ),
+        self.number.set(number as u64);
+    }
+
+    /// Adds an object, of which no byte of the script's line and of the only line of its reply has to be escaped, if there is room for
+    /// it. Returns whether it did.
+    #[inline(always)]
+    #[tactic(auto, using(gs_script::proofs::Texts::text_is_utf8))]
+    fn fit_short<'x>(
+        &'x self,
+        out: &mut Text,
+        line: &'x [u8],
+        count: u8,
+        reply: &'x [u8],
+        whys: &'x [u8],
+    ) -> bool
+        requires text { is_text line.now ≡ true }
+        requires plain { PlainBetween line.now 0 (length line.now) }
+        requires count { count < 10 }
+        requires reply { IsUtf8 reply.now }
+        requires short { PlainBetween reply.now 0 (length reply.now) }
+        requires whys { IsUtf8 (drop 1 whys.now) }
+        ensures added { OnTrue result (out.new ≡ out.old ++ object_pieces (self.now.number, line.now) self.now.first count (reply.now ++ 10 ∷ []) whys.now) }
+        ensures kept { OnFalse result (out.new ≡ out.old) }
+    {
+        out.fit_row(Row {
+            digit: ("{\"entries\":{\"count\":", count),
+            first: (",\"first\":", &self.first),
+            second: ("},\"line\":", &self.number),
+            few: (",\"replies\":[\"", reply),
+            line: ("\"],\"text\":\"", line),
+            rest: ("\",\"why\":[", in_array(whys)),
+            end: "]}\n",
+        })
+    }
+
+    /// Adds the same, if the reply has no line.
+    #[inline(always)]
+    #[tactic(auto, using(gs_script::proofs::Texts::text_is_utf8))]
+    fn fit_silent<'x>(&'x self, out: &mut Text, line: &'x [u8], count: u8, whys: &'x [u8]) -> bool
+        requires text { is_text line.now ≡ true }
+        requires plain { PlainBetween line.now 0 (length line.now) }
+        requires count { count < 10 }
+        requires whys { IsUtf8 (drop 1 whys.now) }
+        ensures added { OnTrue result (out.new ≡ out.old ++ object_pieces (self.now.number, line.now) self.now.first count [] whys.now) }
+        ensures kept { OnFalse result (out.new ≡ out.old) }
+    {
+        out.fit_row(Row {
+            digit: ("{\"entries\":{\"count\":", count),
+            first: (",\"first\":", &self.first),
+            second: ("},\"line\":", &self.number),
+            few: (",\"replies\":[", b""),
+            line: ("],\"text\":\"", line),
+            rest: ("\",\"why\":[", in_array(whys)),
+            end: "]}\n",
+        })
+    }
+
+    /// Adds an object, if it can be copied as it is and there is room for it. Returns whether it did.
+    #[inline(always)]
+    fn fit(&self, out: &mut Text, line: &[u8], count: u32, lines: &[u8], whys: &[u8]) -> bool
+        requires text { is_text line.now ≡ true }
+        requires lines { IsUtf8 lines.now }
+        requires whys { IsUtf8 (drop 1 whys.now) }
+        ensures added { OnTrue result (out.new ≡ out.old ++ object_pieces (self.now.number, line.now) self.now.first count lines.now whys.now) }
+        ensures kept { OnFalse result (out.new ≡ out.old) }
+    {
+        if count >= 10 || !is_plain(line) {
+            return false;
+        }
+        match only_line(lines) {
+            Some(reply) => self.fit_short(out, line, count as u8, reply, whys),
+            None if lines.is_empty() => self.fit_silent(out, line, count as u8, whys),
+            None => false,
         }
     }
 
-    /// Adds what an object has between its entries and its reasons: the number of its line, the lines of its reply, and the line.
-    #[inline(always)]
-    fn push_middle(
-        &mut self,
+    /// Adds any object.
+    #[inline(never)]
+    #[tactic(auto, using(gs_script::proofs::Texts::text_is_utf8))]
+    fn push_any(
+        &self,
         alloc: Global,
         out: &mut Text,
-        number: u32,
         line: &[u8],
+        count: u32,
         lines: &[u8],
+        whys: &[u8],
     ) -> Result<(), AllocError>
         requires text { is_text line.now ≡ true }
         requires lines { IsUtf8 lines.now }
-        ensures { OnOk result (out.new ≡ out.old ++ middle_pieces (number, line.now) lines.now) }
+        requires whys { IsUtf8 (drop 1 whys.now) }
+        ensures { OnOk result (out.new ≡ out.old ++ object_pieces (self.now.number, line.now) self.now.first count lines.now whys.now) }
     {
-        self.number.set(number as u64);
-        let plain = is_plain(line);
-        match only_line(lines) {
-            Some(reply) if plain => push_short(out, &self.number, line, reply),
-            None if plain && lines.is_empty() => push_silent(out, &self.number, line),
-            _ => push_any(alloc, out, &self.number, line, lines),
-        }
+        out.push_number_digits(
+            "{\"entries\":{\"count\":",
+            count as u64,
+            ",\"first\":",
+            &self.first,
+        )?;
+        out.push_digits_between("},\"line\":", &self.number, ",\"replies\":[")?;
+        push_lines(alloc, out, as_text(lines))?;
+        out.push_str("],\"text\":")?;
+        push_quoted(alloc, out, line)?;
+        out.push_texts(",\"why\":[", b"", "", in_array(whys), "]}\n")
     }
 
     /// Adds the object of an event in a line of its own: by its line, its entries, the lines of its reply, and its reasons, which
@@ -191,9 +208,11 @@ impl Pen {
         requires whys { IsUtf8 (drop 1 whys.now) }
         ensures { OnOk result (out.new ≡ out.old ++ object_pieces (number, line.now) first count lines.now whys.now) }
     {
-        self.push_front(out, first, count)?;
-        self.push_middle(alloc, out, number, line, lines)?;
-        push_end(out, whys)
+        self.set(first, number);
+        if self.fit(out, line, count, lines, whys) {
+            return Ok(());
+        }
+        self.push_any(alloc, out, line, count, lines, whys)
     }
 
     /// Adds the object of an event, as [`Pen::push`] does, for one that is seldom: it takes no look whether some of it can be copied as it is.
@@ -214,9 +233,7 @@ impl Pen {
         requires whys { IsUtf8 (drop 1 whys.now) }
         ensures { OnOk result (out.new ≡ out.old ++ object_pieces (number, line.now) first count lines.now whys.now) }
     {
-        self.push_front(out, first, count)?;
-        self.number.set(number as u64);
-        push_any(alloc, out, &self.number, line, lines)?;
-        push_end(out, whys)
+        self.set(first, number);
+        self.push_any(alloc, out, line, count, lines, whys)
     }
 }

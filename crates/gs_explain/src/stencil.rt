@@ -1,40 +1,40 @@
 //! Objects of events that were refused, which are alike but for a line and some numbers.
 
-ghost use Rattle.std.specs.Prelude.{◌≡◌, ◌++◌, ◌∷◌, [], IfSome, OnOk, Some, codes, decimal, drop, false, length, true};
+ghost use Rattle.std.specs.Prelude.{◌≡◌, ◌++◌, ◌∷◌, [], IfOk, OnOk, codes, drop, false, length, true};
+ghost use Rattle.std.specs.Bool.{OnFalse, OnTrue};
 ghost use Rattle.std.specs.Str.{IsUtf8};
-ghost use Rattle.json.specs.Print.{quoted};
 ghost use Rattle.gs_lines.specs.Lines.{reply_lines};
 ghost use Rattle.gs_replies.specs.declared.reply.Reply.TheVariants as replies;
 ghost use Rattle.gs_script.specs.Words.{is_text};
 ghost use Rattle.gs_sentences.specs.Tails.{is_part, tail_text};
-ghost use Rattle.gs_explain.specs.Composed.{option_json, reasons_pieces, replies_pieces, why_pieces};
-ghost use Rattle.gs_explain.specs.Tailed.{end_of, front_of, line_in, middle_of, place_in, quoted_reply, refused_object, tail_reason, tail_refusal};
-ghost use Rattle.gs_explain.specs.Stenciled.{IsStencil, KeepsTail};
+ghost use Rattle.gs_explain.specs.Composed.{option_json, reason_pieces};
+ghost use Rattle.gs_explain.specs.Tailed.{end_of, line_in, place_in, quoted_reply, refused_object, stencil_pieces, tail_reason, tail_refusal};
+ghost use Rattle.gs_explain.specs.Stenciled.{IsStencil};
 
-use crate::draft::refusal_word;
-use crate::quoted::push_quoted;
+use crate::draft::{push_escaped_reason, refusal_word};
+use crate::quoted::{is_plain, push_quoted};
 use crate::tail::refusal_in;
 use gs_layout::Refusal;
 use gs_lines::Text;
 use gs_sentences::{Sentence, Tail, put_tail};
-use gs_text::Digits;
+use gs_text::{Digits, Row};
 use std::alloc::{AllocError, Global};
 
-/// What such objects have before the line's number, between that and the script's line, and behind that. It is kept from one to the
-/// next.
+/// What such objects have beside the script's line. It is kept from one to the next.
 #[derive(Drop)]
 pub(crate) struct Stencil {
-    /// How many entries stood before the last one, if there was one.
-    first: Option<u32>,
-    front: Text,
-    /// What the last one told. It tells of a part of a text if nothing was.
+    /// How many entries stood before the last one.
+    first: Digits,
+    /// The number of its line.
+    number: Digits,
+    /// What it told. It tells of a part of a text if nothing was.
     tail: Tail,
     /// The line and the place of the entry that was its reason, if one was.
     at: Option<(u32, u32)>,
-    middle: Text,
+    /// Its reply in quotation marks.
+    reply: &'static str,
+    /// What it had behind the script's line.
     end: Text,
-    /// The digits of its line's number.
-    number: Digits,
     sentence: Sentence,
 }
 
@@ -65,19 +65,6 @@ fn quoted_reply(refusal: Refusal) -> &'static str
     }
 }
 
-/// Sets what objects have before the line's number, if so many entries stand before the event.
-#[inline(never)]
-fn set_front(front: &mut Text, first: u32) -> Result<(), AllocError>
-    ensures { OnOk result (front.new ≡ front_of first) }
-{
-    front.clear();
-    front.push_between(
-        "{\"entries\":{\"count\":0,\"first\":",
-        first as u64,
-        "},\"line\":",
-    )
-}
-
 /// Adds the entry and the line that are a reason, or null for each.
 fn push_place(out: &mut Text, place: Option<(u32, u32)>) -> Result<(), AllocError>
     ensures { OnOk result (out.new ≡ out.old ++ (codes ",\"why\":[{\"entry\":" ++ option_json (place_in place) ++ codes ",\"line\":" ++ option_json (line_in place))) }
@@ -93,23 +80,23 @@ fn push_place(out: &mut Text, place: Option<(u32, u32)>) -> Result<(), AllocErro
     }
 }
 
-/// Adds a reason and the end of an object.
-fn push_end(
-    alloc: Global,
-    out: &mut Text,
-    place: Option<(u32, u32)>,
-    word: &str,
-    reason: &[u8],
-) -> Result<(), AllocError>
+/// Adds a reason and the end of an object, behind where the reason points.
+#[inline(always)]
+fn push_end(alloc: Global, out: &mut Text, word: &str, reason: &[u8]) -> Result<(), AllocError>
     requires { IsUtf8 reason.now }
-    ensures { OnOk result (out.new ≡ out.old ++ reasons_pieces (drop 1 (why_pieces (place_in place) (line_in place) word.now reason.now))) }
+    ensures { OnOk result (out.new ≡ out.old ++ (reason_pieces word.now reason.now ++ codes "]}\n")) }
 {
-    push_place(out, place)?;
-    out.push_str(",\"reason\":\"")?;
-    out.push_str(word)?;
-    out.push_str("\",\"text\":")?;
-    push_quoted(alloc, out, reason)?;
-    out.push_str("}]}\n")
+    if !is_plain(reason) {
+        push_escaped_reason(alloc, out, word, reason)?;
+        return out.push_str("]}\n");
+    }
+    out.push_texts(
+        ",\"reason\":\"",
+        word.as_bytes(),
+        "\",\"text\":\"",
+        reason,
+        "\"}]}\n",
+    )
 }
 
 /// Returns the sentence, of what is told of a refusal in lines: behind the line of the reply, which has so many bytes in quotation
@@ -123,96 +110,79 @@ fn reason_in<'a>(told: &'a [u8], reply_len: usize, tail: &Tail) -> &'a [u8]
     &told[reply_len + 1..told.len() - 1]
 }
 
-/// Sets what objects have beside the script's line and its number, by what is told.
+/// Sets what objects have behind the script's line, by what is told. Returns their reply in quotation marks.
 #[inline(never)]
 fn set_tail(
     alloc: Global,
     sentence: &mut Sentence,
-    middle: &mut Text,
     end: &mut Text,
     at: Option<(u32, u32)>,
     tail: &Tail,
-) -> Result<(), AllocError>
+) -> Result<&'static str, AllocError>
     requires { is_part tail.now ≡ false }
-    ensures middle { OnOk result (middle.new ≡ middle_of (tail_refusal tail.now)) }
+    ensures reply { IfOk result (λ reply. reply.now ≡ quoted_reply (tail_refusal tail.now)) }
     ensures end { OnOk result (end.new ≡ end_of at tail.now) }
 {
     let refusal = refusal_in(tail);
     let reply = quoted_reply(refusal);
-    middle.clear();
-    middle.push_str(",\"replies\":[")?;
-    middle.push_str(reply)?;
-    middle.push_str("],\"text\":")?;
     sentence.clear();
     put_tail(sentence, tail);
     let reason = reason_in(sentence.as_bytes(), reply.len(), tail);
     end.clear();
-    push_end(alloc, end, at, refusal_word(refusal), reason)
+    push_place(end, at)?;
+    push_end(alloc, end, refusal_word(refusal), reason)?;
+    Ok(reply)
 }
 
-/// Sets what objects have before the line's number, unless it is that of the last one.
+/// Adds an object, if no byte of the script's line has to be escaped and there is room for it. Returns whether it did.
 #[inline(always)]
-fn keep_front(kept: &mut Option<u32>, front: &mut Text, first: u32) -> Result<(), AllocError>
-    requires { IfSome kept.old (λ n. front.old ≡ front_of n) }
-    ensures kept { OnOk result (kept.new ≡ Some first) }
-    ensures front { OnOk result (front.new ≡ front_of first) }
+fn fit<'x>(
+    out: &mut Text,
+    first: &'x Digits,
+    number: &'x Digits,
+    reply: &'x str,
+    line: &'x [u8],
+    end: &'x [u8],
+) -> bool
+    requires line { IsUtf8 line.now }
+    requires end { IsUtf8 end.now }
+    ensures added { OnTrue result (out.new ≡ out.old ++ stencil_pieces first.now number.now reply.now line.now end.now) }
+    ensures kept { OnFalse result (out.new ≡ out.old) }
 {
-    if *kept == Some(first) {
-        return Ok(());
+    if !is_plain(line) {
+        return false;
     }
-    set_front(front, first)?;
-    *kept = Some(first);
-    Ok(())
+    out.fit_row(Row {
+        digit: ("{\"entries\":{\"count\":", 0),
+        first: (",\"first\":", first),
+        second: ("},\"line\":", number),
+        few: (",\"replies\":[", reply.as_bytes()),
+        line: ("],\"text\":\"", line),
+        rest: ("\"", end),
+        end: "",
+    })
 }
 
-/// Sets what objects have beside the script's line and its number, unless it is that of the last one.
-#[inline(always)]
-fn keep_tail(
-    alloc: Global,
-    kept_at: &mut Option<(u32, u32)>,
-    kept: &mut Tail,
-    sentence: &mut Sentence,
-    middle: &mut Text,
-    end: &mut Text,
-    at: Option<(u32, u32)>,
-    tail: &Tail,
-) -> Result<(), AllocError>
-    requires kept { KeepsTail kept_at.old kept.old middle.old end.old }
-    requires told { is_part tail.now ≡ false }
-    ensures at { OnOk result (kept_at.new ≡ at) }
-    ensures kept { OnOk result (kept.new ≡ tail.now) }
-    ensures middle { OnOk result (middle.new ≡ middle_of (tail_refusal tail.now)) }
-    ensures end { OnOk result (end.new ≡ end_of at tail.now) }
-{
-    if kept.is_same(tail) && *kept_at == at {
-        return Ok(());
-    }
-    set_tail(alloc, sentence, middle, end, at, tail)?;
-    *kept_at = at;
-    *kept = *tail;
-    Ok(())
-}
-
-/// Adds an object: what it has before the line's number, between that and the script's line, and behind that.
-#[inline(always)]
-fn push_between(
+/// Adds any object.
+#[cold]
+#[inline(never)]
+fn push_any(
     alloc: Global,
     out: &mut Text,
-    front: &[u8],
+    first: &Digits,
     number: &Digits,
-    middle: &[u8],
+    reply: &str,
     line: &[u8],
     end: &[u8],
 ) -> Result<(), AllocError>
-    requires front { IsUtf8 front.now }
-    requires middle { IsUtf8 middle.now }
     requires line { IsUtf8 line.now }
     requires end { IsUtf8 end.now }
-    ensures { OnOk result (out.new ≡ out.old ++ ((((front.now ++ decimal number.now) ++ middle.now) ++ quoted line.now) ++ end.now)) }
+    ensures { OnOk result (out.new ≡ out.old ++ stencil_pieces first.now number.now reply.now line.now end.now) }
 {
-    out.append(front)?;
-    out.push_digits("", number)?;
-    out.append(middle)?;
+    out.push_digits_between("{\"entries\":{\"count\":0,\"first\":", first, "},\"line\":")?;
+    out.push_digits_between("", number, ",\"replies\":[")?;
+    out.push_str(reply)?;
+    out.push_str("],\"text\":")?;
     push_quoted(alloc, out, line)?;
     out.append(end)
 }
@@ -223,15 +193,37 @@ impl Stencil {
         ensures { IsStencil result }
     {
         Stencil {
-            first: None,
-            front: Text::new(alloc),
+            first: Digits::new(0),
+            number: Digits::new(0),
             tail: Tail::Part { from: 0, to: 0 },
             at: None,
-            middle: Text::new(alloc),
+            reply: "",
             end: Text::new(alloc),
-            number: Digits::new(0),
             sentence: Sentence::new(),
         }
+    }
+
+    /// Keeps what objects have by what is told, unless it is that of the last one.
+    #[inline(always)]
+    fn keep_tail(
+        &mut self,
+        alloc: Global,
+        at: Option<(u32, u32)>,
+        tail: &Tail,
+    ) -> Result<(), AllocError>
+        requires stencil { IsStencil self.old }
+        requires told { is_part tail.now ≡ false }
+        ensures kept { OnOk result (IsStencil self.new) }
+        ensures reply { OnOk result (self.new.reply.now ≡ quoted_reply (tail_refusal tail.now)) }
+        ensures end { OnOk result (self.new.end ≡ end_of at tail.now) }
+    {
+        if self.tail.is_same(tail) && self.at == at {
+            return Ok(());
+        }
+        self.reply = set_tail(alloc, &mut self.sentence, &mut self.end, at, tail)?;
+        self.at = at;
+        self.tail = *tail;
+        Ok(())
     }
 
     /// Adds the object of an event that was refused, and before which so many entries stand.
@@ -253,26 +245,20 @@ impl Stencil {
         ensures shown { OnOk result (out.new ≡ out.old ++ refused_object (number, line.now) first at tail.now) }
         ensures kept { OnOk result (IsStencil self.new) }
     {
-        keep_front(&mut self.first, &mut self.front, first)?;
-        keep_tail(
-            alloc,
-            &mut self.at,
-            &mut self.tail,
-            &mut self.sentence,
-            &mut self.middle,
-            &mut self.end,
-            at,
-            tail,
-        )?;
+        self.keep_tail(alloc, at, tail)?;
+        self.first.set(first as u64);
         self.number.set(number as u64);
-        push_between(
-            alloc,
-            out,
-            self.front.utf8_bytes(),
-            &self.number,
-            self.middle.utf8_bytes(),
-            line,
-            self.end.utf8_bytes(),
-        )
+        let Stencil {
+            first,
+            number,
+            reply,
+            end,
+            ..
+        } = self;
+        let end = end.utf8_bytes();
+        if fit(out, first, number, reply, line, end) {
+            return Ok(());
+        }
+        push_any(alloc, out, first, number, reply, line, end)
     }
 }

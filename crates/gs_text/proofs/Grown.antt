@@ -72,6 +72,12 @@ lent_utf8 items new at size e h u =
     let whole : take size (new ++ drop (length new) items) ≡ new = subst (λ (m : ℕ). take m (new ++ drop (length new) items) ≡ new) (h ∙ sym e) (take-append_seam new (drop (length new) items)) in
     ap (λ (xs : List ℕ). is_utf8 (take at xs)) whole ∙ is_utf8-from_IsUtf8 (take at new) u
 
+-- a digit that was written behind words
+pub digit_put : (at here end digit : ℕ) (old mid words : List ℕ) → digit < 10 → here < length mid → end ≡ here + 1 → take here mid ≡ take at old ++ words
+    → take end (slice_set mid here (48 + digit)) ≡ (take at old ++ words) ++ decimal digit
+digit_put at here end digit old mid words few room is front =
+    take-set_at mid here end (48 + digit) is room ∙ (ap (λ (xs : List ℕ). xs ++ (48 + digit) ∷ []) front ∙ ap (λ (xs : List ℕ). (take at old ++ words) ++ xs) (sym (decimal_digit digit few)))
+
 -- where more was written, and less of it is meant
 pub part_put : (at len most : ℕ) (old more new part : List ℕ) → at + most ≤ length old → len ≤ most → take (at + most) new ≡ take at old ++ more → take len more ≡ part → take (at + len) new ≡ take at old ++ part
 part_put at len most old more new part h k e p =

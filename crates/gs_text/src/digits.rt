@@ -1,28 +1,31 @@
 ghost use Rattle.std.specs.Prelude.{◌≡◌, ◌+◌, ◌^◌, ◌<◌, ◌≤◌, ◌++◌, ◌%◌, decimal, length, take};
 ghost use Rattle.std.specs.Str.{IsUtf8};
 
-use crate::forwards::{DIGITS, put_ends, put_number};
+use crate::forwards::{put_front, put_number};
 use std::marker::Model;
+
+/// Room for the digits of a number that are kept, all of which is copied by vectors. A number has fewer.
+pub(crate) const KEPT_LEN: usize = 32;
 
 /// A number with its digits, which are kept until it is another number: for one that is written several times.
 #[derive(Drop)]
 pub struct Digits {
     number: u64,
     /// The digits, and behind them anything.
-    bytes: [u8; DIGITS],
+    bytes: [u8; KEPT_LEN],
     len: usize,
 }
 
 impl Model for Digits {
     ghost use Rattle.std.specs.Prelude.{◌≡◌, ◌<◌, ◌≤◌, ◌^◌, ℕ, decimal, take};
-    ghost use Rattle.gs_text.specs.declared.forwards.TheConstants.{DIGITS};
+    ghost use Rattle.gs_text.specs.declared.digits.TheConstants.{KEPT_LEN};
 
     ghost Value = { ℕ };
 
     ghost view = { λ d. d.number };
 
     ghost invariant = { λ d. record {
-      within : d.len ≤ DIGITS;
+      within : d.len ≤ KEPT_LEN;
       fits : d.number < 2 ^ 64;
       written : take d.len d.bytes ≡ decimal d.number;
     } };
@@ -33,7 +36,7 @@ impl Digits {
     pub fn new(number: u64) -> Digits
         ensures { result ≡ number }
     {
-        let mut bytes = [0; DIGITS];
+        let mut bytes = [0; KEPT_LEN];
         let len = put_number(&mut bytes, 0, number);
         Digits { number, bytes, len }
     }
@@ -81,12 +84,12 @@ impl Digits {
     /// copied: a copy whose length is known takes no call.
     #[inline(always)]
     pub(crate) fn put(&self, bytes: &mut [u8], at: usize) -> usize
-        requires { at + DIGITS ≤ length bytes.old }
-        ensures end { result ≤ at + DIGITS }
+        requires { at + KEPT_LEN ≤ length bytes.old }
+        ensures end { result ≤ at + KEPT_LEN }
         ensures written { take result bytes.new ≡ take at bytes.old ++ decimal self.now }
         ensures utf8 { IsUtf8 (take at bytes.old) → IsUtf8 (take result bytes.new) }
     {
-        put_ends::<16>(bytes, at, &self.bytes);
+        put_front::<KEPT_LEN>(bytes, at, &self.bytes);
         at + self.len
     }
 }

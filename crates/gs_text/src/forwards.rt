@@ -3,7 +3,7 @@
 ghost use Rattle.std.specs.Prelude.{◌≡◌, ◌+◌, ◌*◌, ◌<◌, ◌≤◌, ◌++◌, decimal, length, take};
 ghost use Rattle.std.specs.Str.{IsUtf8};
 
-use crate::digits::Digits;
+use crate::digits::{Digits, KEPT_LEN};
 use itoa::{Buffer, write_digits};
 use std::simd::Simd;
 
@@ -44,7 +44,7 @@ pub(crate) fn put_first(bytes: &mut [u8], at: usize, more: &[u8], count: usize) 
 
 /// Writes the first of some bytes, as many as are known where it is compiled: by one load and one store. Returns the place behind them.
 #[inline(always)]
-fn put_front<const N: usize>(bytes: &mut [u8], at: usize, more: &[u8]) -> usize
+pub(crate) fn put_front<const N: usize>(bytes: &mut [u8], at: usize, more: &[u8]) -> usize
     requires many { N ≤ length more.now }
     requires room { at + N ≤ length bytes.old }
     ensures end { result ≡ at + N }
@@ -70,7 +70,7 @@ pub(crate) fn put_ends<const N: usize>(bytes: &mut [u8], at: usize, more: &[u8])
     put_front::<N>(bytes, at + last, &more[last..])
 }
 
-/// Writes a few bytes, and returns the place behind them. Four to sixteen are copied as two pieces of a known length, which takes no call.
+/// Writes a few bytes, and returns the place behind them. Four to 32 are copied as two pieces of a known length, which takes no call.
 #[inline(always)]
 pub(crate) fn put_few(bytes: &mut [u8], at: usize, more: &[u8]) -> usize
     requires { at + length more.now ≤ length bytes.old }
@@ -80,6 +80,7 @@ pub(crate) fn put_few(bytes: &mut [u8], at: usize, more: &[u8]) -> usize
 {
     match more.len() {
         8..=16 => put_ends::<8>(bytes, at, more),
+        17..=32 => put_ends::<16>(bytes, at, more),
         4..8 => put_ends::<4>(bytes, at, more),
         _ => put(bytes, at, more),
     }
@@ -281,8 +282,8 @@ pub(crate) fn put_word_two(
 /// Writes words and a number whose digits are kept, for which there is room whatever it is, and returns the place behind them.
 #[inline(always)]
 pub(crate) fn put_digits(bytes: &mut [u8], at: usize, words: &str, digits: &Digits) -> usize
-    requires { at + length words.now + DIGITS ≤ length bytes.old }
-    ensures end { result ≤ at + length words.now + DIGITS }
+    requires { at + length words.now + KEPT_LEN ≤ length bytes.old }
+    ensures end { result ≤ at + length words.now + KEPT_LEN }
     ensures written { take result bytes.new ≡ take at bytes.old ++ words.now ++ decimal digits.now }
     ensures utf8 { IsUtf8 (take at bytes.old) → IsUtf8 (take result bytes.new) }
 {
@@ -300,8 +301,8 @@ pub(crate) fn put_digits_between(
     digits: &Digits,
     behind: &str,
 ) -> usize
-    requires { at + length words.now + DIGITS + length behind.now ≤ length bytes.old }
-    ensures end { result ≤ at + length words.now + DIGITS + length behind.now }
+    requires { at + length words.now + KEPT_LEN + length behind.now ≤ length bytes.old }
+    ensures end { result ≤ at + length words.now + KEPT_LEN + length behind.now }
     ensures written { take result bytes.new ≡ take at bytes.old ++ words.now ++ decimal digits.now ++ behind.now }
     ensures utf8 { IsUtf8 (take at bytes.old) → IsUtf8 (take result bytes.new) }
 {
@@ -321,8 +322,8 @@ pub(crate) fn put_line(
     line: &[u8],
     behind: &str,
 ) -> usize
-    requires { at + length words.now + DIGITS + length between.now + length line.now + length behind.now ≤ length bytes.old }
-    ensures end { result ≤ at + length words.now + DIGITS + length between.now + length line.now + length behind.now }
+    requires { at + length words.now + KEPT_LEN + length between.now + length line.now + length behind.now ≤ length bytes.old }
+    ensures end { result ≤ at + length words.now + KEPT_LEN + length between.now + length line.now + length behind.now }
     ensures written { take result bytes.new ≡ take at bytes.old ++ words.now ++ decimal digits.now ++ between.now ++ line.now ++ behind.now }
     ensures utf8 { IsUtf8 line.now → IsUtf8 (take at bytes.old) → IsUtf8 (take result bytes.new) }
 {
@@ -331,15 +332,65 @@ pub(crate) fn put_line(
     put_words(bytes, end, behind)
 }
 
-/// Writes a few bytes and words, and returns the place behind them.
+/// Writes words and a digit, and returns the place behind them.
 #[inline(always)]
-pub(crate) fn put_few_before(bytes: &mut [u8], at: usize, few: &[u8], behind: &str) -> usize
-    requires { at + length few.now + length behind.now ≤ length bytes.old }
-    ensures end { result ≤ at + length few.now + length behind.now }
-    ensures written { take result bytes.new ≡ take at bytes.old ++ few.now ++ behind.now }
+pub(crate) fn put_digit(bytes: &mut [u8], at: usize, words: &str, digit: u8) -> usize
+    requires digit { digit < 10 }
+    requires room { at + length words.now + 1 ≤ length bytes.old }
+    ensures end { result ≡ at + length words.now + 1 }
+    ensures written { take result bytes.new ≡ take at bytes.old ++ words.now ++ decimal digit }
+    ensures utf8 { IsUtf8 (take at bytes.old) → IsUtf8 (take result bytes.new) }
+{
+    let behind = put_words(bytes, at, words);
+    bytes[behind] = b'0' + digit;
+    behind + 1
+}
+
+/// Writes words and a few bytes, and returns the place behind them.
+#[inline(always)]
+pub(crate) fn put_few_behind(bytes: &mut [u8], at: usize, words: &str, few: &[u8]) -> usize
+    requires { at + length words.now + length few.now ≤ length bytes.old }
+    ensures end { result ≡ at + length words.now + length few.now }
+    ensures written { take result bytes.new ≡ take at bytes.old ++ words.now ++ few.now }
     ensures utf8 { IsUtf8 few.now → IsUtf8 (take at bytes.old) → IsUtf8 (take result bytes.new) }
 {
-    let end = put_few(bytes, at, few);
+    let behind = put_words(bytes, at, words);
+    put_few(bytes, behind, few)
+}
+
+/// Writes any bytes, and returns the place behind them. For none it takes no call.
+#[inline(always)]
+fn put_any(bytes: &mut [u8], at: usize, more: &[u8]) -> usize
+    requires { at + length more.now ≤ length bytes.old }
+    ensures end { result ≡ at + length more.now }
+    ensures written { take result bytes.new ≡ take at bytes.old ++ more.now }
+    ensures utf8 { IsUtf8 more.now → IsUtf8 (take at bytes.old) → IsUtf8 (take result bytes.new) }
+{
+    if more.is_empty() {
+        return at;
+    }
+    put(bytes, at, more)
+}
+
+/// Writes words, a few bytes, words, any bytes and words, and returns the place behind them.
+#[inline(always)]
+pub(crate) fn put_texts(
+    bytes: &mut [u8],
+    at: usize,
+    words: &str,
+    few: &[u8],
+    between: &str,
+    more: &[u8],
+    behind: &str,
+) -> usize
+    requires { at + length words.now + length few.now + length between.now + length more.now + length behind.now ≤ length bytes.old }
+    ensures end { result ≡ at + length words.now + length few.now + length between.now + length more.now + length behind.now }
+    ensures written { take result bytes.new ≡ take at bytes.old ++ words.now ++ few.now ++ between.now ++ more.now ++ behind.now }
+    ensures utf8 { IsUtf8 few.now → IsUtf8 more.now → IsUtf8 (take at bytes.old) → IsUtf8 (take result bytes.new) }
+{
+    let from = put_few_behind(bytes, at, words, few);
+    let start = put_words(bytes, from, between);
+    let end = put_any(bytes, start, more);
     put_words(bytes, end, behind)
 }
 
@@ -354,8 +405,8 @@ pub(crate) fn put_number_digits(
     between: &str,
     digits: &Digits,
 ) -> usize
-    requires { at + length words.now + length between.now + 2 * DIGITS ≤ length bytes.old }
-    ensures end { result ≤ at + length words.now + length between.now + 2 * DIGITS }
+    requires { at + length words.now + length between.now + DIGITS + KEPT_LEN ≤ length bytes.old }
+    ensures end { result ≤ at + length words.now + length between.now + DIGITS + KEPT_LEN }
     ensures written { take result bytes.new ≡ take at bytes.old ++ words.now ++ decimal number ++ between.now ++ decimal digits.now }
     ensures utf8 { IsUtf8 (take at bytes.old) → IsUtf8 (take result bytes.new) }
 {

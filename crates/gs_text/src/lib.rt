@@ -3,9 +3,11 @@
 
 mod digits;
 mod forwards;
+mod row;
 mod sheet;
 mod writing;
 
 pub use digits::Digits;
+pub use row::Row;
 pub use sheet::Sheet;
 pub use writing::{WriteFailed, write_out};

@@ -1,12 +1,15 @@
-ghost use Rattle.std.specs.Prelude.{◌≡◌, ◌+◌, ◌≤◌, ◌++◌, ◌∷◌, [], decimal, length, take, vec_len, OnErr, OnOk, IfOk};
+ghost use Rattle.std.specs.Prelude.{◌≡◌, ◌+◌, ◌<◌, ◌≤◌, ◌++◌, ◌∷◌, [], decimal, length, take, vec_len, OnErr, OnOk, IfOk};
+ghost use Rattle.std.specs.Bool.{OnFalse, OnTrue};
 ghost use Rattle.std.specs.Str.{IsUtf8};
+ghost use Rattle.gs_text.specs.Rows.{row_text};
 
-use crate::digits::Digits;
+use crate::digits::{Digits, KEPT_LEN};
 use crate::forwards::{
-    DIGITS, MASK_DIGITS, put, put_behind, put_between, put_digits, put_digits_between,
-    put_few_before, put_first, put_line, put_mask_between, put_number, put_number_digits, put_two,
-    put_word_two, put_words,
+    DIGITS, MASK_DIGITS, put, put_behind, put_between, put_digits, put_digits_between, put_first,
+    put_line, put_mask_between, put_number, put_number_digits, put_texts, put_two, put_word_two,
+    put_words,
 };
+use crate::row::Row;
 use std::alloc::{AllocError, Global};
 use std::marker::Model;
 
@@ -330,7 +333,7 @@ impl Sheet {
         ensures added { OnOk result (self.new ≡ self.old ++ words.now ++ decimal digits.now) }
         ensures kept { OnErr result (self.new ≡ self.old) }
     {
-        make_room(&mut self.bytes, self.len, words.len() + DIGITS)?;
+        make_room(&mut self.bytes, self.len, words.len() + KEPT_LEN)?;
         self.len = put_digits(&mut self.bytes, self.len, words, digits);
         Ok(())
     }
@@ -346,7 +349,7 @@ impl Sheet {
         ensures added { OnOk result (self.new ≡ self.old ++ words.now ++ decimal digits.now ++ behind.now) }
         ensures kept { OnErr result (self.new ≡ self.old) }
     {
-        let Some(wanted) = (words.len() + DIGITS).checked_add(behind.len()) else {
+        let Some(wanted) = (words.len() + KEPT_LEN).checked_add(behind.len()) else {
             return Err(AllocError);
         };
         make_room(&mut self.bytes, self.len, wanted)?;
@@ -368,7 +371,7 @@ impl Sheet {
         ensures added { OnOk result (self.new ≡ self.old ++ words.now ++ decimal digits.now ++ between.now ++ line.now ++ behind.now) }
         ensures kept { OnErr result (self.new ≡ self.old) }
     {
-        let Some(front) = (words.len() + DIGITS).checked_add(between.len()) else {
+        let Some(front) = (words.len() + KEPT_LEN).checked_add(between.len()) else {
             return Err(AllocError);
         };
         let Some(back) = line.len().checked_add(behind.len()) else {
@@ -390,18 +393,52 @@ impl Sheet {
         Ok(())
     }
 
-    /// Adds a few bytes that are UTF-8, and words.
+    /// Adds a row, of which all bytes are UTF-8, if there is room for it. Returns whether it did.
     #[inline(always)]
-    pub fn push_few(&mut self, few: &[u8], behind: &str) -> Result<(), AllocError>
-        requires { IsUtf8 few.now }
-        ensures added { OnOk result (self.new ≡ self.old ++ few.now ++ behind.now) }
+    pub fn fit_row(&mut self, row: Row<'_>) -> bool
+        requires digit { row.digit.1 < 10 }
+        requires few { IsUtf8 row.few.1.now }
+        requires line { IsUtf8 row.line.1.now }
+        requires rest { IsUtf8 row.rest.1.now }
+        ensures added { OnTrue result (self.new ≡ self.old ++ row_text row.entry) }
+        ensures kept { OnFalse result (self.new ≡ self.old) }
+    {
+        let room = self.bytes.len() - self.len;
+        match row.room() {
+            Some(wanted) if wanted <= room => {
+                self.len = row.put(&mut self.bytes, self.len);
+                true
+            }
+            _ => false,
+        }
+    }
+
+    /// Adds words, a few bytes, words, any bytes and words, with one look whether there is room. All bytes are UTF-8.
+    #[inline(always)]
+    pub fn push_texts(
+        &mut self,
+        words: &str,
+        few: &[u8],
+        between: &str,
+        more: &[u8],
+        behind: &str,
+    ) -> Result<(), AllocError>
+        requires few { IsUtf8 few.now }
+        requires more { IsUtf8 more.now }
+        ensures added { OnOk result (self.new ≡ self.old ++ words.now ++ few.now ++ between.now ++ more.now ++ behind.now) }
         ensures kept { OnErr result (self.new ≡ self.old) }
     {
-        let Some(wanted) = few.len().checked_add(behind.len()) else {
+        let Some(front) = words.len().checked_add(between.len()) else {
+            return Err(AllocError);
+        };
+        let Some(known) = front.checked_add(behind.len()) else {
+            return Err(AllocError);
+        };
+        let Some(wanted) = known.checked_add(few.len() + more.len()) else {
             return Err(AllocError);
         };
         make_room(&mut self.bytes, self.len, wanted)?;
-        self.len = put_few_before(&mut self.bytes, self.len, few, behind);
+        self.len = put_texts(&mut self.bytes, self.len, words, few, between, more, behind);
         Ok(())
     }
 
@@ -417,7 +454,7 @@ impl Sheet {
         ensures added { OnOk result (self.new ≡ self.old ++ words.now ++ decimal number ++ between.now ++ decimal digits.now) }
         ensures kept { OnErr result (self.new ≡ self.old) }
     {
-        let Some(wanted) = (words.len() + DIGITS).checked_add(between.len() + DIGITS) else {
+        let Some(wanted) = (words.len() + DIGITS).checked_add(between.len() + KEPT_LEN) else {
             return Err(AllocError);
         };
         make_room(&mut self.bytes, self.len, wanted)?;

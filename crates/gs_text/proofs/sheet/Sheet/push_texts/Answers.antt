@@ -2,7 +2,7 @@ use Rattle.std.proofs.Common.{rules, subst, sym, take, List, ℕ}
 use Rattle.std.proofs.lemmas.Str.{IsUtf8-from_is_utf8}
 use Rattle.std.specs.Str.{IsUtf8}
 use Rattle.gs_text.proofs.Grown.{lent_utf8}
-use Rattle.gs_text.proofs.sheet.Sheet.push_few.Goals as goal
+use Rattle.gs_text.proofs.sheet.Sheet.push_texts.Goals as goal
 
 pub invariant_of-self-2 : goal.invariant_of-self-2
 invariant_of-self-2 c =
@@ -10,5 +10,5 @@ invariant_of-self-2 c =
     let lent : IsUtf8 (take c.self.inside.len c.deref_mut.result.now) = subst (λ (xs : List ℕ). IsUtf8 (take c.self.inside.len xs)) (sym c.deref_mut.ensures.value) before in
     record {
       within = search rules;
-      utf8 = lent_utf8 c.make_room.new.bytes.items c.put_few_before-self-inside.new.bytes c.put_few_before-self-inside.result c.make_room.new.bytes.len (search rules) (search rules) (c.put_few_before-self-inside.ensures.utf8 c.requires lent);
+      utf8 = lent_utf8 c.make_room.new.bytes.items c.put_texts-self-inside.new.bytes c.put_texts-self-inside.result c.make_room.new.bytes.len (search rules) (search rules) (c.put_texts-self-inside.ensures.utf8 c.requires.few c.requires.more lent);
     }
