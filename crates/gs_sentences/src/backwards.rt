@@ -30,7 +30,8 @@ pub(crate) fn put_text(array: &mut [u8], end: usize, bytes: &[u8]) -> usize
     put_bytes(array, end, bytes)
 }
 
-/// Writes a word so that it ends here, and returns where it begins.
+/// Writes a word so that it ends here, and returns where it begins. Byte by byte it takes no look whether the word overlaps with what is
+/// written, and the compiler puts the bytes of a word together that is known where it is compiled.
 #[inline(always)]
 pub(crate) fn put(array: &mut [u8], end: usize, word: &str) -> usize
     requires { (length word.now ≤ end) × (end ≤ length array.old) }
@@ -39,7 +40,14 @@ pub(crate) fn put(array: &mut [u8], end: usize, word: &str) -> usize
     ensures utf8 { IsUtf8 (drop end array.old) → IsUtf8 (drop result array.new) }
     ensures size { length array.new ≡ length array.old }
 {
-    put_bytes(array, end, word.as_bytes())
+    let bytes = word.as_bytes();
+    let start = end - bytes.len();
+    let mut n = 0;
+    while n < bytes.len() {
+        array[start + n] = bytes[n];
+        n += 1;
+    }
+    start
 }
 
 /// Writes a number so that it ends here, and returns where it begins.
@@ -81,5 +89,5 @@ fn put_long_mask(array: &mut [u8], end: usize, mask: u128) -> usize
     ensures size { length array.new ≡ length array.old }
 {
     let mut buffer = Buffer::new();
-    put(array, end, buffer.format(mask))
+    put_text(array, end, buffer.format(mask).as_bytes())
 }
