@@ -1,6 +1,5 @@
 -- Events that added no entry.
 use Rattle.std.proofs.Common.{◌≡◌, ◌∙◌, refl, sym, ap, arith, Bool, false, ℕ, List, [], ◌∷◌, ◌++◌, append-nil, append_assoc, length}
-use Rattle.serde_json.specs.Data.{Data}
 use Rattle.serde_json.specs.Written.{compact_text}
 use Rattle.std.specs.Str.Lines.{lines as lines_in}
 use Rattle.gs_kernel.specs.declared.landing.Landing.{Landing}

@@ -31,6 +31,7 @@ pub(crate) struct Told {
 }
 
 /// Returns an entry that is a reason, to keep.
+#[inline(always)]
 fn source_of(cause: &Option<Cause<'_>>) -> Option<Noted>
     ensures { result ≡ source_of (causes_given cause.now) }
 {
@@ -82,6 +83,7 @@ fn entries_told(outcome: Outcome, entries: usize) -> usize
 }
 
 /// Returns what is told of a late landing.
+#[inline(always)]
 pub(crate) fn late_told(number: u32, landed: &Landed<'_>) -> Told
     ensures { result ≡ late_told number (landed_given landed.now) }
 {

@@ -2,21 +2,28 @@
 
 ghost use Rattle.std.specs.Prelude.{◌≡◌, ◌<◌, ◌≤◌, ◌++◌, true, false, Contains, None, IfOk, IfSome, OnOk, length};
 ghost use Rattle.std.specs.List.{All};
+ghost use Rattle.gs_reasons.specs.Kept.{HasHeard};
 ghost use Rattle.gs_replies.specs.declared.reply.Reply.TheVariants as replies;
 ghost use Rattle.gs_script.specs.Unread.{said_line};
 ghost use Rattle.gs_script.specs.Words.{is_text};
 ghost use Rattle.gs_sentences.specs.Given.{landed_given};
+ghost use Rattle.gs_explain.specs.Landings.{landed};
+ghost use Rattle.gs_explain.specs.Marked.{IsMarked};
+ghost use Rattle.gs_explain.specs.Moment.{moment_of};
 ghost use Rattle.gs_explain.specs.Retold.{IsWithin, retold};
 ghost use Rattle.gs_explain.specs.Rows.{heading};
 ghost use Rattle.gs_explain.specs.ToldAgain.{AreHeld, IsKept, is_kept_out, kept_put, late_told, told_text};
 
 use crate::content::{Told, late_told};
+use crate::landed::landed_late;
+use crate::moment::Scene;
 use crate::page::Page;
 use crate::piece::{MOST_LINE_LEN, Piece};
 use crate::slots::{Slot, make_slots, mark_of, note_mark, place_of, set_place};
 use gs_core::Reply;
 use gs_kernel::Landing;
 use gs_layout::Outcome;
+use gs_reasons::Index;
 use gs_script::SaidLine;
 use gs_sentences::{Landed, Tail};
 use std::alloc::AllocError;
@@ -114,16 +121,20 @@ pub(crate) fn settle(
     Ok(())
 }
 
-/// Returns what is kept for the lines that have a mark, if it was told of such a late landing.
+/// Returns what is kept for the lines that have a mark, if it was told of such a late landing. An index has heard all entries.
 #[inline(always)]
 pub(crate) fn kept_for<'a>(
     kepts: &'a [Kept],
     slots: &[Slot],
     mark: u32,
+    scene: &Scene<'_>,
+    index: &Index,
     number: u32,
-    landed: &Landed<'_>,
+    landing: &Landing,
 ) -> Option<&'a Kept>
-    ensures same { IfSome result (λ kept. kept.now.told ≡ late_told number (landed_given landed.now)) }
+    requires heard { HasHeard index.now scene.now.journal.now.entries }
+    requires marked { IsMarked scene.now.last.now.places.items scene.now.transactions.now }
+    ensures same { IfSome result (λ kept. kept.now.told ≡ late_told number (landed (moment_of scene.now) None true (length scene.now.journal.now.entries) landing.now)) }
     ensures among { IfSome result (λ kept. Contains kepts.now kept.now) }
 {
     let place = place_of(slots, mark);
@@ -131,7 +142,8 @@ pub(crate) fn kept_for<'a>(
         return None;
     }
     let kept = &kepts[place - 1];
-    if !kept.told.is_late(number, landed) {
+    let landed = landed_late(scene, index, landing);
+    if !kept.told.is_late(number, &landed) {
         return None;
     }
     Some(kept)
@@ -187,7 +199,8 @@ pub(crate) fn push_part<'a>(
     }
 }
 
-/// Tells a late landing again, if the same is kept, and returns whether that is so. It fails only if out of memory.
+/// Tells a late landing again, if the same is kept, and returns whether that is so. An index has heard all entries. It fails only if out of
+/// memory.
 #[inline(always)]
 pub(crate) fn late_again<'a>(
     pieces: &mut Vec<Piece<'a>>,
@@ -196,16 +209,20 @@ pub(crate) fn late_again<'a>(
     slots: &[Slot],
     mark: u32,
     said: &SaidLine<'a>,
+    scene: &Scene<'_>,
+    index: &Index,
     number: u32,
-    landed: &Landed<'_>,
+    landing: &Landing,
 ) -> Result<bool, AllocError>
     requires text { is_text said.now.bytes.now ≡ true }
     requires held { AreHeld page.now pieces.old.items kepts.now }
-    ensures told { IfOk result (λ b. b ≡ true → retold 0 pieces.new.items page.now ≡ retold 0 pieces.old.items page.now ++ (heading (said_line said.now) ++ told_text (late_told number (landed_given landed.now)))) }
+    requires heard { HasHeard index.now scene.now.journal.now.entries }
+    requires marked { IsMarked scene.now.last.now.places.items scene.now.transactions.now }
+    ensures told { IfOk result (λ b. b ≡ true → retold 0 pieces.new.items page.now ≡ retold 0 pieces.old.items page.now ++ (heading (said_line said.now) ++ told_text (late_told number (landed (moment_of scene.now) None true (length scene.now.journal.now.entries) landing.now)))) }
     ensures same { IfOk result (λ b. b ≡ false → pieces.new.items ≡ pieces.old.items) }
     ensures held { AreHeld page.now pieces.new.items kepts.now }
 {
-    match kept_for(kepts, slots, mark, number, landed) {
+    match kept_for(kepts, slots, mark, scene, index, number, landing) {
         Some(kept) => push_part(pieces, page, kept, said),
         None => Ok(false),
     }

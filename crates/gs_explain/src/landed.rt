@@ -1,6 +1,6 @@
 //! Why a transaction landed as it did.
 
-ghost use Rattle.std.specs.Prelude.{◌≡◌, ◌≤◌, length, option_copied, take};
+ghost use Rattle.std.specs.Prelude.{◌≡◌, ◌≤◌, None, length, option_copied, take, true};
 ghost use Rattle.gs_reasons.specs.Kept.{HasHeard};
 ghost use Rattle.gs_reasons.specs.Group.{fault_of_group};
 ghost use Rattle.gs_sentences.specs.Given.{landed_given};
@@ -18,6 +18,7 @@ use gs_reasons::{GroupFault, Index, fault_of_group};
 use gs_sentences::{Landed, Overflow, Stamped};
 
 /// Returns the place of the transaction of this number.
+#[inline(always)]
 fn place_numbered(number: u32) -> Option<usize>
     ensures { result ≡ place_numbered number }
 {
@@ -28,6 +29,7 @@ fn place_numbered(number: u32) -> Option<usize>
 }
 
 /// Returns the place of the transaction that a landing is of.
+#[inline(always)]
 fn landed_place(scene: &Scene<'_>, landing: &Landing) -> Option<usize>
     requires { IsMarked scene.now.last.now.places.items scene.now.transactions.now }
     ensures { result ≡ landed_place scene.now.event.now scene.now.transactions.now landing.now }
@@ -39,6 +41,7 @@ fn landed_place(scene: &Scene<'_>, landing: &Landing) -> Option<usize>
 }
 
 /// Returns the transaction at a place.
+#[inline(always)]
 fn transaction_at(transactions: &[Transaction], place: Option<usize>) -> Option<&Transaction>
     ensures { option_copied result ≡ transaction_at transactions.now place }
 {
@@ -46,6 +49,7 @@ fn transaction_at(transactions: &[Transaction], place: Option<usize>) -> Option<
 }
 
 /// Returns the line at a place, 0 if there is none.
+#[inline(always)]
 pub(crate) fn line_at(lines: &[usize], place: Option<usize>) -> usize
     ensures { result ≡ line_at lines.now place }
 {
@@ -56,6 +60,7 @@ pub(crate) fn line_at(lines: &[usize], place: Option<usize>) -> usize
 }
 
 /// Returns what was stamped, and on which line.
+#[inline(always)]
 fn stamped_by(transaction: Option<&Transaction>, line: usize) -> Stamped
     ensures { result ≡ stamped_by (option_copied transaction.entry) line }
 {
@@ -74,6 +79,7 @@ fn stamped_by(transaction: Option<&Transaction>, line: usize) -> Stamped
 }
 
 /// Returns what was stamped at a place of the list of transactions.
+#[inline(always)]
 fn stamped_at(scene: &Scene<'_>, place: Option<usize>) -> Stamped
     ensures { result ≡ stamped_at (moment_of scene.now) place }
 {
@@ -165,4 +171,14 @@ pub(crate) fn landed<'a>(
         entries: heard,
         limit: scene.kernel.settings().history,
     }
+}
+
+/// Returns why a late landing came out so, by itself. An index has heard all entries.
+#[inline(always)]
+pub(crate) fn landed_late<'a>(scene: &Scene<'a>, index: &Index, landing: &'a Landing) -> Landed<'a>
+    requires heard { HasHeard index.now scene.now.journal.now.entries }
+    requires marked { IsMarked scene.now.last.now.places.items scene.now.transactions.now }
+    ensures { landed_given result ≡ landed (moment_of scene.now) None true (length scene.now.journal.now.entries) landing.now }
+{
+    landed(scene, index, &None, true, scene.journal.len(), landing)
 }

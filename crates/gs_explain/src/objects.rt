@@ -20,7 +20,6 @@ ghost use Rattle.gs_explain.specs.ToldAgain.{is_kept_out};
 
 use crate::draft::Draft;
 use crate::kept::{Kept, Late, marked_late};
-use crate::landed::landed;
 use crate::moment::Scene;
 use crate::object::Pen;
 use crate::once::{forget, tell_again, tell_nothing, tell_quiet};
@@ -373,8 +372,6 @@ impl<'a> Objects<'a> {
 
     /// Adds a late landing that was not placed and tore nothing down, of a line that has a mark, before which there were as many entries
     /// as behind it. An index has heard them.
-    #[inline(never)]
-    #[tactic(auto, using(crate::proofs::Keeping::none_overflowed))]
     fn add_late(
         &mut self,
         said: &SaidLine<'a>,
@@ -388,19 +385,17 @@ impl<'a> Objects<'a> {
         requires marked { IsMarked scene.now.last.now.places.items scene.now.transactions.now }
         ensures { OnOk result (self.new ≡ self.old ++ object_row (said_line said.now) (moment_of scene.now) (length scene.now.journal.now.entries) (replies.Late late.now.number late.now.landing.now false)) }
     {
-        let count = scene.journal.len();
-        let landed = landed(scene, index, &None, true, count, late.landing);
         let told = tell_again(
             &mut self.draft,
             &mut self.outlines,
             &mut self.nothing,
             &mut self.kepts,
             &mut self.slots,
-            late.mark,
-            late.number,
-            &landed,
+            scene,
+            index,
+            late,
         )?;
-        self.outlines.push_told(said, count, told)?;
+        self.outlines.push_told(said, scene.journal.len(), told)?;
         Ok(())
     }
 

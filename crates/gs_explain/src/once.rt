@@ -1,21 +1,28 @@
 //! What is told once, for all events that tell the same.
 
-ghost use Rattle.std.specs.Prelude.{◌≡◌, [], None, IfOk, OnOk};
+ghost use Rattle.std.specs.Prelude.{◌≡◌, [], None, IfOk, OnOk, length, true};
 ghost use Rattle.std.specs.List.{All};
-ghost use Rattle.gs_sentences.specs.Given.{landed_given};
+ghost use Rattle.gs_reasons.specs.Kept.{HasHeard};
+ghost use Rattle.gs_explain.specs.Landings.{landed};
+ghost use Rattle.gs_explain.specs.Marked.{IsMarked};
+ghost use Rattle.gs_explain.specs.Moment.{moment_of};
 ghost use Rattle.gs_explain.specs.Outlined.{AreOutlined, Grows, Tells, TellsLate, TellsNothing, late_object, outlines_text};
 ghost use Rattle.gs_explain.specs.Quiet.{quiet_object};
-ghost use Rattle.gs_explain.specs.ToldAgain.{late_told};
+ghost use Rattle.gs_explain.specs.ToldAgain.{is_kept_out, late_told};
 
 use crate::content::late_told;
 use crate::draft::Draft;
-use crate::kept::{Kept, kept_for, settle};
+use crate::kept::{Kept, Late, kept_for, settle};
+use crate::landed::landed_late;
+use crate::moment::Scene;
 use crate::outline::{Told, told_nothing};
 use crate::outlines::Outlines;
 use crate::quiet::Quiet;
 use crate::slots::Slot;
 use crate::whys::push_quiet;
-use gs_sentences::{Landed, Reason};
+use gs_kernel::Landing;
+use gs_reasons::Index;
+use gs_sentences::Reason;
 use std::alloc::AllocError;
 
 /// Takes away the events, and what is kept: for when memory ran out, and what the text has is not known.
@@ -98,30 +105,36 @@ pub(crate) fn tell_quiet(
     }
 }
 
-/// Adds the line and the reason of a late landing, keeps them for the lines that have a mark, and returns what is told. It fails only if
-/// out of memory.
+/// Adds the line and the reason of a late landing that was not placed and tore nothing down, keeps them for the lines that have a mark, and
+/// returns what is told. An index has heard all entries. It fails only if out of memory.
 #[inline(never)]
+#[tactic(auto, using(crate::proofs::Keeping::none_overflowed))]
 fn tell_anew(
     draft: &mut Draft,
     kepts: &mut Vec<Kept>,
     slots: &mut [Slot],
     mark: u32,
+    scene: &Scene<'_>,
+    index: &Index,
     number: u32,
-    landed: &Landed<'_>,
+    landing: &Landing,
 ) -> Result<Told, AllocError>
-    requires alone { (landed.now.overflow ≡ None) × (landed.now.fault.now ≡ None) }
+    requires out { is_kept_out landing.now.outcome ≡ true }
+    requires heard { HasHeard index.now scene.now.journal.now.entries }
+    requires marked { IsMarked scene.now.last.now.places.items scene.now.transactions.now }
     requires kept { All (TellsLate draft.old) kepts.old.items }
     ensures grown { OnOk result (Grows draft.old draft.new) }
     ensures kept { OnOk result (All (TellsLate draft.new) kepts.new.items) }
-    ensures told { IfOk result (λ told. Tells draft.new (late_object (late_told number (landed_given landed.now))) told) }
+    ensures told { IfOk result (λ told. Tells draft.new (late_object (late_told number (landed (moment_of scene.now) None true (length scene.now.journal.now.entries) landing.now))) told) }
 {
+    let landed = landed_late(scene, index, landing);
     let from = draft.len();
     draft.late(number, landed.landing)?;
     let mid = draft.len();
-    draft.reason(&Reason::Landed(*landed))?;
+    draft.reason(&Reason::Landed(landed))?;
     let to = draft.len();
     let kept = Kept {
-        told: late_told(number, landed),
+        told: late_told(number, &landed),
         from,
         mid,
         to,
@@ -130,8 +143,8 @@ fn tell_anew(
     Told::parts(0, from, mid, to)
 }
 
-/// Returns what is told of a late landing, of a line that has a mark, and adds that first if the same is not kept. If that failed, what
-/// the text has is not known, and nothing is kept.
+/// Returns what is told of a late landing that was not placed and tore nothing down, of a line that has a mark, and adds that first if the
+/// same is not kept. An index has heard all entries. If that failed, what the text has is not known, and nothing is kept.
 #[inline(always)]
 pub(crate) fn tell_again(
     draft: &mut Draft,
@@ -139,20 +152,27 @@ pub(crate) fn tell_again(
     nothing: &mut Option<Told>,
     kepts: &mut Vec<Kept>,
     slots: &mut [Slot],
-    mark: u32,
-    number: u32,
-    landed: &Landed<'_>,
+    scene: &Scene<'_>,
+    index: &Index,
+    late: &Late<'_>,
 ) -> Result<Told, AllocError>
-    requires alone { (landed.now.overflow ≡ None) × (landed.now.fault.now ≡ None) }
+    requires out { is_kept_out late.now.landing.now.outcome ≡ true }
+    requires heard { HasHeard index.now scene.now.journal.now.entries }
+    requires marked { IsMarked scene.now.last.now.places.items scene.now.transactions.now }
     requires outlined { AreOutlined draft.old outlines.old nothing.old kepts.old.items }
     ensures same { OnOk result (outlines_text draft.new outlines.new ≡ outlines_text draft.old outlines.old) }
-    ensures told { IfOk result (λ told. Tells draft.new (late_object (late_told number (landed_given landed.now))) told) }
+    ensures told { IfOk result (λ told. Tells draft.new (late_object (late_told late.now.number (landed (moment_of scene.now) None true (length scene.now.journal.now.entries) late.now.landing.now))) told) }
     ensures outlined { AreOutlined draft.new outlines.new nothing.new kepts.new.items }
 {
-    if let Some(kept) = kept_for(kepts, slots, mark, number, landed) {
+    let Late {
+        mark,
+        number,
+        landing,
+    } = *late;
+    if let Some(kept) = kept_for(kepts, slots, mark, scene, index, number, landing) {
         return Told::parts(0, kept.from, kept.mid, kept.to);
     }
-    match tell_anew(draft, kepts, slots, mark, number, landed) {
+    match tell_anew(draft, kepts, slots, mark, scene, index, number, landing) {
         Ok(told) => Ok(told),
         Err(error) => {
             forget(outlines, nothing, kepts);

@@ -7,8 +7,8 @@ ghost use Rattle.gs_reasons.specs.Kept.{HasHeard};
 ghost use Rattle.gs_replies.specs.declared.reply.Reply.TheVariants as replies;
 ghost use Rattle.gs_script.specs.Words.{is_text};
 ghost use Rattle.gs_script.specs.Unread.{said_line};
-ghost use Rattle.gs_sentences.specs.Given.{landed_given};
 ghost use Rattle.gs_sentences.specs.Refused.{refused_text};
+ghost use Rattle.gs_explain.specs.Landings.{landed};
 ghost use Rattle.gs_explain.specs.Marked.{IsMarked};
 ghost use Rattle.gs_explain.specs.Moment.{moment_of};
 ghost use Rattle.gs_explain.specs.Quiet.{quiet_row};
@@ -20,7 +20,7 @@ ghost use Rattle.gs_trace.specs.Came.{reply_in};
 ghost use Rattle.gs_explain.specs.ToldAgain.{AreHeld, is_kept_out, late_told, told_text};
 
 use crate::kept::{Kept, late_again, marked_late, tell_late};
-use crate::landed::landed;
+use crate::landed::landed_late;
 use crate::moment::Scene;
 use crate::page::Page;
 use crate::piece::{MOST_LINE_LEN, Piece};
@@ -36,7 +36,6 @@ use gs_kernel::Landing;
 use gs_layout::Refusal;
 use gs_reasons::Index;
 use gs_script::SaidLine;
-use gs_sentences::Landed;
 use gs_text::WriteFailed;
 use gs_trace::Came;
 use std::alloc::{AllocError, Global};
@@ -197,19 +196,26 @@ impl<'a> Rows<'a> {
         }
     }
 
-    /// Adds a late landing as text, and keeps it for the lines of its slot.
+    /// Adds a late landing that was not placed and tore nothing down as text, and keeps it for the lines of its slot. The event added no entry,
+    /// and an index has heard all.
     #[inline(never)]
+    #[tactic(auto, using(crate::proofs::Keeping::none_overflowed))]
     fn add_anew(
         &mut self,
         said: &SaidLine<'_>,
+        scene: &Scene<'_>,
+        index: &Index,
         mark: u32,
         number: u32,
-        landed: &Landed<'_>,
+        landing: &Landing,
     ) -> Result<(), AllocError>
         requires text { is_text said.now.bytes.now ≡ true }
-        requires alone { (landed.now.overflow ≡ None) × (landed.now.fault.now ≡ None) }
-        ensures { OnOk result (self.new ≡ self.old ++ (heading (said_line said.now) ++ told_text (late_told number (landed_given landed.now)))) }
+        requires kept { is_kept_out landing.now.outcome ≡ true }
+        requires heard { HasHeard index.now scene.now.journal.now.entries }
+        requires marked { IsMarked scene.now.last.now.places.items scene.now.transactions.now }
+        ensures { OnOk result (self.new ≡ self.old ++ (heading (said_line said.now) ++ told_text (late_told number (landed (moment_of scene.now) None true (length scene.now.journal.now.entries) landing.now)))) }
     {
+        let landed = landed_late(scene, index, landing);
         match tell_late(
             &mut self.page,
             &mut self.kepts,
@@ -217,7 +223,7 @@ impl<'a> Rows<'a> {
             mark,
             said,
             number,
-            landed,
+            &landed,
         ) {
             Ok(()) => Ok(()),
             Err(error) => {
@@ -229,8 +235,7 @@ impl<'a> Rows<'a> {
 
     /// Adds the row of a late landing that was not placed and tore nothing down, before which there were as many entries as
     /// behind it. An index has heard them.
-    #[inline(never)]
-    #[tactic(auto, using(crate::proofs::Keeping::late_row, crate::proofs::Keeping::none_overflowed))]
+    #[tactic(auto, using(crate::proofs::Keeping::late_row))]
     fn add_late_row(
         &mut self,
         said: &SaidLine<'a>,
@@ -246,8 +251,6 @@ impl<'a> Rows<'a> {
         requires marked { IsMarked scene.now.last.now.places.items scene.now.transactions.now }
         ensures { OnOk result (self.new ≡ self.old ++ row (said_line said.now) (moment_of scene.now) (length scene.now.journal.now.entries) (replies.Late number landing.now false)) }
     {
-        let count = scene.journal.len();
-        let landed = landed(scene, index, &None, true, count, landing);
         if late_again(
             &mut self.pieces,
             &self.page,
@@ -255,12 +258,14 @@ impl<'a> Rows<'a> {
             &self.slots,
             mark,
             said,
+            scene,
+            index,
             number,
-            &landed,
+            landing,
         )? {
             return Ok(());
         }
-        self.add_anew(said, mark, number, &landed)
+        self.add_anew(said, scene, index, mark, number, landing)
     }
 
     /// Adds the row of an event that was refused, to be told at the end, and returns whether that could be. An index has heard all entries, and

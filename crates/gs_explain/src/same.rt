@@ -7,6 +7,7 @@ use gs_kernel::Landing;
 use gs_layout::{Change, Facts, Message};
 
 /// Returns whether these are the same facts of a thread.
+#[inline(never)]
 fn same_facts(one: &Facts, other: &Facts) -> bool
     ensures { IsTrue result ↔ (one.now ≡ other.now) }
 {
@@ -17,11 +18,15 @@ fn same_facts(one: &Facts, other: &Facts) -> bool
 }
 
 /// Returns whether messages say the same of a thread.
+#[inline(always)]
 fn same_change(one: &Change, other: &Change) -> bool
     ensures { IsTrue result ↔ (one.now ≡ other.now) }
 {
     match (one, other) {
-        (Change::Created { facts }, Change::Created { facts: f }) => same_facts(facts, f),
+        (Change::Created { facts }, Change::Created { facts: f }) => {
+            let other = *f;
+            same_facts(facts, &other)
+        }
         (Change::Blocked { cpu }, Change::Blocked { cpu: c }) => cpu == c,
         (Change::Wakeup, Change::Wakeup) => true,
         (Change::Preempted { cpu }, Change::Preempted { cpu: c }) => cpu == c,
@@ -40,6 +45,7 @@ fn same_change(one: &Change, other: &Change) -> bool
 }
 
 /// Returns whether these are the same messages.
+#[inline(always)]
 fn same_message(one: &Message, other: &Message) -> bool
     ensures { IsTrue result ↔ (one.now ≡ other.now) }
 {
@@ -58,18 +64,44 @@ fn same_message(one: &Message, other: &Message) -> bool
 }
 
 /// Returns whether these are the same entries of a journal.
+#[inline(always)]
 pub(crate) fn same_entry(one: &Entry, other: &Entry) -> bool
     ensures { IsTrue result ↔ (one.now ≡ other.now) }
 {
     match (one, other) {
         (Entry::Posted { message }, Entry::Posted { message: m }) => same_message(message, m),
-        (Entry::Posted { .. }, _) => false,
-        (_, Entry::Posted { .. }) => false,
-        _ => one == other,
+        (
+            Entry::Placed {
+                tid,
+                tseq,
+                cpu,
+                generation,
+            },
+            Entry::Placed {
+                tid: t,
+                tseq: n,
+                cpu: c,
+                generation: g,
+            },
+        ) => tid == t && tseq == n && cpu == c && generation == g,
+        (
+            Entry::Role { generation, cpu },
+            Entry::Role {
+                generation: g,
+                cpu: c,
+            },
+        ) => generation == g && cpu == c,
+        (Entry::Begin { generation }, Entry::Begin { generation: g }) => generation == g,
+        (Entry::Left, Entry::Left) => true,
+        (Entry::Taken { cpu }, Entry::Taken { cpu: c }) => cpu == c,
+        (Entry::Given { cpu }, Entry::Given { cpu: c }) => cpu == c,
+        (Entry::Torn, Entry::Torn) => true,
+        _ => false,
     }
 }
 
 /// Returns whether the same became of two slots.
+#[inline(always)]
 pub(crate) fn same_landing(one: &Landing, other: &Landing) -> bool
     ensures { IsTrue result ↔ (one.now ≡ other.now) }
 {

@@ -1,4 +1,4 @@
-use Rattle.std.proofs.Common.{◌≡◌, ◌∙◌, ◌++◌, ap, false, length, sym, true, ℕ, List, None}
+use Rattle.std.proofs.Common.{◌≡◌, ◌∙◌, ◌++◌, ap, false, length, refl, sym, true, ℕ, List, None}
 use Rattle.gs_script.specs.Unread.{said_line}
 use Rattle.gs_replies.specs.declared.reply.Reply.TheVariants as replies
 use Rattle.gs_explain.specs.Objects.{object_row}
@@ -6,15 +6,15 @@ use Rattle.gs_explain.specs.Landings.{landed}
 use Rattle.gs_explain.specs.Moment.{moment_of}
 use Rattle.gs_explain.specs.Outlined.{late_object}
 use Rattle.gs_explain.specs.ToldAgain.{late_told}
-use Rattle.gs_sentences.specs.Given.{landed_given}
-use Rattle.gs_sentences.specs.Told.{Landed}
 use Rattle.gs_explain.proofs.Outlining.{adds_outlined, adds_shown}
 use Rattle.gs_explain.proofs.Repeating.{late_shown}
 use Rattle.gs_explain.proofs.objects.Objects.add_late.Goals as goal
 
 pub invariant_of-self-2 : goal.invariant_of-self-2
 invariant_of-self-2 c =
-    adds_outlined c.tell_again.new.outlines c.push_told.new.self c.tell_again.new.nothing c.tell_again.new.kepts.items c.in_ok-told.told (said_line c.args.said.now) c.len-count.result (late_object (late_told c.args.late.now.number (landed_given c.landed-landed.result))) c.tell_again.new.draft c.in_ok-push_told.ensures.added c.in_ok-told.ensures.told c.requires.text c.tell_again.ensures.outlined
+    let x = moment_of c.args.scene.now in
+    let row = late_object (late_told c.args.late.now.number (landed x None true (length x.history) c.args.late.now.landing.now)) in
+    adds_outlined c.tell_again.new.outlines c.push_told.new.self c.tell_again.new.nothing c.tell_again.new.kepts.items c.in_ok-told.told (said_line c.args.said.now) c.len.result row c.tell_again.new.draft c.in_ok-push_told.ensures.added c.in_ok-told.ensures.told c.requires.text c.tell_again.ensures.outlined
 
 pub returns : goal.returns
 returns c =
@@ -22,11 +22,8 @@ returns c =
     let x = moment_of c.args.scene.now in
     let n = c.args.late.now.number in
     let l = c.args.late.now.landing.now in
-    let row = late_object (late_told n (landed_given c.landed-landed.result)) in
-    let count = c.len-count.result in
-    let y : Landed = landed x None true count l in
-    let told : row said count ≡ late_object (late_told n y) said count = λ i. late_object (late_told n (c.landed-landed.ensures i)) said count in
-    let same : late_object (late_told n y) said count ≡ object_row said x count (replies.Late n l false) = sym (late_shown said x count n l c.requires.kept (sym c.len-count.ensures.value)) in
-    let all : object_row said x count (replies.Late n l false) ≡ object_row said x (length x.history) (replies.Late n l false) = λ i. object_row said x (c.len-count.ensures.value i) (replies.Late n l false) in
-    adds_shown c.tell_again.new.outlines c.push_told.new.self c.in_ok-told.told said count row c.tell_again.new.draft _ c.in_ok-push_told.ensures.added c.in_ok-told.ensures.told c.tell_again.ensures.outlined.events (c.in_ok-told.ensures.same ∙ c.self.view_is)
-    ∙ ap (λ (t : List ℕ). c.args.self.now ++ t) (told ∙ (same ∙ all))
+    let row = late_object (late_told n (landed x None true (length x.history) l)) in
+    let here : row said c.len.result ≡ row said (length x.history) = ap (row said) c.len.ensures.value in
+    let same : row said (length x.history) ≡ object_row said x (length x.history) (replies.Late n l false) = sym (late_shown said x (length x.history) n l c.requires.kept refl) in
+    adds_shown c.tell_again.new.outlines c.push_told.new.self c.in_ok-told.told said c.len.result row c.tell_again.new.draft _ c.in_ok-push_told.ensures.added c.in_ok-told.ensures.told c.tell_again.ensures.outlined.events (c.in_ok-told.ensures.same ∙ c.self.view_is)
+    ∙ ap (λ (t : List ℕ). c.args.self.now ++ t) (here ∙ same)
