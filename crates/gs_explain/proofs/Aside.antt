@@ -10,7 +10,7 @@ use Rattle.gs_explain.specs.declared.outline.Told.{Told}
 use Rattle.gs_explain.specs.declared.outline.Told.TheVariants as tolds
 use Rattle.gs_explain.specs.declared.outlines.Short.{Short}
 use Rattle.gs_sentences.specs.declared.tail.Tail.TheVariants as tails
-use Rattle.gs_explain.specs.Outlined.{Grows, HasTold, IsOutlined, outline_text, outlines_text, told_of, untold, widened}
+use Rattle.gs_explain.specs.Outlined.{Grows, HasParts, HasTold, IsKept, IsOutlined, outline_text, outlines_text, told_of, untold, widened}
 use Rattle.gs_explain.specs.Retold.{Leads}
 
 -- an event that is told in a text, and one that is told aside, of two
@@ -81,3 +81,10 @@ all_with asides (t ∷ rest) s all has (suc k) d lt = all_with asides rest s (λ
 -- nothing is left at last
 pub leads_last : (a b : Option (List ℕ)) (whole block text : List ℕ) (asides : List Told) (shorts : List Short) (i : ℕ) → length shorts ≤ i → Leads a whole b (block ++ outlines_text text (drop i (map (widened asides) shorts))) → Leads a whole b (block ++ [])
 leads_last a b whole block text asides shorts i le leads = subst (λ (os : List Outline). Leads a whole b (block ++ outlines_text text os)) (drop_of_length-le (map (widened asides) shorts) (omega (arith, le, length-map shorts (widened asides)))) leads
+
+-- what is told of one that is not told aside
+pub parts_of : (asides : List Told) (s : Short) → (s.count == 255) ≡ false → told_of asides s ≡ tolds.Parts s.count s.at s.lines s.whys
+parts_of asides s e = ap (λ (b : Bool). if b then get_or asides s.at untold else tolds.Parts s.count s.at s.lines s.whys) e
+
+pub kept_parts : (text : List ℕ) (asides : List Told) (s : Short) → (s.count == 255) ≡ false → IsKept text (told_of asides s) → HasParts text s.at (s.at + s.lines) (s.at + s.lines + s.whys)
+kept_parts text asides s e is = subst (IsKept text) (parts_of asides s e) is

@@ -214,4 +214,25 @@ impl Pen {
         }
         self.push_any(alloc, out, line, count, lines, whys)
     }
+    /// Adds the object of an event, as [`Pen::push`] does, for one that is seldom: it takes no look whether some of it can be copied as it is.
+    #[inline(never)]
+    pub(crate) fn push_seldom(
+        &mut self,
+        alloc: Global,
+        out: &mut Text,
+        number: u32,
+        line: &[u8],
+        first: u32,
+        count: u32,
+        lines: &[u8],
+        whys: &[u8],
+    ) -> Result<(), AllocError>
+        requires text { is_text line.now ≡ true }
+        requires lines { IsUtf8 lines.now }
+        requires whys { IsUtf8 (drop 1 whys.now) }
+        ensures { OnOk result (out.new ≡ out.old ++ object_pieces (number, line.now) first count lines.now whys.now) }
+    {
+        self.set(first, number);
+        self.push_any(alloc, out, line, count, lines, whys)
+    }
 }

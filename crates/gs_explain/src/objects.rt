@@ -12,7 +12,7 @@ ghost use Rattle.gs_trace.specs.Came.{reply_in};
 ghost use Rattle.gs_explain.specs.Marked.{IsMarked};
 ghost use Rattle.gs_explain.specs.Moment.{moment_of};
 ghost use Rattle.gs_explain.specs.Objects.{done_object, object_row};
-ghost use Rattle.gs_explain.specs.Outlined.{AreOutlined, HasTold, IsOutlined, nothing_object, outline_text, outlines_text, widened};
+ghost use Rattle.gs_explain.specs.Outlined.{AreOutlined, HasTold, IsKept, IsOutlined, nothing_object, outline_text, outlines_text, told_object, widened};
 ghost use Rattle.gs_explain.specs.Quiet.{quiet_object};
 ghost use Rattle.gs_explain.specs.Retold.{IsBegun, Moves};
 ghost use Rattle.gs_explain.specs.Stenciled.{IsStencil};
@@ -48,9 +48,50 @@ const BLOCK_LEN: usize = 61_440;
 /// Most objects have fewer bytes than so many.
 const OBJECT_LEN: usize = 4_096;
 
-/// Adds the object of an event, of which a text has the lines of the reply and the reasons, or which was refused.
-#[inline(always)]
+/// Adds the object of an event that is told aside: of which a text has the lines of the reply and the reasons, or which was refused.
+#[inline(never)]
 #[tactic(auto, using(crate::proofs::Outlining::has_parts, crate::proofs::Outlining::is_refused))]
+fn push_aside(
+    alloc: Global,
+    out: &mut Text,
+    pen: &mut Pen,
+    stencil: &mut Stencil,
+    text: &[u8],
+    told: &Told,
+    short: &Short<'_>,
+) -> Result<(), AllocError>
+    requires line { is_text short.now.line.now ≡ true }
+    requires told { IsKept text.now told.now }
+    requires stencil { IsStencil stencil.old }
+    ensures shown { OnOk result (out.new ≡ out.old ++ told_object (short.now.number, short.now.line.now) short.now.first text.now told.now) }
+    ensures kept { OnOk result (IsStencil stencil.new) }
+{
+    let Short {
+        line,
+        number,
+        first,
+        ..
+    } = *short;
+    match *told {
+        Told::Parts {
+            count,
+            from,
+            lines,
+            whys,
+        } => {
+            let mid = from + lines as usize;
+            let to = mid + whys as usize;
+            let lines = &text[from..mid];
+            let whys = &text[mid..to];
+            pen.push_seldom(alloc, out, number, line, first, count, lines, whys)
+        }
+        Told::Refused { at, tail } => stencil.push(alloc, out, number, line, first, at, &tail),
+    }
+}
+
+/// Adds the object of an event.
+#[inline(always)]
+#[tactic(auto, using(crate::proofs::Aside::parts_of, crate::proofs::Aside::kept_parts))]
 fn push_object(
     alloc: Global,
     out: &mut Text,
@@ -66,27 +107,22 @@ fn push_object(
     ensures shown { OnOk result (out.new ≡ out.old ++ outline_text text.now (widened asides.now short.now)) }
     ensures kept { OnOk result (IsStencil stencil.new) }
 {
-    let Short {
-        line,
-        number,
-        first,
-        ..
-    } = *short;
-    match short.told(asides) {
-        Told::Parts {
-            count,
-            from,
-            lines,
-            whys,
-        } => {
-            let mid = from + lines as usize;
-            let to = mid + whys as usize;
-            let lines = &text[from..mid];
-            let whys = &text[mid..to];
-            pen.push(alloc, out, number, line, first, count, lines, whys)
-        }
-        Told::Refused { at, tail } => stencil.push(alloc, out, number, line, first, at, &tail),
+    if short.is_aside() {
+        let told = short.told(asides);
+        return push_aside(alloc, out, pen, stencil, text, told, short);
     }
+    let (lines, whys) = short.told_in(text);
+    let count = short.count as u32;
+    pen.push(
+        alloc,
+        out,
+        short.number,
+        short.line,
+        short.first,
+        count,
+        lines,
+        whys,
+    )
 }
 
 /// Makes an empty block, with room for all that it mostly has before it is written.

@@ -1,9 +1,10 @@
 //! The events whose objects are put together at the end, in few bytes.
 
-ghost use Rattle.std.specs.Prelude.{◌≡◌, ◌<◌, ◌++◌, ◌∷◌, [], ℕ, IfOk, IfSome, IsTrue, List, OnErr, OnOk, get_or, length, map};
+ghost use Rattle.std.specs.Prelude.{◌≡◌, ◌+◌, ◌<◌, ◌==◌, ◌++◌, ◌∷◌, [], ℕ, IfOk, IfSome, IsTrue, List, OnErr, OnOk, get_or, length, map};
 ghost use Rattle.std.specs.List.{All};
 ghost use Rattle.gs_script.specs.Unread.{said_line};
-ghost use Rattle.gs_explain.specs.Outlined.{AddsTold, Grows, HasTold, told_of, untold, widened};
+ghost use Rattle.gs_sentences.specs.Parts.{part};
+ghost use Rattle.gs_explain.specs.Outlined.{AddsTold, Grows, HasParts, HasTold, told_of, untold, widened};
 ghost use Rattle.gs_explain.specs.declared.outline.Told.{Told};
 
 use crate::outline::{Outline, Told, short};
@@ -25,7 +26,7 @@ pub(crate) struct Short<'a> {
     whys: u16,
     lines: u8,
     /// How many entries it added, or `ASIDE`.
-    count: u8,
+    pub(crate) count: u8,
 }
 
 const _: () = prove!(size_of::<Short<'static>>() == 32);
@@ -78,21 +79,35 @@ impl<'a> Short<'a> {
         }
     }
 
-    /// Returns what is told of it.
+    /// Returns whether it is told aside.
     #[inline(always)]
-    pub(crate) fn told(&self, asides: &[Told]) -> Told
-        requires { HasTold (length asides.now) self.now }
-        ensures { result ≡ told_of asides.now self.now }
+    pub(crate) fn is_aside(&self) -> bool
+        ensures { result ≡ (self.now.count == 255) }
     {
-        if self.count == ASIDE {
-            return asides[self.at as usize];
-        }
-        Told::Parts {
-            count: self.count as u32,
-            from: self.at as usize,
-            lines: self.lines as u32,
-            whys: self.whys as u32,
-        }
+        self.count == ASIDE
+    }
+
+    /// Returns what is told of it aside.
+    #[inline(always)]
+    pub(crate) fn told<'t>(&self, asides: &'t [Told]) -> &'t Told
+        requires aside { self.now.count ≡ 255 }
+        requires told { HasTold (length asides.now) self.now }
+        ensures { result.now ≡ told_of asides.now self.now }
+    {
+        &asides[self.at as usize]
+    }
+
+    /// Returns the lines of its reply and its reasons, which a text has.
+    #[inline(always)]
+    pub(crate) fn told_in<'t>(&self, text: &'t [u8]) -> (&'t [u8], &'t [u8])
+        requires { HasParts text.now self.now.at (self.now.at + self.now.lines) (self.now.at + self.now.lines + self.now.whys) }
+        ensures lines { result.0.now ≡ part self.now.at (self.now.at + self.now.lines) text.now }
+        ensures whys { result.1.now ≡ part (self.now.at + self.now.lines) (self.now.at + self.now.lines + self.now.whys) text.now }
+    {
+        let from = self.at as usize;
+        let mid = from + self.lines as usize;
+        let to = mid + self.whys as usize;
+        (&text[from..mid], &text[mid..to])
     }
 }
 
