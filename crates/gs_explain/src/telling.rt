@@ -419,6 +419,72 @@ fn explain_commit<'a, P: Counted + Copy, T: Teller<'a>>(
     }
 }
 
+/// Adds what explains the reply to an event that is no command, as [`explain_came`] does. It is for replies that are seldom.
+#[inline(never)]
+fn explain_seldom<'a, P: Counted + Copy, T: Teller<'a>>(
+    machine: &Machine<P>,
+    lines: &mut Lines,
+    index: &mut Index,
+    last: &mut Marks,
+    out: &mut T,
+    said: &SaidLine<'a>,
+    event: &Event<()>,
+    first: usize,
+    stamped: usize,
+    reply: &Reply,
+) -> Result<(), AllocError>
+    requires text { is_text said.now.bytes.now ≡ true }
+    requires before { Stood first stamped index.old last.old.places.items (planning P.chosen machine.now) }
+    ensures { OnOk result (TellsOne T.show (noted_of lines.old) first (said_line said.now) event.now reply.now (planning P.chosen machine.now) (noted_of lines.new) index.new last.new.places.items (T.bytes out.old) (T.bytes out.new)) }
+{
+    match reply {
+        Reply::Refused(refusal) => explain_refusal(
+            machine, lines, index, last, out, said, event, first, stamped, *refusal,
+        ),
+        reply => {
+            let came = Came::Replied(reply);
+            explain_came(
+                machine, lines, index, last, out, said, event, first, stamped, came,
+            )
+        }
+    }
+}
+
+/// Lets a transaction land late, by its number.
+#[inline(never)]
+fn explain_late<'a, P: Counted + Copy, T: Teller<'a>>(
+    machine: &mut Machine<P>,
+    lines: &mut Lines,
+    index: &mut Index,
+    last: &mut Marks,
+    out: &mut T,
+    said: &SaidLine<'a>,
+    event: &Event<P>,
+    number: u32,
+) -> Result<(), AllocError>
+    requires text { is_text said.now.bytes.now ≡ true }
+    requires heard { HasHeard index.old machine.old.history }
+    requires marked { IsMarked last.old.places.items machine.old.transactions }
+    requires late { event.now ≡ Event.Late number }
+    ensures { OnOk result (ExplainsOne P.chosen T.show (noted_of lines.old) (planning P.chosen machine.old) (said_line said.now) event.now (planning P.chosen machine.new) (noted_of lines.new) index.new last.new.places.items (T.bytes out.old) (T.bytes out.new)) }
+{
+    let first = machine.kernel().journal().len();
+    let stamped = machine.transactions().len();
+    let reply = &machine.step(event);
+    let event = Event::Late { number };
+    match reply {
+        Reply::Late { .. } => {
+            let came = Came::Replied(reply);
+            explain_came(
+                machine, lines, index, last, out, said, &event, first, stamped, came,
+            )
+        }
+        reply => explain_seldom(
+            machine, lines, index, last, out, said, &event, first, stamped, reply,
+        ),
+    }
+}
+
 /// Lets any event happen.
 #[inline(never)]
 fn explain_step<'a, P: Counted + Copy, T: Teller<'a>>(
@@ -480,6 +546,9 @@ fn explain_one<'a, P: Counted + Copy, T: Teller<'a>>(
         }
         Event::Commit { mask } => {
             explain_commit(machine, lines, index, last, out, said, *mask, landings)
+        }
+        Event::Late { number } => {
+            explain_late(machine, lines, index, last, out, said, event, *number)
         }
         _ => explain_step(machine, lines, index, last, out, said, event),
     }
