@@ -29,7 +29,6 @@ use Rattle.gs_explain.specs.Tailed.{at_of, tail_refusal}
 use Rattle.gs_explain.proofs.Tailing.{not_part, refused_row}
 use Rattle.std.specs.Str.Lines.{lines as lines_in}
 use Rattle.serde_json.specs.Written.{compact_text}
-use Rattle.gs_kernel.specs.declared.landing.Landing.{Landing}
 use Rattle.gs_lines.specs.Lines.{line}
 use Rattle.gs_script.specs.Words.{is_text}
 use Rattle.gs_explain.specs.Objects.{none_why, object_row, row_data, whys}
@@ -262,11 +261,6 @@ quiet_told old mid new lines why begin middle to from_at at to_end first_part la
 
 pub nothing_told : (old new : List ℕ) (from to : ℕ) → from ≡ length old → to ≡ length new → new ≡ old ++ behind_commas (none_why []) → IsUtf8 old → IsUtf8 new → TellsNothing new (tolds.Parts 0 from (from - from) (to - from))
 nothing_told old new from to at end is u v = quiet_told old old new [] (none_why []) from from to at at end (sym (append-nil old)) is u u v
-
--- the object of such a commit
-pub nothing_row : (said : ℕ × List ℕ) (x : Moment) (landings : List Landing) (first : ℕ) → length landings ≡ 0 → length x.history ≡ first → object_row said x first (replies.Landed landings false) ≡ nothing_object said first
-nothing_row said x [] first none all = λ i. line (compact_text (row_data said first (all i) [] (none_why [])))
-nothing_row said x (l ∷ ls) first none all = absurd (omega arith)
 
 -- one more event, by what a text tells of such
 told_stands : (o : Outline) (t : Told) (said : ℕ × List ℕ) (first : ℕ) (row : ℕ × List ℕ → ℕ → List ℕ) (text : List ℕ) → NotesTold said first t o → Tells text row t → is_text said.1 ≡ true → IsOutlined text o
