@@ -1,6 +1,6 @@
 //! Objects of events that were refused, which are alike but for a line and some numbers.
 
-ghost use Rattle.std.specs.Prelude.{◌≡◌, ◌++◌, ◌∷◌, [], IfOk, OnOk, codes, drop, false, length, true};
+ghost use Rattle.std.specs.Prelude.{◌≡◌, ◌++◌, ◌∷◌, [], OnOk, codes, drop, false, length, true};
 ghost use Rattle.std.specs.Bool.{OnFalse, OnTrue};
 ghost use Rattle.std.specs.Str.{IsUtf8};
 ghost use Rattle.gs_lines.specs.Lines.{reply_lines};
@@ -110,30 +110,6 @@ fn reason_in<'a>(told: &'a [u8], reply_len: usize, tail: &Tail) -> &'a [u8]
     &told[reply_len + 1..told.len() - 1]
 }
 
-/// Sets what objects have behind the script's line, by what is told. Returns their reply in quotation marks.
-#[inline(never)]
-fn set_tail(
-    alloc: Global,
-    sentence: &mut Sentence,
-    end: &mut Text,
-    at: Option<(u32, u32)>,
-    tail: &Tail,
-) -> Result<&'static str, AllocError>
-    requires { is_part tail.now ≡ false }
-    ensures reply { IfOk result (λ reply. reply.now ≡ quoted_reply (tail_refusal tail.now)) }
-    ensures end { OnOk result (end.new ≡ end_of at tail.now) }
-{
-    let refusal = refusal_in(tail);
-    let reply = quoted_reply(refusal);
-    sentence.clear();
-    put_tail(sentence, tail);
-    let reason = reason_in(sentence.as_bytes(), reply.len(), tail);
-    end.clear();
-    push_place(end, at)?;
-    push_end(alloc, end, refusal_word(refusal), reason)?;
-    Ok(reply)
-}
-
 /// Adds an object, if no byte of the script's line has to be escaped and there is room for it. Returns whether it did.
 #[inline(always)]
 fn fit<'x>(
@@ -203,6 +179,33 @@ impl Stencil {
         }
     }
 
+    /// Takes what objects have beside the script's line by what is told.
+    #[inline(never)]
+    fn set_tail(
+        &mut self,
+        alloc: Global,
+        at: Option<(u32, u32)>,
+        tail: &Tail,
+    ) -> Result<(), AllocError>
+        requires { is_part tail.now ≡ false }
+        ensures kept { OnOk result (IsStencil self.new) }
+        ensures reply { OnOk result (self.new.reply.now ≡ quoted_reply (tail_refusal tail.now)) }
+        ensures end { OnOk result (self.new.end ≡ end_of at tail.now) }
+    {
+        let refusal = refusal_in(tail);
+        let reply = quoted_reply(refusal);
+        self.sentence.clear();
+        put_tail(&mut self.sentence, tail);
+        let reason = reason_in(self.sentence.as_bytes(), reply.len(), tail);
+        self.end.clear();
+        push_place(&mut self.end, at)?;
+        push_end(alloc, &mut self.end, refusal_word(refusal), reason)?;
+        self.reply = reply;
+        self.at = at;
+        self.tail = *tail;
+        Ok(())
+    }
+
     /// Keeps what objects have by what is told, unless it is that of the last one.
     #[inline(always)]
     fn keep_tail(
@@ -220,10 +223,7 @@ impl Stencil {
         if self.tail.is_same(tail) && self.at == at {
             return Ok(());
         }
-        self.reply = set_tail(alloc, &mut self.sentence, &mut self.end, at, tail)?;
-        self.at = at;
-        self.tail = *tail;
-        Ok(())
+        self.set_tail(alloc, at, tail)
     }
 
     /// Adds the object of an event that was refused, and before which so many entries stand.
