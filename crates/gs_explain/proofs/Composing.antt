@@ -1,5 +1,5 @@
 -- The pieces of an object, one after another, are the object as compact JSON.
-use Rattle.std.proofs.Common.{◌≡◌, ◌∙◌, refl, sym, ap, ℕ, ◌-◌, true, false, Option, None, Some, List, [], ◌∷◌, ◌++◌, append_assoc, append-nil, arith, codes, drop, length, map}
+use Rattle.std.proofs.Common.{◌≡◌, ◌∙◌, refl, sym, ap, ℕ, ◌-◌, true, false, Option, None, Some, List, [], ◌∷◌, ◌++◌, append_assoc, append-nil, codes, drop, length, map}
 use Rattle.std.specs.Prelude.{decimal}
 use Rattle.std.specs.Fmt.{digits}
 use Rattle.std.specs.Str.Lines.{lines as lines_in}

@@ -1,5 +1,5 @@
 -- A row of a text that is written at once.
-use Rattle.std.specs.Prelude.{◌+◌, ◌*◌, ◌++◌, ℕ, List, decimal, length}
+use Rattle.std.specs.Prelude.{◌+◌, ◌++◌, ℕ, List, decimal, length}
 use Rattle.gs_text.specs.declared.row.Row.{Row}
 
 -- its parts one behind another

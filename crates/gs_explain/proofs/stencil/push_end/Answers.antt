@@ -1,4 +1,4 @@
-use Rattle.std.proofs.Common.{◌∙◌, ap, ℕ, List, ◌++◌, codes}
+use Rattle.std.proofs.Common.{◌∙◌, ℕ, List, ◌++◌, codes}
 use Rattle.std.proofs.lemmas.Result.{on_ok_weaker}
 use Rattle.gs_explain.proofs.Composing.{last_reason}
 use Rattle.gs_explain.proofs.stencil.push_end.Goals as goal

@@ -1,4 +1,3 @@
-use Rattle.std.proofs.Common.{rules}
 use Rattle.gs_explain.proofs.Quoting.{utf8_front}
 use Rattle.gs_explain.proofs.object.Pen.fit.Goals as goal
 

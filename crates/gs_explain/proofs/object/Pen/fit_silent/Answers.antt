@@ -1,4 +1,4 @@
-use Rattle.std.proofs.Common.{◌≡◌, ◌∙◌, ap, ℕ, List, [], ◌++◌, append_assoc, codes, decimal, drop}
+use Rattle.std.proofs.Common.{◌∙◌, ap, ℕ, List, [], ◌++◌, codes, decimal}
 use Rattle.std.proofs.lemmas.Bool.{OnTrue_at, OnTrue_from}
 use Rattle.gs_explain.proofs.Composing.{silent_object}
 use Rattle.gs_explain.proofs.object.Pen.fit_silent.Goals as goal
