@@ -343,6 +343,7 @@ fn explain_stamp<'a, P: Counted + Copy, T: Teller<'a>>(
 {
     let first = machine.kernel().journal().len();
     let stamped = machine.transactions().len();
+    let event = Event::Stamp { cpu, tid, flags };
     match machine.stamp(cpu, tid, flags) {
         Ok(number) => {
             if machine.kernel().journal().len() == first {
@@ -356,7 +357,6 @@ fn explain_stamp<'a, P: Counted + Copy, T: Teller<'a>>(
                     machine, lines, index, last, out, said, first, stamped, quiet,
                 );
             }
-            let event = Event::Stamp { cpu, tid, flags };
             let came = Came::Stamped {
                 cpu,
                 tid,
@@ -367,12 +367,9 @@ fn explain_stamp<'a, P: Counted + Copy, T: Teller<'a>>(
                 machine, lines, index, last, out, said, &event, first, stamped, came,
             )
         }
-        Err(refusal) => {
-            let event = Event::Stamp { cpu, tid, flags };
-            explain_other_refusal(
-                machine, lines, index, last, out, said, &event, first, stamped, refusal,
-            )
-        }
+        Err(refusal) => explain_other_refusal(
+            machine, lines, index, last, out, said, &event, first, stamped, refusal,
+        ),
     }
 }
 
