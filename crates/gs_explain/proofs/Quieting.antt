@@ -14,4 +14,3 @@ nothing_line old a d b l n r =
     let x : List ℕ = a ++ d ++ b ++ l in
     let grow : old ++ x ≡ old ++ a ++ d ++ b ++ l = sym (append_assoc old (a ++ d ++ b) l) ∙ ap (λ (t : List ℕ). t ++ l) (sym (append_assoc old (a ++ d) b) ∙ ap (λ (t : List ℕ). t ++ b) (sym (append_assoc old a d))) in
     sym (ap (λ (t : List ℕ). old ++ t) (append_assoc x n r) ∙ (sym (append_assoc old x (n ++ r)) ∙ ap (λ (t : List ℕ). t ++ (n ++ r)) grow))
-
