@@ -10,7 +10,7 @@ use Rattle.gs_explain.specs.declared.outline.Told.{Told}
 use Rattle.gs_explain.specs.declared.outline.Told.TheVariants as tolds
 use Rattle.gs_explain.specs.declared.outlines.Short.{Short}
 use Rattle.gs_sentences.specs.declared.tail.Tail.TheVariants as tails
-use Rattle.gs_explain.specs.Outlined.{Grows, HasParts, HasTold, IsKept, IsOutlined, outline_text, outlines_text, told_of, untold, widened}
+use Rattle.gs_explain.specs.Outlined.{Grows, HasParts, HasTold, IsKept, IsOutlined, outlines_text, told_of, untold, widened}
 use Rattle.gs_explain.specs.Retold.{Leads}
 
 -- an event that is told in a text, and one that is told aside, of two

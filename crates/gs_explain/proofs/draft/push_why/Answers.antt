@@ -1,7 +1,7 @@
-use Rattle.std.proofs.Common.{◌≡◌, ◌∙◌, ap, ℕ, List, ◌++◌, append_assoc, codes}
+use Rattle.std.proofs.Common.{◌≡◌, ◌∙◌, ℕ, List, ◌++◌, append_assoc, codes}
 use Rattle.std.proofs.lemmas.Result.{on_ok_weaker}
 use Rattle.json.specs.Print.{quoted}
-use Rattle.gs_explain.specs.Composed.{option_json, reason_pieces}
+use Rattle.gs_explain.specs.Composed.{option_json}
 use Rattle.gs_explain.proofs.Composing.{plain_reason}
 use Rattle.gs_explain.proofs.draft.push_why.Goals as goal
 
