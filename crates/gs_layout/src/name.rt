@@ -47,6 +47,7 @@ impl Name {
 
     /// Returns the name of these bytes, or `None` if they are over [`MOST_NAME_LEN`] or one of them is not
     /// from 33 to 126.
+    #[inline(always)]
     pub fn new(text: &[u8]) -> Option<Name>
         ensures some { IsSome result ↔ (is_name text.now ≡ true) }
         ensures value { IfSome result (λ name. name ≡ text.now) }

@@ -83,6 +83,7 @@ pub(crate) fn mask(word: &str) -> Result<u128, Reason>
 }
 
 /// A thread's name, of which `-` is the empty one.
+#[inline(always)]
 pub(crate) fn name(word: &[u8]) -> Result<Name, Reason>
     ensures { result ≡ name_in word.now }
 {

@@ -78,6 +78,7 @@ impl ThreadTable {
     /// # Errors
     ///
     /// `AllocError` if out of memory. Nothing changes then.
+    #[inline(always)]
     pub fn reserve(&mut self) -> Result<(), AllocError>
         requires { length self.old.rows < u32.MAX }
         ensures room { OnOk result (0 < self.new.room) }
