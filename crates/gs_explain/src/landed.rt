@@ -173,7 +173,8 @@ pub(crate) fn landed<'a>(
     }
 }
 
-/// Returns why a late landing came out so, by itself. An index has heard all entries.
+/// Returns why a late landing came out so, by itself. An index has heard all entries. It is folded with all that it calls: where it is only
+/// compared with what is kept, nothing of it is put into memory then.
 #[inline(always)]
 pub(crate) fn landed_late<'a>(scene: &Scene<'a>, index: &Index, landing: &'a Landing) -> Landed<'a>
     requires heard { HasHeard index.now scene.now.journal.now.entries }

@@ -24,6 +24,7 @@ fn same_change(one: &Change, other: &Change) -> bool
 {
     match (one, other) {
         (Change::Created { facts }, Change::Created { facts: f }) => {
+            // (a copy, so that the rest of the other entry need not stand in memory)
             let other = *f;
             same_facts(facts, &other)
         }
@@ -63,7 +64,8 @@ fn same_message(one: &Message, other: &Message) -> bool
     }
 }
 
-/// Returns whether these are the same entries of a journal.
+/// Returns whether these are the same entries of a journal. It is folded where it is called. The comparison that [`Entry`] derives is a call,
+/// and both entries stand in memory for it.
 #[inline(always)]
 pub(crate) fn same_entry(one: &Entry, other: &Entry) -> bool
     ensures { IsTrue result ↔ (one.now ≡ other.now) }

@@ -11,15 +11,19 @@ use crate::forwards::{put_digit, put_digits, put_few_behind, put_texts};
 /// words at the end.
 #[derive(Clone, Copy)]
 pub struct Row<'a> {
+    /// Words, and a digit from 0 to 9.
     pub digit: (&'a str, u8),
+    /// Words, and a number.
     pub first: (&'a str, &'a Digits),
+    /// Words, and another number.
     pub second: (&'a str, &'a Digits),
-    /// A few bytes.
+    /// Words, and any bytes that are UTF-8. Four to 32 are copied without a call.
     pub few: (&'a str, &'a [u8]),
-    /// A few bytes too.
+    /// Words, and such bytes once more.
     pub line: (&'a str, &'a [u8]),
-    /// Any bytes.
+    /// Words, and any bytes that are UTF-8. They are copied by a call, if there are some.
     pub rest: (&'a str, &'a [u8]),
+    /// The words at the end.
     pub end: &'a str,
 }
 

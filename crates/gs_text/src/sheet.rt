@@ -393,7 +393,8 @@ impl Sheet {
         Ok(())
     }
 
-    /// Adds a row, of which all bytes are UTF-8, if there is room for it. Returns whether it did.
+    /// Adds a row, of which all bytes are UTF-8, if the text has room for it without new memory. Returns whether it did: if not, nothing is
+    /// added. No clause says when there is room, so whoever calls it has another way to write the same.
     #[inline(always)]
     pub fn fit_row(&mut self, row: Row<'_>) -> bool
         requires digit { row.digit.1 < 10 }
