@@ -8,15 +8,22 @@ ghost use Rattle.gs_layout.specs.Spelling.{facts_bytes, flags_of, header_of, mor
 use crate::cpu::cpu_number;
 use crate::facts::{Class, Facts};
 use crate::message::{Change, Message};
-use crate::name::MOST_NAME_LEN;
+use crate::name::{MOST_NAME_LEN, Name};
 use crate::wire::{
-    AFFINITY_LEN, ALIGNMENT, CLASS_AT, CPU_AT, FLAGS_AT, HEADER_LEN, KIND_AT, MASK_LEN, NAME_AT,
-    TID_AT, TSEQ_AT,
+    AFFINITY_LEN, ALIGNMENT, CLASS_AT, CPU_AT, FLAGS_AT, HEADER_LEN, KIND_AT, LEAST_CREATION_LEN,
+    MASK_LEN, NAME_AT, TID_AT, TSEQ_AT,
 };
 use byteorder::{ByteOrder, LittleEndian};
 
 /// How many bytes the class of a creation and the length of its name have.
 const SIZES_LEN: usize = NAME_AT - CLASS_AT;
+
+/// How many bytes a creation may have for its name, with the zeros behind it: so many, or one of two more counts.
+const SHORT_LEN: usize = LEAST_CREATION_LEN - NAME_AT;
+
+const MIDDLE_LEN: usize = SHORT_LEN + ALIGNMENT;
+
+const LONG_LEN: usize = MIDDLE_LEN + ALIGNMENT;
 
 /// The numbers of a message's header.
 #[derive(Clone, Copy)]
@@ -105,24 +112,26 @@ fn write_header(header: &Header, out: &mut [u8])
     LittleEndian::write_u16(&mut out[FLAGS_AT..], header.flags);
 }
 
-/// Writes a name and the zeros behind it.
-fn write_name(name: &[u8], out: &mut [u8])
-    requires short { length name.now ≤ MOST_NAME_LEN }
-    requires room { length (name_bytes name.now) ≤ length out.old }
+/// Writes a name and the zeros behind it. How many bytes these are is known in each arm, so that none takes a call.
+fn write_name(name: &Name, out: &mut [u8])
+    requires { length (name_bytes name.now) ≤ length out.old }
     ensures { out.new ≡ name_bytes name.now ++ drop (length (name_bytes name.now)) out.old }
 {
-    let end = creation_len(name.len()) - NAME_AT;
-    out[..name.len()].copy_from_slice(name);
-    out[name.len()..end].fill(0);
+    let mut padded = [0; LONG_LEN];
+    padded[..MOST_NAME_LEN].copy_from_slice(name.as_padded());
+    match creation_len(name.as_bytes().len()) - NAME_AT {
+        SHORT_LEN => out[..SHORT_LEN].copy_from_slice(&padded[..SHORT_LEN]),
+        MIDDLE_LEN => out[..MIDDLE_LEN].copy_from_slice(&padded[..MIDDLE_LEN]),
+        _ => out[..LONG_LEN].copy_from_slice(&padded),
+    }
 }
 
 /// Writes a class, the length of a name, the name and the zeros behind it.
-fn write_class(class: Class, name: &[u8], out: &mut [u8])
-    requires short { length name.now ≤ MOST_NAME_LEN }
-    requires room { SIZES_LEN + length (name_bytes name.now) ≤ length out.old }
+fn write_class(class: Class, name: &Name, out: &mut [u8])
+    requires { SIZES_LEN + length (name_bytes name.now) ≤ length out.old }
     ensures { out.new ≡ (class_number class ∷ length name.now ∷ name_bytes name.now) ++ drop (length (class_number class ∷ length name.now ∷ name_bytes name.now)) out.old }
 {
-    out[..SIZES_LEN].copy_from_slice(&[class.number(), name.len() as u8]);
+    out[..SIZES_LEN].copy_from_slice(&[class.number(), name.as_bytes().len() as u8]);
     write_name(name, &mut out[SIZES_LEN..]);
 }
 
@@ -131,7 +140,7 @@ fn write_facts(facts: &Facts, out: &mut [u8])
     ensures { out.new ≡ facts_bytes facts.now ++ drop (length (facts_bytes facts.now)) out.old }
 {
     LittleEndian::write_u128(out, facts.mask.bits());
-    write_class(facts.class, facts.name.as_bytes(), &mut out[MASK_LEN..]);
+    write_class(facts.class, &facts.name, &mut out[MASK_LEN..]);
 }
 
 /// Writes the bytes behind the header.

@@ -30,11 +30,19 @@ impl Model for Name {
     ghost inverse_ok = { held_of-text };
 }
 
+/// Returns whether a byte may stand in a name.
+#[inline(always)]
+fn is_name_byte(byte: u8) -> bool
+    ensures { result ≡ is_name_byte byte }
+{
+    33 <= byte && byte <= 126
+}
+
 /// Returns whether each byte may stand in a name.
 fn is_printed(text: &[u8]) -> bool
     ensures { result ≡ list_all is_name_byte text.now }
 {
-    text.iter().all(|byte| 33 <= *byte && *byte <= 126)
+    text.iter().all(|byte| is_name_byte(*byte))
 }
 
 impl Name {
@@ -52,11 +60,16 @@ impl Name {
         ensures some { IsSome result ↔ (is_name text.now ≡ true) }
         ensures value { IfSome result (λ name. name ≡ text.now) }
     {
-        if !Name::is_name(text) {
+        if text.len() > MOST_NAME_LEN {
             return None;
         }
         let mut bytes = [0; MOST_NAME_LEN];
-        bytes[..text.len()].copy_from_slice(text);
+        for n in 0..text.len() {
+            if !is_name_byte(text[n]) {
+                return None;
+            }
+            bytes[n] = text[n];
+        }
         Some(Name {
             bytes,
             len: text.len() as u8,

@@ -1,4 +1,4 @@
-use Rattle.std.proofs.Common.{List, ℕ, ◌++◌, ◌∷◌, ◌-◌, take, drop, length, refl, ap, ◌∙◌, arith}
+use Rattle.std.proofs.Common.{List, ℕ, ◌++◌, ◌∷◌, drop, length, refl, ap, ◌∙◌, arith}
 use Rattle.byteorder.specs.Endian.{little_bytes}
 use Rattle.gs_layout.specs.declared.wire.TheConstants.{MASK_LEN}
 use Rattle.gs_layout.specs.Class.{class_number}
@@ -14,4 +14,4 @@ returns c =
     let named : List ℕ → List ℕ = λ name. class_number f.class ∷ (length name ∷ name_bytes name) in
     joined MASK_LEN (little_bytes MASK_LEN f.mask) (class_number f.class ∷ (length f.name ∷ name_bytes f.name)) out c.write_u128.new.buf c.write_class.new.out refl (omega arith)
     (c.write_u128.ensures ∙ ap (λ (m : ℕ). little_bytes MASK_LEN m ++ drop MASK_LEN out) c.bits.ensures)
-    (c.write_class.ensures ∙ ap (λ (name : List ℕ). named name ++ drop (length (named name)) (take (length whole - MASK_LEN) (drop MASK_LEN whole))) c.as_bytes.ensures.value)
+    c.write_class.ensures

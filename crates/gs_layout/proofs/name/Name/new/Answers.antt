@@ -1,13 +1,19 @@
-use Rattle.std.proofs.Common.{◌≡◌, true, List, ℕ, ◌++◌, drop, length, replicate, sym, ◌∙◌, subst}
-use Rattle.gs_layout.specs.declared.name.TheConstants.{MOST_NAME_LEN}
-use Rattle.gs_layout.specs.Name.{is_name}
-use Rattle.gs_layout.specs.NameHeld.{IsHeld}
-use Rattle.gs_layout.proofs.Names.{made}
+use Rattle.std.proofs.Common.{◌<◌, Bool, List, ℕ, length, get_or, ap, sym, ◌∙◌, arith}
+use Rattle.std.specs.Prelude.{◌&&◌, slice_set}
+use Rattle.std.proofs.lemmas.List.Folds.{list_all_more}
+use Rattle.gs_layout.specs.Name.{is_name_byte}
+use Rattle.gs_layout.proofs.Names.{kept_more}
 use Rattle.gs_layout.proofs.name.Name.new.Goals as goal
 
-pub invariant_of-result : goal.invariant_of-result
-invariant_of-result c =
+pub loop-n-preserved : goal.loop-n-preserved
+loop-n-preserved c =
     let text : List ℕ = c.args.text.now in
-    let named : is_name text ≡ true = sym c.is_name.ensures ∙ c.if-not-is_name.false in
-    subst (λ (bytes : List ℕ). IsHeld (record { bytes = bytes ++ drop (length text) (replicate MOST_NAME_LEN 0); len = length text })) (sym c.copy_from_slice.ensures.after)
-    (made text named)
+    let n : ℕ = c.loop-n.n in
+    let low : n < length text = omega arith in
+    record {
+      few = c.loop-n.invariant.few;
+      kept = ap (λ (bytes : List ℕ). slice_set bytes n (get_or text n 0)) c.loop-n.invariant.kept ∙ kept_more text n low c.loop-n.invariant.few;
+      all =
+          list_all_more is_name_byte text n 0 low
+          ∙ (ap (λ (b : Bool). b && is_name_byte (get_or text n 0)) c.loop-n.invariant.all ∙ (sym c.is_name_byte.ensures ∙ c.if-not-is_name_byte.false));
+    }
