@@ -1,7 +1,7 @@
 //! Commands are executed.
 
-ghost use Rattle.std.specs.Prelude.{◌≡◌, ◌≤◌, IfErr, OnErr, OnOk, None, Some};
-ghost use Rattle.gs_journal.specs.History.{posted};
+ghost use Rattle.std.specs.Prelude.{◌≡◌, ◌≤◌, IfErr, ℕ, OnErr, OnOk, Option, None, Some, false};
+ghost use Rattle.gs_journal.specs.History.{posted, torn};
 ghost use Rattle.gs_kernel.specs.declared.command.Command.{Command};
 ghost use Rattle.gs_kernel.specs.declared.thread_event.ThreadEvent.{ThreadEvent};
 ghost use Rattle.gs_kernel.specs.Legal.{IsServed, is_done, own_refusal, refusal, standing_with};
@@ -57,6 +57,7 @@ impl<P: Poster> Kernel<P> {
     fn happen_known(&mut self, tid: u32, event: &ThreadEvent) -> Result<Executed, Refusal>
         ensures { IsServed P.same P.consumed P.posted P.tight self.old (Command.Thread tid event.now) result self.new }
     {
+        self.stand()?;
         let own = self.thread_refusal(tid, *event);
         self.admit(own, 1)?;
         Ok(executed(self.tell_happening(tid, *event)))
@@ -126,9 +127,7 @@ impl<P: Poster> Kernel<P> {
         ensures ok { OnOk result (unless_torn self.now.history (standing_with self.now.settings self.now.history own entries) ≡ None) }
         ensures err { IfErr result (λ e. unless_torn self.now.history (standing_with self.now.settings self.now.history own entries) ≡ Some e) }
     {
-        if self.torn {
-            return Err(Refusal::Gone);
-        }
+        self.stand()?;
         if let Some(refusal) = own {
             return Err(refusal);
         }
@@ -138,10 +137,27 @@ impl<P: Poster> Kernel<P> {
         Ok(())
     }
 
-    /// Makes room for the entries of a command that has this refusal of its own, or refuses it.
+    /// Refuses any command if the enclave was torn down.
+    #[inline(always)]
+    fn stand(&self) -> Result<(), Refusal>
+        ensures ok { OnOk result (torn self.now.history ≡ false) }
+        ensures err { IfErr result (λ e. (other : Option Refusal) → unless_torn self.now.history other ≡ Some e) }
+        ensures refused { IfErr result (λ e. (own : Option Refusal) (n : ℕ) → IsRefusal (unless_torn self.now.history (standing_with self.now.settings self.now.history own n)) e) }
+        ensures told { P.posted self.now.poster (posted self.now.history) }
+    {
+        // Reads a field to expose the invariant.
+        let _settings = &self.settings;
+        if self.torn {
+            return Err(Refusal::Gone);
+        }
+        Ok(())
+    }
+
+    /// Makes room for the entries of a command that has this refusal of its own, or refuses it. The enclave stands.
     #[inline(always)]
     fn admit(&mut self, own: Option<Refusal>, entries: usize) -> Result<(), Refusal>
-        requires { entries ≤ 2 }
+        requires few { entries ≤ 2 }
+        requires stands { torn self.old.history ≡ false }
         ensures ok { OnOk result (unless_torn self.old.history (standing_with self.old.settings self.old.history own entries) ≡ None) }
         ensures room { OnOk result (entries ≤ self.new.room) }
         ensures same { self.new ≡ record self.old { room = self.new.room } }
@@ -151,9 +167,10 @@ impl<P: Poster> Kernel<P> {
     {
         // Reads a field to expose the invariant.
         let _settings = &self.settings;
-        self.check(own, entries)?;
-        self.make_room(entries)?;
-        Ok(())
+        match own {
+            Some(refusal) => Err(refusal),
+            None => self.journal.reserve(entries),
+        }
     }
 
     /// Makes room for `entries` more entries.
@@ -173,6 +190,7 @@ impl<P: Poster> Kernel<P> {
     pub fn create(&mut self, facts: &Facts) -> Result<Executed, Refusal>
         ensures { IsServed P.same P.consumed P.posted P.tight self.old (Command.Create facts.now) result self.new }
     {
+        self.stand()?;
         let own = self.create_refusal(facts);
         self.check(own, 1)?;
         self.threads.reserve()?;
@@ -219,6 +237,7 @@ impl<P: Poster> Kernel<P> {
     pub fn take(&mut self, cpu: u16) -> Result<Executed, Refusal>
         ensures { IsServed P.same P.consumed P.posted P.tight self.old (Command.Take cpu) result self.new }
     {
+        self.stand()?;
         let own = self.take_refusal(cpu);
         self.admit(own, 2)?;
         Ok(executed(self.tell_taking(cpu)))
@@ -228,6 +247,7 @@ impl<P: Poster> Kernel<P> {
     pub fn give(&mut self, cpu: u16) -> Result<Executed, Refusal>
         ensures { IsServed P.same P.consumed P.posted P.tight self.old (Command.Give cpu) result self.new }
     {
+        self.stand()?;
         let own = self.give_refusal(cpu);
         self.admit(own, 1)?;
         Ok(executed(self.tell_giving(cpu)))
@@ -237,6 +257,7 @@ impl<P: Poster> Kernel<P> {
     pub fn tick(&mut self, cpu: u16) -> Result<Executed, Refusal>
         ensures { IsServed P.same P.consumed P.posted P.tight self.old (Command.Tick cpu) result self.new }
     {
+        self.stand()?;
         let own = self.tick_refusal(cpu);
         self.admit(own, 1)?;
         Ok(executed(self.tell_tick(cpu)))
@@ -246,6 +267,7 @@ impl<P: Poster> Kernel<P> {
     pub fn hand_off(&mut self, cpu: u16) -> Result<Executed, Refusal>
         ensures { IsServed P.same P.consumed P.posted P.tight self.old (Command.HandOff cpu) result self.new }
     {
+        self.stand()?;
         let own = self.hand_off_refusal(cpu);
         self.admit(own, 2)?;
         Ok(executed(self.tell_hand_off(cpu)))
@@ -255,6 +277,7 @@ impl<P: Poster> Kernel<P> {
     pub fn leave(&mut self) -> Result<Executed, Refusal>
         ensures { IsServed P.same P.consumed P.posted P.tight self.old Command.Leave result self.new }
     {
+        self.stand()?;
         let own = self.leave_refusal();
         self.admit(own, 1)?;
         Ok(executed(self.tell_leaving()))
@@ -264,6 +287,7 @@ impl<P: Poster> Kernel<P> {
     pub fn begin(&mut self) -> Result<Executed, Refusal>
         ensures { IsServed P.same P.consumed P.posted P.tight self.old Command.Begin result self.new }
     {
+        self.stand()?;
         let own = self.begin_refusal();
         self.admit(own, 1)?;
         let fits = self.tell_beginning();
@@ -275,6 +299,7 @@ impl<P: Poster> Kernel<P> {
     pub fn activate(&mut self, cpu: u16) -> Result<Executed, Refusal>
         ensures { IsServed P.same P.consumed P.posted P.tight self.old (Command.Activate cpu) result self.new }
     {
+        self.stand()?;
         let own = self.activate_refusal(cpu);
         self.admit(own, 2)?;
         Ok(executed(self.tell_activation(cpu)))

@@ -5,18 +5,8 @@ use Rattle.std.proofs.Math.Nat.{mod-eq_of_lt, mod-le}
 use Rattle.std.proofs.lemmas.Bool.{cases_lt}
 use Rattle.std.proofs.lemmas.List.{drop-append-le, length-replicate, replicate-append-replicate, take-append-drop, take-append-le, take_all}
 use Rattle.byteorder.specs.Endian.{little_number}
-use Rattle.gs_layout.specs.declared.message.Message.{Message}
-use Rattle.gs_layout.specs.declared.wire.TheConstants.{ALIGNMENT}
 use Rattle.gs_layout.specs.Reading.{number_at}
-use Rattle.gs_layout.specs.Spelling.{spelling}
-use Rattle.gs_ring.specs.Block.{block_with, put_at}
 use Rattle.gs_ring.specs.Memory.{filled_up}
-use Rattle.gs_ring.specs.Places.{pad_bytes, record_len}
-use Rattle.gs_ring.proofs.Pads.{length-pad_bytes}
-use Rattle.gs_ring.proofs.Written.{length-put_at}
-
-pub length-filled_up : (t : List ℕ) (size : ℕ) → length t ≤ size → length (filled_up t size) ≡ size
-length-filled_up t size fits = omega (arith, length-append t (replicate (size - length t) 0), length-replicate {A = ℕ} (size - length t) 0)
 
 -- zeros that are touched are zeros still
 more_by : (t : List ℕ) (k j n : ℕ) → k + j ≡ n → (t ++ replicate k 0) ++ replicate j 0 ≡ t ++ replicate n 0
@@ -25,40 +15,6 @@ more_by t k j n sum = append_assoc t (replicate k 0) (replicate j 0) ∙ ap (λ 
 filled_up-more : (t : List ℕ) (k size : ℕ) → length t + k ≤ size → filled_up (t ++ replicate k 0) size ≡ filled_up t size
 filled_up-more t k size fits =
     more_by t k (size - length (t ++ replicate k 0)) (size - length t) (omega (arith, fits, length-append t (replicate k 0), length-replicate {A = ℕ} k 0))
-
--- bytes that are written over some that were touched
-joined : (f f' more d d' zs : List ℕ) → f' ≡ f → d' ≡ d ++ zs → ((f ++ more) ++ d) ++ zs ≡ (f' ++ more) ++ d'
-joined f f' more d d' zs front back = append_assoc (f ++ more) d zs ∙ ap (λ l. (f ++ more) ++ l) (sym back) ∙ ap (λ l. (l ++ more) ++ d') (sym front)
-
-put_at-front : (at : ℕ) (more t zs : List ℕ) → at + length more ≤ length t → put_at at more t ++ zs ≡ put_at at more (t ++ zs)
-put_at-front at more t zs fits =
-    joined (take at t) (take at (t ++ zs)) more (drop (at + length more) t) (drop (at + length more) (t ++ zs)) zs (take-append-le at t zs (omega (arith, fits))) (drop-append-le (at + length more) t zs fits)
-
-filled_up-put_at : (at : ℕ) (more t : List ℕ) (size : ℕ) → at + length more ≤ length t → filled_up (put_at at more t) size ≡ put_at at more (filled_up t size)
-filled_up-put_at at more t size fits =
-    ap (λ n. put_at at more t ++ replicate (size - n) 0) (length-put_at at more t fits) ∙ put_at-front at more t (replicate (size - length t) 0) fits
-
--- a message that is written over bytes that were touched is written into the whole block
-pub record Over (b new : List ℕ) (size n w k : ℕ) (m : Message) : Type 0 where
-  pub count : length new ≡ n
-  pub items : filled_up new size ≡ block_with b w k m
-
-over_items : (t b new : List ℕ) (size w k i s : ℕ) (m : Message) → filled_up t size ≡ b → i ≡ w % length b → s ≡ (w + k) % length b → i + length (pad_bytes k) ≤ length t
-    → s + record_len m ≤ length (put_at i (pad_bytes k) t) → new ≡ put_at s (spelling m) (put_at i (pad_bytes k) t) → filled_up new size ≡ block_with b w k m
-over_items t b new size w k i s m whole at from one two is =
-    ap (λ (l : List ℕ). filled_up l size) is
-    ∙ filled_up-put_at s (spelling m) (put_at i (pad_bytes k) t) size two
-    ∙ ap (λ l. put_at s (spelling m) l) (filled_up-put_at i (pad_bytes k) t size one ∙ ap (λ l. put_at i (pad_bytes k) l) whole)
-    ∙ ap (λ n. put_at n (spelling m) (put_at i (pad_bytes k) b)) from
-    ∙ ap (λ n. put_at ((w + k) % length b) (spelling m) (put_at n (pad_bytes k) b)) at
-
-pub written_over : (t b new : List ℕ) (size w k i s : ℕ) (m : Message) → filled_up t size ≡ b → i ≡ w % length b → s ≡ (w + k) % length b → k % ALIGNMENT ≡ 0 → i + k ≤ length t
-    → s + record_len m ≤ length t → new ≡ put_at s (spelling m) (put_at i (pad_bytes k) t) → Over b new size (length t) w k m
-written_over t b new size w k i s m whole at from even fits behind is =
-    let one : i + length (pad_bytes k) ≤ length t = omega (arith, length-pad_bytes k even, fits) in
-    let len : length (put_at i (pad_bytes k) t) ≡ length t = length-put_at i (pad_bytes k) t one in
-    let two : s + record_len m ≤ length (put_at i (pad_bytes k) t) = omega (arith, len, behind) in
-    record { count = ap length is ∙ length-put_at s (spelling m) (put_at i (pad_bytes k) t) two ∙ len; items = over_items t b new size w k i s m whole at from one two is }
 
 -- zeros that are touched behind the others
 pub more_touched : (t new : List ℕ) (n len size : ℕ) → len ≡ length t → len ≤ n → n ≤ size → new ≡ take n t ++ replicate (n - len) 0 → filled_up new size ≡ filled_up t size

@@ -51,39 +51,24 @@ fn fill_pad(out: &mut [u8])
     out[FRONT_LEN..].fill(0);
 }
 
-/// Writes a PAD of so many bytes at an index of the block, if it is to have any.
-fn write_pad(block: &mut [u8], at: usize, len: usize)
+/// Writes a PAD of so many bytes at an index of the block.
+pub(crate) fn write_pad(block: &mut [u8], at: usize, len: usize)
     requires fits { at + len ≤ length block.old }
+    requires some { 0 < len }
     requires whole { len % ALIGNMENT ≡ 0 }
     requires most { len ≤ u16.MAX }
     ensures { block.new ≡ put_at at (pad_bytes len) block.old }
 {
-    if len == 0 {
-        return;
-    }
     fill_pad(&mut block[at..at + len]);
 }
 
 /// Writes a message at an index of the block.
 #[inline(always)]
-fn write_record(block: &mut [u8], at: usize, message: &Message)
+pub(crate) fn write_record(block: &mut [u8], at: usize, message: &Message)
     requires { at + record_len message.now ≤ length block.old }
     ensures { block.new ≡ put_at at (spelling message.now) block.old }
 {
     gs_layout::encode_message(message, &mut block[at..]);
-}
-
-/// Writes a PAD of so many bytes at an index of the block, if it is to have any, and then a message at another.
-#[inline(always)]
-pub(crate) fn write(block: &mut [u8], at: usize, pad: usize, start: usize, message: &Message)
-    requires fits { at + pad ≤ length block.old }
-    requires whole { pad % ALIGNMENT ≡ 0 }
-    requires most { pad ≤ u16.MAX }
-    requires behind { start + record_len message.now ≤ length block.old }
-    ensures { block.new ≡ put_at start (spelling message.now) (put_at at (pad_bytes pad) block.old) }
-{
-    write_pad(block, at, pad);
-    write_record(block, start, message);
 }
 
 /// Returns where the record begins in the block that is read at a place: behind its PAD, if it has one.

@@ -1,7 +1,8 @@
 ghost use Rattle.std.specs.Prelude.{◌≡◌, ◌+◌, ◌%◌, ◌<◌, ◌≤◌, ◌^◌, IfOk, length, max, min, take};
-ghost use Rattle.gs_ring.specs.Block.{block_with};
+ghost use Rattle.gs_layout.specs.Spelling.{spelling};
+ghost use Rattle.gs_ring.specs.Block.{block_with, put_at};
 ghost use Rattle.gs_ring.specs.Memory.{untouched};
-ghost use Rattle.gs_ring.specs.Places.{record_len};
+ghost use Rattle.gs_ring.specs.Places.{pad_bytes, record_len};
 
 use crate::block::{self, MOST_CAPACITY};
 use crate::place::Place;
@@ -75,15 +76,51 @@ impl Memory {
         ensures more { self.old.touched ≤ self.new.touched }
         ensures few { self.new.touched ≤ max self.old.touched (place.count % length self.old.items + (pad + record_len message.now) + STEP) }
     {
-        let start = place.further(pad, self.size);
-        self.touch(place.index + pad + len);
-        block::write(
-            self.bytes.as_mut_slice(),
-            place.index,
-            pad,
-            start.index,
-            message,
-        );
+        let start = if pad == 0 {
+            place.index
+        } else {
+            self.write_pad(place, pad)
+        };
+        self.write_record(start, message, len);
+    }
+
+    /// Writes a PAD of so many bytes at a place, and returns the index behind it. All that is written is
+    /// touched before. Few messages have a PAD before them.
+    #[cold]
+    #[inline(never)]
+    fn write_pad(&mut self, place: Place, len: usize) -> usize
+        requires size { 0 < length self.old.items }
+        requires small { length self.old.items ≤ MOST_CAPACITY }
+        requires at { place.index ≡ place.count % length self.old.items }
+        requires fits { place.index + len ≤ length self.old.items }
+        requires some { 0 < len }
+        requires whole { len % ALIGNMENT ≡ 0 }
+        requires most { len ≤ u16.MAX }
+        requires place { place.count + len ≤ u64.MAX }
+        ensures items { self.new.items ≡ put_at place.index (pad_bytes len) self.old.items }
+        ensures behind { result ≡ (place.count + len) % length self.old.items }
+        ensures touched { place.index + len ≤ self.new.touched }
+        ensures more { self.old.touched ≤ self.new.touched }
+        ensures few { self.new.touched ≤ max self.old.touched (place.index + len + STEP) }
+    {
+        self.touch(place.index + len);
+        block::write_pad(self.bytes.as_mut_slice(), place.index, len);
+        place.further(len, self.size).index
+    }
+
+    /// Writes a message of so many bytes at an index. All that is written is touched before.
+    #[inline(always)]
+    fn write_record(&mut self, at: usize, message: &Message, len: usize)
+        requires small { length self.old.items ≤ MOST_CAPACITY }
+        requires len { len ≡ record_len message.now }
+        requires fits { at + record_len message.now ≤ length self.old.items }
+        ensures items { self.new.items ≡ put_at at (spelling message.now) self.old.items }
+        ensures touched { at + record_len message.now ≤ self.new.touched }
+        ensures more { self.old.touched ≤ self.new.touched }
+        ensures few { self.new.touched ≤ max self.old.touched (at + record_len message.now + STEP) }
+    {
+        self.touch(at + len);
+        block::write_record(self.bytes.as_mut_slice(), at, message);
     }
 
     /// Makes sure that the bytes up to this end are touched, or all if it has fewer.

@@ -1,4 +1,4 @@
-ghost use Rattle.std.specs.Prelude.{◌≡◌, ◌⊎◌, ◌==◌, ◌+◌, ◌^◌, ◌<◌, ◌≤◌, [], ◌∷◌, ◌++◌, length, MatchBool, OnOk, OnErr, IsOk};
+ghost use Rattle.std.specs.Prelude.{◌≡◌, ◌⊎◌, ◌==◌, ◌+◌, ◌^◌, ◌<◌, ◌≤◌, [], ◌∷◌, ◌++◌, length, vec_len, vec_capacity, MatchBool, OnOk, OnErr, IsOk};
 ghost use Rattle.std.specs.Option.{option_copied};
 ghost use Rattle.gs_threads.specs.Rows.{new_row};
 ghost use Rattle.gs_threads.specs.Table.{row_of, rows_after, rows_placed};
@@ -101,8 +101,7 @@ impl ThreadTable {
         ensures room { self.old.room ≤ self.new.room + 1 }
     {
         let row = ThreadRow::new(self.first_tseq, facts);
-        // There is room, so it does not allocate and cannot fail.
-        self.rows.extend_from_slice(&[row]).unwrap();
+        push_copy(&mut self.rows, row);
         self.live.set(self.rows.len(), true);
     }
 
@@ -161,4 +160,15 @@ impl ThreadTable {
     {
         0 < tid && tid as usize <= self.rows.len()
     }
+}
+
+/// Appends an item, for which there is room.
+#[inline(always)]
+fn push_copy<T: Copy>(items: &mut Vec<T>, item: T)
+    requires { vec_len items.old < vec_capacity items.old }
+    ensures items { items.new.items ≡ items.old.items ++ item ∷ [] }
+    ensures len { vec_len items.new ≡ vec_len items.old + 1 }
+    ensures capacity { vec_capacity items.new ≡ vec_capacity items.old }
+{
+    items.push_reserved(item);
 }

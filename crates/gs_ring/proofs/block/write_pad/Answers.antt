@@ -1,12 +1,9 @@
 use Rattle.std.proofs.Common.{◌≡◌, ◌+◌, ◌-◌, ◌<◌, length, take, drop, ap, sym, ◌∙◌, arith, length-take, length-drop}
 use Rattle.gs_layout.specs.Pad.{pad}
 use Rattle.gs_ring.specs.Places.{pad_bytes}
-use Rattle.gs_ring.proofs.Pads.{pad_bytes_some, length-pad_bytes, pad_bytes_none}
-use Rattle.gs_ring.proofs.Written.{put_at-none, put_mid_at}
+use Rattle.gs_ring.proofs.Pads.{pad_bytes_some, length-pad_bytes}
+use Rattle.gs_ring.proofs.Written.{put_mid_at}
 use Rattle.gs_ring.proofs.block.write_pad.Goals as goal
-
-pub returns-then-len-eq0 : goal.returns-then-len-eq0
-returns-then-len-eq0 c = sym (put_at-none c.args.at (pad_bytes c.args.len) c.args.block.now (pad_bytes_none c.args.len c.if-len-eq0.true))
 
 pub returns : goal.returns
 returns c =
