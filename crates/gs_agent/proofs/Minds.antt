@@ -13,7 +13,7 @@ use Rattle.gs_layout.specs.declared.message.Change.TheVariants.{Created, Blocked
 use Rattle.gs_layout.specs.declared.message.Message.{Message}
 use Rattle.gs_layout.specs.declared.message.Message.TheVariants.{Thread, TimerTick}
 use Rattle.gs_layout.specs.Message.{is_creation}
-use Rattle.gs_layout.specs.Spelling.{IsSpellable, kind_of, tid_of}
+use Rattle.gs_layout.specs.Spelling.{IsSpellable, kind_of, kind_of_change, tid_of}
 use Rattle.gs_layout.specs.View.{Look, apply, learn, next_known, word, word_at}
 use Rattle.gs_beliefs.specs.Cpus.{Cpus, stamp_on, stamps}
 use Rattle.gs_beliefs.specs.Belief.{hears}
@@ -52,6 +52,21 @@ pub requeued_by : (v : Look) (s : Cpus) (q q' q'' : Queue) (m : Message) (k : Ki
 requeued_by v s q q' q'' (TimerTick c) k t kind other tid d e = absurd (other kind)
 requeued_by v s q q' q'' (Thread u n change) k t kind other tid d e =
     e ∙ (ap (settled v s t) d ∙ ap (λ (x : ℕ). settled v s x (cond (ends_turn change) (removed x q) q)) tid)
+
+-- a change is no tick
+no_tick : (c : Change) → kind_of_change c ≡ kinds.TimerTick → ⊥
+no_tick (Created f) e = absurd cc
+no_tick (Blocked c) e = absurd cc
+no_tick Wakeup e = absurd cc
+no_tick (Preempted c) e = absurd cc
+no_tick (Yield c) e = absurd cc
+no_tick (Dead c) e = absurd cc
+no_tick (Affinity c off m) e = absurd cc
+
+-- after a tick the same threads wait
+pub tick_waiting : (v : Look) (s s' : Cpus) (q : Queue) (m : Message) → kind_of m ≡ kinds.TimerTick → s' ≡ hears m s → HoldsWaiting v s q → HoldsWaiting v s' q
+tick_waiting v s s' q (TimerTick c) kind a h = subst (λ (x : Cpus). HoldsWaiting v x q) (sym a) (holds_news v s q (TimerTick c) h)
+tick_waiting v s s' q (Thread t n change) kind a h = absurd (no_tick change kind)
 
 -- the queue after a slot was collected
 pub slot_queue : (v : Look) (s s' : Cpus) (q q' q'' q''' : Queue) (c : ℕ) (at : Option ℕ) (t : ℕ) (named there : Option ℕ) → named ≡ stamp_on s c → there ≡ displaced s at

@@ -131,12 +131,14 @@ fn counted(drained: Drained, news: News) -> Drained
     requires orphans { drained.orphans < 2 ^ 63 }
     ensures { result ≡ count_word drained (word_of news) }
 {
-    Drained {
-        count: drained.count + 1,
-        skipped: drained.skipped + usize::from(matches!(news, News::Skipped)),
-        orphans: drained.orphans + usize::from(matches!(news, News::Orphan)),
-        stop: drained.stop,
+    let mut drained = drained;
+    drained.count += 1;
+    match news {
+        News::Applied => {}
+        News::Skipped => drained.skipped += 1,
+        News::Orphan => drained.orphans += 1,
     }
+    drained
 }
 
 /// Returns why a drain stops at a message that the view did not apply.

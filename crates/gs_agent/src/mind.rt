@@ -1,5 +1,6 @@
-ghost use Rattle.std.specs.Prelude.{◌≡◌, ◌↔◌, ◌≤◌, Err, IfOk, OnOk, OnErr, length, true};
+ghost use Rattle.std.specs.Prelude.{◌≡◌, ◌≢◌, ◌↔◌, ◌≤◌, Err, IfOk, OnOk, OnErr, length, true};
 ghost use Rattle.gs_beliefs.specs.Cpus.{believed_on, unknown};
+ghost use Rattle.gs_layout.specs.Spelling.{kind_of};
 ghost use Rattle.gs_layout.specs.View.{is_gap, look_up, word};
 ghost use Rattle.gs_policy.specs.Safe.{IsSafePlan};
 ghost use Rattle.gs_status.specs.Masks.{has};
@@ -17,6 +18,7 @@ use crate::waiting::{
 };
 use gs_beliefs::{Beliefs, CpuBeliefs, Running};
 use gs_dump::{Page, WrittenPage};
+use gs_layout::Kind;
 use gs_policy::{Choice, Counted, Policy};
 use gs_reader::MessageRef;
 use gs_runq::{QueueWalk, RunQueue};
@@ -164,15 +166,43 @@ impl Mind {
         ensures gap { (result ≡ Err ApplyFault.Gap) ↔ (is_gap (word (look_up self.old.records) message.entry) ≡ true) }
         ensures memory { result ≡ Err ApplyFault.OutOfMemory → begins (look_up self.old.records) message.entry ≡ true }
     {
+        let kind = message.kind();
+        match kind {
+            Kind::TimerTick => {
+                self.cpus.hear_as(kind, &message);
+                Ok(News::Applied)
+            }
+            _ => self.follow_change(kind, &message),
+        }
+    }
+
+    /// Follows a message about a thread, of this kind.
+    #[inline(always)]
+    fn follow_change(&mut self, kind: Kind, message: &MessageRef<'_>) -> Result<News, ApplyFault>
+        requires kind { kind ≡ kind_of message.now }
+        requires thread { kind ≢ Kind.TimerTick }
+        ensures word { IfOk result (λ news. word (look_up self.old.records) message.now ≡ word_of news) }
+        ensures picture { OnOk result (picture_of self.new ≡ after_message message.now (picture_of self.old)) }
+        ensures unchanged { OnErr result (self.new ≡ self.old) }
+        ensures gap { (result ≡ Err ApplyFault.Gap) ↔ (is_gap (word (look_up self.old.records) message.now) ≡ true) }
+        ensures memory { result ≡ Err ApplyFault.OutOfMemory → begins (look_up self.old.records) message.now ≡ true }
+    {
         let _spelled = message.as_bytes();
-        make_room(&self.view, &mut self.queue, &message)?;
-        let news = self.view.apply(message.again())?;
-        let News::Applied = news else {
-            return Ok(news);
+        make_room(&self.view, &mut self.queue, message)?;
+        let heard = self.view.hear(kind, message)?;
+        let News::Applied = heard.news else {
+            return Ok(heard.news);
         };
-        self.cpus.hear(&message);
-        requeue(&self.view, &self.cpus, &mut self.queue, &message);
-        Ok(news)
+        self.cpus.hear_as(kind, message);
+        requeue(
+            &self.view,
+            &self.cpus,
+            &mut self.queue,
+            kind,
+            message,
+            heard.ready,
+        );
+        Ok(heard.news)
     }
 
     /// Takes a page in, of threads that live, one record at a time, in increasing order of tid. What a record

@@ -1,10 +1,13 @@
 //! Bringing the queue up to date with what is known and believed.
 
-ghost use Rattle.std.specs.Prelude.{◌≡◌, ◌≤◌, ℕ, None, is_some, true, if◌then◌else◌, option_map, IfErr, OnOk, OnErr};
+ghost use Rattle.std.specs.Prelude.{◌≡◌, ◌≢◌, ◌≤◌, ℕ, None, is_some, true, if◌then◌else◌, option_map, IfErr, OnOk, OnErr};
 ghost use Rattle.gs_layout.specs.declared.known.Known.{Known};
+ghost use Rattle.gs_layout.specs.declared.message.Message.{Message};
+ghost use Rattle.gs_layout.specs.Spelling.{kind_of, tid_of};
 ghost use Rattle.gs_layout.specs.View.{look_up};
 ghost use Rattle.gs_view.specs.declared.fault.ApplyFault.{ApplyFault};
 ghost use Rattle.gs_view.specs.Begins.{begins};
+ghost use Rattle.gs_view.specs.News.{ready_of};
 ghost use Rattle.gs_agent.specs.Held.{HasRoom};
 ghost use Rattle.gs_agent.specs.Mind.{bare};
 ghost use Rattle.gs_agent.specs.Picture.{displaced, ends_own_turn, other_than, requeued, settled, settled_all, waits};
@@ -46,27 +49,46 @@ fn is_begun_by(view: &AgentView, message: &MessageRef<'_>) -> bool
     matches!(message.kind(), Kind::Created) && view.get(message.tid()).is_none()
 }
 
-/// Returns the class of a thread that waits, `None` if it does not. The CPUs are asked first, of which there
-/// are few.
-fn waiting_class(view: &AgentView, cpus: &Beliefs, tid: u32) -> Option<Class>
-    ensures { result ≡ (if waits (look_up view.now.entries) cpus.now tid then option_map (λ (k : Known). k.facts.class) (look_up view.now.entries tid) else None) }
+/// Returns the class of a thread that waits, `None` if it does not. It has this class if it may run.
+#[inline(always)]
+fn waiting_class(_view: &AgentView, cpus: &Beliefs, tid: u32, ready: Option<Class>) -> Option<Class>
+    requires { ready ≡ ready_of (look_up _view.now.entries tid) }
+    ensures { result ≡ (if waits (look_up _view.now.entries) cpus.now tid then option_map (λ (k : Known). k.facts.class) (look_up _view.now.entries tid) else None) }
 {
+    let class = ready?;
     if cpus.runs(tid) || cpus.names(tid) {
         return None;
     }
-    let (facts, _) = view.get(tid)?;
-    facts.runnable.then_some(facts.class)
+    Some(class)
 }
 
 /// Puts a thread that begins to wait last of its class, and takes one that does not wait out. One that
 /// waits already keeps its place. It does not allocate.
-#[tactic(auto, using(crate::proofs::Rooms::room_settled))]
 pub(crate) fn settle(view: &AgentView, cpus: &Beliefs, queue: &mut RunQueue, tid: u32)
     requires { HasRoom (look_up view.now.entries) queue.old }
     ensures settled { queue.new ≡ settled (look_up view.now.entries) cpus.now tid queue.old }
     ensures room { HasRoom (look_up view.now.entries) queue.new }
 {
-    match waiting_class(view, cpus, tid) {
+    let ready = view.ready(tid);
+    settle_ready(view, cpus, queue, tid, ready);
+}
+
+/// Does the same of a thread that has this class if it may run. The view is not asked again.
+#[inline(always)]
+#[tactic(auto, using(crate::proofs::Rooms::room_settled))]
+fn settle_ready(
+    view: &AgentView,
+    cpus: &Beliefs,
+    queue: &mut RunQueue,
+    tid: u32,
+    ready: Option<Class>,
+)
+    requires room { HasRoom (look_up view.now.entries) queue.old }
+    requires ready { ready ≡ ready_of (look_up view.now.entries tid) }
+    ensures settled { queue.new ≡ settled (look_up view.now.entries) cpus.now tid queue.old }
+    ensures room { HasRoom (look_up view.now.entries) queue.new }
+{
+    match waiting_class(view, cpus, tid, ready) {
         None => queue.remove(tid),
         Some(class) => {
             if !queue.has(tid) {
@@ -150,31 +172,34 @@ pub(crate) fn other_than(tid: u32, found: Option<u32>) -> Option<u32>
     found.filter(|found| *found != tid)
 }
 
-/// Brings the queue up to date after a message that view and beliefs followed: its thread is settled, and
-/// goes last anew if its turn ended.
+/// Brings the queue up to date after a message about a thread, of this kind, that view and beliefs followed: the thread
+/// is settled, and goes last anew if its turn ended. It has this class if it may run.
+#[inline(always)]
 pub(crate) fn requeue(
     view: &AgentView,
     cpus: &Beliefs,
     queue: &mut RunQueue,
+    kind: Kind,
     message: &MessageRef<'_>,
+    ready: Option<Class>,
 )
-    requires { HasRoom (look_up view.now.entries) queue.old }
+    requires room { HasRoom (look_up view.now.entries) queue.old }
+    requires kind { kind ≡ kind_of message.now }
+    requires thread { kind ≢ Kind.TimerTick }
+    requires ready { ready ≡ ready_of (look_up view.now.entries (tid_of message.now)) }
     ensures requeued { queue.new ≡ requeued (look_up view.now.entries) cpus.now message.now queue.old }
     ensures room { HasRoom (look_up view.now.entries) queue.new }
 {
-    if matches!(message.kind(), Kind::TimerTick) {
-        return;
-    }
     let tid = message.tid();
-    if ends_turn(message) {
+    if ends_turn(kind) {
         queue.remove(tid);
     }
-    settle(view, cpus, queue, tid);
+    settle_ready(view, cpus, queue, tid, ready);
 }
 
-/// Tells whether a message ends its thread's turn, though it may go on waiting.
-fn ends_turn(message: &MessageRef<'_>) -> bool
-    ensures { result ≡ ends_own_turn message.now }
+/// Tells whether a message of this kind ends its thread's turn, though it may go on waiting.
+fn ends_turn(kind: Kind) -> bool
+    ensures { (m : Message) → kind ≡ kind_of m → result ≡ ends_own_turn m }
 {
-    matches!(message.kind(), Kind::Preempted | Kind::Yield)
+    matches!(kind, Kind::Preempted | Kind::Yield)
 }

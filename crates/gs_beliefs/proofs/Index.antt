@@ -9,8 +9,8 @@ use Rattle.std.proofs.lemmas.Bool.Decides.{nat_tests}
 use Rattle.std.proofs.lemmas.List.{length-set, length-replicate, get_or-replicate, get_or-set_same, get_or-set_other, get_or_past}
 use Rattle.std.proofs.lemmas.List.Elements.{All-from_get_or}
 use Rattle.std.proofs.lemmas.List.Folds.{list_any_at, list_any_none}
-use Rattle.gs_status.specs.Masks.{has}
-use Rattle.gs_status.proofs.Laws.{nobody as has_nobody}
+use Rattle.gs_status.specs.Masks.{has, has_none}
+use Rattle.gs_status.proofs.Laws.{is_zero, nobody as has_nobody}
 use Rattle.gs_beliefs.specs.ByThread.{IsIndexed, is_in_bucket, stands}
 use Rattle.gs_beliefs.specs.Cpus.{is_just}
 
@@ -18,6 +18,10 @@ use Rattle.gs_beliefs.specs.Cpus.{is_just}
 pub not_in_bucket : (t : ℕ) (o : Option ℕ) → is_in_bucket (t % 256) o ≡ false → is_just t o ≡ false
 not_in_bucket t None e = refl
 not_in_bucket t (Some k) e = false_from_ne_true (k == t) (λ same. both_ways (k % 256 == t % 256) e (eq-eqb (k % 256) (t % 256) (ap (λ (x : ℕ). x % 256) (eqb-true k t same))))
+
+-- an empty mask has no CPU
+pub in_no_mask : (m c : ℕ) → has_none m ≡ true → has m c ≡ false
+in_no_mask m c e = ap (λ (n : ℕ). has n c) (is_zero m e) ∙ has_nobody c
 
 pub stands_within : (xs : List (Option ℕ)) (t c : ℕ) → is_just t (stands xs c) ≡ true → (c < length xs) ⊎ (length xs ≤ c) → c < length xs
 stands_within xs t c e (inl lt) = lt

@@ -1,4 +1,6 @@
 ghost use Rattle.std.specs.Prelude.{◌≡◌, ◌≤◌, ◌&&◌, nat_lt, ℕ, is_none, IfOk, length};
+ghost use Rattle.gs_layout.specs.Spelling.{kind_of};
+ghost use Rattle.gs_reader.specs.Taking.{takes_own_off};
 ghost use Rattle.gs_status.specs.Masks.{has};
 ghost use Rattle.gs_beliefs.specs.Cpus.{believed_on, clears, is_believed, is_named, places, raises, stamp_on, stamps, ticks, unknown, unstamps};
 ghost use Rattle.gs_beliefs.specs.Belief.{after_outcome, hears};
@@ -34,6 +36,14 @@ impl Model for Beliefs {
     ghost view = { λ s. record { believed = s.beliefs.items; stamped = s.stamps; agent = s.agent } };
 
     ghost invariant = { λ s. IsCpus s.beliefs.items s.running s.stamps };
+}
+
+/// Tells whether a message of this kind takes its own thread off the CPU.
+fn takes_off(kind: Kind, message: &MessageRef<'_>) -> bool
+    requires { kind ≡ kind_of message.now }
+    ensures { result ≡ takes_own_off message.now }
+{
+    kind.takes_off_cpu(message.flags() & 1 == 1)
 }
 
 impl Beliefs {
@@ -98,6 +108,7 @@ impl Beliefs {
     }
 
     /// Returns whether some CPU is believed to run a thread.
+    #[inline(always)]
     pub fn runs(&self, tid: u32) -> bool
         ensures { result ≡ is_believed self.now tid }
     {
@@ -105,6 +116,7 @@ impl Beliefs {
     }
 
     /// Returns whether some uncollected stamp names a thread.
+    #[inline(always)]
     pub fn names(&self, tid: u32) -> bool
         ensures { result ≡ is_named self.now tid }
     {
@@ -144,6 +156,7 @@ impl Beliefs {
     }
 
     /// Gives a thread this sequence number, if it is believed to run.
+    #[inline(always)]
     pub fn raise(&mut self, tid: u32, tseq: u32)
         ensures { self.new ≡ raises tid tseq self.old }
     {
@@ -154,6 +167,7 @@ impl Beliefs {
 
     /// Counts a tick of a CPU's timer for whoever is believed to run there, up to
     /// [`MOST_TICKS`](crate::MOST_TICKS).
+    #[inline(always)]
     pub fn tick(&mut self, cpu: u16)
         ensures { self.new ≡ ticks cpu self.old }
     {
@@ -169,14 +183,23 @@ impl Beliefs {
     pub fn hear(&mut self, message: &MessageRef<'_>)
         ensures { self.new ≡ hears message.now self.old }
     {
-        match message.kind() {
+        self.hear_as(message.kind(), message);
+    }
+
+    /// Takes in a message of this kind that applied to the view, as [`Beliefs::hear`] does.
+    #[inline(always)]
+    pub fn hear_as(&mut self, kind: Kind, message: &MessageRef<'_>)
+        requires { kind ≡ kind_of message.now }
+        ensures { self.new ≡ hears message.now self.old }
+    {
+        match kind {
             Kind::TimerTick => {
                 if let Some(cpu) = message.cpu() {
                     self.tick(cpu);
                 }
             }
             _ => {
-                if message.takes_off_cpu() {
+                if takes_off(kind, message) {
                     self.clear(message.tid());
                 } else {
                     self.raise(message.tid(), message.tseq());

@@ -91,13 +91,30 @@ impl ByThread {
         *self.tids.get(cpu as usize)?
     }
 
-    /// Returns the least CPU on which a thread stands, or `None` if it stands on none.
-    #[tactic(auto, using(crate::proofs::Marks::fewer_left, crate::proofs::Index::not_in_bucket))]
+    /// Returns the least CPU on which a thread stands, or `None` if it stands on none. Most threads stand nowhere, and
+    /// for these it is one look at a bucket.
+    #[tactic(auto, using(crate::proofs::Index::not_in_bucket, crate::proofs::Index::in_no_mask))]
+    #[inline(always)]
     pub fn first_of(&self, tid: u32) -> Option<u16>
         ensures found { IfSome result (λ c. is_just tid (stands self.now c) ≡ true) }
         ensures none { IfNone result ((c : ℕ) → is_just tid (stands self.now c) ≡ false) }
     {
-        let mut left = self.buckets.of(tid);
+        let bucket = self.buckets.of(tid);
+        if bucket.is_empty() {
+            return None;
+        }
+        self.first_in(bucket, tid)
+    }
+
+    /// Returns the least CPU of a mask on which a thread stands. It stands on no other CPU.
+    #[tactic(auto, using(crate::proofs::Marks::fewer_left))]
+    #[inline(never)]
+    fn first_in(&self, mask: Mask, tid: u32) -> Option<u16>
+        requires { (c : ℕ) → has mask c ≡ false → is_just tid (stands self.now c) ≡ false }
+        ensures found { IfSome result (λ c. is_just tid (stands self.now c) ≡ true) }
+        ensures none { IfNone result ((c : ℕ) → is_just tid (stands self.now c) ≡ false) }
+    {
+        let mut left = mask;
         while let Some(cpu) = left.lowest() {
             if self.on(cpu) == Some(tid) {
                 return Some(cpu);
@@ -109,6 +126,7 @@ impl ByThread {
 
     /// Returns whether a thread stands on some CPU.
     #[tactic(auto, using(crate::proofs::Index::stands_somewhere, crate::proofs::Index::stands_nowhere))]
+    #[inline(always)]
     pub fn has(&self, tid: u32) -> bool
         ensures { result ≡ list_any (is_just tid) self.now }
     {

@@ -1,5 +1,6 @@
 mod Ranges
 mod Sound
+mod Creations
 mod Front
 mod Again
 mod Pads

@@ -1,4 +1,5 @@
 pub mod RefHeld
+pub mod Creation
 pub mod Fault
 pub mod Reading
 pub mod Records

@@ -1,6 +1,7 @@
 //! Messages read where they stand in their bytes, without a copy.
 #![tactic(auto)]
 
+mod facts;
 mod fault;
 mod fields;
 mod item;

@@ -1,4 +1,6 @@
 ghost use Rattle.std.specs.Prelude.{◌≡◌, option_copied};
+ghost use Rattle.gs_layout.specs.declared.kind.Kind.{Kind};
+ghost use Rattle.gs_layout.specs.declared.message.Change.{Change};
 ghost use Rattle.gs_layout.specs.declared.message.Message.{Message};
 ghost use Rattle.gs_layout.specs.Message.{tseq_of};
 ghost use Rattle.gs_layout.specs.Reading.{message_in};
@@ -6,7 +8,8 @@ ghost use Rattle.gs_reader.specs.RefHeld.{IsRef};
 ghost use Rattle.gs_reader.specs.Taking.{takes_own_off};
 ghost use Rattle.gs_layout.specs.Spelling.{IsSpellable, class_of, cpu_of, flags_of, kind_of, mask_of, name_of, spelling, tid_of};
 
-use gs_layout::{Class, Kind, Message, Parcel};
+use crate::facts::facts_at;
+use gs_layout::{Class, Facts, Kind, Message, Parcel};
 use gs_status::Mask;
 use std::marker::Model;
 
@@ -140,6 +143,16 @@ impl<'a> MessageRef<'a> {
         ensures { option_copied result ≡ name_of self.now }
     {
         gs_layout::name_of(self.bytes)
+    }
+
+    /// Returns the facts that a creation tells, with a name of their own. They are read from the bytes, and no message is
+    /// made. The message is a creation.
+    #[inline(always)]
+    pub fn facts(&self) -> Facts
+        requires { kind_of self.now ≡ Kind.Created }
+        ensures { self.now ≡ Message.Thread (tid_of self.now) (tseq_of self.now) (Change.Created result) }
+    {
+        facts_at(self.bytes)
     }
 
     /// Returns the message itself, with a name of its own.

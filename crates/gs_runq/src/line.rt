@@ -134,6 +134,7 @@ impl Line {
     }
 
     /// Returns whether a thread is in line. Each thread in line has a thread's number.
+    #[inline(always)]
     pub fn has(&self, tid: u32) -> bool
         ensures has { result ≡ is_in tid self.now.threads }
         ensures tids { All IsTid self.now.threads }
@@ -166,6 +167,7 @@ impl Line {
     }
 
     /// Takes a thread out of the line, if it is there.
+    #[inline(always)]
     pub fn remove(&mut self, tid: u32)
         ensures threads { self.new.threads ≡ without tid self.old.threads }
         ensures room { self.new.room ≡ self.old.room }

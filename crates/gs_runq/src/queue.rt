@@ -81,6 +81,7 @@ impl RunQueue {
     }
 
     /// Takes a thread out of its class, or changes nothing if it does not wait.
+    #[inline(always)]
     pub fn remove(&mut self, tid: u32)
         ensures { self.new ≡ removed tid self.old }
     {
@@ -99,6 +100,7 @@ impl RunQueue {
     /// Returns whether a thread waits. Tid 0 and tids above [`MOST_TIDS`] never do. A thread that does not
     /// wait finds room in a queue that was given room for all of them.
     #[tactic(auto, using(crate::proofs::Queues::in_append))]
+    #[inline(always)]
     pub fn has(&self, tid: u32) -> bool
         ensures has { result ≡ is_in tid (order self.now) }
         ensures spare { result ≡ false → IsTid tid → (class : ClassOf) → length (class_of class self.now) < MOST_TIDS }

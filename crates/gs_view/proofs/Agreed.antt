@@ -1,7 +1,7 @@
 -- Index and slab agree, and go on to when a record is put, renewed or removed.
 use Rattle.std.proofs.Common.{◌≡◌, ◌≢◌, ◌⊎◌, inl, inr, refl, ap, sym, ◌∙◌, ℕ, suc, ◌+◌, ◌<◌, ◌≤◌, true, cond, count_by, Option, None, Some, is_some, List, [], length, get_or, set, arith, ⊎_elim}
 use Rattle.std.specs.Prelude.{◌==◌}
-use Rattle.std.proofs.lemmas.Bool.{cases_eq, ne_eqb}
+use Rattle.std.proofs.lemmas.Bool.{cases_eq, false≢true, ne_eqb}
 use Rattle.std.proofs.lemmas.Bool.Decides.{nat_tests}
 use Rattle.std.proofs.lemmas.List.Sums.{sum_by-set}
 use Rattle.slab.specs.Slab.{Slab, ContainsKey, Updates, get, slab_len, with_value}
@@ -23,8 +23,16 @@ known_past i s t past = ap (record_under s) (key_past i t past)
 pub look_known : (i : IndexState) (s : Slab Known) (t : ℕ) → look_up (state_of i s).entries t ≡ record_under s (key_of i t)
 look_known i s t = look_listed (known_by i s) (places i) (known_past i s) t
 
+-- a thread of which nothing is known has no key
+pub no_key : (i : IndexState) (s : Slab Known) (t : ℕ) → Agree i s → look_up (state_of i s).entries t ≡ None → key_of i t ≡ None
+no_key i s t agree none = by_key (key_of i t) refl (sym (look_known i s t) ∙ none)
+  where
+    by_key : (o : Option ℕ) → key_of i t ≡ o → record_under s (key_of i t) ≡ None → o ≡ None
+    by_key None e gone = refl
+    by_key (Some key) e gone = absurd (false≢true (sym (ap is_some (ap (record_under s) (sym e) ∙ gone)) ∙ agree.present t key e))
+
 -- a thread's own, and the others'
-with_here : (t : ℕ) (o : Option Known) (v : Look) → with_known t o v t ≡ o
+pub with_here : (t : ℕ) (o : Option Known) (v : Look) → with_known t o v t ≡ o
 with_here t o v = ap (λ b. cond b o (v t)) (let e : (t == t) ≡ true = grind (arith, nat_tests) in e)
 
 with_other : (t u : ℕ) (o : Option Known) (v : Look) → u ≢ t → with_known t o v u ≡ v u

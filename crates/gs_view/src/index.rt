@@ -16,6 +16,8 @@ pub(crate) struct KeyIndex {
     live: NumberSet,
     /// The key of each tid that has one, and any number for the others.
     keys: Vec<usize>,
+    /// Each tid below this has a place.
+    placed: usize,
 }
 
 impl Model for KeyIndex {
@@ -27,7 +29,7 @@ impl Model for KeyIndex {
 
     ghost view = { λ i. record { live = i.live; keys = i.keys.items } };
 
-    ghost invariant = { λ i. WORD * length i.live ≤ vec_len i.keys };
+    ghost invariant = { λ i. (WORD * length i.live ≤ vec_len i.keys) × (i.placed ≤ WORD * length i.live) };
 }
 
 /// Makes a table at least so long.
@@ -56,6 +58,7 @@ impl KeyIndex {
         KeyIndex {
             live: NumberSet::new(alloc),
             keys: Vec::new(alloc),
+            placed: 0,
         }
     }
 
@@ -76,14 +79,36 @@ impl KeyIndex {
     /// # Errors
     ///
     /// `AllocError` if out of memory. Each tid has the key that it had, either way.
+    #[inline(always)]
     pub(crate) fn reserve(&mut self, tid: usize) -> Result<(), AllocError>
         requires { tid < 2 ^ 32 }
         ensures room { OnOk result (tid < places self.new) }
         ensures same { (t : ℕ) → key_of self.new t ≡ key_of self.old t }
         ensures kept { places self.old ≤ places self.new }
     {
-        lengthen(&mut self.keys, (tid / WORD + 1) * WORD)?;
-        self.live.reserve(tid)
+        if tid < self.placed {
+            return Ok(());
+        }
+        self.reserve_word(tid)
+    }
+
+    /// Makes a place for a tid, and for the others of its word.
+    ///
+    /// # Errors
+    ///
+    /// `AllocError` if out of memory. Each tid has the key that it had, either way.
+    #[inline(never)]
+    fn reserve_word(&mut self, tid: usize) -> Result<(), AllocError>
+        requires { tid < 2 ^ 32 }
+        ensures room { OnOk result (tid < places self.new) }
+        ensures same { (t : ℕ) → key_of self.new t ≡ key_of self.old t }
+        ensures kept { places self.old ≤ places self.new }
+    {
+        let placed = (tid / WORD + 1) * WORD;
+        lengthen(&mut self.keys, placed)?;
+        self.live.reserve(tid)?;
+        self.placed = placed;
+        Ok(())
     }
 
     /// Gives a tid a key, whatever key it had. It has a place.
@@ -115,6 +140,7 @@ impl KeyIndex {
         ensures places { places self.new ≡ 0 }
     {
         self.live = NumberSet::new(alloc);
+        self.placed = 0;
     }
 
     /// Returns the first tid that has a key and is not below `from`.

@@ -10,6 +10,6 @@ mod view;
 mod walk;
 
 pub use fault::ApplyFault;
-pub use news::News;
+pub use news::{Heard, News};
 pub use view::AgentView;
 pub use walk::ViewWalk;

@@ -1,3 +1,7 @@
+ghost use Rattle.std.specs.Prelude.{◌≡◌, None};
+
+use gs_layout::Class;
+
 /// What a message was to a view.
 #[derive(Clone, Copy, PartialEq, Eq, Debug)]
 pub enum News {
@@ -7,4 +11,22 @@ pub enum News {
     Skipped,
     /// It was about a thread of which the view knows nothing, and no creation. Nothing changed.
     Orphan,
+}
+
+/// What a message about a thread was to a view, and whether its thread may run then.
+#[derive(Clone, Copy, PartialEq, Eq, Debug)]
+pub struct Heard {
+    pub news: News,
+    /// The class of the thread, if the message applied and the thread may run.
+    pub ready: Option<Class>,
+}
+
+impl Heard {
+    /// Returns that a message was this, and that its thread may not run.
+    pub(crate) fn unready(news: News) -> Heard
+        ensures news { result.news ≡ news }
+        ensures ready { result.ready ≡ None }
+    {
+        Heard { news, ready: None }
+    }
 }

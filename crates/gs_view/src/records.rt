@@ -1,14 +1,16 @@
 ghost use Rattle.std.specs.Prelude.{◌≡◌, ◌+◌, ◌==◌, ◌<◌, ◌≤◌, ◌^◌, ℕ, [], true, false, None, Some, All, IfSome, MatchOption, OnOk, is_some, length, option_copied};
 ghost use Rattle.std.specs.List.Sorted.{IsStrictlyIncreasing};
 ghost use Rattle.gs_layout.specs.Message.{is_death};
+ghost use Rattle.gs_layout.specs.Spelling.{kind_of};
 ghost use Rattle.gs_layout.specs.View.{learnt, look_up};
+ghost use Rattle.gs_view.specs.News.{ready_of};
 ghost use Rattle.gs_view.specs.Records.{with_known};
 ghost use Rattle.gs_sets.specs.Bits.{IsFirst, IsNone};
 ghost use Rattle.gs_view.specs.Shown.{is_known, tids};
 
 use crate::index::KeyIndex;
 use crate::walk::ViewWalk;
-use gs_layout::{Change, Kind, Known, Message};
+use gs_layout::{Class, Facts, Kind, Known};
 use gs_reader::MessageRef;
 use slab::Slab;
 use std::alloc::{AllocError, Global};
@@ -91,6 +93,13 @@ impl Records {
         self.index.next_from(from)
     }
 
+    /// Returns how many more records fit without memory for them.
+    fn room(&self) -> usize
+        ensures { result ≡ self.now.room }
+    {
+        self.slab.capacity().saturating_sub(self.len())
+    }
+
     /// Makes room for so many records, of threads up to a tid.
     ///
     /// # Errors
@@ -104,6 +113,9 @@ impl Records {
         ensures same { self.new.entries ≡ self.old.entries }
     {
         self.index.reserve(tid as usize)?;
+        if self.room() >= records {
+            return Ok(());
+        }
         self.slab.reserve(records)
     }
 
@@ -116,24 +128,41 @@ impl Records {
         ensures places { self.new.tids ≡ self.old.tids }
         ensures room { self.old.room ≤ self.new.room + 1 }
     {
-        let tid = tid as usize;
-        if let Some(key) = self.index.get(tid) {
+        if let Some(key) = self.index.get(tid as usize) {
             self.slab[key] = known;
         } else {
-            let key = self.slab.insert_reserved(known);
-            self.index.set(tid, key);
+            self.insert(tid, known);
         }
     }
 
-    /// Changes what is known of a thread, in its place, as a message says that comes next and is no death.
-    pub(crate) fn renew(&mut self, tid: u32, message: &MessageRef<'_>)
-        requires known { is_some (look_up self.old.entries tid) ≡ true }
-        requires lives { is_death message.now ≡ false }
-        ensures { (t : ℕ) → look_up self.new.entries t ≡ with_known tid (learnt (look_up self.old.entries tid) message.now) (look_up self.old.entries) t }
+    /// Makes this known of a thread of which nothing is known. There is room.
+    #[inline(always)]
+    pub(crate) fn insert(&mut self, tid: u32, known: Known)
+        requires unknown { look_up self.old.entries tid ≡ None }
+        requires place { tid < self.old.tids }
+        requires room { 0 < self.old.room }
+        ensures known { (t : ℕ) → look_up self.new.entries t ≡ with_known tid (Some known) (look_up self.old.entries) t }
+        ensures places { self.new.tids ≡ self.old.tids }
+        ensures room { self.old.room ≤ self.new.room + 1 }
     {
-        if let Some(key) = self.index.get(tid as usize) {
-            renew(&mut self.slab[key], message);
-        }
+        let key = self.slab.insert_reserved(known);
+        self.index.set(tid as usize, key);
+    }
+
+    /// Changes what is known of a thread, in its place, as a message of this kind says that comes next and is no death.
+    /// Returns the thread's class if it may run then.
+    #[inline(always)]
+    pub(crate) fn renew(&mut self, tid: u32, kind: Kind, message: &MessageRef<'_>) -> Option<Class>
+        requires known { is_some (look_up self.old.entries tid) ≡ true }
+        requires kind { kind ≡ kind_of message.now }
+        requires lives { is_death message.now ≡ false }
+        ensures known { (t : ℕ) → look_up self.new.entries t ≡ with_known tid (learnt (look_up self.old.entries tid) message.now) (look_up self.old.entries) t }
+        ensures ready { result ≡ ready_of (learnt (look_up self.old.entries tid) message.now) }
+    {
+        let place = self.index.get(tid as usize)?;
+        let known = &mut self.slab[place];
+        renew(known, kind, message);
+        ready(&known.facts)
     }
 
     /// Takes away what is known of a thread. Its key is free then.
@@ -148,26 +177,27 @@ impl Records {
     }
 }
 
-/// Changes a live thread's record as a message says that comes next and is no death. A timer tick leaves it.
-fn renew(known: &mut Known, message: &MessageRef<'_>)
-    requires { is_death message.now ≡ false }
+/// Returns the class of a thread that may run, and `None` of one that may not.
+#[inline(always)]
+pub(crate) fn ready(facts: &Facts) -> Option<Class>
+    ensures { (tseq : ℕ) → result ≡ ready_of (Some (record { facts = facts.now; tseq = tseq })) }
+{
+    facts.runnable.then_some(facts.class)
+}
+
+/// Changes a live thread's record as a message of this kind says that comes next and is no death. A timer tick leaves it.
+#[inline(always)]
+fn renew(known: &mut Known, kind: Kind, message: &MessageRef<'_>)
+    requires kind { kind ≡ kind_of message.now }
+    requires lives { is_death message.now ≡ false }
     ensures { Some known.new ≡ learnt (Some known.old) message.now }
 {
-    let kind = message.kind();
     if kind == Kind::TimerTick {
         return;
     }
     known.tseq = message.tseq();
     match kind {
-        Kind::Created => {
-            if let Message::Thread {
-                change: Change::Created { facts },
-                ..
-            } = message.message()
-            {
-                known.facts = facts;
-            }
-        }
+        Kind::Created => known.facts = message.facts(),
         Kind::Blocked => known.facts.runnable = false,
         Kind::Wakeup => known.facts.runnable = true,
         Kind::Affinity => {

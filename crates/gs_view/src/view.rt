@@ -5,14 +5,14 @@ ghost use Rattle.gs_layout.specs.View.{apply, is_gap, look_up, word};
 ghost use Rattle.gs_view.specs.Begins.{begins};
 ghost use Rattle.gs_view.specs.Loaded.{HasRoomFor, loaded, with_record};
 ghost use Rattle.gs_view.specs.Shown.{if_shown, tids};
-ghost use Rattle.gs_view.specs.News.{word_of};
+ghost use Rattle.gs_view.specs.News.{ready_of, word_of};
 
 use crate::fault::ApplyFault;
-use crate::news::News;
-use crate::records::Records;
+use crate::news::{Heard, News};
+use crate::records::{Records, ready};
 use crate::walk::ViewWalk;
 use gs_dump::{DumpRecord, Page, WrittenPage};
-use gs_layout::{Change, Facts, Kind, Known, Message};
+use gs_layout::{Class, Facts, Kind, Known};
 use gs_reader::MessageRef;
 use std::alloc::{AllocError, Global};
 use std::marker::Model;
@@ -75,6 +75,15 @@ impl AgentView {
         Some((&known.facts, known.tseq))
     }
 
+    /// Returns the class of a thread that may run, and `None` if it may not, or nothing is known of it. It does not
+    /// allocate.
+    pub fn ready(&self, tid: u32) -> Option<Class>
+        ensures { result ≡ ready_of (look_up self.now.entries tid) }
+    {
+        let (facts, _) = self.get(tid)?;
+        ready(facts)
+    }
+
     /// Walks all that is known, in increasing order of tid: of each thread its tid, its facts, and the sequence
     /// number at which they were so. It does not allocate.
     pub fn walk(&self) -> ViewWalk<'_>
@@ -104,23 +113,47 @@ impl AgentView {
         if kind == Kind::TimerTick {
             return Ok(News::Applied);
         }
+        let heard = self.hear(kind, &message)?;
+        Ok(heard.news)
+    }
+
+    /// Applies a message about a thread, of this kind, as [`AgentView::apply`] does. Returns what it was to the view, and
+    /// if it was news the thread's class, if that may run then.
+    ///
+    /// # Errors
+    ///
+    /// As of [`AgentView::apply`].
+    #[inline(always)]
+    pub fn hear(&mut self, kind: Kind, message: &MessageRef<'_>) -> Result<Heard, ApplyFault>
+        requires kind { kind ≡ kind_of message.now }
+        requires thread { kind ≢ Kind.TimerTick }
+        ensures word { IfOk result (λ heard. word (look_up self.old.entries) message.now ≡ word_of heard.news) }
+        ensures known { OnOk result ((t : ℕ) → look_up self.new.entries t ≡ apply (look_up self.old.entries) message.now t) }
+        ensures ready { IfOk result (λ heard. heard.news ≡ News.Applied → heard.ready ≡ ready_of (look_up self.new.entries (tid_of message.now))) }
+        ensures unchanged { OnErr result (self.new.entries ≡ self.old.entries) }
+        ensures gap { (result ≡ Err ApplyFault.Gap) ↔ (is_gap (word (look_up self.old.entries) message.now) ≡ true) }
+        ensures memory { result ≡ Err ApplyFault.OutOfMemory → begins (look_up self.old.entries) message.now ≡ true }
+    {
         let tid = message.tid();
         let tseq = message.tseq();
         let Some(known) = self.records.get(tid) else {
-            return self.begin(&message);
+            return self.begin(kind, message);
         };
         if tseq <= known.tseq {
-            return Ok(News::Skipped);
+            return Ok(Heard::unready(News::Skipped));
         }
         if tseq - known.tseq > 1 {
             return Err(ApplyFault::Gap);
         }
         if kind == Kind::Dead {
             self.records.remove(tid);
-        } else {
-            self.records.renew(tid, &message);
+            return Ok(Heard::unready(News::Applied));
         }
-        Ok(News::Applied)
+        let ready = self.records.renew(tid, kind, message);
+        Ok(Heard {
+            news: News::Applied,
+            ready,
+        })
     }
 
     /// Makes room for the records of a page, so that [`AgentView::set`] can set each of them.
@@ -185,25 +218,28 @@ impl AgentView {
     }
 
     /// Applies a message about a thread of which nothing is known.
-    fn begin(&mut self, message: &MessageRef<'_>) -> Result<News, ApplyFault>
-        requires thread { kind_of message.now ≢ Kind.TimerTick }
+    fn begin(&mut self, kind: Kind, message: &MessageRef<'_>) -> Result<Heard, ApplyFault>
+        requires kind { kind ≡ kind_of message.now }
+        requires thread { kind ≢ Kind.TimerTick }
         requires unknown { look_up self.old.entries (tid_of message.now) ≡ None }
-        ensures word { IfOk result (λ news. word (look_up self.old.entries) message.now ≡ word_of news) }
+        ensures word { IfOk result (λ heard. word (look_up self.old.entries) message.now ≡ word_of heard.news) }
         ensures known { OnOk result ((t : ℕ) → look_up self.new.entries t ≡ apply (look_up self.old.entries) message.now t) }
+        ensures ready { IfOk result (λ heard. heard.news ≡ News.Applied → heard.ready ≡ ready_of (look_up self.new.entries (tid_of message.now))) }
         ensures unchanged { OnErr result (self.new.entries ≡ self.old.entries) }
         ensures memory { OnErr result (begins (look_up self.old.entries) message.now ≡ true) }
         ensures no_gap { result ≢ Err ApplyFault.Gap }
     {
-        let Message::Thread {
-            tid,
-            tseq,
-            change: Change::Created { facts },
-        } = message.message()
-        else {
-            return Ok(News::Orphan);
-        };
+        if kind != Kind::Created {
+            return Ok(Heard::unready(News::Orphan));
+        }
+        let tid = message.tid();
+        let tseq = message.tseq();
         self.records.reserve(tid, 1)?;
-        self.records.put(tid, Known { facts, tseq });
-        Ok(News::Applied)
+        let facts = message.facts();
+        self.records.insert(tid, Known { facts, tseq });
+        Ok(Heard {
+            news: News::Applied,
+            ready: ready(&facts),
+        })
     }
 }

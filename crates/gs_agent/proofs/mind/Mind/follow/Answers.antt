@@ -1,40 +1,11 @@
-use Rattle.std.proofs.Common.{ap, sym, ◌∙◌, refl}
-use Rattle.gs_layout.specs.declared.message.Message.{Message}
-use Rattle.gs_layout.specs.View.{apply, look_up, word}
-use Rattle.gs_view.specs.News.{word_of}
-use Rattle.gs_agent.specs.Mind.{MindState, picture_of}
-use Rattle.gs_agent.specs.Picture.{after_message}
-use Rattle.gs_agent.proofs.Minds.{is_applied, not_applied, news_picture, news_waiting, old_picture, room_news, waiting_as_before}
+use Rattle.std.proofs.Common.{sym, ◌∙◌}
+use Rattle.gs_layout.specs.View.{look_up}
+use Rattle.gs_agent.proofs.Minds.{tick_waiting}
 use Rattle.gs_agent.proofs.mind.Mind.follow.Goals as goal
 
-pub requeue-requires : goal.requeue-requires
-requeue-requires c =
-    let v = look_up c.self.inside.view.entries in
-    room_news v (look_up c.apply.new.self.entries) c.self.inside.queue c.make_room.new.queue c.args.message c.self.invariant.room (λ t. c.in_ok-news.ensures.known t ∙ ap (λ (m : Message). apply v m t) c.again.ensures)
-    c.make_room.ensures.room c.in_ok-make_room.ensures.begun c.as_bytes-spelled.ensures.spellable
-
-pub returns-in_default-clause-picture : goal.returns-in_default-clause-picture
-returns-in_default-clause-picture c =
-    let v = look_up c.self.inside.view.entries in
-    old_picture v (look_up c.apply.new.self.entries) c.self.inside.cpus c.self.inside.queue c.make_room.new.queue c.args.message
-    (ap is_applied (ap (word v) (sym c.again.ensures) ∙ c.in_ok-news.ensures.word) ∙ not_applied c.in_ok-news.news c.in_default.not-Applied)
-    (λ t. c.in_ok-news.ensures.known t ∙ ap (λ (m : Message). apply v m t) c.again.ensures) c.make_room.ensures.waiting
-    ∙ ap (λ (x : MindState). after_message c.args.message (picture_of x)) c.self.view_is
-
-pub invariant_of-self-2 : goal.invariant_of-self-2
-invariant_of-self-2 c =
-    let v = look_up c.self.inside.view.entries in
+pub invariant_of-self : goal.invariant_of-self
+invariant_of-self c =
     record {
-      waiting = news_waiting v (look_up c.apply.new.self.entries) c.self.inside.cpus c.hear.new.self c.make_room.new.queue c.requeue.new.queue c.args.message
-          (waiting_as_before v v c.self.inside.cpus c.self.inside.queue c.make_room.new.queue (λ t. refl) c.make_room.ensures.waiting c.self.invariant.waiting)
-          (λ t. c.in_ok-news.ensures.known t ∙ ap (λ (m : Message). apply v m t) c.again.ensures) c.hear.ensures c.requeue.ensures.requeued;
-      room = c.requeue.ensures.room;
+      waiting = tick_waiting (look_up c.self.inside.view.entries) c.self.inside.cpus c.hear_as.new.self c.self.inside.queue c.args.message (sym c.kind-kind.ensures ∙ c.in-TimerTick.is) c.hear_as.ensures c.self.invariant.waiting;
+      room = c.self.invariant.room;
     }
-
-pub returns-clause-picture : goal.returns-clause-picture
-returns-clause-picture c =
-    let v = look_up c.self.inside.view.entries in
-    news_picture v (look_up c.apply.new.self.entries) c.self.inside.cpus c.hear.new.self c.self.inside.queue c.make_room.new.queue c.requeue.new.queue c.args.message
-    (ap (word v) (sym c.again.ensures) ∙ (c.in_ok-news.ensures.word ∙ ap word_of c.in-Applied.is))
-    (λ t. c.in_ok-news.ensures.known t ∙ ap (λ (m : Message). apply v m t) c.again.ensures) c.hear.ensures c.make_room.ensures.waiting c.requeue.ensures.requeued
-    ∙ ap (λ (x : MindState). after_message c.args.message (picture_of x)) c.self.view_is

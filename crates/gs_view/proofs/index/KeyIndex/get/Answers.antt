@@ -10,7 +10,7 @@ pub index-requires : goal.index-requires
 index-requires c =
     let live = c.self.inside.live in
     let there : is_in live c.args.tid ≡ true = sym c.has.ensures ∙ c.if-has.true in
-    omega (arith, in_within live c.args.tid there, c.self.invariant, c.self.inside.keys.ok)
+    omega (arith, in_within live c.args.tid there, c.self.invariant.0, c.self.inside.keys.ok)
 
 pub returns-then-has : goal.returns-then-has
 returns-then-has c =
@@ -18,7 +18,7 @@ returns-then-has c =
     let keys = c.self.inside.keys in
     let there : is_in live c.args.tid ≡ true = sym c.has.ensures ∙ c.if-has.true in
     ap (λ key. Some key) (c.index.ensures ∙ get_or_default_zero keys.items c.args.tid c.index.result.now
-    (omega (arith, in_within live c.args.tid there, c.self.invariant, keys.ok)))
+    (omega (arith, in_within live c.args.tid there, c.self.invariant.0, keys.ok)))
     ∙ (sym (has_key live keys.items c.args.tid there) ∙ ap (λ i. key_of i c.args.tid) c.self.view_is)
 
 pub returns-else-has : goal.returns-else-has

@@ -7,7 +7,7 @@ pub returns-clause-here : goal.returns-clause-here
 returns-clause-here c =
     let keys = c.self.inside.keys in
     key_here c.set.new.self keys.items c.args.tid c.args.key
-    (omega (arith, c.requires, ap (λ i. length i.live) c.self.view_is, c.self.invariant, keys.ok)) c.set.ensures.here
+    (omega (arith, c.requires, ap (λ i. length i.live) c.self.view_is, c.self.invariant.0, keys.ok)) c.set.ensures.here
 
 pub returns-clause-others : goal.returns-clause-others
 returns-clause-others c t differs =

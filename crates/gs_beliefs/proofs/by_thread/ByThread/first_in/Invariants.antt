@@ -3,7 +3,7 @@ use Rattle.gs_status.specs.Masks.{has}
 use Rattle.gs_beliefs.specs.ByThread.{stands}
 use Rattle.gs_beliefs.specs.Cpus.{is_just}
 use Rattle.gs_beliefs.proofs.Marks.{remaining}
-use Rattle.gs_beliefs.proofs.by_thread.ByThread.first_of.Given as goal
+use Rattle.gs_beliefs.proofs.by_thread.ByThread.first_in.Given as goal
 
 -- the thread stands on no CPU that is left out
 abbrev pub invariant-loop-cpu : goal.invariant-loop-cpu
