@@ -33,33 +33,66 @@ left_at (Some p) = at p.0 p.1 entries.Left
 abbrev pub stamped_text : ℕ → ℕ → List ℕ
 stamped_text n limit = said words.ThereAre ++ decimal n ++ said words.OfAtMost ++ decimal limit ++ said words.TransactionsAndTooFewAreLeft
 
+-- of which refusal it is told
+abbrev pub tail_refusal : Tail → Refusal
+tail_refusal (tails.Part from to) = refusals.OutOfMemory
+tail_refusal (tails.NoThread t) = refusals.NoThread
+tail_refusal (tails.Dead t l p) = refusals.NoThread
+tail_refusal (tails.Unknown t) = refusals.NoThread
+tail_refusal (tails.NeverPlaced t) = refusals.NotRunning
+tail_refusal (tails.Off t l p) = refusals.NotRunning
+tail_refusal (tails.Runs t l p) = refusals.NotBlocked
+tail_refusal (tails.BadMask cpus m) = refusals.EmptyMask
+tail_refusal (tails.BadCpu k cpus) = refusals.BadCpu
+tail_refusal (tails.Active f k g l p) = f
+tail_refusal (tails.Attaches f g l p) = f
+tail_refusal (tails.Left f l p) = f
+tail_refusal (tails.NoPage g) = refusals.NotAttaching
+tail_refusal (tails.Page g l) = refusals.NotAttaching
+tail_refusal (tails.Held k l p) = refusals.CpuTaken
+tail_refusal (tails.NeverTaken k) = refusals.NotTaken
+tail_refusal (tails.Given k l p) = refusals.NotTaken
+tail_refusal (tails.Spent t l p) = refusals.SeqSpent
+tail_refusal (tails.Generations l p) = refusals.GenSpent
+tail_refusal (tails.Tids l p) = refusals.TidsSpent
+tail_refusal (tails.Entries n limit) = refusals.HistoryFull
+tail_refusal (tails.Transactions n limit) = refusals.HistoryFull
+tail_refusal (tails.Waits k n l) = refusals.SlotOpen
+tail_refusal (tails.Numbered n) = refusals.NoSuchTransaction
+tail_refusal (tails.Gone l p) = refusals.Gone
+
+-- its sentence: the reason alone
+abbrev pub tail_sentence : Tail → List ℕ
+tail_sentence (tails.Part from to) = []
+tail_sentence (tails.NoThread t) = dead_text t None
+tail_sentence (tails.Dead t l p) = dead_text t (at l p entries.Left)
+tail_sentence (tails.Unknown t) = said words.TheAgentKnowsOfNoThread ++ decimal t
+tail_sentence (tails.NeverPlaced t) = off_text t None
+tail_sentence (tails.Off t l p) = off_text t (at l p entries.Left)
+tail_sentence (tails.Runs t l p) = runs_text t (at l p entries.Left)
+tail_sentence (tails.BadMask cpus m) = bad_mask_text m cpus
+tail_sentence (tails.BadCpu k cpus) = bad_cpu_text k cpus
+tail_sentence (tails.Active f k g l p) = agent_text (at l p (entries.Role g k))
+tail_sentence (tails.Attaches f g l p) = agent_text (at l p (entries.Begin g))
+tail_sentence (tails.Left f l p) = agent_text (at l p entries.Left)
+tail_sentence (tails.NoPage g) = page_text g None
+tail_sentence (tails.Page g l) = page_text g (Some l)
+tail_sentence (tails.Held k l p) = held_text k (at l p entries.Left)
+tail_sentence (tails.NeverTaken k) = given_text k None
+tail_sentence (tails.Given k l p) = given_text k (at l p entries.Left)
+tail_sentence (tails.Spent t l p) = said words.Thread ++ decimal t ++ said words.HasItsLastSequenceNumber ++ since_text (at l p entries.Left)
+tail_sentence (tails.Generations l p) = last_text (said words.NoGenerationFollowsThat) (at l p entries.Left)
+tail_sentence (tails.Tids l p) = last_text (said words.NoTidFollowsThat) (at l p entries.Left)
+tail_sentence (tails.Entries n limit) = full_text n limit
+tail_sentence (tails.Transactions n limit) = stamped_text n limit
+tail_sentence (tails.Waits k n l) = waiting_text (Some (record { cpu = k; number = n; line = l }))
+tail_sentence (tails.Numbered n) = transactions_text n
+tail_sentence (tails.Gone l p) = torn_text (at l p entries.Left)
+
 -- the reply and its reason, or what stands in a text
 abbrev pub tail_text : List ℕ → Tail → List ℕ
 tail_text text (tails.Part from to) = part from to text
-tail_text text (tails.NoThread t) = told refusals.NoThread (dead_text t None)
-tail_text text (tails.Dead t l p) = told refusals.NoThread (dead_text t (at l p entries.Left))
-tail_text text (tails.Unknown t) = told refusals.NoThread (said words.TheAgentKnowsOfNoThread ++ decimal t)
-tail_text text (tails.NeverPlaced t) = told refusals.NotRunning (off_text t None)
-tail_text text (tails.Off t l p) = told refusals.NotRunning (off_text t (at l p entries.Left))
-tail_text text (tails.Runs t l p) = told refusals.NotBlocked (runs_text t (at l p entries.Left))
-tail_text text (tails.BadMask cpus m) = told refusals.EmptyMask (bad_mask_text m cpus)
-tail_text text (tails.BadCpu k cpus) = told refusals.BadCpu (bad_cpu_text k cpus)
-tail_text text (tails.Active f k g l p) = told f (agent_text (at l p (entries.Role g k)))
-tail_text text (tails.Attaches f g l p) = told f (agent_text (at l p (entries.Begin g)))
-tail_text text (tails.Left f l p) = told f (agent_text (at l p entries.Left))
-tail_text text (tails.NoPage g) = told refusals.NotAttaching (page_text g None)
-tail_text text (tails.Page g l) = told refusals.NotAttaching (page_text g (Some l))
-tail_text text (tails.Held k l p) = told refusals.CpuTaken (held_text k (at l p entries.Left))
-tail_text text (tails.NeverTaken k) = told refusals.NotTaken (given_text k None)
-tail_text text (tails.Given k l p) = told refusals.NotTaken (given_text k (at l p entries.Left))
-tail_text text (tails.Spent t l p) = told refusals.SeqSpent (said words.Thread ++ decimal t ++ said words.HasItsLastSequenceNumber ++ since_text (at l p entries.Left))
-tail_text text (tails.Generations l p) = told refusals.GenSpent (last_text (said words.NoGenerationFollowsThat) (at l p entries.Left))
-tail_text text (tails.Tids l p) = told refusals.TidsSpent (last_text (said words.NoTidFollowsThat) (at l p entries.Left))
-tail_text text (tails.Entries n limit) = told refusals.HistoryFull (full_text n limit)
-tail_text text (tails.Transactions n limit) = told refusals.HistoryFull (stamped_text n limit)
-tail_text text (tails.Waits k n l) = told refusals.SlotOpen (waiting_text (Some (record { cpu = k; number = n; line = l })))
-tail_text text (tails.Numbered n) = told refusals.NoSuchTransaction (transactions_text n)
-tail_text text (tails.Gone l p) = told refusals.Gone (torn_text (at l p entries.Left))
+tail_text text t = told (tail_refusal t) (tail_sentence t)
 
 -- it is told of a refusal with this reason, whatever text there is
 abbrev pub IsTail : Tail → Refusal → List ℕ → Type 0

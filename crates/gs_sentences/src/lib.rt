@@ -14,6 +14,7 @@ mod subject;
 mod tail;
 mod told;
 mod words;
+mod written;
 
 pub use cause::Cause;
 pub use landed::{Landed, Overflow, Stamped, put_landed};
@@ -24,3 +25,4 @@ pub use sentence::{MOST_REASON_LEN, SENTENCE_LEN, Sentence};
 pub use subject::{cpu_of, mask_of, tid_of};
 pub use tail::Tail;
 pub use told::{TAIL_LEN, put_tail};
+pub use written::{Front, write_tail};

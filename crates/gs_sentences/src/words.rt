@@ -92,7 +92,7 @@ pub(crate) enum Words {
 impl Words {
     /// Returns the words as text.
     #[tactic(auto, unfolding(crate::specs::Words::said))]
-    fn as_str(self) -> &'static str
+    pub(crate) fn as_str(self) -> &'static str
         ensures name { result.now ≡ said self }
         ensures short { length result.now ≤ 64 }
     {

@@ -186,15 +186,24 @@ impl Sheet {
         self.append(words.as_bytes())
     }
 
+    /// Adds words that are known where it is compiled. They are written byte by byte, without a call.
+    #[inline(always)]
+    pub fn push_words(&mut self, words: &str) -> Result<(), AllocError>
+        ensures added { OnOk result (self.new ≡ self.old ++ words.now) }
+        ensures kept { OnErr result (self.new ≡ self.old) }
+    {
+        make_room(&mut self.bytes, self.len, words.len())?;
+        self.len = put_words(&mut self.bytes, self.len, words);
+        Ok(())
+    }
+
     /// Ends a line.
     #[inline(always)]
     pub fn end_line(&mut self) -> Result<(), AllocError>
         ensures added { OnOk result (self.new ≡ self.old ++ 10 ∷ []) }
         ensures kept { OnErr result (self.new ≡ self.old) }
     {
-        make_room(&mut self.bytes, self.len, 1)?;
-        self.len = put_words(&mut self.bytes, self.len, "\n");
-        Ok(())
+        self.push_words("\n")
     }
 
     /// Adds a number.

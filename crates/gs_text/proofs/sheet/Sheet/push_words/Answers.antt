@@ -2,7 +2,7 @@ use Rattle.std.proofs.Common.{rules, subst, sym, take, List, ℕ}
 use Rattle.std.proofs.lemmas.Str.{IsUtf8-from_is_utf8}
 use Rattle.std.specs.Str.{IsUtf8}
 use Rattle.gs_text.proofs.Grown.{lent_utf8}
-use Rattle.gs_text.proofs.sheet.Sheet.end_line.Goals as goal
+use Rattle.gs_text.proofs.sheet.Sheet.push_words.Goals as goal
 
 pub invariant_of-self-2 : goal.invariant_of-self-2
 invariant_of-self-2 c =
