@@ -66,19 +66,34 @@ pub(crate) fn write_messages(out: &mut Text, messages: &[Message]) -> Result<(),
     Ok(())
 }
 
+/// The words for what happened to a thread.
+const CREATED: &str = "created";
+
+const BLOCKED: &str = "blocked";
+
+const WOKEN: &str = "woken";
+
+const PREEMPTED: &str = "preempted";
+
+const YIELDED: &str = "yielded";
+
+const DEAD: &str = "dead";
+
+const AFFINITY: &str = "affinity";
+
 /// Returns what is said to have happened to a thread: one word, as `created` or `woken`.
 pub fn change_name(change: &Change) -> &'static str
     ensures name { result.now ≡ change_text change.now }
     ensures short { length result.now ≤ 9 }
 {
     match change {
-        Change::Created { .. } => "created",
-        Change::Blocked { .. } => "blocked",
-        Change::Wakeup => "woken",
-        Change::Preempted { .. } => "preempted",
-        Change::Yield { .. } => "yielded",
-        Change::Dead { .. } => "dead",
-        Change::Affinity { .. } => "affinity",
+        Change::Created { .. } => CREATED,
+        Change::Blocked { .. } => BLOCKED,
+        Change::Wakeup => WOKEN,
+        Change::Preempted { .. } => PREEMPTED,
+        Change::Yield { .. } => YIELDED,
+        Change::Dead { .. } => DEAD,
+        Change::Affinity { .. } => AFFINITY,
     }
 }
 
@@ -104,16 +119,70 @@ fn write_change(out: &mut Text, tid: u32, tseq: u32, change: &Change) -> Result<
             off: true,
             ..
         } => write_off(out, tid, tseq, *cpu),
-        _ => write_changed(out, change_name(change), tid, tseq),
+        Change::Created { .. } => write_created(out, tid, tseq),
+        Change::Blocked { .. } => write_blocked(out, tid, tseq),
+        Change::Wakeup => write_woken(out, tid, tseq),
+        Change::Preempted { .. } => write_preempted(out, tid, tseq),
+        Change::Yield { .. } => write_yielded(out, tid, tseq),
+        Change::Dead { .. } => write_dead(out, tid, tseq),
+        Change::Affinity { .. } => write_affinity(out, tid, tseq),
     }
 }
 
-/// Adds the line of a thread with a word for what happened to it.
+/// Adds the line of a thread that was created.
 #[inline(never)]
-fn write_changed(out: &mut Text, name: &str, tid: u32, tseq: u32) -> Result<(), AllocError>
-    ensures { OnOk result (out.new ≡ out.old ++ line (name.now ++ codes " " ++ decimal tid ++ codes " seq " ++ decimal tseq)) }
+fn write_created(out: &mut Text, tid: u32, tseq: u32) -> Result<(), AllocError>
+    ensures { OnOk result (out.new ≡ out.old ++ line (codes "created" ++ codes " " ++ decimal tid ++ codes " seq " ++ decimal tseq)) }
 {
-    push_thread_line(out, name, tid, tseq)
+    push_thread_line(out, CREATED, tid, tseq)
+}
+
+/// Adds the line of a thread that blocked.
+#[inline(never)]
+fn write_blocked(out: &mut Text, tid: u32, tseq: u32) -> Result<(), AllocError>
+    ensures { OnOk result (out.new ≡ out.old ++ line (codes "blocked" ++ codes " " ++ decimal tid ++ codes " seq " ++ decimal tseq)) }
+{
+    push_thread_line(out, BLOCKED, tid, tseq)
+}
+
+/// Adds the line of a thread that woke.
+#[inline(never)]
+fn write_woken(out: &mut Text, tid: u32, tseq: u32) -> Result<(), AllocError>
+    ensures { OnOk result (out.new ≡ out.old ++ line (codes "woken" ++ codes " " ++ decimal tid ++ codes " seq " ++ decimal tseq)) }
+{
+    push_thread_line(out, WOKEN, tid, tseq)
+}
+
+/// Adds the line of a thread that was taken off its CPU.
+#[inline(never)]
+fn write_preempted(out: &mut Text, tid: u32, tseq: u32) -> Result<(), AllocError>
+    ensures { OnOk result (out.new ≡ out.old ++ line (codes "preempted" ++ codes " " ++ decimal tid ++ codes " seq " ++ decimal tseq)) }
+{
+    push_thread_line(out, PREEMPTED, tid, tseq)
+}
+
+/// Adds the line of a thread that gave its CPU up.
+#[inline(never)]
+fn write_yielded(out: &mut Text, tid: u32, tseq: u32) -> Result<(), AllocError>
+    ensures { OnOk result (out.new ≡ out.old ++ line (codes "yielded" ++ codes " " ++ decimal tid ++ codes " seq " ++ decimal tseq)) }
+{
+    push_thread_line(out, YIELDED, tid, tseq)
+}
+
+/// Adds the line of a thread that ended.
+#[inline(never)]
+fn write_dead(out: &mut Text, tid: u32, tseq: u32) -> Result<(), AllocError>
+    ensures { OnOk result (out.new ≡ out.old ++ line (codes "dead" ++ codes " " ++ decimal tid ++ codes " seq " ++ decimal tseq)) }
+{
+    push_thread_line(out, DEAD, tid, tseq)
+}
+
+/// Adds the line of a thread that has a new mask.
+#[inline(never)]
+fn write_affinity(out: &mut Text, tid: u32, tseq: u32) -> Result<(), AllocError>
+    ensures { OnOk result (out.new ≡ out.old ++ line (codes "affinity" ++ codes " " ++ decimal tid ++ codes " seq " ++ decimal tseq)) }
+{
+    push_thread_line(out, AFFINITY, tid, tseq)
 }
 
 /// Adds the line of a new mask that took a thread off a CPU.

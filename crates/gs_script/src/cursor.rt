@@ -122,8 +122,10 @@ pub(crate) fn mask_spaced(text: &[u8]) -> Option<(u128, &[u8])>
     ensures number { IfSome result (λ p. StartsWith (λ digits. number_between 0 u128.MAX digits ≡ Ok p.0) text.now (32 ∷ p.1.now)) }
 {
     let (number, rest) = mask_first(text)?;
-    let rest = behind(rest, b" ")?;
-    Some((number, rest))
+    match rest {
+        [b' ', rest @ ..] => Some((number, rest)),
+        _ => None,
+    }
 }
 
 /// A mask that is all of a line.

@@ -1,8 +1,8 @@
 //! Lines in their plainest form, read in one pass over their bytes: a word, and one space before each word behind it.
 
-ghost use Rattle.std.specs.Prelude.{◌≡◌, ◌<◌, ◌++◌, ◌∷◌, [], codes, false, true, IfSome, if◌then◌else◌, vec_capacity, vec_len};
+ghost use Rattle.std.specs.Prelude.{◌≡◌, ◌<◌, ◌++◌, ◌∷◌, [], codes, false, true, IfSome, Ok, if◌then◌else◌, vec_capacity, vec_len};
 ghost use Rattle.gs_script.specs.Rows as rows;
-ghost use Rattle.gs_script.specs.Rows.{reads};
+ghost use Rattle.gs_script.specs.Rows.{number_between, reads};
 ghost use Rattle.gs_script.specs.Plain.{StartsWith};
 ghost use Rattle.gs_core.specs.declared.event.Event.TheVariants as kinds;
 ghost use Rattle.gs_script.specs.Held.{Adds, AddsIf, AddsReadIf};
@@ -12,7 +12,7 @@ use crate::cursor::{
     number_spaced, rest_of_line, u16_last, u32_last,
 };
 use crate::named_policy::NamedPolicy;
-use crate::word::name;
+use crate::word::name_spelled;
 use gs_core::Event;
 use gs_kernel::{Command, ThreadEvent};
 use gs_layout::{Class, Facts};
@@ -36,9 +36,22 @@ fn of_kernel<P>(command: Command) -> Event<P>
 fn runnable_spaced(text: &[u8]) -> Option<(bool, &[u8])>
     ensures { IfSome result (λ p. StartsWith (λ word. word ≡ (if p.0 then codes "r" else codes "b")) text.now (32 ∷ p.1.now)) }
 {
-    match behind(text, b"r ") {
-        Some(rest) => Some((true, rest)),
-        None => Some((false, behind(text, b"b ")?)),
+    match text {
+        [b'r', b' ', rest @ ..] => Some((true, rest)),
+        [b'b', b' ', rest @ ..] => Some((false, rest)),
+        _ => None,
+    }
+}
+
+/// The number of a class, and the space behind it.
+#[inline(always)]
+fn class_spaced(text: &[u8]) -> Option<(u8, &[u8])>
+    ensures { IfSome result (λ p. StartsWith (λ digits. number_between 0 1 digits ≡ Ok p.0) text.now (32 ∷ p.1.now)) }
+{
+    match text {
+        [b'0', b' ', rest @ ..] => Some((0, rest)),
+        [b'1', b' ', rest @ ..] => Some((1, rest)),
+        _ => None,
     }
 }
 
@@ -49,16 +62,14 @@ fn create<'a, P: Copy>(text: &'a [u8], events: &mut Events<P>) -> Left<'a>
     ensures { AddsReadIf (reads rows.create) text.now events.old.items events.new.items result }
 {
     let (mask, rest) = mask_spaced(text)?;
-    let (class, rest) = number_spaced(rest, 1)?;
+    let (class, rest) = class_spaced(rest)?;
     let (runnable, rest) = runnable_spaced(rest)?;
     let (word, left) = rest_of_line(rest)?;
-    let Ok(name) = name(word) else {
-        return None;
-    };
+    let name = name_spelled(word)?;
     let facts = Facts {
         mask: Mask::new(mask),
         runnable,
-        class: Class::numbered(class as u8),
+        class: Class::numbered(class),
         name,
     };
     events.push_reserved(of_kernel(Command::Create { facts }));
@@ -91,6 +102,28 @@ fn behind_affinity(text: &[u8]) -> Option<&[u8]>
     ensures { IfSome result (λ rest. text.now ≡ codes "affinity " ++ rest.now) }
 {
     behind(behind(text, b"affinit")?, b"y ")
+}
+
+/// What stands behind the first word of a creation. Bytes are compared one by one, since a call would be made else.
+#[inline(always)]
+fn behind_create(text: &[u8]) -> Option<&[u8]>
+    ensures { IfSome result (λ rest. text.now ≡ codes "create " ++ rest.now) }
+{
+    match text {
+        [b'c', b'r', b'e', b'a', b't', b'e', b' ', rest @ ..] => Some(rest),
+        _ => None,
+    }
+}
+
+/// What stands behind the first word of a death, compared in the same way.
+#[inline(always)]
+fn behind_die(text: &[u8]) -> Option<&[u8]>
+    ensures { IfSome result (λ rest. text.now ≡ codes "die " ++ rest.now) }
+{
+    match text {
+        [b'd', b'i', b'e', b' ', rest @ ..] => Some(rest),
+        _ => None,
+    }
 }
 
 /// An affinity.
@@ -142,7 +175,7 @@ fn add_plain<'a, P: NamedPolicy>(text: &'a [u8], events: &mut Events<P>) -> Left
                 events.push_reserved(Event::Commit { mask });
                 Some(left)
             }
-            None => creation(behind(text, b"create ")?, events),
+            None => creation(behind_create(text)?, events),
         },
         b'd' => match text.get(1)? {
             b'r' => {
@@ -155,7 +188,7 @@ fn add_plain<'a, P: NamedPolicy>(text: &'a [u8], events: &mut Events<P>) -> Left
                 events.push_reserved(Event::Decide);
                 Some(left)
             }
-            _ => to_thread(behind(text, b"die ")?, ThreadEvent::Die, events),
+            _ => to_thread(behind_die(text)?, ThreadEvent::Die, events),
         },
         b'g' => {
             let (cpu, left) = u16_last(behind(text, b"give ")?)?;

@@ -1,4 +1,4 @@
-ghost use Rattle.std.specs.Prelude.{◌≡◌, ◌≤◌, IfOk, OnOk, MatchOption, true, false, map};
+ghost use Rattle.std.specs.Prelude.{◌≡◌, ◌≤◌, Err, IfOk, Ok, OnOk, MatchOption, true, false, map};
 ghost use Rattle.gs_script.specs.Words.{is_text, words_of};
 ghost use Rattle.gs_script.specs.Rows.{number_between, name_in};
 ghost use Rattle.gs_script.specs.Held.{begins_plainly};
@@ -82,13 +82,22 @@ pub(crate) fn mask(word: &str) -> Result<u128, Reason>
     Ok(n)
 }
 
-/// A thread's name, of which `-` is the empty one.
+/// The thread's name that a word spells, if it spells one: `-` is the empty one.
 #[inline(always)]
+pub(crate) fn name_spelled(word: &[u8]) -> Option<Name>
+    ensures { MatchOption result (name_in word.now ≡ Err Reason.BadName) (λ name. name_in word.now ≡ Ok name) }
+{
+    match word {
+        b"-" => Name::new(&[]),
+        _ => Name::new(word),
+    }
+}
+
+/// A thread's name, of which `-` is the empty one.
 pub(crate) fn name(word: &[u8]) -> Result<Name, Reason>
     ensures { result ≡ name_in word.now }
 {
-    let text = if word == b"-".as_slice() { &[] } else { word };
-    match Name::new(text) {
+    match name_spelled(word) {
         Some(name) => Ok(name),
         None => Err(Reason::BadName),
     }

@@ -15,8 +15,8 @@ returns-in_ok-behind-in-98 g c = spoken_added g.P.NamedPolicy.naming (codes "blo
 pub returns-in_ok-mask-in-Some : goal.returns-in_ok-mask-in-Some
 returns-in_ok-mask-in-Some g c = spoken_read g.P.NamedPolicy.naming (codes "commit") (reads rows.commit) (events.Commit c.new-mask.result) c.args.text.now c.in-Some.rest.now c.in_ok-mask-in-Some.left _ _ refl refl refl (λ words. refl) c.in-Some.ensures (rw c.new-mask.ensures (number_read events.Commit 340282366920938463463374607431768211455 c.in_ok-mask-in-Some.mask _ _ c.in_ok-mask-in-Some.ensures.number)) c.push_reserved.ensures.items
 
-pub returns-in_ok-behind-in-None : goal.returns-in_ok-behind-in-None
-returns-in_ok-behind-in-None g c = spoken_added g.P.NamedPolicy.naming (codes "create") (reads rows.create) _ _ _ _ _ refl refl refl (λ words. refl) c.in_ok-behind-in-None.ensures c.creation.ensures
+pub returns-in_ok-behind_create-in-None : goal.returns-in_ok-behind_create-in-None
+returns-in_ok-behind_create-in-None g c = spoken_added g.P.NamedPolicy.naming (codes "create") (reads rows.create) _ _ _ _ _ refl refl refl (λ words. refl) c.in_ok-behind_create-in-None.ensures c.creation.ensures
 
 pub returns-in_ok-max-in-114 : goal.returns-in_ok-max-in-114
 returns-in_ok-max-in-114 g c = spoken_read g.P.NamedPolicy.naming (codes "drain") (reads rows.drain) (events.Drain c.in_ok-max-in-114.max) c.args.text.now c.in_ok-behind-in-114.field-0.now c.in_ok-max-in-114.left _ _ refl refl refl (λ words. refl) c.in_ok-behind-in-114.ensures (number_read events.Drain 4294967295 c.in_ok-max-in-114.max _ _ c.in_ok-max-in-114.ensures) c.push_reserved-in-114.ensures.items
@@ -24,8 +24,8 @@ returns-in_ok-max-in-114 g c = spoken_read g.P.NamedPolicy.naming (codes "drain"
 pub returns-in_ok-left-in-101 : goal.returns-in_ok-left-in-101
 returns-in_ok-left-in-101 g c = alone_added g.P.NamedPolicy.naming (codes "decide") events.Decide _ _ _ _ _ refl refl refl refl c.in_ok-behind-in-101.ensures c.in_ok-left-in-101.ensures c.push_reserved-in-101.ensures.items
 
-pub returns-in_ok-behind-in_default-2 : goal.returns-in_ok-behind-in_default-2
-returns-in_ok-behind-in_default-2 g c = spoken_added g.P.NamedPolicy.naming (codes "die") (reads rows.die) _ _ _ _ _ refl refl refl (λ words. refl) c.in_ok-behind-in_default-2.ensures c.to_thread-in_default-2.ensures
+pub returns-in_ok-behind_die-in_default-2 : goal.returns-in_ok-behind_die-in_default-2
+returns-in_ok-behind_die-in_default-2 g c = spoken_added g.P.NamedPolicy.naming (codes "die") (reads rows.die) _ _ _ _ _ refl refl refl (λ words. refl) c.in_ok-behind_die-in_default-2.ensures c.to_thread-in_default-2.ensures
 
 pub returns-in_ok-cpu-in-103 : goal.returns-in_ok-cpu-in-103
 returns-in_ok-cpu-in-103 g c = spoken_read g.P.NamedPolicy.naming (codes "give") (reads rows.give) c.of_kernel.result c.args.text.now c.in_ok-behind-in-103.field-0.now c.in_ok-cpu-in-103.left _ _ refl refl refl (λ words. refl) c.in_ok-behind-in-103.ensures (rw c.of_kernel.ensures (number_read (λ cpu. events.Kernel (commands.Give cpu)) 65535 c.in_ok-cpu-in-103.cpu _ _ c.in_ok-cpu-in-103.ensures)) c.push_reserved-in-103.ensures.items
