@@ -1,5 +1,5 @@
 -- Objects of events, one more of them, and a text that grows.
-use Rattle.std.proofs.Common.{rules, false, ◌≡◌, ◌∙◌, refl, true, sym, ap, subst, ◌<◌, ◌≤◌, ◌+◌, ◌-◌, ℕ, zero, suc, Option, None, Some, Result, Ok, Err, OnOk, OnErr, IfOk, List, [], ◌∷◌, ◌++◌, append-nil, arith, drop, get_or, length, add-one, drop-cons}
+use Rattle.std.proofs.Common.{rules, false, ◌≡◌, ◌∙◌, refl, true, sym, ap, subst, ◌<◌, ◌≤◌, ◌+◌, ◌-◌, ℕ, zero, suc, Option, None, Some, Result, Ok, Err, OnOk, OnErr, IfOk, List, [], ◌∷◌, ◌++◌, append_assoc, append-nil, arith, codes, drop, get_or, length}
 use Rattle.std.specs.List.{All}
 use Rattle.std.specs.Option.{IfSome}
 use Rattle.std.specs.Result.{IsOk}
@@ -13,25 +13,23 @@ use Rattle.std.proofs.lemmas.Grind.{flat_map-append}
 use Rattle.gs_sentences.specs.Parts.{part}
 use Rattle.gs_explain.specs.declared.kept.Kept.{Kept}
 use Rattle.gs_explain.specs.declared.outline.Outline.{Outline}
-use Rattle.gs_explain.specs.Composed.{behind_commas, object_pieces}
-use Rattle.gs_explain.specs.Retold.{Leads}
-use Rattle.gs_explain.specs.Outlined.{AddsTold, AreOutlined, Grows, HasParts, IsKept, IsOutlined, Notes, NotesTold, Tells, TellsLate, TellsNothing, late_object, nothing_object, outline_text, outlines_text, told_object}
+use Rattle.json.specs.Print.{quoted}
+use Rattle.gs_lines.specs.Lines.{reply_lines}
+use Rattle.gs_explain.specs.Composed.{behind_commas, front_pieces, object_pieces, reasons_pieces, replies_pieces, rest_pieces}
+use Rattle.gs_explain.specs.Outlined.{AddsTold, AreOutlined, Grows, HasParts, IsKept, IsOutlined, Notes, NotesTold, Tells, TellsLate, TellsNothing, late_object, nothing_object, outline_text, outlines_text, told_count, told_object, told_rest}
 use Rattle.gs_explain.specs.declared.outline.Told.{Told}
 use Rattle.gs_explain.specs.declared.outline.Told.TheVariants as tolds
 use Rattle.gs_layout.specs.declared.refusal.Refusal.{Refusal}
 use Rattle.gs_replies.specs.declared.reply.Reply.TheVariants as replies
-use Rattle.gs_sentences.specs.Refused.{refused_text}
-use Rattle.gs_sentences.specs.Tails.{IsTail, is_part}
+use Rattle.gs_sentences.specs.Tails.{IsTail, is_part, tail_refusal}
 use Rattle.gs_sentences.specs.declared.tail.Tail.{Tail}
-use Rattle.gs_explain.specs.Moment.{Moment}
-use Rattle.gs_explain.specs.Refusals.{why_refused}
-use Rattle.gs_explain.specs.Tailed.{at_of, tail_refusal}
-use Rattle.gs_explain.proofs.Tailing.{not_part, refused_row}
+use Rattle.gs_explain.specs.Tailed.{refused_object, tail_why}
+use Rattle.gs_explain.proofs.Tailing.{not_part}
 use Rattle.std.specs.Str.Lines.{lines as lines_in}
 use Rattle.serde_json.specs.Written.{compact_text}
 use Rattle.gs_lines.specs.Lines.{line}
 use Rattle.gs_script.specs.Words.{is_text}
-use Rattle.gs_explain.specs.Objects.{none_why, object_row, row_data, whys}
+use Rattle.gs_explain.specs.Objects.{none_why, row_data}
 use Rattle.gs_explain.proofs.Composing.{whole_object}
 use Rattle.gs_explain.proofs.Retelling.{part_more}
 use Rattle.gs_explain.proofs.RowsAgain.{part_behind}
@@ -49,6 +47,17 @@ has_parts text t count from lines whys is e = subst (IsKept text) e is
 
 pub is_refused : (text : List ℕ) (t : Told) (where_at : Option (ℕ × ℕ)) (tail : Tail) → IsKept text t → t ≡ tolds.Refused where_at tail → is_part tail ≡ false
 is_refused text t where_at tail is e = subst (IsKept text) e is
+
+-- an object is what stands before its line's number, the number, and the rest
+regroup_object : (f r a t q e : List ℕ) → f ++ ((((r ++ a) ++ t) ++ q) ++ e) ≡ ((((f ++ r) ++ a) ++ t) ++ q) ++ e
+regroup_object f r a t q e = simp append_assoc
+
+pub object_split : (said : ℕ × List ℕ) (first count : ℕ) (lines whys : List ℕ) → front_pieces said.0 first count ++ rest_pieces said.1 lines whys ≡ object_pieces said first count lines whys
+object_split said first count lines whys = regroup_object (front_pieces said.0 first count) (codes ",\"replies\":[") (replies_pieces lines) (codes "],\"text\":") (quoted said.1) (reasons_pieces (drop 1 whys))
+
+pub told_split : (t : Told) (said : ℕ × List ℕ) (first : ℕ) (text : List ℕ) → front_pieces said.0 first (told_count t) ++ told_rest said.1 text t ≡ told_object said first text t
+told_split (tolds.Parts count from lines whys) said first text = object_split said first count (part from (from + lines) text) (part (from + lines) (from + lines + whys) text)
+told_split (tolds.Refused where_at t) said first text = object_split said first 0 (reply_lines (replies.Refused (tail_refusal t))) (tail_why where_at t)
 
 -- an object has some bytes
 some_told : (t : Told) (said : ℕ × List ℕ) (first : ℕ) (text : List ℕ) → 0 < length (told_object said first text t)
@@ -153,18 +162,6 @@ kept_outlined (Ok x) (Ok o) os all nothing now kepts left old new is added same 
 kept_outlined (Ok x) (Err e) os all nothing now kepts left old new is added same none grows stands are = absurd cc
 kept_outlined (Err e) o os all nothing now kepts left old new is added same none grows stands are = none_outlined all now left new none.0 none.1 none.2
 
--- an event, for where none is
-abbrev pub nothing : Outline
-nothing = record { line = record { ref_ptr = (0, 0); now = [] }; number = 0; first = 0; told = tolds.Parts 0 0 0 0 }
-
--- the object that is put together next, and the rest
-pub leads_object : (a b : Option (List ℕ)) (whole block text : List ℕ) (os : List Outline) (i : ℕ) (d : Outline) → i < length os → Leads a whole b (block ++ outlines_text text (drop i os))
-    → Leads a whole b (block ++ (outline_text text (get_or os i d) ++ outlines_text text (drop (i + 1) os)))
-leads_object a b whole block text os i d lt leads = subst (λ t. Leads a whole b (block ++ t)) next leads
-  where
-    next : outlines_text text (drop i os) ≡ outline_text text (get_or os i d) ++ outlines_text text (drop (i + 1) os)
-    next = rw (add-one, drop-cons os i d)
-
 -- what stands behind text in a text is text
 utf8_behind : (front back : List ℕ) → IsUtf8 front → IsUtf8 (front ++ back) → IsUtf8 back
 utf8_behind front back u v =
@@ -225,17 +222,9 @@ module _ (o : Outline) (old mid new lines : List ℕ) (why : List Data) (said : 
   told_outline =
       (λ i. told_object (noted.said i) (noted.first i) new (noted.told i)) ∙ ((λ i. object_pieces said first (end - first) (lines_part i) (whys_part i)) ∙ whole_object said first end lines why)
 
--- an event that was refused is outlined by its numbers, whatever text there is
-pub refused_outlined : (o : Outline) (said : ℕ × List ℕ) (where_at : Option (ℕ × ℕ)) (t : Tail) (x : Moment) (f : Refusal) → NotesTold said (length x.history) (tolds.Refused where_at t) o → tail_refusal t ≡ f → IsTail t f (refused_text (why_refused x f)) → where_at ≡ at_of (why_refused x f).cause
-    → (text : List ℕ) → outline_text text o ≡ object_row said x (length x.history) (replies.Refused f)
-refused_outlined o said where_at t x f noted same tail at text = (λ i. told_object (noted.said i) (noted.first i) text (noted.told i)) ∙ refused_row t where_at x f said same tail at
-
-pub refused_stands : (o : Outline) (said : ℕ × List ℕ) (first : ℕ) (where_at : Option (ℕ × ℕ)) (t : Tail) (f : Refusal) (why : List ℕ) → NotesTold said first (tolds.Refused where_at t) o → IsTail t f why → is_text said.1 ≡ true → (text : List ℕ) → IsOutlined text o
-refused_stands o said first where_at t f why noted tail line text =
-    record {
-      line = subst (λ (p : ℕ × List ℕ). is_text p.1 ≡ true) (sym noted.said) line;
-      told = subst (IsKept text) (sym noted.told) (not_part t f why tail);
-    }
+-- an event that was refused is told by its numbers, whatever text there is
+pub refused_tells : (where_at : Option (ℕ × ℕ)) (t : Tail) (f : Refusal) (why text : List ℕ) → IsTail t f why → Tells text (λ said first. refused_object said first where_at t) (tolds.Refused where_at t)
+refused_tells where_at t f why text tail = record { kept = not_part t f why tail; told = λ said first. refl }
 
 -- an event of no entry, with what is told of it from a place on
 abbrev quiet : ℕ × List ℕ → ℕ → ℕ → ℕ → ℕ → Outline

@@ -1,13 +1,10 @@
 -- What an object has of a refusal that is told by numbers.
-use Rattle.std.proofs.Common.{◌≡◌, ◌∙◌, refl, sym, ap, subst, true, false, ℕ, zero, suc, ◌+◌, ◌-◌, ◌≤◌, Option, None, Some, List, [], ◌∷◌, ◌++◌, append_assoc, append-nil, arith, codes, drop, get_or, length, take}
+use Rattle.std.proofs.Common.{◌≡◌, ◌∙◌, refl, sym, ap, true, false, ℕ, zero, suc, ◌+◌, ◌-◌, Option, None, Some, List, [], ◌∷◌, ◌++◌, append_assoc, append-nil, arith, codes, drop, length, take}
 use Rattle.std.specs.Prelude.{decimal}
-use Rattle.std.specs.Fmt.{digits}
 use Rattle.std.specs.List.{list_all}
 use Rattle.std.proofs.lemmas.Bool.{and_parts, false≢true}
 use Rattle.std.proofs.lemmas.List.{length-append, length-drop, length-take}
-use Rattle.std.proofs.Math.Seq.{drop-append-add, drop-append_seam, get_or-append_seam, take-append_seam}
-use Rattle.std.specs.Str.{IsUtf8}
-use Rattle.std.proofs.lemmas.Str.{IsCharBoundary-after_ascii, IsUtf8-drop}
+use Rattle.std.proofs.Math.Seq.{drop-append_seam, take-append_seam}
 use Rattle.json.specs.Print.{quoted}
 use Rattle.json.specs.Run.{is_plain}
 use Rattle.json.specs.Written.{PlainBetween}
@@ -18,45 +15,46 @@ use Rattle.gs_replies.specs.declared.reply.Reply.TheVariants as replies
 use Rattle.gs_sentences.specs.Parts.{part}
 use Rattle.gs_sentences.specs.Reason as reasons
 use Rattle.gs_sentences.specs.Refused.{refused_text}
-use Rattle.gs_sentences.specs.Tails.{IsTail, is_part, tail_text, told}
+use Rattle.gs_sentences.specs.Tails.{IsTail, is_part, tail_refusal, tail_sentence, tail_text, told}
 use Rattle.gs_sentences.specs.Told.{Cause}
 use Rattle.gs_sentences.specs.declared.tail.Tail.{Tail}
 use Rattle.gs_sentences.specs.declared.tail.Tail.TheVariants as tails
-use Rattle.gs_explain.specs.Composed.{object_pieces, option_json, reason_pieces, reasons_pieces, replies_pieces, why_pieces}
+use Rattle.gs_sentences.proofs.Spoken.{sentence_spoken}
+use Rattle.gs_explain.specs.Composed.{front_pieces, object_pieces, option_json, reasons_pieces, replies_pieces, why_pieces}
 use Rattle.gs_explain.specs.Moment.{Moment}
 use Rattle.gs_explain.specs.Objects.{line_of_cause, object_row, place_of_cause, reason_data, refusal_word}
 use Rattle.gs_explain.specs.Refusals.{why_refused}
-use Rattle.gs_explain.specs.Tailed.{at_of, end_of, line_in, place_in, quoted_reply, refused_object, sentence_in, stencil_pieces, tail_reason, tail_refusal}
-use Rattle.gs_explain.proofs.Quoting.{plain_quoted, utf8_front}
+use Rattle.gs_explain.specs.Tailed.{at_of, line_in, place_in, quoted_reply, reason_front, refused_object, refused_rest, tail_why}
+use Rattle.gs_explain.proofs.Quoting.{plain_quoted}
 use Rattle.gs_explain.proofs.Composing.{only_reply, whole_object, whole_reason}
 
--- what is told of a refusal is its reply and a sentence
-pub tail_parts : (text : List ℕ) (t : Tail) → is_part t ≡ false → (r : List ℕ) × (tail_text text t ≡ told (tail_refusal t) r)
+-- what is told of a refusal is its reply and its sentence
+tail_parts : (text : List ℕ) (t : Tail) → is_part t ≡ false → tail_text text t ≡ told (tail_refusal t) (tail_sentence t)
 tail_parts text (tails.Part from to) e = absurd (false≢true (sym e))
-tail_parts text (tails.NoThread t) e = (_, refl)
-tail_parts text (tails.Dead t l p) e = (_, refl)
-tail_parts text (tails.Unknown t) e = (_, refl)
-tail_parts text (tails.NeverPlaced t) e = (_, refl)
-tail_parts text (tails.Off t l p) e = (_, refl)
-tail_parts text (tails.Runs t l p) e = (_, refl)
-tail_parts text (tails.BadMask cpus m) e = (_, refl)
-tail_parts text (tails.BadCpu k cpus) e = (_, refl)
-tail_parts text (tails.Active f k g l p) e = (_, refl)
-tail_parts text (tails.Attaches f g l p) e = (_, refl)
-tail_parts text (tails.Left f l p) e = (_, refl)
-tail_parts text (tails.NoPage g) e = (_, refl)
-tail_parts text (tails.Page g l) e = (_, refl)
-tail_parts text (tails.Held k l p) e = (_, refl)
-tail_parts text (tails.NeverTaken k) e = (_, refl)
-tail_parts text (tails.Given k l p) e = (_, refl)
-tail_parts text (tails.Spent t l p) e = (_, refl)
-tail_parts text (tails.Generations l p) e = (_, refl)
-tail_parts text (tails.Tids l p) e = (_, refl)
-tail_parts text (tails.Entries n limit) e = (_, refl)
-tail_parts text (tails.Transactions n limit) e = (_, refl)
-tail_parts text (tails.Waits k n l) e = (_, refl)
-tail_parts text (tails.Numbered n) e = (_, refl)
-tail_parts text (tails.Gone l p) e = (_, refl)
+tail_parts text (tails.NoThread t) e = refl
+tail_parts text (tails.Dead t l p) e = refl
+tail_parts text (tails.Unknown t) e = refl
+tail_parts text (tails.NeverPlaced t) e = refl
+tail_parts text (tails.Off t l p) e = refl
+tail_parts text (tails.Runs t l p) e = refl
+tail_parts text (tails.BadMask cpus m) e = refl
+tail_parts text (tails.BadCpu k cpus) e = refl
+tail_parts text (tails.Active f k g l p) e = refl
+tail_parts text (tails.Attaches f g l p) e = refl
+tail_parts text (tails.Left f l p) e = refl
+tail_parts text (tails.NoPage g) e = refl
+tail_parts text (tails.Page g l) e = refl
+tail_parts text (tails.Held k l p) e = refl
+tail_parts text (tails.NeverTaken k) e = refl
+tail_parts text (tails.Given k l p) e = refl
+tail_parts text (tails.Spent t l p) e = refl
+tail_parts text (tails.Generations l p) e = refl
+tail_parts text (tails.Tids l p) e = refl
+tail_parts text (tails.Entries n limit) e = refl
+tail_parts text (tails.Transactions n limit) e = refl
+tail_parts text (tails.Waits k n l) e = refl
+tail_parts text (tails.Numbered n) e = refl
+tail_parts text (tails.Gone l p) e = refl
 
 -- what is told of a refusal is no part of a text
 pub not_part : (t : Tail) (f : Refusal) (why : List ℕ) → IsTail t f why → is_part t ≡ false
@@ -109,9 +107,15 @@ behind_reply reply reason =
     let left : drop (length reply + 2) ((front ++ reason) ++ 10 ∷ []) ≡ reason ++ 10 ∷ [] = (λ i. drop (sym size i) (whole i)) ∙ drop-append_seam front (reason ++ 10 ∷ []) in
     (λ i. take (many i) (left i)) ∙ take-append_seam reason (10 ∷ [])
 
+-- so it is told by what is told
+same_reason : (f : Refusal) (one other : List ℕ) → told f one ≡ told f other → one ≡ other
+same_reason f one other same =
+    let reply : List ℕ = reply_lines (replies.Refused f) in
+    sym (behind_reply reply one) ∙ (ap (λ (bytes : List ℕ). part (length reply + 2) (length bytes - 1) bytes) same ∙ behind_reply reply other)
+
 -- what is told of a refusal has its sentence
-told_reason : (t : Tail) (f : Refusal) (why : List ℕ) → tail_refusal t ≡ f → IsTail t f why → tail_reason t ≡ why
-told_reason t f why same tail = (λ i. sentence_in (same i) (tail [] i)) ∙ behind_reply (reply_lines (replies.Refused f)) why
+told_reason : (t : Tail) (f : Refusal) (why : List ℕ) → tail_refusal t ≡ f → IsTail t f why → tail_sentence t ≡ why
+told_reason t f why same tail = same_reason f (tail_sentence t) why (ap (λ (g : Refusal). told g (tail_sentence t)) (sym same) ∙ (sym (tail_parts [] t (not_part t f why tail)) ∙ tail []))
 
 -- the object of an event that was refused, by its numbers
 pub refused_row : (t : Tail) (where_at : Option (ℕ × ℕ)) (x : Moment) (f : Refusal) (said : ℕ × List ℕ) → tail_refusal t ≡ f → IsTail t f (refused_text (why_refused x f)) → where_at ≡ at_of (why_refused x f).cause
@@ -122,7 +126,7 @@ refused_row t where_at x f said same tail at =
     let end : ℕ = length x.history in
     let place : place_in where_at ≡ place_of_cause cause = ap place_in at ∙ same_place cause in
     let where_line : line_in where_at ≡ line_of_cause cause = ap line_in at ∙ same_line cause in
-    let sentence : tail_reason t ≡ why = told_reason t f why same tail in
+    let sentence : tail_sentence t ≡ why = told_reason t f why same tail in
     let none : 0 ≡ end - end = omega arith in
     (λ i. object_pieces said end (none i) (reply_lines (replies.Refused (same i))) (why_pieces (place i) (where_line i) (refusal_word (same i)) (sentence i)))
     ∙ (ap (λ (w : List ℕ). object_pieces said end (end - end) (reply_lines (replies.Refused f)) w) (whole_reason (reasons.Refused (why_refused x f)))
@@ -161,75 +165,38 @@ reply_quoted f =
     let reply : List ℕ = codes "refused " ++ refusal_text f in
     sym (only_reply reply (all_plain reply (plain_reply f)))
 
--- the same, in bytes that tell of it, by how many bytes the reply has in quotation marks
-pub reason_stands : (t : Tail) (bytes : List ℕ) (from to : ℕ) → bytes ≡ tail_text [] t ++ [] → from ≡ length (quoted_reply (tail_refusal t)) + 1 → to ≡ length bytes - 1 → part from to bytes ≡ tail_reason t
-reason_stands t bytes from to is begins ends =
-    let f : Refusal = tail_refusal t in
-    let reply : List ℕ = codes "refused " ++ refusal_text f in
-    let all : bytes ≡ tail_text [] t = is ∙ append-nil (tail_text [] t) in
-    let short : length (reply_lines (replies.Refused f)) ≡ length reply + 1 = length-append reply (10 ∷ []) in
-    let marked : length (quoted_reply f) ≡ suc (length reply + 1) = ap suc (length-append reply (34 ∷ [])) in
-    let here : from ≡ length (reply_lines (replies.Refused f)) + 2 = omega (arith, begins, marked, short) in
-    let there : to ≡ length (tail_text [] t) - 1 = ends ∙ ap (λ (b : List ℕ). length b - 1) all in
-    λ i. part (here i) (there i) (all i)
-
--- they are long enough
-pub reason_fits : (t : Tail) (bytes : List ℕ) → is_part t ≡ false → bytes ≡ tail_text [] t ++ [] → length (quoted_reply (tail_refusal t)) + 2 ≤ length bytes
-reason_fits t bytes told_so is =
-    let f : Refusal = tail_refusal t in
-    let (r, parts) = tail_parts [] t told_so in
-    let reply : List ℕ = codes "refused " ++ refusal_text f in
-    let line_of : List ℕ = reply_lines (replies.Refused f) in
-    let short : length line_of ≡ length reply + 1 = length-append reply (10 ∷ []) in
-    let marked : length (quoted_reply f) ≡ suc (length reply + 1) = ap suc (length-append reply (34 ∷ [])) in
-    let front : length (line_of ++ codes "  ") ≡ length line_of + 2 = length-append line_of (codes "  ") in
-    let more : length ((line_of ++ codes "  ") ++ r) ≡ length (line_of ++ codes "  ") + length r = length-append (line_of ++ codes "  ") r in
-    let whole : length (told f r) ≡ length ((line_of ++ codes "  ") ++ r) + 1 = length-append ((line_of ++ codes "  ") ++ r) (10 ∷ []) in
-    let size : length bytes ≡ length (told f r) = ap length (is ∙ (append-nil (tail_text [] t) ∙ parts)) in
-    omega (arith, short, marked, front, more, whole, size)
-
--- behind a space stands text
-behind_space : (front back : List ℕ) → IsUtf8 (front ++ 32 ∷ back) → IsUtf8 back
-behind_space front back u =
-    let long : length (front ++ 32 ∷ back) ≡ length front + suc (length back) = length-append front (32 ∷ back) in
-    let space : get_or (front ++ 32 ∷ back) (length front) 0 ≡ 32 = get_or-append_seam front 32 back 0 in
-    let seam = IsCharBoundary-after_ascii (front ++ 32 ∷ back) (length front) u (omega (arith, long)) (omega (arith, space)) in
-    let left : drop (length front + 1) (front ++ 32 ∷ back) ≡ back = drop-append-add front (32 ∷ back) 1 in
-    subst IsUtf8 left (IsUtf8-drop (front ++ 32 ∷ back) (length front + 1) u seam)
-
-pub reason_is_text : (t : Tail) (bytes : List ℕ) → is_part t ≡ false → bytes ≡ tail_text [] t ++ [] → IsUtf8 bytes → IsUtf8 (tail_reason t)
-reason_is_text t bytes told_so is u =
-    let f : Refusal = tail_refusal t in
-    let (r, parts) = tail_parts [] t told_so in
-    let line_of : List ℕ = reply_lines (replies.Refused f) in
-    let all : bytes ≡ told f r = is ∙ (append-nil (tail_text [] t) ∙ parts) in
-    let split : told f r ≡ (line_of ++ 32 ∷ []) ++ 32 ∷ (r ++ 10 ∷ []) = simp append_assoc in
-    let ended : IsUtf8 (r ++ 10 ∷ []) = behind_space (line_of ++ 32 ∷ []) (r ++ 10 ∷ []) (subst IsUtf8 (all ∙ split) u) in
-    let same : r ≡ tail_reason t = sym ((λ i. sentence_in f (parts i)) ∙ behind_reply line_of r) in
-    subst IsUtf8 same (utf8_front (r ++ 10 ∷ []) r refl ended)
+-- so it stands in quotation marks as it is
+sentence_quoted : (t : Tail) → quoted (tail_sentence t) ≡ (34 ∷ []) ++ (tail_sentence t ++ (34 ∷ []))
+sentence_quoted t = plain_quoted (tail_sentence t) (all_plain (tail_sentence t) (sentence_spoken t))
 
 -- a reason behind where it points, as it ends an object
-regroup_end : (v a e b l c w d t z y : List ℕ) → ((((v ++ a) ++ e) ++ b) ++ l) ++ (((((c ++ w) ++ d) ++ t) ++ z) ++ y) ≡ (v ++ ((((((((a ++ e) ++ b) ++ l) ++ c) ++ w) ++ d) ++ t) ++ z)) ++ y
-regroup_end v a e b l c w d t z y = simp append_assoc
+regroup_end : (v a e b l c w d q t z y : List ℕ) → ((((((v ++ a) ++ e) ++ b) ++ l) ++ ((c ++ w) ++ (d ++ q))) ++ t) ++ (q ++ (z ++ y)) ≡ (v ++ ((((((((a ++ e) ++ b) ++ l) ++ c) ++ w) ++ d) ++ (q ++ (t ++ q))) ++ z)) ++ y
+regroup_end v a e b l c w d q t z y = simp append_assoc
 
-pub reason_ends : (place : Option (ℕ × ℕ)) (word text : List ℕ)
-    → (((codes ",\"why\":[{\"entry\":" ++ option_json (place_in place)) ++ codes ",\"line\":") ++ option_json (line_in place)) ++ (reason_pieces word text ++ codes "]}\n") ≡ reasons_pieces (drop 1 (why_pieces (place_in place) (line_in place) word text))
-reason_ends place word text =
-    regroup_end (codes ",\"why\":[") (codes "{\"entry\":") (option_json (place_in place)) (codes ",\"line\":") (option_json (line_in place)) (codes ",\"reason\":\"") word (codes "\",\"text\":") (quoted text) (codes "}") (codes "]}\n")
+refused_end : (where_at : Option (ℕ × ℕ)) (t : Tail) → (reason_front where_at (tail_refusal t) ++ tail_sentence t) ++ codes "\"}]}\n" ≡ reasons_pieces (drop 1 (tail_why where_at t))
+refused_end where_at t =
+    let word : List ℕ = refusal_word (tail_refusal t) in
+    let front : List ℕ = ((((((codes "{\"entry\":" ++ option_json (place_in where_at)) ++ codes ",\"line\":") ++ option_json (line_in where_at)) ++ codes ",\"reason\":\"") ++ word) ++ codes "\",\"text\":") in
+    regroup_end (codes ",\"why\":[") (codes "{\"entry\":") (option_json (place_in where_at)) (codes ",\"line\":") (option_json (line_in where_at)) (codes ",\"reason\":\"") word (codes "\",\"text\":") (34 ∷ []) (tail_sentence t) (codes "}") (codes "]}\n")
+    ∙ ap (λ (q : List ℕ). (codes ",\"why\":[" ++ ((front ++ q) ++ codes "}")) ++ codes "]}\n") (sym (sentence_quoted t))
 
--- the pieces of an object of an event that was refused
-pub stenciled : (said : ℕ × List ℕ) (first : ℕ) (where_at : Option (ℕ × ℕ)) (t : Tail) → stencil_pieces first said.0 (quoted_reply (tail_refusal t)) said.1 (end_of where_at t) ≡ refused_object said first where_at t
-unfolding digits
-stenciled said first where_at t =
-    ap (λ (r : List ℕ). ((((((((codes "{\"entries\":{\"count\":0,\"first\":" ++ decimal first) ++ codes "},\"line\":") ++ decimal said.0) ++ codes ",\"replies\":[") ++ r) ++ codes "],\"text\":") ++ quoted said.1) ++ end_of where_at t)) (reply_quoted (tail_refusal t))
+-- what such an object has behind its line's number
+pub whole_rest : (said : List ℕ) (where_at : Option (ℕ × ℕ)) (t : Tail)
+    → (((codes ",\"replies\":[" ++ quoted_reply (tail_refusal t)) ++ codes "],\"text\":") ++ quoted said) ++ ((reason_front where_at (tail_refusal t) ++ tail_sentence t) ++ codes "\"}]}\n") ≡ refused_rest said where_at t
+whole_rest said where_at t = λ i. (((codes ",\"replies\":[" ++ reply_quoted (tail_refusal t) i) ++ codes "],\"text\":") ++ quoted said) ++ refused_end where_at t i
 
--- the same in a row
-regroup_row : (f r s q t e : List ℕ) → (((((f ++ r) ++ (s ++ q)) ++ t) ++ q) ++ e) ++ [] ≡ (((f ++ r) ++ s) ++ (q ++ (t ++ q))) ++ e
-regroup_row f r s q t e = simp (append_assoc, append-nil)
+-- what it has up to the script's line, in a row
+regroup_row : (f r s q t : List ℕ) → (((((f ++ r) ++ (s ++ q)) ++ t) ++ q) ++ []) ++ [] ≡ ((f ++ r) ++ s) ++ (q ++ (t ++ q))
+regroup_row f r s q t = simp (append_assoc, append-nil)
 
-pub row_stenciled : (first number : ℕ) (reply text end : List ℕ) → PlainBetween text 0 (length text)
-    → (((((((((((codes "{\"entries\":{\"count\":" ++ decimal 0) ++ codes ",\"first\":") ++ decimal first) ++ codes "},\"line\":") ++ decimal number) ++ codes ",\"replies\":[") ++ reply) ++ codes "],\"text\":\"") ++ text) ++ codes "\"") ++ end) ++ [] ≡ stencil_pieces first number reply text end
-unfolding digits
-row_stenciled first number reply text end plain =
-    let front : List ℕ = (((codes "{\"entries\":{\"count\":0,\"first\":" ++ decimal first) ++ codes "},\"line\":") ++ decimal number) ++ codes ",\"replies\":[" in
-    regroup_row front reply (codes "],\"text\":") (34 ∷ []) text end ∙ ap (λ (q : List ℕ). (((front ++ reply) ++ codes "],\"text\":") ++ q) ++ end) (sym (plain_quoted text plain))
+pub row_refused : (first number : ℕ) (reply text : List ℕ) → PlainBetween text 0 (length text)
+    → (((((((((((codes "{\"entries\":{\"count\":" ++ decimal 0) ++ codes ",\"first\":") ++ decimal first) ++ codes "},\"line\":") ++ decimal number) ++ codes ",\"replies\":[") ++ reply) ++ codes "],\"text\":\"") ++ text) ++ codes "\"") ++ []) ++ [] ≡ (((front_pieces number first 0 ++ codes ",\"replies\":[") ++ reply) ++ codes "],\"text\":") ++ quoted text
+row_refused first number reply text plain =
+    let front : List ℕ = front_pieces number first 0 ++ codes ",\"replies\":[" in
+    regroup_row front reply (codes "],\"text\":") (34 ∷ []) text ∙ ap (λ (q : List ℕ). ((front ++ reply) ++ codes "],\"text\":") ++ q) (sym (plain_quoted text plain))
+
+-- the whole object, by both parts
+pub refused_whole : (said : ℕ × List ℕ) (first : ℕ) (where_at : Option (ℕ × ℕ)) (t : Tail)
+    → ((((front_pieces said.0 first 0 ++ codes ",\"replies\":[") ++ quoted_reply (tail_refusal t)) ++ codes "],\"text\":") ++ quoted said.1) ++ ((reason_front where_at (tail_refusal t) ++ tail_sentence t) ++ codes "\"}]}\n") ≡ refused_object said first where_at t
+refused_whole said first where_at t =
+    λ i. ((((front_pieces said.0 first 0 ++ codes ",\"replies\":[") ++ reply_quoted (tail_refusal t) i) ++ codes "],\"text\":") ++ quoted said.1) ++ refused_end where_at t i

@@ -44,6 +44,10 @@ replies_pieces lines = between_commas (map string (lines_in lines))
 abbrev pub reasons_pieces : List ℕ → List ℕ
 reasons_pieces reasons = codes ",\"why\":[" ++ reasons ++ codes "]}\n"
 
+-- what an event has behind its line's number: the lines of its reply, its line, and its reasons, which stand behind commas
+abbrev pub rest_pieces : List ℕ → List ℕ → List ℕ → List ℕ
+rest_pieces line lines whys = codes ",\"replies\":[" ++ replies_pieces lines ++ codes "],\"text\":" ++ quoted line ++ reasons_pieces (drop 1 whys)
+
 -- an event: by its line, its entries, the lines of its reply, and its reasons, which stand behind commas
 abbrev pub object_pieces : ℕ × List ℕ → ℕ → ℕ → List ℕ → List ℕ → List ℕ
 object_pieces said first count lines whys = front_pieces said.0 first count ++ codes ",\"replies\":[" ++ replies_pieces lines ++ codes "],\"text\":" ++ quoted said.1 ++ reasons_pieces (drop 1 whys)

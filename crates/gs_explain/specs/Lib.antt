@@ -10,7 +10,6 @@ pub mod Rows
 pub mod Objects
 pub mod Composed
 pub mod Tailed
-pub mod Stenciled
 pub mod Outlined
 pub mod Explained
 pub mod Telling

@@ -1,5 +1,5 @@
 -- Objects that are put together at the end.
-use Rattle.std.specs.Prelude.{◌≡◌, ◌<◌, ◌≤◌, ◌+◌, ◌-◌, ◌==◌, if◌then◌else◌, true, false, ℕ, Option, List, [], ◌∷◌, ◌++◌, drop, get_or, length}
+use Rattle.std.specs.Prelude.{◌≡◌, ◌<◌, ◌≤◌, ◌+◌, ◌-◌, ◌==◌, if◌then◌else◌, true, false, ℕ, zero, suc, Option, List, [], ◌∷◌, ◌++◌, drop, get_or, length}
 use Rattle.std.specs.List.{All, flat_map}
 use Rattle.std.specs.Option.{IfSome}
 use Rattle.std.specs.Str.{IsUtf8}
@@ -10,9 +10,9 @@ use Rattle.gs_script.specs.Words.{is_text}
 use Rattle.gs_sentences.specs.Parts.{part}
 use Rattle.gs_sentences.specs.Reason as reasons
 use Rattle.gs_sentences.specs.Tails.{is_part}
-use Rattle.gs_explain.specs.Composed.{object_pieces}
+use Rattle.gs_explain.specs.Composed.{object_pieces, rest_pieces}
 use Rattle.gs_explain.specs.Objects.{none_why, reason_data, row_data}
-use Rattle.gs_explain.specs.Tailed.{refused_object}
+use Rattle.gs_explain.specs.Tailed.{refused_object, refused_rest}
 use Rattle.gs_explain.specs.ToldAgain.{landed_from}
 use Rattle.gs_explain.specs.declared.content.Told.{Told as Late}
 use Rattle.gs_explain.specs.declared.kept.Kept.{Kept}
@@ -20,6 +20,16 @@ use Rattle.gs_explain.specs.declared.outline.Outline.{Outline}
 use Rattle.gs_explain.specs.declared.outline.Told.{Told}
 use Rattle.gs_explain.specs.declared.outline.Told.TheVariants as tolds
 use Rattle.gs_explain.specs.declared.outlines.Short.{Short}
+
+-- how many entries such an event added
+abbrev pub told_count : Told → ℕ
+told_count (tolds.Parts count from lines whys) = count
+told_count (tolds.Refused where_at t) = 0
+
+-- what its object has behind its line's number, by the line
+abbrev pub told_rest : List ℕ → List ℕ → Told → List ℕ
+told_rest said text (tolds.Parts count from lines whys) = rest_pieces said (part from (from + lines) text) (part (from + lines) (from + lines + whys) text)
+told_rest said text (tolds.Refused where_at t) = refused_rest said where_at t
 
 -- the object of an event, of which a text has the lines of the reply and the reasons, unless it was refused and is told by numbers
 abbrev pub told_object : ℕ × List ℕ → ℕ → List ℕ → Told → List ℕ
@@ -109,6 +119,23 @@ told_of asides s = if s.count == 255 then get_or asides s.at untold else tolds.P
 -- an event in few bytes, as any is told
 abbrev pub widened : List Told → Short → Outline
 widened asides s = record { line = s.line; number = s.number; first = s.first; told = told_of asides s }
+
+-- the same event so many lines later
+abbrev pub later : Outline → ℕ → Outline
+later o k = record { line = o.line; number = o.number + k; first = o.first; told = o.told }
+
+-- an event that comes again on so many lines right behind
+abbrev pub again : Outline → ℕ → List Outline
+again o zero = []
+again o (suc n) = again o n ++ later o (suc n) ∷ []
+
+-- an event in few bytes, and each time that it comes again
+abbrev pub events : List Told → Short → List Outline
+events asides s = widened asides s ∷ again (widened asides s) s.times
+
+-- all that are told in few bytes
+abbrev pub all_events : List Told → List Short → List Outline
+all_events asides shorts = flat_map (events asides) shorts
 
 -- so many are told aside that what is told of it is there
 abbrev pub HasTold : ℕ → Short → Type 0

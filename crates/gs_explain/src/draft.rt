@@ -26,6 +26,7 @@ use std::alloc::{AllocError, Global};
 use std::marker::Model;
 
 /// The name of a refusal.
+#[inline(always)]
 #[tactic(auto, unfolding(crate::specs::Objects::refusal_word))]
 pub(crate) fn refusal_word(refusal: Refusal) -> &'static str
     ensures { result.now ≡ refusal_word refusal }

@@ -1,13 +1,13 @@
 //! The object of an event, put together piece by piece.
 
-ghost use Rattle.std.specs.Prelude.{◌≡◌, ◌<◌, ◌++◌, ◌∷◌, [], IfSome, OnOk, drop, length, true};
+ghost use Rattle.std.specs.Prelude.{◌≡◌, ◌<◌, ◌++◌, ◌∷◌, [], IfSome, OnOk, codes, drop, length, true};
 ghost use Rattle.std.specs.Bool.{OnFalse, OnTrue};
 ghost use Rattle.std.specs.Str.{IsUtf8};
 ghost use Rattle.json.specs.Print.{quoted};
 ghost use Rattle.json.specs.Written.{PlainBetween};
 ghost use Rattle.serde_json.specs.Written.{comma_if};
 ghost use Rattle.gs_script.specs.Words.{is_text};
-ghost use Rattle.gs_explain.specs.Composed.{object_pieces, replies_pieces};
+ghost use Rattle.gs_explain.specs.Composed.{front_pieces, object_pieces, replies_pieces, rest_pieces};
 
 use crate::quoted::{as_text, is_plain, push_quoted};
 use gs_lines::Text;
@@ -60,6 +60,28 @@ fn in_array(whys: &[u8]) -> &[u8]
     }
 }
 
+/// Adds what the object of an event has behind its line's number: the lines of its reply, its line, and its reasons, which stand behind commas.
+#[inline(never)]
+#[tactic(auto, using(gs_script::proofs::Texts::text_is_utf8))]
+pub(crate) fn push_rest(
+    alloc: Global,
+    out: &mut Text,
+    line: &[u8],
+    lines: &[u8],
+    whys: &[u8],
+) -> Result<(), AllocError>
+    requires text { is_text line.now ≡ true }
+    requires lines { IsUtf8 lines.now }
+    requires whys { IsUtf8 (drop 1 whys.now) }
+    ensures { OnOk result (out.new ≡ out.old ++ rest_pieces line.now lines.now whys.now) }
+{
+    out.push_str(",\"replies\":[")?;
+    push_lines(alloc, out, as_text(lines))?;
+    out.push_str("],\"text\":")?;
+    push_quoted(alloc, out, line)?;
+    out.push_texts(",\"why\":[", b"", "", in_array(whys), "]}\n")
+}
+
 /// Puts objects together. It keeps the digits of two numbers, which are mostly those of the object before, or little more.
 #[derive(Drop)]
 pub(crate) struct Pen {
@@ -78,12 +100,12 @@ impl Pen {
 
     /// Takes the place of the first entry of an event, and the number of its line.
     #[inline(always)]
-    fn set(&mut self, first: u32, number: u32)
+    pub(crate) fn set(&mut self, first: u32, number: u64)
         ensures first { self.new.first ≡ first }
         ensures number { self.new.number ≡ number }
     {
         self.first.set(first as u64);
-        self.number.set(number as u64);
+        self.number.set(number);
     }
 
     /// Adds an object, of which no byte of the script's line and of the only line of its reply has to be escaped, if there is room for
@@ -159,9 +181,45 @@ impl Pen {
         }
     }
 
+    /// Adds an object as far as its reasons, of an event that was refused, if no byte of its line has to be escaped and there is room for
+    /// it. Returns whether it did. The reply is given in quotation marks.
+    #[inline(always)]
+    #[tactic(auto, using(gs_script::proofs::Texts::text_is_utf8))]
+    pub(crate) fn fit_refused<'x>(&'x self, out: &mut Text, reply: &'x str, line: &'x [u8]) -> bool
+        requires text { is_text line.now ≡ true }
+        ensures added { OnTrue result (out.new ≡ out.old ++ (front_pieces self.now.number self.now.first 0 ++ codes ",\"replies\":[" ++ reply.now ++ codes "],\"text\":" ++ quoted line.now)) }
+        ensures kept { OnFalse result (out.new ≡ out.old) }
+    {
+        if !is_plain(line) {
+            return false;
+        }
+        out.fit_row(Row {
+            digit: ("{\"entries\":{\"count\":", 0),
+            first: (",\"first\":", &self.first),
+            second: ("},\"line\":", &self.number),
+            few: (",\"replies\":[", reply.as_bytes()),
+            line: ("],\"text\":\"", line),
+            rest: ("\"", b""),
+            end: "",
+        })
+    }
+
+    /// Adds how many entries an event added, the place of the first, and the number of its line.
+    #[inline(always)]
+    pub(crate) fn push_front(&self, out: &mut Text, count: u32) -> Result<(), AllocError>
+        ensures { OnOk result (out.new ≡ out.old ++ front_pieces self.now.number self.now.first count) }
+    {
+        out.push_number_digits(
+            "{\"entries\":{\"count\":",
+            count as u64,
+            ",\"first\":",
+            &self.first,
+        )?;
+        out.push_digits("},\"line\":", &self.number)
+    }
+
     /// Adds any object.
     #[inline(never)]
-    #[tactic(auto, using(gs_script::proofs::Texts::text_is_utf8))]
     fn push_any(
         &self,
         alloc: Global,
@@ -176,17 +234,8 @@ impl Pen {
         requires whys { IsUtf8 (drop 1 whys.now) }
         ensures { OnOk result (out.new ≡ out.old ++ object_pieces (self.now.number, line.now) self.now.first count lines.now whys.now) }
     {
-        out.push_number_digits(
-            "{\"entries\":{\"count\":",
-            count as u64,
-            ",\"first\":",
-            &self.first,
-        )?;
-        out.push_digits_between("},\"line\":", &self.number, ",\"replies\":[")?;
-        push_lines(alloc, out, as_text(lines))?;
-        out.push_str("],\"text\":")?;
-        push_quoted(alloc, out, line)?;
-        out.push_texts(",\"why\":[", b"", "", in_array(whys), "]}\n")
+        self.push_front(out, count)?;
+        push_rest(alloc, out, line, lines, whys)
     }
 
     /// Adds the object of an event in a line of its own: by its line, its entries, the lines of its reply, and its reasons, which
@@ -208,7 +257,7 @@ impl Pen {
         requires whys { IsUtf8 (drop 1 whys.now) }
         ensures { OnOk result (out.new ≡ out.old ++ object_pieces (number, line.now) first count lines.now whys.now) }
     {
-        self.set(first, number);
+        self.set(first, number as u64);
         if self.fit(out, line, count, lines, whys) {
             return Ok(());
         }
@@ -232,7 +281,7 @@ impl Pen {
         requires whys { IsUtf8 (drop 1 whys.now) }
         ensures { OnOk result (out.new ≡ out.old ++ object_pieces (number, line.now) first count lines.now whys.now) }
     {
-        self.set(first, number);
+        self.set(first, number as u64);
         self.push_any(alloc, out, line, count, lines, whys)
     }
 }

@@ -1,8 +1,9 @@
 //! What explains a script, as a JSON object for each event.
 
-ghost use Rattle.std.specs.Prelude.{◌≡◌, ◌≤◌, ◌++◌, ◌∷◌, [], ℕ, false, IfOk, IfSome, IsOk, List, None, Ok, OnErr, OnOk, length, map, take, true};
+ghost use Rattle.std.specs.Prelude.{◌≡◌, ◌<◌, ◌≤◌, ◌++◌, ◌∷◌, [], ℕ, false, IfOk, IsOk, List, None, OnErr, OnOk, length, take, true};
 ghost use Rattle.std.specs.Io.KnownBytes.{Appends};
 ghost use Rattle.std.specs.List.{All};
+ghost use Rattle.std.specs.Str.{IsUtf8};
 ghost use Rattle.gs_journal.specs.Last.{entry_lent};
 ghost use Rattle.gs_reasons.specs.Kept.{HasHeard};
 ghost use Rattle.gs_replies.specs.declared.reply.Reply.TheVariants as replies;
@@ -12,22 +13,23 @@ ghost use Rattle.gs_trace.specs.Came.{reply_in};
 ghost use Rattle.gs_explain.specs.Marked.{IsMarked};
 ghost use Rattle.gs_explain.specs.Moment.{moment_of};
 ghost use Rattle.gs_explain.specs.Objects.{done_object, object_row};
-ghost use Rattle.gs_explain.specs.Outlined.{AreOutlined, HasTold, IsKept, IsOutlined, nothing_object, outline_text, outlines_text, told_object, widened};
+ghost use Rattle.gs_sentences.specs.Parts.{part};
+ghost use Rattle.gs_explain.specs.Composed.{front_pieces, object_pieces};
+ghost use Rattle.gs_explain.specs.Outlined.{AreOutlined, HasParts, HasTold, IsKept, IsOutlined, again, all_events, events, nothing_object, outline_text, outlines_text, told_object, told_of, told_rest, widened};
 ghost use Rattle.gs_explain.specs.Quiet.{quiet_object};
 ghost use Rattle.gs_explain.specs.Retold.{IsBegun, Moves};
-ghost use Rattle.gs_explain.specs.Stenciled.{IsStencil};
 ghost use Rattle.gs_explain.specs.ToldAgain.{is_kept_out};
 
 use crate::draft::Draft;
 use crate::kept::{Kept, Late, marked_late};
 use crate::moment::Scene;
-use crate::object::Pen;
+use crate::object::{Pen, push_rest};
 use crate::once::{forget, tell_again, tell_nothing, tell_quiet};
 use crate::outline::{Outline, Told, outlined, outlined_done};
 use crate::outlines::{Outlines, Short};
 use crate::quiet::Quiet;
+use crate::refusal::{push_refused, push_refused_rest};
 use crate::slots::Slot;
-use crate::stencil::Stencil;
 use crate::tail::tail_of;
 use crate::teller::Teller;
 use gs_core::Reply;
@@ -48,30 +50,54 @@ const BLOCK_LEN: usize = 61_440;
 /// Most objects have fewer bytes than so many.
 const OBJECT_LEN: usize = 4_096;
 
-/// Adds the object of an event that is told aside: of which a text has the lines of the reply and the reasons, or which was refused.
+/// Adds the object of an event that is told aside, of which a text has the lines of the reply and the reasons.
 #[inline(never)]
+fn push_parts(
+    alloc: Global,
+    out: &mut Text,
+    pen: &mut Pen,
+    text: &[u8],
+    short: &Short<'_>,
+    count: u32,
+    from: usize,
+    mid: usize,
+    to: usize,
+) -> Result<(), AllocError>
+    requires line { is_text short.now.line.now ≡ true }
+    requires parts { HasParts text.now from mid to }
+    requires begins { from ≤ mid }
+    requires ends { mid ≤ to }
+    ensures { OnOk result (out.new ≡ out.old ++ object_pieces (short.now.number, short.now.line.now) short.now.first count (part from mid text.now) (part mid to text.now)) }
+{
+    let lines = &text[from..mid];
+    let whys = &text[mid..to];
+    pen.push_seldom(
+        alloc,
+        out,
+        short.number,
+        short.line,
+        short.first,
+        count,
+        lines,
+        whys,
+    )
+}
+
+/// Adds the object of an event that is told aside: of which a text has the lines of the reply and the reasons, or which was refused.
+#[inline(always)]
 #[tactic(auto, using(crate::proofs::Outlining::has_parts, crate::proofs::Outlining::is_refused))]
 fn push_aside(
     alloc: Global,
     out: &mut Text,
     pen: &mut Pen,
-    stencil: &mut Stencil,
     text: &[u8],
     told: &Told,
     short: &Short<'_>,
 ) -> Result<(), AllocError>
     requires line { is_text short.now.line.now ≡ true }
     requires told { IsKept text.now told.now }
-    requires stencil { IsStencil stencil.old }
-    ensures shown { OnOk result (out.new ≡ out.old ++ told_object (short.now.number, short.now.line.now) short.now.first text.now told.now) }
-    ensures kept { OnOk result (IsStencil stencil.new) }
+    ensures { OnOk result (out.new ≡ out.old ++ told_object (short.now.number, short.now.line.now) short.now.first text.now told.now) }
 {
-    let Short {
-        line,
-        number,
-        first,
-        ..
-    } = *short;
     match *told {
         Told::Parts {
             count,
@@ -81,11 +107,9 @@ fn push_aside(
         } => {
             let mid = from + lines as usize;
             let to = mid + whys as usize;
-            let lines = &text[from..mid];
-            let whys = &text[mid..to];
-            pen.push_seldom(alloc, out, number, line, first, count, lines, whys)
+            push_parts(alloc, out, pen, text, short, count, from, mid, to)
         }
-        Told::Refused { at, tail } => stencil.push(alloc, out, number, line, first, at, &tail),
+        Told::Refused { at, tail } => push_refused(alloc, out, pen, short, at, &tail),
     }
 }
 
@@ -96,20 +120,17 @@ fn push_object(
     alloc: Global,
     out: &mut Text,
     pen: &mut Pen,
-    stencil: &mut Stencil,
     text: &[u8],
     asides: &[Told],
     short: &Short<'_>,
 ) -> Result<(), AllocError>
     requires aside { HasTold (length asides.now) short.now }
     requires outlined { IsOutlined text.now (widened asides.now short.now) }
-    requires stencil { IsStencil stencil.old }
-    ensures shown { OnOk result (out.new ≡ out.old ++ outline_text text.now (widened asides.now short.now)) }
-    ensures kept { OnOk result (IsStencil stencil.new) }
+    ensures { OnOk result (out.new ≡ out.old ++ outline_text text.now (widened asides.now short.now)) }
 {
     if short.is_aside() {
         let told = short.told(asides);
-        return push_aside(alloc, out, pen, stencil, text, told, short);
+        return push_aside(alloc, out, pen, text, told, short);
     }
     let (lines, whys) = short.told_in(text);
     let count = short.count as u32;
@@ -163,20 +184,134 @@ fn add_object<W: Write>(
     block: &mut Text,
     writer: &mut W,
     pen: &mut Pen,
-    stencil: &mut Stencil,
     text: &[u8],
     asides: &[Told],
     short: &Short<'_>,
 ) -> Result<(), WriteFailed>
     requires aside { HasTold (length asides.now) short.now }
     requires outlined { IsOutlined text.now (widened asides.now short.now) }
-    requires stencil { IsStencil stencil.old }
-    ensures kept { OnOk result (IsStencil stencil.new) }
     ensures moved { OnOk result (Moves (W.contents writer.old) block.old (outline_text text.now (widened asides.now short.now)) (W.contents writer.new) block.new) }
     ensures begun { OnErr result (IsBegun (W.contents writer.old) (W.contents writer.new) (block.old ++ outline_text text.now (widened asides.now short.now))) }
 {
-    push_object(alloc, block, pen, stencil, text, asides, short)?;
+    push_object(alloc, block, pen, text, asides, short)?;
     send_full(block, writer)
+}
+
+/// Adds what the object of an event has behind its line's number.
+#[inline(never)]
+#[tactic(auto, using(crate::proofs::Outlining::has_parts, crate::proofs::Outlining::is_refused, crate::proofs::Aside::parts_of, crate::proofs::Aside::kept_parts))]
+fn push_behind(
+    alloc: Global,
+    out: &mut Text,
+    text: &[u8],
+    asides: &[Told],
+    short: &Short<'_>,
+) -> Result<(), AllocError>
+    requires aside { HasTold (length asides.now) short.now }
+    requires outlined { IsOutlined text.now (widened asides.now short.now) }
+    ensures { OnOk result (out.new ≡ out.old ++ told_rest short.now.line.now text.now (told_of asides.now short.now)) }
+{
+    if !short.is_aside() {
+        let (lines, whys) = short.told_in(text);
+        return push_rest(alloc, out, short.line, lines, whys);
+    }
+    match *short.told(asides) {
+        Told::Parts {
+            from,
+            lines,
+            whys,
+            ..
+        } => {
+            let mid = from + lines as usize;
+            let to = mid + whys as usize;
+            push_rest(alloc, out, short.line, &text[from..mid], &text[mid..to])
+        }
+        Told::Refused { at, tail } => push_refused_rest(alloc, out, short.line, at, &tail),
+    }
+}
+
+/// Adds the object of an event of a line, by what it has behind the number of the line, and writes the block if it is full then.
+#[inline(always)]
+fn add_next<W: Write>(
+    block: &mut Text,
+    writer: &mut W,
+    pen: &mut Pen,
+    number: u64,
+    first: u32,
+    count: u32,
+    rest: &[u8],
+) -> Result<(), WriteFailed>
+    requires { IsUtf8 rest.now }
+    ensures moved { OnOk result (Moves (W.contents writer.old) block.old (front_pieces number first count ++ rest.now) (W.contents writer.new) block.new) }
+    ensures begun { OnErr result (IsBegun (W.contents writer.old) (W.contents writer.new) (block.old ++ (front_pieces number first count ++ rest.now))) }
+{
+    pen.set(first, number);
+    pen.push_front(block, count)?;
+    block.append(rest)?;
+    send_full(block, writer)
+}
+
+/// Adds the objects of an event for the lines on which it comes again, and writes a block whenever it is full then. What they have in
+/// common behind the number of the line is put together once.
+#[inline(never)]
+fn add_again<W: Write>(
+    alloc: Global,
+    block: &mut Text,
+    writer: &mut W,
+    pen: &mut Pen,
+    rest: &mut Text,
+    text: &[u8],
+    asides: &[Told],
+    short: &Short<'_>,
+) -> Result<(), WriteFailed>
+    requires aside { HasTold (length asides.now) short.now }
+    requires outlined { IsOutlined text.now (widened asides.now short.now) }
+    requires some { 0 < short.now.times }
+    ensures moved { OnOk result (Moves (W.contents writer.old) block.old (outlines_text text.now (again (widened asides.now short.now) short.now.times)) (W.contents writer.new) block.new) }
+    ensures begun { OnErr result (IsBegun (W.contents writer.old) (W.contents writer.new) (block.old ++ outlines_text text.now (again (widened asides.now short.now) short.now.times))) }
+{
+    rest.clear();
+    push_behind(alloc, rest, text, asides, short)?;
+    let count = short.added(asides);
+    let mut n = 0;
+    while n < short.times {
+        n += 1;
+        let number = short.number as u64 + n as u64;
+        add_next(
+            block,
+            writer,
+            pen,
+            number,
+            short.first,
+            count,
+            rest.utf8_bytes(),
+        )?;
+    }
+    Ok(())
+}
+
+/// Adds the objects of an event, for its line and for those on which it comes again, and writes a block whenever it is full then.
+#[inline(always)]
+fn add_events<W: Write>(
+    alloc: Global,
+    block: &mut Text,
+    writer: &mut W,
+    pen: &mut Pen,
+    rest: &mut Text,
+    text: &[u8],
+    asides: &[Told],
+    short: &Short<'_>,
+) -> Result<(), WriteFailed>
+    requires aside { HasTold (length asides.now) short.now }
+    requires outlined { IsOutlined text.now (widened asides.now short.now) }
+    ensures moved { OnOk result (Moves (W.contents writer.old) block.old (outlines_text text.now (events asides.now short.now)) (W.contents writer.new) block.new) }
+    ensures begun { OnErr result (IsBegun (W.contents writer.old) (W.contents writer.new) (block.old ++ outlines_text text.now (events asides.now short.now))) }
+{
+    add_object(alloc, block, writer, pen, text, asides, short)?;
+    if short.times == 0 {
+        return Ok(());
+    }
+    add_again(alloc, block, writer, pen, rest, text, asides, short)
 }
 
 /// Writes the objects of events, in blocks, for which an empty one is given.
@@ -189,24 +324,17 @@ fn write_objects<W: Write>(
     writer: &mut W,
 ) -> Result<(), WriteFailed>
     requires aside { All (HasTold (length asides.now)) shorts.now }
-    requires outlined { All (IsOutlined text.now) (map (widened asides.now) shorts.now) }
+    requires outlined { All (IsOutlined text.now) (all_events asides.now shorts.now) }
     requires empty { block ≡ [] }
-    ensures sent { OnOk result (Appends (W.contents writer.old) (W.contents writer.new) (outlines_text text.now (map (widened asides.now) shorts.now))) }
-    ensures begun { OnErr result (IsBegun (W.contents writer.old) (W.contents writer.new) (outlines_text text.now (map (widened asides.now) shorts.now))) }
+    ensures sent { OnOk result (Appends (W.contents writer.old) (W.contents writer.new) (outlines_text text.now (all_events asides.now shorts.now))) }
+    ensures begun { OnErr result (IsBegun (W.contents writer.old) (W.contents writer.new) (outlines_text text.now (all_events asides.now shorts.now))) }
 {
     let mut block = block;
     let mut pen = Pen::new();
-    let mut stencil = Stencil::new(alloc);
+    let mut rest = Text::new(alloc);
     for short in shorts {
-        add_object(
-            alloc,
-            &mut block,
-            writer,
-            &mut pen,
-            &mut stencil,
-            text,
-            asides,
-            short,
+        add_events(
+            alloc, &mut block, writer, &mut pen, &mut rest, text, asides, short,
         )?;
     }
     send(&mut block, writer)
@@ -258,25 +386,6 @@ fn keep<'a>(
         forget(outlines, nothing, kepts);
     }
     kept
-}
-
-/// Returns an event that was refused, to be told at the end by numbers, or `None` if it does not fit. An index has heard all entries,
-/// and the event added none.
-#[inline(always)]
-fn refused_outline<'a>(
-    said: &SaidLine<'a>,
-    scene: &Scene<'_>,
-    index: &Index,
-    refusal: Refusal,
-) -> Option<Outline<'a>>
-    requires text { is_text said.now.bytes.now ≡ true }
-    requires heard { HasHeard index.now scene.now.journal.now.entries }
-    requires marked { IsMarked scene.now.last.now.places.items scene.now.transactions.now }
-    ensures told { IfSome result (λ o. (text : List ℕ) → outline_text text o ≡ object_row (said_line said.now) (moment_of scene.now) (length scene.now.journal.now.entries) (replies.Refused refusal)) }
-    ensures stands { IfSome result (λ o. (text : List ℕ) → IsOutlined text o) }
-{
-    let (tail, at) = tail_of(scene, index, refusal)?;
-    Outline::quiet(said, scene.journal.len(), Told::Refused { at, tail })
 }
 
 impl<'a> Objects<'a> {
@@ -380,7 +489,7 @@ impl<'a> Objects<'a> {
             &mut self.nothing,
             &mut self.kepts,
         )?;
-        self.outlines.push_told(said, first, told)?;
+        self.outlines.push_told(said, first, &told)?;
         Ok(())
     }
 
@@ -402,7 +511,7 @@ impl<'a> Objects<'a> {
             &mut self.kepts,
             quiet,
         )?;
-        self.outlines.push_told(said, first, told)?;
+        self.outlines.push_told(said, first, &told)?;
         Ok(())
     }
 
@@ -431,7 +540,7 @@ impl<'a> Objects<'a> {
             index,
             late,
         )?;
-        self.outlines.push_told(said, scene.journal.len(), told)?;
+        self.outlines.push_told(said, scene.journal.len(), &told)?;
         Ok(())
     }
 
@@ -474,9 +583,10 @@ impl<'a> Objects<'a> {
         ensures told { IfOk result (λ b. b ≡ true → self.new ≡ self.old ++ object_row (said_line said.now) (moment_of scene.now) (length scene.now.journal.now.entries) (replies.Refused refusal)) }
         ensures same { IfOk result (λ b. b ≡ false → self.new ≡ self.old) }
     {
-        match refused_outline(said, scene, index, refusal) {
-            Some(outline) => {
-                self.outlines.push_aside(&outline)?;
+        match tail_of(scene, index, refusal) {
+            Some((tail, at)) => {
+                self.outlines
+                    .push_refused(said, scene.journal.len(), at, &tail)?;
                 Ok(true)
             }
             None => Ok(false),

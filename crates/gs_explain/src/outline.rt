@@ -1,6 +1,6 @@
 //! An event whose object is put together at the end.
 
-ghost use Rattle.std.specs.Prelude.{◌≡◌, ◌≤◌, ◌++◌, ◌-◌, IfOk, IfSome, OnOk, length, take, true};
+ghost use Rattle.std.specs.Prelude.{◌≡◌, ◌≤◌, ◌++◌, ◌-◌, IfOk, OnOk, length, take, true};
 ghost use Rattle.gs_journal.specs.Last.{entry_lent};
 ghost use Rattle.gs_reasons.specs.Kept.{HasHeard};
 ghost use Rattle.gs_script.specs.Unread.{said_line};
@@ -9,7 +9,7 @@ ghost use Rattle.gs_trace.specs.Came.{reply_in};
 ghost use Rattle.gs_explain.specs.Marked.{IsMarked};
 ghost use Rattle.gs_explain.specs.Moment.{moment_of};
 ghost use Rattle.gs_explain.specs.Objects.{done_object, object_row};
-ghost use Rattle.gs_explain.specs.Outlined.{Grows, IsOutlined, Notes, NotesTold, TellsNothing, outline_text};
+ghost use Rattle.gs_explain.specs.Outlined.{Grows, IsOutlined, Notes, TellsNothing, outline_text};
 
 use crate::draft::Draft;
 use crate::hearing::hear_all;
@@ -112,20 +112,6 @@ impl<'a> Outline<'a> {
             line: said.bytes,
             number,
             first,
-            told,
-        })
-    }
-
-    /// Makes one of an event that added no entry, and before which so many entries stand, by what is told of it. Returns `None` if a
-    /// number is too large.
-    #[inline(always)]
-    pub(crate) fn quiet(said: &SaidLine<'a>, first: usize, told: Told) -> Option<Outline<'a>>
-        ensures { IfSome result (NotesTold (said_line said.now) first told) }
-    {
-        Some(Outline {
-            line: said.bytes,
-            number: u32::try_from(said.number).ok()?,
-            first: u32::try_from(first).ok()?,
             told,
         })
     }

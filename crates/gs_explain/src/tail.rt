@@ -10,8 +10,8 @@ ghost use Rattle.gs_explain.specs.Marked.{IsMarked};
 ghost use Rattle.gs_explain.specs.Moment.{moment_of};
 ghost use Rattle.gs_explain.specs.Refusals.{numbers, waiting, why_refused};
 ghost use Rattle.gs_sentences.specs.Subject.{cpu_of, tid_of};
-ghost use Rattle.gs_sentences.specs.Tails.{IsTail, at, left_at};
-ghost use Rattle.gs_explain.specs.Tailed.{at_of, tail_refusal};
+ghost use Rattle.gs_sentences.specs.Tails.{IsTail, at, left_at, tail_refusal};
+ghost use Rattle.gs_explain.specs.Tailed.{at_of};
 
 use crate::moment::Scene;
 use crate::refused::{cause_of, sign_by, waiting};

@@ -1,11 +1,8 @@
-use Rattle.std.proofs.Common.{◌≡◌, ◌∙◌, ap, ℕ, List, [], ◌++◌, append_assoc, codes, decimal, drop}
+use Rattle.std.proofs.Common.{◌∙◌, ap, ℕ, List, ◌++◌, append_assoc}
 use Rattle.std.proofs.lemmas.Result.{on_ok_weaker}
-use Rattle.json.specs.Print.{quoted}
-use Rattle.gs_explain.specs.Composed.{replies_pieces}
+use Rattle.gs_explain.specs.Composed.{front_pieces, rest_pieces}
+use Rattle.gs_explain.proofs.Outlining.{object_split}
 use Rattle.gs_explain.proofs.object.Pen.push_any.Goals as goal
-
-regroup : (o a c f g e n d r s t v w y : List ℕ) → ((((((((((((((o ++ a) ++ c) ++ f) ++ g) ++ e) ++ n) ++ d) ++ r) ++ s) ++ t) ++ v) ++ []) ++ []) ++ w) ++ y ≡ o ++ ((((((((((a ++ c) ++ f) ++ g) ++ e) ++ n) ++ d) ++ r) ++ s) ++ t) ++ ((v ++ w) ++ y))
-regroup o a c f g e n d r s t v w y = simp append_assoc
 
 pub returns : goal.returns
 returns c =
@@ -14,10 +11,8 @@ returns c =
     let line : List ℕ = c.args.line.now in
     let lines : List ℕ = c.args.lines.now in
     let whys : List ℕ = c.args.whys.now in
-    let numbers = c.in_ok-push_digits_between.ensures.added ∙ ap (λ (o : List ℕ). ((o ++ codes "},\"line\":") ++ decimal pen.number) ++ codes ",\"replies\":[") c.in_ok-push_number_digits.ensures.added in
-    let replies = c.in_ok-push_lines.ensures ∙ (λ i. numbers i ++ replies_pieces (c.as_text.ensures i)) in
-    let text = c.in_ok-push_quoted.ensures ∙ ap (λ (o : List ℕ). o ++ quoted line) (c.in_ok-push_str.ensures.added ∙ ap (λ (o : List ℕ). o ++ codes "],\"text\":") replies) in
-    on_ok_weaker c.push_texts.result
-    (λ last. last ∙ (λ i. ((((text i ++ codes ",\"why\":[") ++ []) ++ []) ++ c.in_array.ensures i) ++ codes "]}\n")
-    ∙ regroup out (codes "{\"entries\":{\"count\":") (decimal c.args.count) (codes ",\"first\":") (decimal pen.first) (codes "},\"line\":") (decimal pen.number) (codes ",\"replies\":[") (replies_pieces lines) (codes "],\"text\":") (quoted line) (codes ",\"why\":[") (drop 1 whys) (codes "]}\n"))
-    c.push_texts.ensures.added
+    let front : List ℕ = front_pieces pen.number pen.first c.args.count in
+    let rest : List ℕ = rest_pieces line lines whys in
+    on_ok_weaker c.push_rest.result
+    (λ last. last ∙ (ap (λ (o : List ℕ). o ++ rest) c.in_ok-push_front.ensures ∙ (append_assoc out front rest ∙ ap (λ (t : List ℕ). out ++ t) (object_split (pen.number, line) pen.first c.args.count lines whys))))
+    c.push_rest.ensures

@@ -2,7 +2,7 @@ use Rattle.std.proofs.Common.{◌≡◌, ◌∙◌, ap, sym, ℕ, Option, List, 
 use Rattle.std.proofs.lemmas.Result.{on_ok_weaker}
 use Rattle.gs_explain.specs.Composed.{option_json}
 use Rattle.gs_explain.specs.Tailed.{line_in, place_in}
-use Rattle.gs_explain.proofs.stencil.push_place.Goals as goal
+use Rattle.gs_explain.proofs.refusal.push_place.Goals as goal
 
 regroup : (o a e b l : List ℕ) → (((o ++ a) ++ e) ++ b) ++ l ≡ o ++ (((a ++ e) ++ b) ++ l)
 regroup o a e b l = simp append_assoc
@@ -21,4 +21,4 @@ returns-in-None c =
     let out : List ℕ = c.args.out.now in
     let words : List ℕ = codes ",\"why\":[{\"entry\":" in
     let behind : List ℕ = codes ",\"line\":" in
-    on_ok_weaker c.push_str.result (λ last. last ∙ ap (λ (p : Option (ℕ × ℕ)). out ++ (((words ++ option_json (place_in p)) ++ behind) ++ option_json (line_in p))) (sym c.in-None.is)) c.push_str.ensures.added
+    on_ok_weaker c.push_words.result (λ last. last ∙ ap (λ (p : Option (ℕ × ℕ)). out ++ (((words ++ option_json (place_in p)) ++ behind) ++ option_json (line_in p))) (sym c.in-None.is)) c.push_words.ensures.added

@@ -1,9 +1,0 @@
-use Rattle.std.proofs.Common.{◌∙◌, ap, ℕ, List, [], ◌++◌, codes, decimal}
-use Rattle.std.proofs.lemmas.Bool.{OnTrue_at, OnTrue_from}
-use Rattle.gs_explain.proofs.Tailing.{row_stenciled}
-use Rattle.gs_explain.proofs.stencil.fit.Goals as goal
-
-pub returns-clause-added : goal.returns-clause-added
-returns-clause-added c =
-    let out : List ℕ = c.args.out.now in
-    OnTrue_from c.fit_row.result _ (λ e. OnTrue_at e c.fit_row.ensures.added ∙ ((λ i. out ++ ((((((((((((codes "{\"entries\":{\"count\":" ++ decimal 0) ++ codes ",\"first\":") ++ decimal c.args.first.now) ++ codes "},\"line\":") ++ decimal c.args.number.now) ++ codes ",\"replies\":[") ++ c.as_bytes.ensures.value i) ++ codes "],\"text\":\"") ++ c.args.line.now) ++ codes "\"") ++ c.args.end.now) ++ [])) ∙ ap (λ (t : List ℕ). out ++ t) (row_stenciled c.args.first.now c.args.number.now c.args.reply.now c.args.line.now c.args.end.now c.if-not-is_plain.ensures)))
