@@ -1,12 +1,12 @@
 //! A workload, from a reader, and its simulation, to a writer.
 
-ghost use Rattle.std.specs.Prelude.{ℕ, List, IfOk, IfErr, OnOk};
-ghost use Rattle.std.specs.Io.KnownBytes.{Keeps};
+ghost use Rattle.std.specs.Prelude.{◌≡◌, ◌<◌, ℕ, List, IfOk, IfErr, OnErr, OnOk, length, take};
+ghost use Rattle.std.specs.Io.KnownBytes.{Appends, Keeps};
 ghost use Rattle.gs_simulate.specs.Heard.{IsHeaded, IsHeard};
 ghost use Rattle.gs_workbench.specs.Settings.{policy_of};
 ghost use Rattle.gs_trace.specs.Streams.{ConsumesAtMost, IsRead};
 ghost use Rattle.gs_trace.specs.declared.pipe.TheConstants.{MOST_READ_BYTES};
-ghost use Rattle.gs_workbench.specs.Written.{BeginsScript, IsOfReading, IsOfWriting, IsRefusal, IsRefusalOf, IsSimulated, WritesScript};
+ghost use Rattle.gs_workbench.specs.Written.{BeginsOf, BeginsScript, IsOfReading, IsOfWriting, IsRefusal, IsRefusalOf, IsSimulated, WritesOf, WritesScript, of_simulation, of_workload};
 ghost use Rattle.gs_workload.specs.Read.{Says};
 
 use crate::asked::{Asked, settings_of};
@@ -18,11 +18,22 @@ use gs_workload::{Workload, WorkloadFault, read_workload};
 use std::alloc::Global;
 use std::io::{Read, Write};
 
+/// Returns a fault of a workload as one of its simulation.
+fn of_workload(fault: WorkloadFault) -> WorkbenchFault
+    ensures { result ≡ of_workload fault }
+{
+    if matches!(fault, WorkloadFault::OutOfMemory) {
+        return WorkbenchFault::OutOfMemory;
+    }
+    WorkbenchFault::Workload(fault)
+}
+
 /// Returns the workload that an input says, which is TOML.
 ///
 /// # Errors
 ///
 /// `Workload` if the input is no workload, with its first fault. `OutOfMemory` if out of memory.
+#[tactic(auto, using(crate::proofs::Refusing::refused_so))]
 pub fn workload_of<P: NamedPolicy>(
     alloc: Global,
     input: &[u8],
@@ -30,10 +41,16 @@ pub fn workload_of<P: NamedPolicy>(
     ensures says { IfOk result (λ workload. Says P.naming input.now workload) }
     ensures fault { IfErr result (λ fault. IsRefusalOf P.naming input.now fault) }
 {
-    match read_workload(alloc, input) {
-        Ok(workload) => Ok(workload),
-        Err(WorkloadFault::OutOfMemory) => Err(WorkbenchFault::OutOfMemory),
-        Err(fault) => Err(WorkbenchFault::Workload(fault)),
+    read_workload(alloc, input).map_err(of_workload)
+}
+
+/// Returns a fault of a simulation as one of its workload.
+fn of_simulation(fault: SimulateFault) -> WorkbenchFault
+    ensures { result ≡ of_simulation fault }
+{
+    match fault {
+        SimulateFault::OutOfMemory => WorkbenchFault::OutOfMemory,
+        SimulateFault::Unreadable(fault) => WorkbenchFault::Unreadable(fault),
     }
 }
 
@@ -42,6 +59,7 @@ pub fn workload_of<P: NamedPolicy>(
 /// # Errors
 ///
 /// `OutOfMemory` if out of memory. `Unreadable` if the simulation wrote a line that is none of a script.
+#[tactic(auto, using(crate::proofs::Refusing::refused_by))]
 pub fn simulate_as<P: NamedPolicy>(
     alloc: Global,
     asked: Asked<P>,
@@ -51,11 +69,7 @@ pub fn simulate_as<P: NamedPolicy>(
     ensures headed { IfOk result (λ s. IsHeaded P.naming workload.now.cpus workload.now.ring (policy_of P.naming asked.policy workload.now.policy) s.text) }
     ensures fault { (input : List ℕ) → IfErr result (λ fault. IsRefusalOf P.naming input fault) }
 {
-    match simulate(alloc, workload, settings_of(asked, workload)) {
-        Ok(simulated) => Ok(simulated),
-        Err(SimulateFault::OutOfMemory) => Err(WorkbenchFault::OutOfMemory),
-        Err(SimulateFault::Unreadable(fault)) => Err(WorkbenchFault::Unreadable(fault)),
-    }
+    simulate(alloc, workload, settings_of(asked, workload)).map_err(of_simulation)
 }
 
 /// Simulates the workload that an input says.
@@ -90,6 +104,34 @@ pub fn input_of<R: Read>(alloc: Global, reader: &mut R) -> Result<Vec<u8>, Workb
     }
 }
 
+/// Writes the script of a simulation.
+fn write_script<P: NamedPolicy, W: Write>(
+    simulated: &Simulated<P>,
+    writer: &mut W,
+) -> Result<(), WorkbenchFault>
+    ensures written { OnOk result (Appends (W.contents writer.old) (W.contents writer.new) simulated.now.text) }
+    ensures begun { OnErr result ((n : ℕ) × (n < length simulated.now.text) × Appends (W.contents writer.old) (W.contents writer.new) (take n simulated.now.text)) }
+    ensures fault { IfErr result (λ e. e ≡ WorkbenchFault.WriteFailed) }
+{
+    write_out(writer, simulated.text()).map_err(|_| WorkbenchFault::WriteFailed)
+}
+
+/// Simulates the workload that an input says, and writes the script. What was simulated is owned here alone, where there is one way out.
+fn write_simulated<P: NamedPolicy, W: Write>(
+    alloc: Global,
+    asked: Asked<P>,
+    input: &[u8],
+    writer: &mut W,
+) -> Result<(), WorkbenchFault>
+    ensures written { OnOk result (WritesOf P.naming P.chosen asked input.now (W.contents writer.old) (W.contents writer.new)) }
+    ensures refused { IfErr result (λ e. (IsOfWriting e → ⊥) → IsRefusalOf P.naming input.now e) }
+    ensures unwritten { IfErr result (λ e. (IsOfWriting e → ⊥) → Keeps (W.contents writer.old) (W.contents writer.new)) }
+    ensures begun { IfErr result (λ e. IsOfWriting e → BeginsOf P.naming P.chosen asked input.now (W.contents writer.old) (W.contents writer.new)) }
+{
+    let simulated = simulated(alloc, asked, input)?;
+    write_script(&simulated, writer)
+}
+
 /// Reads a workload, which is TOML, to its end, or until it is too long. Simulates it, and writes the script of what happened.
 ///
 /// The reads end at the first that gives no byte, and are at most 1,048,578. At most [`MOST_READ_BYTES`] are read.
@@ -112,9 +154,5 @@ pub fn simulate_workload<P: NamedPolicy, R: Read, W: Write>(
     ensures begun { IfErr result (λ e. IsOfWriting e → BeginsScript P.naming P.chosen asked (R.remaining reader.old) (R.remaining reader.new) (W.contents writer.old) (W.contents writer.new)) }
 {
     let input = input_of(alloc, reader)?;
-    let simulated = simulated(alloc, asked, &input)?;
-    match write_out(writer, simulated.text()) {
-        Ok(()) => Ok(()),
-        Err(_) => Err(WorkbenchFault::WriteFailed),
-    }
+    write_simulated(alloc, asked, &input, writer)
 }

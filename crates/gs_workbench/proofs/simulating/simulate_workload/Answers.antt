@@ -1,10 +1,10 @@
-use Rattle.std.proofs.Common.{◌≡◌, ◌<◌, ◌∙◌, ap, sym, subst, refl, Err, List, ℕ, Option, None, Some, length, take}
+use Rattle.std.proofs.Common.{◌≡◌, ◌∙◌, ap, sym, subst, refl, Err, List, ℕ, Option, None, Some}
 use Rattle.std.specs.Prelude.{Result, IfErr}
-use Rattle.std.specs.Io.KnownBytes.{Appends, Keeps}
-use Rattle.std.proofs.lemmas.Result.{IfOk-from_err, err_from_is_err_and}
+use Rattle.std.specs.Io.KnownBytes.{Keeps}
+use Rattle.std.proofs.lemmas.Result.{IfErr-weaker, IfOk-from_err, err_from_is_err_and, on_ok_weaker}
 use Rattle.gs_trace.specs.Streams.{IsRead}
-use Rattle.gs_workbench.specs.Written.{BeginsScript, IsOfWriting, IsRefusal, IsSimulated, WritesScript}
-use Rattle.gs_workbench.proofs.Refusing.{refusal_read, no_writing, unread, no_reading}
+use Rattle.gs_workbench.specs.Written.{BeginsOf, BeginsScript, IsOfWriting, IsRefusal, WritesOf, WritesScript}
+use Rattle.gs_workbench.proofs.Refusing.{no_reading, refusal_in, unread}
 use Rattle.gs_workbench.proofs.simulating.simulate_workload.Goals as goal
 
 kept : (known : Option (List ℕ)) → Keeps known known
@@ -33,61 +33,22 @@ returns-in_err-input g c =
       begun = told (λ f. IsOfWriting f → BeginsScript naming g.P.Policy.chosen c.args.asked had left wrote wrote) result e is (λ writing. absurd (no_reading e reading writing));
     }
 
-pub returns-in_err-simulated : goal.returns-in_err-simulated
-returns-in_err-simulated g c =
-    let result = c.from_residual-in_err-simulated.result in
-    let r = err_from_is_err_and result c.from_residual-in_err-simulated.ensures.1 in
-    let e = c.in_err-simulated.field-0.0 in
-    let is : result ≡ Err e = r.1 ∙ ap (λ y. Err y) r.2 in
-    let naming = g.P.NamedPolicy.naming in
-    let had = g.R.Read.remaining c.args.reader.now in
-    let left = g.R.Read.remaining c.input_of.new.reader in
-    let wrote = g.W.Write.contents c.args.writer.now in
-    let input = c.deref.result.now in
-    let read = subst (λ bytes. IsRead had left bytes) (sym c.deref.ensures.value) c.in_ok-input.ensures.read in
-    let refusal = c.in_err-simulated.ensures.fault in
-    record {
-      written = IfOk-from_err result (λ _. WritesScript naming g.P.Policy.chosen c.args.asked had left wrote wrote) c.from_residual-in_err-simulated.ensures.0;
-      bounded = c.input_of.ensures.bounded;
-      refused = told (IsRefusal naming had left) result e is (refusal_read naming had left input e read refusal);
-      unwritten = told (λ f. (IsOfWriting f → ⊥) → Keeps wrote wrote) result e is (λ _. kept wrote);
-      begun = told (λ f. IsOfWriting f → BeginsScript naming g.P.Policy.chosen c.args.asked had left wrote wrote) result e is (λ writing. absurd (no_writing naming input e refusal writing));
-    }
-
-pub returns-in-Ok : goal.returns-in-Ok
-returns-in-Ok g c =
-    let text = c.in_ok-simulated.simulated.text in
-    record {
-      written = record {
-        input = c.in_ok-input.input.items;
-        text = text;
-        read = c.in_ok-input.ensures.read;
-        simulated = subst (λ bytes. IsSimulated g.P.NamedPolicy.naming g.P.Policy.chosen c.args.asked bytes text) c.deref.ensures.value c.in_ok-simulated.ensures.simulated;
-        written = subst (λ bytes. Appends (g.W.Write.contents c.args.writer.now) (g.W.Write.contents c.write_out.new.writer) bytes) c.text.ensures.text c.in-Ok.ensures.ok;
-      };
-      bounded = c.input_of.ensures.bounded;
-      refused = tt;
-      unwritten = tt;
-      begun = tt;
-    }
-
 pub returns : goal.returns
 returns g c =
-    let text = c.in_ok-simulated.simulated.text in
-    let same = c.text.ensures.text in
-    let err = c.in-Err.ensures.err in
+    let naming = g.P.NamedPolicy.naming in
+    let plans = g.P.Policy.chosen in
+    let asked = c.args.asked in
+    let had = g.R.Read.remaining c.args.reader.now in
+    let left = g.R.Read.remaining c.input_of.new.reader in
+    let before = g.W.Write.contents c.args.writer.now in
+    let after = g.W.Write.contents c.write_simulated.new.writer in
+    let input = c.deref.result.now in
+    let result = c.write_simulated.result in
+    let read : IsRead had left input = subst (λ bytes. IsRead had left bytes) (sym c.deref.ensures.value) c.in_ok-input.ensures.read in
     record {
-      written = tt;
+      written = on_ok_weaker result (λ (w : WritesOf naming plans asked input before after). record { input = input; text = w.text; read = read; simulated = w.simulated; written = w.written }) c.write_simulated.ensures.written;
       bounded = c.input_of.ensures.bounded;
-      refused = tt;
-      unwritten = λ no_writing. absurd (no_writing tt);
-      begun = λ _. record {
-        input = c.in_ok-input.input.items;
-        text = text;
-        count = err.0;
-        read = c.in_ok-input.ensures.read;
-        simulated = subst (λ bytes. IsSimulated g.P.NamedPolicy.naming g.P.Policy.chosen c.args.asked bytes text) c.deref.ensures.value c.in_ok-simulated.ensures.simulated;
-        short = subst (λ bytes. err.0 < length bytes) same err.1;
-        written = subst (λ bytes. Appends (g.W.Write.contents c.args.writer.now) (g.W.Write.contents c.write_out.new.writer) (take err.0 bytes)) same err.2;
-      };
+      refused = IfErr-weaker result _ (IsRefusal naming had left) (λ e is. refusal_in naming had left input e read is) c.write_simulated.ensures.refused;
+      unwritten = c.write_simulated.ensures.unwritten;
+      begun = IfErr-weaker result _ (λ e. IsOfWriting e → BeginsScript naming plans asked had left before after) (λ e begins writing. let b : BeginsOf naming plans asked input before after = begins writing in record { input = input; text = b.text; count = b.count; read = read; simulated = b.simulated; short = b.short; written = b.written }) c.write_simulated.ensures.begun;
     }
