@@ -104,9 +104,20 @@ count_rule name most = record (new_rule name) { long = Some name; value_names = 
 abbrev pub threads_alone : App
 threads_alone = with_rule (with_rule (with_rule (new_app (codes "threads")) (count_rule (codes "workers") MOST_WORKERS)) (count_rule (codes "each") MOST_EACH)) (flag_rule (codes "journal"))
 
+-- a program, and with it the commands that run a script and write what came of it
+abbrev pub with_runs : App → App
+with_runs app = with_subcommand (with_subcommand (with_subcommand (with_subcommand app run_alone.top) explain_alone.top) report_alone.top) journal_alone.top
+
+-- and those that draw or tabulate it
+abbrev pub with_pictures : App → App
+with_pictures app = with_subcommand (with_subcommand (with_subcommand (with_subcommand app timeline_alone.top) timehist_alone.top) latency_alone.top) trace_alone.top
+
+-- and all others
+abbrev pub with_others : App → App
+with_others app = with_subcommand (with_subcommand (with_subcommand (with_subcommand app serve_alone.top) simulate_alone.top) compare_alone.top) threads_alone.top
+
 abbrev pub ghost_program : App
-ghost_program =
-    with_subcommand (with_subcommand (with_subcommand (with_subcommand (with_subcommand (with_subcommand (with_subcommand (with_subcommand (with_subcommand (with_subcommand (with_subcommand (with_subcommand ghost_alone run_alone.top) explain_alone.top) report_alone.top) journal_alone.top) timeline_alone.top) timehist_alone.top) latency_alone.top) trace_alone.top) serve_alone.top) simulate_alone.top) compare_alone.top) threads_alone.top
+ghost_program = with_others (with_pictures (with_runs ghost_alone))
 
 -- a command without the program around it
 abbrev pub alone : Shape → App

@@ -3,7 +3,7 @@
 ghost use Rattle.std.specs.Prelude.{◌≡◌, false, IfOk, option_map};
 ghost use Rattle.clap.specs.Words.{app_of};
 ghost use Rattle.clap.specs.declared.builder.command.Command.TheViews.{out-Command as fields_of};
-ghost use Rattle.gs_arguments.specs.Arguments.{alone_named, compare_alone, compare_runs, explain_alone, ghost_alone, ghost_program, journal_alone, latency_alone, report_alone, run_alone, serve_alone, simulate_alone, threads_alone, timehist_alone, timeline_alone, timeline_of_part, trace_alone};
+ghost use Rattle.gs_arguments.specs.Arguments.{alone_named, compare_alone, compare_runs, explain_alone, ghost_alone, ghost_program, journal_alone, latency_alone, report_alone, run_alone, serve_alone, simulate_alone, threads_alone, timehist_alone, timeline_alone, timeline_of_part, trace_alone, with_others, with_pictures, with_runs};
 
 use crate::command::{MOST_EACH, MOST_WORKERS};
 use crate::options::{
@@ -254,6 +254,46 @@ pub(crate) fn program<'a>(alloc: Global) -> Result<clap::Command<'a>, AllocError
     with_commands(alloc, alone)
 }
 
+/// A program's command line, with the commands that run a script and write what came of it. Each function here adds a few, since where one
+/// returns all that it owns is dropped.
+fn with_runs<'a>(alloc: Global, program: clap::Command<'a>) -> Result<clap::Command<'a>, AllocError>
+    ensures { IfOk result (λ command. app_of command ≡ with_runs (app_of program.entry)) }
+{
+    program
+        .subcommand(run_command(alloc)?)?
+        .subcommand(explain_command(alloc)?)?
+        .subcommand(report_command(alloc)?)?
+        .subcommand(journal_command(alloc)?)
+}
+
+/// The same, with the commands that draw or tabulate what happened.
+fn with_pictures<'a>(
+    alloc: Global,
+    program: clap::Command<'a>,
+) -> Result<clap::Command<'a>, AllocError>
+    ensures { IfOk result (λ command. app_of command ≡ with_pictures (app_of program.entry)) }
+{
+    program
+        .subcommand(timeline_command(alloc)?)?
+        .subcommand(timehist_command(alloc)?)?
+        .subcommand(latency_command(alloc)?)?
+        .subcommand(trace_command(alloc)?)
+}
+
+/// The same, with all other commands.
+fn with_others<'a>(
+    alloc: Global,
+    program: clap::Command<'a>,
+) -> Result<clap::Command<'a>, AllocError>
+    ensures { IfOk result (λ command. app_of command ≡ with_others (app_of program.entry)) }
+{
+    program
+        .subcommand(serve_command(alloc)?)?
+        .subcommand(simulate_command(alloc)?)?
+        .subcommand(compare_command(alloc)?)?
+        .subcommand(threads_command(alloc)?)
+}
+
 /// The program's command line, of the program alone: with its commands.
 fn with_commands<'a>(
     alloc: Global,
@@ -262,19 +302,9 @@ fn with_commands<'a>(
     requires { app_of alone ≡ ghost_alone }
     ensures { IfOk result (λ command. app_of command ≡ ghost_program) }
 {
-    alone
-        .subcommand(run_command(alloc)?)?
-        .subcommand(explain_command(alloc)?)?
-        .subcommand(report_command(alloc)?)?
-        .subcommand(journal_command(alloc)?)?
-        .subcommand(timeline_command(alloc)?)?
-        .subcommand(timehist_command(alloc)?)?
-        .subcommand(latency_command(alloc)?)?
-        .subcommand(trace_command(alloc)?)?
-        .subcommand(serve_command(alloc)?)?
-        .subcommand(simulate_command(alloc)?)?
-        .subcommand(compare_command(alloc)?)?
-        .subcommand(threads_command(alloc)?)
+    let program = with_runs(alloc, alone)?;
+    let program = with_pictures(alloc, program)?;
+    with_others(alloc, program)
 }
 
 /// The command of this name, by itself, if there is one.
