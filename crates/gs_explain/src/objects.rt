@@ -25,7 +25,7 @@ use crate::kept::{Kept, Late, marked_late};
 use crate::moment::Scene;
 use crate::object::{Pen, push_rest};
 use crate::once::{forget, tell_again, tell_nothing, tell_quiet};
-use crate::outline::{Outline, Told, outlined, outlined_done};
+use crate::outline::{Outline, Told, outlined, outlined_done, parts_in};
 use crate::outlines::{Outlines, Short};
 use crate::quiet::Quiet;
 use crate::refusal::{push_refused, push_refused_rest};
@@ -50,39 +50,6 @@ const BLOCK_LEN: usize = 61_440;
 /// Most objects have fewer bytes than so many.
 const OBJECT_LEN: usize = 4_096;
 
-/// Adds the object of an event that is told aside, of which a text has the lines of the reply and the reasons.
-#[inline(never)]
-fn push_parts(
-    alloc: Global,
-    out: &mut Text,
-    pen: &mut Pen,
-    text: &[u8],
-    short: &Short<'_>,
-    count: u32,
-    from: usize,
-    mid: usize,
-    to: usize,
-) -> Result<(), AllocError>
-    requires line { is_text short.now.line.now ≡ true }
-    requires parts { HasParts text.now from mid to }
-    requires begins { from ≤ mid }
-    requires ends { mid ≤ to }
-    ensures { OnOk result (out.new ≡ out.old ++ object_pieces (short.now.number, short.now.line.now) short.now.first count (part from mid text.now) (part mid to text.now)) }
-{
-    let lines = &text[from..mid];
-    let whys = &text[mid..to];
-    pen.push_seldom(
-        alloc,
-        out,
-        short.number,
-        short.line,
-        short.first,
-        count,
-        lines,
-        whys,
-    )
-}
-
 /// Adds the object of an event that is told aside: of which a text has the lines of the reply and the reasons, or which was refused.
 #[inline(always)]
 #[tactic(auto, using(crate::proofs::Outlining::has_parts, crate::proofs::Outlining::is_refused))]
@@ -105,9 +72,17 @@ fn push_aside(
             lines,
             whys,
         } => {
-            let mid = from + lines as usize;
-            let to = mid + whys as usize;
-            push_parts(alloc, out, pen, text, short, count, from, mid, to)
+            let (lines, whys) = parts_in(text, from, lines, whys);
+            pen.push_seldom(
+                alloc,
+                out,
+                short.number,
+                short.line,
+                short.first,
+                count,
+                lines,
+                whys,
+            )
         }
         Told::Refused { at, tail } => push_refused(alloc, out, pen, short, at, &tail),
     }
@@ -222,9 +197,8 @@ fn push_behind(
             whys,
             ..
         } => {
-            let mid = from + lines as usize;
-            let to = mid + whys as usize;
-            push_rest(alloc, out, short.line, &text[from..mid], &text[mid..to])
+            let (lines, whys) = parts_in(text, from, lines, whys);
+            push_rest(alloc, out, short.line, lines, whys)
         }
         Told::Refused { at, tail } => push_refused_rest(alloc, out, short.line, at, &tail),
     }

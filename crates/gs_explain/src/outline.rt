@@ -1,6 +1,6 @@
 //! An event whose object is put together at the end.
 
-ghost use Rattle.std.specs.Prelude.{◌≡◌, ◌≤◌, ◌++◌, ◌-◌, IfOk, OnOk, length, take, true};
+ghost use Rattle.std.specs.Prelude.{◌≡◌, ◌≤◌, ◌+◌, ◌++◌, ◌-◌, IfOk, OnOk, length, take, true};
 ghost use Rattle.gs_journal.specs.Last.{entry_lent};
 ghost use Rattle.gs_reasons.specs.Kept.{HasHeard};
 ghost use Rattle.gs_script.specs.Unread.{said_line};
@@ -9,7 +9,8 @@ ghost use Rattle.gs_trace.specs.Came.{reply_in};
 ghost use Rattle.gs_explain.specs.Marked.{IsMarked};
 ghost use Rattle.gs_explain.specs.Moment.{moment_of};
 ghost use Rattle.gs_explain.specs.Objects.{done_object, object_row};
-ghost use Rattle.gs_explain.specs.Outlined.{Grows, IsOutlined, Notes, TellsNothing, outline_text};
+ghost use Rattle.gs_sentences.specs.Parts.{part};
+ghost use Rattle.gs_explain.specs.Outlined.{Grows, HasParts, IsOutlined, Notes, TellsNothing, outline_text};
 
 use crate::draft::Draft;
 use crate::hearing::hear_all;
@@ -66,6 +67,18 @@ pub(crate) fn short(number: usize) -> Result<u32, AllocError>
         Ok(number) => Ok(number),
         Err(_) => Err(AllocError),
     }
+}
+
+/// Returns the lines of a reply that a text has from a place on, so many bytes, and the reasons behind them.
+#[inline(always)]
+pub(crate) fn parts_in(text: &[u8], from: usize, lines: u32, whys: u32) -> (&[u8], &[u8])
+    requires { HasParts text.now from (from + lines) (from + lines + whys) }
+    ensures lines { result.0.now ≡ part from (from + lines) text.now }
+    ensures whys { result.1.now ≡ part (from + lines) (from + lines + whys) text.now }
+{
+    let mid = from + lines as usize;
+    let to = mid + whys as usize;
+    (&text[from..mid], &text[mid..to])
 }
 
 impl Told {

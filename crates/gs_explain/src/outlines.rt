@@ -9,7 +9,7 @@ ghost use Rattle.gs_explain.specs.declared.outline.Outline.{Outline};
 ghost use Rattle.gs_explain.specs.declared.outline.Told.{Told};
 ghost use Rattle.gs_explain.specs.declared.outline.Told.TheVariants as tolds;
 
-use crate::outline::{Outline, Told, short};
+use crate::outline::{Outline, Told, parts_in, short};
 use gs_script::SaidLine;
 use gs_sentences::Tail;
 use std::alloc::{AllocError, Global};
@@ -154,10 +154,7 @@ impl<'a> Short<'a> {
         ensures lines { result.0.now ≡ part self.now.at (self.now.at + self.now.lines) text.now }
         ensures whys { result.1.now ≡ part (self.now.at + self.now.lines) (self.now.at + self.now.lines + self.now.whys) text.now }
     {
-        let from = self.at as usize;
-        let mid = from + self.lines as usize;
-        let to = mid + self.whys as usize;
-        (&text[from..mid], &text[mid..to])
+        parts_in(text, self.at as usize, self.lines as u32, self.whys as u32)
     }
 }
 
