@@ -3,10 +3,10 @@
 ghost use Rattle.gs_layout.specs.Spelling.{IsSpellable};
 
 use crate::messages::Told::{self, Creation, Thread, Tick};
-use gs_layout::{Change, Class, Facts, Message, Parcel};
+use gs_layout::{Change, Class, Facts, Kind, Message, Parcel};
 use gs_reader::MessageRef;
 use gs_status::Mask;
-use gs_view::{AgentView, ApplyFault, News};
+use gs_view::{AgentView, ApplyFault, Heard, News};
 use std::alloc::Global;
 use std::test::Fail;
 
@@ -181,6 +181,98 @@ const SEVERAL: [Row; 7] = [
 /// number.
 const SHOWN: [(u32, bool, u32); 4] = [(1, true, 2), (7, true, 5), (9, false, 3), (65_536, true, 2)];
 
+/// A message about a thread, what the view hears of it, and the class of thread 7 if that may run then.
+type HeardRow = (Told, Result<Heard, ApplyFault>, Option<Class>);
+
+/// What is heard of thread 7, and of another.
+const HEARD: [HeardRow; 7] = [
+    (
+        Creation(7, 5, Class::One, 3, "web"),
+        Ok(Heard {
+            news: News::Applied,
+            ready: Some(Class::One),
+        }),
+        Some(Class::One),
+    ),
+    (
+        Thread(7, 6, Change::Blocked { cpu: 1 }),
+        Ok(Heard {
+            news: News::Applied,
+            ready: None,
+        }),
+        None,
+    ),
+    (
+        Thread(7, 7, Change::Wakeup),
+        Ok(Heard {
+            news: News::Applied,
+            ready: Some(Class::One),
+        }),
+        Some(Class::One),
+    ),
+    (
+        Thread(7, 7, Change::Blocked { cpu: 1 }),
+        Ok(Heard {
+            news: News::Skipped,
+            ready: None,
+        }),
+        Some(Class::One),
+    ),
+    (
+        Thread(8, 1, Change::Wakeup),
+        Ok(Heard {
+            news: News::Orphan,
+            ready: None,
+        }),
+        Some(Class::One),
+    ),
+    (
+        Thread(7, 9, Change::Wakeup),
+        Err(ApplyFault::Gap),
+        Some(Class::One),
+    ),
+    (
+        Thread(7, 8, Change::Dead { cpu: None }),
+        Ok(Heard {
+            news: News::Applied,
+            ready: None,
+        }),
+        None,
+    ),
+];
+
+/// What the view hears of a message about a thread, or `None` if it is about none.
+fn hear(view: &mut AgentView, message: &Message) -> Option<Result<Heard, ApplyFault>>
+    requires { IsSpellable message.now }
+{
+    let parcel = Parcel::new(message);
+    let message = MessageRef::in_parcel(&parcel);
+    let kind = message.kind();
+    if kind == Kind::TimerTick {
+        return None;
+    }
+    Some(view.hear(kind, &message))
+}
+
+/// Whether the view hears what a row says, and thread 7 may run then as it says.
+fn is_heard(view: &mut AgentView, row: &HeardRow) -> bool {
+    let (told, heard, ready) = row;
+    let Some(message) = told.message() else {
+        return false;
+    };
+    hear(view, &message) == Some(*heard) && view.ready(7) == *ready
+}
+
+/// The first row that the view does not hear as it says.
+fn first_unheard(view: &mut AgentView) -> Option<usize> {
+    for (index, row) in HEARD.iter().enumerate() {
+        if !is_heard(view, row) {
+            return Some(index);
+        }
+    }
+    None
+}
+
 /// What the view returns for a message.
 pub(crate) fn send(view: &mut AgentView, message: &Message) -> Result<News, ApplyFault>
     requires { IsSpellable message.now }
@@ -289,6 +381,13 @@ fn takes_messages_in(rt: HostRuntime) {
     let lives = lives(rt.alloc());
     let walks = walks(rt.alloc());
     assert_eq!(rt; (lives, walks), ((true, None, None, true), (None, true)));
+}
+
+#[test]
+fn hears_who_may_run(rt: HostRuntime) {
+    let mut view = AgentView::new(rt.alloc());
+    let unheard = first_unheard(&mut view);
+    assert_eq!(rt; unheard, None);
 }
 
 #[test]
