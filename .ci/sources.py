@@ -236,8 +236,12 @@ def crate_lines():
 
 
 def crates():
-    """Returns the names of the crates of crates.txt, lowest first, and the names of the libraries of each."""
-    return {before[0]: behind for before, behind in crate_lines()}
+    """Returns the names of the crates of crates.txt, lowest first, and of each the names of all libraries below it."""
+    below = {}
+    for before, behind in crate_lines():
+        # (the lines of these libraries come before)
+        below[before[0]] = [*dict.fromkeys(it for name in behind for it in (name, *below.get(name, [])))]
+    return below
 
 
 def test_files(folder):
