@@ -421,8 +421,8 @@ fn is_blank(role: &Role<Idler>) -> bool {
         && is_order(role.waiting(), &[])
 }
 
-// What owns a role, a ring or slots has one way out once they are made, and whatever it calls borrows them: a
-// proof goes through all that they drop at each way out.
+// What owns a role, a ring or slots has one way out once they are made, and whatever it calls borrows them. A proof goes through all that
+// they drop at each way out.
 
 /// Whether a new role is blank.
 fn begins_blank(alloc: Global) -> bool {

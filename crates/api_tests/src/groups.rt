@@ -14,8 +14,8 @@ type Wish = (u16, u32, u32, bool, bool);
 /// What landed: its CPU, its thread, the outcome, the thread's number before, and where it is then.
 type Landed = (u16, u32, Outcome, u32, Option<u16>);
 
-/// How many entries the journal may have, how many ticks fill the ring beforehand, what is stamped, what a commit of
-/// all CPUs returns, and how many entries come of it.
+/// How many entries the journal may have, how many ticks fill the ring beforehand, and what is stamped. Then what a commit of all CPUs
+/// returns, and how many entries come of it.
 type Row = (u32, u16, &'static [Wish], &'static [Landed], usize);
 
 use Outcome::{AlreadyPlaced, Gone, GroupFailed, HistoryFull, Placed, Stale};

@@ -186,19 +186,16 @@ fn has_fields(found: &MessageRef<'_>, wanted: &Fields<'_>) -> bool {
         && found.takes_off_cpu() == wanted.takes_off_cpu
 }
 
-/// Whether all of these bytes are a message of these fields, also if it is borrowed again, and if it is held
-/// in a parcel.
+/// Whether all of these bytes are a message of these fields, also if it is held in a parcel.
 fn is_read(bytes: &[u8], wanted: &Fields<'_>) -> bool {
     let Some(found) = only(bytes) else {
         return false;
     };
-    let again = found.again();
     let parcel = Parcel::new(&found.message());
     let held = MessageRef::in_parcel(&parcel);
     has_fields(&found, wanted)
-        && has_fields(&again, wanted)
         && has_fields(&held, wanted)
-        && again.as_bytes() == bytes
+        && found.as_bytes() == bytes
         && parcel.as_bytes() == bytes
 }
 

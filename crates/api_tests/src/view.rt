@@ -359,8 +359,8 @@ fn try_several(view: &mut AgentView) -> Option<usize> {
     first_wrong(view, &SEVERAL)
 }
 
-/// Whether a new view is blank, the first row of a life and of a birth that it does not take as it says, and
-/// whether it knows thread 7 alone then.
+/// Whether a new view is blank, and the first row of a life and of a birth that it does not take as it says. Then whether it knows thread 7
+/// alone.
 fn lives(alloc: Global) -> (bool, Option<usize>, Option<usize>, bool) {
     let mut view = AgentView::new(alloc);
     let blank = is_blank(&view);

@@ -1,6 +1,5 @@
 ghost use Rattle.std.specs.Prelude.{◌≡◌, ◌≤◌, ◌&&◌, nat_lt, ℕ, is_none, IfOk, length};
 ghost use Rattle.gs_layout.specs.Spelling.{kind_of};
-ghost use Rattle.gs_reader.specs.Taking.{takes_own_off};
 ghost use Rattle.gs_status.specs.Masks.{has};
 ghost use Rattle.gs_beliefs.specs.Cpus.{believed_on, clears, is_believed, is_named, places, raises, stamp_on, stamps, ticks, unknown, unstamps};
 ghost use Rattle.gs_beliefs.specs.Belief.{after_outcome, hears};
@@ -36,14 +35,6 @@ impl Model for Beliefs {
     ghost view = { λ s. record { believed = s.beliefs.items; stamped = s.stamps; agent = s.agent } };
 
     ghost invariant = { λ s. IsCpus s.beliefs.items s.running s.stamps };
-}
-
-/// Tells whether a message of this kind takes its own thread off the CPU.
-fn takes_off(kind: Kind, message: &MessageRef<'_>) -> bool
-    requires { kind ≡ kind_of message.now }
-    ensures { result ≡ takes_own_off message.now }
-{
-    kind.takes_off_cpu(message.flags() & 1 == 1)
 }
 
 impl Beliefs {
@@ -199,7 +190,7 @@ impl Beliefs {
                 }
             }
             _ => {
-                if takes_off(kind, message) {
+                if message.takes_off_as(kind) {
                     self.clear(message.tid());
                 } else {
                     self.raise(message.tid(), message.tseq());

@@ -10,20 +10,16 @@ use crate::facts::{Class, Facts};
 use crate::message::{Change, Message};
 use crate::name::{MOST_NAME_LEN, Name};
 use crate::wire::{
-    AFFINITY_LEN, ALIGNMENT, CLASS_AT, CPU_AT, FLAGS_AT, HEADER_LEN, KIND_AT, LEAST_CREATION_LEN,
-    MASK_LEN, NAME_AT, TID_AT, TSEQ_AT,
+    AFFINITY_LEN, ALIGNMENT, CLASS_AT, CPU_AT, FLAGS_AT, HEADER_LEN, KIND_AT, MASK_LEN,
+    MIDDLE_NAME_LEN, NAME_AT, SHORT_NAME_LEN, TID_AT, TSEQ_AT,
 };
 use byteorder::{ByteOrder, LittleEndian};
 
 /// How many bytes the class of a creation and the length of its name have.
 const SIZES_LEN: usize = NAME_AT - CLASS_AT;
 
-/// How many bytes a creation may have for its name, with the zeros behind it: so many, or one of two more counts.
-const SHORT_LEN: usize = LEAST_CREATION_LEN - NAME_AT;
-
-const MIDDLE_LEN: usize = SHORT_LEN + ALIGNMENT;
-
-const LONG_LEN: usize = MIDDLE_LEN + ALIGNMENT;
+/// How many bytes the longest creations have from their names on.
+const LONG_NAME_LEN: usize = MIDDLE_NAME_LEN + ALIGNMENT;
 
 /// The numbers of a message's header.
 #[derive(Clone, Copy)]
@@ -117,12 +113,12 @@ fn write_name(name: &Name, out: &mut [u8])
     requires { length (name_bytes name.now) ≤ length out.old }
     ensures { out.new ≡ name_bytes name.now ++ drop (length (name_bytes name.now)) out.old }
 {
-    let mut padded = [0; LONG_LEN];
+    let mut padded = [0; LONG_NAME_LEN];
     padded[..MOST_NAME_LEN].copy_from_slice(name.as_padded());
     match creation_len(name.as_bytes().len()) - NAME_AT {
-        SHORT_LEN => out[..SHORT_LEN].copy_from_slice(&padded[..SHORT_LEN]),
-        MIDDLE_LEN => out[..MIDDLE_LEN].copy_from_slice(&padded[..MIDDLE_LEN]),
-        _ => out[..LONG_LEN].copy_from_slice(&padded),
+        SHORT_NAME_LEN => out[..SHORT_NAME_LEN].copy_from_slice(&padded[..SHORT_NAME_LEN]),
+        MIDDLE_NAME_LEN => out[..MIDDLE_NAME_LEN].copy_from_slice(&padded[..MIDDLE_NAME_LEN]),
+        _ => out[..LONG_NAME_LEN].copy_from_slice(&padded),
     }
 }
 

@@ -64,6 +64,7 @@ impl Name {
             return None;
         }
         let mut bytes = [0; MOST_NAME_LEN];
+        // One pass tests the bytes and copies them.
         for n in 0..text.len() {
             if !is_name_byte(text[n]) {
                 return None;

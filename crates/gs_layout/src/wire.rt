@@ -33,6 +33,10 @@ pub const NAME_LEN_AT: usize = 33;
 pub const NAME_AT: usize = 34;
 /// The fewest bytes that a creation has: one whose name is empty.
 pub const LEAST_CREATION_LEN: usize = 40;
+/// How many bytes the shortest creations have from their names on: the name, and zeros behind it.
+pub const SHORT_NAME_LEN: usize = LEAST_CREATION_LEN - NAME_AT;
+/// How many those have that are longer by [`ALIGNMENT`]. The longest have as many more once more.
+pub const MIDDLE_NAME_LEN: usize = SHORT_NAME_LEN + ALIGNMENT;
 /// The most bytes that a message has: a creation whose name is as long as a name may be.
 pub const MOST_MESSAGE_LEN: usize = 56;
 /// The kind of a PAD: bytes in a ring that are passed over.

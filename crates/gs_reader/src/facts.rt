@@ -1,19 +1,14 @@
 //! The facts that a creation tells, read where they stand.
 
-ghost use Rattle.std.specs.Prelude.{◌≡◌, ◌<◌, ◌≤◌, drop, length};
+ghost use Rattle.std.specs.Prelude.{◌≡◌, ◌<◌, ◌≤◌, length};
 ghost use Rattle.gs_layout.specs.Reading.{facts_in};
 ghost use Rattle.gs_reader.specs.Creation.{IsCreation, name_front};
 
 use gs_layout::{
-    ALIGNMENT, CLASS_AT, Class, FLAGS_AT, Facts, LEAST_CREATION_LEN, MASK_AT, MOST_NAME_LEN,
-    NAME_AT, NAME_LEN_AT, Name, u16_at, u128_at,
+    CLASS_AT, Class, FLAGS_AT, Facts, MASK_AT, MIDDLE_NAME_LEN, MOST_NAME_LEN, NAME_AT,
+    NAME_LEN_AT, Name, SHORT_NAME_LEN, u16_at, u128_at,
 };
 use gs_status::Mask;
-
-/// How many bytes the shortest creation has from its name on.
-const FEW: usize = LEAST_CREATION_LEN - NAME_AT;
-/// How many the next longer one has.
-const MORE: usize = FEW + ALIGNMENT;
 
 /// Copies the bytes from one place up to another into a name that has those before them, and zeros behind.
 #[inline(always)]
@@ -31,18 +26,18 @@ fn copy_part(name: &mut [u8; MOST_NAME_LEN], field: &[u8], from: usize, to: usiz
 /// lengths the compiler knows: those of the shortest creation, and then those that longer ones have besides.
 #[inline(always)]
 fn padded_name(field: &[u8]) -> [u8; MOST_NAME_LEN]
-    requires few { FEW ≤ length field.now }
-    requires more { FEW < length field.now → MORE ≤ length field.now }
-    requires all { MORE < length field.now → MOST_NAME_LEN ≤ length field.now }
+    requires few { SHORT_NAME_LEN ≤ length field.now }
+    requires more { SHORT_NAME_LEN < length field.now → MIDDLE_NAME_LEN ≤ length field.now }
+    requires all { MIDDLE_NAME_LEN < length field.now → MOST_NAME_LEN ≤ length field.now }
     ensures { result ≡ name_front MOST_NAME_LEN field.now }
 {
     let mut name = [0; MOST_NAME_LEN];
     copy_part(&mut name, field, 0, 2);
-    copy_part(&mut name, field, 2, FEW);
-    if field.len() > FEW {
-        copy_part(&mut name, field, FEW, MORE);
-        if field.len() > MORE {
-            copy_part(&mut name, field, MORE, MOST_NAME_LEN);
+    copy_part(&mut name, field, 2, SHORT_NAME_LEN);
+    if field.len() > SHORT_NAME_LEN {
+        copy_part(&mut name, field, SHORT_NAME_LEN, MIDDLE_NAME_LEN);
+        if field.len() > MIDDLE_NAME_LEN {
+            copy_part(&mut name, field, MIDDLE_NAME_LEN, MOST_NAME_LEN);
         }
     }
     name

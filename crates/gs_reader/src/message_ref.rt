@@ -66,13 +66,6 @@ impl<'a> MessageRef<'a> {
         MessageRef::over(bytes)
     }
 
-    /// Returns the same message once more, over the same bytes.
-    pub fn again(&self) -> MessageRef<'a>
-        ensures { result ≡ self.now }
-    {
-        MessageRef { bytes: self.bytes }
-    }
-
     /// Lends the bytes of the message, which are its spelling.
     pub fn as_bytes(&self) -> &'a [u8]
         ensures value { result.now ≡ spelling self.now }
@@ -121,7 +114,16 @@ impl<'a> MessageRef<'a> {
     pub fn takes_off_cpu(&self) -> bool
         ensures { result ≡ takes_own_off self.now }
     {
-        self.kind().takes_off_cpu(self.flags() & 1 == 1)
+        self.takes_off_as(self.kind())
+    }
+
+    /// Returns the same, of a message of this kind.
+    #[inline(always)]
+    pub fn takes_off_as(&self, kind: Kind) -> bool
+        requires { kind ≡ kind_of self.now }
+        ensures { result ≡ takes_own_off self.now }
+    {
+        kind.takes_off_cpu(self.flags() & 1 == 1)
     }
 
     /// Returns the mask of a creation or of a new mask, or `None` for any other kind.
