@@ -17,7 +17,7 @@ pub enum News {
 #[derive(Clone, Copy, PartialEq, Eq, Debug)]
 pub struct Heard {
     pub news: News,
-    /// The class of the thread, if the message applied and the thread may run.
+    /// The class of the thread, if the message applied and the thread may run then.
     pub ready: Option<Class>,
 }
 

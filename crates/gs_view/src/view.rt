@@ -130,6 +130,7 @@ impl AgentView {
         ensures word { IfOk result (λ heard. word (look_up self.old.entries) message.now ≡ word_of heard.news) }
         ensures known { OnOk result ((t : ℕ) → look_up self.new.entries t ≡ apply (look_up self.old.entries) message.now t) }
         ensures ready { IfOk result (λ heard. heard.news ≡ News.Applied → heard.ready ≡ ready_of (look_up self.new.entries (tid_of message.now))) }
+        ensures quiet { IfOk result (λ heard. heard.news ≢ News.Applied → heard.ready ≡ None) }
         ensures unchanged { OnErr result (self.new.entries ≡ self.old.entries) }
         ensures gap { (result ≡ Err ApplyFault.Gap) ↔ (is_gap (word (look_up self.old.entries) message.now) ≡ true) }
         ensures memory { result ≡ Err ApplyFault.OutOfMemory → begins (look_up self.old.entries) message.now ≡ true }
@@ -225,6 +226,7 @@ impl AgentView {
         ensures word { IfOk result (λ heard. word (look_up self.old.entries) message.now ≡ word_of heard.news) }
         ensures known { OnOk result ((t : ℕ) → look_up self.new.entries t ≡ apply (look_up self.old.entries) message.now t) }
         ensures ready { IfOk result (λ heard. heard.news ≡ News.Applied → heard.ready ≡ ready_of (look_up self.new.entries (tid_of message.now))) }
+        ensures quiet { IfOk result (λ heard. heard.news ≢ News.Applied → heard.ready ≡ None) }
         ensures unchanged { OnErr result (self.new.entries ≡ self.old.entries) }
         ensures memory { OnErr result (begins (look_up self.old.entries) message.now ≡ true) }
         ensures no_gap { result ≢ Err ApplyFault.Gap }
