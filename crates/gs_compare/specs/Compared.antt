@@ -22,8 +22,9 @@ use Rattle.gs_compare.specs.Lines.{lines_text}
 use Rattle.gs_compare.specs.Objects.{objects_text}
 use Rattle.gs_compare.specs.Records.{records_text}
 
--- this was measured of a simulation of a workload under a policy: a new session heard the lines of a text one after another, none of them with a fault, and these are the
--- landings that its replies told of. The text has the header of this workload, with this policy. Policies are named so, and plan so
+-- this was measured of a simulation of a workload under a policy. A new session heard the lines of a text one after another, none of them
+-- with a fault, and these are the landings that its replies told of. The text has the header of this workload, with this policy. Policies
+-- are named so, and plan so
 pub record IsRun {A : Type 0} (naming : Naming A) (plans : A → Plan) (workload : Workload A) (p : A) (m : Measured) : Type 0 where
   pub text : List ℕ
   pub session : Session A

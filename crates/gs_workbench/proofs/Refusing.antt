@@ -1,5 +1,5 @@
 -- Why an input comes to no script.
-use Rattle.std.proofs.Common.{ℕ, List, Option}
+use Rattle.std.proofs.Common.{◌≡◌, ℕ, List, Option}
 use Rattle.gs_script.specs.Naming.{Naming}
 use Rattle.gs_trace.specs.Streams.{IsRead}
 use Rattle.gs_workload.specs.Read.{IsTextFault}
@@ -13,10 +13,10 @@ use Rattle.gs_workbench.specs.declared.fault.WorkbenchFault.TheVariants.{Workloa
 
 -- a fault of a workload is why an input comes to no script
 pub refused_so : {A : Type 0} (naming : Naming A) (input : List ℕ) (f : WorkloadFault) → IsTextFault naming input f → IsRefusalOf naming input (of_workload f)
-refused_so naming input faults.TooLong is = is
-refused_so naming input (faults.NotToml line error) is = is
-refused_so naming input (faults.UnknownKey line key meant) is = is
-refused_so naming input (faults.Wrong line wrong policies) is = is
+refused_so naming input faults.TooLong is = (λ (short : faults.TooLong ≡ faults.OutOfMemory). absurd cc, is)
+refused_so naming input (faults.NotToml line error) is = (λ (short : faults.NotToml line error ≡ faults.OutOfMemory). absurd cc, is)
+refused_so naming input (faults.UnknownKey line key meant) is = (λ (short : faults.UnknownKey line key meant ≡ faults.OutOfMemory). absurd cc, is)
+refused_so naming input (faults.Wrong line wrong policies) is = (λ (short : faults.Wrong line wrong policies ≡ faults.OutOfMemory). absurd cc, is)
 refused_so naming input faults.OutOfMemory is = tt
 
 pub refused_by : {A : Type 0} (naming : Naming A) (input : List ℕ) (f : SimulateFault) → IsRefusalOf naming input (of_simulation f)
@@ -43,3 +43,11 @@ refusal_in naming had left input ReadFailed read is = tt
 refusal_in naming had left input OutOfMemory read is = tt
 refusal_in naming had left input (Unreadable fault) read is = tt
 refusal_in naming had left input WriteFailed read is = tt
+
+-- and no fault of a write is
+pub no_writing : {A : Type 0} (naming : Naming A) (input : List ℕ) (e : WorkbenchFault) → IsRefusalOf naming input e → IsOfWriting e → ⊥
+no_writing naming input (NoWorkload fault) is writing = writing
+no_writing naming input ReadFailed is writing = writing
+no_writing naming input OutOfMemory is writing = writing
+no_writing naming input (Unreadable fault) is writing = writing
+no_writing naming input WriteFailed is writing = is

@@ -1,5 +1,5 @@
 -- The script of a workload's simulation, as it is written.
-use Rattle.std.specs.Prelude.{◌<◌, ⊤, ℕ, List, Option, length, take}
+use Rattle.std.specs.Prelude.{◌≢◌, ◌<◌, ⊤, ℕ, List, Option, length, take}
 use Rattle.std.specs.Io.KnownBytes.{Appends}
 use Rattle.gs_core.specs.Machine.{Plan}
 use Rattle.gs_script.specs.Naming.{Naming}
@@ -43,20 +43,14 @@ pub record BeginsOf {A : Type 0} (naming : Naming A) (plans : A → Plan) (asked
 -- a workload was read, and the script of its simulation was written
 pub record WritesScript {A : Type 0} (naming : Naming A) (plans : A → Plan) (asked : Asked A) (had left before after : Option (List ℕ)) : Type 0 where
   pub input : List ℕ
-  pub text : List ℕ
   pub read : IsRead had left input
-  pub simulated : IsSimulated naming plans asked input text
-  pub written : Appends before after text
+  pub writes : WritesOf naming plans asked input before after
 
 -- and if a beginning of it was written, short of the whole
 pub record BeginsScript {A : Type 0} (naming : Naming A) (plans : A → Plan) (asked : Asked A) (had left before after : Option (List ℕ)) : Type 0 where
   pub input : List ℕ
-  pub text : List ℕ
-  pub count : ℕ
   pub read : IsRead had left input
-  pub simulated : IsSimulated naming plans asked input text
-  pub short : count < length text
-  pub written : Appends before after (take count text)
+  pub begins : BeginsOf naming plans asked input before after
 
 -- a fault of a workload, as one of its simulation
 abbrev pub of_workload : WorkloadFault → WorkbenchFault
@@ -68,9 +62,13 @@ abbrev pub of_simulation : SimulateFault → WorkbenchFault
 of_simulation simulations.OutOfMemory = OutOfMemory
 of_simulation (simulations.Unreadable fault) = Unreadable fault
 
+-- an input has this fault, and not that memory ran out
+abbrev pub IsInputFault : {A : Type 0} → Naming A → List ℕ → WorkloadFault → Type 0
+IsInputFault naming input fault = (fault ≢ faults.OutOfMemory) × IsTextFault naming input fault
+
 -- an input does not come to a script for this reason: it has this fault
 abbrev pub IsRefusalOf : {A : Type 0} → Naming A → List ℕ → WorkbenchFault → Type 0
-IsRefusalOf naming input (NoWorkload fault) = IsTextFault naming input fault
+IsRefusalOf naming input (NoWorkload fault) = IsInputFault naming input fault
 IsRefusalOf naming input OutOfMemory = ⊤
 IsRefusalOf naming input (Unreadable fault) = ⊤
 IsRefusalOf naming input ReadFailed = ⊥
@@ -78,7 +76,7 @@ IsRefusalOf naming input WriteFailed = ⊥
 
 -- what was read has this fault, if the fault is one of what was read
 abbrev pub IsRefusal : {A : Type 0} → Naming A → Option (List ℕ) → Option (List ℕ) → WorkbenchFault → Type 0
-IsRefusal naming had left (NoWorkload fault) = (input : List ℕ) × IsRead had left input × IsTextFault naming input fault
+IsRefusal naming had left (NoWorkload fault) = (input : List ℕ) × IsRead had left input × IsInputFault naming input fault
 IsRefusal naming had left _ = ⊤
 
 -- nothing was read, since a read failed, or out of memory

@@ -4,7 +4,7 @@ use Rattle.std.specs.Io.KnownBytes.{Appends, Keeps}
 use Rattle.std.proofs.lemmas.Result.{IfOk-from_err, err_from_is_err_and}
 use Rattle.gs_trace.specs.Streams.{IsRead}
 use Rattle.gs_workbench.specs.Written.{IsOfWriting, IsRefusal}
-use Rattle.gs_workbench.proofs.Refusing.{refusal_read, no_writing, unread, no_reading}
+use Rattle.gs_workbench.proofs.Refusing.{no_reading, no_writing, refusal_in, unread}
 use Rattle.gs_compare.specs.Compared.{BeginsComparison, IsComparison, WritesComparison}
 use Rattle.gs_compare.proofs.comparing.compare_workload.Goals as goal
 
@@ -52,7 +52,7 @@ returns-in_err-table g c =
     record {
       written = IfOk-from_err result (λ _. WritesComparison naming g.P.Policy.chosen asked.form asked.policies.now asked.seeds.now had left wrote wrote) c.from_residual-in_err-table.ensures.0;
       bounded = c.input_of.ensures.bounded;
-      refused = told (IsRefusal naming had left) result e is (refusal_read naming had left input e read refusal);
+      refused = told (IsRefusal naming had left) result e is (refusal_in naming had left input e read (λ _. refusal));
       unwritten = told (λ f. (IsOfWriting f → ⊥) → Keeps wrote wrote) result e is (λ _. kept wrote);
       begun = told (λ f. IsOfWriting f → BeginsComparison naming g.P.Policy.chosen asked.form asked.policies.now asked.seeds.now had left wrote wrote) result e is (λ writing. absurd (no_writing naming input e refusal writing));
     }

@@ -3,7 +3,7 @@ use Rattle.std.specs.Prelude.{Result, IfErr}
 use Rattle.std.specs.Io.KnownBytes.{Keeps}
 use Rattle.std.proofs.lemmas.Result.{IfErr-weaker, IfOk-from_err, err_from_is_err_and, on_ok_weaker}
 use Rattle.gs_trace.specs.Streams.{IsRead}
-use Rattle.gs_workbench.specs.Written.{BeginsOf, BeginsScript, IsOfWriting, IsRefusal, WritesOf, WritesScript}
+use Rattle.gs_workbench.specs.Written.{BeginsScript, IsOfWriting, IsRefusal, WritesOf, WritesScript}
 use Rattle.gs_workbench.proofs.Refusing.{no_reading, refusal_in, unread}
 use Rattle.gs_workbench.proofs.simulating.simulate_workload.Goals as goal
 
@@ -46,9 +46,9 @@ returns g c =
     let result = c.write_simulated.result in
     let read : IsRead had left input = subst (λ bytes. IsRead had left bytes) (sym c.deref.ensures.value) c.in_ok-input.ensures.read in
     record {
-      written = on_ok_weaker result (λ (w : WritesOf naming plans asked input before after). record { input = input; text = w.text; read = read; simulated = w.simulated; written = w.written }) c.write_simulated.ensures.written;
+      written = on_ok_weaker result (λ (w : WritesOf naming plans asked input before after). record { input = input; read = read; writes = w }) c.write_simulated.ensures.written;
       bounded = c.input_of.ensures.bounded;
       refused = IfErr-weaker result _ (IsRefusal naming had left) (λ e is. refusal_in naming had left input e read is) c.write_simulated.ensures.refused;
       unwritten = c.write_simulated.ensures.unwritten;
-      begun = IfErr-weaker result _ (λ e. IsOfWriting e → BeginsScript naming plans asked had left before after) (λ e begins writing. let b : BeginsOf naming plans asked input before after = begins writing in record { input = input; text = b.text; count = b.count; read = read; simulated = b.simulated; short = b.short; written = b.written }) c.write_simulated.ensures.begun;
+      begun = IfErr-weaker result _ (λ e. IsOfWriting e → BeginsScript naming plans asked had left before after) (λ e begins writing. record { input = input; read = read; begins = begins writing }) c.write_simulated.ensures.begun;
     }
