@@ -127,17 +127,10 @@ plain_reason out word text plain =
     regroup_reason out (codes ",\"reason\":\"") word (codes "\",\"text\":") (34 ∷ []) text (codes "}")
     ∙ ap (λ (t : List ℕ). out ++ ((((codes ",\"reason\":\"" ++ word) ++ codes "\",\"text\":") ++ t) ++ codes "}")) (sym (plain_quoted text plain))
 
--- the same at the end of an object
-pub last_reason : (out word text : List ℕ) → PlainBetween text 0 (length text) → ((((out ++ codes ",\"reason\":\"") ++ word) ++ codes "\",\"text\":\"") ++ text) ++ codes "\"}]}\n" ≡ out ++ (reason_pieces word text ++ codes "]}\n")
-last_reason out word text plain =
-    regroup_reason out (codes ",\"reason\":\"") word (codes "\",\"text\":") (34 ∷ []) text (codes "}" ++ codes "]}\n")
-    ∙ (ap (λ (t : List ℕ). out ++ ((((codes ",\"reason\":\"" ++ word) ++ codes "\",\"text\":") ++ t) ++ (codes "}" ++ codes "]}\n"))) (sym (plain_quoted text plain))
-    ∙ ap (λ (t : List ℕ). out ++ t) (sym (append_assoc (((codes ",\"reason\":\"" ++ word) ++ codes "\",\"text\":") ++ quoted text) (codes "}") (codes "]}\n"))))
-
 -- that no transaction landed
-pub whole_nothing : why_pieces None None (codes "nothing") (codes "nothing was stamped") ≡ behind_commas (why_data None None (codes "nothing") (codes "nothing was stamped") ∷ [])
+pub whole_nothing : why_pieces None None (codes "nothing") (codes "no slot of the mask is stamped") ≡ behind_commas (why_data None None (codes "nothing") (codes "no slot of the mask is stamped") ∷ [])
 unfolding escape_byte
-whole_nothing = whole_why None None (codes "nothing") (codes "nothing was stamped") refl
+whole_nothing = whole_why None None (codes "nothing") (codes "no slot of the mask is stamped") refl
 
 -- an object, one piece behind another
 abbrev nested : ℕ × List ℕ → ℕ → ℕ → List ℕ → List ℕ → List ℕ

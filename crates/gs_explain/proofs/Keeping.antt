@@ -131,11 +131,6 @@ all_put P kept kepts all is = by_room (nat_le 4096 (length kepts)) where
   by_room true = alone P kept is
   by_room false = All-append P kepts (kept ∷ []) all (alone P kept is)
 
--- what was added in three steps
-pub added_then : (page a b d one two new : List ℕ) → one ≡ page ++ a → two ≡ one ++ b → new ≡ two ++ d → new ≡ page ++ (a ++ (b ++ d))
-added_then page a b d one two new e f g =
-    g ∙ (ap (λ t. t ++ d) (f ∙ ap (λ t. t ++ b) e) ∙ (append_assoc (page ++ a) b d ∙ append_assoc page a (b ++ d)))
-
 -- a row is told as text
 pub text_told : (page more one : List ℕ) (pieces : List Piece) → one ≡ page ++ more → All (IsWithin (length page)) pieces → retold 0 pieces one ≡ retold 0 pieces page ++ more
 text_told page more one pieces e within = ap (retold 0 pieces) e ∙ retold_more 0 pieces page more (omega arith) within

@@ -97,12 +97,6 @@ moved_then a b block bytes all left is (sent, w, e) = (sent, w, sym is ∙ (sym 
 pub moves_none : (a : Option (List ℕ)) (block bytes : List ℕ) → bytes ≡ [] → Moves a block bytes a block
 moves_none a block bytes e = ([], Appends-nil a, ap (λ t. block ++ t) e ∙ append-nil block)
 
--- a part that ends before it begins is none
-pub no_part : (from to : ℕ) (text : List ℕ) → to ≤ from → part from to text ≡ []
-no_part from to text le =
-    let none : to - from ≡ 0 = omega (arith, le) in
-    λ i. take (none i) (drop from text)
-
 -- what is left, once some of it was added to a block
 pub leads_moves : (a b c : Option (List ℕ)) (whole block bytes rest left : List ℕ) → Leads a whole b (block ++ (bytes ++ rest)) → Moves b block bytes c left → Leads a whole c (left ++ rest)
 leads_moves a b c whole block bytes rest left (sent, w, e) (then, v, f) = (

@@ -68,7 +68,7 @@ torn_adds true = line_adds (codes "torn")
 torn_adds false = no_sentences
 
 none_adds : (ls : List Landing) → AddsSentences [] (none_shown ls)
-none_adds [] = sentence_adds (codes "nothing was stamped")
+none_adds [] = sentence_adds (codes "no slot of the mask is stamped")
 none_adds (l ∷ ls) = no_sentences
 
 landings_add : (x : Moment) (fault : Option GroupFault) (stood : Bool) (n : ℕ) (ls : List Landing) → AddsSentences (landing_lines ls) (landings_shown x fault stood n ls)

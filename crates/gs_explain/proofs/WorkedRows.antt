@@ -73,7 +73,7 @@ group_failed : row (8, codes "commit 6") (at_hand true (events.Commit 6)) 5 (rep
 unfolding digits said last_place
 group_failed = refl
 
-nothing_stamped : row (8, codes "commit 1") (at_hand false (events.Commit 1)) 5 (replies.Landed [] false) ≡ line (codes "line 8: commit 1") ++ line (codes "  nothing was stamped")
+nothing_stamped : row (8, codes "commit 1") (at_hand false (events.Commit 1)) 5 (replies.Landed [] false) ≡ line (codes "line 8: commit 1") ++ line (codes "  no slot of the mask is stamped")
 unfolding digits said last_place
 nothing_stamped = refl
 

@@ -102,7 +102,7 @@ landings_why x fault stood n (l ∷ ls) =
 
 -- that no transaction landed
 abbrev pub none_why : List Landing → List Data
-none_why [] = why_data None None (codes "nothing") (codes "nothing was stamped") ∷ []
+none_why [] = why_data None None (codes "nothing") (codes "no slot of the mask is stamped") ∷ []
 none_why (l ∷ ls) = []
 
 -- what was special about the messages of a drain

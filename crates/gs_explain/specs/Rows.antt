@@ -38,7 +38,7 @@ plain_shown x r = reply_lines r
 
 -- that no transaction landed
 abbrev pub none_shown : List Landing → List ℕ
-none_shown [] = line (codes "  nothing was stamped")
+none_shown [] = line (codes "  no slot of the mask is stamped")
 none_shown (l ∷ ls) = []
 
 -- a reply, line by line, and what explains it. There were so many entries before the event

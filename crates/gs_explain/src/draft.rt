@@ -255,7 +255,7 @@ impl Draft {
     /// Adds as a reason that no transaction landed.
     #[tactic(auto, using(crate::proofs::Composing::whole_nothing))]
     pub(crate) fn nothing(&mut self) -> Result<(), AllocError>
-        ensures { OnOk result (self.new ≡ self.old ++ behind_commas (why_data None None (codes "nothing") (codes "nothing was stamped") ∷ [])) }
+        ensures { OnOk result (self.new ≡ self.old ++ behind_commas (why_data None None (codes "nothing") (codes "no slot of the mask is stamped") ∷ [])) }
     {
         push_why(
             self.alloc,
@@ -263,7 +263,7 @@ impl Draft {
             None,
             None,
             "nothing",
-            b"nothing was stamped",
+            "no slot of the mask is stamped".as_bytes(),
         )
     }
 }

@@ -89,8 +89,8 @@ impl Explainer {
         })
     }
 
-    /// Returns what explains an event that has just happened: the lines of its reply, and behind each landing that was not
-    /// placed, each refusal, each tear-down and each stop an indented line that says why. It is what `ghost explain` shows
+    /// Returns what explains an event that has just happened: the lines of its reply. Behind each landing that was not placed, each
+    /// refusal, each tear-down and each stop stands an indented line that says why. It is what `ghost explain` shows
     /// between the script's line and the entries that it added.
     ///
     /// The machine is the one that the event left. The number is that of the line which says the event: later sentences

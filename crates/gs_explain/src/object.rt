@@ -263,6 +263,7 @@ impl Pen {
         }
         self.push_any(alloc, out, line, count, lines, whys)
     }
+
     /// Adds the object of an event, as [`Pen::push`] does, for one that is seldom: it takes no look whether some of it can be copied as it is.
     #[inline(never)]
     pub(crate) fn push_seldom(

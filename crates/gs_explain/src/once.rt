@@ -105,8 +105,8 @@ pub(crate) fn tell_quiet(
     }
 }
 
-/// Adds the line and the reason of a late landing that was not placed and tore nothing down, keeps them for the lines that have a mark, and
-/// returns what is told. An index has heard all entries. It fails only if out of memory.
+/// Adds the line and the reason of a late landing that was not placed and tore nothing down, and returns what is told. Keeps them for the
+/// lines that have a mark. An index has heard all entries. It fails only if out of memory.
 #[inline(never)]
 #[tactic(auto, using(crate::proofs::Keeping::none_overflowed))]
 fn tell_anew(
@@ -143,8 +143,8 @@ fn tell_anew(
     Told::parts(0, from, mid, to)
 }
 
-/// Returns what is told of a late landing that was not placed and tore nothing down, of a line that has a mark, and adds that first if the
-/// same is not kept. An index has heard all entries. If that failed, what the text has is not known, and nothing is kept.
+/// Returns what is told of a late landing that was not placed and tore nothing down, of a line that has a mark. Adds that first if the same
+/// is not kept. An index has heard all entries. If that failed, what the text has is not known, and nothing is kept.
 #[inline(always)]
 pub(crate) fn tell_again(
     draft: &mut Draft,

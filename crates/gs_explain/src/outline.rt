@@ -46,7 +46,7 @@ pub(crate) enum Told {
     },
 }
 
-/// An event whose object is put together at the end: its line with that line's number, the place of the first entry that it added,
+/// An event whose object is put together at the end. It has its line with that line's number, the place of the first entry that it added,
 /// and what is told of it.
 #[derive(Clone, Copy)]
 pub(crate) struct Outline<'a> {

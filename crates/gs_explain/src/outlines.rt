@@ -30,7 +30,7 @@ pub(crate) struct Short<'a> {
     lines: u8,
     /// How many entries it added, or `ASIDE`.
     pub(crate) count: u8,
-    /// How often it comes again on the lines right behind.
+    /// How often it comes again on the lines right behind, at most 255 times.
     pub(crate) times: u8,
 }
 

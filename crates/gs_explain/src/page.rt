@@ -103,7 +103,7 @@ impl Page {
         requires { is_text said.now.bytes.now ≡ true }
         ensures { OnOk result (self.new ≡ self.old ++ (heading (said_line said.now) ++ none_shown [])) }
     {
-        self.script_line(said, "\n  nothing was stamped\n")
+        self.script_line(said, "\n  no slot of the mask is stamped\n")
     }
 
     /// Adds the lines of a reply.
@@ -172,7 +172,7 @@ impl Page {
     pub(crate) fn nothing(&mut self) -> Result<(), AllocError>
         ensures { OnOk result (self.new ≡ self.old ++ none_shown []) }
     {
-        self.text.push_str("  nothing was stamped\n")
+        self.text.push_str("  no slot of the mask is stamped\n")
     }
 
     /// Adds the entries that an event added, by how many there were before it and are behind it.

@@ -45,10 +45,10 @@ fn quoted_reply(refusal: Refusal) -> &'static str
 
 /// Adds the entry and the line that are a reason, or null for each.
 #[inline(always)]
-fn push_place(out: &mut Text, place: Option<(u32, u32)>) -> Result<(), AllocError>
-    ensures { OnOk result (out.new ≡ out.old ++ (codes ",\"why\":[{\"entry\":" ++ option_json (place_in place) ++ codes ",\"line\":" ++ option_json (line_in place))) }
+fn push_place(out: &mut Text, at: Option<(u32, u32)>) -> Result<(), AllocError>
+    ensures { OnOk result (out.new ≡ out.old ++ (codes ",\"why\":[{\"entry\":" ++ option_json (place_in at) ++ codes ",\"line\":" ++ option_json (line_in at))) }
 {
-    match place {
+    match at {
         Some((line, place)) => out.push_two(
             ",\"why\":[{\"entry\":",
             place as u64,

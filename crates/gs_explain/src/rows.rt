@@ -77,8 +77,8 @@ fn forget(pieces: &mut Vec<Piece<'_>>, kepts: &mut Vec<Kept>)
     kepts.clear();
 }
 
-/// Returns how an event that was refused is told at the end behind this script's line and the first bytes of a text, so many, or `None` if it does
-/// not fit. An index has heard all entries.
+/// Returns how an event that was refused is told at the end, behind this script's line and the first bytes of a text, so many. Returns
+/// `None` if it does not fit. An index has heard all entries.
 #[inline(always)]
 fn piece_of<'a>(
     len: usize,
