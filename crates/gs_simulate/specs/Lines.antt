@@ -84,4 +84,5 @@ event_line naming events.Unread = codes "unread"
 abbrev pub line_text : {A : Type 0} → Naming A → Line A → List ℕ
 line_text naming (written.Header cpus ring policy) = header_line naming cpus ring policy
 line_text naming (written.Tick now) = numbered (codes "# tick ") now
+line_text naming (written.Missed cpus) = numbered (codes "# the ring is full, and so many timers do not tick: ") cpus
 line_text naming (written.Event event) = event_line naming event

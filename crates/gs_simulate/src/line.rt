@@ -18,6 +18,8 @@ pub(crate) enum Line<P> {
     Header { cpus: u16, ring: u32, policy: P },
     /// A comment, which says that a tick begins.
     Tick { now: u32 },
+    /// A comment, which says of how many CPUs the timers do not tick, since the ring has no room for that and nobody drains it.
+    Missed { cpus: u16 },
     Event { event: Event<P> },
 }
 
@@ -168,6 +170,10 @@ pub(crate) fn write_line<P: NamedPolicy>(
     match line {
         Line::Header { cpus, ring, policy } => write_header(alloc, text, *cpus, *ring, policy),
         Line::Tick { now } => text.push_number("# tick ", u64::from(*now)),
+        Line::Missed { cpus } => text.push_number(
+            "# the ring is full, and so many timers do not tick: ",
+            u64::from(*cpus),
+        ),
         Line::Event { event } => write_event(alloc, text, event),
     }
 }

@@ -119,8 +119,8 @@ impl<P: NamedPolicy> Stage<P> {
 /// burst is over block, yield or die. Timers tick. What was decided before lands. Then the agent drains and decides.
 ///
 /// What would be refused is not written: it waits, or it is left out. So does what would tell of something while the ring
-/// has no room for it, and no agent is there to take in what it has. If the enclave is torn down all the same, the script
-/// ends at that tick.
+/// has no room for it, and no agent is there to take in what it has. A comment says then how many timers do not tick. If the
+/// enclave is torn down all the same, the script ends at that tick.
 ///
 /// # Errors
 ///

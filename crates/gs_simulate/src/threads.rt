@@ -4,6 +4,7 @@ ghost use Rattle.std.specs.Prelude.{◌≡◌, OnOk};
 ghost use Rattle.gs_simulate.specs.Heard.{head_of};
 
 use crate::fault::SimulateFault;
+use crate::line::Line;
 use crate::stage::Stage;
 use gs_kernel::{Command, ThreadEvent};
 use gs_layout::{Facts, MOST_TIDS};
@@ -112,18 +113,40 @@ impl<P: NamedPolicy> Stage<P> {
     }
 
     /// Lets the timers tick: those of the CPUs on which threads run, and all of them while a thread waits. The burst of
-    /// each thread that runs is a tick shorter then.
+    /// each thread that runs is a tick shorter then. A comment says how many do not tick for want of room in the ring.
     pub(crate) fn tick_cpus(&mut self, cpus: u16) -> Result<(), SimulateFault>
         ensures { OnOk result (head_of self.new.log ≡ head_of self.old.log) }
     {
+        let mut missed: u16 = 0;
         for cpu in 0..cpus {
             let running = self.world.running.get(usize::from(cpu)).copied().flatten();
-            if (running.is_some() || self.world.waiting > 0) && self.has_room()? {
-                self.command(Command::Tick { cpu })?;
+            if running.is_some() || self.world.waiting > 0 {
+                missed = missed.saturating_add(u16::from(!self.tick_cpu(cpu)?));
             }
             if let Some(tid) = running {
                 self.world.pass_tick(tid);
             }
+        }
+        self.tell_missed(missed)
+    }
+
+    /// Lets the timer of a CPU tick, if there is room in the ring for that. Returns whether it does.
+    fn tick_cpu(&mut self, cpu: u16) -> Result<bool, SimulateFault>
+        ensures { OnOk result (head_of self.new.log ≡ head_of self.old.log) }
+    {
+        let has_room = self.has_room()?;
+        if has_room {
+            self.command(Command::Tick { cpu })?;
+        }
+        Ok(has_room)
+    }
+
+    /// Tells how many timers did not tick, if one did not.
+    fn tell_missed(&mut self, cpus: u16) -> Result<(), SimulateFault>
+        ensures { OnOk result (head_of self.new.log ≡ head_of self.old.log) }
+    {
+        if cpus > 0 {
+            self.log.add(&Line::Missed { cpus })?;
         }
         Ok(())
     }
