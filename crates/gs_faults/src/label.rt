@@ -31,6 +31,15 @@ fn write_bad_count(text: &mut String, found: &Found<'_>) -> Result<(), AllocErro
     write_wanted(text, found.wanted.as_slice())
 }
 
+/// Returns what is wrong with a line that is no event's, by its first word.
+fn unknown_line(word: &[u8]) -> &'static str {
+    if word == b"cpus".as_slice() {
+        "the header stands once, before all events"
+    } else {
+        "no line begins with this word"
+    }
+}
+
 /// Writes what is wrong with what is marked, and what is wanted there.
 pub(crate) fn write_label(text: &mut String, found: &Found<'_>) -> Result<(), AllocError> {
     match found.fault.reason {
@@ -41,9 +50,7 @@ pub(crate) fn write_label(text: &mut String, found: &Found<'_>) -> Result<(), Al
                 "the first line that says anything is the header, which begins with `cpus`",
             )
         }
-        Reason::BadWord if found.wanted.is_empty() => {
-            text.push_str("no line begins with this word")
-        }
+        Reason::BadWord if found.wanted.is_empty() => text.push_str(unknown_line(found.mark.word)),
         Reason::BadCount => write_bad_count(text, found),
         Reason::BadWord | Reason::BadNumber | Reason::BadName => {
             write_wanted(text, found.wanted.as_slice())
