@@ -26,12 +26,12 @@ pub(crate) fn a_script() -> [Row; 8] {
             text: "word CLASS\n  What it is: the scheduling class: 0 is served before 1\n  Range: 0 or 1\n",
         },
         Row {
-            words: &["R"],
-            text: "word R\n  What it is: whether the thread may run (`r`) or is blocked (`b`)\n  Range: `r`, `b`\n",
+            words: &["r", "b"],
+            text: "word R: `r`, `b`\n  What it is: whether the thread may run (`r`) or is blocked (`b`)\n  Range: `r`, `b`\n",
         },
         Row {
             words: &["NAME"],
-            text: "word NAME\n  What it is: a name of bytes 33 to 126; `-` alone is no name\n  Range: 1 to 16 bytes\n",
+            text: "word NAME\n  What it is: a name of bytes 33 to 126; `-` alone says that the thread has none\n  Range: 1 to 16 bytes\n",
         },
         Row {
             words: &["S"],
@@ -133,11 +133,11 @@ pub(crate) fn the_agent() -> [Row; 8] {
         },
         Row {
             words: &["stamp", "g"],
-            text: "line `stamp` C T `g`\n  What happens: the same as the first, as one of a group: all of it are placed, or none is\n  Refused, in this order: NotActive, BadCpu, NoThread (the agent does not know it), SlotOpen\n  Reply: `stamped N`, the transaction's number\n",
+            text: "line `stamp` C T `g`\n  What happens: what the agent knows of the thread is stamped there as one of a group, of which all are placed, or none is\n  Refused, in this order: NotActive, BadCpu, NoThread (the agent does not know it), SlotOpen\n  Reply: `stamped N`, the transaction's number\n",
         },
         Row {
             words: &["stamp", "pg"],
-            text: "line `stamp` C T `pg`\n  What happens: both\n  Refused, in this order: NotActive, BadCpu, NoThread (the agent does not know it), SlotOpen\n  Reply: `stamped N`, the transaction's number\n",
+            text: "line `stamp` C T `pg`\n  What happens: as `stamp` C T `g`, as one of a group, and the thread on the CPU is to make way\n  Refused, in this order: NotActive, BadCpu, NoThread (the agent does not know it), SlotOpen\n  Reply: `stamped N`, the transaction's number\n",
         },
         Row {
             words: &["decide"],
@@ -345,7 +345,7 @@ pub(crate) fn outcomes() -> [Row; 15] {
         },
         Row {
             words: &["HistoryFull", "12"],
-            text: "outcome 12 HistoryFull\n  When: the journal has no room for an entry, or for two if a thread makes way\n",
+            text: "outcome 12 HistoryFull\n  When: the journal has no room for an entry, or for two if a thread makes way; of a group: for those of all its slots\n",
         },
         Row {
             words: &["Malformed", "13"],
