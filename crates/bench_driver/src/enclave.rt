@@ -4,8 +4,7 @@ ghost use Rattle.std.specs.Prelude.{◌≡◌, ◌≤◌, false};
 ghost use Rattle.gs_status.specs.Masks.{has};
 
 use gs_agent::Role;
-use gs_dump::{read_page, write_page};
-use gs_kernel::{Kernel, LEAST_CPUS, LEAST_GENERATION, MOST_HISTORY, Settings};
+use gs_kernel::{Kernel, LEAST_CPUS, LEAST_GENERATION, Landing, MOST_HISTORY, Settings};
 use gs_layout::{Class, Facts, Name};
 use gs_policy::{Choice, FirstCome};
 use gs_ring::ByteRing;
@@ -33,6 +32,8 @@ pub(crate) struct Enclave {
     role: Role<FirstCome>,
     region: Region,
     mask: Mask,
+    /// What became of the slots of the last commit. The next one has its memory.
+    landings: Vec<Landing>,
 }
 
 /// The CPUs but the first, of so many.
@@ -44,27 +45,57 @@ fn others(cpus: u16) -> Mask
     Mask::new(u128::MAX >> (MOST_CPUS - cpus)).without(0)
 }
 
+/// A kernel of so many CPUs, with an empty ring. `None` if out of memory, as of those below.
+fn new_kernel(alloc: Global, cpus: u16) -> Option<Kernel<ByteRing>>
+    requires few { LEAST_CPUS ≤ cpus }
+    requires most { cpus ≤ MOST_CPUS }
+{
+    let settings = Settings {
+        cpus,
+        first_tseq: 0,
+        first_generation: LEAST_GENERATION,
+        history: MOST_HISTORY,
+    };
+    let ring = ByteRing::new(alloc, RING).ok()?;
+    Kernel::new(alloc, settings, ring).ok()
+}
+
+/// An agent that knows of no thread, and its slots, all idle.
+fn new_agent(alloc: Global, cpus: u16) -> Option<(Role<FirstCome>, Region)>
+    requires { cpus ≤ MOST_CPUS }
+{
+    let region = Region::new(alloc, cpus).ok()?;
+    let role = Role::new(alloc, FirstCome, cpus, LEAST_GENERATION, 0).ok()?;
+    Some((role, region))
+}
+
 impl Enclave {
+    /// An enclave of so many CPUs and no thread.
+    fn new(alloc: Global, cpus: u16) -> Option<Enclave>
+        requires few { LEAST_CPUS ≤ cpus }
+        requires most { cpus ≤ MOST_CPUS }
+    {
+        let (role, region) = new_agent(alloc, cpus)?;
+        let kernel = new_kernel(alloc, cpus)?;
+        let mask = others(cpus);
+        Some(Enclave {
+            alloc,
+            kernel,
+            role,
+            region,
+            mask,
+            landings: Vec::new(alloc),
+        })
+    }
+
     /// An enclave of so many CPUs and threads, of all of which the agent knows.
     pub(crate) fn open(alloc: Global, threads: u32, cpus: u16) -> Option<Enclave>
         requires few { LEAST_CPUS ≤ cpus }
         requires most { cpus ≤ MOST_CPUS }
     {
-        let settings = Settings {
-            cpus,
-            first_tseq: 0,
-            first_generation: LEAST_GENERATION,
-            history: MOST_HISTORY,
-        };
-        let ring = ByteRing::new(alloc, RING).ok()?;
-        let mut enclave = Enclave {
-            alloc,
-            kernel: Kernel::new(alloc, settings, ring).ok()?,
-            role: Role::new(alloc, FirstCome, cpus, LEAST_GENERATION, 0).ok()?,
-            region: Region::new(alloc, cpus).ok()?,
-            mask: others(cpus),
-        };
-        enclave.create(threads, Name::new(b"a")?);
+        let name = Name::new(b"a")?;
+        let mut enclave = Enclave::new(alloc, cpus)?;
+        enclave.create(threads, name);
         Some(enclave)
     }
 
@@ -107,11 +138,15 @@ impl Enclave {
         if self.region.cpus() != self.kernel.settings().cpus {
             return 0;
         }
-        let committed = self
-            .kernel
-            .txns_commit(self.alloc, &mut self.region, self.mask);
+        self.landings.clear();
+        let _ = self.kernel.txns_commit_into(
+            self.alloc,
+            &mut self.region,
+            self.mask,
+            &mut self.landings,
+        );
         self.role.collect(&mut self.region);
-        committed.map_or(0, |landings| landings.len())
+        self.landings.len()
     }
 
     /// A thread is placed on a CPU by a transaction.
@@ -172,10 +207,9 @@ impl Enclave {
         let Some(from) = self.role.next_page() else {
             return Some(0);
         };
-        let page = self.kernel.page(self.alloc, from, PAGE).ok()?;
-        let bytes = write_page(self.alloc, &page).ok()?;
-        let page = read_page(self.alloc, &bytes).ok()?;
-        self.role.rebuild(&page).ok()?;
-        Some(page.records.len())
+        let page = self.kernel.dump_written(self.alloc, from, PAGE).ok()?;
+        self.role.rebuild_written(&page).ok()?;
+        self.kernel.note_written(&page);
+        Some(page.count() as usize)
     }
 }
