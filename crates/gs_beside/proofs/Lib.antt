@@ -1,5 +1,4 @@
 pub mod LastForm
 pub mod Named
 pub mod Reading
-pub mod Writing
 mod Rows

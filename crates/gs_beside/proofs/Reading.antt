@@ -2,7 +2,7 @@
 use Rattle.std.proofs.Common.{◌≡◌, ℕ, ◌+◌, ◌<◌, ◌≤◌, suc, Bool, true, false, cond, List, [], ◌∷◌, ◌++◌, ◌&&◌, length, map, take, drop, get_or, slice_set, Bor, refl, ap, sym, ◌∙◌, Option, None, Some, Ok, Err, arith}
 use Rattle.std.specs.Prelude.{nat_le}
 use Rattle.std.proofs.lemmas.Bool.{and_from, and_parts}
-use Rattle.std.proofs.lemmas.List.{drop_all, length-map, length-set, map-append, take_all, take_more, take_more_set}
+use Rattle.std.proofs.lemmas.List.{drop_all, length-map, length-set, map-append, take_more, take_more_set}
 use Rattle.std.proofs.Math.ListN.{get_or-map}
 use Rattle.std.proofs.Math.Seq.{drop-cons}
 use Rattle.gs_script.specs.declared.fault.Reason.{Reason}
@@ -23,9 +23,6 @@ pub record IsReading (form : Form) (ws : List (List ℕ)) (ns : List ℕ) (k : �
   pub room : length ns ≡ MOST_NUMBERS
   pub read : take k ns ≡ map number (take k ws)
   pub rest : first_fault (form ∷ []) ws ≡ first_fault (drop k form ∷ []) (drop k ws)
-
-pub begins : (form : Form) (ws : List (List ℕ)) (ns : List ℕ) → length ns ≡ MOST_NUMBERS → IsReading form ws ns 0
-begins form ws ns room = record { within = omega arith; room = room; read = refl; rest = refl }
 
 wanting : (kind : Kind) (form : Form) → first_fault ((kind ∷ form) ∷ []) [] ≡ Some BadCount
 wanting kind form = refl
@@ -77,16 +74,6 @@ read_more form ws ns k kd wd n reading here there small h =
   where
     mapped : (ws : List (List ℕ)) (k : ℕ) (wd : List ℕ) → k < length ws → map number (take (k + 1) ws) ≡ map number (take k ws) ++ number (get_or ws k wd) ∷ []
     mapped ws k wd there = ap (map number) (take_more ws k wd there) ∙ map-append number (take k ws) (get_or ws k wd ∷ [])
-
--- all are read, and none is left
-pub all_read : (form : Form) (ws : List (List ℕ)) (ns : List ℕ) (k : ℕ) → IsReading form ws ns k → length form ≤ k → length ws ≤ k → first_fault (form ∷ []) ws ≡ None
-all_read form ws ns k reading none gone =
-    reading.rest ∙ ap (λ (f : Form). first_fault (f ∷ []) (drop k ws)) (drop_all k form none) ∙ ap (λ (vs : List (List ℕ)). first_fault ([] ∷ []) vs) (drop_all k ws gone)
-
-pub numbers_read : (form : Form) (ws : List (List ℕ)) (ns : List ℕ) (k : ℕ) → IsReading form ws ns k → length ws ≤ k → take (length ws) ns ≡ map number ws
-numbers_read form ws ns k reading gone =
-    let same : length ws ≡ k = omega (arith, reading.within) in
-    ap (λ (j : ℕ). take j ns) same ∙ reading.read ∙ ap (map number) (take_all k ws gone)
 
 -- all are read, and there is one more
 pub one_more : (form : Form) (ws : List (List ℕ)) (ns : List ℕ) (k : ℕ) (wd : List ℕ) → IsReading form ws ns k → length form ≤ k → k < length ws → first_fault (form ∷ []) ws ≡ Some BadCount

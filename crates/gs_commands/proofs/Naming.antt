@@ -1,27 +1,16 @@
 -- The policies that texts name, one more.
-use Rattle.std.proofs.Common.{◌≡◌, ◌∙◌, ◌<◌, ◌+◌, ◌++◌, ℕ, List, [], ◌∷◌, Ok, ap, ap₂, get_or, length, map, string_bytes, sym, take, true}
+use Rattle.std.proofs.Common.{◌≡◌, ◌∙◌, ◌<◌, ℕ, List, get_or, length, map, string_bytes, sym, true}
 use Rattle.std.proofs.lemmas.Bool.{and_from}
-use Rattle.std.proofs.lemmas.List.{map-append, take_more}
 use Rattle.std.proofs.lemmas.List.Folds.{list_any_at}
 use Rattle.std.proofs.lemmas.Slice.Eq.{bytes_eq-Decides}
 use Rattle.std.specs.List.{list_any}
 use Rattle.clap.proofs.WalkLemmas.{list_any-map}
 use Rattle.clap.specs.Words.{Text}
 use Rattle.gs_script.specs.Naming.{Naming}
-use Rattle.gs_script.specs.Header.{policy_said}
-use Rattle.gs_commands.specs.Policies.{AreNamed, AreUnnamed, IsUnnamed, is_unnamed, names_none}
+use Rattle.gs_commands.specs.Policies.{AreUnnamed, IsUnnamed, is_unnamed, names_none}
 use Rattle.gs_commands.specs.declared.failure.Failure.{Failure}
 use Rattle.gs_commands.specs.declared.failure.Failure.TheVariants as failures
 use Rattle.gs_commands.specs.declared.failure.Failure.TheVariants.{NoPolicy}
-
-pub named_more : {A B : Type 0} (naming : Naming B) (f : A → Text) (texts : List A) (i : ℕ) (d : A) (policies : List B) (policy : B) → i < length texts
-    → AreNamed naming (map f (take i texts)) policies → policy_said naming (f (get_or texts i d)) ≡ Ok policy → AreNamed naming (map f (take (i + 1) texts)) (policies ++ policy ∷ [])
-named_more naming f texts i d policies policy lt named is =
-    ap (λ some. map (policy_said naming) (map f some)) (take_more texts i d lt)
-    ∙ ap (map (policy_said naming)) (map-append f (take i texts) (get_or texts i d ∷ []))
-    ∙ map-append (policy_said naming) (map f (take i texts)) (f (get_or texts i d) ∷ [])
-    ∙ ap₂ (λ before one. before ++ one ∷ []) named is
-    ∙ sym (map-append Ok policies (policy ∷ []))
 
 told_itself : {B : Type 0} (naming : Naming B) (told text : Text) → names_none naming text ≡ true → told ≡ text → is_unnamed naming told text ≡ true
 told_itself naming told text none same = and_from _ _ none ((bytes_eq-Decides told text).1 same)

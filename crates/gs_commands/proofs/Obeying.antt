@@ -3,16 +3,14 @@ use Rattle.std.proofs.Common.{◌≡◌, refl, sym, inl, inr, subst, ℕ, List, 
 use Rattle.std.specs.Prelude.{◌⊎◌, IfErr, IsSomeAnd}
 use Rattle.std.specs.Io.KnownBytes.{Keeps}
 use Rattle.clap.specs.Words.{Text}
-use Rattle.clap.specs.declared.error.Error.{Error}
-use Rattle.gs_arguments.specs.Arguments.{AsksAllowed, command_in, file_in, policies_in, seeds_in}
+use Rattle.gs_arguments.specs.Arguments.{command_in, file_in, policies_in, seeds_in}
 use Rattle.gs_arguments.specs.declared.command.Command.{Command}
-use Rattle.gs_arguments.specs.declared.command.Command.TheVariants as commands
 use Rattle.gs_trace.specs.declared.run.Ended.{Ended}
-use Rattle.gs_commands.specs.Asked.{Does, DoesFrom, IsTaskOf, MayBe, ObeysAsked}
+use Rattle.gs_commands.specs.Asked.{Does, DoesFrom, ObeysAsked}
 use Rattle.gs_commands.specs.Policies.{AreUnnamed}
 use Rattle.gs_core.specs.Machine.{Plan}
 use Rattle.gs_script.specs.Naming.{Naming}
-use Rattle.gs_commands.specs.Failures.{IsOfTask, IsOfWords, IsToldBy, IsUnopened, SaidOf}
+use Rattle.gs_commands.specs.Failures.{IsOfTask, IsUnopened, SaidOf}
 use Rattle.gs_commands.specs.declared.asked.Task.{Task}
 use Rattle.gs_commands.specs.declared.asked.Task.TheVariants.{Script, Serve, Simulation, Comparison, Workers}
 use Rattle.gs_commands.specs.declared.failure.Failure.{Failure}
@@ -22,30 +20,6 @@ use Rattle.gs_commands.specs.declared.failure.Failure.TheVariants as failures
 pub kept : (x : Option (List ℕ)) → Keeps x x
 kept None = tt
 kept (Some xs) = refl
-
--- what a command may ask for, its task may be
-pub may_be : {A : Type 0} (command : Command) (policies : List A) (seeds : List ℕ) (task : Task A) → AsksAllowed command → IsTaskOf command policies seeds task → MayBe task
-may_be commands.Run policies seeds task allowed is = subst MayBe (sym is) tt
-may_be (commands.Explain json) policies seeds task allowed is = subst MayBe (sym is) tt
-may_be (commands.Report last) policies seeds task allowed is = subst MayBe (sym is) tt
-may_be (commands.Journal json) policies seeds task allowed is = subst MayBe (sym is) tt
-may_be (commands.Timeline from to listed) policies seeds task allowed is = subst MayBe (sym is) tt
-may_be (commands.Timehist json) policies seeds task allowed is = subst MayBe (sym is) tt
-may_be (commands.Latency json threads) policies seeds task allowed is = subst MayBe (sym is) tt
-may_be commands.Trace policies seeds task allowed is = subst MayBe (sym is) tt
-may_be (commands.Serve explained) policies seeds task allowed is = subst MayBe (sym is) tt
-may_be (commands.Simulate ticks) policies seeds task allowed is = subst MayBe (sym is) tt
-may_be (commands.Compare ticks json csv) policies seeds (Comparison how) allowed is = tt
-may_be (commands.Compare ticks json csv) policies seeds (Script w) allowed is = absurd is
-may_be (commands.Compare ticks json csv) policies seeds (Serve explained) allowed is = absurd is
-may_be (commands.Compare ticks json csv) policies seeds (Simulation how) allowed is = absurd is
-may_be (commands.Compare ticks json csv) policies seeds (Workers work shown) allowed is = absurd is
-may_be (commands.Threads workers each journal) policies seeds task (least, few, some, bounded) is = subst MayBe (sym is) (record { few = few; bounded = bounded })
-
--- an error of the arguments tells that nothing was begun
-pub unbegun : (error : Error) (failure : Failure) → IsToldBy error failure → IsOfWords failure
-unbegun error failure (inl (kind, is)) = subst IsOfWords (sym is) refl
-unbegun error failure (inr (kind, is)) = subst IsOfWords (sym is) tt
 
 -- what was asked for is what the words ask for
 pub asked_for : {A : Type 0} (naming : Naming A) (plans : A → Plan) (words : List Text) (command : Command) (texts : List Text) (seeds : List ℕ) (file : Option Text) (had left before after : Option (List ℕ)) (result : Result Ended Failure)

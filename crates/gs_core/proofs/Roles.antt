@@ -55,9 +55,6 @@ roles_given h c = let b = beside_quiet h (Given c) (λ x. refl) (λ x. refl) ref
 abbrev pub NoNewAgent : History → History → Type 0
 NoNewAgent h h' = (a : ℕ × ℕ) → active h' ≡ Some a → active h ≡ Some a
 
-pub agent_of : (h h' h'' : History) → h'' ≡ h' → NoNewRole h h' → NoNewAgent h h''
-agent_of h h' h'' e r a p = r.active a (ap active (sym e) ∙ p)
-
 pub entry_roles : (h : History) (o : Option Message) (e : Entry) → ((g : History) → NoNewRole g (g ++ e ∷ [])) → NoNewRole h (h ++ entries_in (Append o e))
 entry_roles h None e then = then h
 entry_roles h (Some k) e then = subst (NoNewRole h) (append_assoc h (Posted k ∷ []) (e ∷ [])) (roles_then h (h ++ Posted k ∷ []) _ (roles_posted h k) (then (h ++ Posted k ∷ [])))

@@ -1,5 +1,5 @@
 -- Records are read back from their bytes, one behind the other, and a page that is being written tells of the records that were pushed.
-use Rattle.std.proofs.Common.{◌≡◌, ℕ, ◌+◌, ◌*◌, ◌/◌, ◌<◌, ◌≤◌, Option, List, [], ◌∷◌, ◌++◌, length, take, drop, map, refl, ap, sym, subst, ◌∙◌, arith, length-append}
+use Rattle.std.proofs.Common.{◌≡◌, ℕ, ◌+◌, ◌*◌, ◌/◌, ◌<◌, ◌≤◌, List, [], ◌∷◌, ◌++◌, length, take, drop, map, refl, ap, sym, subst, ◌∙◌, arith, length-append}
 use Rattle.std.specs.Prelude.{slice_index, true}
 use Rattle.std.proofs.Math.Nat.{mul-div_cancel_left}
 use Rattle.std.proofs.lemmas.List.{drop-append-le, drop_at, flat_map_more, length-drop, nil_from_length, take_at}
@@ -10,11 +10,10 @@ use Rattle.gs_dump.specs.declared.version.Version.TheVariants.{Two}
 use Rattle.gs_dump.specs.declared.wire.TheConstants.{HEADER_LEN, NAME_LEN_AT}
 use Rattle.gs_dump.specs.Version.{name_at, record_len}
 use Rattle.gs_dump.specs.Record.{IsLive, record_spelling}
-use Rattle.gs_dump.specs.Page.{Contents, IsPage, header_of, page_spelling}
-use Rattle.gs_dump.specs.Reading.{count_in, name_in, record_in, texts}
-use Rattle.gs_dump.specs.Written.{AreSpelled, IsBegun, IsWritten, contents_in, last_from, records_in, records_spelling}
+use Rattle.gs_dump.specs.Reading.{name_in, record_in, texts}
+use Rattle.gs_dump.specs.Written.{AreSpelled, IsBegun, last_from, records_in, records_spelling}
 use Rattle.gs_dump.proofs.Records.{fits_from, length-record_spelling, padded_from, record_again, record_back}
-use Rattle.gs_dump.proofs.Pages.{AreLive, Fit, count_back, length-records, next_back, records_back, texts_spelled}
+use Rattle.gs_dump.proofs.Pages.{AreLive, Fit, length-records, records_back, texts_spelled}
 
 -- the second version can spell each record
 fit_all : (rs : List DumpRecord) → AreLive rs → Fit Two rs
@@ -80,18 +79,6 @@ pub none_left : (bytes : List ℕ) → length bytes ≡ 0 → records_in bytes �
 none_left [] e = none_in
 none_left (b ∷ bs) e = absurd cc
 
--- ---- a page
-
--- the records stand behind the header
-pub page_long : (bytes : List ℕ) (last : ℕ) → IsWritten bytes last → HEADER_LEN ≤ length bytes
-page_long bytes last h = let p = contents_in bytes in omega (arith, ap length h.whole)
-
-pub page_count : (bytes : List ℕ) (last : ℕ) → IsWritten bytes last → count_in bytes ≡ length (contents_in bytes).records
-page_count bytes last h = ap count_in h.whole ∙ count_back Two (contents_in bytes) h.page
-
-pub page_records : (bytes : List ℕ) (last : ℕ) → IsWritten bytes last → AreSpelled (drop HEADER_LEN bytes)
-page_records bytes last h = record { live = h.page.live; whole = ap (drop HEADER_LEN) h.whole }
-
 -- ---- a page that is being written
 
 -- no record was pushed yet
@@ -135,19 +122,4 @@ pushed bytes bytes' count last r h live e =
         ends = sym (ap (last_from 0) more ∙ last_push 0 rs r);
       },
       more,
-    )
-
--- the header is written before the records
-pub finished : (bytes bytes' : List ℕ) (count last : ℕ) (next : Option ℕ) → IsBegun bytes count last → IsPage (record { records = records_in (drop HEADER_LEN bytes); next = next })
-    → bytes' ≡ header_of count next ++ drop HEADER_LEN bytes → IsWritten bytes' last × (contents_in bytes' ≡ record { records = records_in (drop HEADER_LEN bytes); next = next })
-finished bytes bytes' count last next h page e =
-    let p : Contents = record { records = records_in (drop HEADER_LEN bytes); next = next } in
-    let spelled : bytes' ≡ page_spelling p = e ∙ (λ i. header_of (h.counted i) next ++ h.records.whole i) in
-    let back : contents_in bytes' ≡ p = ap contents_in spelled ∙ (λ i. record { records = spelled_back p.records page.live i; next = next_back next page.tid i }) in (
-      record {
-        page = subst IsPage (sym back) page;
-        whole = spelled ∙ ap page_spelling (sym back);
-        ends = h.ends ∙ ap (λ (x : Contents). last_from 0 x.records) (sym back);
-      },
-      back,
     )

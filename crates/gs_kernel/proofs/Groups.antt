@@ -351,21 +351,6 @@ gave_few room h None fit h' t = (omega (arith, ap length t.1), omega (arith, ap 
 gave_few room h (Some m) true h' t = let n = ap length t.1 ∙ length-append h (Posted m ∷ []) in (omega (arith, n), omega (arith, n))
 gave_few room h (Some m) false h' t = let n = ap length t.1 ∙ length-append h (Torn ∷ []) in (omega (arith, n), omega (arith, n))
 
--- a placing in its turn: of one that is ready, on a CPU that is free
-pub next_placed : (s : Settings) (h : History) (x : ℕ × Stamp) (g : Group) → AreReady s h (x ∷ g) → AreFree h (x ∷ g) → length h < s.history → IsToPlace s h x.0 x.1
-next_placed s h x g are free few =
-    let r = are.1 in
-    record {
-      up = r.up;
-      generation = r.generation;
-      current = r.current;
-      runnable = r.runnable;
-      nowhere = r.nowhere;
-      allowed = r.allowed;
-      numbers = ap (is_spent_there s h) free.0;
-      fits = let n = ap placing_entries free.0 in omega (arith, n, few);
-    }
-
 pub ready_then : (s : Settings) (h : History) (x : ℕ × Stamp) (g : Group) → AreApart (x ∷ g) → AreReady s h (x ∷ g) → AreReady s (h ++ placing x.0 x.1 ∷ []) g
 ready_then s h x g apart are = all_placed s h x g apart.0 are.2
 
@@ -381,9 +366,6 @@ told_alone room h e false h' t = absurd (let z : None ≡ Some t.0.0 = t.0.1 in 
 pub gave_then : (a b : Room) (s : Settings) (x : ℕ × Stamp) (g : Group) (h : History) (first : Bool) (mid : History) (fit : Bool) (h' : History) → first ≡ true → Entails b a → GivesWay a h (preemption s h x.0) first mid → GiveWay b s g mid fit h'
     → GiveWay a s (x ∷ g) h fit h'
 gave_then a b s x g h first mid fit h' e later one rest = (true, mid, subst (λ q. GivesWay a h (preemption s h x.0) q mid) e one, give_map b a s g mid fit h' later rest)
-
-pub gave_not : (a : Room) (s : Settings) (x : ℕ × Stamp) (g : Group) (h : History) (first : Bool) (mid : History) → first ≡ false → GivesWay a h (preemption s h x.0) first mid → GiveWay a s (x ∷ g) h false mid
-gave_not a s x g h first mid e one = (false, mid, subst (λ q. GivesWay a h (preemption s h x.0) q mid) e one, (refl, refl))
 
 -- ---- a group that is placed, in the kernel's steps
 
@@ -471,12 +453,6 @@ stands_then room s h g fit h' e w t =
     let nothing : IsKeptBy s (λ z. Unit {0}) (λ k b. Unit {0}) = record { told = λ z t k lt there p. tt; placed = λ z k b lt p q r. tt; torn = λ z p. tt } in
     let gave = make_way room s (λ z. Unit {0}) (λ k b. Unit {0}) g [] g h fit h' nothing (below_of s h g w.ready) t w.ready tt tt in
     record { ready = gave.ready e; free = gave.free e; count = gave_count room s g h fit h' e t }
-
-pub put_all : (room : Room) (s : Settings) (h : History) (g : Group) (fit : Bool) (mid h' : History) → fit ≡ true → GiveWay room s g h fit mid → h' ≡ mid ++ placings g → Puts room s h g true h'
-put_all room s h g fit mid h' e t now = (mid, subst (λ b. GiveWay room s g h b mid) e t, now)
-
-pub put_none : (room : Room) (s : Settings) (h : History) (g : Group) (fit : Bool) (mid : History) → fit ≡ false → GiveWay room s g h fit mid → Puts room s h g false mid
-put_none room s h g fit mid e t = (mid, subst (λ b. GiveWay room s g h b mid) e t, sym (append-nil mid))
 
 -- CPUs that rise are the enclave's
 pub rise_below : (s : Settings) (n : ℕ) (g : Group) → Rises n s.cpus g → AreBelow s.cpus g

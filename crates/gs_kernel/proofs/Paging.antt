@@ -13,8 +13,7 @@ use Rattle.gs_kernel.specs.declared.agents.Agents.{Agents}
 use Rattle.gs_kernel.specs.declared.settings.Settings.{Settings}
 use Rattle.gs_kernel.specs.Dumped.{IsTold, dumped, first_tid}
 use Rattle.gs_kernel.specs.Inside.{IsKept}
-use Rattle.gs_kernel.specs.Shown.{by_row, live_from, live_thread}
-use Rattle.gs_threads.specs.declared.row.ThreadRow.{ThreadRow}
+use Rattle.gs_kernel.specs.Shown.{live_from, live_thread}
 use Rattle.gs_kernel.proofs.Living.{told_at}
 
 -- what comes next in a list of which so many were taken
@@ -144,7 +143,3 @@ records_more ls items items' l later told left is =
     let r = one_more ls (length items) l later (sym left) in
     let count : suc (length items) ≡ length items' = omega (arith, ap length is, length-append items (l ∷ [])) in
     (is ∙ (ap (λ (xs : List DumpRecord). xs ++ l ∷ []) told ∙ (sym r.0 ∙ ap (λ n. take n ls) count)), sym r.1 ∙ ap (λ n. drop n ls) count)
-
--- a row that lives is shown first
-pub shown_first : (p : ℕ × ThreadRow) (ps qs : List (ℕ × ThreadRow)) (l : DumpRecord) → qs ≡ p ∷ ps → by_row p ≡ Some l → filter_map by_row qs ≡ l ∷ filter_map by_row ps
-shown_first p ps qs l is shown = ap (filter_map by_row) is ∙ ap (λ (o : Option DumpRecord). cons_option o (filter_map by_row ps)) shown

@@ -1,5 +1,4 @@
 pub mod Orders
 pub mod Sorts
-pub mod Sums
 pub mod Turns
 pub mod Walks

@@ -1,5 +1,5 @@
 -- Each placing of a kernel finds its CPU free.
-use Rattle.std.proofs.Common.{◌≡◌, refl, ap, sym, subst, ◌∙◌, ℕ, suc, ◌+◌, ◌<◌, ◌≤◌, ◌==◌, Bool, true, false, cond, Option, None, Some, Result, Ok, Err, List, [], ◌∷◌, ◌++◌, append_assoc, length, arith}
+use Rattle.std.proofs.Common.{◌≡◌, refl, ap, sym, subst, ◌∙◌, ℕ, suc, ◌+◌, ◌<◌, ◌≤◌, ◌==◌, Bool, true, false, cond, Option, None, Some, List, [], ◌∷◌, ◌++◌, append_assoc, length, arith}
 use Rattle.std.proofs.lemmas.Bool.Decides.{nat_tests}
 use Rattle.std.specs.Prelude.{⊤}
 use Rattle.std.specs.Option.{option_map}
@@ -7,7 +7,6 @@ use Rattle.gs_layout.specs.declared.message.Change.TheVariants.{Preempted}
 use Rattle.gs_layout.specs.declared.message.Message.{Message}
 use Rattle.gs_layout.specs.declared.message.Message.TheVariants.{TimerTick}
 use Rattle.gs_layout.specs.declared.outcome.Outcome.{Outcome}
-use Rattle.gs_layout.specs.declared.refusal.Refusal.{Refusal}
 use Rattle.gs_slots.specs.declared.state.SlotState.{SlotState}
 use Rattle.gs_slots.specs.declared.state.SlotState.TheVariants.{Idle, Stamped, Done}
 use Rattle.gs_slots.specs.declared.state.Stamp.{Stamp}
@@ -20,14 +19,13 @@ use Rattle.gs_journal.proofs.Laws.{AtEach-push, on-push}
 use Rattle.gs_kernel.specs.declared.command.Command.{Command}
 use Rattle.gs_kernel.specs.declared.command.Command.TheVariants as commands
 use Rattle.gs_kernel.specs.declared.effect.Effect.TheVariants.{Append}
-use Rattle.gs_kernel.specs.declared.executed.Executed.{Executed}
 use Rattle.gs_kernel.specs.declared.landing.Landing.{Landing}
 use Rattle.gs_kernel.specs.declared.settings.Settings.{Settings}
 use Rattle.gs_kernel.specs.Group.{Group, LandsCommit, group_in, grouped}
 use Rattle.gs_kernel.specs.Kernel.{next_about, preemption}
 use Rattle.gs_kernel.specs.Landing.{placing, verdict}
 use Rattle.gs_kernel.specs.Lands.{Landings, Lands, Settles, placement}
-use Rattle.gs_kernel.specs.Legal.{Legal, Room, Tells, effect, entries_in, is_done}
+use Rattle.gs_kernel.specs.Legal.{Room, Tells, effect, entries_in}
 use Rattle.gs_kernel.specs.Ready.{Rises}
 use Rattle.gs_kernel.proofs.Laws.{AllOf, IsKeptBy, all_keep, group_keeps, landing_keeps, rises_from}
 use Rattle.gs_reasons.specs.ExplainsRefusal.{FindsFree}
@@ -130,7 +128,3 @@ command_free s h (commands.Activate k) free = quiet_appended h (preemption s h k
 pub told_free : (room : Room) (s : Settings) (h : History) (c : Command) (fits : Bool) (h' : History) → Tells room h (effect s h c) fits h' → FindsFree h → FindsFree h'
 told_free room s h c true h' t free = subst FindsFree (sym t.1) (command_free s h c free)
 told_free room s h c false h' t free = subst FindsFree (sym t.1) (free_torn h free)
-
-pub legal_free : (room : Room) (s : Settings) (h : History) (given : Bool) (c : Command) (x : Result Executed Refusal) (h' : History) → Legal room s h given c x h' → FindsFree h → FindsFree h'
-legal_free room s h given c (Err r) h' l free = subst FindsFree (sym l.1) free
-legal_free room s h given c (Ok x) h' l free = told_free room s h c (is_done x) h' l.tells free

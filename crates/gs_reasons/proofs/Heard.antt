@@ -59,10 +59,6 @@ pub and_false : (b : Bool) → (b && false) ≡ false
 and_false true = refl
 and_false false = refl
 
--- marks after one was set, if this held
-abbrev Sets : Bool → ℕ → ℕ → List (Option ℕ) → List (Option ℕ) → Type 0
-Sets here key p xs ys = (k : ℕ) → mark_at ys k ≡ place_then ((k == key) && here) p (mark_at xs k)
-
 pub change_heard : (x y : Index) (p u n : ℕ) (c : Change)
     → ((k : ℕ) → mark_at y.about.places.items k ≡ place_then ((k == u) && true) p (mark_at x.about.places.items k))
     → ((k : ℕ) → mark_at y.runs.places.items k ≡ place_then ((k == u) && says_runs c) p (mark_at x.runs.places.items k))

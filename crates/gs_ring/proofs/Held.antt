@@ -2,7 +2,7 @@
 use Rattle.std.proofs.Common.{◌≡◌, true, ℕ, zero, suc, ◌+◌, ◌-◌, ◌*◌, ◌%◌, ◌<◌, ◌≤◌, List, [], ◌∷◌, ◌++◌, length, drop, refl, ap, sym, subst, ◌∙◌, append_assoc, arith, length-append}
 use Rattle.std.specs.Prelude.{All, min}
 use Rattle.std.proofs.lemmas.List.{append-nil, drop_at}
-use Rattle.std.proofs.lemmas.List.Elements.{All-head, All-nil, All-push, All-tail}
+use Rattle.std.proofs.lemmas.List.Elements.{All-head, All-push, All-tail}
 use Rattle.gs_ring.specs.declared.ends.TheConstants.{MOST_POSTS}
 use Rattle.gs_layout.specs.declared.wire.TheConstants.{ALIGNMENT, MOST_MESSAGE_LEN, MOST_PAD_LEN}
 use Rattle.gs_layout.specs.declared.message.Message.{Message}
@@ -89,11 +89,6 @@ written_later b r w q t p n span size ring count at read done few = record {
   touched = subst (λ k. min k (length b.items) ≤ b.touched) (sym count) done;
   few = subst (λ k. b.touched ≤ k + STEP) (sym count) few;
 }
-
--- a new ring
-pub made : (b : List ℕ) → is_capacity (length b) ≡ true → IsRing b 0 0 0 0
-made b size =
-    ring_from b 0 0 0 0 [] size (omega arith) (omega arith) (omega arith) (record { whole = refl; room = omega arith; spellable = All-nil IsSpellable; behind = refl; holds = refl }) refl
 
 pub shows_more : (b : List ℕ) (r w : ℕ) (ms : List Message) (m : Message) → IsWide (length b) → Shows b r w ms → IsSpellable m
     → w + need (length b) w (record_len m) ≤ r + length b

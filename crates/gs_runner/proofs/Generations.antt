@@ -48,9 +48,6 @@ none_at_first = refl
 no_some : {A : Type 0} (a : A) → None ≡ Some a → ⊥
 no_some a e = absurd cc
 
-some_is : (a b : ℕ) → Some a ≡ Some b → a ≡ b
-some_is a b e = cc
-
 -- a moment at which none attaches
 none_then : (h : History) (e : Entry) → attaching (h ++ e ∷ []) ≡ None → IsLast (h ++ e ∷ [])
 none_then h e none g is = absurd (no_some g (sym none ∙ is))

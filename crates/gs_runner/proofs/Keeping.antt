@@ -1,10 +1,10 @@
 -- The calls as they are kept, behind one call more.
-use Rattle.std.proofs.Common.{◌≡◌, ℕ, ◌+◌, ◌≤◌, true, List, [], ◌∷◌, ◌++◌, Option, Result, Ok, Err, take, length, refl, ap, sym, subst, ◌∙◌, arith, length-append}
+use Rattle.std.proofs.Common.{◌≡◌, ℕ, ◌+◌, ◌≤◌, true, List, [], ◌∷◌, ◌++◌, Option, Result, Ok, Err, length, refl, ap, sym, subst, ◌∙◌, arith}
 use Rattle.std.proofs.lemmas.Bool.{false≢true}
 use Rattle.std.proofs.lemmas.List.{map-append, take-append-le}
-use Rattle.std.proofs.lemmas.List.Elements.{All-head, All-push, All-tail, All-weaker}
+use Rattle.std.proofs.lemmas.List.Elements.{All-head, All-tail, All-weaker}
 use Rattle.std.proofs.Math.ListN.{get_or-append}
-use Rattle.std.proofs.Math.Seq.{get_or-append_seam, take-length}
+use Rattle.std.proofs.Math.Seq.{get_or-append_seam}
 use Rattle.gs_board.specs.declared.rule.Words.{Words}
 use Rattle.gs_layout.specs.declared.message.Message.{Message}
 use Rattle.gs_layout.specs.declared.message.Message.TheVariants.{TimerTick}
@@ -99,20 +99,6 @@ calls_beside h o x (k ∷ ks) n w =
     let later : calls_kept h (o ++ x) ks ≡ calls_kept h o ks = calls_beside h o x ks n (All-tail (IsWithin n (length o)) k ks w) in
     λ i. first i ∷ later i
 
--- that the kernel was told something is appended
-pub told_pushed : (h : History) (o : List Call) (ks : List Kept) (c : Command) (last : Entry) (at end : ℕ) → end ≡ length h → last ≡ last_entry h → command_by last ≡ c
-    → calls_kept h o (ks ++ kept.Told at end ∷ []) ≡ calls_kept h o ks ++ told_call c executed.Done last at end ∷ []
-told_pushed h o ks c last at end is e follows = map-append (call_kept h o) ks (kept.Told at end ∷ []) ∙ ap (λ (x : Call). calls_kept h o ks ++ x ∷ []) same
-  where
-    before : entry_before h end ≡ last
-    before = ap last_entry (ap (λ (n : ℕ). take n h) is ∙ take-length h) ∙ sym e
-
-    same : done_call (entry_before h end) at end ≡ told_call c executed.Done last at end
-    same = ap (λ (x : Entry). done_call x at end) before ∙ ap (λ (d : Command). told_call d executed.Done last at end) follows
-
-pub within_told : (m at end : ℕ) (ks : List Kept) → at ≤ end → AllWithin end m ks → AllWithin end m (ks ++ kept.Told at end ∷ [])
-within_told m at end ks order w = All-push (IsWithin end m) ks (kept.Told at end) w (order, omega arith)
-
 -- any other call is appended
 pub other_pushed : (h : History) (o : List Call) (ks : List Kept) (c : Call) (n : ℕ) → AllWithin n (length o) ks → calls_kept h (o ++ c ∷ []) (ks ++ kept.Other (length o) ∷ []) ≡ calls_kept h o ks ++ c ∷ []
 other_pushed h o ks c n w =
@@ -127,11 +113,6 @@ within_more n m n' m' (kept.Other i) p q w = omega (arith, q, w)
 
 pub all_within_more : (n m n' m' : ℕ) (ks : List Kept) → n ≤ n' → m ≤ m' → AllWithin n m ks → AllWithin n' m' ks
 all_within_more n m n' m' ks p q w = All-weaker (IsWithin n m) (IsWithin n' m') (λ k x. within_more n m n' m' k p q x) ks w
-
-pub within_other : (n : ℕ) (o : List Call) (ks : List Kept) (c : Call) → AllWithin n (length o) ks → AllWithin n (length (o ++ c ∷ [])) (ks ++ kept.Other (length o) ∷ [])
-within_other n o ks c w =
-    let long : length (o ++ c ∷ []) ≡ length o + 1 = length-append o (c ∷ []) in
-    All-push (IsWithin n (length (o ++ c ∷ []))) ks (kept.Other (length o)) (all_within_more n (length o) n (length (o ++ c ∷ [])) ks (omega arith) (omega (arith, long)) w) (omega (arith, long))
 
 -- behind a call, and with room for one more, what was kept shows the calls that it showed before
 pub calls_then : (a b : KernelOf RtrbPoster) (c : Called) (r : Reply) (o o' : List Call) (ks ks' : List Kept) → IsTold a c r b → o' ≡ o → ks' ≡ ks → AllWithin (length a.history) (length o) ks → calls_kept b.history o' ks' ≡ calls_kept a.history o ks

@@ -18,5 +18,4 @@ mod Rows
 mod Agreeing
 mod Receiving
 mod Slipping
-mod Beginning
 mod Concluding

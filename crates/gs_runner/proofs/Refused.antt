@@ -21,7 +21,6 @@ use Rattle.gs_runner.specs.declared.call.Called.TheVariants.{Served}
 use Rattle.gs_runner.specs.declared.command.Command.{Command}
 use Rattle.gs_runner.specs.declared.command.Command.TheVariants as commands
 use Rattle.gs_runner.specs.Calls.{LegalCall, LegalPage, ThreadRoom, call_page_refusal, call_refusal, given_by, is_refused, is_settled, land_refusal, named_cpu, standing_land_refusal}
-use Rattle.gs_runner.specs.Pages.{Reads}
 use Rattle.gs_runner.specs.Told.{IsTold, parcels_of}
 
 pub refused_call : (room : Room) (s : Settings) (h : History) (given : Bool) (c : Command) (r : Refusal) → IsRefusal (call_refusal s h given c) r → LegalCall room s h given (Served c) (replies.Refused r) h
@@ -82,10 +81,3 @@ lands_when s h bytes e =
     let p2 = first_passed (nat_le s.cpus (named_cpu bytes)) refusals.BadCpu _ p1.1 in
     let p3 = first_passed (is_settled (state_in (named_cpu bytes) bytes)) refusals.NoSuchTransaction None p2.1 in
     (below s.cpus (named_cpu bytes) p2.0, p3.0)
-
--- a page that was not given was not read
-pub reads_refused : {T : Type 0} (read : T → List ℕ → T → Type 0) (c : Command) (r : Refusal) (a b : T) → b ≡ a → Reads read c (replies.Refused r) a b
-reads_refused read (commands.Kernel c) r a b e = e
-reads_refused read commands.Crash r a b e = e
-reads_refused read (commands.Page from max) r a b e = e
-reads_refused read (commands.Land bytes) r a b e = e

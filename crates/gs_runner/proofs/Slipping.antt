@@ -1,7 +1,7 @@
 -- Receipts that are kept as places in the journal.
-use Rattle.std.proofs.Common.{◌≡◌, ℕ, ◌+◌, ◌-◌, ◌≤◌, Some, List, [], ◌∷◌, ◌++◌, length, map, slice_get, refl, ap, subst, ◌∙◌, arith, length-append, sym, false}
+use Rattle.std.proofs.Common.{◌≡◌, ℕ, ◌+◌, ◌-◌, ◌≤◌, Some, List, [], ◌∷◌, ◌++◌, length, map, slice_get, refl, ap, subst, ◌∙◌, arith, sym, false}
 use Rattle.std.proofs.lemmas.List.{map-append}
-use Rattle.std.proofs.lemmas.List.Elements.{All-cons, All-head, All-nil, All-push, All-tail, All-weaker}
+use Rattle.std.proofs.lemmas.List.Elements.{All-cons, All-head, All-nil, All-tail}
 use Rattle.std.proofs.lemmas.Option.{slice_get-map}
 use Rattle.std.proofs.Math.ListN.{get_or-append}
 use Rattle.std.proofs.Math.Seq.{get_or-append_seam}
@@ -55,18 +55,6 @@ other_shown h o ss r w =
     let before : map (receipt_kept h (o ++ r ∷ [])) ss ≡ map (receipt_kept h o) ss = receipts_beside h o (r ∷ []) ss w in
     let last : receipt_kept h (o ++ r ∷ []) (slips.Other (length o)) ≡ r = get_or-append_seam o r [] no_receipt in
     all ∙ (λ i. before i ++ last i ∷ [])
-
-inside_more : (m n : ℕ) (s : Slip) → m ≡ n + 1 → IsInside n s → IsInside m s
-inside_more m n (slips.Done at k) e w = tt
-inside_more m n (slips.Other k) e w = omega (arith, e, w)
-
-pub inside_done : (m at n : ℕ) (ss : List Slip) → AreInside m ss → AreInside m (ss ++ slips.Done at n ∷ [])
-inside_done m at n ss w = All-push (IsInside m) ss (slips.Done at n) w tt
-
-pub inside_other : (o : List Receipt) (r : Receipt) (ss : List Slip) → AreInside (length o) ss → AreInside (length (o ++ r ∷ [])) (ss ++ slips.Other (length o) ∷ [])
-inside_other o r ss w =
-    let long : length (o ++ r ∷ []) ≡ length o + 1 = length-append o (r ∷ []) in
-    All-push (IsInside (length (o ++ r ∷ []))) ss (slips.Other (length o)) (All-weaker (IsInside (length o)) (IsInside (length (o ++ r ∷ []))) (λ s x. inside_more (length (o ++ r ∷ [])) (length o) s long x) ss w) (omega (arith, long))
 
 -- a receipt whose entry stands in the journal is appended
 pub done_shown : (h : History) (o : List Receipt) (ss : List Slip) (r : Receipt) (e : Entry) → r.reply ≡ replies.Done e → StandsIn h r → map (receipt_kept h o) (ss ++ slips.Done r.at r.entries ∷ []) ≡ map (receipt_kept h o) ss ++ r ∷ []

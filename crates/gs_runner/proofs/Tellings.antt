@@ -17,7 +17,7 @@ use Rattle.gs_kernel.proofs.Laws.{last_told}
 use Rattle.gs_replies.specs.Replies.{reply_of}
 use Rattle.gs_runner.specs.declared.call.Called.TheVariants.{Served}
 use Rattle.gs_runner.specs.declared.command.Command.TheVariants as commands
-use Rattle.gs_runner.specs.Calls.{ThreadRoom, crash_reply, given_by, is_refused}
+use Rattle.gs_runner.specs.Calls.{ThreadRoom, given_by, is_refused}
 use Rattle.gs_runner.specs.Told.{IsTold, SameSeen, parcels_of}
 use Rattle.gs_runner.proofs.Rooms.{EndRoom, legal_map, thread_room}
 
@@ -57,24 +57,4 @@ told_executed a b c r t = record {
   sent = t.frame.told;
   settings = t.frame.settings;
   pages = t.frame.pages ∙ given_of (EndRoom a.poster) a.settings a.history b.history a.paged c r a.paged t.legal;
-}
-
-crash_refused : (a b : KernelOf RtrbPoster) (r : Result Executed Refusal) → OnErr r (b ≡ record a { rows = b.rows }) → is_refused (crash_reply r) ≡ true → SameSeen a b
-crash_refused a b (Err f) same is = seen a b same
-crash_refused a b (Ok Torn) same is = absurd (false≢true is)
-crash_refused a b (Ok Done) same is = absurd (false≢true is)
-
-crash_given : (r : Result Executed Refusal) (p : Bool) → paged_by r told.Leave p ≡ given_by (crash_reply r) p
-crash_given (Err f) p = refl
-crash_given (Ok Torn) p = refl
-crash_given (Ok Done) p = refl
-
-pub told_crashed : (a b : KernelOf RtrbPoster) (r : Result Executed Refusal) → HasServed a told.Leave r b → IsTold a (Served commands.Crash) (crash_reply r) b
-told_crashed a b r t = record {
-  legal = (r, refl, legal_map (EndRoom a.poster) (ThreadRoom (parcels_of a)) a.settings a.history a.paged told.Leave r b.history (thread_room a.poster) t.legal);
-  refused = crash_refused a b r t.refused;
-  ring = t.frame.ring;
-  sent = t.frame.told;
-  settings = t.frame.settings;
-  pages = t.frame.pages ∙ crash_given r a.paged;
 }

@@ -1,8 +1,7 @@
 -- A walk over the lines of a text.
 use Rattle.std.proofs.Common.{◌≡◌, ℕ, ◌+◌, ◌<◌, suc, List, [], ◌∷◌, ◌++◌, length, take, drop, drop-cons, get_or, refl, sym, ◌∙◌, ap, true, false, nat_eq, Result, Ok, Err, append_assoc, arith, ◌==◌, ◌||◌}
 use Rattle.std.specs.List.{onto_first, list_any}
-use Rattle.std.proofs.lemmas.List.{take-append-drop, take_more}
-use Rattle.std.proofs.lemmas.List.Folds.{list_any-append}
+use Rattle.std.proofs.lemmas.List.{take-append-drop}
 use Rattle.std.proofs.lemmas.List.Splits.{slice_split-cons_no}
 use Rattle.gs_core.specs.declared.event.Event.{Event}
 use Rattle.gs_script.specs.declared.fault.ScriptFault.{ScriptFault}
@@ -28,9 +27,6 @@ whole_line (c ∷ cs) h = let p = head_other c cs h in slice_split-cons_no (λ b
 cut_then : (bytes rest : List ℕ) → is_unbroken bytes → lines_of (bytes ++ 10 ∷ rest) ≡ bytes ∷ lines_of rest
 cut_then [] rest h = refl
 cut_then (c ∷ cs) rest h = let p = head_other c cs h in slice_split-cons_no (λ b. b == 10) c (cs ++ 10 ∷ rest) p.0 ∙ ap (onto_first c) (cut_then cs rest p.1)
-
-pub unbroken_more : (text : List ℕ) (i : ℕ) → i < length text → is_unbroken (take i text) → nat_eq (get_or text i 0) 10 ≡ false → is_unbroken (take (i + 1) text)
-unbroken_more text i lt h k = rw (take_more text i 0 lt, list_any-append (λ b. b == 10) (take i text) (get_or text i 0 ∷ []), h, k) refl
 
 pub one_line : (text : List ℕ) (i : ℕ) → i < length text → is_unbroken (take i text) → get_or text i 0 ≡ 10 → lines_of text ≡ take i text ∷ lines_of (drop (i + 1) text)
 one_line text i lt h k =

@@ -3,13 +3,13 @@ use Rattle.std.proofs.Common.{◌≡◌, ◌≢◌, ◌≤◌, ◌<◌, ◌+◌,
 use Rattle.std.specs.List.{list_all, onto_first, slice_split}
 use Rattle.std.proofs.lemmas.Bool.{and_parts}
 use Rattle.std.proofs.lemmas.Bool.Decides.{nat_tests}
-use Rattle.std.proofs.lemmas.List.{length-append, get_or-drop, take-append-drop, take_all, drop_all, length-drop, length-take-le}
+use Rattle.std.proofs.lemmas.List.{length-append, get_or-drop, take-append-drop, length-drop, length-take-le}
 use Rattle.std.proofs.lemmas.List.Elements.{filter-append}
 use Rattle.std.proofs.lemmas.List.Splits.{slice_split-cons_no, slice_split-cons_yes}
 use Rattle.std.proofs.Math.Seq.{drop-nil, take-add}
 use Rattle.gs_script.specs.declared.marked.Marked.{Marked}
 use Rattle.gs_script.specs.Words.{is_word, words_of}
-use Rattle.gs_script.specs.Found.{IsCut, Marks, MarksEnd, MarksIf, MarksWord, has_none}
+use Rattle.gs_script.specs.Found.{IsCut, Marks, MarksIf, MarksWord, has_none}
 use Rattle.gs_script.proofs.Saying.{words_behind}
 
 abbrev is_space : ℕ → Bool
@@ -195,9 +195,6 @@ went_on line end start before n m s lt l p =
 below : (a b : ℕ) → a < b → nat_lt a b ≡ true
 below a b lt = grind (arith, nat_tests)
 
-not_below : (a b : ℕ) → b ≤ a → nat_lt a b ≡ false
-not_below a b le = grind (arith, nat_tests)
-
 -- the word that the walk stood at is marked
 pub word_marked : (line : List ℕ) (end start before place n : ℕ) (m : Marked) → Stands line end start before → start < length line → before ≤ place → place ≤ before → Lettered (drop start line) n → IsCut line start n m → Marks line place m
 word_marked line end start before place n m s lt low high l c =
@@ -212,19 +209,4 @@ word_marked line end start before place n m s lt low high l c =
     let count : length (words_of line) ≡ place + length (w ∷ words_of behind) = ap length words ∙ length-append (words_of (take start line)) (w ∷ words_of behind) ∙ ap (λ k. k + length (w ∷ words_of behind)) here in
     let is : nat_lt place (length (words_of line)) ≡ true = below place (length (words_of line)) (omega (arith, count)) in
     let marked : MarksWord line place m = record { whole = c.whole; before = ap (λ xs. length (words_of xs)) c.front ∙ here; word = rw (c.front, c.word, c.behind) words } in
-    subst (λ b. MarksIf b line place m) (sym is) marked
-
--- there is no word at the place
-pub end_marked : (line : List ℕ) (end start before place : ℕ) (m : Marked) → Stands line end start before → length line ≤ start → before ≤ place → IsCut line end 0 m → Marks line place m
-end_marked line end start before place m s past low c =
-    let all : take start line ≡ line = take_all start line past in
-    let count : length (words_of line) ≡ before = ap (λ xs. length (words_of xs)) (sym all) ∙ s.count in
-    let is : nat_lt place (length (words_of line)) ≡ false = not_below place (length (words_of line)) (omega (arith, count)) in
-    let marked : MarksEnd line m =
-    record {
-      whole = c.whole;
-      none = c.word;
-      last = ap words_of (sym all) ∙ sym s.same ∙ ap words_of (sym c.front);
-      behind = ap words_of c.behind ∙ s.behind ∙ ap words_of (drop_all start line past);
-    } in
     subst (λ b. MarksIf b line place m) (sym is) marked

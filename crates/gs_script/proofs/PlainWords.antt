@@ -10,7 +10,7 @@ use Rattle.std.specs.List.{list_all, slice_split, onto_first}
 use Rattle.std.specs.Str.{all_ascii_digits}
 use Rattle.gs_layout.specs.Name.{is_name_byte}
 use Rattle.gs_script.specs.Words.{is_text, is_word, lines_of, words_of}
-use Rattle.gs_script.specs.Plain.{FirstLine, StartsWith, lines_left}
+use Rattle.gs_script.specs.Plain.{FirstLine, lines_left}
 use Rattle.gs_script.proofs.Digits.{worth}
 
 -- a word of a line: it has bytes, and each is from 33 to 126
@@ -99,7 +99,3 @@ behind_front None text front h = tt
 behind_front (Some x) text front h =
     let same : take (length front) text ≡ front = (bytes_eq-Decides (take (length front) text) front).0 h.0 in
     sym (take-append-drop (length front) text) ∙ ap (λ l. l ++ drop (length front) text) same ∙ ap (λ l. front ++ l) (sym h.1)
-
--- a space behind what a text starts with
-pub then_space : (Is : List ℕ → Type 0) (text rest last : List ℕ) → StartsWith Is text rest → rest ≡ 32 ∷ last → StartsWith Is text (32 ∷ last)
-then_space Is text rest last s e = record { front = s.front; cut = s.cut ∙ ap (λ l. s.front ++ l) e; is = s.is }

@@ -9,30 +9,16 @@ use Rattle.gs_script.specs.declared.fault.Reason.{Reason}
 use Rattle.gs_script.specs.declared.fault.Reason.TheVariants.{BadByte}
 use Rattle.gs_script.specs.declared.fault.ScriptFault.{ScriptFault}
 use Rattle.gs_script.specs.declared.reading.SaidLine.{SaidLine}
-use Rattle.gs_script.specs.declared.line.LineError.{LineError}
-use Rattle.gs_script.specs.declared.line.LineError.TheVariants as lines
 use Rattle.gs_script.specs.Words.{is_text, lines_of, words_of}
 use Rattle.gs_script.specs.Naming.{Naming}
 use Rattle.gs_script.specs.Rows.{event_of}
 use Rattle.gs_script.specs.Plain.{FirstLine, lines_left}
 use Rattle.gs_script.specs.Script.{before, events_of, is_passed_over, says, some_of, with_event}
-use Rattle.gs_script.specs.Held.{Adds, Faults, Fails, and_one, placed}
+use Rattle.gs_script.specs.Held.{Adds, and_one}
 use Rattle.gs_script.specs.Said.{line_if, said, says_something}
 use Rattle.gs_script.specs.Unread.{ReadsNext, Unread}
-use Rattle.gs_script.specs.declared.script.ScriptError.{ScriptError}
-use Rattle.gs_script.specs.declared.script.ScriptError.TheVariants as errors
 use Rattle.gs_script.specs.Unread.{with_front}
 use Rattle.gs_script.proofs.Lines.{with_front_more}
-
--- whether a line says something, by what it says
-pub says_none : {A : Type 0} (read : List (List ℕ) → Result A Reason) (n : ℕ) (line : List ℕ) → says read line ≡ Ok None → line_if (says_something line) n line ≡ []
-says_none {A} read n line h = by_tests (is_text line) (is_passed_over (words_of line)) (read (words_of line)) h
-  where
-    by_tests : (t p : Bool) (r : Result A Reason) → cond (not t) (Err BadByte) (cond p (Ok None) (some_of r)) ≡ Ok None → line_if (t && not p) n line ≡ []
-    by_tests false p r h = absurd cc
-    by_tests true true r h = refl
-    by_tests true false (Ok x) h = absurd cc
-    by_tests true false (Err e) h = absurd cc
 
 pub says_one : {A : Type 0} (read : List (List ℕ) → Result A Reason) (n : ℕ) (line : List ℕ) (x : A) → says read line ≡ Ok (Some x) → (line_if (says_something line) n line ≡ (n, line) ∷ []) × (is_text line ≡ true)
 says_one {A} read n line x h = by_tests (is_text line) (is_passed_over (words_of line)) (read (words_of line)) h
@@ -61,25 +47,6 @@ line_taken text line rest n e k =
     let is : take n text ≡ line = ap (λ m. take m text) k ∙ ap (take (length line)) (cut_text text line rest e) ∙ take-append_seam line (10 ∷ rest) in
     e ∙ ap (λ l. l ∷ lines_of rest) (sym is)
 
--- an event was added, or none
-added_none : {A : Type 0} (old new : List (Event A)) (o : Option (Event A)) → new ≡ and_one old o → length new ≤ length old → o ≡ None
-added_none old new None e le = refl
-added_none old new (Some x) e le = absurd (omega (arith, le, ap length e, length-append old (x ∷ [])))
-
--- the lines that are left say what all said, if one that says nothing was read
-pub passed_events : {A : Type 0} (naming : Naming A) (n : ℕ) (text : List ℕ) (left : Option (Bor (List ℕ))) (old new : List (Event A)) → Adds naming text left old new → length new ≤ length old → events_of naming (n + 1) (lines_left left) ≡ events_of naming n (lines_of text)
-passed_events naming n text left old new a le =
-    let none : a.said ≡ None = added_none old new a.said a.events le in
-    sym (ap (events_of naming n) a.first.cut ∙ ap (λ s. before n s (events_of naming (n + 1) (lines_left left))) (a.first.is ∙ ap Ok none))
-
-pub passed_said : {A : Type 0} (naming : Naming A) (n : ℕ) (text : List ℕ) (left : Option (Bor (List ℕ))) (old new : List (Event A)) → Adds naming text left old new → length new ≤ length old → said (n + 1) (lines_left left) ≡ said n (lines_of text)
-passed_said naming n text left old new a le =
-    let none : a.said ≡ None = added_none old new a.said a.events le in
-    sym (ap (said n) a.first.cut ∙ ap (λ xs. xs ++ said (n + 1) (lines_left left)) (says_none (event_of naming) n a.first.line (a.first.is ∙ ap Ok none)))
-
-pub passed_same : {A : Type 0} (naming : Naming A) (text : List ℕ) (left : Option (Bor (List ℕ))) (old new : List (Event A)) → Adds naming text left old new → length new ≤ length old → new ≡ old
-passed_same naming text left old new a le = a.events ∙ ap (and_one old) (added_none old new a.said a.events le)
-
 -- the first line was read, and says an event
 first_of : (x y : List ℕ) (xs ys : List (List ℕ)) → x ∷ xs ≡ y ∷ ys → x ≡ y
 first_of x y xs ys e = cc
@@ -103,18 +70,9 @@ one_read {A} naming n text left old new x start a lt number cut events says few 
           added = e;
         }
 
--- the first line has a fault
-pub faulted : {A : Type 0} (naming : Naming A) (n : ℕ) (e : LineError) (text : List ℕ) (whole : Result (List (Event A)) ScriptFault) → events_of naming n (lines_of text) ≡ whole → Fails naming text e → Faults (placed n e) whole
-faulted naming n (lines.Fault reason) text whole h f = sym h ∙ ap (events_of naming n) f.first.cut ∙ ap (λ s. before n s (events_of naming (n + 1) (lines_left f.left))) f.first.is
-faulted naming n lines.OutOfMemory text whole h f = tt
-
 -- the events that were read, and then those that were not
 pub front_more : {A : Type 0} (front : List (Event A)) (e : Event A) (old new whole : Result (List (Event A)) ScriptFault) → whole ≡ with_front front old → old ≡ with_event e new → whole ≡ with_front (front ++ e ∷ []) new
 front_more front e old new whole h is = h ∙ ap (with_front front) is ∙ with_front_more front e new
 
 pub front_none : {A : Type 0} (front : List (Event A)) (left whole : Result (List (Event A)) ScriptFault) → whole ≡ with_front front left → left ≡ Ok [] → whole ≡ Ok front
 front_none front left whole h is = h ∙ ap (with_front front) is ∙ ap Ok (append-nil front)
-
-pub front_fault : {A : Type 0} (front : List (Event A)) (e : ScriptError) (left whole : Result (List (Event A)) ScriptFault) → whole ≡ with_front front left → Faults e left → Faults e whole
-front_fault front (errors.Fault f) left whole h is = h ∙ ap (with_front front) is
-front_fault front errors.OutOfMemory left whole h is = tt

@@ -1,8 +1,7 @@
 -- What is in a group, one thing more.
-use Rattle.std.proofs.Common.{◌≡◌, ◌∙◌, refl, ap, sym, subst, ℕ, ◌+◌, ◌<◌, ◌≤◌, ◌⊎◌, inl, inr, ◌++◌, ◌∷◌, Bool, true, false, cond, List, [], get_or, length, take, append-nil, arith}
+use Rattle.std.proofs.Common.{◌≡◌, ◌∙◌, refl, ap, sym, ℕ, ◌+◌, ◌<◌, ◌≤◌, ◌++◌, ◌∷◌, Bool, true, false, cond, List, [], get_or, length, take, append-nil, arith}
 use Rattle.std.specs.List.{filter}
-use Rattle.std.proofs.lemmas.Bool.{cases_lt}
-use Rattle.std.proofs.lemmas.List.{get_or_append_left, get_or-append-add, length-take-le}
+use Rattle.std.proofs.lemmas.List.{length-take-le}
 use Rattle.std.proofs.lemmas.List.Elements.{filter_more}
 use Rattle.std.proofs.lemmas.List.Sums.{count_by-le-length, length-filter}
 use Rattle.gs_tallies.specs.Groups.{one_more}
@@ -24,13 +23,3 @@ kept_few p xs i lt =
     let kept = length-filter p (take i xs) in
     let some = length-take-le i xs (omega arith) in
     omega (arith, few, kept, some)
-
--- one more place of which something is so
-pub placed_more : {A : Type 0} (P : A → Type 0) (xs : List A) (x : A) (n g : ℕ) (d : A) → length xs ≡ n → ((h : ℕ) (e : A) → h < n → P (get_or xs h e)) → P x → g < n + 1 → P (get_or (xs ++ x ∷ []) g d)
-placed_more P xs x n g d long all is lt = by_place (cases_lt g n)
-  where
-    by_place : (g < n) ⊎ (n ≤ g) → P (get_or (xs ++ x ∷ []) g d)
-    by_place (inl less) = subst P (sym (get_or_append_left xs (x ∷ []) d g (omega (arith, less, long)))) (all g d less)
-    by_place (inr past) =
-        let here : length xs + 0 ≡ g = omega (arith, past, lt, long) in
-        subst (λ (k : ℕ). P (get_or (xs ++ x ∷ []) k d)) here (subst P (sym (get_or-append-add xs (x ∷ []) 0 d)) is)

@@ -4,7 +4,7 @@ use Rattle.std.proofs.KnownBytes.{Appends-nil, Appends-trans}
 use Rattle.std.specs.Io.KnownBytes.{Appends}
 use Rattle.gs_timeline.specs.Pieces.{Adds, HasEach}
 use Rattle.gs_timeline.specs.Sent.{Grows, Sends}
-use Rattle.gs_timeline.proofs.Pieces.{adds_same, adds_then, adds_told, has_added, has_behind, pieces_more}
+use Rattle.gs_timeline.proofs.Pieces.{adds_same, adds_then, has_added, has_behind, pieces_more}
 use Rattle.std.proofs.lemmas.Grind.{common_steps}
 use Rattle.std.proofs.lemmas.List.{length-append}
 use Rattle.std.proofs.Math.Seq.{take-append_seam}
@@ -20,10 +20,6 @@ sends_none a old new e = ([], Appends-nil a, adds_same old new e)
 -- what was added is not written yet
 pub sends_added : (ps : List (List ℕ)) (a : Option (List ℕ)) (old new : List ℕ) → Adds ps old new → Sends ps a a old new
 sends_added ps a old new added = ([], Appends-nil a, added)
-
--- all was written
-pub sends_all : (a b : Option (List ℕ)) (old told sent : List ℕ) → Appends a b sent → sent ≡ old ++ told → Sends [] a b old []
-sends_all a b old told sent w e = (sent, w, adds_told old told (sent ++ []) (append-nil sent ∙ e))
 
 -- what was written first, and what then
 pub sends_then : (ps qs : List (List ℕ)) (a b c : Option (List ℕ)) (old now new : List ℕ) → Sends ps a b old now → Sends qs b c now new → Sends (ps ++ qs) a c old new

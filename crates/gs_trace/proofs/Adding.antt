@@ -14,14 +14,10 @@ use Rattle.gs_lines.specs.Lines.{lines, reply_lines}
 use Rattle.gs_lines.proofs.Laws.{lines_more}
 use Rattle.gs_script.specs.declared.fault.ScriptFault.{ScriptFault}
 use Rattle.gs_script.specs.Script.{Script, with_config, with_event}
-use Rattle.gs_script.proofs.Lines.{with_front_nil}
 use Rattle.gs_script.proofs.Unread.{front_more, front_none}
 use Rattle.gs_trace.specs.declared.run.Ended.TheVariants.{Ran}
 use Rattle.gs_trace.specs.Output.{Answers, IsAnswerOf}
 use Rattle.gs_trace.specs.Adding.{AddedSoFar, AddedUpTo, AddsOne, ShowsRun}
-
-pub none_added : {A T : Type 0} (plans : A → Plan) (Has : T → List Reply → Type 0) (m : State) (script : Result (List (Event A)) ScriptFault) (sink : T) → Has sink [] → AddedUpTo plans Has m script script m sink
-none_added plans Has m script sink h = record { events = []; is = sym (with_front_nil script); added = record { replies = []; leads = λ left more end run. run; sufficed = refl; has = h } }
 
 suffices : (rs : List Reply) (r : Reply) → list_any wants_memory rs ≡ false → list_any wants_memory (r ∷ []) ≡ false → list_any wants_memory (rs ++ r ∷ []) ≡ false
 suffices rs r h k = rw (list_any-append wants_memory rs (r ∷ []), h, k) refl

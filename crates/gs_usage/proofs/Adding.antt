@@ -13,7 +13,7 @@ use Rattle.gs_turns.specs.declared.time.Time.{Time}
 use Rattle.gs_usage.specs.declared.usage.Usage.{Usage}
 use Rattle.gs_usage.specs.declared.usage.Use.{Use}
 use Rattle.gs_usage.specs.declared.usage.Use.TheVariants.{Other, Agent, Busy, Wanted, Idle}
-use Rattle.gs_usage.specs.Times.{AreAtMost, all_entries, all_ticks, plus, plus_if, spend, time_in, usage_to}
+use Rattle.gs_usage.specs.Times.{all_entries, all_ticks, plus, plus_if, spend, usage_to}
 use Rattle.gs_usage.specs.Uses.{has_use, same_use, time_of, time_to, usage_of, use_of}
 
 abbrev of_uses : Time → Time → Time → Time → Time → Usage
@@ -58,19 +58,6 @@ time_bound n u h c =
     let long : length (range_with_len 0 n) ≡ n = length-range_with_len 0 n in
     let both : ℕ → Bool = λ (k : ℕ). has_use u h c k && is_tick_there c (slice_get h k) in
     (omega (arith, long, count_by-le-length (has_use u h c) (range_with_len 0 n)), omega (arith, long, count_by-le-length both (range_with_len 0 n)))
-
-time_is : (n : ℕ) (u : Use) (h : History) (c : ℕ) → time_in u (usage_to n h c) ≡ time_to n u h c
-time_is n Other h c = refl
-time_is n Agent h c = refl
-time_is n Busy h c = refl
-time_is n Wanted h c = refl
-time_is n Idle h c = refl
-
-pub usage_bound : (n : ℕ) (h : History) (c : ℕ) → AreAtMost n (usage_to n h c)
-usage_bound n h c = record {
-  entries = λ u. rw (time_is n u h c) (time_bound n u h c).0;
-  ticks = λ u. rw (time_is n u h c) (time_bound n u h c).1;
-}
 
 -- each entry adds to one time alone
 entries_spent : (v : Use) (e t : ℕ) (x : Usage) → all_entries (spend v e t x) ≡ all_entries x + e

@@ -149,9 +149,6 @@ entries_few h n first u t is i small = let few = (time_bound n u h (first + i)).
 pub ticks_few : (h : History) (n first : ℕ) (u : Use) (t : Tally) → IsTally h n first u t → (i : ℕ) → i < MOST_CPUS → ticks_in t i ≤ n
 ticks_few h n first u t is i small = let few = (time_bound n u h (first + i)).1 in let same = is.ticks i small in omega (arith, few, same)
 
-pub waiting_fits : (h : History) (n first : ℕ) (ts : ThreadsOf) (f : Facts) → n < length h → AreFacts h n first ts f → (i : ℕ) → i < MOST_CPUS → count_of f.waiting i + 1 < 2 ^ length f.waiting.words
-waiting_fits h n first ts f lt are i small = let few = are.few i small in let room = are.room in omega (arith, few, room, lt)
-
 -- a tick leaves all as it was but for the ticks
 pub tick_is : (x : Entry) (c : ℕ) → tick_cpu x ≡ Some c → x ≡ Posted (TimerTick c)
 tick_is (Posted (TimerTick k)) c e = let same : k ≡ c = cc in ap (λ (d : ℕ). Posted (TimerTick d)) same
@@ -196,10 +193,6 @@ threads_still h n c x ts lt is tick are =
     (λ t. sym (ap (λ (y : Entry). waits_then t y (waits ts t)) same))
     (λ t. sym (ap (λ (y : Entry). unwrap_or (mask_by t y) (row_of ts t).mask) same))
     (record { torn = omega (arith, le); rows = all_past_more n ts.rows are.past.rows })
-
--- before the first entry
-nothing_waits : (c : ℕ) → waiting no_threads c ≡ 0
-nothing_waits c = refl
 
 none_taken : (c : ℕ) → taken [] c ≡ false
 unfolding taken last_taken latest standing last_of

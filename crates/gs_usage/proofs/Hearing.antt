@@ -1,5 +1,5 @@
 -- What is known of the threads, one entry more.
-use Rattle.std.proofs.Common.{◌≡◌, refl, ap, sym, ◌∙◌, subst, ℕ, zero, suc, ◌+◌, ◌-◌, ◌<◌, ◌≤◌, ◌==◌, ◌⊎◌, inl, inr, Bool, true, false, cond, Option, None, Some, List, [], ◌∷◌, ◌++◌, get_or, length, slice_set, take, unwrap_or, arith}
+use Rattle.std.proofs.Common.{◌≡◌, refl, ap, sym, ◌∙◌, subst, ℕ, zero, suc, ◌+◌, ◌-◌, ◌<◌, ◌≤◌, ◌==◌, ◌⊎◌, inl, inr, Bool, false, cond, Option, None, Some, List, [], ◌∷◌, ◌++◌, get_or, length, slice_set, take, unwrap_or, arith}
 use Rattle.std.specs.List.{All, count_by}
 use Rattle.std.specs.Option.{option_map, option_or}
 use Rattle.std.proofs.lemmas.Bool.{cases_eq, cases_lt}
@@ -188,14 +188,6 @@ heard_so old rows n u e r v before after past longer lt stands about read become
     (subst (λ (m : ℕ). IsHeard n e (record { before = m; after = after }) old (written_over rows old.torn n u e)) first
     (subst (λ (m : ℕ). IsHeard n e (record { before = waits_for old.torn (get_or rows u unseen); after = m }) old (written_over rows old.torn n u e)) later
     (heard_row old rows n u e past longer lt stands about)))
-
--- where nothing changes
-pub covers_none : (w m c : ℕ) → cond (has 0 c) 1 0 ≤ w + cond (has m c) 1 0
-covers_none w m c = by_test (has 0 c) (cond (has m c) 1 0) (none_has c)
-  where
-    by_test : (b : Bool) (k : ℕ) → b ≡ false → cond b 1 0 ≤ w + k
-    by_test false k e = omega arith
-    by_test true k e = absurd cc
 
 pub stands : (e : Entry) → (e ≡ Torn → ⊥) → is_torn e ≡ false
 stands (Posted m) other = refl

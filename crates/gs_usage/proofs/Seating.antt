@@ -1,5 +1,5 @@
 -- Who is on each CPU, one placing or leaving later.
-use Rattle.std.proofs.Common.{◌≡◌, refl, ap, sym, ◌∙◌, ℕ, zero, suc, ◌<◌, ◌≤◌, ◌==◌, ◌&&◌, ◌||◌, ◌⊎◌, inl, inr, Bool, true, false, cond, None, Some, List, [], ◌∷◌, ◌++◌, get_or, length, slice_set, arith}
+use Rattle.std.proofs.Common.{◌≡◌, refl, ap, sym, ◌∙◌, ℕ, zero, suc, ◌<◌, ◌≤◌, ◌==◌, ◌&&◌, ◌||◌, ◌⊎◌, inl, inr, Bool, true, false, cond, List, [], ◌∷◌, ◌++◌, get_or, length, slice_set, arith}
 use Rattle.std.specs.Prelude.{not}
 use Rattle.std.proofs.lemmas.Bool.{cases_eq, cases_lt}
 use Rattle.std.proofs.lemmas.Bool.Decides.{nat_tests}
@@ -7,8 +7,7 @@ use Rattle.std.proofs.lemmas.List.{get_or-set_other, get_or-set_same, get_or_pas
 use Rattle.gs_status.specs.declared.mask.TheConstants.{MOST_CPUS}
 use Rattle.gs_status.specs.Masks.{has}
 use Rattle.gs_status.proofs.Laws.{nobody}
-use Rattle.gs_journal.specs.History.{is_thread}
-use Rattle.gs_usage.specs.Seats.{IsKept, who_at}
+use Rattle.gs_usage.specs.Seats.{IsKept}
 
 -- a list by tid of one place more
 pub room_more : (ps : List ℕ) (t : ℕ) → get_or (ps ++ 0 ∷ []) t 0 ≡ get_or ps t 0
@@ -28,16 +27,6 @@ set_at xs i j v lt = by_place (cases_eq j i)
         let test : (i == j) ≡ false = grind (arith, nat_tests) in
         get_or-set_other xs i j v 0 ne ∙ sym (ap (λ (b : Bool). cond b v (get_or xs j 0)) test)
 
--- who is on the CPUs is as it was, but for those that are left: by each case of the tests
-left_who : (a c : Bool) (o t : ℕ) → cond (a && not c) (Some o) None ≡ cond c None (cond a (Some o) None)
-left_who true true o t = refl
-left_who true false o t = refl
-left_who false true o t = refl
-left_who false false o t = refl
-
-pub freed_who : (b b' p i : ℕ) (ts : List ℕ) → has b' i ≡ (has b i && not (p == i)) → who_at b' ts i ≡ cond (p == i) None (who_at b ts i)
-freed_who b b' p i ts is = ap (λ (k : Bool). cond k (Some (get_or ts i 0)) None) is ∙ left_who (has b i) (p == i) (get_or ts i 0) 0
-
 -- whoever is on a CPU has a row
 same_number : (t : ℕ) → (t == t) ≡ true
 same_number t = grind (arith, nat_tests)
@@ -51,16 +40,6 @@ row_within b p t ts ps kept lt on is = by_length (cases_lt t (length ps))
     by_length : (t < length ps) ⊎ (length ps ≤ t) → t < length ps
     by_length (inl within) = within
     by_length (inr past) = absurd (let e : true ≡ false = sym there ∙ (ap (λ (k : ℕ). has k p) (get_or_past ps t 0 past) ∙ nobody p) in cc)
-
--- and a CPU that nobody is on is free as it is
-pub free_seat : (b p i : ℕ) (ts : List ℕ) → has b p ≡ false → who_at b ts i ≡ cond (p == i) None (who_at b ts i)
-free_seat b p i ts free = by_place (p == i) refl
-  where
-    by_place : (c : Bool) → (p == i) ≡ c → who_at b ts i ≡ cond c None (who_at b ts i)
-    by_place true at =
-        let same : p ≡ i = grind (arith, nat_tests) in
-        ap (λ (k : Bool). cond k (Some (get_or ts i 0)) None) (ap (has b) (sym same) ∙ free)
-    by_place false at = refl
 
 pub freed_kept : (b b' p m : ℕ) (ts ps : List ℕ) → IsKept b ts ps → p < MOST_CPUS → get_or ts p 0 < length ps → ((i : ℕ) → has b' i ≡ (has b i && not (p == i)))
     → ((i : ℕ) → has m i ≡ (has (get_or ps (get_or ts p 0) 0) i && not (p == i))) → IsKept b' ts (slice_set ps (get_or ts p 0) m)
@@ -103,18 +82,6 @@ freed_kept b b' p m ts ps kept lt within now left = record {
         ap (λ (k : ℕ). has k i) (set_at ps (get_or ts p 0) t m within ∙ ap (λ (c : Bool). cond c m (get_or ps t 0)) is)
         ∙ (kept.places t i small
         ∙ (apart i t (p == i) is refl ∙ ap (λ (k : Bool). k && (get_or ts i 0 == t)) (sym (now i))))
-
--- a thread is placed on a CPU that nobody is on
-pub placed_who : (b b' p t i : ℕ) (ts : List ℕ) → p < length ts → has b' i ≡ (has b i || (p == i)) → who_at b' (slice_set ts p t) i ≡ cond (p == i) (Some t) (who_at b ts i)
-placed_who b b' p t i ts within is =
-    ap (λ (k : Bool). cond k (Some (get_or (slice_set ts p t) i 0)) None) is
-    ∙ (ap (λ (k : ℕ). cond (has b i || (p == i)) (Some k) None) (set_at ts p i t within) ∙ by_cases (has b i) (p == i))
-  where
-    by_cases : (a c : Bool) → cond (a || c) (Some (cond c t (get_or ts i 0))) None ≡ cond c (Some t) (cond a (Some (get_or ts i 0)) None)
-    by_cases true true = refl
-    by_cases true false = refl
-    by_cases false true = refl
-    by_cases false false = refl
 
 pub placed_kept : (b b' p t m : ℕ) (ts ps : List ℕ) → IsKept b ts ps → p < MOST_CPUS → t < length ps → has b p ≡ false → ((i : ℕ) → has b' i ≡ (has b i || (p == i)))
     → ((i : ℕ) → has m i ≡ (has (get_or ps t 0) i || (p == i))) → IsKept b' (slice_set ts p t) (slice_set ps t m)
@@ -170,62 +137,3 @@ placed_kept b b' p t m ts ps kept lt within free now more = record {
     by_tid u i small false c is at =
         ap (λ (k : ℕ). has k i) (set_at ps t u m within ∙ ap (λ (k : Bool). cond k m (get_or ps u 0)) is)
         ∙ (kept.places u i small ∙ (other u i (p == i) refl ∙ sym (right u i false is)))
-
--- a thread leaves the CPUs that it is on
-left_at : (a e : Bool) (o t : ℕ) → (o == t) ≡ e → cond (a && not (a && e)) (Some o) None ≡ cond (is_thread t (cond a (Some o) None)) None (cond a (Some o) None)
-left_at true true o t is = sym (ap (λ (k : Bool). cond k None (Some o)) is)
-left_at true false o t is = sym (ap (λ (k : Bool). cond k None (Some o)) is)
-left_at false e o t is = refl
-
-pub left_seat : (b b' t i : ℕ) (ts ps : List ℕ) → IsKept b ts ps → i < MOST_CPUS → has b' i ≡ (has b i && not (has (get_or ps t 0) i)) → who_at b' ts i ≡ cond (is_thread t (who_at b ts i)) None (who_at b ts i)
-left_seat b b' t i ts ps kept small is =
-    ap (λ (k : Bool). cond k (Some (get_or ts i 0)) None) (is ∙ ap (λ (k : Bool). has b i && not k) (kept.places t i small))
-    ∙ left_at (has b i) (get_or ts i 0 == t) (get_or ts i 0) t refl
-
--- one that has no row is on none
-pub absent_seat : (b t i : ℕ) (ts ps : List ℕ) → IsKept b ts ps → i < MOST_CPUS → length ps ≤ t → who_at b ts i ≡ cond (is_thread t (who_at b ts i)) None (who_at b ts i)
-absent_seat b t i ts ps kept small past =
-    left_seat b b t i ts ps kept small (
-    let none : has (get_or ps t 0) i ≡ false = ap (λ (k : ℕ). has k i) (get_or_past ps t 0 past) ∙ nobody i in
-    sym (ap (λ (k : Bool). has b i && not k) none ∙ whole (has b i))
-    )
-  where
-    whole : (a : Bool) → (a && true) ≡ a
-    whole true = refl
-    whole false = refl
-
-pub left_kept : (b b' t : ℕ) (ts ps : List ℕ) → IsKept b ts ps → t < length ps → ((i : ℕ) → has b' i ≡ (has b i && not (has (get_or ps t 0) i))) → IsKept b' ts (slice_set ps t 0)
-left_kept b b' t ts ps kept within now = record {
-  room = kept.room;
-  places = λ u i small. by_tid u i small (t == u) refl;
-}
-  where
-    never : (a e : Bool) → false ≡ ((a && not (a && e)) && e)
-    never true true = refl
-    never true false = refl
-    never false e = refl
-
-    apart : (a e f : Bool) → (e ≡ true → f ≡ false) → (a && f) ≡ ((a && not (a && e)) && f)
-    apart true true f ne = ne refl
-    apart true false f ne = refl
-    apart false e f ne = refl
-
-    by_tid : (u i : ℕ) → i < MOST_CPUS → (e : Bool) → (t == u) ≡ e → has (get_or (slice_set ps t 0) u 0) i ≡ (has b' i && (get_or ts i 0 == u))
-    by_tid u i small true is =
-        let same : t ≡ u = grind (arith, nat_tests) in
-        ap (λ (k : ℕ). has k i) (set_at ps t u 0 within ∙ ap (λ (k : Bool). cond k 0 (get_or ps u 0)) is)
-        ∙ (nobody i
-        ∙ (never (has b i) (get_or ts i 0 == u)
-        ∙ sym (ap (λ (k : Bool). k && (get_or ts i 0 == u)) (now i ∙ ap (λ (k : Bool). has b i && not k) (ap (λ (k : ℕ). has (get_or ps k 0) i) same ∙ kept.places u i small)))))
-    by_tid u i small false is =
-        ap (λ (k : ℕ). has k i) (set_at ps t u 0 within ∙ ap (λ (k : Bool). cond k 0 (get_or ps u 0)) is)
-        ∙ (kept.places u i small
-        ∙ (apart (has b i) (get_or ts i 0 == t) (get_or ts i 0 == u) (λ at. grind (arith, nat_tests))
-        ∙ sym (ap (λ (k : Bool). k && (get_or ts i 0 == u)) (now i ∙ ap (λ (k : Bool). has b i && not k) (kept.places t i small)))))
-
--- nobody is on any
-pub cleared_kept : (b : ℕ) (ts ps : List ℕ) → IsKept b ts ps → IsKept 0 ts []
-cleared_kept b ts ps kept = record {
-  room = kept.room;
-  places = λ t i small. nobody i ∙ sym (ap (λ (k : Bool). k && (get_or ts i 0 == t)) (nobody i));
-}

@@ -1,6 +1,5 @@
 -- How much workers do.
-use Rattle.std.proofs.Common.{◌≡◌, sym, ◌∙◌, ap, ◌*◌, ◌+◌, ◌≤◌, List, map, length, arith}
-use Rattle.std.proofs.Math.Nat.{mul-le-mul_left, mul-le-mul_right}
+use Rattle.std.proofs.Common.{◌≡◌, sym, ◌∙◌, ap, ◌+◌, ◌≤◌, List, map, length, arith}
 use Rattle.std.proofs.lemmas.List.{length-map}
 use Rattle.std.proofs.lemmas.List.FromFn.{length-map-range_with_len}
 use Rattle.std.specs.Global.{Vec}
@@ -9,12 +8,6 @@ use Rattle.gs_runner.specs.declared.command.Command.{Command}
 use Rattle.gs_runner.specs.declared.step.Shift.{Shift}
 use Rattle.gs_workers.specs.Work.{IsAllowed, all_creations, creations, turns}
 use Rattle.gs_workers.specs.declared.work.Work.{Work}
-
-pub few_creations : (w : Work) → IsAllowed w → w.workers * w.each ≤ 16000
-few_creations w allowed =
-    let by_workers : w.workers * w.each ≤ 16 * w.each = mul-le-mul_right w.each allowed.few in
-    let by_each : 16 * w.each ≤ 16 * 1000 = mul-le-mul_left 16 allowed.bounded in
-    omega (arith, by_workers, by_each)
 
 pub two_shifts : (w : Work) (shifts : List (Shift FirstCome)) → map (λ s. s.steps.items) shifts ≡ turns w → length shifts ≡ 2
 two_shifts w shifts steps = sym (length-map shifts (λ s. s.steps.items)) ∙ ap length steps

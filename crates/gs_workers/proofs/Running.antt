@@ -4,27 +4,16 @@ use Rattle.std.specs.Global.{Vec}
 use Rattle.gs_policy.specs.declared.first_come.FirstCome.{FirstCome}
 use Rattle.gs_replies.specs.declared.config.ConfigFault.{ConfigFault}
 use Rattle.gs_runner.specs.Ends.{WhyNotRun}
-use Rattle.gs_runner.specs.Finishes.{IsFinished}
 use Rattle.gs_runner.specs.declared.command.Command.{Command}
-use Rattle.gs_runner.specs.declared.finished.Finished.{Finished}
 use Rattle.gs_runner.specs.declared.finished.RunFault.{RunFault}
 use Rattle.gs_runner.specs.declared.finished.RunFault.TheVariants as runs
 use Rattle.gs_runner.specs.declared.start.StartFault.TheVariants as starts
 use Rattle.gs_runner.specs.declared.start.TheConstants.{MOST_PARCELS}
 use Rattle.gs_runner.specs.declared.step.Shift.{Shift}
-use Rattle.gs_workers.specs.Work.{IsAllowed, all_creations, parcels, turns}
-use Rattle.gs_workers.specs.Written.{IsPossible, IsRunOf}
+use Rattle.gs_workers.specs.Work.{IsAllowed, all_creations, turns}
+use Rattle.gs_workers.specs.Written.{IsPossible}
 use Rattle.gs_workers.specs.declared.work.Work.{Work}
-use Rattle.gs_workers.proofs.Few.{few_threads, two_shifts}
-
-pub run_of : (w : Work) (lists : List (Vec Command)) (shifts : List (Shift FirstCome)) (f : Finished) → map (λ l. l.items) lists ≡ all_creations w → map (λ s. s.steps.items) shifts ≡ turns w
-    → IsFinished FirstCome (parcels w) lists (length shifts) f → IsRunOf w f
-run_of w lists shifts f commands steps finished =
-    record {
-      lists = lists;
-      commands = commands;
-      finished = subst (λ (n : ℕ). IsFinished FirstCome (parcels w) lists n f) (two_shifts w shifts steps) finished;
-    }
+use Rattle.gs_workers.proofs.Few.{few_threads}
 
 -- the numbers have no fault, and there are passes enough
 possible : (p : ℕ) (lists : List (Vec Command)) (n : ℕ) (fault : RunFault) → 0 < p → p ≤ MOST_PARCELS → n ≤ 32 → WhyNotRun None p lists n fault → IsPossible fault

@@ -2,5 +2,4 @@ pub mod Lists
 pub mod Masks
 pub mod Pairs
 pub mod Words
-mod Slices
 mod Worked
