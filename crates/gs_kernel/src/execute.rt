@@ -156,8 +156,7 @@ impl<P: Poster> Kernel<P> {
     /// Makes room for the entries of a command that has this refusal of its own, or refuses it. The enclave stands.
     #[inline(always)]
     fn admit(&mut self, own: Option<Refusal>, entries: usize) -> Result<(), Refusal>
-        requires few { entries ≤ 2 }
-        requires stands { torn self.old.history ≡ false }
+        requires { torn self.old.history ≡ false }
         ensures ok { OnOk result (unless_torn self.old.history (standing_with self.old.settings self.old.history own entries) ≡ None) }
         ensures room { OnOk result (entries ≤ self.new.room) }
         ensures same { self.new ≡ record self.old { room = self.new.room } }
@@ -187,6 +186,10 @@ impl<P: Poster> Kernel<P> {
     }
 
     /// Creates a thread: [`Kernel::execute`] of this one command, as each of the calls below.
+    ///
+    /// # Errors
+    ///
+    /// As of [`Kernel::execute`].
     pub fn create(&mut self, facts: &Facts) -> Result<Executed, Refusal>
         ensures { IsServed P.same P.consumed P.posted P.tight self.old (Command.Create facts.now) result self.new }
     {
@@ -199,6 +202,10 @@ impl<P: Poster> Kernel<P> {
     }
 
     /// Blocks a thread, on its CPU.
+    ///
+    /// # Errors
+    ///
+    /// As of [`Kernel::execute`].
     pub fn block(&mut self, tid: u32) -> Result<Executed, Refusal>
         ensures { IsServed P.same P.consumed P.posted P.tight self.old (Command.Thread tid ThreadEvent.Block) result self.new }
     {
@@ -206,6 +213,10 @@ impl<P: Poster> Kernel<P> {
     }
 
     /// Wakes a thread, which may run again.
+    ///
+    /// # Errors
+    ///
+    /// As of [`Kernel::execute`].
     pub fn wake(&mut self, tid: u32) -> Result<Executed, Refusal>
         ensures { IsServed P.same P.consumed P.posted P.tight self.old (Command.Thread tid ThreadEvent.Wake) result self.new }
     {
@@ -213,6 +224,10 @@ impl<P: Poster> Kernel<P> {
     }
 
     /// Gives up a thread's CPU. The thread may run on.
+    ///
+    /// # Errors
+    ///
+    /// As of [`Kernel::execute`].
     pub fn yield_cpu(&mut self, tid: u32) -> Result<Executed, Refusal>
         ensures { IsServed P.same P.consumed P.posted P.tight self.old (Command.Thread tid ThreadEvent.Yield) result self.new }
     {
@@ -220,6 +235,10 @@ impl<P: Poster> Kernel<P> {
     }
 
     /// Ends a thread.
+    ///
+    /// # Errors
+    ///
+    /// As of [`Kernel::execute`].
     pub fn die(&mut self, tid: u32) -> Result<Executed, Refusal>
         ensures { IsServed P.same P.consumed P.posted P.tight self.old (Command.Thread tid ThreadEvent.Die) result self.new }
     {
@@ -227,6 +246,10 @@ impl<P: Poster> Kernel<P> {
     }
 
     /// Sets the mask of a thread: from now on it may run on the CPUs of the mask.
+    ///
+    /// # Errors
+    ///
+    /// As of [`Kernel::execute`].
     pub fn affinity(&mut self, tid: u32, mask: Mask) -> Result<Executed, Refusal>
         ensures { IsServed P.same P.consumed P.posted P.tight self.old (Command.Thread tid (ThreadEvent.Affinity mask)) result self.new }
     {
@@ -234,6 +257,10 @@ impl<P: Poster> Kernel<P> {
     }
 
     /// Takes a CPU for the other scheduling class.
+    ///
+    /// # Errors
+    ///
+    /// As of [`Kernel::execute`].
     pub fn take(&mut self, cpu: u16) -> Result<Executed, Refusal>
         ensures { IsServed P.same P.consumed P.posted P.tight self.old (Command.Take cpu) result self.new }
     {
@@ -244,6 +271,10 @@ impl<P: Poster> Kernel<P> {
     }
 
     /// Gives a CPU back that the other scheduling class holds.
+    ///
+    /// # Errors
+    ///
+    /// As of [`Kernel::execute`].
     pub fn give(&mut self, cpu: u16) -> Result<Executed, Refusal>
         ensures { IsServed P.same P.consumed P.posted P.tight self.old (Command.Give cpu) result self.new }
     {
@@ -254,6 +285,10 @@ impl<P: Poster> Kernel<P> {
     }
 
     /// Ticks the timer of a CPU.
+    ///
+    /// # Errors
+    ///
+    /// As of [`Kernel::execute`].
     pub fn tick(&mut self, cpu: u16) -> Result<Executed, Refusal>
         ensures { IsServed P.same P.consumed P.posted P.tight self.old (Command.Tick cpu) result self.new }
     {
@@ -264,6 +299,10 @@ impl<P: Poster> Kernel<P> {
     }
 
     /// Hands the active agent over to a CPU.
+    ///
+    /// # Errors
+    ///
+    /// As of [`Kernel::execute`].
     pub fn hand_off(&mut self, cpu: u16) -> Result<Executed, Refusal>
         ensures { IsServed P.same P.consumed P.posted P.tight self.old (Command.HandOff cpu) result self.new }
     {
@@ -274,6 +313,10 @@ impl<P: Poster> Kernel<P> {
     }
 
     /// Ends the agent, which leaves or crashed.
+    ///
+    /// # Errors
+    ///
+    /// As of [`Kernel::execute`].
     pub fn leave(&mut self) -> Result<Executed, Refusal>
         ensures { IsServed P.same P.consumed P.posted P.tight self.old Command.Leave result self.new }
     {
@@ -284,6 +327,10 @@ impl<P: Poster> Kernel<P> {
     }
 
     /// Begins a new agent, which attaches then.
+    ///
+    /// # Errors
+    ///
+    /// As of [`Kernel::execute`].
     pub fn begin(&mut self) -> Result<Executed, Refusal>
         ensures { IsServed P.same P.consumed P.posted P.tight self.old Command.Begin result self.new }
     {
@@ -296,6 +343,10 @@ impl<P: Poster> Kernel<P> {
     }
 
     /// Activates the agent that attaches, on a CPU.
+    ///
+    /// # Errors
+    ///
+    /// As of [`Kernel::execute`].
     pub fn activate(&mut self, cpu: u16) -> Result<Executed, Refusal>
         ensures { IsServed P.same P.consumed P.posted P.tight self.old (Command.Activate cpu) result self.new }
     {
