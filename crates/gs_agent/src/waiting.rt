@@ -172,8 +172,8 @@ pub(crate) fn other_than(tid: u32, found: Option<u32>) -> Option<u32>
     found.filter(|found| *found != tid)
 }
 
-/// Brings the queue up to date after a message about a thread, of this kind, that view and beliefs followed: the thread
-/// is settled, and goes last anew if its turn ended. It has this class if it may run.
+/// Brings the queue up to date after a message about a thread, of this kind, that view and beliefs followed. The thread is settled, and
+/// goes last anew if its turn ended. It has this class if it may run.
 #[inline(always)]
 pub(crate) fn requeue(
     view: &AgentView,

@@ -255,8 +255,8 @@ seeds_in words = option_map_or (λ given. seeds_given given.1) (subcommand_of gh
 abbrev pub AreAllowedTicks : Option ℕ → Type 0
 AreAllowedTicks ticks = IfSome ticks (λ n. (LEAST_COUNT ≤ n) × (n ≤ MOST_TICKS))
 
--- a report shows as many lines as it may, a picture does not end before it begins, a table has one form, and there are as many ticks, workers and
--- creations as there may be
+-- a report shows as many lines as it may, a picture does not end before it begins, and a table has one form. There are as many ticks,
+-- workers and creations as there may be
 abbrev pub AsksAllowed : Command → Type 0
 AsksAllowed Run = ⊤
 AsksAllowed (Explain json) = ⊤

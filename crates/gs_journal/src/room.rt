@@ -12,8 +12,8 @@ const LEAST_ROOM: usize = 16;
 /// The lists grow to so many times their length.
 const GROWTH: usize = 4;
 
-/// Returns for how many more entries to make room if so many are asked for and so many are there: for [`GROWTH`] times as many
-/// in all, so that a list is seldom copied. It is never more than the limit leaves.
+/// Returns for how many more entries to make room if so many are asked for and so many are there. In all these are [`GROWTH`] times as
+/// many, so that a list is seldom copied. It is never more than the limit leaves.
 pub(crate) fn more_room(additional: usize, len: usize, left: usize) -> usize
     requires { additional ≤ left }
     ensures enough { additional ≤ result }

@@ -129,6 +129,8 @@ fn write_change(out: &mut Text, tid: u32, tseq: u32, change: &Change) -> Result<
     }
 }
 
+// A function for each word: one that is known where it is compiled is written without a call.
+
 /// Adds the line of a thread that was created.
 #[inline(never)]
 fn write_created(out: &mut Text, tid: u32, tseq: u32) -> Result<(), AllocError>
@@ -190,7 +192,7 @@ fn write_affinity(out: &mut Text, tid: u32, tseq: u32) -> Result<(), AllocError>
 fn write_off(out: &mut Text, tid: u32, tseq: u32, cpu: u16) -> Result<(), AllocError>
     ensures { OnOk result (out.new ≡ out.old ++ line (codes "affinity" ++ codes " " ++ decimal tid ++ codes " seq " ++ decimal tseq ++ codes " off " ++ decimal cpu)) }
 {
-    push_thread(out, "affinity", tid, tseq)?;
+    push_thread(out, AFFINITY, tid, tseq)?;
     out.push_between(" off ", cpu as u64, "\n")
 }
 

@@ -15,8 +15,8 @@ const SLOTS: &str = ",\"pid\":3,\"tid\":";
 
 const QUEUES: &str = ",\"pid\":4,\"tid\":";
 
-/// How the events of these begin, up to the number of a track: a slice with its length, its beginning, its end, and what
-/// happens at once, on its track or everywhere.
+/// How the events of these begin, up to the number of a track. They are a slice with its length, its beginning, its end, and what happens
+/// at once, on its track or everywhere.
 pub(crate) const CPU_SLICE: &str = ",\n{\"ph\":\"X\",\"pid\":1,\"tid\":";
 
 pub(crate) const CPU_BEGIN: &str = ",\n{\"ph\":\"B\",\"pid\":1,\"tid\":";

@@ -246,8 +246,8 @@ fn add_plain<'a, P: NamedPolicy>(text: &'a [u8], events: &mut Events<P>) -> Left
     }
 }
 
-/// Adds the event of a text's first line, if that is a frequent one in its plainest form, puts what is left behind the
-/// line into a place, and returns true. Or it changes nothing, and says nothing of the line.
+/// Adds the event of a text's first line, if that is a frequent one in its plainest form. Then puts what is left behind the line into a
+/// place, and returns true. Or it changes nothing, and says nothing of the line.
 #[inline(never)]
 pub(crate) fn pass_plain<'a, P: NamedPolicy>(
     text: &'a [u8],

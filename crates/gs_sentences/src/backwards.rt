@@ -31,7 +31,7 @@ pub(crate) fn put_text(array: &mut [u8], end: usize, bytes: &[u8]) -> usize
 }
 
 /// Writes a word so that it ends here, and returns where it begins. Byte by byte it takes no look whether the word overlaps with what is
-/// written, and the compiler puts the bytes of a word together that is known where it is compiled.
+/// written. The compiler puts the bytes of a word together that is known where it is compiled.
 #[inline(always)]
 pub(crate) fn put(array: &mut [u8], end: usize, word: &str) -> usize
     requires { (length word.now ≤ end) × (end ≤ length array.old) }

@@ -5,8 +5,8 @@ ghost use Rattle.gs_sentences.specs.Tails.{is_part};
 
 use gs_layout::Refusal;
 
-/// What is told of an event behind the script's line. Each but the first is the reply and the reason of a refusal, by the numbers that
-/// it tells of: of a thread or a CPU, and of the line and the place of the entry that is the reason.
+/// What is told of an event behind the script's line. Each but the first is the reply and the reason of a refusal, by the numbers that it
+/// tells of. These are of a thread or a CPU, and of the line and the place of the entry that is the reason.
 #[derive(Clone, Copy)]
 pub enum Tail {
     /// What stands in a text from one place to another.

@@ -36,7 +36,7 @@ lower _ = 0
 abbrev pub style : ℕ → List ℕ
 style width = if nat_le BORDERED width then codes "\" rx=\"3\" class=\"wide " else codes "\" class=\"bar "
 
--- the bar of a stay of a thread of this class: it begins where the entry stands that put the thread there, and ends where the one stands
+-- the bar of a stay of a thread of this class. It begins where the entry stands that put the thread there, and ends where the one stands
 -- that took it off
 abbrev pub bar_front : Scale → Option Class → Stay → List ℕ
 bar_front v class s =

@@ -215,8 +215,8 @@ impl Cluster {
         out.push_str(if self.mixed { MIXED } else { shape_of(outcome) })
     }
 
-    /// Adds the words beside the shapes, as many as end before `limit`: what came of the first landing that was not
-    /// placed, and of which thread, or how many were not.
+    /// Adds the words beside the shapes, as many as end before `limit`. They say what came of the first landing that was not placed, and of
+    /// which thread, or how many were not.
     fn write_words(&self, out: &mut Text, lives: &[Life], limit: u64) -> Result<(), AllocError>
         ensures { out.new.settled ≡ out.old.settled }
     {

@@ -369,8 +369,8 @@ fn draw<W: Write>(out: &mut Text, writer: &mut W, drawn: &Drawn<'_>) -> Result<(
     Ok(())
 }
 
-/// A picture of a history as SVG, of which nothing is written yet: a row for each of so many CPUs, and in it a bar for each
-/// stay of a thread. Above the bars of a CPU stand the decisions of the notes: each stamp, and each landing that was not
+/// A picture of a history as SVG, of which nothing is written yet. It has a row for each of so many CPUs, and in it a bar for each stay of
+/// a thread. Above the bars of a CPU stand the decisions of the notes: each stamp, and each landing that was not
 /// placed, with what it came to. Marks that are near to one another are drawn as one, and its title tells of the first few.
 /// Below the rows threads are listed.
 ///

@@ -32,9 +32,8 @@ pub(crate) fn words_of(outcome: Outcome) -> &'static str
     }
 }
 
-/// Returns the shape that stands for an outcome, about where a path is. No two have the same. What was decided on old
-/// knowledge is a cross or a diamond, what is so of the thread has three corners, what is so of the CPU four, and a limit
-/// that was met is two lines.
+/// Returns the shape that stands for an outcome, about where a path is. No two have the same. What was decided on old knowledge is a cross
+/// or a diamond. What is so of the thread has three corners, what is so of the CPU four, and a limit that was met is two lines.
 pub(crate) fn shape_of(outcome: Outcome) -> &'static str
     ensures { result.now ≡ outcome_shape outcome }
 {

@@ -77,8 +77,8 @@ pub(crate) fn write_label(
     out.push_str("</text>\n")
 }
 
-/// Returns the class of the style by which a thread is coloured: each class of threads has a hue of its own, and four
-/// shades of it, which its threads take in turn.
+/// Returns the class of the style by which a thread is coloured. Each class of threads has a hue of its own, and four shades of it, which
+/// its threads take in turn.
 pub(crate) fn shade_of(tid: u32, class: Option<Class>) -> &'static str
     ensures { result.now ≡ shade_of tid class }
 {

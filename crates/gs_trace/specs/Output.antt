@@ -87,8 +87,8 @@ history_shown notations.Json h = json_lines h
 abbrev pub IsTrace : ℕ → History → List ℕ → Type 0
 IsTrace cpus h out = (slices : List Stay) × IsPermutation (all_stays h cpus) slices × HasEach (map slice_front slices) out
 
--- a picture of the entries of a history from one place on, and to another: each stay of a thread on a CPU that ends at a later pixel than it
--- begins has its bar
+-- a picture of the entries of a history from one place on, and to another. Each stay of a thread on a CPU that ends at a later pixel than
+-- it begins has its bar
 abbrev pub IsPicture : ℕ → ℕ → ℕ → History → List ℕ → Type 0
 IsPicture from to cpus h out = HasEach (bars (scale_of (length h) from to) h cpus) out
 

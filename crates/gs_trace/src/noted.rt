@@ -62,7 +62,7 @@ fn page_after_came(line: usize, came: Came<'_>, page: Option<usize>) -> Option<u
 }
 
 impl Lines {
-    /// Notes what is so at the beginning: the header's line added one entry.
+    /// Notes what is so at the beginning: the header's line added one entry. It fails only if out of memory, as do the calls below.
     pub fn new(alloc: Global, header: usize) -> Result<Lines, AllocError>
         ensures entries { IfOk result (λ n. n.entries.items ≡ header ∷ []) }
         ensures stamped { IfOk result (λ n. n.stamped.items ≡ []) }

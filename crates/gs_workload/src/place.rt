@@ -64,8 +64,8 @@ fn header_of(part: Part) -> Option<Header> {
     Some(Header { name, place })
 }
 
-/// Returns the line, counted from 1, of a key of the whole document, or 0 if none is found: the one that gives it a
-/// value, or the first header that is named so.
+/// Returns the line, counted from 1, of a key of the whole document. It is the one that gives it a value, or the first header that is named
+/// so, or 0 if none is found.
 fn line_in_whole(text: &[u8], key: &[u8]) -> usize {
     let mut number = 0usize;
     let mut is_first = true;
@@ -88,8 +88,8 @@ fn line_in_whole(text: &[u8], key: &[u8]) -> usize {
     0
 }
 
-/// Returns the line of a key of the table behind a header: the one that gives it a value, or else that of the header,
-/// or 0 if neither is found.
+/// Returns the line of a key of the table behind a header. It is the one that gives it a value, or else that of the header, or 0 if neither
+/// is found.
 fn line_behind(text: &[u8], header: Header, key: &[u8]) -> usize {
     let name = header.name.word().as_bytes();
     let mut number = 0usize;

@@ -41,8 +41,8 @@ fn is_state(looks: &Looks) -> bool {
             && *known == thread.known)
 }
 
-/// Returns the first look that is not as it has to be after a replacing and a drain of all messages: the agent is active, all
-/// slots are idle, no message waits, and the agent knows the threads that live.
+/// Returns the first look that is not as it has to be after a replacing and a drain of all messages. The agent has to be active, all slots
+/// idle, and no message waits. It knows the threads that live.
 fn difference(looks: &Looks) -> Option<Look> {
     let right = [
         (

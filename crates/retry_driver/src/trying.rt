@@ -31,8 +31,8 @@ fn tried<W: Write>(
     Ok(reply)
 }
 
-/// Returns the first look that is not as it has to be after an event that was out of memory, by what was shown before, the
-/// reply, and what is shown after it. All is to be as before, but that a drain took in as many messages as it says.
+/// Returns the first look that is not as it has to be after an event that was out of memory. It is given what was shown before, the reply,
+/// and what is shown after it. All is to be as before, but that a drain took in as many messages as it says.
 fn difference(
     alloc: Global,
     before: &mut Looks,

@@ -84,8 +84,8 @@ fn is_displaced(receipt: Option<Receipt>) -> bool {
     }
 }
 
-/// Returns whether two seats, which have read the board before, read the generation and the CPU of an agent that was
-/// handed off, and whether a transaction that it stamped before is displaced.
+/// Returns whether two seats, which have read the board before, read the generation and the CPU of an agent that was handed off. Besides, a
+/// transaction that it stamped before has to be displaced.
 fn both_see<L: Site, R: Wait>(
     rt: &R,
     station: &Station<L>,

@@ -15,8 +15,8 @@
 //! | `lists L N` | makes the lists alone |
 //! | `watch L N` | runs L lists of N events each beside a shift that lands, turn by turn, and writes how each turn stood |
 //!
-//! For each command a number is written last: how many events were done or made, how many reads showed the first agent, how
-//! many turns landed, or how many nanoseconds it took.
+//! For each command a number is written last. It is how many events were done or made, how many reads showed the first agent, how many
+//! turns landed, or how many nanoseconds it took.
 #![tactic(auto)]
 
 ghost use Rattle.std.specs.Prelude.{◌<◌, IfSome, length};

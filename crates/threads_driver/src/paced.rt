@@ -11,8 +11,8 @@ pub(crate) const BATCH: u32 = 1_024;
 /// The most batches of calls that are begun before one of them is taken in.
 pub(crate) const AHEAD: u32 = 16;
 
-/// Lets each call of the shift, which comes behind the lists, wait for a further batch of a list's calls, each batch for the
-/// shift if it is too far behind, and all lists but the first for the threads.
+/// Lets each call of the shift, which comes behind the lists, wait for a further batch of a list's calls. Each batch waits for the shift if
+/// that is too far behind, and all lists but the first wait for the threads.
 #[derive(Drop)]
 pub(crate) struct Paced<'a, R: Wait> {
     rt: &'a R,

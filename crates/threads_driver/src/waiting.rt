@@ -1,8 +1,8 @@
 //! How many messages wait while lists are served and a shift drains, turn by turn.
 //!
 //! All events are of one thread, so its number tells how many messages were posted. In each turn the shift drains, stamps
-//! the thread by the number that it knows, and commits that. The call keeps both numbers: the one that was stamped is how
-//! many messages the shift had taken, and the one that the kernel saw is how many were posted when it landed.
+//! the thread by the number that it knows, and commits that. The call keeps both numbers. The one that was stamped is how many messages the
+//! shift had taken, and the one that the kernel saw is how many were posted when it landed.
 
 use crate::events::parcels;
 use crate::lists::{Crowd, Size, Work, make_lists};
