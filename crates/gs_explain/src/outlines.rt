@@ -303,8 +303,9 @@ impl<'a> Outlines<'a> {
         }
     }
 
-    /// Adds an event that was refused, and before which so many entries stand, as [`Outlines::push_told`] does.
-    #[inline(always)]
+    /// Adds an event that was refused, and before which so many entries stand, as [`Outlines::push_told`] does. It is called: with it in place the
+    /// loop over a script would be too large for the compiler to fold what stands around it.
+    #[inline(never)]
     pub(crate) fn push_refused(
         &mut self,
         said: &SaidLine<'a>,
