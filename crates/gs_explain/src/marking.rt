@@ -5,13 +5,29 @@ use gs_core::Transaction;
 use gs_reasons::Marks;
 use std::alloc::AllocError;
 
-/// Marks for each CPU the last transaction, among those from a place on. Those before it are marked.
+/// Marks for each CPU the last transaction, among those from a place on. Those before it are marked. Most events stamp nothing, and then
+/// nothing is called.
+#[inline(always)]
 #[tactic(auto, using(crate::proofs::Lasting::all_marked))]
 pub(crate) fn mark_last(
     last: &mut Marks,
     transactions: &[Transaction],
     from: usize,
 ) -> Result<(), AllocError>
+    requires within { from ≤ length transactions.now }
+    requires marked { IsMarked last.old.places.items (take from transactions.now) }
+    ensures { OnOk result (IsMarked last.new.places.items transactions.now) }
+{
+    if from == transactions.len() {
+        return Ok(());
+    }
+    mark_more(last, transactions, from)
+}
+
+/// Does the same, one transaction after another.
+#[inline(never)]
+#[tactic(auto, using(crate::proofs::Lasting::all_marked))]
+fn mark_more(last: &mut Marks, transactions: &[Transaction], from: usize) -> Result<(), AllocError>
     requires within { from ≤ length transactions.now }
     requires marked { IsMarked last.old.places.items (take from transactions.now) }
     ensures { OnOk result (IsMarked last.new.places.items transactions.now) }

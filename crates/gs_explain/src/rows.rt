@@ -1,6 +1,6 @@
 //! The rows of all events of a script.
 
-ghost use Rattle.std.specs.Prelude.{◌≡◌, ◌≤◌, ◌++◌, [], None, true, false, IfOk, IfSome, Ok, OnOk, OnErr, length, take};
+ghost use Rattle.std.specs.Prelude.{◌≡◌, ◌≤◌, ◌++◌, ◌∷◌, [], None, true, false, IfOk, IfSome, Ok, OnOk, OnErr, length, take};
 ghost use Rattle.std.specs.Io.KnownBytes.{Appends};
 ghost use Rattle.gs_journal.specs.Last.{entry_lent};
 ghost use Rattle.gs_reasons.specs.Kept.{HasHeard};
@@ -96,6 +96,17 @@ fn piece_of<'a>(
 {
     let (tail, _) = tail_of(scene, index, refusal)?;
     Piece::new(len, said, tail)
+}
+
+/// Adds a row that is put together at the end. It makes room by itself: a call that does both is not folded into the loop over a script.
+#[inline(always)]
+fn push_piece<'a>(pieces: &mut Vec<Piece<'a>>, piece: Piece<'a>) -> Result<(), AllocError>
+    ensures added { OnOk result (pieces.new.items ≡ pieces.old.items ++ piece.entry ∷ []) }
+    ensures kept { OnErr result (pieces.new.items ≡ pieces.old.items) }
+{
+    pieces.reserve(1)?;
+    pieces.push_reserved(piece);
+    Ok(())
 }
 
 impl<'a> Rows<'a> {
@@ -287,7 +298,7 @@ impl<'a> Rows<'a> {
     {
         match piece_of(self.page.as_bytes().len(), said, scene, index, refusal) {
             Some(piece) => {
-                self.pieces.push(piece)?;
+                push_piece(&mut self.pieces, piece)?;
                 Ok(true)
             }
             None => Ok(false),

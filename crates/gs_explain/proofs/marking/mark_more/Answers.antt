@@ -1,6 +1,6 @@
 use Rattle.std.proofs.Common.{arith}
 use Rattle.gs_explain.proofs.Lasting.{one_marked}
-use Rattle.gs_explain.proofs.marking.mark_last.Goals as goal
+use Rattle.gs_explain.proofs.marking.mark_more.Goals as goal
 
 pub loop-n-preserved : goal.loop-n-preserved
 loop-n-preserved c =
