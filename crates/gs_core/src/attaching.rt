@@ -129,7 +129,7 @@ impl<P: Counted + Copy> Machine<P> {
         Ok(Executed::Done)
     }
 
-    /// Tells the kernel that the agent is gone, and drops its role.
+    /// Tells the kernel that the agent is gone, and keeps its role for the next one.
     fn drop_agent(&mut self) -> Result<(), Refusal>
         requires { torn self.old.history ≡ false }
         ensures entry { OnOk result (last_entry self.new.history ≡ Entry.Left) }
