@@ -2,7 +2,7 @@
 import os
 import pathlib
 import re
-import resource
+import shutil
 import statistics
 import subprocess
 import tempfile
@@ -38,17 +38,32 @@ def instructions(command, script=b""):
     return int(re.search(rb"Collected : (\d+)", run([*valgrind, *command], script).stderr)[1])
 
 
-def children_time():
-    """The processor time of all commands that were run, in seconds."""
-    usage = resource.getrusage(resource.RUSAGE_CHILDREN)
-    return usage.ru_utime + usage.ru_stime
+def spent(command, script=b""):
+    """What the system counts of a command that reads the script from a file: of that process alone, and not of what starts it."""
+    with tempfile.TemporaryFile() as file, open(os.devnull, "wb") as nowhere:
+        file.write(script)
+        file.seek(0)
+        opened = [(os.POSIX_SPAWN_DUP2, one.fileno(), at) for at, one in enumerate((file, nowhere))]
+        child = os.posix_spawn(command[0], command, os.environ, file_actions=opened)
+        _, status, usage = os.wait4(child, 0)
+    if status:
+        raise subprocess.CalledProcessError(os.waitstatus_to_exitcode(status), command)
+    return usage
+
+
+def time_of(usage):
+    """The processor time, a program's own and the system's for it, in nanoseconds."""
+    return (usage.ru_utime + usage.ru_stime) * 1e9
 
 
 def nanoseconds(command, script=b""):
-    """The processor time that a command takes, its own and the system's for it."""
-    before = children_time()
-    run(command, script)
-    return (children_time() - before) * 1e9
+    """The processor time that a command takes."""
+    return time_of(spent(command, script))
+
+
+def most_memory(command, script=b""):
+    """The most memory that a command has at once, in KiB. The system counts what starts a process too, so that is a small program."""
+    return int(run([shutil.which("time"), "-f", "%M", *command], script).stderr.split()[-1])
 
 
 def cell(costs, digits=0):
