@@ -12,7 +12,6 @@ use Rattle.gs_slots.specs.Reading.{all_collected, by_cpu, collected_in, state_in
 use Rattle.gs_slots.specs.Spelling.{slot_spelling}
 use Rattle.gs_slots.specs.State.{Held, has_stamp}
 use Rattle.gs_slots.proofs.Laws.{all_left, by_cpu_count, read_spelt}
-use Rattle.std.proofs.lemmas.List.{length-append}
 
 -- a state that is read of bytes is spelt by them
 pub read_bytes : (k : ℕ) (x : List ℕ) (z : SlotState) → state_in k x ≡ Ok z → x ≡ slot_spelling k z

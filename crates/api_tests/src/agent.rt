@@ -282,6 +282,17 @@ fn decided<P: Policy>(
     role.decide(alloc, taken)
 }
 
+/// What a role puts into a list, by the bound alone.
+fn decided_into<P: Policy>(
+    alloc: Global,
+    role: &Role<P>,
+    taken: Mask,
+) -> Result<Vec<Choice>, AllocError> {
+    let mut choices = Vec::new(alloc);
+    role.decide_into(alloc, taken, &mut choices)?;
+    Ok(choices)
+}
+
 /// How many choices a role counts, by the bound alone.
 fn counted<P: Counted>(role: &Role<P>, taken: Mask) -> usize {
     role.count(taken)
@@ -387,11 +398,14 @@ fn first_wrong_slot(
     None
 }
 
-/// Whether a role decides this.
+/// Whether a role decides this, and puts it into a list.
 fn is_decided<P: Policy>(alloc: Global, role: &Role<P>, taken: Mask, expected: Plan) -> bool {
-    match decided(alloc, role, taken) {
-        Ok(choices) => is_plan(&choices, expected),
-        Err(_) => false,
+    match (
+        decided(alloc, role, taken),
+        decided_into(alloc, role, taken),
+    ) {
+        (Ok(choices), Ok(put)) => is_plan(&choices, expected) && is_plan(&put, expected),
+        _ => false,
     }
 }
 

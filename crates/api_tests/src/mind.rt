@@ -242,10 +242,15 @@ fn first_unplanned<P: Counted>(
     policy: &P,
     plans: &[PlanRow],
 ) -> Result<Option<usize>, AllocError> {
+    let mut kept = Vec::new(alloc);
     for (index, (taken, expected)) in plans.iter().enumerate() {
         let taken = Mask::new(*taken);
         let choices = mind.plan(alloc, policy, taken)?;
-        if !is_plan(&choices, expected) || mind.count(policy, taken) != expected.len() {
+        mind.plan_into(alloc, policy, taken, &mut kept)?;
+        let well = is_plan(&choices, expected)
+            && is_plan(&kept, expected)
+            && mind.count(policy, taken) == expected.len();
+        if !well {
             return Ok(Some(index));
         }
     }

@@ -291,16 +291,36 @@ fn planned<P: Policy>(
     policy.plan(alloc, &situation.view, &situation.shown(), &situation.queue)
 }
 
+/// What a policy puts into a list that had another choice, by its trait alone.
+fn planned_into<P: Policy>(
+    alloc: Global,
+    policy: &P,
+    situation: &Situation,
+) -> Result<Vec<Choice>, AllocError> {
+    let mut choices = Vec::new(alloc);
+    choices.push(choice(2, 9, true))?;
+    policy.plan_into(
+        alloc,
+        &situation.view,
+        &situation.shown(),
+        &situation.queue,
+        &mut choices,
+    )?;
+    Ok(choices)
+}
+
 /// How many choices a policy counts, by its trait alone.
 fn counted<P: Counted>(policy: &P, situation: &Situation) -> usize {
     policy.count(&situation.view, &situation.shown(), &situation.queue)
 }
 
-/// Whether a policy plans this.
+/// Whether a policy plans this, and puts it into a list.
 fn plans<P: Policy>(alloc: Global, policy: &P, situation: &Situation, expected: Plan) -> bool {
-    match planned(alloc, policy, situation) {
-        Ok(choices) => is_plan(&choices, expected),
-        Err(_) => false,
+    let made = planned(alloc, policy, situation);
+    let put = planned_into(alloc, policy, situation);
+    match (made, put) {
+        (Ok(made), Ok(put)) => is_plan(&made, expected) && is_plan(&put, expected),
+        _ => false,
     }
 }
 

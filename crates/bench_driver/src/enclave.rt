@@ -8,7 +8,7 @@ use gs_kernel::{Kernel, LEAST_CPUS, LEAST_GENERATION, Landing, MOST_HISTORY, Set
 use gs_layout::{Class, Facts, Name};
 use gs_policy::{Choice, FirstCome};
 use gs_ring::ByteRing;
-use gs_slots::{Flags, Region};
+use gs_slots::{Flags, Region, SlotState, Stamp};
 use gs_status::{MOST_CPUS, Mask};
 use std::alloc::Global;
 
@@ -32,6 +32,8 @@ pub(crate) struct Enclave {
     role: Role<FirstCome>,
     region: Region,
     mask: Mask,
+    /// What was decided last. The next decision has its memory.
+    choices: Vec<Choice>,
     /// What became of the slots of the last commit. The next one has its memory.
     landings: Vec<Landing>,
 }
@@ -84,6 +86,7 @@ impl Enclave {
             role,
             region,
             mask,
+            choices: Vec::new(alloc),
             landings: Vec::new(alloc),
         })
     }
@@ -124,28 +127,54 @@ impl Enclave {
         self.role.drain(&mut head, MANY).count
     }
 
-    /// The agent stamps a choice.
+    /// The agent stamps a choice, as the machine does.
     fn stamp(&mut self, choice: Choice) {
-        if choice.cpu < self.region.cpus() {
-            let slot = self.region.slot(choice.cpu);
-            let flags = Flags::single(choice.preempt);
-            let _ = self.role.stamp(slot, choice.tid, flags);
+        let Some((_, tseq)) = self.role.view().get(choice.tid) else {
+            return;
+        };
+        if choice.cpu >= self.region.cpus() {
+            return;
+        }
+        let stamp = Stamp {
+            generation: self.role.generation(),
+            tid: choice.tid,
+            tseq,
+            flags: Flags::single(choice.preempt),
+        };
+        if self.region.stamp(choice.cpu, &stamp).is_ok() {
+            self.role.note_stamp(choice.cpu, choice.tid);
         }
     }
 
-    /// The agent commits all slots and takes in what became of them: how many landed.
+    /// The slot of a CPU lands, and the agent takes in what became of it.
+    fn land(&mut self, cpu: u16) {
+        if cpu >= self.region.cpus() || cpu >= self.kernel.settings().cpus {
+            return;
+        }
+        let Ok(SlotState::Stamped { stamp }) = self.region.state(cpu) else {
+            return;
+        };
+        if let Ok(landing) = self.kernel.land_stamp(cpu, &stamp) {
+            self.role.learn(cpu, &stamp, landing.outcome, landing.at);
+            self.region.clear_slot(cpu);
+            let _ = self.landings.push(landing);
+        }
+    }
+
+    /// All slots land, as a commit of the machine does it if there are no groups: how many.
     fn commit(&mut self) -> usize {
-        if self.region.cpus() != self.kernel.settings().cpus {
+        if self.kernel.commit_refusal(self.mask).is_some() {
             return 0;
         }
         self.landings.clear();
-        let _ = self.kernel.txns_commit_into(
-            self.alloc,
-            &mut self.region,
-            self.mask,
-            &mut self.landings,
-        );
-        self.role.collect(&mut self.region);
+        let mut left = self.mask.both(self.region.may_be_busy());
+        for _ in 0..MOST_CPUS {
+            let Some(cpu) = left.lowest() else {
+                break;
+            };
+            self.land(cpu);
+            left = left.without(cpu);
+        }
         self.landings.len()
     }
 
@@ -172,33 +201,65 @@ impl Enclave {
 
     /// What the policy plans is stamped and committed, and all that were placed yield: how many slots landed.
     pub(crate) fn decide(&mut self) -> usize {
-        let Ok(choices) = self.role.decide(self.alloc, self.kernel.taken()) else {
+        let taken = self.kernel.taken();
+        if self
+            .role
+            .decide_into(self.alloc, taken, &mut self.choices)
+            .is_err()
+        {
             return 0;
-        };
-        for choice in &choices {
-            self.stamp(*choice);
+        }
+        for n in 0..self.choices.len() {
+            let chosen = self.choices.get(n).copied();
+            if let Some(choice) = chosen {
+                self.stamp(choice);
+            }
         }
         let landed = self.commit();
-        for choice in &choices {
+        for choice in &self.choices {
             let _ = self.kernel.yield_cpu(choice.tid);
         }
         landed
     }
 
-    /// A new agent takes the place of the one before: how many threads it was told of. `None` if out of
-    /// memory.
-    pub(crate) fn attach(&mut self, threads: u32) -> Option<usize> {
-        let _ = self.kernel.leave();
-        let _ = self.kernel.begin();
-        let generation = self.kernel.attaching()?;
-        let cpus = self.kernel.settings().cpus;
-        self.role = Role::attach(self.alloc, FirstCome, cpus, generation).ok()?;
+    /// A new agent takes the place of the one before, in its memory. Returns the enclave, and how many threads the agent was
+    /// told of. `None` if out of memory.
+    pub(crate) fn attach(self, threads: u32) -> Option<(Enclave, usize)> {
+        let Enclave {
+            alloc,
+            mut kernel,
+            role,
+            region,
+            mask,
+            choices,
+            landings,
+        } = self;
+        let _ = kernel.leave();
+        let _ = kernel.begin();
+        let generation = kernel.attaching()?;
+        let cpus = kernel.settings().cpus;
+        let role = role.succeed(alloc, FirstCome, cpus, generation).ok()?;
+        let mut enclave = Enclave {
+            alloc,
+            kernel,
+            role,
+            region,
+            mask,
+            choices,
+            landings,
+        };
+        let told = enclave.load(threads)?;
+        let _ = enclave.kernel.activate(0);
+        enclave.role.promote(generation, 0);
+        Some((enclave, told))
+    }
+
+    /// The agent is told of all threads, page by page: how many.
+    fn load(&mut self, threads: u32) -> Option<usize> {
         let mut told: usize = 0;
         for _ in 0..=threads / PAGE as u32 {
             told = told.wrapping_add(self.load_page()?);
         }
-        let _ = self.kernel.activate(0);
-        self.role.promote(generation, 0);
         Some(told)
     }
 

@@ -10,13 +10,20 @@ use std::alloc::Global;
 
 /// What happens in a round.
 #[derive(Clone, Copy, PartialEq, Eq, Debug)]
-pub(crate) enum Kind {
+pub(crate) enum Round {
     /// A thread is told its mask anew, and the message is drained.
-    Affinities,
+    Affinity,
     /// A thread is placed, blocks and wakes, and the messages are drained.
-    Blocks,
+    Block,
     /// What the policy plans is stamped and committed; all that were placed yield, and the messages are drained.
-    Decides,
+    Decision,
+}
+
+/// What happens again and again.
+#[derive(Clone, Copy, PartialEq, Eq, Debug)]
+pub(crate) enum Kind {
+    /// Rounds of one agent.
+    Rounds(Round),
     /// A new agent takes the place of the one before, and is told of all threads.
     Attaches,
 }
@@ -25,9 +32,9 @@ impl Kind {
     /// The kind that a word names.
     pub(crate) fn named(word: &str) -> Option<Kind> {
         match word {
-            "affinities" => Some(Kind::Affinities),
-            "blocks" => Some(Kind::Blocks),
-            "decides" => Some(Kind::Decides),
+            "affinities" => Some(Kind::Rounds(Round::Affinity)),
+            "blocks" => Some(Kind::Rounds(Round::Block)),
+            "decides" => Some(Kind::Rounds(Round::Decision)),
             "attaches" => Some(Kind::Attaches),
             _ => None,
         }
@@ -78,42 +85,64 @@ impl Size {
     }
 
     /// Runs the rounds in a new enclave. How much came of them: messages drained, slots landed or threads told of.
-    /// `None` if out of memory before the first.
+    /// `None` if out of memory for the enclave or for an agent.
     pub(crate) fn run(self, alloc: Global, kind: Kind) -> Option<u64>
         requires threads { 0 < self.threads }
         requires few { LEAST_CPUS ≤ self.cpus }
         requires most { self.cpus ≤ MOST_CPUS }
     {
-        let mut enclave = Enclave::open(alloc, self.threads, self.cpus)?;
+        let enclave = Enclave::open(alloc, self.threads, self.cpus)?;
+        match kind {
+            Kind::Rounds(round) => Some(self.run_rounds(round, enclave)),
+            Kind::Attaches => self.attach_all(enclave),
+        }
+    }
+
+    /// Runs rounds of one agent: how much came of them.
+    fn run_rounds(self, round: Round, mut enclave: Enclave) -> u64
+        requires threads { 0 < self.threads }
+        requires cpus { LEAST_CPUS ≤ self.cpus }
+    {
         let mut sum: u64 = 0;
         for turn in 0..self.rounds {
-            sum = sum.wrapping_add(self.round(kind, &mut enclave, turn));
+            let came = self.run_round(round, &mut enclave, turn);
+            sum = sum.wrapping_add(came as u64);
         }
-        Some(sum)
+        sum
     }
 
     /// How much came of a round.
-    fn round(self, kind: Kind, enclave: &mut Enclave, turn: u32) -> u64
+    fn run_round(self, round: Round, enclave: &mut Enclave, turn: u32) -> usize
         requires threads { 0 < self.threads }
         requires cpus { LEAST_CPUS ≤ self.cpus }
     {
         let (tid, cpu) = self.subject(turn);
-        match kind {
-            Kind::Affinities => {
+        match round {
+            Round::Affinity => {
                 enclave.tell_mask(tid);
-                enclave.drain() as u64
+                enclave.drain()
             }
-            Kind::Blocks => {
+            Round::Block => {
                 enclave.place(tid, cpu);
                 enclave.block_and_wake(tid);
-                enclave.drain() as u64
+                enclave.drain()
             }
-            Kind::Decides => {
+            Round::Decision => {
                 let landed = enclave.decide();
                 enclave.drain();
-                landed as u64
+                landed
             }
-            Kind::Attaches => enclave.attach(self.threads).unwrap_or(0) as u64,
         }
+    }
+
+    /// One agent after another is told of all threads: of how many in all. `None` if out of memory for one.
+    fn attach_all(self, mut enclave: Enclave) -> Option<u64> {
+        let mut sum: u64 = 0;
+        for _ in 0..self.rounds {
+            let (left, told) = enclave.attach(self.threads)?;
+            enclave = left;
+            sum = sum.wrapping_add(told as u64);
+        }
+        Some(sum)
     }
 }

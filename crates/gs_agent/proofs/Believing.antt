@@ -3,14 +3,18 @@ use Rattle.std.proofs.Common.{◌≡◌, refl, ap, sym, ◌∙◌, ℕ, zero, su
 use Rattle.std.specs.Prelude.{nat_lt, length, slice_index_or}
 use Rattle.std.specs.List.{list_any}
 use Rattle.std.proofs.lemmas.Bool.Decides.{nat_tests}
+use Rattle.gs_layout.specs.declared.message.Change.{Change}
+use Rattle.gs_layout.specs.declared.message.Change.TheVariants.{Created, Blocked, Wakeup, Preempted, Yield, Dead, Affinity}
 use Rattle.gs_layout.specs.declared.message.Message.{Message}
 use Rattle.gs_layout.specs.declared.message.Message.TheVariants.{Thread, TimerTick}
 use Rattle.gs_layout.specs.declared.outcome.Outcome.{Outcome}
 use Rattle.gs_layout.specs.Message.{is_about, takes_off_cpu}
+use Rattle.gs_layout.specs.Spelling.{tid_of}
 use Rattle.gs_beliefs.specs.declared.running.Running.{Running}
 use Rattle.gs_beliefs.specs.Cpus.{Cpus, believed_on, cleared_at, clears, is_believed, is_just, is_named, places, raised_at, raises, running, runs, stamp_on, ticked, ticks}
 use Rattle.gs_beliefs.proofs.Laws.{believed_on_clears}
 use Rattle.gs_beliefs.specs.Belief.{after_outcome, hears, shows_place}
+use Rattle.gs_agent.specs.Picture.{ends_own_turn, ends_turn}
 
 -- a test that holds of as many elements as before
 any_map : {A : Type 0} (p : A → Bool) (f : A → A) (xs : List A) → ((x : A) → p (f x) ≡ p x) → list_any p (map f xs) ≡ list_any p xs
@@ -62,6 +66,33 @@ believed_hears (Thread t k change) u s n = by_test (takes_off_cpu change)
     by_test : (b : Bool) → is_believed (cond b (clears t s) (raises t k s)) u ≡ is_believed s u
     by_test true = believed_clears t u s n
     by_test false = believed_raises t k u s
+
+-- a message that ends its thread's turn leaves it believed to run nowhere
+runs_cleared_not : (t : ℕ) (o : Option Running) → runs t (cleared_at t o) ≡ false
+runs_cleared_not t None = refl
+runs_cleared_not t (Some r) = by_test (r.tid == t) refl
+  where
+    by_test : (b : Bool) → (r.tid == t) ≡ b → runs t (cond b None (Some r)) ≡ false
+    by_test true e = refl
+    by_test false e = e
+
+any_cleared : (t : ℕ) (xs : List (Option Running)) → list_any (runs t) (map (cleared_at t) xs) ≡ false
+any_cleared t [] = refl
+any_cleared t (x ∷ xs) = ap (λ (b : Bool). b || list_any (runs t) (map (cleared_at t) xs)) (runs_cleared_not t x) ∙ any_cleared t xs
+
+ends_off : (c : Change) → ends_turn c ≡ true → takes_off_cpu c ≡ true
+ends_off (Preempted c) e = refl
+ends_off (Yield c) e = refl
+ends_off (Created f) e = absurd cc
+ends_off (Blocked c) e = absurd cc
+ends_off Wakeup e = absurd cc
+ends_off (Dead c) e = absurd cc
+ends_off (Affinity c off m) e = absurd cc
+
+pub turn_ended : (m : Message) (s s' : Cpus) → s' ≡ hears m s → ends_own_turn m ≡ true → is_believed s' (tid_of m) ≡ false
+turn_ended (TimerTick c) s s' a e = absurd cc
+turn_ended (Thread t n change) s s' a e =
+    ap (λ (x : Cpus). is_believed x t) (a ∙ ap (λ (b : Bool). cond b (clears t s) (raises t n s)) (ends_off change e)) ∙ any_cleared t s.believed
 
 pub named_hears : (m : Message) (u : ℕ) (s : Cpus) → is_named (hears m s) u ≡ is_named s u
 named_hears (TimerTick c) u s = refl

@@ -45,7 +45,7 @@ in_settled v s t u q = by_waits (waits v s t) refl (is_in t (order q)) refl (u =
     by_waits false w i ii false e = in_removed u t q ∙ (ap (λ (z : Bool). is_in u (order q) && not z) e ∙ and-true (is_in u (order q)))
 
 -- a thread that is in the queue if it waits, and else not, is settled
-settled_kept : (v : Look) (s : Cpus) (t : ℕ) (q : Queue) → is_in t (order q) ≡ waits v s t → settled v s t q ≡ q
+pub settled_kept : (v : Look) (s : Cpus) (t : ℕ) (q : Queue) → is_in t (order q) ≡ waits v s t → settled v s t q ≡ q
 settled_kept v s t q e = by_waits (waits v s t) e
   where
     by_waits : (w : Bool) → is_in t (order q) ≡ w → cond w (cond (is_in t (order q)) q (goes_last (v t) t q)) (removed t q) ≡ q

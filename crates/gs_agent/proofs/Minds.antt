@@ -1,5 +1,5 @@
 -- A mind after a stamp, a collected slot or a message.
-use Rattle.std.proofs.Common.{◌≡◌, ◌≢◌, refl, ap, sym, ◌∙◌, subst, ℕ, ◌≤◌, ◌==◌, ◌&&◌, ◌⊎◌, inl, inr, not, Bool, true, false, cond, Option, None, Some, List, ◌∷◌, ◌++◌, arith}
+use Rattle.std.proofs.Common.{◌≡◌, ◌≢◌, refl, ap, sym, ◌∙◌, subst, ℕ, ◌<◌, ◌≤◌, length, ◌==◌, ◌&&◌, ◌⊎◌, inl, inr, not, Bool, true, false, cond, Option, None, Some, List, ◌∷◌, ◌++◌, arith}
 use Rattle.std.specs.Option.{option_to_list}
 use Rattle.std.specs.Prelude.{is_some}
 use Rattle.std.proofs.lemmas.Bool.{eqb-true}
@@ -15,7 +15,7 @@ use Rattle.gs_layout.specs.declared.message.Message.TheVariants.{Thread, TimerTi
 use Rattle.gs_layout.specs.Message.{is_creation}
 use Rattle.gs_layout.specs.Spelling.{IsSpellable, kind_of, kind_of_change, tid_of}
 use Rattle.gs_layout.specs.View.{Look, apply, learn, next_known, word, word_at}
-use Rattle.gs_beliefs.specs.Cpus.{Cpus, stamp_on, stamps}
+use Rattle.gs_beliefs.specs.Cpus.{Cpus, places, stamp_on, stamps, unstamps}
 use Rattle.gs_beliefs.specs.Belief.{hears}
 use Rattle.gs_runq.specs.Queue.{IsTid, Queue, is_in, order, removed}
 use Rattle.gs_view.specs.Begins.{begins}
@@ -27,6 +27,7 @@ use Rattle.gs_agent.specs.Mind.{MindState, bare}
 use Rattle.gs_agent.specs.Picture.{HoldsWaiting, Picture, displaced, ends_own_turn, ends_turn, other_than, parts, requeued, settled, settled_all, after_message, after_message_by, waits}
 use Rattle.gs_agent.proofs.Rooms.{bare_requeued}
 use Rattle.gs_agent.proofs.Followed.{holds_news, settled_append, settled_other, touched}
+use Rattle.gs_agent.proofs.Settling.{settled_placed}
 
 -- minds with the same parts are the same
 abbrev pub mind_of : List (ℕ × Known) → Cpus → Queue → MindState
@@ -48,10 +49,9 @@ named_queue v s q q' q'' t named other a d e =
     ∙ (ap (settled_all v s (option_to_list (other_than t named))) d ∙ (settled_other v s t named q ∙ ap (settled_all v s (option_to_list named)) (sym d))))
 
 -- the queue after a message about a thread
-pub requeued_by : (v : Look) (s : Cpus) (q q' q'' : Queue) (m : Message) (k : Kind) (t : ℕ) → k ≡ kind_of m → k ≢ kinds.TimerTick → t ≡ tid_of m → q' ≡ cond (ends_own_turn m) (removed t q) q → q'' ≡ settled v s t q' → q'' ≡ requeued v s m q
-requeued_by v s q q' q'' (TimerTick c) k t kind other tid d e = absurd (other kind)
-requeued_by v s q q' q'' (Thread u n change) k t kind other tid d e =
-    e ∙ (ap (settled v s t) d ∙ ap (λ (x : ℕ). settled v s x (cond (ends_turn change) (removed x q) q)) tid)
+pub requeued_by : (v : Look) (s : Cpus) (q q' : Queue) (m : Message) (k : Kind) (t : ℕ) → k ≡ kind_of m → k ≢ kinds.TimerTick → t ≡ tid_of m → q' ≡ settled v s t (cond (ends_own_turn m) (removed t q) q) → q' ≡ requeued v s m q
+requeued_by v s q q' (TimerTick c) k t kind other tid d = absurd (other kind)
+requeued_by v s q q' (Thread u n change) k t kind other tid d = d ∙ ap (λ (x : ℕ). settled v s x (cond (ends_turn change) (removed x q) q)) tid
 
 -- a change is no tick
 no_tick : (c : Change) → kind_of_change c ≡ kinds.TimerTick → ⊥
@@ -76,6 +76,19 @@ slot_queue v s s' q q' q'' q''' c at t named there a b d e f =
     ∙ (sym (settled_append v s' (option_to_list named) (option_to_list there) (settled v s' t q))
     ∙ (ap (λ (o : Option ℕ). settled_all v s' (option_to_list o ++ option_to_list there) (settled v s' t q)) a
     ∙ ap (λ (o : Option ℕ). settled_all v s' (option_to_list (stamp_on s c) ++ option_to_list o) (settled v s' t q)) b)))
+
+-- the queue after the thread that a stamp names is believed to run on a CPU
+pub placed_queue : (v : Look) (s s' : Cpus) (q q' : Queue) (c p t n : ℕ) (there : Option ℕ) → p < length s.believed → stamp_on s c ≡ Some t → HoldsWaiting v s q → s' ≡ unstamps c (places p t n s)
+    → there ≡ displaced s (Some p) → q' ≡ settled_all v s' (option_to_list there) q → q' ≡ settled_all v (unstamps c (places p t n s)) (touched s c (Some p) t) q
+placed_queue v s s' q q' c p t n there below named h a b d =
+    let after : Cpus = unstamps c (places p t n s) in
+    let on : Option ℕ = displaced s (Some p) in
+    let kept : settled v after t q ≡ q = settled_placed v s c p t n q below named h in
+    d
+    ∙ (ap (λ (x : Cpus). settled_all v x (option_to_list there) q) a
+    ∙ (ap (λ (o : Option ℕ). settled_all v after (option_to_list o) q) b
+    ∙ (ap (settled_all v after (option_to_list on)) (sym (ap (settled v after t) kept ∙ kept))
+    ∙ ap (λ (o : Option ℕ). settled_all v after (t ∷ option_to_list o ++ option_to_list on) q) (sym named))))
 
 pub same_waiting : (v : Look) (s s' : Cpus) (q q' : Queue) → s' ≡ s → q' ≡ q → HoldsWaiting v s q → HoldsWaiting v s' q'
 same_waiting v s s' q q' a b h = λ u. ap (λ (x : Queue). is_in u (order x)) b ∙ (h u ∙ ap (λ (x : Cpus). waits v x u) (sym a))

@@ -27,12 +27,7 @@ pub(crate) fn drain_into<T: Taker>(mind: &mut Mind, taker: &mut T, max: u32) -> 
     ensures memory { result.stop ≡ Some Stop.Memory → (m : Message) × T.ahead taker.new (m ∷ []) × (begins (look_up mind.new.records) m ≡ true) }
 {
     let max = max as usize;
-    let mut drained = Drained {
-        count: 0,
-        skipped: 0,
-        orphans: 0,
-        stop: None,
-    };
+    let mut drained = Drained::NOTHING;
     'draining: while drained.count < max {
         let before = drained.count;
         drained = follow_first(mind, taker.batch(), max, drained);

@@ -19,3 +19,13 @@ pub struct Drained {
     /// Why it stopped early, if it did.
     pub stop: Option<Stop>,
 }
+
+impl Drained {
+    /// It followed no message yet.
+    pub const NOTHING: Drained = Drained {
+        count: 0,
+        skipped: 0,
+        orphans: 0,
+        stop: None,
+    };
+}

@@ -1,5 +1,5 @@
-ghost use Rattle.std.specs.Prelude.{◌≡◌, ◌≢◌, ◌↔◌, ◌≤◌, Err, IfOk, OnOk, OnErr, length, true};
-ghost use Rattle.gs_beliefs.specs.Cpus.{believed_on, unknown};
+ghost use Rattle.std.specs.Prelude.{◌≡◌, ◌≢◌, ◌↔◌, ◌<◌, ◌≤◌, [], ℕ, Err, IfOk, OnOk, OnErr, length, true};
+ghost use Rattle.gs_beliefs.specs.Cpus.{believed_on, stamp_on, unknown};
 ghost use Rattle.gs_layout.specs.Spelling.{kind_of};
 ghost use Rattle.gs_layout.specs.View.{is_gap, look_up, word};
 ghost use Rattle.gs_policy.specs.Safe.{IsSafePlan};
@@ -18,11 +18,11 @@ use crate::waiting::{
 };
 use gs_beliefs::{Beliefs, CpuBeliefs, Running};
 use gs_dump::{Page, WrittenPage};
-use gs_layout::Kind;
+use gs_layout::{Kind, Outcome};
 use gs_policy::{Choice, Counted, Policy};
 use gs_reader::MessageRef;
 use gs_runq::{QueueWalk, RunQueue};
-use gs_slots::SlotState;
+use gs_slots::{SlotState, Stamp};
 use gs_status::{MOST_CPUS, Mask};
 use gs_view::{AgentView, ApplyFault, News};
 use std::alloc::{AllocError, Global};
@@ -286,6 +286,44 @@ impl Mind {
         else {
             return;
         };
+        self.learn(cpu, &stamp, outcome, at);
+    }
+
+    /// Learns what became of a transaction that was stamped for a CPU and landed, and on which CPU its thread
+    /// was then. [`Mind::collect`] does so of a slot that has all this. It does not allocate.
+    #[inline(always)]
+    pub fn learn(&mut self, cpu: u16, stamp: &Stamp, outcome: Outcome, at: Option<u16>)
+        ensures { (seen : ℕ) → self.new ≡ thinks self.old (after_slot cpu (SlotState.Done stamp.now outcome at seen) (picture_of self.old)) }
+    {
+        if let (Outcome::Placed | Outcome::AlreadyPlaced, Some(place)) = (outcome, at)
+            && place < self.cpus.cpus()
+            && self.cpus.stamp_on(cpu) == Some(stamp.tid)
+        {
+            self.learn_placed(cpu, stamp, place);
+        } else {
+            self.learn_other(cpu, stamp, outcome, at);
+        }
+    }
+
+    /// Learns that the thread which the stamp on a CPU names is on a CPU now. It did not wait before, since it was
+    /// named, and does not wait then, since it is believed to run. So only the one that it displaces is settled.
+    #[inline(always)]
+    fn learn_placed(&mut self, cpu: u16, stamp: &Stamp, place: u16)
+        requires place { place < length self.old.cpus.believed }
+        requires named { stamp_on self.old.cpus cpu ≡ Some stamp.now.tid }
+        ensures { (seen : ℕ) → self.new ≡ thinks self.old (after_slot cpu (SlotState.Done stamp.now Outcome.Placed (Some place) seen) (picture_of self.old)) }
+    {
+        let displaced = running_on(&self.cpus, Some(place));
+        self.cpus.place(place, stamp.tid, stamp.tseq);
+        self.cpus.unstamp_named(cpu, stamp.tid);
+        settle_if_any(&self.view, &self.cpus, &mut self.queue, displaced);
+    }
+
+    /// Learns what became of a transaction, whichever thread the stamp on its CPU names.
+    #[inline(never)]
+    fn learn_other(&mut self, cpu: u16, stamp: &Stamp, outcome: Outcome, at: Option<u16>)
+        ensures { (seen : ℕ) → self.new ≡ thinks self.old (after_slot cpu (SlotState.Done stamp.now outcome at seen) (picture_of self.old)) }
+    {
         let named = other_than(stamp.tid, self.cpus.stamp_on(cpu));
         let displaced = running_on(&self.cpus, at);
         self.cpus.learn(outcome, at, stamp.tid, stamp.tseq);
@@ -316,6 +354,32 @@ impl Mind {
             taken,
         };
         policy.plan(alloc, &self.view, &cpus, &self.queue)
+    }
+
+    /// Puts what a policy plans into a list, in place of what was there, as [`Mind::plan`] returns it. Nothing else is
+    /// changed.
+    ///
+    /// # Errors
+    ///
+    /// If out of memory for the choices. The list is empty then.
+    #[inline(always)]
+    pub fn plan_into<P: Policy>(
+        &self,
+        alloc: Global,
+        policy: &P,
+        taken: Mask,
+        choices: &mut Vec<Choice>,
+    ) -> Result<(), AllocError>
+        ensures plan { OnOk result (choices.new.items ≡ P.chosen policy.now (shown_in self.now (has taken))) }
+        ensures safe { OnOk result (IsSafePlan (shown_in self.now (has taken)) choices.new.items) }
+        ensures none { OnErr result (choices.new.items ≡ []) }
+    {
+        let _each_once = self.waiting();
+        let cpus = CpuBeliefs {
+            beliefs: &self.cpus,
+            taken,
+        };
+        policy.plan_into(alloc, &self.view, &cpus, &self.queue, choices)
     }
 
     /// Returns how many choices a policy's plan has by all that the agent has in mind, if the other class

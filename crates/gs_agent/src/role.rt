@@ -1,4 +1,4 @@
-ghost use Rattle.std.specs.Prelude.{◌≡◌, ◌<◌, ◌≤◌, List, [], ◌∷◌, None, Some, IfErr, IfOk, IsSome, Ok, OnErr, OnOk, length, true};
+ghost use Rattle.std.specs.Prelude.{◌≡◌, ◌<◌, ◌≤◌, ℕ, List, [], ◌∷◌, None, Some, IfErr, IfOk, IsSome, Ok, OnErr, OnOk, length, true};
 ghost use Rattle.gs_layout.specs.declared.message.Message.{Message};
 ghost use Rattle.gs_layout.specs.View.{is_gap, look_up, word};
 ghost use Rattle.gs_slots.specs.declared.state.SlotState.{SlotState};
@@ -10,7 +10,7 @@ ghost use Rattle.gs_agent.specs.declared.drained.Stop.{Stop};
 ghost use Rattle.gs_agent.specs.Drains.{Followed};
 ghost use Rattle.gs_agent.specs.Mind.{moved, nothing, picture_of, shown_in, thinks};
 ghost use Rattle.gs_agent.specs.Pages.{after_page};
-ghost use Rattle.gs_agent.specs.Picture.{HoldsWaiting, after_all, after_stamp};
+ghost use Rattle.gs_agent.specs.Picture.{HoldsWaiting, after_all, after_slot, after_stamp};
 ghost use Rattle.gs_policy.specs.Safe.{IsSafePlan};
 ghost use Rattle.gs_runq.specs.Queue.{Apart, order};
 ghost use Rattle.gs_status.specs.Masks.{has};
@@ -22,11 +22,11 @@ use crate::drained::Drained;
 use crate::mind::Mind;
 use gs_beliefs::Running;
 use gs_dump::{Page, WrittenPage};
-use gs_layout::Refusal;
+use gs_layout::{Outcome, Refusal};
 use gs_policy::{Choice, Counted, Policy};
 use gs_ring::Taker;
 use gs_runq::QueueWalk;
-use gs_slots::{Flags, Region, SlotBusy, SlotMut};
+use gs_slots::{Flags, Region, SlotBusy, SlotMut, Stamp};
 use gs_status::{MOST_CPUS, Mask};
 use gs_view::AgentView;
 use std::alloc::{AllocError, Global};
@@ -341,11 +341,30 @@ impl<P> Role<P> {
         let cpu = slot.cpu();
         match slot.stamp(self.generation, tid, tseq, flags) {
             Ok(()) => {
-                self.mind.stamp(cpu, tid);
+                self.note_stamp(cpu, tid);
                 Ok(())
             }
             Err(SlotBusy) => Err(Refusal::SlotOpen),
         }
+    }
+
+    /// Notes that a thread was stamped for a CPU, as [`Role::stamp`] does. It is for a caller who stamps the slot
+    /// itself. Past the last CPU no stamp is noted. It does not allocate.
+    #[inline(always)]
+    pub fn note_stamp(&mut self, cpu: u16, tid: u32)
+        ensures { self.new ≡ record self.old { mind = thinks self.old.mind (after_stamp cpu tid (picture_of self.old.mind)) } }
+    {
+        self.mind.stamp(cpu, tid);
+    }
+
+    /// Learns what became of a transaction that was stamped for a CPU and landed, and on which CPU its thread was
+    /// then, as [`Role::collect`] learns it of a done slot. It is for a caller who lands a slot and lets the agent
+    /// learn its outcome at once. It does not allocate.
+    #[inline(always)]
+    pub fn learn(&mut self, cpu: u16, stamp: &Stamp, outcome: Outcome, at: Option<u16>)
+        ensures { (seen : ℕ) → self.new ≡ record self.old { mind = thinks self.old.mind (after_slot cpu (SlotState.Done stamp.now outcome at seen) (picture_of self.old.mind)) } }
+    {
+        self.mind.learn(cpu, stamp, outcome, at);
     }
 
     /// Collects what became of each done slot of a region, and makes it idle again. The slots of a group come first,
@@ -383,6 +402,25 @@ impl<P: Policy> Role<P> {
         ensures safe { IfOk result (λ r. IsSafePlan (shown_in self.now.mind (has taken)) r.items) }
     {
         self.mind.plan(alloc, &self.policy, taken)
+    }
+
+    /// Puts what the role's policy plans into a list, in place of what was there, as [`Role::decide`] returns it. A list
+    /// that is kept has its memory for the next plan.
+    ///
+    /// # Errors
+    ///
+    /// If out of memory for the choices. The list is empty then.
+    pub fn decide_into(
+        &self,
+        alloc: Global,
+        taken: Mask,
+        choices: &mut Vec<Choice>,
+    ) -> Result<(), AllocError>
+        ensures plan { OnOk result (choices.new.items ≡ P.chosen self.now.policy (shown_in self.now.mind (has taken))) }
+        ensures safe { OnOk result (IsSafePlan (shown_in self.now.mind (has taken)) choices.new.items) }
+        ensures none { OnErr result (choices.new.items ≡ []) }
+    {
+        self.mind.plan_into(alloc, &self.policy, taken, choices)
     }
 }
 

@@ -1,6 +1,7 @@
 //! Bringing the queue up to date with what is known and believed.
 
-ghost use Rattle.std.specs.Prelude.{◌≡◌, ◌≢◌, ◌≤◌, ℕ, None, is_some, true, if◌then◌else◌, option_map, IfErr, OnOk, OnErr};
+ghost use Rattle.std.specs.Prelude.{◌≡◌, ◌≢◌, ◌≤◌, ℕ, None, false, is_some, true, if◌then◌else◌, option_map, IfErr, OnOk, OnErr};
+ghost use Rattle.gs_beliefs.specs.Cpus.{is_believed};
 ghost use Rattle.gs_layout.specs.declared.known.Known.{Known};
 ghost use Rattle.gs_layout.specs.declared.message.Message.{Message};
 ghost use Rattle.gs_layout.specs.Spelling.{kind_of, tid_of};
@@ -11,6 +12,7 @@ ghost use Rattle.gs_view.specs.News.{ready_of};
 ghost use Rattle.gs_agent.specs.Held.{HasRoom};
 ghost use Rattle.gs_agent.specs.Mind.{bare};
 ghost use Rattle.gs_agent.specs.Picture.{displaced, ends_own_turn, other_than, requeued, settled, settled_all, waits};
+ghost use Rattle.gs_runq.specs.Queue.{removed};
 ghost use Rattle.std.specs.Option.{option_to_list};
 
 use gs_beliefs::Beliefs;
@@ -98,6 +100,33 @@ fn settle_ready(
     }
 }
 
+/// Does the same of a thread that no CPU is believed to run, and puts it last of its class anew if it waits already.
+/// Neither its place in the queue nor what is believed of it is asked.
+#[inline(always)]
+#[tactic(auto, using(crate::proofs::Rooms::room_settled))]
+fn settle_anew(
+    _view: &AgentView,
+    cpus: &Beliefs,
+    queue: &mut RunQueue,
+    tid: u32,
+    ready: Option<Class>,
+)
+    requires room { HasRoom (look_up _view.now.entries) queue.old }
+    requires ready { ready ≡ ready_of (look_up _view.now.entries tid) }
+    requires off { is_believed cpus.now tid ≡ false }
+    ensures settled { queue.new ≡ settled (look_up _view.now.entries) cpus.now tid (removed tid queue.old) }
+    ensures room { HasRoom (look_up _view.now.entries) queue.new }
+{
+    queue.remove(tid);
+    // That it is gone is why there is room for it.
+    let _gone = queue.has(tid);
+    if let Some(class) = ready
+        && !cpus.names(tid)
+    {
+        queue.push(tid, class);
+    }
+}
+
 /// Does the same of a thread that was stamped for a CPU. The stamp there is asked first: whom it names does not wait.
 #[inline(always)]
 #[tactic(auto, using(crate::proofs::Rooms::room_settled, crate::proofs::Settling::settled_stamped))]
@@ -173,7 +202,7 @@ pub(crate) fn other_than(tid: u32, found: Option<u32>) -> Option<u32>
 }
 
 /// Brings the queue up to date after a message about a thread, of this kind, that view and beliefs followed. The thread is settled, and
-/// goes last anew if its turn ended. It has this class if it may run.
+/// goes last anew if its turn ended. It has this class if it may run. No CPU is believed to run it then if its turn ended.
 #[inline(always)]
 pub(crate) fn requeue(
     view: &AgentView,
@@ -186,15 +215,17 @@ pub(crate) fn requeue(
     requires room { HasRoom (look_up view.now.entries) queue.old }
     requires kind { kind ≡ kind_of message.now }
     requires thread { kind ≢ Kind.TimerTick }
+    requires off { ends_own_turn message.now ≡ true → is_believed cpus.now (tid_of message.now) ≡ false }
     requires ready { ready ≡ ready_of (look_up view.now.entries (tid_of message.now)) }
     ensures requeued { queue.new ≡ requeued (look_up view.now.entries) cpus.now message.now queue.old }
     ensures room { HasRoom (look_up view.now.entries) queue.new }
 {
     let tid = message.tid();
     if ends_turn(kind) {
-        queue.remove(tid);
+        settle_anew(view, cpus, queue, tid, ready);
+    } else {
+        settle_ready(view, cpus, queue, tid, ready);
     }
-    settle_ready(view, cpus, queue, tid, ready);
 }
 
 /// Tells whether a message of this kind ends its thread's turn, though it may go on waiting.

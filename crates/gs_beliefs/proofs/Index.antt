@@ -27,6 +27,9 @@ pub stands_within : (xs : List (Option ℕ)) (t c : ℕ) → is_just t (stands x
 stands_within xs t c e (inl lt) = lt
 stands_within xs t c e (inr past) = absurd (both_ways (is_just t (stands xs c)) (ap (is_just t) (get_or_past xs c None past)) e)
 
+pub stands_below : (xs : List (Option ℕ)) (c t : ℕ) → stands xs c ≡ Some t → c < length xs
+stands_below xs c t e = stands_within xs t c (ap (is_just t) e ∙ eq-eqb t t refl) (cases_lt c (length xs))
+
 -- a CPU on which a thread stands settles that it stands somewhere
 pub stands_somewhere : (xs : List (Option ℕ)) (t c : ℕ) → is_just t (stands xs c) ≡ true → list_any (is_just t) xs ≡ true
 stands_somewhere xs t c e = list_any_at (is_just t) xs c None (stands_within xs t c e (cases_lt c (length xs))) e

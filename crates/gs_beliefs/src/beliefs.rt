@@ -142,7 +142,7 @@ impl Beliefs {
     {
         if let Some(cpu) = self.running.first_of(tid) {
             self.beliefs[cpu as usize] = None;
-            self.running.set(cpu, None);
+            self.running.vacate(cpu, tid);
         }
     }
 
@@ -212,7 +212,7 @@ impl Beliefs {
                 tseq,
                 ticks: 0,
             });
-            self.running.set(cpu, Some(tid));
+            self.running.seat(cpu, tid);
         }
     }
 
@@ -230,9 +230,19 @@ impl Beliefs {
         self.stamps.set(cpu, None);
     }
 
+    /// Notes that a CPU has no uncollected stamp any more, where the one that it had named this thread.
+    #[inline(always)]
+    pub fn unstamp_named(&mut self, cpu: u16, tid: u32)
+        requires { stamp_on self.old cpu ≡ Some tid }
+        ensures { self.new ≡ unstamps cpu self.old }
+    {
+        self.stamps.vacate(cpu, tid);
+    }
+
     /// Takes in what became of a stamp: the outcome, the CPU that the thread was then on, the thread, and the
     /// sequence number that was stamped. `Placed` and `AlreadyPlaced` say that the thread is on that CPU; any
     /// other outcome changes nothing.
+    #[inline(always)]
     pub fn learn(&mut self, outcome: Outcome, at: Option<u16>, tid: u32, tseq: u32)
         ensures { self.new ≡ after_outcome outcome at tid tseq self.old }
     {

@@ -31,19 +31,6 @@ impl Model for ByThread {
     ghost invariant = { λ s. IsIndexed s.tids.items s.buckets.masks.items s.vacant };
 }
 
-/// Returns the vacant CPUs once a thread stands on a CPU, or nobody does.
-fn vacant_after(vacant: Mask, cpu: u16, tid: Option<u32>) -> Mask
-    requires { cpu < MOST_CPUS }
-    ensures here { has result cpu ≡ is_none tid }
-    ensures others { (c : ℕ) → c ≢ cpu → has result c ≡ has vacant c }
-{
-    if tid.is_none() {
-        vacant.with(cpu)
-    } else {
-        vacant.without(cpu)
-    }
-}
-
 /// Returns the CPUs below a number.
 #[tactic(auto, using(crate::proofs::Marks::below_more))]
 fn all_below(cpus: u16) -> Mask
@@ -140,18 +127,42 @@ impl ByThread {
         self.vacant
     }
 
+    /// Puts a thread on a CPU, which there is, in the place of whoever stood there.
+    #[inline(always)]
+    pub fn seat(&mut self, cpu: u16, tid: u32)
+        requires { cpu < length self.old }
+        ensures { self.new ≡ slice_set self.old cpu (Some tid) }
+    {
+        let at = cpu as usize;
+        self.buckets.leave(cpu, self.tids[at]);
+        self.buckets.enter(cpu, Some(tid));
+        self.tids[at] = Some(tid);
+        self.vacant = self.vacant.without(cpu);
+    }
+
+    /// Takes the thread that stands on a CPU off it: nobody stands there then.
+    #[inline(always)]
+    pub fn vacate(&mut self, cpu: u16, tid: u32)
+        requires { stands self.old cpu ≡ Some tid }
+        ensures { self.new ≡ slice_set self.old cpu None }
+    {
+        self.buckets.leave(cpu, Some(tid));
+        self.tids[cpu as usize] = None;
+        self.vacant = self.vacant.with(cpu);
+    }
+
     /// Puts a thread on a CPU in the place of whoever stood there, or nobody. Past the last CPU it changes
     /// nothing.
     pub fn set(&mut self, cpu: u16, tid: Option<u32>)
         ensures { self.new ≡ slice_set self.old cpu tid }
     {
-        let at = cpu as usize;
-        if at >= self.tids.len() {
+        if cpu as usize >= self.tids.len() {
             return;
         }
-        self.buckets.leave(cpu, self.tids[at]);
-        self.buckets.enter(cpu, tid);
-        self.tids[at] = tid;
-        self.vacant = vacant_after(self.vacant, cpu, tid);
+        if let Some(tid) = tid {
+            self.seat(cpu, tid);
+        } else if let Some(tid) = self.on(cpu) {
+            self.vacate(cpu, tid);
+        }
     }
 }

@@ -34,6 +34,20 @@ impl<P: Policy, Q: Policy> Policy for Beside<P, Q> {
         }
     }
 
+    fn plan_into(
+        &self,
+        alloc: Global,
+        view: &AgentView,
+        cpus: &CpuBeliefs<'_>,
+        queue: &RunQueue,
+        choices: &mut Vec<Choice>,
+    ) -> Result<(), AllocError> {
+        match self {
+            Beside::Other(policy) => policy.plan_into(alloc, view, cpus, queue, choices),
+            Beside::Own(policy) => policy.plan_into(alloc, view, cpus, queue, choices),
+        }
+    }
+
     ghost safe = { chosen-safe P.chosen Q.chosen P.safe Q.safe };
 }
 

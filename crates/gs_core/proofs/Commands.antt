@@ -1,5 +1,5 @@
 -- What a command leaves of a machine.
-use Rattle.std.proofs.Common.{◌≡◌, refl, ap, sym, subst, ◌∙◌, ℕ, Bool, true, false, not, ◌&&◌, Option, None, Some, [], ◌∷◌, ◌++◌, append_assoc, unwrap_or}
+use Rattle.std.proofs.Common.{◌≡◌, refl, ap, sym, subst, ◌∙◌, ℕ, false, not, ◌&&◌, Option, None, Some, [], ◌∷◌, ◌++◌, append_assoc, unwrap_or}
 use Rattle.std.proofs.Math.Bool.{and-false}
 use Rattle.std.proofs.lemmas.Bool.{false≢true}
 use Rattle.std.specs.Option.{is_none, is_some, option_map}

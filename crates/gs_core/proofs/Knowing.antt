@@ -1,5 +1,5 @@
 -- What an agent believes goes with the slots and with the active agent, event by event.
-use Rattle.std.proofs.Common.{◌≡◌, refl, ap, sym, ◌∙◌, subst, ℕ, Bool, true, false, Option, None, Some, List, [], ◌∷◌, map, take, slice_set}
+use Rattle.std.proofs.Common.{◌≡◌, refl, ap, sym, ◌∙◌, subst, ℕ, true, Option, None, Some, List, [], ◌∷◌, map, take, slice_set}
 use Rattle.std.specs.Option.{is_some, option_map}
 use Rattle.gs_layout.specs.declared.known.Known.{Known}
 use Rattle.gs_layout.specs.declared.message.Message.{Message}

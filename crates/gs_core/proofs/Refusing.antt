@@ -1,18 +1,20 @@
--- Why a stamp is refused, if an agent is active and the CPU is the enclave's.
+-- Why a stamp is refused, if an agent is active and the CPU is the enclave's, and why a commit is if none is.
 use Rattle.std.proofs.Common.{◌≡◌, refl, Bool, true, false, ℕ, Option, None, Some, Ok, [], ◌∷◌, length, slice_get, ap, sym, subst, ◌∙◌}
 use Rattle.std.specs.Prelude.{nat_le, not, is_some, unwrap_or}
 use Rattle.gs_layout.specs.declared.known.Known.{Known}
 use Rattle.gs_layout.specs.declared.refusal.Refusal.{Refusal}
 use Rattle.gs_layout.specs.declared.refusal.Refusal.TheVariants as refusals
-use Rattle.gs_journal.specs.History.{active}
+use Rattle.gs_journal.specs.History.{active, torn}
 use Rattle.gs_slots.specs.declared.flags.Flags.{Flags}
+use Rattle.gs_status.specs.Masks.{has_past}
 use Rattle.gs_slots.specs.declared.state.SlotState.{SlotState}
 use Rattle.gs_slots.specs.declared.state.SlotState.TheVariants.{Idle, Stamped, Done}
 use Rattle.gs_agent.specs.Role.{stamp_refusal}
+use Rattle.gs_kernel.specs.Commit.{standing_commit_refusal}
 use Rattle.gs_kernel.specs.First.{first_that}
 use Rattle.gs_kernel.specs.Kernel.{IsRefusal}
 use Rattle.gs_core.specs.declared.event.Event.TheVariants as events
-use Rattle.gs_core.specs.Machine.{State, is_idle, standing_refusal, view}
+use Rattle.gs_core.specs.Machine.{State, is_idle, refusal, standing_refusal, view, without_agent}
 
 -- the tests of a stamp behind that of the agent
 abbrev tests : Bool → Option Known → Option SlotState → Bool → Option Refusal
@@ -56,3 +58,14 @@ room_refuses m c t w z o f is below there same e =
     subst (λ (r : Option Refusal). IsRefusal (standing_refusal m (events.Stamp c t w)) (unwrap_or r f)) (sym same)
     (subst (λ (r : Option Refusal). IsRefusal r (unwrap_or (stamp_refusal (view m t) (Ok z)) f)) (behind_agent m c t w z is there)
     (of_room (nat_le m.settings.cpus c) (nat_le m.settings.history (length m.transactions)) (view m t) z f below e))
+
+agent_first : (is past : Bool) (f : Refusal) → first_that ((not is, Some refusals.NotActive) ∷ []) None ≡ Some f → first_that ((not is, Some refusals.NotActive) ∷ (past, Some refusals.EmptyMask) ∷ []) None ≡ Some f
+agent_first true past f e = absurd cc
+agent_first false past f e = e
+
+-- with no active agent a commit is refused for that
+pub commit_refused : (m : State) (mask : ℕ) (f : Refusal) → torn m.history ≡ false → without_agent m None ≡ Some f → refusal m (events.Commit mask) ≡ Some f
+unfolding standing_commit_refusal
+commit_refused m mask f stands e =
+    ap (λ (b : Bool). first_that ((b, Some refusals.Gone) ∷ []) (standing_refusal m (events.Commit mask))) stands
+    ∙ agent_first (is_some (active m.history)) (has_past mask m.settings.cpus) f e

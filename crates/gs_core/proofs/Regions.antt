@@ -1,17 +1,18 @@
 -- What is done to a region in which no slot is malformed is done to its states.
-use Rattle.std.proofs.Common.{◌≡◌, ℕ, zero, suc, ◌+◌, ◌<◌, Option, None, Some, Result, Ok, Err, IfOk, IfErr, OnErr, OnOk, List, [], ◌∷◌, ◌++◌, length, map, replicate, slice_get, slice_set, get_or, refl, ap, sym, ◌∙◌, arith}
+use Rattle.std.proofs.Common.{◌≡◌, ℕ, zero, suc, ◌+◌, Option, None, Some, Result, Ok, Err, IsOk, OnErr, OnOk, is_err, true, false, List, [], ◌∷◌, ◌++◌, length, map, replicate, slice_get, slice_set, refl, ap, sym, ◌∙◌, arith}
 use Rattle.std.specs.Result.{result_unwrap_or}
-use Rattle.std.proofs.lemmas.Option.{slice_get-get_or}
 use Rattle.gs_layout.specs.declared.known.Known.{Known}
 use Rattle.gs_layout.specs.declared.refusal.Refusal.{Refusal}
-use Rattle.gs_agent.specs.Role.{stamp_refusal}
+use Rattle.gs_layout.specs.declared.refusal.Refusal.TheVariants as refusals
+use Rattle.gs_agent.specs.Role.{number_of, stamp_refusal}
+use Rattle.gs_slots.specs.declared.state.SlotBusy.{SlotBusy}
 use Rattle.gs_slots.specs.declared.state.SlotState.TheVariants.{Done, Idle, Stamped}
 use Rattle.gs_slots.specs.Spelling.{idle_bytes}
 use Rattle.gs_slots.specs.declared.state.SlotState.{SlotState}
 use Rattle.gs_slots.specs.declared.state.Stamp.{Stamp}
 use Rattle.gs_slots.specs.Reading.{all_collected, state_in, state_or_idle, states_in, told_by}
 use Rattle.gs_slots.specs.State.{Held, collected}
-use Rattle.gs_slots.proofs.Laws.{all_idle_read, collected_read, get_held, held_get, set_as_it_was, set_held, state_at, states_count, states_set, told_is}
+use Rattle.gs_slots.proofs.Laws.{all_idle_read, collected_read, get_held, held_get, idle_read, set_held, state_at, states_count, states_set, told_is}
 use Rattle.gs_journal.specs.History.{History}
 use Rattle.gs_kernel.specs.declared.settings.Settings.{Settings}
 use Rattle.gs_kernel.specs.declared.landing.Landing.{Landing}
@@ -48,6 +49,11 @@ slot_set bs zs k b z e is = states_set 0 k bs b ∙ ((λ i. slice_set (e i) k ((
 pub slot_state : (bs : List (List ℕ)) (zs : List SlotState) (k : ℕ) (h : Held) → AreRead bs zs → slice_get (states_in 0 bs) k ≡ Some h → slice_get zs k ≡ Some (state_or_idle h)
 slot_state bs zs k h e is = get_held zs k h (ap (λ (xs : List Held). slice_get xs k) (sym e) ∙ is)
 
+held_at : (zs : List SlotState) (k : ℕ) (z : SlotState) (h : Held) → h ≡ Ok z → slice_get zs k ≡ Some z → slice_get (map Ok zs) k ≡ Some h
+held_at [] k z h is e = absurd cc
+held_at (y ∷ zs) zero z h is e = let same : y ≡ z = cc in ap (λ (x : SlotState). Some (Ok x)) same ∙ ap Some (sym is)
+held_at (y ∷ zs) (suc k) z h is e = held_at zs k z h is e
+
 -- ---- commits
 
 -- a commit of a region lands its states, and leaves states
@@ -73,51 +79,48 @@ commit_left room s mask bs left zs h h' (Err f) before after same e a u = read_t
 pub idle_region : (bs : List (List ℕ)) (n m : ℕ) → bs ≡ replicate n idle_bytes → n ≡ m → AreRead bs (replicate m Idle)
 idle_region bs n m e is = ap (states_in 0) e ∙ (all_idle_read 0 n ∙ ap (λ (i : ℕ). map Ok (replicate i Idle)) is)
 
+pub cleared_read : (bs : List (List ℕ)) (zs : List SlotState) (c : ℕ) → AreRead bs zs → AreRead (slice_set bs c idle_bytes) (slice_set zs c Idle)
+cleared_read bs zs c e = slot_set bs zs c idle_bytes Idle e (idle_read c)
+
 pub collected_region : (bs left : List (List ℕ)) (zs : List SlotState) → AreRead bs zs → left ≡ all_collected 0 bs → AreRead left (map collected zs)
 collected_region bs left zs e is = ap (states_in 0) is ∙ collected_read 0 bs zs e
 
 -- ---- a stamp
 
--- what a stamp leaves of the states: in the slot what was stamped, if it was
-abbrev pub stamped_slots : Result (Unit {0}) Refusal → Stamp → ℕ → List SlotState → List SlotState
-stamped_slots (Ok k) stamp c zs = slice_set zs c (Stamped stamp)
-stamped_slots (Err f) stamp c zs = zs
+stamped_read : (bs left : List (List ℕ)) (zs : List SlotState) (c : ℕ) (stamp : Stamp) → AreRead bs zs → states_in 0 left ≡ slice_set (states_in 0 bs) c (Ok (Stamped stamp)) → AreRead left (slice_set zs c (Stamped stamp))
+stamped_read bs left zs c stamp e is = is ∙ (ap (λ (xs : List Held). slice_set xs c (Ok (Stamped stamp))) e ∙ set_held zs c (Stamped stamp))
 
-pub stamp_read : (r : Result (Unit {0}) Refusal) (stamp : Stamp) (c : ℕ) (bs : List (List ℕ)) (b left : List ℕ) (zs : List SlotState) → AreRead bs zs → slice_get bs c ≡ Some b
-    → OnOk r (state_in c left ≡ Ok (Stamped stamp)) → OnErr r (left ≡ b) → AreRead (slice_set bs c left) (stamped_slots r stamp c zs)
-stamp_read (Ok k) stamp c bs b left zs e is ok same = slot_set bs zs c left (Stamped stamp) e ok
-stamp_read (Err f) stamp c bs b left zs e is ok same = ap (states_in 0) (ap (slice_set bs c) same ∙ set_as_it_was bs c b is) ∙ e
+-- a result that is no fault, and one that is
+pub if_ok : {P : Type 0} (r : Result (Unit {0}) SlotBusy) → is_err r ≡ false → OnOk r P → P
+if_ok (Ok k) e p = p
+if_ok (Err f) e p = absurd cc
 
-pub slots_stamped : (r : Result (Unit {0}) Refusal) (stamp : Stamp) (c : ℕ) (zs xs : List SlotState) → xs ≡ stamped_slots r stamp c zs → OnOk r (xs ≡ slice_set zs c (Stamped stamp))
-slots_stamped (Ok k) stamp c zs xs e = e
-slots_stamped (Err f) stamp c zs xs e = tt
+pub not_ok : (r : Result (Unit {0}) SlotBusy) → is_err r ≡ true → IsOk r → ⊥
+not_ok (Ok k) e ok = cc
+not_ok (Err f) e ok = cc
 
-pub slots_kept : (r : Result (Unit {0}) Refusal) (stamp : Stamp) (c : ℕ) (zs xs : List SlotState) → xs ≡ stamped_slots r stamp c zs → OnErr r (xs ≡ zs)
-slots_kept (Ok k) stamp c zs xs e = tt
-slots_kept (Err f) stamp c zs xs e = e
+pub is_ok_if : (r : Result (Unit {0}) SlotBusy) → is_err r ≡ false → IsOk r
+is_ok_if (Ok k) e = refl
+is_ok_if (Err f) e = absurd cc
 
--- what is read of a slot is its state
-abbrev pub Reads : List SlotState → ℕ → Held → Type 0
-Reads zs c h = (z : SlotState) → slice_get zs c ≡ Some z → h ≡ Ok z
+-- what a stamp leaves of the states
+pub stamp_kept : (bs left : List (List ℕ)) (zs : List SlotState) (c : ℕ) (stamp : Stamp) → AreRead bs zs → states_in 0 left ≡ slice_set (states_in 0 bs) c (Ok (Stamped stamp)) → AreRead left (told_by 0 left)
+stamp_kept bs left zs c stamp e is = read_told left (slice_set zs c (Stamped stamp)) (stamped_read bs left zs c stamp e is)
 
-idle_only : (o : Option Known) (z : SlotState) → stamp_refusal o (Ok z) ≡ None → z ≡ Idle
-idle_only None z e = absurd cc
-idle_only (Some k) Idle e = refl
-idle_only (Some k) (Stamped t) e = absurd cc
-idle_only (Some k) (Done t outcome at seen) e = absurd cc
+pub stamp_told : (bs left : List (List ℕ)) (zs : List SlotState) (c : ℕ) (stamp : Stamp) → AreRead bs zs → states_in 0 left ≡ slice_set (states_in 0 bs) c (Ok (Stamped stamp)) → told_by 0 left ≡ slice_set zs c (Stamped stamp)
+stamp_told bs left zs c stamp e is = told_is 0 left (slice_set zs c (Stamped stamp)) (stamped_read bs left zs c stamp e is)
 
 -- only an idle slot is stamped
-pub idle_there : (r : Result (Unit {0}) Refusal) (o : Option Known) (h : Held) (zs : List SlotState) (c : ℕ) → Reads zs c h → c < length zs → OnOk r (stamp_refusal o h ≡ None) → OnOk r (slice_get zs c ≡ Some Idle)
-idle_there (Ok k) o h zs c reads lt none =
-    let there = slice_get-get_or zs c Idle lt in
-    let z = get_or zs c Idle in
-    there ∙ ap Some (idle_only o z (ap (stamp_refusal o) (sym (reads z there)) ∙ none))
-idle_there (Err f) o h zs c reads lt none = tt
+pub idle_there : (bs : List (List ℕ)) (zs : List SlotState) (c : ℕ) → AreRead bs zs → slice_get (states_in 0 bs) c ≡ Some (Ok Idle) → slice_get zs c ≡ Some Idle
+idle_there bs zs c e is = slot_state bs zs c (Ok Idle) e is
 
-pub why_refused : (r : Result (Unit {0}) Refusal) (o : Option Known) (h : Held) (zs : List SlotState) (c : ℕ) → Reads zs c h → IfErr r (λ f. stamp_refusal o h ≡ Some f)
-    → IfErr r (λ f. (z : SlotState) → slice_get zs c ≡ Some z → stamp_refusal o (Ok z) ≡ Some f)
-why_refused (Ok k) o h zs c reads q = tt
-why_refused (Err f) o h zs c reads q = λ z is. ap (stamp_refusal o) (sym (reads z is)) ∙ q
+-- and any other is refused to whom the thread is known
+pub why_refused : (o : Option Known) (n : ℕ) (bs : List (List ℕ)) (zs : List SlotState) (c : ℕ) (z : SlotState) → AreRead bs zs → number_of o ≡ Some n → (slice_get (states_in 0 bs) c ≡ Some (Ok Idle) → ⊥) → slice_get zs c ≡ Some z
+    → stamp_refusal o (Ok z) ≡ Some refusals.SlotOpen
+why_refused None n bs zs c z e known busy is = absurd cc
+why_refused (Some k) n bs zs c Idle e known busy is = absurd (busy (ap (λ (xs : List Held). slice_get xs c) e ∙ held_at zs c Idle (Ok Idle) refl is))
+why_refused (Some k) n bs zs c (Stamped t) e known busy is = refl
+why_refused (Some k) n bs zs c (Done t outcome at seen) e known busy is = refl
 
 pub or_idle : (h : Held) → state_or_idle h ≡ result_unwrap_or h Idle
 or_idle (Ok z) = refl

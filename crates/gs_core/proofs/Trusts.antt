@@ -1,5 +1,5 @@
 -- Each step keeps beliefs trusted while the enclave stands, and the machine has nothing to trust in at the start.
-use Rattle.std.proofs.Common.{◌≡◌, refl, sym, ◌∙◌, subst, ℕ, zero, suc, ◌+◌, ◌⊎◌, inl, inr, Bool, false, Option, None, Some, List, [], ◌∷◌, ◌++◌, length, map, replicate, take, drop, arith, slice_get, slice_set, length-take}
+use Rattle.std.proofs.Common.{◌≡◌, refl, sym, ◌∙◌, subst, ℕ, zero, suc, ◌+◌, ◌⊎◌, inl, inr, false, Option, None, Some, List, [], ◌∷◌, ◌++◌, length, map, replicate, take, drop, arith, slice_get, slice_set, length-take}
 use Rattle.std.specs.Option.{option_map}
 use Rattle.std.proofs.lemmas.List.{take-append-drop}
 use Rattle.gs_layout.specs.declared.known.Known.{Known}

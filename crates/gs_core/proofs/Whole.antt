@@ -1,5 +1,5 @@
 -- Choices that can be stamped keep a machine good, and so is the machine at the start.
-use Rattle.std.proofs.Common.{◌≡◌, refl, sym, subst, ℕ, zero, suc, ◌<◌, inl, nat_le, not, true, false, Option, None, Some, List, [], ◌∷◌, arith, slice_get, Bool}
+use Rattle.std.proofs.Common.{◌≡◌, refl, sym, subst, ℕ, zero, suc, ◌<◌, inl, nat_le, not, true, false, Option, None, Some, List, [], ◌∷◌, arith, slice_get}
 use Rattle.std.specs.Option.{is_some}
 use Rattle.std.proofs.lemmas.Bool.Decides.{nat_tests}
 use Rattle.gs_layout.specs.declared.refusal.Refusal.TheVariants as refusals

@@ -219,11 +219,12 @@ impl<P: Counted + Copy> Machine<P> {
         Some((transaction.cpu, transaction.slot))
     }
 
-    /// Lets the agent follow messages while the enclave stands.
+    /// Lets the agent follow messages while the enclave stands. What it followed is put into a place.
     #[inline(always)]
-    fn follow(&mut self, max: u32) -> Result<Drained, Refusal>
+    fn follow(&mut self, max: u32, drained: &mut Drained) -> Result<(), Refusal>
         requires { torn self.old.history ≡ false }
-        ensures step { Step (planning P.chosen self.old) (Event.Drain max) (replied_as Reply.Drained result) (planning P.chosen self.new) }
+        ensures step { Step (planning P.chosen self.old) (Event.Drain max) (replied_as (λ _. Reply.Drained drained.new) result) (planning P.chosen self.new) }
+        ensures kept { OnErr result (drained.new ≡ drained.old) }
         ensures policy { self.new.policy ≡ self.old.policy }
     {
         if !self.kernel.has_agent() {
@@ -231,7 +232,8 @@ impl<P: Counted + Copy> Machine<P> {
         }
         let role = self.role.as_mut().unwrap();
         let mut head = self.kernel.taker();
-        Ok(role.drain(&mut head, max))
+        *drained = role.drain(&mut head, max);
+        Ok(())
     }
 
     fn view(&self) -> Result<Reply, Refusal>
@@ -327,16 +329,17 @@ impl<P: Counted + Copy> Machine<P> {
         self.stamp_slot(cpu, tid, flags)
     }
 
-    /// Stamps what the policy plans.
-    fn decide(&mut self) -> Result<Reply, Refusal>
+    /// Stamps what the policy plans, and puts that into a list. Returns the number of the first transaction.
+    #[inline(always)]
+    fn stamp_plan(&mut self, choices: &mut Vec<Choice>) -> Result<u32, Refusal>
         ensures fits { IfOk result (λ _. standing_refusal (planning P.chosen self.old) Event.Decide ≡ None) }
-        ensures reply { IfOk result (λ reply. reply ≡ (decides (planning P.chosen self.old)).0) }
+        ensures reply { IfOk result (λ first. Reply.Decided first choices.new.items ≡ (decides (planning P.chosen self.old)).0) }
         ensures ok { OnOk result (planning P.chosen self.new ≡ (decides (planning P.chosen self.old)).1) }
         ensures refused { IfErr result (IsRefusal (standing_refusal (planning P.chosen self.old) Event.Decide)) }
         ensures policy { self.new.policy ≡ self.old.policy }
         ensures unchanged { OnErr result (self.new ≡ self.old) }
     {
-        let choices = self.plan()?;
+        self.plan(choices)?;
         let role = self.role.as_mut().unwrap();
         let first = self.transactions.len() + 1;
         self.transactions.reserve(choices.len())?;
@@ -346,20 +349,56 @@ impl<P: Counted + Copy> Machine<P> {
             &mut self.transactions,
             choices.as_slice(),
         );
-        Ok(Reply::Decided {
-            first,
-            choices: Items::new(choices),
-        })
+        Ok(first)
     }
 
-    /// Returns what the policy plans, if there is room for its transactions.
-    fn plan(&self) -> Result<Vec<Choice>, Refusal>
-        ensures plan { IfOk result (λ r. r.items ≡ plan_of (planning P.chosen self.now)) }
+    /// Does so while the enclave stands.
+    #[inline(always)]
+    fn decide_standing(&mut self, choices: &mut Vec<Choice>) -> Result<u32, Refusal>
+        requires { torn self.old.history ≡ false }
+        ensures step { Step (planning P.chosen self.old) Event.Decide (replied_as (λ first. Reply.Decided first choices.new.items) result) (planning P.chosen self.new) }
+        ensures policy { self.new.policy ≡ self.old.policy }
+    {
+        self.stamp_plan(choices)
+    }
+
+    /// Stamps what the policy plans while the enclave stands, and returns the reply.
+    fn decide_all(&mut self) -> Reply
+        requires { torn self.old.history ≡ false }
+        ensures step { Step (planning P.chosen self.old) Event.Decide result (planning P.chosen self.new) }
+        ensures policy { self.new.policy ≡ self.old.policy }
+    {
+        let mut choices = Vec::new(self.alloc);
+        match self.decide_standing(&mut choices) {
+            Ok(first) => Reply::Decided {
+                first,
+                choices: Items::new(choices),
+            },
+            Err(refusal) => Reply::Refused(refusal),
+        }
+    }
+
+    /// Lets the agent follow messages while the enclave stands, and returns the reply.
+    fn drain_all(&mut self, max: u32) -> Reply
+        requires { torn self.old.history ≡ false }
+        ensures step { Step (planning P.chosen self.old) (Event.Drain max) result (planning P.chosen self.new) }
+        ensures policy { self.new.policy ≡ self.old.policy }
+    {
+        let mut drained = Drained::NOTHING;
+        match self.follow(max, &mut drained) {
+            Ok(()) => Reply::Drained(drained),
+            Err(refusal) => Reply::Refused(refusal),
+        }
+    }
+
+    /// Puts what the policy plans into a list, if there is room for its transactions.
+    fn plan(&self, choices: &mut Vec<Choice>) -> Result<(), Refusal>
+        ensures plan { OnOk result (choices.new.items ≡ plan_of (planning P.chosen self.now)) }
         ensures active { OnOk result (is_some (active self.now.history) ≡ true) }
-        ensures few { IfOk result (λ r. length self.now.transactions + length r.items ≤ MOST_HISTORY) }
-        ensures stampable { IfOk result (λ r. AreStampable (mind_of self.now.agent).records self.now.slots r.items) }
-        ensures below { IfOk result (λ r. AreBelow self.now.settings.cpus r.items) }
-        ensures fits { IfOk result (λ _. standing_refusal (planning P.chosen self.now) Event.Decide ≡ None) }
+        ensures few { OnOk result (length self.now.transactions + length choices.new.items ≤ MOST_HISTORY) }
+        ensures stampable { OnOk result (AreStampable (mind_of self.now.agent).records self.now.slots choices.new.items) }
+        ensures below { OnOk result (AreBelow self.now.settings.cpus choices.new.items) }
+        ensures fits { OnOk result (standing_refusal (planning P.chosen self.now) Event.Decide ≡ None) }
         ensures refused { IfErr result (IsRefusal (standing_refusal (planning P.chosen self.now) Event.Decide)) }
     {
         self.active_agent()?;
@@ -367,9 +406,9 @@ impl<P: Counted + Copy> Machine<P> {
         let history = self.kernel.settings().history;
         let room = history.saturating_sub(self.transactions.len()) as usize;
         let role = self.role.as_ref().unwrap();
-        match role.decide(self.alloc, taken) {
-            Ok(choices) if choices.len() > room => Err(Refusal::HistoryFull),
-            Ok(choices) => Ok(choices),
+        match role.decide_into(self.alloc, taken, choices) {
+            Ok(()) if choices.len() > room => Err(Refusal::HistoryFull),
+            Ok(()) => Ok(()),
             Err(_) => {
                 if role.count(taken) > room {
                     return Err(Refusal::HistoryFull);
@@ -389,10 +428,10 @@ impl<P: Counted + Copy> Machine<P> {
         ensures kept { OnErr result (landings.new.items ≡ []) }
         ensures policy { self.new.policy ≡ self.old.policy }
     {
-        let alloc = self.alloc;
-        self.region.commit(alloc, &mut self.kernel, mask, landings)?;
+        self.active_agent()?;
         let role = self.role.as_mut().unwrap();
-        self.region.collect(role);
+        self.region
+            .land(self.alloc, &mut self.kernel, role, mask, landings)?;
         Ok(self.kernel.is_torn())
     }
 
@@ -477,20 +516,21 @@ impl<P: Counted + Copy> Machine<P> {
         came
     }
 
-    /// Lets the agent follow the messages that wait, at most `max`, as [`Machine::step`] does at `Event::Drain`. Returns what it
-    /// followed.
+    /// Lets the agent follow the messages that wait, at most `max`, as [`Machine::step`] does at `Event::Drain`. What it
+    /// followed is put in the place of what `drained` has.
     ///
     /// # Errors
     ///
     /// The first refusal that applies, and then nothing changes.
-    pub fn drain(&mut self, max: u32) -> Result<Drained, Refusal>
-        ensures step { Step (planning P.chosen self.old) (Event.Drain max) (replied_as Reply.Drained result) (planning P.chosen self.new) }
+    pub fn drain(&mut self, max: u32, drained: &mut Drained) -> Result<(), Refusal>
+        ensures step { Step (planning P.chosen self.old) (Event.Drain max) (replied_as (λ _. Reply.Drained drained.new) result) (planning P.chosen self.new) }
+        ensures kept { OnErr result (drained.new ≡ drained.old) }
         ensures safe { Safe (planning P.chosen self.new) }
         ensures faithful { IsFaithful (planning P.chosen self.new) }
         ensures policy { self.new.policy ≡ self.old.policy }
     {
         self.standing()?;
-        let came = self.follow(max);
+        let came = self.follow(max, drained);
         // Reads a field to expose the invariant.
         let _region = &self.region;
         came
@@ -510,6 +550,26 @@ impl<P: Counted + Copy> Machine<P> {
     {
         self.standing()?;
         let came = self.stamp_standing(cpu, tid, flags);
+        // Reads a field to expose the invariant.
+        let _region = &self.region;
+        came
+    }
+
+    /// Stamps what the agent's policy plans, as [`Machine::step`] does at `Event::Decide`. Returns the number of the first
+    /// transaction, counted from 1. The choices are put in the place of what a list has, so that one list serves each
+    /// decision. If the event is refused, the list may have any choices.
+    ///
+    /// # Errors
+    ///
+    /// The first refusal that applies, and then nothing else changes.
+    pub fn decide(&mut self, choices: &mut Vec<Choice>) -> Result<u32, Refusal>
+        ensures step { Step (planning P.chosen self.old) Event.Decide (replied_as (λ first. Reply.Decided first choices.new.items) result) (planning P.chosen self.new) }
+        ensures safe { Safe (planning P.chosen self.new) }
+        ensures faithful { IsFaithful (planning P.chosen self.new) }
+        ensures policy { self.new.policy ≡ self.old.policy }
+    {
+        self.standing()?;
+        let came = self.decide_standing(choices);
         // Reads a field to expose the invariant.
         let _region = &self.region;
         came
@@ -553,15 +613,12 @@ impl<P: Counted + Copy> Machine<P> {
                 self.command_reply(executed)
             }
             Event::Page { max } => answer(self.page(*max)),
-            Event::Drain { max } => match self.follow(*max) {
-                Ok(drained) => Reply::Drained(drained),
-                Err(refusal) => Reply::Refused(refusal),
-            },
+            Event::Drain { max } => self.drain_all(*max),
             Event::Stamp { cpu, tid, flags } => match self.stamp_standing(*cpu, *tid, *flags) {
                 Ok(number) => Reply::Stamped { number },
                 Err(refusal) => Reply::Refused(refusal),
             },
-            Event::Decide => answer(self.decide()),
+            Event::Decide => self.decide_all(),
             Event::Commit { mask } => self.land_all(*mask),
             Event::Late { number } => answer(self.late(*number)),
             Event::View => answer(self.view()),

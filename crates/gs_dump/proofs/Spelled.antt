@@ -1,8 +1,10 @@
 -- Records are read back from their bytes, one behind the other, and a page that is being written tells of the records that were pushed.
-use Rattle.std.proofs.Common.{◌≡◌, ℕ, ◌+◌, ◌*◌, ◌/◌, ◌<◌, ◌≤◌, List, [], ◌∷◌, ◌++◌, length, take, drop, map, refl, ap, sym, subst, ◌∙◌, arith, length-append}
-use Rattle.std.specs.Prelude.{slice_index, true}
+use Rattle.std.proofs.Common.{◌≡◌, ℕ, ◌+◌, ◌-◌, ◌*◌, ◌/◌, ◌<◌, ◌≤◌, List, [], ◌∷◌, ◌++◌, length, take, drop, map, replicate, refl, ap, sym, subst, ◌∙◌, arith, length-append}
+use Rattle.std.specs.Prelude.{Vec, slice_index, true}
+use Rattle.std.specs.Vec.{with_items}
+use borrow.Rule.Slice.PartMut.{put_mid}
 use Rattle.std.proofs.Math.Nat.{mul-div_cancel_left}
-use Rattle.std.proofs.lemmas.List.{drop-append-le, drop_at, flat_map_more, length-drop, nil_from_length, take_at}
+use Rattle.std.proofs.lemmas.List.{append-nil, drop-append-le, drop_all, drop_at, flat_map_more, length-drop, nil_from_length, take_at, with_items_is}
 use Rattle.gs_layout.specs.declared.name.TheConstants.{MOST_NAME_LEN}
 use Rattle.gs_layout.specs.Name.{is_name, name_field}
 use Rattle.gs_dump.specs.declared.record.DumpRecord.{DumpRecord}
@@ -106,8 +108,17 @@ live_push : (rs : List DumpRecord) (r : DumpRecord) → AreLive rs → IsLive r 
 live_push [] r all h = (h, tt)
 live_push (x ∷ xs) r all h = (all.0, live_push xs r all.1 h)
 
+-- a text written over what stood behind other bytes stands behind them in its place
+written_over : (bytes under now text : List ℕ) (at : ℕ) → at ≡ length bytes → now ≡ bytes ++ under → length text ≡ length under
+    → put_mid at (length now - at) now text ≡ bytes ++ text
+written_over bytes under now text at size e same =
+    let all : length now ≡ length bytes + length under = ap length e ∙ length-append bytes under in
+    let none : drop (length now - at) (drop at now) ≡ [] = drop_all (length now - at) (drop at now) (omega (arith, length-drop at now)) in
+    let front : take at now ≡ bytes = ap (take at) e ∙ take_at bytes under at (sym size) in
+    ap (λ (t : List ℕ). take at now ++ (text ++ t)) none ∙ (ap (λ (t : List ℕ). take at now ++ t) (append-nil text) ∙ ap (λ (t : List ℕ). t ++ text) front)
+
 -- one record more
-pub pushed : (bytes bytes' : List ℕ) (count last : ℕ) (r : DumpRecord) → IsBegun bytes count last → IsLive r → bytes' ≡ bytes ++ record_spelling Two r
+pushed : (bytes bytes' : List ℕ) (count last : ℕ) (r : DumpRecord) → IsBegun bytes count last → IsLive r → bytes' ≡ bytes ++ record_spelling Two r
     → IsBegun bytes' (count + 1) r.tid × (records_in (drop HEADER_LEN bytes') ≡ records_in (drop HEADER_LEN bytes) ++ r ∷ [])
 pushed bytes bytes' count last r h live e =
     let rs = records_in (drop HEADER_LEN bytes) in
@@ -123,3 +134,16 @@ pushed bytes bytes' count last r h live e =
       },
       more,
     )
+
+-- one record more, written over zeros at the end of a vector
+pub pushed_over : {Z : Type 0} (v : Vec ℕ Z) (bytes now text : List ℕ) (at count last : ℕ) (r : DumpRecord) → IsBegun bytes count last → IsLive r
+    → at ≡ length bytes → now ≡ v.items → v.items ≡ bytes ++ replicate (record_len Two) 0 → text ≡ record_spelling Two r
+    → IsBegun (with_items v (put_mid at (length now - at) now text)).items (count + 1) r.tid
+    × (records_in (drop HEADER_LEN (with_items v (put_mid at (length now - at) now text)).items) ≡ records_in (drop HEADER_LEN bytes) ++ r ∷ [])
+pushed_over v bytes now text at count last r h live size seen e spelled =
+    let under : List ℕ = replicate (record_len Two) 0 in
+    let same : length text ≡ length under = ap length spelled ∙ length-record_spelling Two r live in
+    let ys = put_mid at (length now - at) now text in
+    let is : ys ≡ bytes ++ text = written_over bytes under now text at size (seen ∙ e) same in
+    let full : length ys ≡ v.len = omega (arith, ap length is, length-append bytes text, ap length e, length-append bytes under, same, v.ok.0) in
+    pushed bytes (with_items v ys).items count last r h live (with_items_is v ys full ∙ (is ∙ ap (λ (t : List ℕ). bytes ++ t) spelled))

@@ -188,9 +188,9 @@ impl PageWriter {
         requires live { IsLive thread.now }
         ensures { OnOk result (self.new ≡ self.old ++ thread.now ∷ []) }
     {
-        let mut bytes = [0; RECORD_LEN];
-        write_record(thread, &mut bytes);
-        self.bytes.extend_from_slice(&bytes)?;
+        let at = self.bytes.len();
+        self.bytes.extend_from_slice(&[0; RECORD_LEN])?;
+        write_record(thread, &mut self.bytes[at..]);
         self.count += 1;
         self.last = thread.tid;
         Ok(())

@@ -1,5 +1,5 @@
 -- Events in few bytes, and what some of them tell aside.
-use Rattle.std.proofs.Common.{◌≡◌, ◌∙◌, refl, sym, ap, subst, ◌<◌, ◌≤◌, ◌+◌, ◌-◌, ◌==◌, if◌then◌else◌, Bool, true, false, ℕ, zero, suc, Option, None, List, [], ◌∷◌, ◌++◌, append_assoc, append-nil, add-one, arith, drop, drop-cons, eq-zero-or-pos, get_or, inl, inr, length, map, slice_set}
+use Rattle.std.proofs.Common.{◌≡◌, ◌∙◌, refl, sym, ap, subst, ◌<◌, ◌≤◌, ◌+◌, ◌-◌, ◌==◌, if◌then◌else◌, Bool, true, false, ℕ, zero, suc, Option, None, Result, Ok, Err, OnOk, OnErr, List, [], ◌∷◌, ◌++◌, append_assoc, append-nil, add-one, arith, drop, drop-cons, eq-zero-or-pos, get_or, inl, inr, length, map, slice_set}
 use Rattle.std.specs.List.{All}
 use Rattle.std.proofs.KnownBytes.{Appends-nil}
 use Rattle.std.proofs.lemmas.Bool.{eqb-true}
@@ -165,6 +165,11 @@ all_with asides [] s all has zero d lt = has
 all_with asides [] s all has (suc k) d lt = absurd (omega arith)
 all_with asides (t ∷ rest) s all has zero d lt = all zero d (omega arith)
 all_with asides (t ∷ rest) s all has (suc k) d lt = all_with asides rest s (λ j e le. all (suc j) e (omega arith)) has k d (omega arith)
+
+-- the same where it is added unless that fails, and then nothing is
+pub all_added : {T E : Type 0} (r : Result T E) (asides : List Told) (old new : List Short) (s : Short) → OnOk r (new ≡ old ++ s ∷ []) → OnErr r (new ≡ old) → All (HasTold (length asides)) old → HasTold (length asides) s → All (HasTold (length asides)) new
+all_added (Ok x) asides old new s added kept all has = subst (λ (shorts : List Short). All (HasTold (length asides)) shorts) (sym added) (all_with asides old s all has)
+all_added (Err e) asides old new s added kept all has = subst (λ (shorts : List Short). All (HasTold (length asides)) shorts) (sym kept) all
 
 -- the objects that are put together next, and the rest
 pub leads_events : (a b : Option (List ℕ)) (whole block text : List ℕ) (asides : List Told) (shorts : List Short) (i : ℕ) → i < length shorts → Leads a whole b (block ++ outlines_text text (all_events asides (drop i shorts)))

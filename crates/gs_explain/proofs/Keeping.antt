@@ -25,6 +25,7 @@ use Rattle.gs_sentences.specs.Reason as reasons
 use Rattle.gs_sentences.specs.declared.landed.Overflow.{Overflow}
 use Rattle.gs_explain.specs.declared.piece.Piece.{Piece}
 use Rattle.gs_explain.specs.declared.kept.Kept.{Kept}
+use Rattle.gs_explain.specs.declared.kept.TheConstants.{MOST_KEPT}
 use Rattle.gs_explain.specs.declared.content.Noted.{Noted}
 use Rattle.gs_explain.specs.declared.content.Told.{Told}
 use Rattle.gs_explain.specs.Explained.{Line}
@@ -126,7 +127,7 @@ same_source s line place e f g h = λ i. Some (record { line = f i; place = g i;
 
 -- what is kept, once more is
 pub all_put : (P : Kept → Type 0) (kept : Kept) (kepts : List Kept) → All P kepts → P kept → All P (kept_put kept kepts)
-all_put P kept kepts all is = by_room (nat_le 4096 (length kepts)) where
+all_put P kept kepts all is = by_room (nat_le MOST_KEPT (length kepts)) where
   by_room : (full : Bool) → All P (if full then kept ∷ [] else kepts ++ kept ∷ [])
   by_room true = alone P kept is
   by_room false = All-append P kepts (kept ∷ []) all (alone P kept is)

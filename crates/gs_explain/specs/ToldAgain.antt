@@ -9,6 +9,7 @@ use Rattle.gs_sentences.specs.Reason as reasons
 use Rattle.gs_explain.specs.declared.content.Noted.{Noted}
 use Rattle.gs_explain.specs.declared.content.Told.{Told}
 use Rattle.gs_explain.specs.declared.kept.Kept.{Kept}
+use Rattle.gs_explain.specs.declared.kept.TheConstants.{MOST_KEPT}
 use Rattle.gs_explain.specs.declared.piece.Piece.{Piece}
 use Rattle.gs_explain.specs.Landings.{because}
 use Rattle.gs_sentences.specs.Parts.{part}
@@ -59,4 +60,4 @@ pub record AreHeld (text : List ℕ) (pieces : List Piece) (kepts : List Kept) :
 
 -- what is kept, once more is: if it was much, it is kept no more
 abbrev pub kept_put : Kept → List Kept → List Kept
-kept_put kept kepts = if nat_le 4096 (length kepts) then kept ∷ [] else kepts ++ kept ∷ []
+kept_put kept kepts = if nat_le MOST_KEPT (length kepts) then kept ∷ [] else kepts ++ kept ∷ []

@@ -17,8 +17,8 @@ use gs_journal::LastEntry;
 use gs_kernel::{Executed, Landing};
 use gs_layout::Refusal;
 use gs_lines::{
-    Text, outcome_name, write_committed, write_drained, write_executed, write_late, write_refused,
-    write_reply, write_stamped,
+    Text, outcome_name, write_committed, write_decided, write_drained, write_executed, write_late,
+    write_refused, write_reply, write_stamped,
 };
 use gs_sentences::{Cause, Reason, Sentence, put_reason};
 use gs_trace::Came;
@@ -212,9 +212,10 @@ impl Draft {
         match came {
             Came::Executed(came, last) => write_executed(&mut self.text, came, last),
             Came::Refused(refusal) => write_refused(&mut self.text, refusal),
-            Came::Drained(drained) => write_drained(&mut self.text, &drained),
+            Came::Drained(drained) => write_drained(&mut self.text, drained),
             Came::Stamped { number, .. } => write_stamped(&mut self.text, number),
             Came::Landed(landings, torn) => write_committed(&mut self.text, landings, torn),
+            Came::Decided(first, choices) => write_decided(&mut self.text, first, choices),
             Came::Replied(reply) => write_reply(&mut self.text, reply),
         }
     }

@@ -29,8 +29,8 @@ use gs_sentences::{Landed, Tail};
 use std::alloc::AllocError;
 use std::slice;
 
-/// So many are kept at most.
-const MOST_KEPT: usize = 4_096;
+/// So many are kept at most: they take 90 KiB, which a processor has near at hand.
+const MOST_KEPT: usize = 512;
 
 /// What was told of a late landing, and where a text has it.
 #[derive(Clone, Copy)]

@@ -21,6 +21,7 @@ mod overflow;
 mod page;
 mod piece;
 mod pieces;
+mod pushing;
 mod quiet;
 mod quoted;
 mod refusal;

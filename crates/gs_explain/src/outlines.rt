@@ -10,6 +10,7 @@ ghost use Rattle.gs_explain.specs.declared.outline.Told.{Told};
 ghost use Rattle.gs_explain.specs.declared.outline.Told.TheVariants as tolds;
 
 use crate::outline::{Outline, Told, parts_in, short};
+use crate::pushing::push_in_place;
 use gs_script::SaidLine;
 use gs_sentences::Tail;
 use std::alloc::{AllocError, Global};
@@ -215,8 +216,7 @@ fn push_short<'a>(shorts: &mut Vec<Short<'a>>, short: Short<'a>) -> Result<(), A
         shorts[len - 1].times += 1;
         return Ok(());
     }
-    shorts.push(short)?;
-    Ok(())
+    push_in_place(shorts, short)
 }
 
 /// Events in order. Clauses see them as outlines.
@@ -275,10 +275,7 @@ impl<'a> Outlines<'a> {
         ensures kept { OnErr result (self.new ≡ self.old) }
     {
         match Short::of(outline.line, outline.number, outline.first, &outline.told) {
-            Some(short) => {
-                self.shorts.push(short)?;
-                Ok(())
-            }
+            Some(short) => push_in_place(&mut self.shorts, short),
             None => self.push_aside(outline.line, outline.number, outline.first, &outline.told),
         }
     }

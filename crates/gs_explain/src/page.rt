@@ -18,9 +18,10 @@ use gs_journal::LastEntry;
 use gs_kernel::{Executed, Landing};
 use gs_layout::Refusal;
 use gs_lines::{
-    Text, write_drained, write_executed, write_landing, write_late, write_refused, write_reply,
-    write_stamped, write_torn,
+    Text, write_decided, write_drained, write_executed, write_landing, write_late, write_refused,
+    write_reply, write_stamped, write_torn,
 };
+use gs_policy::Choice;
 use gs_script::SaidLine;
 use gs_sentences::{Landed, Reason, Refused, Sentence, put_landed, put_reason, put_refused};
 use gs_text::Digits;
@@ -143,6 +144,13 @@ impl Page {
         ensures { OnOk result (self.new ≡ self.old ++ reply_lines (replies.Stamped number)) }
     {
         write_stamped(&mut self.text, number)
+    }
+
+    /// Adds the lines of a decision, by the number of its first transaction.
+    pub(crate) fn decided(&mut self, first: u32, choices: &[Choice]) -> Result<(), AllocError>
+        ensures { OnOk result (self.new ≡ self.old ++ reply_lines (replies.Decided first choices.now)) }
+    {
+        write_decided(&mut self.text, first, choices)
     }
 
     /// Adds the line of a landing.

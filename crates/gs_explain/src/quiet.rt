@@ -25,10 +25,10 @@ pub(crate) enum Quiet {
 impl Quiet {
     /// Returns what came of the event.
     #[inline(always)]
-    pub(crate) fn came(&self) -> Came<'static>
+    pub(crate) fn came(&self) -> Came<'_>
         ensures { reply_in result ≡ quiet_reply self.now }
     {
-        match *self {
+        match self {
             Quiet::Nothing => Came::Landed(&[], false),
             Quiet::Stamped {
                 cpu,
@@ -36,10 +36,10 @@ impl Quiet {
                 flags,
                 number,
             } => Came::Stamped {
-                cpu,
-                tid,
-                flags,
-                number,
+                cpu: *cpu,
+                tid: *tid,
+                flags: *flags,
+                number: *number,
             },
             Quiet::Drained(drained) => Came::Drained(drained),
         }

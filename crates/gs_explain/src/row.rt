@@ -206,8 +206,8 @@ fn write_came(
         }
         Came::Drained(drained) => {
             hear_all(index, scene.journal, first)?;
-            out.drained(&drained)?;
-            write_drained(out, &drained)
+            out.drained(drained)?;
+            write_drained(out, drained)
         }
         Came::Stamped { number, .. } => {
             hear_all(index, scene.journal, first)?;
@@ -215,6 +215,10 @@ fn write_came(
         }
         Came::Landed(landings, torn) => {
             write_committed(out, scene, index, first, landings, torn)
+        }
+        Came::Decided(number, choices) => {
+            hear_all(index, scene.journal, first)?;
+            out.decided(number, choices)
         }
         Came::Replied(reply) => write_shown(out, scene, index, first, reply),
     }

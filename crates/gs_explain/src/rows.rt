@@ -25,6 +25,7 @@ use crate::moment::Scene;
 use crate::page::Page;
 use crate::piece::{MOST_LINE_LEN, Piece};
 use crate::pieces::write_retold;
+use crate::pushing::push_in_place;
 use crate::quiet::Quiet;
 use crate::row::{write_done, write_quiet, write_row};
 use crate::slots::Slot;
@@ -96,17 +97,6 @@ fn piece_of<'a>(
 {
     let (tail, _) = tail_of(scene, index, refusal)?;
     Piece::new(len, said, tail)
-}
-
-/// Adds a row that is put together at the end. It makes room by itself: a call that does both is not folded into the loop over a script.
-#[inline(always)]
-fn push_piece<'a>(pieces: &mut Vec<Piece<'a>>, piece: Piece<'a>) -> Result<(), AllocError>
-    ensures added { OnOk result (pieces.new.items ≡ pieces.old.items ++ piece.entry ∷ []) }
-    ensures kept { OnErr result (pieces.new.items ≡ pieces.old.items) }
-{
-    pieces.reserve(1)?;
-    pieces.push_reserved(piece);
-    Ok(())
 }
 
 impl<'a> Rows<'a> {
@@ -298,7 +288,7 @@ impl<'a> Rows<'a> {
     {
         match piece_of(self.page.as_bytes().len(), said, scene, index, refusal) {
             Some(piece) => {
-                push_piece(&mut self.pieces, piece)?;
+                push_in_place(&mut self.pieces, piece)?;
                 Ok(true)
             }
             None => Ok(false),

@@ -21,11 +21,12 @@ use crate::marking::mark_last;
 use crate::moment::Scene;
 use crate::quiet::Quiet;
 use crate::teller::Teller;
+use gs_agent::Drained;
 use gs_core::{Event, Machine, Reply};
 use gs_journal::LastEntry;
 use gs_kernel::{Command, Executed, Landing};
 use gs_layout::Refusal;
-use gs_policy::Counted;
+use gs_policy::{Choice, Counted};
 use gs_reasons::{Index, Marks};
 use gs_script::{NamedPolicy, Reading, SaidLine, ScriptError};
 use gs_slots::Flags;
@@ -297,9 +298,10 @@ fn explain_drain<'a, P: Counted + Copy, T: Teller<'a>>(
 {
     let first = machine.kernel().journal().len();
     let stamped = machine.transactions().len();
-    match machine.drain(max) {
-        Ok(drained) => {
-            let came = Came::Drained(drained);
+    let mut drained = Drained::NOTHING;
+    match machine.drain(max, &mut drained) {
+        Ok(()) => {
+            let came = Came::Drained(&drained);
             if came.is_short() {
                 return Err(AllocError);
             }
@@ -482,6 +484,38 @@ fn explain_late<'a, P: Counted + Copy, T: Teller<'a>>(
     }
 }
 
+/// Lets what the policy plans be stamped. The choices are put in the place of what a list has.
+#[inline(never)]
+fn explain_decide<'a, P: Counted + Copy, T: Teller<'a>>(
+    machine: &mut Machine<P>,
+    lines: &mut Lines,
+    index: &mut Index,
+    last: &mut Marks,
+    out: &mut T,
+    said: &SaidLine<'a>,
+    choices: &mut Vec<Choice>,
+) -> Result<(), AllocError>
+    requires text { is_text said.now.bytes.now ≡ true }
+    requires heard { HasHeard index.old machine.old.history }
+    requires marked { IsMarked last.old.places.items machine.old.transactions }
+    ensures { OnOk result (ExplainsOne P.chosen T.show (noted_of lines.old) (planning P.chosen machine.old) (said_line said.now) Event.Decide (planning P.chosen machine.new) (noted_of lines.new) index.new last.new.places.items (T.bytes out.old) (T.bytes out.new)) }
+{
+    let first = machine.kernel().journal().len();
+    let stamped = machine.transactions().len();
+    let event = Event::Decide;
+    match machine.decide(choices) {
+        Ok(number) => {
+            let came = Came::Decided(number, choices.as_slice());
+            explain_came(
+                machine, lines, index, last, out, said, &event, first, stamped, came,
+            )
+        }
+        Err(refusal) => explain_other_refusal(
+            machine, lines, index, last, out, said, &event, first, stamped, refusal,
+        ),
+    }
+}
+
 /// Lets any event happen.
 #[inline(never)]
 fn explain_step<'a, P: Counted + Copy, T: Teller<'a>>(
@@ -515,8 +549,8 @@ fn explain_step<'a, P: Counted + Copy, T: Teller<'a>>(
     }
 }
 
-/// Lets an event happen, and adds what explains it. It fails only if out of memory, or if what came of it tells of that. A list serves
-/// each commit.
+/// Lets an event happen, and adds what explains it. It fails only if out of memory, or if what came of it tells of that. One list
+/// serves each commit, and one each decision.
 #[inline(always)]
 fn explain_one<'a, P: Counted + Copy, T: Teller<'a>>(
     machine: &mut Machine<P>,
@@ -527,6 +561,7 @@ fn explain_one<'a, P: Counted + Copy, T: Teller<'a>>(
     said: &SaidLine<'a>,
     event: &Event<P>,
     landings: &mut Vec<Landing>,
+    choices: &mut Vec<Choice>,
 ) -> Result<(), AllocError>
     requires text { is_text said.now.bytes.now ≡ true }
     requires heard { HasHeard index.old machine.old.history }
@@ -547,6 +582,7 @@ fn explain_one<'a, P: Counted + Copy, T: Teller<'a>>(
         Event::Late { number } => {
             explain_late(machine, lines, index, last, out, said, event, *number)
         }
+        Event::Decide => explain_decide(machine, lines, index, last, out, said, choices),
         _ => explain_step(machine, lines, index, last, out, said, event),
     }
 }
@@ -573,6 +609,7 @@ pub(crate) fn explain_all<'a, P: NamedPolicy, T: Teller<'a>>(
     let mut script = script;
     let mut event = Vec::new(alloc);
     let mut landings = Vec::new(alloc);
+    let mut choices = Vec::new(alloc);
     'events: while let Some(said) = script.next(&mut event)? {
         explain_one(
             machine,
@@ -583,6 +620,7 @@ pub(crate) fn explain_all<'a, P: NamedPolicy, T: Teller<'a>>(
             &said,
             &event[0],
             &mut landings,
+            &mut choices,
         )?;
         event.clear();
     }

@@ -286,9 +286,9 @@ pub(crate) fn push_whys(
         }
         Came::Drained(drained) => {
             hear_all(index, scene.journal, first)?;
-            push_drained(out, &drained)
+            push_drained(out, drained)
         }
-        Came::Stamped { .. } => hear_all(index, scene.journal, first),
+        Came::Stamped { .. } | Came::Decided(..) => hear_all(index, scene.journal, first),
         Came::Landed(landings, _) => push_committed(out, scene, index, first, landings),
         Came::Replied(reply) => push_replied(out, scene, index, first, reply),
     }

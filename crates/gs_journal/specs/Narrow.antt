@@ -1,6 +1,8 @@
--- How two lists say the entries of a journal. What is wide of an entry is the change of a creation or of a new mask. It stands in a list of its own, at the
--- place that the narrow entry holds.
-use Rattle.std.specs.Prelude.{ℕ, ◌<◌, List, [], ◌∷◌, map, slice_get, unwrap_or}
+-- How three lists say the entries of a journal. What is wide of an entry are the facts of a new thread, or a new mask. Each stands in a list of its
+-- own, at the place that the narrow entry holds.
+use Rattle.std.specs.Prelude.{ℕ, ◌<◌, false, None, List, [], ◌∷◌, map, slice_get, unwrap_or}
+use Rattle.gs_layout.specs.declared.facts.Class.TheVariants as classes
+use Rattle.gs_layout.specs.declared.facts.Facts.{Facts}
 use Rattle.gs_layout.specs.declared.message.Change.{Change}
 use Rattle.gs_layout.specs.declared.message.Change.TheVariants.{Created, Blocked, Wakeup, Preempted, Yield, Dead, Affinity}
 use Rattle.gs_layout.specs.declared.message.Message.{Message}
@@ -9,76 +11,107 @@ use Rattle.gs_journal.specs.declared.entry.Entry.{Entry}
 use Rattle.gs_journal.specs.declared.entry.Entry.TheVariants.{Posted, Placed, Role, Begin, Left, Taken, Given, Torn}
 use Rattle.gs_journal.specs.declared.narrow.Narrow.{Narrow}
 use Rattle.gs_journal.specs.declared.narrow.Narrow.TheVariants as narrow
+use Rattle.gs_journal.specs.declared.wide.NewMask.{NewMask}
 
--- the narrow entry of a message about a thread, where a wide change stands at this place
-abbrev pub packed_change : ℕ → ℕ → ℕ → Change → Narrow
-packed_change p t s (Created f) = narrow.Wide p t s
-packed_change p t s (Blocked c) = narrow.Blocked c t s
-packed_change p t s Wakeup = narrow.Wakeup t s
-packed_change p t s (Preempted c) = narrow.Preempted c t s
-packed_change p t s (Yield c) = narrow.Yield c t s
-packed_change p t s (Dead c) = narrow.Dead c t s
-packed_change p t s (Affinity c off m) = narrow.Wide p t s
+-- the narrow entry of a message about a thread, where what is wide stands at these places
+abbrev pub packed_change : ℕ → ℕ → ℕ → ℕ → Change → Narrow
+packed_change f m t s (Created g) = narrow.Created f t s
+packed_change f m t s (Blocked c) = narrow.Blocked c t s
+packed_change f m t s Wakeup = narrow.Wakeup t s
+packed_change f m t s (Preempted c) = narrow.Preempted c t s
+packed_change f m t s (Yield c) = narrow.Yield c t s
+packed_change f m t s (Dead c) = narrow.Dead c t s
+packed_change f m t s (Affinity c off n) = narrow.Affinity m t s
 
-abbrev pub packed_message : ℕ → Message → Narrow
-packed_message p (Thread t s c) = packed_change p t s c
-packed_message p (TimerTick c) = narrow.Tick c
+abbrev pub packed_message : ℕ → ℕ → Message → Narrow
+packed_message f m (Thread t s c) = packed_change f m t s c
+packed_message f m (TimerTick c) = narrow.Tick c
 
--- the narrow entry, where what is wide stands at this place
-abbrev pub packed : ℕ → Entry → Narrow
-packed p (Posted m) = packed_message p m
-packed p (Placed t s c g) = narrow.Placed c t s g
-packed p (Role g c) = narrow.Role c g
-packed p (Begin g) = narrow.Begin g
-packed p Left = narrow.Left
-packed p (Taken c) = narrow.Taken c
-packed p (Given c) = narrow.Given c
-packed p Torn = narrow.Torn
+-- the narrow entry, where what is wide stands at these places
+abbrev pub packed : ℕ → ℕ → Entry → Narrow
+packed f m (Posted message) = packed_message f m message
+packed f m (Placed t s c g) = narrow.Placed c t s g
+packed f m (Role g c) = narrow.Role c g
+packed f m (Begin g) = narrow.Begin g
+packed f m Left = narrow.Left
+packed f m (Taken c) = narrow.Taken c
+packed f m (Given c) = narrow.Given c
+packed f m Torn = narrow.Torn
 
-abbrev pub wide_of_change : Change → List Change
-wide_of_change (Created f) = Created f ∷ []
-wide_of_change (Affinity c off m) = Affinity c off m ∷ []
-wide_of_change _ = []
+abbrev pub facts_of_change : Change → List Facts
+facts_of_change (Created f) = f ∷ []
+facts_of_change _ = []
 
-abbrev pub wide_of_message : Message → List Change
-wide_of_message (Thread t s c) = wide_of_change c
-wide_of_message (TimerTick c) = []
+abbrev pub facts_of_message : Message → List Facts
+facts_of_message (Thread t s c) = facts_of_change c
+facts_of_message (TimerTick c) = []
 
--- what is wide of an entry: one change, or nothing
-abbrev pub wide_of : Entry → List Change
-wide_of (Posted m) = wide_of_message m
-wide_of _ = []
+-- the facts of an entry: those of a new thread, or none
+abbrev pub facts_of : Entry → List Facts
+facts_of (Posted m) = facts_of_message m
+facts_of _ = []
 
--- the change at a place. There is none behind the end, where a wake-up stands for it
-abbrev pub change_at : List Change → ℕ → Change
-change_at wide p = unwrap_or (slice_get wide p) Wakeup
+abbrev pub masks_of_change : Change → List NewMask
+masks_of_change (Affinity c off m) = record { mask = m; cpu = c; off = off } ∷ []
+masks_of_change _ = []
 
--- the entry that a narrow one says, beside the list of what is wide
-abbrev pub unpacked : List Change → Narrow → Entry
-unpacked wide (narrow.Wide p t s) = Posted (Thread t s (change_at wide p))
-unpacked wide (narrow.Wakeup t s) = Posted (Thread t s Wakeup)
-unpacked wide (narrow.Blocked c t s) = Posted (Thread t s (Blocked c))
-unpacked wide (narrow.Preempted c t s) = Posted (Thread t s (Preempted c))
-unpacked wide (narrow.Yield c t s) = Posted (Thread t s (Yield c))
-unpacked wide (narrow.Dead c t s) = Posted (Thread t s (Dead c))
-unpacked wide (narrow.Tick c) = Posted (TimerTick c)
-unpacked wide (narrow.Placed c t s g) = Placed t s c g
-unpacked wide (narrow.Role c g) = Role g c
-unpacked wide (narrow.Begin g) = Begin g
-unpacked wide narrow.Left = Left
-unpacked wide (narrow.Taken c) = Taken c
-unpacked wide (narrow.Given c) = Given c
-unpacked wide narrow.Torn = Torn
+abbrev pub masks_of_message : Message → List NewMask
+masks_of_message (Thread t s c) = masks_of_change c
+masks_of_message (TimerTick c) = []
 
--- the entries that the two lists say
-unfoldable pub entries_of : List Change → List Narrow → List Entry
-entries_of wide ns = map (unpacked wide) ns
+-- the mask of an entry: a new one, or none
+abbrev pub masks_of : Entry → List NewMask
+masks_of (Posted m) = masks_of_message m
+masks_of _ = []
 
--- the place that a narrow entry holds is one of so many
-abbrev pub IsWithin : ℕ → Narrow → Type 0
-IsWithin n (narrow.Wide p t s) = p < n
-IsWithin n _ = Unit {0}
+-- what stands for the facts behind the end, where there are none
+abbrev pub no_facts : Facts
+no_facts = record { mask = 0; runnable = false; class = classes.Zero; name = [] }
 
-abbrev pub AllWithin : ℕ → List Narrow → Type 0
-AllWithin n [] = Unit {0}
-AllWithin n (x ∷ xs) = IsWithin n x × AllWithin n xs
+-- the facts at a place
+abbrev pub facts_at : List Facts → ℕ → Facts
+facts_at facts p = unwrap_or (slice_get facts p) no_facts
+
+-- what stands for a new mask behind the end, where there is none
+abbrev pub no_mask : NewMask
+no_mask = record { mask = 0; cpu = None; off = false }
+
+-- the new mask at a place
+abbrev pub mask_at : List NewMask → ℕ → NewMask
+mask_at masks p = unwrap_or (slice_get masks p) no_mask
+
+-- the change to a new mask
+abbrev pub change_to : NewMask → Change
+change_to n = Affinity n.cpu n.off n.mask
+
+-- the entry that a narrow one says, beside the lists of what is wide
+abbrev pub unpacked : List Facts → List NewMask → Narrow → Entry
+unpacked facts masks (narrow.Created p t s) = Posted (Thread t s (Created (facts_at facts p)))
+unpacked facts masks (narrow.Affinity p t s) = Posted (Thread t s (change_to (mask_at masks p)))
+unpacked facts masks (narrow.Wakeup t s) = Posted (Thread t s Wakeup)
+unpacked facts masks (narrow.Blocked c t s) = Posted (Thread t s (Blocked c))
+unpacked facts masks (narrow.Preempted c t s) = Posted (Thread t s (Preempted c))
+unpacked facts masks (narrow.Yield c t s) = Posted (Thread t s (Yield c))
+unpacked facts masks (narrow.Dead c t s) = Posted (Thread t s (Dead c))
+unpacked facts masks (narrow.Tick c) = Posted (TimerTick c)
+unpacked facts masks (narrow.Placed c t s g) = Placed t s c g
+unpacked facts masks (narrow.Role c g) = Role g c
+unpacked facts masks (narrow.Begin g) = Begin g
+unpacked facts masks narrow.Left = Left
+unpacked facts masks (narrow.Taken c) = Taken c
+unpacked facts masks (narrow.Given c) = Given c
+unpacked facts masks narrow.Torn = Torn
+
+-- the entries that the three lists say
+unfoldable pub entries_of : List Facts → List NewMask → List Narrow → List Entry
+entries_of facts masks ns = map (unpacked facts masks) ns
+
+-- the place that a narrow entry holds is one of so many facts, or of so many masks
+abbrev pub IsWithin : ℕ → ℕ → Narrow → Type 0
+IsWithin f m (narrow.Created p t s) = p < f
+IsWithin f m (narrow.Affinity p t s) = p < m
+IsWithin f m _ = Unit {0}
+
+abbrev pub AllWithin : ℕ → ℕ → List Narrow → Type 0
+AllWithin f m [] = Unit {0}
+AllWithin f m (x ∷ xs) = IsWithin f m x × AllWithin f m xs

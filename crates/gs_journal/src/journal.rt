@@ -7,8 +7,8 @@ use crate::last::LastEntry;
 use crate::narrow::Narrow;
 use crate::query;
 use crate::room::{grow, more_room};
-use crate::wide::{push_copy, push_wide};
-use gs_layout::{Change, Record, Refusal};
+use crate::wide::{NewMask, push_copy, push_wide};
+use gs_layout::{Facts, Record, Refusal};
 use std::alloc::Global;
 use std::marker::Model;
 
@@ -17,12 +17,14 @@ use std::marker::Model;
 /// A query says what the first `n` entries say, or what all of them say if there are no more than `n`. It
 /// walks the entries: it is not meant to be fast.
 ///
-/// An entry takes 16 bytes. What is wide of it, the facts of a new thread or a new mask, stands in a second list.
+/// An entry takes 16 bytes. The facts of a new thread, and a new mask, stand in lists of their own.
 #[derive(Drop)]
 pub struct Journal {
     narrow: Vec<Narrow>,
-    /// What is wide of the entries, in order. It has room for each entry that the other list has room for.
-    wide: Vec<Change>,
+    /// The facts of new threads, in order. There is room for those of each entry that there is room for.
+    facts: Vec<Facts>,
+    /// New masks, in order, with as much room.
+    masks: Vec<NewMask>,
     limit: u32,
     first_tseq: u32,
 }
@@ -35,7 +37,7 @@ impl Model for Journal {
     ghost Value = { JournalState };
 
     ghost view = { λ j. record {
-      entries = entries_of j.wide.items j.narrow.items;
+      entries = entries_of j.facts.items j.masks.items j.narrow.items;
       limit = j.limit;
       first_tseq = j.first_tseq;
       room = min (vec_capacity j.narrow - vec_len j.narrow) (j.limit - vec_len j.narrow);
@@ -43,9 +45,11 @@ impl Model for Journal {
 
     ghost invariant = { λ j. record {
       within : vec_len j.narrow ≤ j.limit;
-      fewer : vec_len j.wide ≤ vec_len j.narrow;
-      placed : AllWithin (length j.wide.items) j.narrow.items;
-      beside : vec_capacity j.narrow - vec_len j.narrow ≤ vec_capacity j.wide - vec_len j.wide;
+      fewer_facts : vec_len j.facts ≤ vec_len j.narrow;
+      fewer_masks : vec_len j.masks ≤ vec_len j.narrow;
+      placed : AllWithin (length j.facts.items) (length j.masks.items) j.narrow.items;
+      facts_room : vec_capacity j.narrow - vec_len j.narrow ≤ vec_capacity j.facts - vec_len j.facts;
+      masks_room : vec_capacity j.narrow - vec_len j.narrow ≤ vec_capacity j.masks - vec_len j.masks;
     } };
 }
 
@@ -61,7 +65,8 @@ impl Journal {
     {
         Journal {
             narrow: Vec::new(alloc),
-            wide: Vec::new(alloc),
+            facts: Vec::new(alloc),
+            masks: Vec::new(alloc),
             limit,
             first_tseq,
         }
@@ -92,7 +97,8 @@ impl Journal {
             return Ok(());
         }
         let more = more_room(additional, self.narrow.len(), left);
-        Ok(grow(&mut self.narrow, &mut self.wide, more)?)
+        let (facts, masks) = (&mut self.facts, &mut self.masks);
+        Ok(grow(&mut self.narrow, facts, masks, more)?)
     }
 
     /// Appends an entry, for which room was made before.
@@ -105,8 +111,10 @@ impl Journal {
         ensures first_tseq { self.new.first_tseq ≡ self.old.first_tseq }
         ensures room { self.old.room ≤ self.new.room + 1 }
     {
-        let narrow = Narrow::of(self.wide.len() as u32, &entry);
-        push_wide(&mut self.wide, &entry);
+        let facts = self.facts.len() as u32;
+        let masks = self.masks.len() as u32;
+        let narrow = Narrow::of(facts, masks, &entry);
+        push_wide(&mut self.facts, &mut self.masks, &entry);
         push_copy(&mut self.narrow, &narrow);
     }
 
@@ -129,7 +137,7 @@ impl Journal {
         ensures value { slice_get self.now.entries place ≡ Some result }
         ensures item { result ≡ get_or self.now.entries place result }
     {
-        self.narrow[place].entry(self.wide.as_slice())
+        self.narrow[place].entry(&self.facts, &self.masks)
     }
 
     /// Returns the entry at a place, counted from 0, or `None` if there are no more entries.

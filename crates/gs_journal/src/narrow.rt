@@ -6,13 +6,20 @@ ghost use Rattle.gs_journal.specs.declared.entry.Entry.TheVariants.{Posted};
 ghost use Rattle.gs_journal.specs.Narrow.{IsWithin, packed, packed_change, packed_message, unpacked};
 
 use crate::entry::Entry;
-use gs_layout::{Change, Message};
+use crate::wide::NewMask;
+use gs_layout::{Change, Facts, Message};
 
 /// An entry without what is wide of it. A message's thread and number stand beside its change.
 #[derive(Clone, Copy)]
 pub(crate) enum Narrow {
-    /// A message whose change is wide: it stands at this place of a list of its own.
-    Wide {
+    /// A creation, whose facts stand at this place of a list of their own.
+    Created {
+        place: u32,
+        tid: u32,
+        tseq: u32,
+    },
+    /// A new mask, which stands at this place of a list of its own, with what it made of the thread's stay.
+    Affinity {
         place: u32,
         tid: u32,
         tseq: u32,
@@ -70,13 +77,22 @@ pub(crate) enum Narrow {
 const _: () = prove!(size_of::<Narrow>() == 16);
 
 impl Narrow {
-    /// Makes it of a change of a thread, which stands at this place if it is wide.
+    /// Makes it of a change of a thread, of which what is wide stands at these places.
     #[inline(always)]
-    fn of_change(place: u32, tid: u32, tseq: u32, change: &Change) -> Narrow
-        ensures { result ≡ packed_change place tid tseq change.now }
+    fn of_change(facts: u32, masks: u32, tid: u32, tseq: u32, change: &Change) -> Narrow
+        ensures { result ≡ packed_change facts masks tid tseq change.now }
     {
         match change {
-            Change::Created { .. } | Change::Affinity { .. } => Narrow::Wide { place, tid, tseq },
+            Change::Created { .. } => Narrow::Created {
+                place: facts,
+                tid,
+                tseq,
+            },
+            Change::Affinity { .. } => Narrow::Affinity {
+                place: masks,
+                tid,
+                tseq,
+            },
             Change::Blocked { cpu } => Narrow::Blocked {
                 cpu: *cpu,
                 tid,
@@ -101,24 +117,26 @@ impl Narrow {
         }
     }
 
-    /// Makes it of a message, whose change stands at this place if it is wide.
+    /// Makes it of a message, of which what is wide stands at these places.
     #[inline(always)]
-    fn of_message(place: u32, message: &Message) -> Narrow
-        ensures { result ≡ packed_message place message.now }
+    fn of_message(facts: u32, masks: u32, message: &Message) -> Narrow
+        ensures { result ≡ packed_message facts masks message.now }
     {
         match message {
-            Message::Thread { tid, tseq, change } => Narrow::of_change(place, *tid, *tseq, change),
+            Message::Thread { tid, tseq, change } => Narrow::of_change(
+                facts, masks, *tid, *tseq, change,
+            ),
             Message::TimerTick { cpu } => Narrow::Tick { cpu: *cpu },
         }
     }
 
-    /// Makes it of an entry, of which what is wide stands at this place.
+    /// Makes it of an entry, of which what is wide stands at these places.
     #[inline(always)]
-    pub(crate) fn of(place: u32, entry: &Entry) -> Narrow
-        ensures { result ≡ packed place entry.now }
+    pub(crate) fn of(facts: u32, masks: u32, entry: &Entry) -> Narrow
+        ensures { result ≡ packed facts masks entry.now }
     {
         match entry {
-            Entry::Posted { message } => Narrow::of_message(place, message),
+            Entry::Posted { message } => Narrow::of_message(facts, masks, message),
             Entry::Placed {
                 tid,
                 tseq,
@@ -144,14 +162,20 @@ impl Narrow {
         }
     }
 
-    /// Returns the entry, beside the list of what is wide.
+    /// Returns the entry, beside the lists of what is wide.
     #[inline(always)]
-    pub(crate) fn entry(&self, wide: &[Change]) -> Entry
-        requires { IsWithin (length wide.now) self.now }
-        ensures { result ≡ unpacked wide.now self.now }
+    pub(crate) fn entry(&self, facts: &[Facts], masks: &[NewMask]) -> Entry
+        requires { IsWithin (length facts.now) (length masks.now) self.now }
+        ensures { result ≡ unpacked facts.now masks.now self.now }
     {
         match self {
-            Narrow::Wide { place, tid, tseq } => changed(*tid, *tseq, wide[*place as usize]),
+            Narrow::Created { place, tid, tseq } => {
+                let facts = facts[*place as usize];
+                changed(*tid, *tseq, Change::Created { facts })
+            }
+            Narrow::Affinity { place, tid, tseq } => {
+                changed(*tid, *tseq, masks[*place as usize].change())
+            }
             Narrow::Wakeup { tid, tseq } => changed(*tid, *tseq, Change::Wakeup),
             Narrow::Blocked { cpu, tid, tseq } => {
                 changed(*tid, *tseq, Change::Blocked { cpu: *cpu })

@@ -12,7 +12,7 @@ use Rattle.gs_slots.specs.Reading.{state_in}
 use Rattle.gs_slots.specs.State.{Held}
 use Rattle.gs_status.specs.Masks.{has}
 use Rattle.gs_journal.specs.declared.entry.Entry.TheVariants.{Torn}
-use Rattle.gs_journal.specs.History.{History}
+use Rattle.gs_journal.specs.History.{History, at}
 use Rattle.gs_kernel.specs.declared.settings.Settings.{Settings}
 use Rattle.gs_kernel.specs.declared.landing.Landing.{Landing}
 use Rattle.gs_kernel.specs.Kernel.{preemption}
@@ -21,7 +21,7 @@ use Rattle.gs_kernel.specs.declared.effect.Effect.{Effect}
 use Rattle.gs_kernel.specs.declared.effect.Effect.TheVariants.{Append}
 use Rattle.gs_kernel.specs.Legal.{Room, RoomOf, Tells, entries_in, message_in}
 use Rattle.gs_kernel.specs.Lands.{Adds, Landings, LandingsOf, Lands, LandsAll, LandsAllBy, LandsBytes, LandsHeld, LandsIf, LandsIfBy, LandsIn, LandsOn, Settles, SettlesIf, is_to_place, listed, placement, then_others}
-use Rattle.gs_kernel.proofs.Placings.{to_place}
+use Rattle.gs_kernel.proofs.Placings.{placed_seq, placement_at, placing_when, to_place, torn_at}
 
 -- a transaction that is to be placed is placed, or the enclave is torn down in place of that
 pub record IsPut (room : Room) (s : Settings) (h : History) (k : ℕ) (b : Stamp) (o : Outcome) (h' : History) : Type 0 where
@@ -55,6 +55,26 @@ landing_keeps P room s h k b o h' t placed torn was = by_case (settles_cases roo
     by_case : IsPut room s h k b o h' ⊎ IsLeft s h k b o h' → P h'
     by_case (inl p) = by_fit p.fit p.placed p.tells
     by_case (inr p) = subst P (sym p.history) was
+
+-- what is to be placed lands with the number that was stamped: on its CPU, or nowhere if the enclave was torn down
+pub lands_placed : (room : Room) (s : Settings) (h : History) (k : ℕ) (b : Stamp) (h' : History) → k < s.cpus → verdict s h k b ≡ outcomes.Placed → Tells room h (placement s h k b) true h'
+    → Lands room s h k b (record { cpu = k; tid = b.tid; outcome = outcomes.Placed; seen = b.tseq; at = Some k }) h'
+lands_placed room s h k b h' lt placed tells =
+    let p = placing_when s h k b placed in
+    let there : Some k ≡ at s.cpus h' b.tid = sym (ap (λ (g : History). at s.cpus g b.tid) tells.1 ∙ placement_at s h k b lt p) in
+    record {
+      settles = subst (λ (v : Outcome). Settles room s h k b v outcomes.Placed h') (sym placed) (true, refl, tells);
+      values = λ i. record { cpu = k; tid = b.tid; outcome = outcomes.Placed; seen = placed_seq s h k b p i; at = there i };
+    }
+
+pub lands_gone : (room : Room) (s : Settings) (h : History) (k : ℕ) (b : Stamp) (h' : History) → verdict s h k b ≡ outcomes.Placed → Tells room h (placement s h k b) false h'
+    → Lands room s h k b (record { cpu = k; tid = b.tid; outcome = outcomes.Gone; seen = b.tseq; at = None }) h'
+lands_gone room s h k b h' placed tells =
+    let nowhere : None ≡ at s.cpus h' b.tid = sym (ap (λ (g : History). at s.cpus g b.tid) tells.1 ∙ torn_at s.cpus h b.tid) in
+    record {
+      settles = subst (λ (v : Outcome). Settles room s h k b v outcomes.Gone h') (sym placed) (false, refl, tells);
+      values = λ i. record { cpu = k; tid = b.tid; outcome = outcomes.Gone; seen = placed_seq s h k b (placing_when s h k b placed) i; at = nowhere i };
+    }
 
 -- what was stamped in a slot landed
 pub record HasLanded (room : Room) (s : Settings) (h : History) (k : ℕ) (z : SlotState) (r : Landings) : Type 0 where
@@ -112,7 +132,7 @@ settles_map a b s h k x v o h' f t = by_verdict (is_to_place v) t
 pub lands_map : (a b : Room) (s : Settings) (h : History) (k : ℕ) (x : Stamp) (l : Landing) (h' : History) → Entails a b → Lands a s h k x l h' → Lands b s h k x l h'
 lands_map a b s h k x l h' f t = record { settles = settles_map a b s h k x (verdict s h k x) l.outcome h' f t.settles; values = t.values }
 
-in_map : (a b : Room) (s : Settings) (h : History) (k : ℕ) (z : SlotState) (o : Option Landing) (z' : SlotState) (h' : History) → Entails a b → LandsIn a s h k z o z' h' → LandsIn b s h k z o z' h'
+pub in_map : (a b : Room) (s : Settings) (h : History) (k : ℕ) (z : SlotState) (o : Option Landing) (z' : SlotState) (h' : History) → Entails a b → LandsIn a s h k z o z' h' → LandsIn b s h k z o z' h'
 in_map a b s h k (Stamped x) o z' h' f t = (t.0, lands_map a b s h k x t.0 h' f t.1, t.2, t.3)
 in_map a b s h k Idle o z' h' f t = t
 in_map a b s h k (Done x p q n) o z' h' f t = t
@@ -191,7 +211,7 @@ tells_few room h x false h' few t = let n = ap length t.1 ∙ length-append h (T
 same_few : (h h' : History) → h' ≡ h → (length h ≤ length h') × (length h' ≤ length h + 2)
 same_few h h' e = (omega (arith, ap length e), omega (arith, ap length e))
 
-settles_few : (room : Room) (s : Settings) (h : History) (k : ℕ) (x : Stamp) (v o : Outcome) (h' : History) → Settles room s h k x v o h' → (length h ≤ length h') × (length h' ≤ length h + 2)
+pub settles_few : (room : Room) (s : Settings) (h : History) (k : ℕ) (x : Stamp) (v o : Outcome) (h' : History) → Settles room s h k x v o h' → (length h ≤ length h') × (length h' ≤ length h + 2)
 settles_few room s h k x v o h' t = by_verdict (is_to_place v) t
   where
     by_verdict : (p : Bool) → SettlesIf p room s h k x v o h' → (length h ≤ length h') × (length h' ≤ length h + 2)

@@ -1,7 +1,7 @@
 -- What holds if a landing is placed.
-use Rattle.std.proofs.Common.{◌≡◌, ℕ, zero, suc, ◌+◌, ◌<◌, ◌≤◌, ◌==◌, ◌++◌, ◌∷◌, [], length, Bool, true, false, nat_le, cond, Option, None, Some, refl, ap, sym, subst, ◌∙◌, arith}
-use Rattle.std.specs.Option.{is_some}
-use Rattle.std.proofs.lemmas.Bool.{false≢true}
+use Rattle.std.proofs.Common.{◌≡◌, ℕ, zero, suc, ◌+◌, ◌<◌, ◌≤◌, ◌==◌, ◌++◌, ◌∷◌, [], length, Bool, true, false, nat_le, cond, Option, None, Some, refl, ap, sym, subst, ◌∙◌, append_assoc, arith}
+use Rattle.std.specs.Option.{is_some, option_map}
+use Rattle.std.proofs.lemmas.Bool.{eqb-true, false≢true}
 use Rattle.std.proofs.lemmas.Bool.Decides.{nat_tests}
 use Rattle.gs_slots.specs.declared.state.Stamp.{Stamp}
 use Rattle.gs_layout.specs.declared.message.Change.TheVariants.{Preempted}
@@ -9,15 +9,17 @@ use Rattle.gs_layout.specs.declared.message.Message.{Message}
 use Rattle.gs_layout.specs.declared.outcome.Outcome.{Outcome}
 use Rattle.gs_layout.specs.declared.outcome.Outcome.TheVariants as outcomes
 use Rattle.gs_layout.specs.Message.{is_about}
-use Rattle.gs_journal.specs.declared.entry.Entry.TheVariants.{Posted}
+use Rattle.gs_journal.specs.declared.entry.Entry.TheVariants.{Posted, Torn}
 use Rattle.gs_journal.specs.Standing.{then_stands}
 use Rattle.gs_journal.specs.History.{History, seq, record_in, on, at, at_below, is_thread, active, torn, ends_run}
-use Rattle.gs_journal.proofs.Laws.{at_is, on-push}
-use Rattle.gs_threads.proofs.Laws.{messages_other, on_off, record_by, seq_by}
+use Rattle.gs_journal.proofs.Laws.{at_found, at_is, at_not, on-push}
+use Rattle.gs_threads.proofs.Laws.{messages_other, on_elsewhere, on_here, on_off, record_by, seq_by}
 use Rattle.gs_kernel.specs.declared.settings.Settings.{Settings}
 use Rattle.gs_kernel.specs.Kernel.{is_spent_there, next_about}
-use Rattle.gs_kernel.specs.Landing.{IsToPlace, verdict, cpu_verdict, is_generation, placing_entries}
-use Rattle.gs_kernel.specs.Lands.{is_to_place}
+use Rattle.gs_kernel.specs.declared.effect.Effect.TheVariants.{Append}
+use Rattle.gs_kernel.specs.Landing.{IsToPlace, verdict, cpu_verdict, is_generation, placing, placing_entries}
+use Rattle.gs_kernel.specs.Lands.{is_to_place, placement}
+use Rattle.gs_kernel.specs.Legal.{entries_in}
 use Rattle.gs_kernel.specs.Threads.{is_runnable, may_run_on}
 use Rattle.gs_kernel.proofs.Entries.{beside_posted}
 use Rattle.gs_kernel.proofs.Refusals.{not_not}
@@ -152,6 +154,43 @@ placing_then s h k u b lt there p =
     by_test : (t : ℕ) → at_below s.cpus h t ≡ None → (x : Bool) → (u == t) ≡ x → (u == t) ≡ false
     by_test t none false q = q
     by_test t none true q = let e : u ≡ t = grind (arith, nat_tests) in absurd (on_none s.cpus k h t none lt (there ∙ ap Some e))
+
+-- ---- where the thread is then
+
+-- a thread that is on none of the first CPUs is nowhere below
+nowhere_below : (n : ℕ) (h : History) (t : ℕ) → ((c : ℕ) → c < n → on h c ≡ Some t → ⊥) → at_below n h t ≡ None
+nowhere_below zero h t off = refl
+nowhere_below (suc n) h t off =
+    ap (λ (m : ℕ). at_below m h t) (let e : suc n ≡ n + 1 = omega arith in e)
+    ∙ at_not n h t (nowhere_below n h t (λ c lt. off c (omega (arith, lt)))) (off n (omega arith))
+
+-- on the CPU on which it was placed, since it was on no other
+placed_at : (s : Settings) (h : History) (k : ℕ) (b : Stamp) → k < s.cpus → IsPlacing s h k b → at s.cpus (h ++ placing k b ∷ []) b.tid ≡ Some k
+placed_at s h k b lt p =
+    at_found s.cpus k (h ++ placing k b ∷ []) b.tid
+    (nowhere_below k (h ++ placing k b ∷ []) b.tid (λ c less there. on_none s.cpus c h b.tid (sym (at_is s.cpus h b.tid) ∙ p.nowhere) (omega (arith, less, lt)) (sym (on_elsewhere h b.tid b.tseq k b.generation c (let q : (k == c) ≡ false = grind (arith, nat_tests) in q)) ∙ there)))
+    (on_here h b.tid b.tseq k b.generation k refl) lt
+
+pub placement_at : (s : Settings) (h : History) (k : ℕ) (b : Stamp) → k < s.cpus → IsToPlace s h k b → at s.cpus (h ++ entries_in (placement s h k b)) b.tid ≡ Some k
+placement_at s h k b lt p = by_who (on h k) refl
+  where
+    by_who : (o : Option ℕ) → on h k ≡ o → at s.cpus (h ++ entries_in (Append (option_map (λ t. next_about s h t (Preempted k)) o) (placing k b))) b.tid ≡ Some k
+    by_who None e = placed_at s h k b lt (placing_free s h k b e p)
+    by_who (Some u) e =
+        let m : Message = next_about s h u (Preempted k) in
+        ap (λ (g : History). at s.cpus g b.tid) (sym (append_assoc h (Posted m ∷ []) (placing k b ∷ []))) ∙ placed_at s (h ++ Posted m ∷ []) k b lt (placing_then s h k u b lt e p)
+
+-- nobody is on a CPU after a tear-down
+pub torn_at : (n : ℕ) (h : History) (t : ℕ) → at n (h ++ Torn ∷ []) t ≡ None
+torn_at n h t = at_is n (h ++ Torn ∷ []) t ∙ nowhere_below n (h ++ Torn ∷ []) t (λ c lt there. let e : None ≡ Some t = sym (by_who (on h c)) ∙ (sym (on-push h Torn c) ∙ there) in cc)
+  where
+    by_who : (o : Option ℕ) → then_stands None ends_run Torn o ≡ None
+    by_who None = refl
+    by_who (Some u) = refl
+
+-- its number before that is the one that was stamped
+pub placed_seq : (s : Settings) (h : History) (k : ℕ) (b : Stamp) → IsToPlace s h k b → b.tseq ≡ seq s.first_tseq h b.tid
+placed_seq s h k b p = eqb-true b.tseq (seq s.first_tseq h b.tid) p.current
 
 -- a verdict that is to place is Placed
 pub to_place : (v : Outcome) → is_to_place v ≡ true → v ≡ outcomes.Placed

@@ -9,7 +9,7 @@ ghost use Rattle.gs_journal.specs.History.{on, posted, torn};
 ghost use Rattle.gs_kernel.specs.Kernel.{is_agent_on};
 ghost use Rattle.gs_kernel.specs.Landing.{verdict, verdict_in, cpu_verdict, is_generation, placing_entries};
 ghost use Rattle.gs_kernel.specs.Legal.{Frame, RoomOf, Tells};
-ghost use Rattle.gs_kernel.specs.Lands.{Lands, LandsBytes, Settles, placement};
+ghost use Rattle.gs_kernel.specs.Lands.{Lands, LandsBytes, placement};
 
 use crate::kernel::Kernel;
 use crate::landing::Landing;
@@ -22,6 +22,7 @@ use std::alloc::AllocError;
 impl<P: Poster> Kernel<P> {
     /// Returns what becomes of what was stamped into the slot of a CPU.
     #[tactic(auto, unfolding(crate::specs::Landing::verdict))]
+    #[inline(always)]
     pub(crate) fn verdict(&self, cpu: u16, slot: &Stamp) -> Outcome
         requires { cpu < self.now.settings.cpus }
         ensures value { result ≡ verdict self.now.settings self.now.history cpu slot.now }
@@ -128,11 +129,12 @@ impl<P: Poster> Kernel<P> {
     }
 
     /// Lands what was stamped into the slot of a CPU of the enclave, as the slot would, but tells no slot of
-    /// it. That is for a landing that comes late.
+    /// it. That is for a landing that comes late, and for a caller who makes the slot idle at once.
     ///
     /// # Errors
     ///
     /// As of [`Kernel::land`].
+    #[inline(always)]
     pub fn land_stamp(&mut self, cpu: u16, slot: &Stamp) -> Result<Landing, AllocError>
         requires { cpu < self.old.settings.cpus }
         ensures lands { IfOk result (λ l. Lands (RoomOf P.same P.consumed P.posted P.tight self.old.poster) self.old.settings self.old.history cpu slot.now l self.new.history) }
@@ -144,40 +146,52 @@ impl<P: Poster> Kernel<P> {
         ensures frame { Frame P.same P.consumed P.posted self.old self.new }
         ensures room { self.old.room + length self.old.history ≤ self.new.room + length self.new.history }
     {
+        // Reads a field to expose the invariant.
+        let _settings = &self.settings;
         let judged = self.verdict(cpu, slot);
-        let seen = self.seq(slot.tid);
-        let outcome = self.settle(judged, cpu, slot)?;
+        if judged == Outcome::Placed {
+            return self.land_placed(cpu, slot);
+        }
         Ok(Landing {
             cpu,
             tid: slot.tid,
-            outcome,
-            seen,
+            outcome: judged,
+            seen: self.seq(slot.tid),
             at: self.at(slot.tid),
         })
     }
 
-    /// Does what this verdict says of a transaction, and returns its outcome. It is placed if it may be.
-    fn settle(&mut self, judged: Outcome, cpu: u16, slot: &Stamp) -> Result<Outcome, AllocError>
+    /// Does the same with what may be placed. The thread's number is the one that was stamped then. After that the thread
+    /// is on this CPU, or nowhere if the enclave was torn down. So no row is looked up for either.
+    #[inline(always)]
+    fn land_placed(&mut self, cpu: u16, slot: &Stamp) -> Result<Landing, AllocError>
         requires cpu { cpu < self.old.settings.cpus }
-        requires verdict { judged ≡ verdict self.old.settings self.old.history cpu slot.now }
-        requires known { is_malformed judged ≡ false }
-        ensures settles { IfOk result (λ o. Settles (RoomOf P.same P.consumed P.posted P.tight self.old.poster) self.old.settings self.old.history cpu slot.now judged o self.new.history) }
-        ensures known { IfOk result (λ o. is_malformed o ≡ false) }
+        requires placed { verdict self.old.settings self.old.history cpu slot.now ≡ Outcome.Placed }
+        ensures lands { IfOk result (λ l. Lands (RoomOf P.same P.consumed P.posted P.tight self.old.poster) self.old.settings self.old.history cpu slot.now l self.new.history) }
+        ensures known { IfOk result (λ l. is_malformed l.outcome ≡ false) }
+        ensures below { IfOk result (λ l. IsCpuOrNone l.at) }
         ensures refused { OnErr result (self.new ≡ self.old) }
-        ensures memory { OnErr result (judged ≡ Outcome.Placed) }
         ensures reserved { OnErr result (self.old.room < placing_entries (on self.old.history cpu)) }
         ensures frame { Frame P.same P.consumed P.posted self.old self.new }
         ensures room { self.old.room + length self.old.history ≤ self.new.room + length self.new.history }
     {
         // Reads a field to expose the invariant.
         let _settings = &self.settings;
-        if judged != Outcome::Placed {
-            return Ok(judged);
-        }
+        let placed = Landing {
+            cpu,
+            tid: slot.tid,
+            outcome: Outcome::Placed,
+            seen: slot.tseq,
+            at: Some(cpu),
+        };
         if self.place(cpu, slot)? {
-            Ok(Outcome::Placed)
+            Ok(placed)
         } else {
-            Ok(Outcome::Gone)
+            Ok(Landing {
+                outcome: Outcome::Gone,
+                at: None,
+                ..placed
+            })
         }
     }
 

@@ -3,8 +3,9 @@ use crate::facts::Facts;
 /// What an agent knows of a thread: its facts at a sequence number.
 #[derive(Clone, Copy, PartialEq, Eq, Debug)]
 pub struct Known {
-    pub facts: Facts,
+    /// It stands first, beside the mask, since both are read for most messages. So they mostly lie in one cache line.
     pub tseq: u32,
+    pub facts: Facts,
 }
 
 /// What a message does to an agent's view.

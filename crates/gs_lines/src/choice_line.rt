@@ -32,12 +32,9 @@ fn write_choices(out: &mut Text, first: u32, choices: &[Choice]) -> Result<(), A
     Ok(())
 }
 
-/// Adds the lines of a decision.
-pub(crate) fn write_decided(
-    out: &mut Text,
-    first: u32,
-    choices: &[Choice],
-) -> Result<(), AllocError>
+/// Adds the lines of a decision: one, and one for each choice, whose transactions have the numbers from `first` on. It fails
+/// only if out of memory.
+pub fn write_decided(out: &mut Text, first: u32, choices: &[Choice]) -> Result<(), AllocError>
     ensures { OnOk result (out.new ≡ out.old ++ line (decided_text choices.now) ++ choice_lines first choices.now) }
 {
     out.push_between("decided ", choices.len() as u64, "\n")?;

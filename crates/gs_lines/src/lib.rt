@@ -8,6 +8,7 @@ mod reply_line;
 mod thread;
 mod thread_line;
 
+pub use choice_line::write_decided;
 pub use column::{MOST_COLUMN, blanks, class_word, push_column};
 pub use gs_text::Sheet as Text;
 pub use message_line::{change_name, write_cpu, write_placed};

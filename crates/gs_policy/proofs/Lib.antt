@@ -1,5 +1,6 @@
 mod Gathered
 pub mod Left
+mod Most
 pub mod Plans
 mod Rows
 mod Served

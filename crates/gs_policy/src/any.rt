@@ -44,6 +44,21 @@ impl Policy for AnyPolicy {
         }
     }
 
+    #[inline(always)]
+    fn plan_into(
+        &self,
+        alloc: Global,
+        view: &AgentView,
+        cpus: &CpuBeliefs<'_>,
+        queue: &RunQueue,
+        choices: &mut Vec<Choice>,
+    ) -> Result<(), AllocError> {
+        match self {
+            AnyPolicy::FirstCome(policy) => policy.plan_into(alloc, view, cpus, queue, choices),
+            AnyPolicy::TwoClass(policy) => policy.plan_into(alloc, view, cpus, queue, choices),
+        }
+    }
+
     ghost safe = { any-safe };
 }
 

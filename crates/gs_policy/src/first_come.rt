@@ -9,7 +9,7 @@ use crate::candidates::Candidates;
 use crate::choice::Choice;
 use crate::counted::Counted;
 use crate::policy::Policy;
-use crate::walk::{count_among, plan_among};
+use crate::walk::{count_among, plan_among, plan_among_into};
 use gs_beliefs::CpuBeliefs;
 use gs_runq::RunQueue;
 use gs_status::Mask;
@@ -57,6 +57,18 @@ impl Policy for FirstCome {
         queue: &RunQueue,
     ) -> Result<Vec<Choice>, AllocError> {
         plan_among(alloc, view, cpus, queue, free_alone(cpus))
+    }
+
+    #[inline(always)]
+    fn plan_into(
+        &self,
+        _alloc: Global,
+        view: &AgentView,
+        cpus: &CpuBeliefs<'_>,
+        queue: &RunQueue,
+        choices: &mut Vec<Choice>,
+    ) -> Result<(), AllocError> {
+        plan_among_into(view, queue, free_alone(cpus), choices)
     }
 
     ghost safe = { λ p. nobody-safe };

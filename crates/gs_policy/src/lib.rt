@@ -21,4 +21,4 @@ pub use first_come::FirstCome;
 pub use law::{leaves_none, plans_in_order};
 pub use policy::Policy;
 pub use two_class::TwoClass;
-pub use walk::{count_among, plan_among};
+pub use walk::{count_among, plan_among, plan_among_into};

@@ -1,4 +1,4 @@
-ghost use Rattle.std.specs.Prelude.{◌≡◌, IfOk};
+ghost use Rattle.std.specs.Prelude.{◌≡◌, [], IfOk, OnOk, OnErr};
 ghost use Rattle.gs_policy.specs.Shown.{shows};
 
 use crate::choice::Choice;
@@ -51,6 +51,30 @@ pub trait Policy {
         queue: &RunQueue,
     ) -> Result<Vec<Choice>, AllocError>
         ensures { IfOk result (λ r. r.items ≡ chosen self.now (shows view.now.entries cpus.now queue.now)) };
+
+    /// Puts the choices of [`Policy::plan`] into a list, in place of what was there.
+    ///
+    /// It is for a list that is kept from one plan to the next, so that a plan asks for no memory once the list has
+    /// room. This body asks for a new list each time, and is for policies that do not write their own.
+    ///
+    /// # Errors
+    ///
+    /// `AllocError` if out of memory for the choices. The list is empty then.
+    fn plan_into(
+        &self,
+        alloc: Global,
+        view: &AgentView,
+        cpus: &CpuBeliefs<'_>,
+        queue: &RunQueue,
+        choices: &mut Vec<Choice>,
+    ) -> Result<(), AllocError>
+        ensures ok { OnOk result (choices.new.items ≡ chosen self.now (shows view.now.entries cpus.now queue.now)) }
+        ensures err { OnErr result (choices.new.items ≡ []) }
+    {
+        choices.clear();
+        *choices = self.plan(alloc, view, cpus, queue)?;
+        Ok(())
+    }
 
     /// Law: of threads that wait, each once, the plan is safe to stamp.
     ghost safe: { (p : Self) (s : Shown) → Apart s.queue → IsSafePlan s (chosen p s) };

@@ -9,7 +9,7 @@ use crate::class_one::{class_one_cpus, those_that_have_had};
 use crate::counted::Counted;
 use crate::first_come::free_alone;
 use crate::policy::Policy;
-use crate::walk::{count_among, plan_among, serve_all};
+use crate::walk::{count_among, plan_among, plan_among_into, serve_all};
 use gs_beliefs::CpuBeliefs;
 use gs_runq::RunQueue;
 use gs_view::AgentView;
@@ -65,6 +65,19 @@ impl Policy for TwoClass {
     ) -> Result<Vec<Choice>, AllocError> {
         let among = self.candidates(view, cpus, queue);
         plan_among(alloc, view, cpus, queue, among)
+    }
+
+    #[inline(always)]
+    fn plan_into(
+        &self,
+        _alloc: Global,
+        view: &AgentView,
+        cpus: &CpuBeliefs<'_>,
+        queue: &RunQueue,
+        choices: &mut Vec<Choice>,
+    ) -> Result<(), AllocError> {
+        let among = self.candidates(view, cpus, queue);
+        plan_among_into(view, queue, among, choices)
     }
 
     ghost safe = { λ p. class_one_after-safe p.slice };

@@ -1,4 +1,4 @@
-ghost use Rattle.std.specs.Prelude.{◌≡◌, ◌≤◌, true, IfOk, length};
+ghost use Rattle.std.specs.Prelude.{◌≡◌, ◌≤◌, [], true, IfOk, OnOk, OnErr, length};
 ghost use Rattle.std.specs.Iterator.{YieldsFirst, item_count};
 ghost use Rattle.gs_layout.specs.View.{look_up};
 ghost use Rattle.gs_runq.specs.Queue.{order};
@@ -41,6 +41,7 @@ impl<'a> Iterator for Choices<'a> {
     ghost remaining = { item_count (λ xs. xs) };
 
     #[tactic(auto, using(crate::proofs::Left::planned_spent))]
+    #[inline(always)]
     fn next(&mut self) -> Option<Choice> {
         while !self.left.are_spent() {
             let tid = self.threads.next()?;
@@ -52,11 +53,12 @@ impl<'a> Iterator for Choices<'a> {
     }
 }
 
-/// Walks the choices of all that wait. There are no more of them than threads.
-#[tactic(auto, using(crate::proofs::Left::planned_few))]
+/// Walks the choices of all that wait. There are no more of them than threads, nor than there may be CPUs.
+#[tactic(auto, using(crate::proofs::Left::planned_few, crate::proofs::Most::planned_most))]
 fn choose<'a>(view: &'a AgentView, queue: &'a RunQueue, all: Candidates) -> Choices<'a>
     ensures choices { result ≡ choices_of all (look_up view.now.entries) (order queue.now) }
     ensures few { length result ≤ length (order queue.now) }
+    ensures most { length result ≤ MOST_CPUS }
 {
     Choices {
         view,
@@ -88,6 +90,33 @@ pub fn plan_among(
     let mut plan = Vec::with_capacity(alloc, most)?;
     plan.extend(choose(view, queue, all))?;
     Ok(plan)
+}
+
+/// Puts the choices that [`plan_among`] makes of these CPUs into a list, in place of what was there.
+///
+/// It allocates nothing if the list has room for as many choices as threads wait, or for [`MOST_CPUS`]. There are
+/// never more.
+///
+/// # Errors
+///
+/// `AllocError` if out of memory for the choices. The list is empty then.
+#[inline(always)]
+pub fn plan_among_into(
+    view: &AgentView,
+    queue: &RunQueue,
+    all: Candidates,
+    choices: &mut Vec<Choice>,
+) -> Result<(), AllocError>
+    ensures ok { OnOk result (choices.new.items ≡ choices_of all (look_up view.now.entries) (order queue.now)) }
+    ensures err { OnErr result (choices.new.items ≡ []) }
+{
+    let most = queue.len().min(MOST_CPUS as usize);
+    choices.clear();
+    choices.reserve(most)?;
+    for choice in choose(view, queue, all) {
+        choices.push_reserved(choice);
+    }
+    Ok(())
 }
 
 /// Returns how many choices [`plan_among`] makes of these CPUs. It does not allocate.

@@ -9,3 +9,4 @@ pub mod Next
 pub mod Standing
 pub mod Laps
 pub mod Posting
+mod Emptied

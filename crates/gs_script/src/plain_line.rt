@@ -126,6 +126,50 @@ fn behind_die(text: &[u8]) -> Option<&[u8]>
     }
 }
 
+/// What stands behind the first word of a commit, compared in the same way.
+#[inline(always)]
+fn behind_commit(text: &[u8]) -> Option<&[u8]>
+    ensures { IfSome result (λ rest. text.now ≡ codes "commit " ++ rest.now) }
+{
+    match text {
+        [b'c', b'o', b'm', b'm', b'i', b't', b' ', rest @ ..] => Some(rest),
+        _ => None,
+    }
+}
+
+/// What stands behind the first word of a stamp, compared in the same way.
+#[inline(always)]
+fn behind_stamp(text: &[u8]) -> Option<&[u8]>
+    ensures { IfSome result (λ rest. text.now ≡ codes "stamp " ++ rest.now) }
+{
+    match text {
+        [b's', b't', b'a', b'm', b'p', b' ', rest @ ..] => Some(rest),
+        _ => None,
+    }
+}
+
+/// What stands behind the first word of a drain, compared in the same way.
+#[inline(always)]
+fn behind_drain(text: &[u8]) -> Option<&[u8]>
+    ensures { IfSome result (λ rest. text.now ≡ codes "drain " ++ rest.now) }
+{
+    match text {
+        [b'd', b'r', b'a', b'i', b'n', b' ', rest @ ..] => Some(rest),
+        _ => None,
+    }
+}
+
+/// What stands behind the word of a decision, compared in the same way.
+#[inline(always)]
+fn behind_decide(text: &[u8]) -> Option<&[u8]>
+    ensures { IfSome result (λ rest. text.now ≡ codes "decide" ++ rest.now) }
+{
+    match text {
+        [b'd', b'e', b'c', b'i', b'd', b'e', rest @ ..] => Some(rest),
+        _ => None,
+    }
+}
+
 /// An affinity.
 #[inline(always)]
 fn affinity<'a, P: Copy>(text: &'a [u8], events: &mut Events<P>) -> Left<'a>
@@ -168,7 +212,7 @@ fn add_plain<'a, P: NamedPolicy>(text: &'a [u8], events: &mut Events<P>) -> Left
     match text.first()? {
         b'a' => affinity(behind_affinity(text)?, events),
         b'b' => to_thread(behind(text, b"block ")?, ThreadEvent::Block, events),
-        b'c' => match behind(text, b"commit ") {
+        b'c' => match behind_commit(text) {
             Some(rest) => {
                 let (mask, left) = mask_last(rest)?;
                 let mask = Mask::new(mask);
@@ -179,12 +223,12 @@ fn add_plain<'a, P: NamedPolicy>(text: &'a [u8], events: &mut Events<P>) -> Left
         },
         b'd' => match text.get(1)? {
             b'r' => {
-                let (max, left) = u32_last(behind(text, b"drain ")?)?;
+                let (max, left) = u32_last(behind_drain(text)?)?;
                 events.push_reserved(Event::Drain { max });
                 Some(left)
             }
             b'e' => {
-                let left = line_end(behind(text, b"decide")?)?;
+                let left = line_end(behind_decide(text)?)?;
                 events.push_reserved(Event::Decide);
                 Some(left)
             }
@@ -210,7 +254,7 @@ fn add_plain<'a, P: NamedPolicy>(text: &'a [u8], events: &mut Events<P>) -> Left
             events.push_reserved(Event::Page { max });
             Some(left)
         }
-        b's' => match behind(text, b"stamp ") {
+        b's' => match behind_stamp(text) {
             Some(rest) => stamp(rest, events),
             None => {
                 let left = line_end(behind(text, b"state")?)?;

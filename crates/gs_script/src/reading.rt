@@ -122,7 +122,7 @@ impl<'a, P: NamedPolicy> Reading<'a, P> {
     ///         machine,
     ///         said.number,
     ///         &event[0],
-    ///         &mut landings,
+    ///         &mut lists,
     ///         &mut sink,
     ///     )?;
     ///     event.clear();

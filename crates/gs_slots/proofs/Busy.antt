@@ -34,7 +34,7 @@ quiet_bytes xs e = (bytes_decides xs idle_bytes).0 (not-false (pointwise nat_eq 
 pub quiet_read : (k : ℕ) (xs : List ℕ) → is_busy xs ≡ false → state_in k xs ≡ Ok Idle
 quiet_read k xs e = ap (state_in k) (quiet_bytes xs e) ∙ idle_read k
 
-idle_quiet : is_busy idle_bytes ≡ false
+pub idle_quiet : is_busy idle_bytes ≡ false
 unfolding is_busy
 idle_quiet = refl
 

@@ -3,6 +3,7 @@ mod ReadBack
 mod Exact
 mod States
 mod Busy
+mod Written
 mod Filled
 mod Flagged
 mod Rows

@@ -4,7 +4,7 @@ ghost use Rattle.std.specs.Prelude.{◌≡◌, ◌==◌, ◌+◌, ◌-◌, ◌�
 ghost use Rattle.gs_layout.specs.Spelling.{IsCpuOrNone};
 ghost use Rattle.gs_slots.specs.declared.state.SlotState.{SlotState};
 ghost use Rattle.gs_slots.specs.declared.state.Stamp.{Stamp};
-ghost use Rattle.gs_slots.specs.Spelling.{can_hold, done_bytes, is_blank, is_result, result_bytes, slot_spelling, stamp_bytes};
+ghost use Rattle.gs_slots.specs.Spelling.{IsSpellableStamp, can_hold, done_bytes, is_blank, is_result, result_bytes, slot_spelling, stamp_bytes};
 ghost use Rattle.gs_slots.specs.Reading.{fields_in, is_flagged, outcome_in, stamp_in, state_in};
 ghost use Rattle.gs_slots.specs.Busy.{is_busy};
 ghost use Rattle.gs_slots.specs.State.{has_stamp, is_malformed, refused};
@@ -190,13 +190,20 @@ pub(crate) fn state_at(cpu: u16, bytes: &[u8]) -> Result<SlotState, Malformed>
 /// Writes what stands before the outcome in a slot that is not idle.
 fn write_stamp(kind: u8, cpu: u16, stamp: &Stamp, out: &mut [u8])
     requires { OUTCOME_AT ≤ length out.old }
-    ensures { out.new ≡ stamp_bytes kind cpu stamp.now ++ drop OUTCOME_AT out.old }
+    ensures bytes { out.new ≡ stamp_bytes kind cpu stamp.now ++ drop OUTCOME_AT out.old }
+    ensures numbers { IsSpellableStamp stamp.now }
 {
-    out[..CPU_AT].copy_from_slice(&[kind, flags_byte(stamp.flags)]);
+    let Stamp {
+        generation,
+        tid,
+        tseq,
+        flags,
+    } = *stamp;
+    out[..CPU_AT].copy_from_slice(&[kind, flags_byte(flags)]);
     LittleEndian::write_u16(&mut out[CPU_AT..], cpu);
-    LittleEndian::write_u32(&mut out[GENERATION_AT..], stamp.generation);
-    LittleEndian::write_u32(&mut out[TID_AT..], stamp.tid);
-    LittleEndian::write_u32(&mut out[TSEQ_AT..], stamp.tseq);
+    LittleEndian::write_u32(&mut out[GENERATION_AT..], generation);
+    LittleEndian::write_u32(&mut out[TID_AT..], tid);
+    LittleEndian::write_u32(&mut out[TSEQ_AT..], tseq);
 }
 
 /// Writes what became of a transaction.
@@ -212,7 +219,8 @@ fn write_result(outcome: Outcome, at: Option<u16>, seen: u32, out: &mut [u8])
 /// Stamps a transaction into the slot of a CPU, whatever was in it.
 pub(crate) fn write_stamped(cpu: u16, stamp: &Stamp, out: &mut [u8])
     requires { length out.old ≡ SLOT_LEN }
-    ensures { out.new ≡ slot_spelling cpu (SlotState.Stamped stamp.now) }
+    ensures bytes { out.new ≡ slot_spelling cpu (SlotState.Stamped stamp.now) }
+    ensures numbers { IsSpellableStamp stamp.now }
 {
     out.fill(0);
     write_stamp(STAMPED, cpu, stamp, out);

@@ -1,18 +1,19 @@
-ghost use Rattle.std.specs.Prelude.{◌≡◌, ◌+◌, ◌<◌, ◌≤◌, ◌^◌, ◌||◌, ◌==◌, ℕ, List, length, replicate, slice_get, IfOk, Some, false};
+ghost use Rattle.std.specs.Prelude.{◌≡◌, ◌↔◌, ◌+◌, ◌<◌, ◌≤◌, ◌^◌, ◌||◌, ◌==◌, ℕ, List, length, replicate, slice_get, slice_set, IfOk, IsOk, Ok, OnErr, OnOk, Some, false};
 ghost use Rattle.std.specs.Borrow.{sem};
 ghost use Rattle.std.specs.List.{list_any};
 ghost use Rattle.gs_status.specs.Masks.{has};
+ghost use Rattle.gs_slots.specs.declared.state.SlotState.{SlotState};
 ghost use Rattle.gs_slots.specs.Busy.{CoversBusy, HasNoFlag, is_busy_at, is_flagged_at};
 ghost use Rattle.gs_slots.specs.Lending.{LendsAll, LendsOne};
 ghost use Rattle.gs_slots.specs.Reading.{is_flagged, states_in};
 ghost use Rattle.gs_slots.specs.SlotMut.{bytes_of, cpu_of};
-ghost use Rattle.gs_slots.specs.Spelling.{idle_bytes};
+ghost use Rattle.gs_slots.specs.Spelling.{idle_bytes, slot_spelling};
 ghost use Rattle.gs_slots.specs.State.{has_stamp};
 
-use crate::bytes::{is_busy, is_flagged, state_at};
+use crate::bytes::{is_busy, is_flagged, state_at, write_stamped};
 use crate::slot::SlotMut;
 use crate::slots::Slots;
-use crate::state::{Malformed, SlotState};
+use crate::state::{Malformed, SlotBusy, SlotState, Stamp};
 use crate::wire::SLOT_LEN;
 use gs_status::{MOST_CPUS, Mask};
 use std::alloc::{AllocError, Global};
@@ -20,11 +21,11 @@ use std::marker::Model;
 
 /// The slots of all CPUs: one block of [`SLOT_LEN`] bytes for each, that of CPU 0 first.
 ///
-/// Which slots are not idle is found without a look at each: a slot that was idle and was not lent since still is.
+/// Which slots are not idle is found without a look at each: one that was idle, and neither lent nor stamped since, still is.
 #[derive(Drop)]
 pub struct Region {
     blocks: Vec<[u8; SLOT_LEN]>,
-    /// The CPUs below [`MOST_CPUS`] whose slots were lent since they were last seen to be idle.
+    /// The CPUs below [`MOST_CPUS`] whose slots were lent or stamped since they were last seen to be idle.
     lent: Mask,
     /// Whether a slot of a CPU below [`MOST_CPUS`] may have the flag of a group, as far as is known without a look.
     flagged: bool,
@@ -81,6 +82,7 @@ impl Region {
     /// # Errors
     ///
     /// `Malformed` exactly if its bytes spell no state of a slot of that CPU.
+    #[inline(always)]
     pub fn state(&self, cpu: u16) -> Result<SlotState, Malformed>
         requires { cpu < length self.now }
         ensures { slice_get (states_in 0 self.now) cpu ≡ Some result }
@@ -114,10 +116,13 @@ impl Region {
     /// The agent stamps a choice of its policy:
     ///
     /// ```
-    /// if choice.cpu < self.region.cpus() {
-    ///     let slot = self.region.slot(choice.cpu);
-    ///     let flags = Flags::single(choice.preempt);
-    ///     let _ = self.role.stamp(slot, choice.tid, flags);
+    /// if choice.cpu >= region.cpus() {
+    ///     return false;
+    /// }
+    /// let slot = region.slot(choice.cpu);
+    /// let flags = Flags::single(choice.preempt);
+    /// if role.stamp(slot, choice.tid, flags).is_err() {
+    ///     return false;
     /// }
     /// ```
     pub fn slot(&mut self, cpu: u16) -> SlotMut<'_>
@@ -129,6 +134,62 @@ impl Region {
         self.lent = with_lent(self.lent, cpu);
         self.flagged = true;
         SlotMut::over(cpu, &mut self.blocks[cpu as usize])
+    }
+
+    /// Stamps a transaction into the slot of a CPU, as [`SlotMut::stamp`] does. A slot that is lent may get any flag, but
+    /// one that is stamped so has that of a group only if the transaction has it.
+    ///
+    /// # Errors
+    ///
+    /// `SlotBusy` exactly if the slot is not idle. The region stays as it is.
+    ///
+    /// # Examples
+    ///
+    /// A role notes what was stamped:
+    ///
+    /// ```
+    /// if self.region.stamp(choice.cpu, &stamp).is_ok() {
+    ///     self.role.note_stamp(choice.cpu, choice.tid);
+    /// }
+    /// ```
+    #[inline(always)]
+    pub fn stamp(&mut self, cpu: u16, stamp: &Stamp) -> Result<(), SlotBusy>
+        requires { cpu < length self.old }
+        ensures exact { IsOk result ↔ (slice_get (states_in 0 self.old) cpu ≡ Some (Ok SlotState.Idle)) }
+        ensures stamped { OnOk result (states_in 0 self.new ≡ slice_set (states_in 0 self.old) cpu (Ok (SlotState.Stamped stamp.now))) }
+        ensures spelt { OnOk result (self.new ≡ slice_set self.old cpu (slot_spelling cpu (SlotState.Stamped stamp.now))) }
+        ensures busy { OnErr result (self.new ≡ self.old) }
+    {
+        let bytes = &mut self.blocks[cpu as usize];
+        if is_busy(bytes) {
+            return Err(SlotBusy);
+        }
+        write_stamped(cpu, stamp, bytes);
+        self.lent = with_lent(self.lent, cpu);
+        self.flagged = self.flagged || stamp.flags.group;
+        Ok(())
+    }
+
+    /// Makes the slot of a CPU idle, whatever is in it. It counts as seen to be idle then.
+    #[inline(always)]
+    pub fn clear_slot(&mut self, cpu: u16)
+        requires { cpu < length self.old }
+        ensures { self.new ≡ slice_set self.old cpu idle_bytes }
+    {
+        self.blocks[cpu as usize] = [0; SLOT_LEN];
+        if cpu < MOST_CPUS {
+            self.lent = self.lent.without(cpu);
+        }
+    }
+
+    /// Returns the CPUs below [`MOST_CPUS`] whose slots may be other than idle, as far as is known without a look. Their
+    /// slots were lent or stamped, and not seen to be idle since. A CPU past the last one may be among them.
+    #[inline(always)]
+    pub fn may_be_busy(&self) -> Mask
+        ensures { CoversBusy self.now result }
+    {
+        let Region { lent, .. } = self;
+        *lent
     }
 
     /// Returns the CPUs below [`MOST_CPUS`] whose slots are not idle: stamped, done or malformed. It looks at those

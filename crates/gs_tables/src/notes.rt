@@ -10,6 +10,7 @@ ghost use Rattle.gs_trace.specs.Noted.{noted_first};
 ghost use Rattle.gs_trace.specs.NotedLines.{noted_of};
 ghost use Rattle.gs_tables.specs.Notes.{IsNoted, NotesCame, NotesOne};
 
+use gs_agent::Drained;
 use gs_core::{Event, Machine, Reply};
 use gs_kernel::{Command, Landing};
 use gs_policy::Counted;
@@ -45,7 +46,11 @@ fn add_landed(all: &mut Vec<Landing>, came: Came<'_>) -> Result<(), AllocError>
     match came {
         Came::Landed(landings, _) => all.extend_from_slice(landings),
         Came::Replied(reply) => add_landings(all, reply),
-        Came::Executed(..) | Came::Refused(_) | Came::Drained(_) | Came::Stamped { .. } => Ok(()),
+        Came::Executed(..)
+        | Came::Refused(_)
+        | Came::Drained(_)
+        | Came::Stamped { .. }
+        | Came::Decided(..) => Ok(()),
     }
 }
 
@@ -99,8 +104,9 @@ fn note_drain<P: Counted + Copy>(
 ) -> Result<(), AllocError>
     ensures { OnOk result (NotesOne P.chosen (noted_of notes.old.lines) notes.old.landings.items (planning P.chosen machine.old) line (Event.Drain max) (planning P.chosen machine.new) (noted_of notes.new.lines) notes.new.landings.items) }
 {
-    match machine.drain(max) {
-        Ok(drained) => note_came(machine, notes, line, Came::Drained(drained)),
+    let mut drained = Drained::NOTHING;
+    match machine.drain(max, &mut drained) {
+        Ok(()) => note_came(machine, notes, line, Came::Drained(&drained)),
         Err(refusal) => note_came(machine, notes, line, Came::Refused(refusal)),
     }
 }

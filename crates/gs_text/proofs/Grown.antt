@@ -2,7 +2,7 @@
 use Rattle.std.proofs.Common.{◌≡◌, ◌≤◌, ◌<◌, ◌^◌, ℕ, zero, suc, ◌+◌, ◌-◌, ◌/◌, ◌%◌, true, List, [], ◌∷◌, ◌++◌, drop, take, length, length-append, append_assoc, decimal, slice_index_or, slice_set, refl, ap, sym, subst, ◌∙◌, arith, inl, inr, eq-zero-or-pos}
 use Rattle.std.proofs.lemmas.Grind.{take-set_at}
 use Rattle.std.proofs.Math.Seq.{get_or-append_seam, take-append_seam, take-append-add}
-use Rattle.std.proofs.lemmas.Fmt.{IsAscii-decimal, length-decimal-le, decimal_nonempty, decimal_step, decimal_digit}
+use Rattle.std.proofs.lemmas.Fmt.{IsAscii-decimal, IsAscii-decimal_wide, length-decimal-le, decimal_nonempty, decimal_step, decimal_digit}
 use Rattle.std.proofs.lemmas.List.{get_or-take, length-take-le, take-append-drop, take-take, take_rest}
 use Rattle.std.proofs.lemmas.Str.{IsUtf8-append, IsUtf8-from_ascii, is_utf8-from_IsUtf8}
 use Rattle.std.specs.Str.{IsUtf8, is_utf8}
@@ -65,6 +65,9 @@ both_utf8 front back whole e b f = subst IsUtf8 (sym e) (IsUtf8-append front bac
 
 pub number_utf8 : (n : ℕ) → n < 2 ^ 64 → IsUtf8 (decimal n)
 number_utf8 n h = IsUtf8-from_ascii (decimal n) (IsAscii-decimal n h)
+
+pub mask_utf8 : (n : ℕ) → n < 2 ^ 128 → IsUtf8 (decimal n)
+mask_utf8 n h = IsUtf8-from_ascii (decimal n) (IsAscii-decimal_wide n (omega arith))
 
 -- what was written into bytes that were lent stands among them
 pub lent_utf8 : (items new : List ℕ) (at size : ℕ) → size ≡ length items → length new ≡ length items → IsUtf8 (take at new) → is_utf8 (take at (take size (new ++ drop (length new) items))) ≡ true

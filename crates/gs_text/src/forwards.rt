@@ -1,6 +1,6 @@
 //! Words and numbers, written into bytes from a place on.
 
-ghost use Rattle.std.specs.Prelude.{◌≡◌, ◌+◌, ◌*◌, ◌<◌, ◌≤◌, ◌++◌, decimal, length, take};
+ghost use Rattle.std.specs.Prelude.{◌≡◌, ◌+◌, ◌-◌, ◌*◌, ◌/◌, ◌^◌, ◌<◌, ◌≤◌, ◌++◌, decimal, drop, length, take};
 ghost use Rattle.std.specs.Str.{IsUtf8};
 
 use crate::digits::{Digits, KEPT_LEN};
@@ -12,6 +12,15 @@ pub(crate) const DIGITS: usize = 20;
 
 /// The most digits that a mask has.
 pub(crate) const MASK_DIGITS: usize = 39;
+
+/// How many of the last digits of a long mask are written at once.
+const TAIL_DIGITS: usize = 18;
+
+/// A number below this has at most so many digits.
+const TAIL_LIMIT: u64 = 1_000_000_000_000_000_000;
+
+/// Where the digits in front of the last ones of a mask end.
+const UPPER_END: usize = MASK_DIGITS - TAIL_DIGITS;
 
 /// A number that is not below this has more than eight digits.
 const LONG: u64 = 100_000_000;
@@ -154,6 +163,9 @@ pub(crate) fn put_number(bytes: &mut [u8], at: usize, number: u64) -> usize
     ensures written { take result bytes.new ≡ take at bytes.old ++ decimal number }
     ensures utf8 { IsUtf8 (take at bytes.old) → IsUtf8 (take result bytes.new) }
 {
+    if number < 10 {
+        return put_digit(bytes, at, "", number as u8);
+    }
     if number >= LONG {
         return put_long(bytes, at, number);
     }
@@ -225,16 +237,42 @@ pub(crate) fn put_mask(bytes: &mut [u8], at: usize, mask: u128) -> usize
     }
 }
 
-/// Writes any mask, and returns the place behind it.
+/// Writes the last 18 digits of a number that has more, with all their zeros, so that they end at a place. Returns the number in front
+/// of them. The byte before them changes too.
+#[inline(always)]
+fn write_tail(number: u128, buffer: &mut [u8], end: usize) -> u128
+    requires long { TAIL_LIMIT ≤ number }
+    requires room { TAIL_DIGITS < end }
+    requires within { end ≤ length buffer.old }
+    ensures front { result ≡ number / TAIL_LIMIT }
+    ensures written { decimal result ++ drop (end - TAIL_DIGITS) buffer.new ≡ decimal number ++ drop end buffer.old }
+{
+    let limit = TAIL_LIMIT as u128;
+    let front = number / limit;
+    let tail = (number - front * limit) as u64;
+    write_digits(TAIL_LIMIT + tail, buffer, end);
+    front
+}
+
+/// Writes a mask of more than 64 bits, and returns the place behind it.
 #[inline(never)]
 fn put_long_mask(bytes: &mut [u8], at: usize, mask: u128) -> usize
-    requires { at + MASK_DIGITS ≤ length bytes.old }
+    requires long { 2 ^ 64 ≤ mask }
+    requires room { at + MASK_DIGITS ≤ length bytes.old }
     ensures end { result ≤ at + MASK_DIGITS }
     ensures written { take result bytes.new ≡ take at bytes.old ++ decimal mask }
     ensures utf8 { IsUtf8 (take at bytes.old) → IsUtf8 (take result bytes.new) }
 {
-    let mut buffer = Buffer::new();
-    put(bytes, at, buffer.format(mask).as_bytes())
+    let mut buffer = [0; MASK_DIGITS];
+    let upper = write_tail(mask, &mut buffer, MASK_DIGITS);
+    let start = match u64::try_from(upper) {
+        Ok(number) => write_digits(number, &mut buffer, UPPER_END),
+        Err(_) => {
+            let top = write_tail(upper, &mut buffer, UPPER_END);
+            write_digits(top as u64, &mut buffer, UPPER_END - TAIL_DIGITS)
+        }
+    };
+    put(bytes, at, &buffer[start..])
 }
 
 /// Writes words, a mask and words, for which there is room whatever it is, and returns the place behind them.

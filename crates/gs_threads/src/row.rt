@@ -7,12 +7,13 @@ use gs_layout::{Change, Facts, Message, Record};
 /// What the kernel has of one thread.
 #[derive(Clone, Copy)]
 pub struct ThreadRow {
-    /// What the thread's messages make of it.
-    pub record: Record,
-    /// The thread's sequence number, that of its latest message.
+    /// The thread's sequence number, that of its latest message. It stands first, beside the mask, since both are read for most
+    /// commands. So they mostly lie in one cache line.
     pub tseq: u32,
     /// The CPU that the thread is on.
     pub cpu: Option<u16>,
+    /// What the thread's messages make of it.
+    pub record: Record,
 }
 
 impl ThreadRow {

@@ -9,6 +9,7 @@ use gs_core::{Reply, is_short, is_short_command};
 use gs_journal::LastEntry;
 use gs_kernel::{Executed, Landing};
 use gs_layout::Refusal;
+use gs_policy::Choice;
 use gs_slots::Flags;
 use std::slice;
 
@@ -20,7 +21,7 @@ pub enum Came<'a> {
     /// The refusal of any other event.
     Refused(Refusal),
     /// What the agent followed.
-    Drained(Drained),
+    Drained(&'a Drained),
     /// A transaction that was stamped, for this CPU and thread, and its number.
     Stamped {
         cpu: u16,
@@ -30,6 +31,8 @@ pub enum Came<'a> {
     },
     /// What became of each slot of a commit, and whether that tore the enclave down.
     Landed(&'a [Landing], bool),
+    /// What was planned and stamped: the number of the first transaction, and the choices.
+    Decided(u32, &'a [Choice]),
     /// The reply to any other event.
     Replied(&'a Reply),
 }
@@ -44,7 +47,7 @@ impl<'a> Came<'a> {
             Came::Executed(came, _) => is_short_command(*came),
             Came::Refused(refusal) => *refusal == Refusal::OutOfMemory,
             Came::Drained(drained) => matches!(drained.stop, Some(Stop::Memory)),
-            Came::Stamped { .. } | Came::Landed(..) => false,
+            Came::Stamped { .. } | Came::Landed(..) | Came::Decided(..) => false,
             Came::Replied(reply) => is_short(slice::from_ref(*reply)),
         }
     }

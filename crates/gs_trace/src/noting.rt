@@ -166,6 +166,7 @@ impl Noting {
                 self.add(when, cpu, tid, what)
             }
             Came::Landed(landings, _) => self.add_landings(when, landings),
+            Came::Decided(_, choices) => self.add_choices(when, choices),
             Came::Replied(reply) => self.hear_reply(when, reply),
             _ => Ok(()),
         }

@@ -13,13 +13,15 @@ ghost use Rattle.gs_trace.specs.Adding.{AddedUpTo, AddsOne};
 ghost use Rattle.gs_trace.specs.Came.{reply_in};
 
 use crate::came::Came;
+use gs_agent::Drained;
 use gs_core::{Event, Items, Machine, Reply};
 use gs_kernel::{Command, Kernel, Landing};
 use gs_layout::Refusal;
 use gs_lines::{
-    Text, write_committed, write_drained, write_executed, write_refused, write_reply, write_stamped,
+    Text, write_committed, write_decided, write_drained, write_executed, write_refused,
+    write_reply, write_stamped,
 };
-use gs_policy::Counted;
+use gs_policy::{Choice, Counted};
 use gs_report::Report;
 use gs_ring::ByteRing;
 use gs_script::{NamedPolicy, Reading, ScriptError};
@@ -32,6 +34,15 @@ use std::alloc::{AllocError, Global};
 pub(crate) struct When {
     pub(crate) line: usize,
     pub(crate) entries: usize,
+}
+
+/// What is kept from one event to the next, so that no event asks for its memory anew.
+#[derive(Drop)]
+struct Lists {
+    /// What became of each slot of a commit.
+    landings: Vec<Landing>,
+    /// What was planned.
+    choices: Vec<Choice>,
 }
 
 /// What the replies of a run are added to, one after another.
@@ -66,9 +77,10 @@ impl Sink for Text {
         match came {
             Came::Executed(came, last) => write_executed(self, came, last),
             Came::Refused(refusal) => write_refused(self, refusal),
-            Came::Drained(drained) => write_drained(self, &drained),
+            Came::Drained(drained) => write_drained(self, drained),
             Came::Stamped { number, .. } => write_stamped(self, number),
             Came::Landed(landings, torn) => write_committed(self, landings, torn),
+            Came::Decided(first, choices) => write_decided(self, first, choices),
             Came::Replied(reply) => write_reply(self, reply),
         }
     }
@@ -92,11 +104,15 @@ impl Sink for Report {
             Came::Executed(Err(refusal), _) | Came::Refused(refusal) => {
                 self.add(&Reply::Refused(refusal))
             }
-            Came::Drained(drained) => self.add(&Reply::Drained(drained)),
+            Came::Drained(drained) => self.add(&Reply::Drained(*drained)),
             Came::Stamped { number, .. } => self.add(&Reply::Stamped { number }),
             Came::Landed(landings, torn) => {
                 let landings = Items::new(landings.to_vec(alloc)?);
                 self.add(&Reply::Landed { landings, torn })
+            }
+            Came::Decided(first, choices) => {
+                let choices = Items::new(choices.to_vec(alloc)?);
+                self.add(&Reply::Decided { first, choices })
             }
             Came::Replied(reply) => self.add(reply),
         }
@@ -187,8 +203,9 @@ fn drain_one<P: Counted + Copy, S: Sink>(
 ) -> Result<(), AllocError>
     ensures { OnOk result (AddsOne S.has (planning P.chosen machine.old) (Event.Drain max) (planning P.chosen machine.new) sink.old sink.new) }
 {
-    match machine.drain(max) {
-        Ok(drained) => add_to(alloc, sink, when, Came::Drained(drained), machine.kernel()),
+    let mut drained = Drained::NOTHING;
+    match machine.drain(max, &mut drained) {
+        Ok(()) => add_to(alloc, sink, when, Came::Drained(&drained), machine.kernel()),
         Err(refusal) => add_refusal(alloc, sink, when, refusal, machine.kernel()),
     }
 }
@@ -241,6 +258,26 @@ fn commit_one<P: Counted + Copy, S: Sink>(
     }
 }
 
+/// Stamps what the policy plans. The choices are put in the place of what a list has.
+#[inline(never)]
+fn decide_one<P: Counted + Copy, S: Sink>(
+    alloc: Global,
+    machine: &mut Machine<P>,
+    when: When,
+    choices: &mut Vec<Choice>,
+    sink: &mut S,
+) -> Result<(), AllocError>
+    ensures { OnOk result (AddsOne S.has (planning P.chosen machine.old) Event.Decide (planning P.chosen machine.new) sink.old sink.new) }
+{
+    match machine.decide(choices) {
+        Ok(first) => {
+            let came = Came::Decided(first, choices.as_slice());
+            add_to(alloc, sink, when, came, machine.kernel())
+        }
+        Err(refusal) => add_refusal(alloc, sink, when, refusal, machine.kernel()),
+    }
+}
+
 /// Steps any event.
 #[inline(always)]
 fn step_one<P: Counted + Copy, S: Sink>(
@@ -257,14 +294,14 @@ fn step_one<P: Counted + Copy, S: Sink>(
 }
 
 /// Runs an event of a line, and adds its reply to a sink. It fails only if out of memory, or if the reply tells of that. An event that
-/// is frequent has a call of its own, in which no reply is made. A list serves each commit.
+/// is frequent has a call of its own, in which no reply is made. Lists serve each commit and each decision.
 #[inline(always)]
 fn run_one<P: Counted + Copy, S: Sink>(
     alloc: Global,
     machine: &mut Machine<P>,
     line: usize,
     event: &Event<P>,
-    landings: &mut Vec<Landing>,
+    lists: &mut Lists,
     sink: &mut S,
 ) -> Result<(), AllocError>
     ensures { OnOk result (AddsOne S.has (planning P.chosen machine.old) (planned P.chosen event.now) (planning P.chosen machine.new) sink.old sink.new) }
@@ -279,7 +316,10 @@ fn run_one<P: Counted + Copy, S: Sink>(
         Event::Stamp { cpu, tid, flags } => {
             stamp_one(alloc, machine, when, *cpu, *tid, *flags, sink)
         }
-        Event::Commit { mask } => commit_one(alloc, machine, when, *mask, landings, sink),
+        Event::Decide => decide_one(alloc, machine, when, &mut lists.choices, sink),
+        Event::Commit { mask } => {
+            commit_one(alloc, machine, when, *mask, &mut lists.landings, sink)
+        }
         _ => step_one(alloc, machine, when, event, sink),
     }
 }
@@ -298,7 +338,10 @@ pub(crate) fn run_into<P: NamedPolicy, S: Sink>(
 {
     let mut script = script;
     let mut sink = sink;
-    let mut landings = Vec::new(alloc);
+    let mut lists = Lists {
+        landings: Vec::new(alloc),
+        choices: Vec::new(alloc),
+    };
     let mut event = Vec::new(alloc);
     'events: while let Some(said) = script.next(&mut event)? {
         run_one(
@@ -306,7 +349,7 @@ pub(crate) fn run_into<P: NamedPolicy, S: Sink>(
             machine,
             said.number,
             &event[0],
-            &mut landings,
+            &mut lists,
             &mut sink,
         )?;
         event.clear();

@@ -1,9 +1,10 @@
 //! What a machine and a kernel show to those who call them, beyond the lines of their replies.
 
+use gs_agent::Drained;
 use gs_core::{Config, ConfigFault, Event, Machine, Reply};
 use gs_kernel::{Command, Executed, Kernel, Landing, Settings, ThreadEvent};
 use gs_layout::{Class, Facts, Name, Outcome};
-use gs_policy::{AnyPolicy, FirstCome, TwoClass};
+use gs_policy::{AnyPolicy, Choice, FirstCome, TwoClass};
 use gs_ring::ByteRing;
 use gs_slots::{Flags, SlotState, Stamp};
 use gs_status::Mask;
@@ -395,5 +396,50 @@ fn lands_without_a_slot(rt: HostRuntime) -> Result<(), Fail> {
     let mut kernel = with_one(rt.alloc()).ok_or("a kernel")?;
     assert!(rt; lands(&mut kernel, Outcome::Placed));
     assert!(rt; lands(&mut kernel, Outcome::AlreadyPlaced));
+    Ok(())
+}
+
+/// The only choice of a list.
+fn only_choice(choices: &[Choice]) -> Option<(u16, u32, bool)> {
+    match choices {
+        [Choice { cpu, tid, preempt }] => Some((*cpu, *tid, *preempt)),
+        _ => None,
+    }
+}
+
+/// The CPU, the thread and the outcome of the only landing of a list.
+fn only_landing(landings: &[Landing]) -> Option<(u16, u32, Outcome)> {
+    match landings {
+        [landing] => Some((landing.cpu, landing.tid, landing.outcome)),
+        _ => None,
+    }
+}
+
+/// Whether a drain, a decision and a commit put their answers where they are told. A second decision has no choice, and the list
+/// none of the first.
+fn answers_where_told(
+    machine: &mut Machine<AnyPolicy>,
+    choices: &mut Vec<Choice>,
+    landings: &mut Vec<Landing>,
+) -> bool {
+    let mut drained = Drained::NOTHING;
+    let followed = machine.drain(9, &mut drained);
+    let first = machine.decide(choices);
+    let choice = only_choice(choices.as_slice());
+    let torn = machine.commit(Mask::new(2), landings);
+    let next = machine.decide(choices);
+    (followed, drained.count) == (Ok(()), 1)
+        && (first, choice) == (Ok(1), Some((1, 1, false)))
+        && (torn, only_landing(landings.as_slice())) == (Ok(false), Some((1, 1, Outcome::Placed)))
+        && (next, choices.len()) == (Ok(2), 0)
+}
+
+#[test]
+fn puts_answers_where_it_is_told(rt: HostRuntime) -> Result<(), Fail> {
+    let created = creation(3).ok_or("a name")?;
+    let (mut choices, mut landings) = (Vec::new(rt.alloc()), Vec::new(rt.alloc()));
+    let mut machine = Machine::new(rt.alloc(), TWO_CPUS)?;
+    machine.step(&created);
+    assert!(rt; answers_where_told(&mut machine, &mut choices, &mut landings));
     Ok(())
 }

@@ -1,4 +1,4 @@
-use Rattle.std.proofs.Common.{◌≡◌, ◌∙◌, ℕ, List, Some, take, drop, length, length-append, length-take, length-drop, slice_get, ap, arith}
+use Rattle.std.proofs.Common.{◌∙◌, ℕ, List, take, drop, length, length-append, length-take, length-drop, ap, arith}
 use Rattle.gs_slots.specs.Reading.{by_cpu}
 use Rattle.gs_slots.specs.SlotMut.{bytes_of, cpu_of}
 use Rattle.gs_slots.proofs.Laws.{by_cpu_count, by_cpu_more}

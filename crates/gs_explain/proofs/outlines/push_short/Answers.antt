@@ -1,5 +1,6 @@
-use Rattle.std.proofs.Common.{◌≡◌, ◌∙◌, ◌+◌, ◌-◌, ℕ, List, ap, arith, get_or, length, refl, rules, slice_set, subst, suc}
+use Rattle.std.proofs.Common.{◌≡◌, ◌∙◌, ◌+◌, ◌-◌, ◌++◌, ◌∷◌, [], ℕ, List, ap, arith, get_or, length, refl, rules, slice_set, subst, suc}
 use Rattle.std.proofs.lemmas.List.{get_or_default}
+use Rattle.std.proofs.lemmas.Result.{on_ok_weaker}
 use Rattle.gs_explain.specs.declared.outlines.Short.{Short}
 use Rattle.gs_explain.specs.Outlined.{NotesTold, all_events, later, told_of, widened}
 use Rattle.gs_explain.proofs.Aside.{counted, event_more, once_more}
@@ -16,4 +17,7 @@ returns-then-is_before-clause-added c = λ asides.
     (later (widened asides (get_or shorts i last)) (suc (get_or shorts i last).times), (noted, ap (λ (s : Short). all_events asides (slice_set shorts i (once_more s))) c.index_mut.ensures.value ∙ counted asides shorts i last size))
 
 pub returns-clause-added : goal.returns-clause-added
-returns-clause-added c = λ asides. (widened asides c.args.short, (record { said = refl; first = refl; told = refl }, ap (all_events asides) c.in_ok-push.ensures.items ∙ event_more asides c.args.shorts.now.items c.args.short (widened asides c.args.short) c.requires.once refl))
+returns-clause-added c = λ asides.
+    let shorts = c.args.shorts.now.items in
+    let short = c.args.short in
+    on_ok_weaker c.push_in_place.result (λ (after : c.push_in_place.new.items.items ≡ shorts ++ short ∷ []). (widened asides short, (record { said = refl; first = refl; told = refl }, ap (all_events asides) after ∙ event_more asides shorts short (widened asides short) c.requires.once refl))) c.push_in_place.ensures.added

@@ -19,10 +19,10 @@ pub returns-in_ok-behind_create-in-None : goal.returns-in_ok-behind_create-in-No
 returns-in_ok-behind_create-in-None g c = spoken_added g.P.NamedPolicy.naming (codes "create") (reads rows.create) _ _ _ _ _ refl refl refl (λ words. refl) c.in_ok-behind_create-in-None.ensures c.creation.ensures
 
 pub returns-in_ok-max-in-114 : goal.returns-in_ok-max-in-114
-returns-in_ok-max-in-114 g c = spoken_read g.P.NamedPolicy.naming (codes "drain") (reads rows.drain) (events.Drain c.in_ok-max-in-114.max) c.args.text.now c.in_ok-behind-in-114.field-0.now c.in_ok-max-in-114.left _ _ refl refl refl (λ words. refl) c.in_ok-behind-in-114.ensures (number_read events.Drain 4294967295 c.in_ok-max-in-114.max _ _ c.in_ok-max-in-114.ensures) c.push_reserved-in-114.ensures.items
+returns-in_ok-max-in-114 g c = spoken_read g.P.NamedPolicy.naming (codes "drain") (reads rows.drain) (events.Drain c.in_ok-max-in-114.max) c.args.text.now c.in_ok-behind_drain-in-114.field-0.now c.in_ok-max-in-114.left _ _ refl refl refl (λ words. refl) c.in_ok-behind_drain-in-114.ensures (number_read events.Drain 4294967295 c.in_ok-max-in-114.max _ _ c.in_ok-max-in-114.ensures) c.push_reserved-in-114.ensures.items
 
 pub returns-in_ok-left-in-101 : goal.returns-in_ok-left-in-101
-returns-in_ok-left-in-101 g c = alone_added g.P.NamedPolicy.naming (codes "decide") events.Decide _ _ _ _ _ refl refl refl refl c.in_ok-behind-in-101.ensures c.in_ok-left-in-101.ensures c.push_reserved-in-101.ensures.items
+returns-in_ok-left-in-101 g c = alone_added g.P.NamedPolicy.naming (codes "decide") events.Decide _ _ _ _ _ refl refl refl refl c.in_ok-behind_decide-in-101.ensures c.in_ok-left-in-101.ensures c.push_reserved-in-101.ensures.items
 
 pub returns-in_ok-behind_die-in_default-2 : goal.returns-in_ok-behind_die-in_default-2
 returns-in_ok-behind_die-in_default-2 g c = spoken_added g.P.NamedPolicy.naming (codes "die") (reads rows.die) _ _ _ _ _ refl refl refl (λ words. refl) c.in_ok-behind_die-in_default-2.ensures c.to_thread-in_default-2.ensures
@@ -39,17 +39,17 @@ returns-in_ok-number-in-108 g c = spoken_read g.P.NamedPolicy.naming (codes "lat
 pub returns-in_ok-max-in-112 : goal.returns-in_ok-max-in-112
 returns-in_ok-max-in-112 g c = spoken_read g.P.NamedPolicy.naming (codes "page") (reads rows.page) (events.Page c.in_ok-max-in-112.max) c.args.text.now c.in_ok-behind-in-112.field-0.now c.in_ok-max-in-112.left _ _ refl refl refl (λ words. refl) c.in_ok-behind-in-112.ensures (number_read events.Page 65535 c.in_ok-max-in-112.max _ _ c.in_ok-max-in-112.ensures) c.push_reserved-in-112.ensures.items
 
-pub returns-in-Some-behind : goal.returns-in-Some-behind
-returns-in-Some-behind g c = spoken_added g.P.NamedPolicy.naming (codes "stamp") (reads rows.stamp) _ _ _ _ _ refl refl refl (λ words. refl) c.in-Some-behind.ensures c.stamp.ensures
+pub returns-in-Some-behind_stamp : goal.returns-in-Some-behind_stamp
+returns-in-Some-behind_stamp g c = spoken_added g.P.NamedPolicy.naming (codes "stamp") (reads rows.stamp) _ _ _ _ _ refl refl refl (λ words. refl) c.in-Some-behind_stamp.ensures c.stamp.ensures
 
-pub returns-in_ok-left-in-None-behind : goal.returns-in_ok-left-in-None-behind
-returns-in_ok-left-in-None-behind g c = alone_added g.P.NamedPolicy.naming (codes "state") events.State _ _ _ _ _ refl refl refl refl c.in_ok-behind-in-None-behind.ensures c.in_ok-left-in-None-behind.ensures c.push_reserved-in-None-behind.ensures.items
+pub returns-in_ok-left-in-None-behind_stamp : goal.returns-in_ok-left-in-None-behind_stamp
+returns-in_ok-left-in-None-behind_stamp g c = alone_added g.P.NamedPolicy.naming (codes "state") events.State _ _ _ _ _ refl refl refl refl c.in_ok-behind-in-None-behind_stamp.ensures c.in_ok-left-in-None-behind_stamp.ensures c.push_reserved-in-None-behind_stamp.ensures.items
 
-pub returns-in_ok-cpu-in-Some-behind-2 : goal.returns-in_ok-cpu-in-Some-behind-2
-returns-in_ok-cpu-in-Some-behind-2 g c = spoken_read g.P.NamedPolicy.naming (codes "tick") (reads rows.tick) c.of_kernel-in-Some-behind-2.result c.args.text.now c.in-Some-behind-2.rest.now c.in_ok-cpu-in-Some-behind-2.left _ _ refl refl refl (λ words. refl) c.in-Some-behind-2.ensures (rw c.of_kernel-in-Some-behind-2.ensures (number_read (λ cpu. events.Kernel (commands.Tick cpu)) 65535 c.in_ok-cpu-in-Some-behind-2.cpu _ _ c.in_ok-cpu-in-Some-behind-2.ensures)) c.push_reserved-in-Some-behind-2.ensures.items
+pub returns-in_ok-cpu-in-Some-behind : goal.returns-in_ok-cpu-in-Some-behind
+returns-in_ok-cpu-in-Some-behind g c = spoken_read g.P.NamedPolicy.naming (codes "tick") (reads rows.tick) c.of_kernel-in-Some-behind.result c.args.text.now c.in-Some-behind.rest.now c.in_ok-cpu-in-Some-behind.left _ _ refl refl refl (λ words. refl) c.in-Some-behind.ensures (rw c.of_kernel-in-Some-behind.ensures (number_read (λ cpu. events.Kernel (commands.Tick cpu)) 65535 c.in_ok-cpu-in-Some-behind.cpu _ _ c.in_ok-cpu-in-Some-behind.ensures)) c.push_reserved-in-Some-behind.ensures.items
 
-pub returns-in_ok-cpu-in-None-behind-2 : goal.returns-in_ok-cpu-in-None-behind-2
-returns-in_ok-cpu-in-None-behind-2 g c = spoken_read g.P.NamedPolicy.naming (codes "take") (reads rows.take) c.of_kernel-in-None-behind-2.result c.args.text.now c.in_ok-behind-in-None-behind-2.field-0.now c.in_ok-cpu-in-None-behind-2.left _ _ refl refl refl (λ words. refl) c.in_ok-behind-in-None-behind-2.ensures (rw c.of_kernel-in-None-behind-2.ensures (number_read (λ cpu. events.Kernel (commands.Take cpu)) 65535 c.in_ok-cpu-in-None-behind-2.cpu _ _ c.in_ok-cpu-in-None-behind-2.ensures)) c.push_reserved-in-None-behind-2.ensures.items
+pub returns-in_ok-cpu-in-None-behind : goal.returns-in_ok-cpu-in-None-behind
+returns-in_ok-cpu-in-None-behind g c = spoken_read g.P.NamedPolicy.naming (codes "take") (reads rows.take) c.of_kernel-in-None-behind.result c.args.text.now c.in_ok-behind-in-None-behind.field-0.now c.in_ok-cpu-in-None-behind.left _ _ refl refl refl (λ words. refl) c.in_ok-behind-in-None-behind.ensures (rw c.of_kernel-in-None-behind.ensures (number_read (λ cpu. events.Kernel (commands.Take cpu)) 65535 c.in_ok-cpu-in-None-behind.cpu _ _ c.in_ok-cpu-in-None-behind.ensures)) c.push_reserved-in-None-behind.ensures.items
 
 pub returns-in_ok-left-in-117 : goal.returns-in_ok-left-in-117
 returns-in_ok-left-in-117 g c = alone_added g.P.NamedPolicy.naming (codes "unread") events.Unread _ _ _ _ _ refl refl refl refl c.in_ok-behind-in-117.ensures c.in_ok-left-in-117.ensures c.push_reserved-in-117.ensures.items

@@ -3,6 +3,7 @@ use Rattle.gs_layout.specs.View.{look_up}
 use Rattle.gs_view.specs.News.{word_of}
 use Rattle.gs_agent.specs.Mind.{MindState, picture_of}
 use Rattle.gs_agent.specs.Picture.{after_message}
+use Rattle.gs_agent.proofs.Believing.{turn_ended}
 use Rattle.gs_agent.proofs.Minds.{is_applied, not_applied, news_picture, news_waiting, old_picture, room_news, waiting_as_before}
 use Rattle.gs_agent.proofs.mind.Mind.follow_change.Goals as goal
 
@@ -11,6 +12,9 @@ requeue-requires-clause-room c =
     let v = look_up c.self.inside.view.entries in
     room_news v (look_up c.hear.new.self.entries) c.self.inside.queue c.make_room.new.queue c.args.message.now c.self.invariant.room c.in_ok-heard.ensures.known
     c.make_room.ensures.room c.in_ok-make_room.ensures.begun c.as_bytes-spelled.ensures.spellable
+
+pub requeue-requires-clause-off : goal.requeue-requires-clause-off
+requeue-requires-clause-off c = turn_ended c.args.message.now c.self.inside.cpus c.hear_as.new.self c.hear_as.ensures
 
 pub returns-in_default-clause-picture : goal.returns-in_default-clause-picture
 returns-in_default-clause-picture c =

@@ -4,7 +4,7 @@ use Rattle.gs_beliefs.proofs.Found.{clears_nobody, clears_one, cpus_cleared}
 use Rattle.gs_beliefs.proofs.beliefs.Beliefs.clear.Goals as goal
 
 pub invariant_of-self : goal.invariant_of-self
-invariant_of-self c = cpus_cleared c.self.inside.beliefs.items c.self.inside.running c.self.inside.stamps c.set.new.self c.in-Some.cpu c.self.invariant c.set.ensures
+invariant_of-self c = cpus_cleared c.self.inside.beliefs.items c.self.inside.running c.self.inside.stamps c.vacate.new.self c.in-Some.cpu c.self.invariant c.vacate.ensures
 
 pub returns-in-Some : goal.returns-in-Some
 returns-in-Some c =

@@ -17,12 +17,12 @@ invariant_of-self-in-Some c =
     let kepts = c.self.inside.kepts.items in
     let why = refused_text (why_refused (moment_of c.args.scene.now) c.args.refusal) in
     let at : p.at ≡ length page = c.in-Some.ensures.at ∙ ap length c.as_bytes.ensures in
-    let after : c.push_piece.new.pieces.items ≡ old ++ p ∷ [] = search rules in
+    let after : c.push_in_place.new.items.items ≡ old ++ p ∷ [] = search rules in
     let one = within_told p page (said_line c.args.said.now) c.args.refusal why at c.in-Some.ensures.said c.requires.text c.in-Some.ensures.short c.in-Some.ensures.tail in
     subst (λ pieces. AreHeld page pieces kepts) (sym after) (held_one page old p kepts c.self.invariant one)
 
-pub returns-in_ok-push_piece-in-Some-clause-told : goal.returns-in_ok-push_piece-in-Some-clause-told
-returns-in_ok-push_piece-in-Some-clause-told c = λ yes.
+pub returns-in_ok-push_in_place-in-Some-clause-told : goal.returns-in_ok-push_in_place-in-Some-clause-told
+returns-in_ok-push_in_place-in-Some-clause-told c = λ yes.
     let p = c.in-Some.piece in
     let page = c.self.inside.page in
     let old = c.self.inside.pieces.items in
@@ -30,6 +30,6 @@ returns-in_ok-push_piece-in-Some-clause-told c = λ yes.
     let x = moment_of c.args.scene.now in
     let why = refused_text (why_refused x c.args.refusal) in
     let at : p.at ≡ length page = c.in-Some.ensures.at ∙ ap length c.as_bytes.ensures in
-    let after : c.push_piece.new.pieces.items ≡ old ++ p ∷ [] = search rules in
+    let after : c.push_in_place.new.items.items ≡ old ++ p ∷ [] = search rules in
     let text = piece_row p page said c.args.refusal why c.in-Some.ensures.said c.in-Some.ensures.tail ∙ sym (refused_row said x (length x.history) c.args.refusal refl) in
     ap (λ pieces. retold 0 pieces page) after ∙ (retold_one 0 old p page at ∙ (λ i. c.self.view_is i ++ text i))

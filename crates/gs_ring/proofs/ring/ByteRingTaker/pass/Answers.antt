@@ -2,12 +2,23 @@ use Rattle.std.proofs.Common.{◌≡◌, ℕ, ◌<◌, ◌≤◌, List, [], ◌�
 use Rattle.gs_layout.specs.declared.message.Message.{Message}
 use Rattle.gs_ring.specs.Ends.{Ahead, Passed, Passed-join}
 use Rattle.gs_ring.specs.RingState.{RingState}
+use Rattle.gs_ring.proofs.Emptied.{all_passed, held_empty}
 use Rattle.gs_ring.proofs.Next.{first_of, head_in}
 use Rattle.gs_ring.proofs.ring.ByteRingTaker.pass.Goals as goal
 
 -- some are left, as long as fewer were consumed
 some_left : (u v : RingState) (done ms : List Message) (n : ℕ) → Passed u done v → Ahead u ms → n ≤ length ms → length done < n → 0 < length v.unread
 some_left u v done ms n p a fits lt = omega (arith, ap length p.unread, length-append done v.unread, ap length a.1, length-append ms a.0, fits, lt)
+
+pub invariant_of-self : goal.invariant_of-self
+invariant_of-self c =
+    let i = c.self.inside in
+    held_empty i.block i.read i.written i.consumed i.posts c.self.invariant
+
+pub returns-then-n-self : goal.returns-then-n-self
+returns-then-n-self c = λ ms ahead fits.
+    let i = c.self.inside in
+    all_passed i.block.items i.read.count i.written.count i.consumed i.posts c.args.self.now ms c.args.n c.self.invariant.ring c.self.view_is c.if-n-self.true ahead fits
 
 pub pop-requires : goal.pop-requires
 pop-requires c =

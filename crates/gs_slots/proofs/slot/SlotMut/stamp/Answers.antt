@@ -8,7 +8,7 @@ use Rattle.gs_slots.proofs.slot.SlotMut.stamp.Goals as goal
 pub returns-clause-stamped : goal.returns-clause-stamped
 returns-clause-stamped c =
     spelt_read (cpu_of c.args.self) c.write_stamped.new.out (Stamped (record { generation = c.args.generation; tid = c.args.tid; tseq = c.args.tseq; flags = c.args.flags }))
-    (refl, record { generation = c.ranges.generation.fits; tid = c.ranges.tid.fits; tseq = c.ranges.tseq.fits }) c.write_stamped.ensures
+    (refl, c.write_stamped.ensures.numbers) c.write_stamped.ensures.bytes
 
 pub returns-then-is_busy-clause-exact : goal.returns-then-is_busy-clause-exact
 returns-then-is_busy-clause-exact c = (
