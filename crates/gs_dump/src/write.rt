@@ -37,6 +37,15 @@ fn write_front(thread: &DumpRecord, out: &mut [u8])
     LittleEndian::write_u16(&mut out[FLAGS_AT..], u16::from(thread.known.facts.runnable));
 }
 
+/// Writes a padded name over as many bytes. It goes as one number, where a copied slice may go byte by byte.
+#[inline(always)]
+fn write_name(name: &[u8; MOST_NAME_LEN], out: &mut [u8])
+    requires { length out.old ≡ MOST_NAME_LEN }
+    ensures { out.new ≡ name.now }
+{
+    LittleEndian::write_u128(out, u128::from_le_bytes(*name));
+}
+
 /// Writes a record over as many bytes as it has.
 #[inline(always)]
 pub(crate) fn write_record(thread: &DumpRecord, out: &mut [u8])
@@ -47,7 +56,7 @@ pub(crate) fn write_record(thread: &DumpRecord, out: &mut [u8])
     let (front, mask) = numbers.split_at_mut(MASK_AT);
     write_front(thread, front);
     LittleEndian::write_u128(mask, thread.known.facts.mask.bits());
-    name.copy_from_slice(thread.known.facts.name.as_padded());
+    write_name(thread.known.facts.name.as_padded(), name);
 }
 
 fn record_bytes(thread: &DumpRecord) -> [u8; RECORD_LEN]
