@@ -16,6 +16,9 @@ use slab::Slab;
 use std::alloc::{AllocError, Global};
 use std::marker::Model;
 
+/// How many keys there are: the index keeps each in 32 bits.
+const KEYS: usize = 1 << 32;
+
 /// What is known of each thread, in a slab: an index has the key of each tid of which something is known.
 /// Clauses see the records in increasing order of tid.
 ///
@@ -93,18 +96,22 @@ impl Records {
         self.index.next_from(from)
     }
 
-    /// Returns how many more records fit without memory for them.
+    /// Returns how many more records fit without memory for them, each under a key of 32 bits.
     fn room(&self) -> usize
         ensures { result ≡ self.now.room }
     {
-        self.slab.capacity().saturating_sub(self.len())
+        let capacity = self.slab.capacity();
+        if capacity > KEYS {
+            return 0;
+        }
+        capacity.saturating_sub(self.len())
     }
 
     /// Makes room for so many records, of threads up to a tid.
     ///
     /// # Errors
     ///
-    /// `AllocError` if out of memory. Either way the records stay as they are.
+    /// `AllocError` if out of memory, or of keys. Either way the records stay as they are.
     #[tactic(auto, using(crate::proofs::Agreed::agree_grown, crate::proofs::Agreed::entries_grown))]
     #[inline(always)]
     pub(crate) fn reserve(&mut self, tid: u32, records: usize) -> Result<(), AllocError>
@@ -116,7 +123,27 @@ impl Records {
         if self.room() >= records {
             return Ok(());
         }
-        self.slab.reserve(records)
+        self.grow(records)
+    }
+
+    /// Makes room for so many records in the slab.
+    ///
+    /// # Errors
+    ///
+    /// `AllocError` if out of memory, or of keys. Either way the records stay as they are.
+    #[tactic(auto, using(crate::proofs::Agreed::agree_grown, crate::proofs::Agreed::entries_grown))]
+    #[inline(never)]
+    fn grow(&mut self, records: usize) -> Result<(), AllocError>
+        ensures places { self.new.tids ≡ self.old.tids }
+        ensures room { OnOk result (records ≤ self.new.room) }
+        ensures same { self.new.entries ≡ self.old.entries }
+    {
+        self.slab.reserve(records)?;
+        // Keys never run out: there are at most 65,536 tids, and so never 2^31 records.
+        if self.slab.capacity() > KEYS {
+            return Err(AllocError);
+        }
+        Ok(())
     }
 
     /// Makes this known of a thread, whatever was known of it. There is room.
@@ -145,7 +172,7 @@ impl Records {
         ensures places { self.new.tids ≡ self.old.tids }
         ensures room { self.old.room ≤ self.new.room + 1 }
     {
-        let key = self.slab.insert_reserved(known);
+        let key = self.slab.insert_reserved(known) as u32;
         self.index.set(tid as usize, key);
     }
 
