@@ -8,13 +8,14 @@ use Rattle.gs_journal.specs.declared.entry.Entry.{Entry}
 use Rattle.gs_journal.specs.declared.entry.Entry.TheVariants.{Posted, Placed, Role, Begin, Left, Taken, Given, Torn}
 use Rattle.gs_journal.specs.History.{History, messages, on}
 use Rattle.gs_journal.specs.State.{Numbered}
-use Rattle.gs_journal.proofs.Laws.{AtEach-push, AtEachPrefix-push, Was-mono, same_created, same_messages, same_posted}
+use Rattle.gs_journal.proofs.Laws.{AtEach-push, AtEachPrefix-push, same_created, same_messages, same_posted}
 use Rattle.gs_threads.specs.Mirrors.{is_quiet}
 use Rattle.gs_threads.proofs.Laws.{on_quiet, posts_nothing}
 use Rattle.gs_kernel.specs.declared.settings.Settings.{Settings}
 use Rattle.gs_core.specs.declared.transaction.Transaction.{Transaction}
 use Rattle.gs_core.specs.Machine.{State, view, page_of}
 use Rattle.gs_core.specs.Safe.{IsBacked, OnOne}
+use Rattle.gs_core.proofs.Once.{was_at_more}
 use Rattle.gs_core.specs.Good.{GoodHistory, Good}
 use Rattle.gs_core.proofs.Faces.{faces_same}
 use Rattle.gs_core.proofs.Histories.{whole_one}
@@ -42,7 +43,7 @@ good_quiet s xs h e quiet g =
       no_zero = same 0 ∙ g.no_zero;
       on_cpus = λ u c p. g.on_cpus u c (stood c u p);
       on_known = λ u c p. subst (λ (z : List Message). 0 < length z) (sym (same u)) (g.on_known u c (stood c u p));
-      stamped = λ x i. Was-mono s.first_tseq h (h ++ e ∷ []) x.slot.tid _ [] (same x.slot.tid ∙ sym (append-nil _)) (g.stamped x i);
+      stamped = λ x i. was_at_more s.first_tseq h (h ++ e ∷ []) x.slot.tid _ [] (same x.slot.tid ∙ sym (append-nil _)) (g.stamped x i);
       within = g.within;
       used = used_more s.first_tseq h e (nobody_quiet e quiet) (used_quiet s.first_tseq h e quiet same) g.used;
       once = once_more h e (nobody_quiet e quiet) g.once;

@@ -255,14 +255,14 @@ pub record Carries (m : State) (c : Command) (r : Reply) (m' : State) : Type 0 w
 abbrev pub stamp_of : ℕ → Flags → (ℕ × ℕ) → Known → Stamp
 stamp_of t flags a k = record { generation = a.0; tid = t; tseq = k.tseq; flags = flags }
 
--- the record that the view has is stamped into the slot, and kept with the transaction, and the agent remembers the stamp
+-- the record that the view has is stamped into the slot, which is kept as a transaction, and the agent remembers the stamp
 abbrev pub stamps_with : State → ℕ → ℕ → Flags → Option (ℕ × ℕ) → Option Known → Reply × State
 stamps_with m c t flags (Some a) (Some k) = (
   replies.Stamped (length m.transactions + 1),
   record m {
     agent = option_map (thinking (after_stamp c t)) m.agent;
     slots = slice_set m.slots c (Stamped (stamp_of t flags a k));
-    transactions = m.transactions ++ record { cpu = c; slot = stamp_of t flags a k; facts = k.facts } ∷ [];
+    transactions = m.transactions ++ record { cpu = c; slot = stamp_of t flags a k } ∷ [];
   },
 )
 stamps_with m c t flags None k = (replies.Refused refusals.NotActive, m)

@@ -29,7 +29,7 @@ use gs_layout::Refusal;
 use gs_policy::{Choice, Counted};
 use gs_replies::{Config, ConfigFault, Items, Reply};
 use gs_ring::ByteRing;
-use gs_slots::{Flags, Region, Stamp};
+use gs_slots::{Flags, Region};
 use gs_status::Mask;
 use std::alloc::{AllocError, Global};
 use std::marker::Model;
@@ -186,8 +186,7 @@ impl<P: Counted + Copy> Machine<P> {
         &self.kernel
     }
 
-    /// Returns a transaction by its number, counted from 1 by the stampings: the slot as it was stamped, and
-    /// the facts that it was stamped from.
+    /// Returns a transaction by its number, counted from 1 by the stampings.
     ///
     /// # Examples
     ///
@@ -209,14 +208,6 @@ impl<P: Counted + Copy> Machine<P> {
         ensures { result.now ≡ self.now.transactions }
     {
         self.transactions.as_slice()
-    }
-
-    /// Returns the CPU of a transaction and the slot as it was stamped, by the transaction's number.
-    fn stamped(&self, number: u32) -> Option<(u16, Stamp)>
-        ensures { result ≡ option_map (λ (x : Transaction). (x.cpu, x.slot)) (transaction_of self.now.transactions number) }
-    {
-        let transaction = self.transactions.get(number)?;
-        Some((transaction.cpu, transaction.slot))
     }
 
     /// Lets the agent follow messages while the enclave stands. What it followed is put into a place.
@@ -456,7 +447,7 @@ impl<P: Counted + Copy> Machine<P> {
         ensures step { Step (planning P.chosen self.old) (Event.Late number) (replied result) (planning P.chosen self.new) }
         ensures policy { self.new.policy ≡ self.old.policy }
     {
-        let Some((cpu, slot)) = self.stamped(number) else {
+        let Some(Transaction { cpu, slot }) = self.transaction(number) else {
             return Err(Refusal::NoSuchTransaction);
         };
         let landing = self.kernel.land_stamp(cpu, &slot)?;

@@ -114,7 +114,7 @@ none_stamped : (xs ys : List Transaction) → ys ≡ xs → StampsTo xs ys
 none_stamped xs ys e = ([], e ∙ sym (append-nil xs))
 
 stamped_more : (m : State) (c t : ℕ) (f : Flags) (o : Option (ℕ × ℕ)) (k : Option Known) → StampsTo m.transactions (stamps_with m c t f o k).1.transactions
-stamped_more m c t f (Some a) (Some k) = (record { cpu = c; slot = stamp_of t f a k; facts = k.facts } ∷ [], refl)
+stamped_more m c t f (Some a) (Some k) = (record { cpu = c; slot = stamp_of t f a k } ∷ [], refl)
 stamped_more m c t f (Some a) None = none_stamped m.transactions m.transactions refl
 stamped_more m c t f None k = none_stamped m.transactions m.transactions refl
 

@@ -35,7 +35,7 @@ some = entries.Role 1 0 ∷ entries.Posted (Thread 1 1 (changes.Created facts)) 
 
 -- the transactions of lines 4 and 5
 abbrev two : Bool → List Transaction
-two g = record { cpu = 1; slot = record { generation = 1; tid = 1; tseq = 1; flags = record no_flags { group = g } }; facts = facts } ∷ record { cpu = 2; slot = record { generation = 1; tid = 2; tseq = 1; flags = record no_flags { group = g } }; facts = facts } ∷ []
+two g = record { cpu = 1; slot = record { generation = 1; tid = 1; tseq = 1; flags = record no_flags { group = g } } } ∷ record { cpu = 2; slot = record { generation = 1; tid = 2; tseq = 1; flags = record no_flags { group = g } } } ∷ []
 
 abbrev at_hand : Bool → Event (Unit {0}) → Moment
 at_hand g e =
