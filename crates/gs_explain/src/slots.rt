@@ -2,11 +2,12 @@
 
 use std::alloc::AllocError;
 
-/// Lines are told apart by so many slots. What is kept for a line is kept for all lines of its slot.
-const SLOTS: usize = 8_192;
+/// Lines are told apart by so many slots. What is kept for a line is kept for all lines of its slot. They take 8 KiB, which a processor
+/// has nearest at hand.
+const SLOTS: usize = 1_024;
 
-/// By this, almost all of some thousand lines that differ in one number have slots of their own.
-const MULTIPLIER: u64 = 0x1F6F_7241_70EA_FD67;
+/// By this, almost all of some hundred lines that differ in one number have slots of their own.
+const MULTIPLIER: u64 = 0x1900_BD4C_A7CC_21FB;
 
 /// What is noted of the lines of a slot.
 #[derive(Clone, Copy)]
@@ -32,10 +33,10 @@ pub(crate) fn mark_of(line: &[u8]) -> u32 {
     (word.wrapping_mul(MULTIPLIER) >> 32) as u32
 }
 
-/// Returns the slot of the lines that have a mark: its upper thirteen bits, of which there are as many values as slots.
+/// Returns the slot of the lines that have a mark: its upper ten bits, of which there are as many values as slots.
 #[inline(always)]
 fn slot_of(mark: u32) -> usize {
-    (mark >> 19) as usize
+    (mark >> 22) as usize
 }
 
 /// Makes the slots, if there are none yet. It fails only if out of memory.
