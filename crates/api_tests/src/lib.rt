@@ -36,6 +36,8 @@ mod ring;
 #[cfg(test)]
 mod runq;
 #[cfg(test)]
+mod slot_bytes;
+#[cfg(test)]
 mod slots;
 #[cfg(test)]
 mod status;
