@@ -38,7 +38,7 @@ stamps_on_cpu m c t w none =
     let p3 = first_passed (nat_le m.settings.cpus c) refusals.BadCpu _ p2.1 in
     p3.0
 
-stamps_settings : (m : State) (c t : ℕ) (w : Flags) (a : Option (ℕ × ℕ)) (k : Option Known) → (stamps_with m c t w a k).1.settings ≡ m.settings
+pub stamps_settings : (m : State) (c t : ℕ) (w : Flags) (a : Option (ℕ × ℕ)) (k : Option Known) → (stamps_with m c t w a k).1.settings ≡ m.settings
 stamps_settings m c t w None k = refl
 stamps_settings m c t w (Some a) None = refl
 stamps_settings m c t w (Some a) (Some k) = refl
