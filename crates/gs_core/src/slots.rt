@@ -95,7 +95,7 @@ impl MachineSlots {
         self.region.clear();
     }
 
-    /// Lets a role stamp a thread, at the number that it knows of it, into the slot of a CPU.
+    /// Lets a role stamp a thread, at the number that it knows of it, into the slot of a CPU. Returns what is stamped.
     ///
     /// # Errors
     ///
@@ -108,9 +108,10 @@ impl MachineSlots {
         tid: u32,
         tseq: u32,
         flags: Flags,
-    ) -> Result<(), Refusal>
+    ) -> Result<Stamp, Refusal>
         requires cpu { cpu < length self.old }
         requires number { number_of (look_up role.old.mind.records tid) ≡ Some tseq }
+        ensures stamped { IfOk result (λ stamp. stamp ≡ record { generation = role.old.generation; tid = tid; tseq = tseq; flags = flags }) }
         ensures idle { OnOk result (slice_get self.old cpu ≡ Some SlotState.Idle) }
         ensures slots { OnOk result (self.new ≡ slice_set self.old cpu (SlotState.Stamped (record { generation = role.old.generation; tid = tid; tseq = tseq; flags = flags }))) }
         ensures role { OnOk result (role.new ≡ record role.old { mind = thinks role.old.mind (after_stamp cpu tid (picture_of role.old.mind)) }) }
@@ -128,7 +129,7 @@ impl MachineSlots {
             return Err(Refusal::SlotOpen);
         }
         role.note_stamp(cpu, tid);
-        Ok(())
+        Ok(stamp)
     }
 
     /// Lets the kernel land the slots of a mask, as `Kernel::txns_commit_into` says, and a role collect what became of
