@@ -317,13 +317,8 @@ impl<P> Role<P> {
         Ok(tseq)
     }
 
-    /// Stamps a thread as [`Role::stamp`] does, at the sequence number that the view has of it. It is for a
-    /// caller who looked the thread up already, and does not look it up again. It does not allocate.
-    ///
-    /// # Errors
-    ///
-    /// `SlotOpen` if the slot is not idle, malformed too. Slot and role stay as they were.
-    pub fn stamp_at(
+    /// Stamps a thread as [`Role::stamp`] does, at the sequence number that the view has of it.
+    fn stamp_at(
         &mut self,
         slot: SlotMut<'_>,
         tid: u32,
