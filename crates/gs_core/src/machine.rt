@@ -310,7 +310,7 @@ impl<P: Counted + Copy> Machine<P> {
         Ok(self.transactions.len())
     }
 
-    /// Does so while the enclave stands.
+    /// Stamps a thread into the slot of a CPU while the enclave stands. Returns the number of the transaction.
     #[inline(always)]
     fn stamp_standing(&mut self, cpu: u16, tid: u32, flags: Flags) -> Result<u32, Refusal>
         requires { torn self.old.history ≡ false }
@@ -343,7 +343,7 @@ impl<P: Counted + Copy> Machine<P> {
         Ok(first)
     }
 
-    /// Does so while the enclave stands.
+    /// Stamps what the policy plans while the enclave stands, and puts that into a list. Returns the number of the first transaction.
     #[inline(always)]
     fn decide_standing(&mut self, choices: &mut Vec<Choice>) -> Result<u32, Refusal>
         requires { torn self.old.history ≡ false }

@@ -91,7 +91,7 @@ impl Region {
     }
 
     /// Returns whether a slot of a CPU below [`MOST_CPUS`] may have the flag of a group. If none has, as
-    /// [`Region::busy`] saw them last, and none was lent since, that is `false`.
+    /// [`Region::busy`] saw them last, and since then none was lent or stamped with it, that is `false`.
     pub fn may_be_grouped(&self) -> bool
         ensures { result ≡ false → HasNoFlag self.now }
     {
@@ -193,7 +193,7 @@ impl Region {
     }
 
     /// Returns the CPUs below [`MOST_CPUS`] whose slots are not idle: stamped, done or malformed. It looks at those
-    /// alone that were lent since they were last seen to be idle.
+    /// alone that were lent or stamped since they were last seen to be idle.
     #[inline(always)]
     pub fn busy(&mut self) -> Mask
         ensures busy { (c : ℕ) → c < MOST_CPUS → has result c ≡ is_busy_at self.old c }
@@ -236,7 +236,7 @@ impl Region {
     }
 }
 
-/// Returns the CPUs whose slots were lent, and one more. A CPU from [`MOST_CPUS`] on is not noted.
+/// Returns the CPUs that are noted, and one more. A CPU from [`MOST_CPUS`] on is not noted.
 fn with_lent(lent: Mask, cpu: u16) -> Mask
     ensures { (c : ℕ) → c < MOST_CPUS → has result c ≡ (has lent c || (c == cpu)) }
 {
@@ -268,7 +268,7 @@ fn or_flagged(flagged: bool, blocks: &[[u8; SLOT_LEN]], cpu: u16) -> bool
 }
 
 /// Returns the CPUs below [`MOST_CPUS`] whose slots are not idle, and whether one of them may have the flag of a
-/// group. All that are not idle are among those that were lent.
+/// group. All that are not idle are among those that are noted.
 // In line, since with few CPUs a call costs as much as the walk.
 #[inline(always)]
 fn busy_of(lent: Mask, blocks: &[[u8; SLOT_LEN]]) -> (Mask, bool)

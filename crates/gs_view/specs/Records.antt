@@ -7,7 +7,7 @@ use Rattle.gs_view.specs.Index.{IndexState, key_of, places}
 use Rattle.gs_view.specs.Listed.{listed}
 use Rattle.gs_view.specs.declared.records.TheConstants.{KEYS}
 
--- all that is known, in increasing order of tid; how many tids have a place, from tid 0 on; and how many more records fit without allocating, each under a key of 32 bits
+-- all that is known, in increasing order of tid; how many tids have a place, from tid 0 on; and how many more records fit without allocating. Each record has a key of 32 bits
 pub record RecordsState : Type 0 where
   pub entries : List (ℕ × Known)
   pub tids : ℕ
