@@ -52,7 +52,7 @@ runs_ticked u (Some r) = refl
 pub believed_clears : (t u : ℕ) (s : Cpus) → (t == u) ≡ false → is_believed (clears t s) u ≡ is_believed s u
 believed_clears t u s n = any_map (runs u) (cleared_at t) s.believed (runs_cleared t u n)
 
-believed_raises : (t n u : ℕ) (s : Cpus) → is_believed (raises t n s) u ≡ is_believed s u
+pub believed_raises : (t n u : ℕ) (s : Cpus) → is_believed (raises t n s) u ≡ is_believed s u
 believed_raises t n u s = any_map (runs u) (raised_at t n) s.believed (runs_raised t n u)
 
 believed_ticks : (c u : ℕ) (s : Cpus) → is_believed (ticks c s) u ≡ is_believed s u

@@ -2,7 +2,7 @@
 use Rattle.std.proofs.Common.{◌≡◌, ◌≢◌, refl, ap, sym, ◌∙◌, subst, ℕ, ◌<◌, ◌≤◌, length, ◌==◌, ◌&&◌, ◌⊎◌, inl, inr, not, Bool, true, false, cond, Option, None, Some, List, ◌∷◌, ◌++◌, arith}
 use Rattle.std.specs.Option.{option_to_list}
 use Rattle.std.specs.Prelude.{is_some}
-use Rattle.std.proofs.lemmas.Bool.{eqb-true}
+use Rattle.std.proofs.lemmas.Bool.{eq-eqb, eqb-true}
 use Rattle.gs_layout.specs.declared.kind.Kind.{Kind}
 use Rattle.gs_layout.specs.declared.kind.Kind.TheVariants as kinds
 use Rattle.gs_layout.specs.declared.known.Known.{Known}
@@ -15,7 +15,8 @@ use Rattle.gs_layout.specs.declared.message.Message.TheVariants.{Thread, TimerTi
 use Rattle.gs_layout.specs.Message.{is_creation}
 use Rattle.gs_layout.specs.Spelling.{IsSpellable, kind_of, kind_of_change, tid_of}
 use Rattle.gs_layout.specs.View.{Look, apply, learn, next_known, word, word_at}
-use Rattle.gs_beliefs.specs.Cpus.{Cpus, places, stamp_on, stamps, unstamps}
+use Rattle.gs_reader.specs.Taking.{takes_own_off}
+use Rattle.gs_beliefs.specs.Cpus.{Cpus, is_believed, is_named, places, stamp_on, stamps, unstamps}
 use Rattle.gs_beliefs.specs.Belief.{hears}
 use Rattle.gs_runq.specs.Queue.{IsTid, Queue, is_in, order, removed}
 use Rattle.gs_view.specs.Begins.{begins}
@@ -24,9 +25,10 @@ use Rattle.gs_view.specs.declared.news.News.TheVariants as news
 use Rattle.gs_view.specs.News.{word_of}
 use Rattle.gs_agent.specs.Held.{HasRoom}
 use Rattle.gs_agent.specs.Mind.{MindState, bare}
-use Rattle.gs_agent.specs.Picture.{HoldsWaiting, Picture, displaced, ends_own_turn, ends_turn, other_than, parts, requeued, settled, settled_all, after_message, after_message_by, waits}
+use Rattle.gs_agent.specs.Picture.{HoldsWaiting, Picture, displaced, ends_own_turn, ends_turn, is_mask_alone, is_runnable, other_than, parts, requeued, settled, settled_all, after_message, after_message_by, waits}
 use Rattle.gs_agent.proofs.Rooms.{bare_requeued}
-use Rattle.gs_agent.proofs.Followed.{holds_news, settled_append, settled_other, touched}
+use Rattle.gs_agent.proofs.Believing.{believed_raises, named_hears}
+use Rattle.gs_agent.proofs.Followed.{holds_news, settled_append, settled_kept, settled_other, touched}
 use Rattle.gs_agent.proofs.Settling.{settled_placed}
 
 -- minds with the same parts are the same
@@ -198,3 +200,52 @@ news_waiting v v' s s' q q' m h known a d =
     let one : v' ≡ apply v m = λ i. λ t. known t i in
     let queue : q' ≡ requeued (apply v m) (hears m s) m q = d ∙ (ap (λ (x : Look). requeued x s' m q) one ∙ ap (λ (x : Cpus). requeued (apply v m) x m q) a) in
     subst (λ (x : Look). HoldsWaiting x s' q') (sym one) (same_waiting (apply v m) (hears m s) s' (requeued (apply v m) (hears m s) m q) q' a queue (holds_news v s q m h))
+
+-- a message of a new mask that takes nobody off is one alone
+pub alone_of : (m : Message) → kind_of m ≡ kinds.Affinity → takes_own_off m ≡ false → is_mask_alone m ≡ true
+alone_of (TimerTick c) e off = absurd cc
+alone_of (Thread t n (Created f)) e off = absurd cc
+alone_of (Thread t n (Blocked c)) e off = absurd cc
+alone_of (Thread t n Wakeup) e off = absurd cc
+alone_of (Thread t n (Preempted c)) e off = absurd cc
+alone_of (Thread t n (Yield c)) e off = absurd cc
+alone_of (Thread t n (Dead c)) e off = absurd cc
+alone_of (Thread t n (Affinity c b k)) e off = ap not off
+
+-- its thread may run as before
+mask_runs : (o : Option Known) (t n k : ℕ) (c : Option ℕ) → word_at o (Thread t n (Affinity c false k)) ≡ Applied → is_runnable (next_known o (Thread t n (Affinity c false k))) ≡ is_runnable o
+mask_runs None t n k c e = absurd cc
+mask_runs (Some x) t n k c e = ap (λ (w : Word). is_runnable (learn w (Some x) (Thread t n (Affinity c false k)))) e
+
+-- so it leaves the queue as it is
+mask_queue : (v v' : Look) (s s' : Cpus) (q : Queue) (m : Message) → is_mask_alone m ≡ true → word v m ≡ Applied → ((t : ℕ) → v' t ≡ apply v m t) → s' ≡ hears m s → HoldsWaiting v s q → requeued v' s' m q ≡ q
+mask_queue v v' s s' q (TimerTick c) alone w known a h = absurd cc
+mask_queue v v' s s' q (Thread t n (Created f)) alone w known a h = absurd cc
+mask_queue v v' s s' q (Thread t n (Blocked c)) alone w known a h = absurd cc
+mask_queue v v' s s' q (Thread t n Wakeup) alone w known a h = absurd cc
+mask_queue v v' s s' q (Thread t n (Preempted c)) alone w known a h = absurd cc
+mask_queue v v' s s' q (Thread t n (Yield c)) alone w known a h = absurd cc
+mask_queue v v' s s' q (Thread t n (Dead c)) alone w known a h = absurd cc
+mask_queue v v' s s' q (Thread t n (Affinity c true k)) alone w known a h = absurd cc
+mask_queue v v' s s' q (Thread t n (Affinity c false k)) alone w known a h = settled_kept v' s' t q (h t ∙ sym same)
+  where
+    m : Message
+    m = Thread t n (Affinity c false k)
+
+    here : v' t ≡ next_known (v t) m
+    here = known t ∙ ap (λ (b : Bool). cond b (next_known (v t) m) (v t)) (eq-eqb t t refl)
+
+    runs : is_runnable (v' t) ≡ is_runnable (v t)
+    runs = ap is_runnable here ∙ mask_runs (v t) t n k c w
+
+    believed : is_believed s' t ≡ is_believed s t
+    believed = ap (λ (x : Cpus). is_believed x t) a ∙ believed_raises t n t s
+
+    named : is_named s' t ≡ is_named s t
+    named = ap (λ (x : Cpus). is_named x t) a ∙ named_hears m t s
+
+    same : waits v' s' t ≡ waits v s t
+    same = λ i. runs i && (not (believed i) && not (named i))
+
+pub mask_same : (v v' : Look) (s s' : Cpus) (q q' : Queue) (m : Message) → is_mask_alone m ≡ true → word v m ≡ Applied → ((t : ℕ) → v' t ≡ apply v m t) → s' ≡ hears m s → bare q' ≡ bare q → HoldsWaiting v s q → q' ≡ requeued v' s' m q'
+mask_same v v' s s' q q' m alone w known a b h = sym (mask_queue v v' s s' q' m alone w known a (waiting_as_before v v s q q' (λ t. refl) b h))

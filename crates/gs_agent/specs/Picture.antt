@@ -57,6 +57,11 @@ ends_turn (changes.Preempted c) = true
 ends_turn (changes.Yield c) = true
 ends_turn _ = false
 
+-- whether a message is a new mask alone: its thread stays where it is
+abbrev pub is_mask_alone : Message → Bool
+is_mask_alone (Thread t n (changes.Affinity c off m)) = not off
+is_mask_alone _ = false
+
 -- whether a message ends the turn of its own thread: a tick has none
 abbrev pub ends_own_turn : Message → Bool
 ends_own_turn (TimerTick c) = false

@@ -14,7 +14,8 @@ ghost use Rattle.gs_agent.specs.Picture.{HoldsWaiting, after_slot, after_stamp, 
 
 use crate::rebuild::{follow_records, follow_written, make_room_for_page, make_room_for_written};
 use crate::waiting::{
-    make_room, other_than, requeue, running_on, settle_found, settle_if_any, settle_stamped,
+    is_mask_alone, make_room, other_than, requeue, running_on, settle_found, settle_if_any,
+    settle_stamped,
 };
 use gs_beliefs::{Beliefs, CpuBeliefs, Running};
 use gs_dump::{Page, WrittenPage};
@@ -194,6 +195,9 @@ impl Mind {
             return Ok(heard.news);
         };
         self.cpus.hear_as(kind, message);
+        if is_mask_alone(kind, message) {
+            return Ok(News::Applied);
+        }
         requeue(
             &self.view,
             &self.cpus,

@@ -1,6 +1,6 @@
 //! Bringing the queue up to date with what is known and believed.
 
-ghost use Rattle.std.specs.Prelude.{◌≡◌, ◌≢◌, ◌≤◌, ℕ, None, false, is_some, true, if◌then◌else◌, option_map, IfErr, OnOk, OnErr};
+ghost use Rattle.std.specs.Prelude.{◌≡◌, ◌≢◌, ◌≤◌, ℕ, None, false, is_some, true, if◌then◌else◌, option_map, IfErr, IsTrue, OnOk, OnErr};
 ghost use Rattle.gs_beliefs.specs.Cpus.{is_believed};
 ghost use Rattle.gs_layout.specs.declared.known.Known.{Known};
 ghost use Rattle.gs_layout.specs.declared.message.Message.{Message};
@@ -11,7 +11,7 @@ ghost use Rattle.gs_view.specs.Begins.{begins};
 ghost use Rattle.gs_view.specs.News.{ready_of};
 ghost use Rattle.gs_agent.specs.Held.{HasRoom};
 ghost use Rattle.gs_agent.specs.Mind.{bare};
-ghost use Rattle.gs_agent.specs.Picture.{displaced, ends_own_turn, other_than, requeued, settled, settled_all, waits};
+ghost use Rattle.gs_agent.specs.Picture.{displaced, ends_own_turn, is_mask_alone, other_than, requeued, settled, settled_all, waits};
 ghost use Rattle.gs_runq.specs.Queue.{removed};
 ghost use Rattle.std.specs.Option.{option_to_list};
 
@@ -199,6 +199,19 @@ pub(crate) fn other_than(tid: u32, found: Option<u32>) -> Option<u32>
     ensures { result ≡ other_than tid found }
 {
     found.filter(|found| *found != tid)
+}
+
+/// Tells whether a message of this kind is a new mask by which its thread stays where it is. Whoever waited waits then, and the queue is not asked.
+#[inline(always)]
+#[tactic(auto, using(crate::proofs::Minds::alone_of))]
+pub(crate) fn is_mask_alone(kind: Kind, message: &MessageRef<'_>) -> bool
+    requires { kind ≡ kind_of message.now }
+    ensures { IsTrue result → is_mask_alone message.now ≡ true }
+{
+    match kind {
+        Kind::Affinity => !message.takes_off_as(kind),
+        _ => false,
+    }
 }
 
 /// Brings the queue up to date after a message about a thread, of this kind, that view and beliefs followed. The thread is settled, and
