@@ -6,5 +6,5 @@ pub loop-n-preserved : goal.loop-n-preserved
 loop-n-preserved c =
     record {
       within = omega (arith, c.loop-n-test.true);
-      marked = one_marked c.loop-n.last.places.items c.set_if.new.self.places.items c.args.transactions.now c.loop-n.n c.index-transactions-n.result c.loop-n-test.true c.in_ok-set_if.ensures c.loop-n.invariant.marked;
+      marked = one_marked c.loop-n.last.places.items c.set_if.new.self.places.items c.args.transactions.now c.loop-n.n _ c.loop-n-test.true c.in_ok-set_if.ensures c.loop-n.invariant.marked;
     }
