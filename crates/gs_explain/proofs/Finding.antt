@@ -12,7 +12,7 @@ use Rattle.gs_core.specs.declared.event.Event.TheVariants as events
 use Rattle.gs_core.specs.Machine.{Does, Plan, Serves, State, Step, fits, plan_of, planned_by, refusal, start, view}
 use Rattle.gs_reasons.specs.ExplainsRefusal.{FindsFree}
 use Rattle.gs_reasons.proofs.Laws.{commit_free, free_then, late_free, told_free}
-use Rattle.gs_core.proofs.Added.{all_history, stamped_history}
+use Rattle.gs_core.proofs.Laws.{all_history, stamped_history}
 
 pub start_free : {A : Type 0} (c : Config A) → FindsFree (start c).history
 start_free c = free_then [] (Role c.first_generation 0) (λ i e is k t placed. absurd cc) (λ k t placed. absurd cc)

@@ -12,7 +12,7 @@ use Rattle.gs_core.specs.declared.transaction.Transaction.{Transaction}
 use Rattle.gs_core.specs.declared.event.Event.{Event}
 use Rattle.gs_core.specs.declared.event.Event.TheVariants as events
 use Rattle.gs_core.specs.Machine.{Does, Plan, Serves, State, Step, plan_of, refusal, stamp_of, stamps, stamps_all, stamps_with, view}
-use Rattle.gs_core.proofs.Added.{step_grown}
+use Rattle.gs_core.proofs.Laws.{step_grown}
 
 -- transactions are only added
 

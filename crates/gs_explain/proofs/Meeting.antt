@@ -29,7 +29,7 @@ use Rattle.gs_explain.specs.Landings.{after_landing, is_gone, is_placing, steps_
 use Rattle.gs_explain.specs.Met.{AreJudged, IsJudged, is_judged}
 use Rattle.gs_kernel.specs.Kernel.{is_full}
 use Rattle.gs_kernel.specs.Group.{GiveWay, GivesWay, Group, IfFits, LandsCommit, PutsIf, are_to_place, group_entries, group_in, group_landing, is_named_below, or_failed, own_verdict, placings}
-use Rattle.gs_core.proofs.Added.{GrowsTo, grown_same, grown_then, settles_grown}
+use Rattle.gs_core.proofs.Laws.{GrowsTo, grown_same, grown_then, settles_grown}
 
 -- one that is neither placed nor gone adds nothing
 stays : (o : Outcome) (h : History) (n : ℕ) → is_to_place o ≡ false → is_gone o ≡ false → after_landing o h n ≡ n
