@@ -201,16 +201,27 @@ news_waiting v v' s s' q q' m h known a d =
     let queue : q' ≡ requeued (apply v m) (hears m s) m q = d ∙ (ap (λ (x : Look). requeued x s' m q) one ∙ ap (λ (x : Cpus). requeued (apply v m) x m q) a) in
     subst (λ (x : Look). HoldsWaiting x s' q') (sym one) (same_waiting (apply v m) (hears m s) s' (requeued (apply v m) (hears m s) m q) q' a queue (holds_news v s q m h))
 
--- a message of a new mask that takes nobody off is one alone
-pub alone_of : (m : Message) → kind_of m ≡ kinds.Affinity → takes_own_off m ≡ false → is_mask_alone m ≡ true
-alone_of (TimerTick c) e off = absurd cc
-alone_of (Thread t n (Created f)) e off = absurd cc
-alone_of (Thread t n (Blocked c)) e off = absurd cc
-alone_of (Thread t n Wakeup) e off = absurd cc
-alone_of (Thread t n (Preempted c)) e off = absurd cc
-alone_of (Thread t n (Yield c)) e off = absurd cc
-alone_of (Thread t n (Dead c)) e off = absurd cc
-alone_of (Thread t n (Affinity c b k)) e off = ap not off
+-- a message of a new mask is one alone if it takes nobody off
+pub alone_of : (m : Message) → kind_of m ≡ kinds.Affinity → not (takes_own_off m) ≡ is_mask_alone m
+alone_of (TimerTick c) e = absurd cc
+alone_of (Thread t n (Created f)) e = absurd cc
+alone_of (Thread t n (Blocked c)) e = absurd cc
+alone_of (Thread t n Wakeup) e = absurd cc
+alone_of (Thread t n (Preempted c)) e = absurd cc
+alone_of (Thread t n (Yield c)) e = absurd cc
+alone_of (Thread t n (Dead c)) e = absurd cc
+alone_of (Thread t n (Affinity c b k)) e = refl
+
+-- and one of any other kind is none
+pub alone_by : (m : Message) (k : Kind) → k ≡ kind_of m → k ≢ kinds.Affinity → false ≡ is_mask_alone m
+alone_by (TimerTick c) k e n = refl
+alone_by (Thread t s (Created f)) k e n = refl
+alone_by (Thread t s (Blocked c)) k e n = refl
+alone_by (Thread t s Wakeup) k e n = refl
+alone_by (Thread t s (Preempted c)) k e n = refl
+alone_by (Thread t s (Yield c)) k e n = refl
+alone_by (Thread t s (Dead c)) k e n = refl
+alone_by (Thread t s (Affinity c b m)) k e n = absurd (n e)
 
 -- its thread may run as before
 mask_runs : (o : Option Known) (t n k : ℕ) (c : Option ℕ) → word_at o (Thread t n (Affinity c false k)) ≡ Applied → is_runnable (next_known o (Thread t n (Affinity c false k))) ≡ is_runnable o

@@ -195,6 +195,7 @@ impl Mind {
             return Ok(heard.news);
         };
         self.cpus.hear_as(kind, message);
+        // Whoever waited waits then, so the queue is not asked.
         if is_mask_alone(kind, message) {
             return Ok(News::Applied);
         }

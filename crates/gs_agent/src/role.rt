@@ -313,31 +313,11 @@ impl<P> Role<P> {
         ensures as_before { OnErr result (self.new ≡ self.old) }
     {
         let (_, tseq) = self.mind.view().get(tid).ok_or(Refusal::NoThread)?;
-        self.stamp_at(slot, tid, tseq, flags)?;
-        Ok(tseq)
-    }
-
-    /// Stamps a thread as [`Role::stamp`] does, at the sequence number that the view has of it.
-    fn stamp_at(
-        &mut self,
-        slot: SlotMut<'_>,
-        tid: u32,
-        tseq: u32,
-        flags: Flags,
-    ) -> Result<(), Refusal>
-        requires { number_of (look_up self.old.mind.records tid) ≡ Some tseq }
-        ensures ok { OnOk result (stamp_refusal (look_up self.old.mind.records tid) (state_of slot.entry) ≡ None) }
-        ensures stamped { OnOk result (state_in (cpu_of slot.entry) (left_in slot.exit) ≡ Ok (SlotState.Stamped (record { generation = self.old.generation; tid = tid; tseq = tseq; flags = flags }))) }
-        ensures role { OnOk result (self.new ≡ record self.old { mind = thinks self.old.mind (after_stamp (cpu_of slot.entry) tid (picture_of self.old.mind)) }) }
-        ensures refused { IfErr result (λ refusal. stamp_refusal (look_up self.old.mind.records tid) (state_of slot.entry) ≡ Some refusal) }
-        ensures unchanged { OnErr result (left_in slot.exit ≡ bytes_of slot.entry) }
-        ensures as_before { OnErr result (self.new ≡ self.old) }
-    {
         let cpu = slot.cpu();
         match slot.stamp(self.generation, tid, tseq, flags) {
             Ok(()) => {
                 self.note_stamp(cpu, tid);
-                Ok(())
+                Ok(tseq)
             }
             Err(SlotBusy) => Err(Refusal::SlotOpen),
         }

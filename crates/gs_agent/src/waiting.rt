@@ -1,6 +1,6 @@
 //! Bringing the queue up to date with what is known and believed.
 
-ghost use Rattle.std.specs.Prelude.{◌≡◌, ◌≢◌, ◌≤◌, ℕ, None, false, is_some, true, if◌then◌else◌, option_map, IfErr, IsTrue, OnOk, OnErr};
+ghost use Rattle.std.specs.Prelude.{◌≡◌, ◌≢◌, ◌≤◌, ℕ, None, false, is_some, true, if◌then◌else◌, option_map, IfErr, OnOk, OnErr};
 ghost use Rattle.gs_beliefs.specs.Cpus.{is_believed};
 ghost use Rattle.gs_layout.specs.declared.known.Known.{Known};
 ghost use Rattle.gs_layout.specs.declared.message.Message.{Message};
@@ -201,12 +201,12 @@ pub(crate) fn other_than(tid: u32, found: Option<u32>) -> Option<u32>
     found.filter(|found| *found != tid)
 }
 
-/// Tells whether a message of this kind is a new mask by which its thread stays where it is. Whoever waited waits then, and the queue is not asked.
+/// Tells whether a message of this kind is a new mask by which its thread stays where it is.
 #[inline(always)]
-#[tactic(auto, using(crate::proofs::Minds::alone_of))]
+#[tactic(auto, using(crate::proofs::Minds::alone_of, crate::proofs::Minds::alone_by))]
 pub(crate) fn is_mask_alone(kind: Kind, message: &MessageRef<'_>) -> bool
     requires { kind ≡ kind_of message.now }
-    ensures { IsTrue result → is_mask_alone message.now ≡ true }
+    ensures { result ≡ is_mask_alone message.now }
 {
     match kind {
         Kind::Affinity => !message.takes_off_as(kind),

@@ -170,13 +170,14 @@ impl Region {
         Ok(())
     }
 
-    /// Makes the slot of a CPU idle, whatever is in it. It counts as seen to be idle then.
+    /// Makes the slot of a CPU idle, whatever is in it.
     #[inline(always)]
     pub fn clear_slot(&mut self, cpu: u16)
         requires { cpu < length self.old }
         ensures { self.new ≡ slice_set self.old cpu idle_bytes }
     {
         self.blocks[cpu as usize] = [0; SLOT_LEN];
+        // It counts as seen to be idle, so that a later look passes it over.
         if cpu < MOST_CPUS {
             self.lent = self.lent.without(cpu);
         }

@@ -1,4 +1,4 @@
-use Rattle.std.proofs.Common.{ap, ◌∙◌, refl}
+use Rattle.std.proofs.Common.{ap, ◌∙◌, refl, sym}
 use Rattle.gs_layout.specs.View.{look_up}
 use Rattle.gs_view.specs.News.{word_of}
 use Rattle.gs_agent.specs.Mind.{MindState, picture_of}
@@ -48,7 +48,7 @@ invariant_of-self-then-is_mask_alone c =
     record {
       waiting = news_waiting v (look_up c.hear.new.self.entries) c.self.inside.cpus c.hear_as.new.self c.make_room.new.queue c.make_room.new.queue c.args.message.now
           (waiting_as_before v v c.self.inside.cpus c.self.inside.queue c.make_room.new.queue (λ t. refl) c.make_room.ensures.waiting c.self.invariant.waiting)
-          c.in_ok-heard.ensures.known c.hear_as.ensures (mask_same v (look_up c.hear.new.self.entries) c.self.inside.cpus c.hear_as.new.self c.self.inside.queue c.make_room.new.queue c.args.message.now (c.is_mask_alone.ensures c.if-is_mask_alone.true) (c.in_ok-heard.ensures.word ∙ ap word_of c.in-Applied.is) c.in_ok-heard.ensures.known c.hear_as.ensures c.make_room.ensures.waiting c.self.invariant.waiting);
+          c.in_ok-heard.ensures.known c.hear_as.ensures (mask_same v (look_up c.hear.new.self.entries) c.self.inside.cpus c.hear_as.new.self c.self.inside.queue c.make_room.new.queue c.args.message.now (sym c.is_mask_alone.ensures ∙ c.if-is_mask_alone.true) (c.in_ok-heard.ensures.word ∙ ap word_of c.in-Applied.is) c.in_ok-heard.ensures.known c.hear_as.ensures c.make_room.ensures.waiting c.self.invariant.waiting);
       room = room_news v (look_up c.hear.new.self.entries) c.self.inside.queue c.make_room.new.queue c.args.message.now c.self.invariant.room c.in_ok-heard.ensures.known
           c.make_room.ensures.room c.in_ok-make_room.ensures.begun c.as_bytes-spelled.ensures.spellable;
     }
@@ -58,5 +58,5 @@ returns-then-is_mask_alone-clause-picture c =
     let v = look_up c.self.inside.view.entries in
     news_picture v (look_up c.hear.new.self.entries) c.self.inside.cpus c.hear_as.new.self c.self.inside.queue c.make_room.new.queue c.make_room.new.queue c.args.message.now
     (c.in_ok-heard.ensures.word ∙ ap word_of c.in-Applied.is)
-    c.in_ok-heard.ensures.known c.hear_as.ensures c.make_room.ensures.waiting (mask_same v (look_up c.hear.new.self.entries) c.self.inside.cpus c.hear_as.new.self c.self.inside.queue c.make_room.new.queue c.args.message.now (c.is_mask_alone.ensures c.if-is_mask_alone.true) (c.in_ok-heard.ensures.word ∙ ap word_of c.in-Applied.is) c.in_ok-heard.ensures.known c.hear_as.ensures c.make_room.ensures.waiting c.self.invariant.waiting)
+    c.in_ok-heard.ensures.known c.hear_as.ensures c.make_room.ensures.waiting (mask_same v (look_up c.hear.new.self.entries) c.self.inside.cpus c.hear_as.new.self c.self.inside.queue c.make_room.new.queue c.args.message.now (sym c.is_mask_alone.ensures ∙ c.if-is_mask_alone.true) (c.in_ok-heard.ensures.word ∙ ap word_of c.in-Applied.is) c.in_ok-heard.ensures.known c.hear_as.ensures c.make_room.ensures.waiting c.self.invariant.waiting)
     ∙ ap (λ (x : MindState). after_message c.args.message.now (picture_of x)) c.self.view_is
